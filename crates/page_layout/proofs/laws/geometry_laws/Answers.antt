@@ -1,0 +1,14 @@
+use Rattle.page_layout.proofs.GeometryLemmas.{worth, sector_entry, block_entry, table_fits}
+use Rattle.page_layout.proofs.laws.geometry_laws.Goals as goal
+
+pub returns-clause-worth : goal.returns-clause-worth
+returns-clause-worth c = worth
+
+pub returns-clause-sector_entry : goal.returns-clause-sector_entry
+returns-clause-sector_entry c = sector_entry
+
+pub returns-clause-block_entry : goal.returns-clause-block_entry
+returns-clause-block_entry c = block_entry
+
+pub returns-clause-table_fits : goal.returns-clause-table_fits
+returns-clause-table_fits c = table_fits

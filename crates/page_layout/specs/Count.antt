@@ -1,0 +1,22 @@
+-- Why a die with enough good blocks always has a block worth collecting: its keys are too few to fill the others.
+use Rattle.std.specs.Prelude.{◌≡◌, ℕ, ◌+◌, ◌<◌, ◌≤◌, Bool, true, List, count_by, Option}
+use Rattle.std.specs.List.{range_with_len}
+use Rattle.page_layout.specs.declared.record.Record.{Record}
+use Rattle.page_layout.specs.declared.geometry.Geometry.{Geometry}
+use Rattle.page_layout.specs.Geometry.{need, vmax}
+use Rattle.page_layout.specs.Live.{live}
+
+-- how many of the die's blocks pass a test
+abbrev pub blocks_that : Geometry → (ℕ → Bool) → ℕ
+blocks_that g test = count_by test (range_with_len 0 g.blocks)
+
+-- one of the blocks that pass has at most vmax newest pages
+pub record HasSmall (g : Geometry) (marks : List (Option Record)) (closed : ℕ → Bool) : Type 0 where
+  pub block : ℕ
+  pub within : block < g.blocks
+  pub is_closed : closed block ≡ true
+  pub is_small : live g marks block ≤ vmax g
+
+-- with at least `need` good blocks, at most eight of them free and at most two open, a closed one has at most vmax newest pages
+abbrev pub SmallBlockLaw : Type 0
+SmallBlockLaw = (g : Geometry) (marks : List (Option Record)) (closed : ℕ → Bool) (free open_blocks : ℕ) → need g ≤ free + open_blocks + blocks_that g closed → free ≤ 8 → open_blocks ≤ 2 → HasSmall g marks closed

@@ -1,0 +1,369 @@
+//! The record that a page's spare area spells, and the seal that makes the page sound.
+//!
+//! The spare bytes of version 1, this project's format; numbers stand lowest byte first:
+//!
+//! | Bytes | Content |
+//! |---|---|
+//! | 0..1 | FFh |
+//! | 2 | the version, 01h |
+//! | 3 | the kind's code, 1 to 4 |
+//! | 4..7 | the number of the sector, translation page or table page |
+//! | 8..15 | the sequence |
+//! | 16..19 | the wear |
+//! | 20..23 | FFh |
+//! | 24..31 | the seal: the first 8 bytes of SHA-256 (FIPS 180-4) over the data area and bytes 0..23 |
+//! | 32.. | FFh |
+//!
+//! A page is sound where its spare bytes are so; it is erased where all its bytes are FFh.
+
+ghost use Rattle.std.specs.Prelude.{◌≡◌, ◌∷◌, ◌++◌, ◌-◌, ◌≤◌, ℕ, length, take, drop, replicate, IsTrue};
+ghost use Rattle.sha2.specs.Sha256.{sha256};
+ghost use Rattle.page_layout.specs.Page.{page};
+ghost use Rattle.page_layout.specs.Newest.{sequence_of};
+ghost use Rattle.page_layout.specs.Sound.{kind_from, code_of, is_filled, has_form_1, has_seal_1, spelled, record_of, head_of, is_erased_page, Fits};
+
+use crate::geometry::Geometry;
+use byteorder::{ByteOrder, LittleEndian};
+use sha2::{Digest, Sha256};
+
+const VERSION_1: u8 = 1;
+
+const FILL: u8 = 0xFF;
+
+/// What a page holds.
+#[derive(Clone, Copy, Debug, PartialEq, Eq)]
+pub enum Kind {
+    /// The bytes of a sector.
+    Sector,
+    /// That a sector was trimmed: it reads as 00h bytes.
+    Trim,
+    /// Rows of sectors.
+    Translation,
+    /// Classes and erase counts of blocks.
+    Table,
+}
+
+impl Kind {
+    // The kind of a code, of which there are four.
+    fn from_code(code: u8) -> Option<Kind>
+        ensures { result ≡ kind_from code }
+    {
+        match code {
+            1 => Some(Kind::Sector),
+            2 => Some(Kind::Trim),
+            3 => Some(Kind::Translation),
+            4 => Some(Kind::Table),
+            _ => None,
+        }
+    }
+
+    // The code of a kind.
+    fn code(self) -> u8
+        ensures { result ≡ code_of self }
+    {
+        match self {
+            Kind::Sector => 1,
+            Kind::Trim => 2,
+            Kind::Translation => 3,
+            Kind::Table => 4,
+        }
+    }
+}
+
+/// What a sound page says of itself.
+#[derive(Clone, Copy, Debug, PartialEq, Eq)]
+pub struct Record {
+    /// What the page holds.
+    pub kind: Kind,
+    /// Which sector, translation page or table page it is of. Any number has a record.
+    pub number: u32,
+    /// The place of the page in the order in which pages were programmed.
+    pub sequence: u64,
+    /// The erase count of the page's block when the page was programmed.
+    pub wear: u32,
+}
+
+impl Record {
+    ghost use Rattle.page_layout.specs.Key.{key_of};
+
+    /// What the page is of. A trim is a page of its sector.
+    pub fn key(&self) -> Key
+        ensures { result ≡ key_of self.now }
+    {
+        match self.kind {
+            Kind::Sector | Kind::Trim => Key::Sector(self.number),
+            Kind::Translation => Key::Translation(self.number),
+            Kind::Table => Key::Table(self.number),
+        }
+    }
+}
+
+/// What a page is of. Of the sound pages of one key the newest counts.
+#[derive(Clone, Copy, Debug, PartialEq, Eq)]
+pub enum Key {
+    /// The sector of this number.
+    Sector(u32),
+    /// The translation page of this number.
+    Translation(u32),
+    /// The table page of this number.
+    Table(u32),
+}
+
+// Whether all bytes are FFh.
+#[tactic(auto, unfolding(crate::specs::Sound::is_filled))]
+fn is_filled(bytes: &[u8]) -> bool
+    ensures { result ≡ is_filled bytes.now }
+{
+    bytes.iter().all(|byte| *byte == FILL)
+}
+
+/// Whether a page is as an erase leaves it: all bytes of its data area and of its spare area, of
+/// whatever lengths, are FFh.
+pub fn is_erased(body: &[u8], spare: &[u8]) -> bool
+    ensures { result ≡ is_erased_page (page body.now spare.now) }
+{
+    is_filled(body) && is_filled(spare)
+}
+
+// The seal of a page with this data area and these first 24 spare bytes.
+fn seal(body: &[u8], head: &[u8]) -> [u8; 8]
+    ensures is { result ≡ take 8 (sha256 (body.now ++ head.now)) }
+    ensures len { length result ≡ 8 }
+{
+    let mut hasher = Sha256::new();
+    hasher.update(body);
+    hasher.update(head);
+    let digest = hasher.finalize();
+    let mut seal = [0; 8];
+    seal.copy_from_slice(&digest[..8]);
+    seal
+}
+
+// Whether the bytes that are the same for each record are as version 1 has them.
+fn has_form_1(spare: &[u8]) -> bool
+    requires { 32 ≤ length spare.now }
+    ensures { result ≡ has_form_1 spare.now }
+{
+    if !is_filled(&spare[..2]) || spare[2] != VERSION_1 {
+        return false;
+    }
+    is_filled(&spare[20..24]) && is_filled(&spare[32..])
+}
+
+// Whether spare bytes 24 to 31 are the page's seal.
+fn has_seal_1(body: &[u8], spare: &[u8]) -> bool
+    requires { 32 ≤ length spare.now }
+    ensures { result ≡ has_seal_1 (page body.now spare.now) }
+{
+    spare[24..32] == seal(body, &spare[..24])[..]
+}
+
+// The record that a spare area spells, whatever its seal.
+#[tactic(auto, unfolding(crate::specs::Sound::spelled))]
+fn spelled(spare: &[u8]) -> Option<Record>
+    requires { 32 ≤ length spare.now }
+    ensures { result ≡ spelled spare.now }
+{
+    if !has_form_1(spare) {
+        return None;
+    }
+    let kind = Kind::from_code(spare[3])?;
+    Some(Record {
+        kind,
+        number: LittleEndian::read_u32(&spare[4..8]),
+        sequence: LittleEndian::read_u64(&spare[8..16]),
+        wear: LittleEndian::read_u32(&spare[16..20]),
+    })
+}
+
+/// The record of a page that is sound, or `None` where it is not. `body` is the data area and `spare`
+/// the spare area, of the lengths that the geometry says. A page that spells no record is not hashed.
+#[tactic(auto, using(crate::proofs::RecordLemmas::unspelled, crate::proofs::RecordLemmas::unsealed, crate::proofs::RecordLemmas::sealed_spelled))]
+pub fn read_record(geometry: &Geometry, body: &[u8], spare: &[u8]) -> Option<Record>
+    requires body_whole { length body.now ≡ geometry.now.data_bytes }
+    requires spare_whole { length spare.now ≡ geometry.now.spare_bytes }
+    ensures { result ≡ record_of (page body.now spare.now) }
+{
+    let found = spelled(spare)?;
+    if has_seal_1(body, spare) {
+        Some(found)
+    } else {
+        None
+    }
+}
+
+// The spare bytes before the seal of a page with this record.
+fn head_of(written: Record) -> [u8; 24]
+    ensures is { result ≡ head_of written }
+    ensures fits { Fits written }
+{
+    let mut head = [FILL; 24];
+    head[2] = VERSION_1;
+    head[3] = written.kind.code();
+    LittleEndian::write_u32(&mut head[4..8], written.number);
+    LittleEndian::write_u64(&mut head[8..16], written.sequence);
+    LittleEndian::write_u32(&mut head[16..20], written.wear);
+    head
+}
+
+// Head, then seal, then fill bytes.
+fn join_spare(head: &[u8; 24], seal: &[u8; 8], spare: &mut [u8])
+    requires { 32 ≤ length spare.old }
+    ensures { spare.new ≡ head.now ++ (seal.now ++ replicate (length spare.old - 32) 255) }
+{
+    spare.fill(FILL);
+    spare[..24].copy_from_slice(head);
+    spare[24..32].copy_from_slice(seal);
+}
+
+/// Writes the spare area of a page with this data area, so that the page is sound and has this record.
+/// Both areas have the lengths that the geometry says.
+pub fn write_record(geometry: &Geometry, written: &Record, body: &[u8], spare: &mut [u8])
+    requires body_whole { length body.now ≡ geometry.now.data_bytes }
+    requires spare_whole { length spare.old ≡ geometry.now.spare_bytes }
+    ensures { record_of (page body.now spare.new) ≡ Some written.now }
+{
+    let head = head_of(*written);
+    let seal = seal(body, &head);
+    join_spare(&head, &seal, spare);
+}
+
+/// The sequence of a record of this key, or `None` where there is no record or it is of another key.
+#[tactic(auto, unfolding(crate::specs::Newest::sequence_of))]
+pub fn sequence_of(key: Key, record: Option<Record>) -> Option<u64>
+    ensures { result ≡ sequence_of key «record» }
+{
+    match record {
+        Some(found) if found.key() == key => Some(found.sequence),
+        _ => None,
+    }
+}
+
+/// The sequence of a page that is sound and of this key, or `None` where it is not. The areas have
+/// the lengths that the geometry says. A page whose spare area does not name the key is not hashed.
+#[tactic(auto, using(crate::proofs::RecordLemmas::sequence_unspelled, crate::proofs::RecordLemmas::sequence_unsealed, crate::proofs::RecordLemmas::sealed_spelled))]
+pub fn sequence_in(geometry: &Geometry, key: Key, body: &[u8], spare: &[u8]) -> Option<u64>
+    requires body_whole { length body.now ≡ geometry.now.data_bytes }
+    requires spare_whole { length spare.now ≡ geometry.now.spare_bytes }
+    ensures { result ≡ sequence_of key (record_of (page body.now spare.now)) }
+{
+    let sequence = sequence_of(key, spelled(spare))?;
+    if !has_seal_1(body, spare) {
+        return None;
+    }
+    Some(sequence)
+}
+
+#[cfg(test)]
+mod tests {
+    use super::*;
+    use std::test::Fail;
+
+    // The seals are those of another program (Python's hashlib).
+    const SECTOR_5: [u8; 32] = [
+        0xFF, 0xFF, 0x01, 0x01, 0x05, 0x00, 0x00, 0x00, 0x03, 0x00, 0x00, 0x00, 0x00, 0x00, 0x00,
+        0x00, 0x00, 0x00, 0x00, 0x00, 0xFF, 0xFF, 0xFF, 0xFF, 0xFD, 0x2A, 0xAB, 0x37, 0x73, 0xC3,
+        0xEA, 0x2F,
+    ];
+
+    const TRIM_5: [u8; 40] = [
+        0xFF, 0xFF, 0x01, 0x02, 0x05, 0x00, 0x00, 0x00, 0x04, 0x00, 0x00, 0x00, 0x00, 0x00, 0x00,
+        0x00, 0x07, 0x00, 0x00, 0x00, 0xFF, 0xFF, 0xFF, 0xFF, 0x41, 0xAE, 0x83, 0xE2, 0x01, 0xF8,
+        0xCB, 0x6F, 0xFF, 0xFF, 0xFF, 0xFF, 0xFF, 0xFF, 0xFF, 0xFF,
+    ];
+
+    #[test]
+    fn a_sector_page(rt: HostRuntime) -> Result<(), Fail> {
+        let geometry = Geometry::new(64, 32, 8, 32, 32)?;
+        let written = Record {
+            kind: Kind::Sector,
+            number: 5,
+            sequence: 3,
+            wear: 0,
+        };
+        let body = [0x11; 64];
+        let mut spare = [0; 32];
+        write_record(&geometry, &written, &body, &mut spare);
+        assert_eq!(rt; spare, SECTOR_5);
+        assert_eq!(rt; read_record(&geometry, &body, &spare), Some(written));
+        assert_eq!(rt;
+            sequence_in(&geometry, Key::Sector(5), &body, &spare),
+            Some(3)
+        );
+        assert_eq!(rt; sequence_in(&geometry, Key::Sector(4), &body, &spare), None);
+        assert_eq!(rt; sequence_in(&geometry, Key::Table(5), &body, &spare), None);
+        Ok(())
+    }
+
+    #[test]
+    fn a_trim_page_in_a_longer_spare_area(rt: HostRuntime) -> Result<(), Fail> {
+        let geometry = Geometry::new(64, 40, 8, 32, 32)?;
+        let written = Record {
+            kind: Kind::Trim,
+            number: 5,
+            sequence: 4,
+            wear: 7,
+        };
+        let body = [0; 64];
+        let mut spare = [0; 40];
+        write_record(&geometry, &written, &body, &mut spare);
+        assert_eq!(rt; spare, TRIM_5);
+        assert_eq!(rt; read_record(&geometry, &body, &spare), Some(written));
+        assert_eq!(rt; written.key(), Key::Sector(5));
+        spare[39] = 0xFE;
+        assert_eq!(rt; read_record(&geometry, &body, &spare), None);
+        Ok(())
+    }
+
+    // One byte of the form is wrong, under the seal that the page then has.
+    #[test]
+    fn a_wrong_form_under_its_seal(rt: HostRuntime) -> Result<(), Fail> {
+        let geometry = Geometry::new(64, 32, 8, 32, 32)?;
+        let body = [0x11; 64];
+        for (at, byte, seal) in [
+            (0, 0xFE, [0x8D, 0x85, 0x99, 0x92, 0x0E, 0xA3, 0x42, 0x34]),
+            (1, 0x00, [0x93, 0x9E, 0x6E, 0xF6, 0x32, 0xE0, 0x58, 0x44]),
+            (2, 0x02, [0x6A, 0xFC, 0xA8, 0x47, 0x6F, 0x2F, 0xC2, 0x18]),
+            (3, 0x00, [0x50, 0xF4, 0xA0, 0x05, 0xD2, 0xC5, 0xE2, 0x7C]),
+            (3, 0x05, [0x0C, 0x65, 0xD3, 0x14, 0xDD, 0xC3, 0x24, 0xFE]),
+            (20, 0xFE, [0x9A, 0xBD, 0x05, 0x99, 0x43, 0xFB, 0xEB, 0x0F]),
+            (23, 0x00, [0x0B, 0x2C, 0x73, 0x5F, 0x09, 0x77, 0xC4, 0xF8]),
+        ] {
+            let mut spare = SECTOR_5;
+            assert!(rt; at < spare.len());
+            spare[at] = byte;
+            spare[24..32].copy_from_slice(&seal);
+            assert_eq!(rt; read_record(&geometry, &body, &spare), None, "byte {at}");
+        }
+        Ok(())
+    }
+
+    // One byte of the number, the sequence, the wear, the seal or the data area is another.
+    #[test]
+    fn a_changed_byte(rt: HostRuntime) -> Result<(), Fail> {
+        let geometry = Geometry::new(64, 32, 8, 32, 32)?;
+        let body = [0x11; 64];
+        for (at, byte) in [(4, 6), (15, 1), (16, 1), (24, 0xFC), (31, 0x2E)] {
+            let mut spare = SECTOR_5;
+            assert!(rt; at < spare.len());
+            spare[at] = byte;
+            assert_eq!(rt; read_record(&geometry, &body, &spare), None, "byte {at}");
+        }
+        let mut changed = body;
+        changed[63] = 0x10;
+        assert_eq!(rt; read_record(&geometry, &changed, &SECTOR_5), None);
+        Ok(())
+    }
+
+    #[test]
+    fn an_erased_page(rt: HostRuntime) -> Result<(), Fail> {
+        let geometry = Geometry::new(64, 32, 8, 32, 32)?;
+        let filled = [0xFF; 64];
+        let mut changed = filled;
+        changed[63] = 0xFE;
+        assert!(rt; is_erased(&filled, &filled[..32]) && is_erased(&[], &[]));
+        assert!(rt; !is_erased(&changed, &filled[..32]) && !is_erased(&filled, &changed));
+        assert_eq!(rt; read_record(&geometry, &filled, &filled[..32]), None);
+        Ok(())
+    }
+}
