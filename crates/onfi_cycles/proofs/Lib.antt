@@ -1,0 +1,6 @@
+pub mod Sending
+pub mod StatusByte
+pub mod Leads
+pub mod Operations
+pub mod Resets
+pub mod TurnLaws

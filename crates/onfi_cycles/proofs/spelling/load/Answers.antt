@@ -1,0 +1,40 @@
+use Rattle.std.proofs.Common.{◌∙◌, ◌∷◌, [], subst}
+use Rattle.std.proofs.lemmas.Result.{err_from_is_err_and}
+use Rattle.onfi_cycles.specs.Cycles.{Command, DataIn}
+use Rattle.onfi_cycles.specs.Spelling.{page_address, Taken, FailsIn}
+use Rattle.onfi_cycles.proofs.Sending.{fails_first, fails_then, fails_one, spells_then, spells_more, spells_one}
+use Rattle.onfi_cycles.proofs.spelling.load.Goals as goal
+
+pub returns-in_err-start-clause-spells : goal.returns-in_err-start-clause-spells
+returns-in_err-start-clause-spells g c h =
+    let e = err_from_is_err_and c.from_residual.result c.from_residual.ensures.1 in
+    let a = g.B.Bus.die c.args.bus.now in
+    let b = g.B.Bus.die c.start.new.bus in
+    let fault = c.in_err-start.field-0.0 in
+    rw (e.1, e.2) (fails_first a b (Command 0x80 ∷ page_address c.args.row) (DataIn c.args.body.now ∷ DataIn c.args.spare.now ∷ []) fault
+    (subst (λ xs. FailsIn a (Command 0x80 ∷ xs) fault b) c.page_bytes.ensures (c.in_err-start.ensures.spells h)))
+
+pub returns-in_err-data_in-clause-spells : goal.returns-in_err-data_in-clause-spells
+returns-in_err-data_in-clause-spells g c h =
+    let e = err_from_is_err_and c.from_residual-in_err-data_in.result c.from_residual-in_err-data_in.ensures.1 in
+    let a = g.B.Bus.die c.args.bus.now in
+    let b = g.B.Bus.die c.start.new.bus in
+    let d = g.B.Bus.die c.data_in.new.self in
+    let fault = c.in_err-data_in.field-0.0 in
+    rw (e.1, e.2) (fails_then a b d (Command 0x80 ∷ page_address c.args.row) (DataIn c.args.body.now ∷ DataIn c.args.spare.now ∷ []) fault
+    (subst (λ xs. Taken a (Command 0x80 ∷ xs) b) c.page_bytes.ensures (c.in_ok-start.ensures.spells h))
+    (fails_first b d (DataIn c.args.body.now ∷ []) (DataIn c.args.spare.now ∷ []) fault (fails_one b d (DataIn c.args.body.now) fault (c.in_err-data_in.ensures.cycle (c.start.ensures.honest ∙ h)))))
+
+pub returns-clause-spells : goal.returns-clause-spells
+returns-clause-spells g c h =
+    let a = g.B.Bus.die c.args.bus.now in
+    let b = g.B.Bus.die c.start.new.bus in
+    let m = g.B.Bus.die c.data_in.new.self in
+    let d = g.B.Bus.die c.data_in-2.new.self in
+    let body = DataIn c.args.body.now in
+    let spare = DataIn c.args.spare.now in
+    let hb = c.start.ensures.honest ∙ h in
+    let hm = c.data_in.ensures.honest ∙ hb in
+    spells_then a b d (Command 0x80 ∷ page_address c.args.row) (body ∷ spare ∷ []) c.data_in-2.result
+    (subst (λ xs. Taken a (Command 0x80 ∷ xs) b) c.page_bytes.ensures (c.in_ok-start.ensures.spells h))
+    (spells_more b m d body (spare ∷ []) c.data_in-2.result (c.in_ok-data_in.ensures.cycle hb) (spells_one m d spare c.data_in-2.result (c.data_in-2.ensures.cycle hm)))

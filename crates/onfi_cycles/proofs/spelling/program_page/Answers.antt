@@ -1,0 +1,14 @@
+use Rattle.std.proofs.lemmas.Result.{err_from_is_err_and}
+use Rattle.onfi_cycles.proofs.Operations.{program_did, program_broke}
+use Rattle.onfi_cycles.proofs.spelling.program_page.Goals as goal
+
+pub returns-in_err-status-clause-did : goal.returns-in_err-status-clause-did
+returns-in_err-status-clause-did g c h at =
+    let e = err_from_is_err_and c.from_residual.result c.from_residual.ensures.1 in
+    let q = c.requires in
+    rw (e.1, e.2) (program_broke _ _ _ _ _ _ _ _ at (q.row_in h) (q.body_whole h) (q.spare_whole h) (c.in_err-status.ensures.spells h) c.in_err-status.ensures.rose)
+
+pub returns-clause-did : goal.returns-clause-did
+returns-clause-did g c h at =
+    let q = c.requires in
+    program_did _ _ _ _ _ _ _ _ _ at (q.row_in h) (q.body_whole h) (q.spare_whole h) (c.in_ok-status.ensures.spells h) (c.in_ok-status.ensures.status h) c.of_status.ensures

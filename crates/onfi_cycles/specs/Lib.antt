@@ -1,0 +1,5 @@
+pub mod Outcomes
+pub mod Cycles
+pub mod Spelling
+pub mod Driver
+pub mod Laws

@@ -1,0 +1,73 @@
+//! The cycles of a bus.
+use crate::BusFault;
+
+/// A die by single cycles. An honest bus takes each cycle by the bus protocol: as a step from one state of the die to the next,
+/// or with a fault that gives up the unfinished command. After the fault `Device` nothing else is known of the die. Of a bus that
+/// is not honest nothing is known but that it counts the device's faults. (The commands and their cycles are those of ONFI 1.0;
+/// the rules of turns are this project's.)
+pub trait Bus {
+    ghost use Rattle.std.specs.Prelude.{◌≡◌, ◌≢◌, ◌≤◌, ℕ, Bool, true, length, OnOk, IfErr};
+    ghost use Rattle.page_layout.specs.Counter.{HasRisen};
+    ghost use Rattle.page_layout.specs.Flash.{IsWhole};
+    ghost use Rattle.onfi_cycles.specs.Cycles.{DieState, CycleStep, Command, Address, DataIn, DataOut, IsCounted, IsUncounted, bytes_out};
+
+    /// The die behind it: its flash, the command that is unfinished and what is to be put out, and its status byte.
+    ghost die: { Self → DieState };
+
+    /// Whether it keeps the promises that are made of an honest one.
+    ghost honest: { Self → Bool };
+
+    /// The device's faults so far: `Device` comes only where this rose, or stands at 2^64 - 1.
+    ghost failed: { Self → ℕ };
+
+    /// A command cycle. `NoReset`, `UnknownCommand` and `OutOfTurn` come where the code is not due. FFh, Reset, is always due. 10h and
+    /// D0h do the program or the erase.
+    fn command(&mut self, code: u8) -> Result<(), BusFault>
+        ensures cycle { honest self.old ≡ true → CycleStep (die self.old) (Command code) result (die self.new) }
+        ensures geometry { honest self.old ≡ true → (die self.new).flash.geometry ≡ (die self.old).flash.geometry }
+        ensures whole { OnOk result (honest self.old ≡ true → IsWhole (die self.new).flash) }
+        ensures honest { honest self.new ≡ honest self.old }
+        ensures failed { failed self.old ≤ failed self.new }
+        ensures rose { IfErr result (IsCounted (failed self.old) (failed self.new)) }
+        ensures uncounted { IfErr result (λ fault. honest self.old ≡ true → IsUncounted (failed self.old) (failed self.new) fault) };
+
+    /// An address cycle, column before row, least significant byte first. `NoReset` and `OutOfTurn` come where none is due,
+    /// `ColumnRange` at the second cycle of a column past the page, `AddressRange` at the third cycle of a row past the die, or at
+    /// an address that Read ID does not know.
+    fn address(&mut self, byte: u8) -> Result<(), BusFault>
+        ensures cycle { honest self.old ≡ true → CycleStep (die self.old) (Address byte) result (die self.new) }
+        ensures geometry { honest self.old ≡ true → (die self.new).flash.geometry ≡ (die self.old).flash.geometry }
+        ensures whole { OnOk result (honest self.old ≡ true → IsWhole (die self.new).flash) }
+        ensures honest { honest self.new ≡ honest self.old }
+        ensures failed { failed self.old ≤ failed self.new }
+        ensures rose { IfErr result (IsCounted (failed self.old) (failed self.new)) }
+        ensures uncounted { IfErr result (λ fault. honest self.old ≡ true → IsUncounted (failed self.old) (failed self.new) fault) };
+
+    /// Bytes for the page register, from the column on. `NoReset` and `OutOfTurn` come where none are due, `ColumnRange` where they
+    /// would pass the page's last byte; then none are taken.
+    fn data_in(&mut self, bytes: &[u8]) -> Result<(), BusFault>
+        ensures cycle { honest self.old ≡ true → CycleStep (die self.old) (DataIn bytes.now) result (die self.new) }
+        ensures geometry { honest self.old ≡ true → (die self.new).flash.geometry ≡ (die self.old).flash.geometry }
+        ensures whole { OnOk result (honest self.old ≡ true → IsWhole (die self.new).flash) }
+        ensures honest { honest self.new ≡ honest self.old }
+        ensures failed { failed self.old ≤ failed self.new }
+        ensures rose { IfErr result (IsCounted (failed self.old) (failed self.new)) }
+        ensures uncounted { IfErr result (λ fault. honest self.old ≡ true → IsUncounted (failed self.old) (failed self.new) fault) };
+
+    /// Bytes put out: of the page that was read from the column on, of the identity, or the status byte as often as asked.
+    /// `NoReset` and `OutOfTurn` come where nothing is put out, `ColumnRange` where the bytes would pass the last one. After an
+    /// `Err` the buffer holds anything.
+    fn data_out(&mut self, bytes: &mut [u8]) -> Result<(), BusFault>
+        ensures cycle { honest self.old ≡ true → CycleStep (die self.old) (DataOut (length bytes.old)) result (die self.new) }
+        ensures out { OnOk result (honest self.old ≡ true → bytes.new ≡ bytes_out (die self.old) (die self.old).phase (length bytes.old)) }
+        ensures geometry { honest self.old ≡ true → (die self.new).flash.geometry ≡ (die self.old).flash.geometry }
+        ensures whole { OnOk result (honest self.old ≡ true → IsWhole (die self.new).flash) }
+        ensures honest { honest self.new ≡ honest self.old }
+        ensures failed { failed self.old ≤ failed self.new }
+        ensures rose { IfErr result (IsCounted (failed self.old) (failed self.new)) }
+        ensures uncounted { IfErr result (λ fault. honest self.old ≡ true → IsUncounted (failed self.old) (failed self.new) fault) };
+
+    /// The device's faults so far. The count stays at its greatest value once there.
+    fn failures(&self) -> u64
+        ensures { result ≡ failed self.now };
+}

@@ -1,0 +1,234 @@
+//! A die behind a bus.
+ghost use Rattle.std.specs.Prelude.{◌≡◌, ◌<◌, ◌≤◌, true, [], ◌∷◌, length, slice_get, Some, IfOk, IfErr, OnOk, OnErr, MatchResult};
+ghost use Rattle.page_layout.specs.Geometry.{row_count};
+ghost use Rattle.page_layout.specs.Page.{page, IsImage};
+ghost use Rattle.page_layout.specs.Counter.{counted, HasRisen};
+ghost use Rattle.page_layout.specs.Flash.{Program, Erase, Steps, page_at, block_at, IsWhole};
+ghost use Rattle.onfi_cycles.specs.Cycles.{CycleStep, Command, IsCounted};
+ghost use Rattle.onfi_cycles.specs.Spelling.{Taken, Spells, SpellsRead, program_cycles, erase_cycles, read_cycles, done, refused};
+ghost use Rattle.onfi_cycles.specs.Outcomes.{is_passed, number_of};
+ghost use Rattle.onfi_cycles.specs.Driver.{flash_by};
+
+use crate::spelling::{erase_block, fetch_page, program_page};
+use crate::{Bus, BusFault, Nand, Outcome};
+use page_layout::geometry::Geometry;
+use page_layout::source::{PageSource, SourceFault};
+use std::marker::Model;
+
+/// A die behind a bus: reads, programs and erases spelled as cycles. It counts what it was asked for, and each fault that it
+/// answered; each count stays at 2^64 - 1 once there. (The cycles are those of ONFI 1.0's basic commands.)
+#[derive(Drop)]
+pub struct Driver<B: Bus> {
+    bus: B,
+    geometry: Geometry,
+    reads: u64,
+    programs: u64,
+    erases: u64,
+    failures: u64,
+}
+
+impl<B: Bus> Model for Driver<B> {
+    ghost use Rattle.std.specs.Prelude.{◌≡◌, true};
+    ghost use Rattle.onfi_cycles.specs.Driver.{DriverState, IsReady};
+
+    ghost Value = { DriverState B };
+
+    ghost view = { λ d. record { bus = d.bus; geometry = d.geometry; reads = d.reads; programs = d.programs; erases = d.erases; failures = d.failures } };
+
+    ghost invariant = { λ d. B.honest d.bus ≡ true → ((B.die d.bus).flash.geometry ≡ d.geometry) × IsReady (B.die d.bus).phase };
+}
+
+impl<B: Bus> Driver<B> {
+    /// Sends Reset, and is then ready. The geometry is that of the die behind the bus. A fault of the bus comes back with the bus;
+    /// of an honest bus it is `Device`. (This project.)
+    pub fn new(bus: B, geometry: Geometry) -> Result<Driver<B>, (B, BusFault)>
+        requires geometry { B.honest bus ≡ true → (B.die bus).flash.geometry ≡ geometry }
+
+        // Reset was sent, and nothing else.
+        ensures reset { B.honest bus ≡ true → MatchResult result
+            (λ driver. CycleStep (B.die bus) (Command 0xFF) done (B.die driver.bus))
+            (λ e. CycleStep (B.die bus) (Command 0xFF) (refused e.1) (B.die e.0)) }
+        ensures geometry { IfOk result (λ driver. driver.geometry ≡ geometry) }
+        ensures flash { IfOk result (λ driver. B.honest bus ≡ true → flash_by B.die driver ≡ (B.die bus).flash) }
+
+        // All counts begin at 0.
+        ensures reads { IfOk result (λ driver. driver.reads ≡ 0) }
+        ensures programs { IfOk result (λ driver. driver.programs ≡ 0) }
+        ensures erases { IfOk result (λ driver. driver.erases ≡ 0) }
+        ensures failures { IfOk result (λ driver. driver.failures ≡ 0) }
+
+        // The bus is the one handed in, and fails only where its count of failures rose.
+        ensures honest { MatchResult result (λ driver. B.honest driver.bus ≡ B.honest bus) (λ e. B.honest e.0 ≡ B.honest bus) }
+        ensures failed { MatchResult result (λ driver. B.failed bus ≤ B.failed driver.bus) (λ e. B.failed bus ≤ B.failed e.0) }
+        ensures device { IfErr result (λ e. B.honest bus ≡ true → e.1 ≡ BusFault.Device) }
+        ensures cause { IfErr result (λ e. B.honest bus ≡ true → HasRisen (B.failed bus) (B.failed e.0)) }
+        // Device comes of any bus only so.
+        ensures rose { IfErr result (λ e. IsCounted (B.failed bus) (B.failed e.0) e.1) }
+    {
+        let mut bus = bus;
+        match bus.command(0xFF) {
+            Ok(()) => Ok(Driver {
+                bus,
+                geometry,
+                reads: 0,
+                programs: 0,
+                erases: 0,
+                failures: 0,
+            }),
+            Err(fault) => Err((bus, fault)),
+        }
+    }
+
+    /// Gives the bus back.
+    pub fn into_bus(self) -> B
+        ensures { result ≡ self.bus }
+    {
+        let Driver {
+            bus,
+            geometry: _,
+            reads: _,
+            programs: _,
+            erases: _,
+            failures: _,
+        } = self;
+        bus
+    }
+}
+
+impl<B: Bus> PageSource for Driver<B> {
+    ghost flash = { λ d. flash_by B.die d };
+
+    ghost honest = { λ d. B.honest d.bus };
+
+    ghost reads = { λ d. d.reads };
+
+    ghost programs = { λ d. d.programs };
+
+    ghost erases = { λ d. d.erases };
+
+    ghost failed = { λ d. d.failures };
+
+    /// Reads a page: 00h, five address cycles with column 0, 30h, then `body` and `spare` out. A fault of the bus is answered by
+    /// its number, 1 to 6; of an honest bus it is 6, the device's. After it the buffers hold anything. (ONFI 1.0, Read; the
+    /// numbers are this project's.)
+    fn read_page(&mut self, row: u32, body: &mut [u8], spare: &mut [u8]) -> Result<(), SourceFault>
+        requires row_in { row < row_count self.old.geometry }
+        requires body_whole { length body.old ≡ self.old.geometry.data_bytes }
+        requires spare_whole { length spare.old ≡ self.old.geometry.spare_bytes }
+
+        // What every source of pages promises.
+        ensures page { OnOk result (B.honest self.old.bus ≡ true → slice_get (B.die self.old.bus).flash.image row ≡ Some (page body.new spare.new)) }
+        ensures same { OnOk result (B.honest self.old.bus ≡ true → flash_by B.die self.new ≡ flash_by B.die self.old) }
+        ensures whole { OnOk result (B.honest self.old.bus ≡ true → IsImage self.new.geometry (B.die self.new.bus).flash.image) }
+        ensures geometry { self.new.geometry ≡ self.old.geometry }
+        ensures honest { B.honest self.new.bus ≡ B.honest self.old.bus }
+        ensures reads { self.new.reads ≡ counted self.old.reads }
+        ensures programs { self.new.programs ≡ self.old.programs }
+        ensures erases { self.new.erases ≡ self.old.erases }
+        ensures failed { self.old.failures ≤ self.new.failures }
+        ensures rose { OnErr result (HasRisen self.old.failures self.new.failures) }
+
+        // The cycles, and each fault counted once.
+        ensures spells { B.honest self.old.bus ≡ true →
+            SpellsRead (B.die self.old.bus) (read_cycles row self.old.geometry.data_bytes self.old.geometry.spare_bytes) result (B.die self.new.bus) }
+        ensures kept { OnOk result (self.new.failures ≡ self.old.failures) }
+        ensures counts { OnErr result (self.new.failures ≡ counted self.old.failures) }
+
+        // The number is that of the bus's fault. An honest bus fails only by its device, which it counts.
+        ensures number { IfErr result (λ e. (fault : BusFault) × (e.0 ≡ number_of fault) × IsCounted (B.failed self.old.bus) (B.failed self.new.bus) fault) }
+        ensures device { IfErr result (λ e. B.honest self.old.bus ≡ true → e.0 ≡ number_of BusFault.Device) }
+        ensures cause { OnErr result (B.honest self.old.bus ≡ true → HasRisen (B.failed self.old.bus) (B.failed self.new.bus)) }
+    {
+        self.reads = self.reads.saturating_add(1);
+        match fetch_page(&mut self.bus, row, body, spare) {
+            Ok(()) => Ok(()),
+            Err(fault) => {
+                self.failures = self.failures.saturating_add(1);
+                Err(SourceFault(fault.number()))
+            }
+        }
+    }
+
+    /// The faults answered so far. The count stays at 2^64 - 1 once there.
+    fn failures(&self) -> u64 {
+        self.failures
+    }
+}
+
+impl<B: Bus> Nand for Driver<B> {
+    /// Programs a page: 80h, five address cycles with column 0, `body` and `spare` in, 10h, then 70h and one status byte out. A
+    /// fault is the bus's, or `Device` for a status of no finished operation; of an honest bus it is `Device`. After it nothing
+    /// is known of the pages. (ONFI 1.0, Page Program and Read Status.)
+    fn program(&mut self, row: u32, body: &[u8], spare: &[u8]) -> Result<Outcome, BusFault>
+        requires row_in { row < row_count self.old.geometry }
+        requires body_whole { length body.now ≡ self.old.geometry.data_bytes }
+        requires spare_whole { length spare.now ≡ self.old.geometry.spare_bytes }
+
+        // What every die promises.
+        ensures step { IfOk result (λ outcome. B.honest self.old.bus ≡ true →
+            Steps (flash_by B.die self.old) (Program row (page body.now spare.now) (is_passed outcome) (page_at (flash_by B.die self.new) row)) (flash_by B.die self.new)) }
+        ensures whole { OnOk result (B.honest self.old.bus ≡ true → IsWhole (flash_by B.die self.new)) }
+        ensures geometry { self.new.geometry ≡ self.old.geometry }
+        ensures honest { B.honest self.new.bus ≡ B.honest self.old.bus }
+        ensures reads { self.new.reads ≡ self.old.reads }
+        ensures programs { self.new.programs ≡ counted self.old.programs }
+        ensures erases { self.new.erases ≡ self.old.erases }
+        ensures failed { self.old.failures ≤ self.new.failures }
+        ensures rose { OnErr result (HasRisen self.old.failures self.new.failures) }
+
+        // The cycles, and each fault counted once.
+        ensures spells { B.honest self.old.bus ≡ true → Spells (B.die self.old.bus) (program_cycles row body.now spare.now) result (B.die self.new.bus) }
+        ensures kept { OnOk result (self.new.failures ≡ self.old.failures) }
+        ensures counts { OnErr result (self.new.failures ≡ counted self.old.failures) }
+
+        // An honest bus fails only by its device, which it counts.
+        ensures device { IfErr result (λ fault. B.honest self.old.bus ≡ true → fault ≡ BusFault.Device) }
+        ensures cause { OnErr result (B.honest self.old.bus ≡ true → HasRisen (B.failed self.old.bus) (B.failed self.new.bus)) }
+    {
+        self.programs = self.programs.saturating_add(1);
+        match program_page(&mut self.bus, row, body, spare) {
+            Ok(outcome) => Ok(outcome),
+            Err(fault) => {
+                self.failures = self.failures.saturating_add(1);
+                Err(fault)
+            }
+        }
+    }
+
+    /// Erases a block: 60h, three row cycles of its page 0, D0h, then 70h and one status byte out. A fault is the bus's, or `Device`
+    /// for a status of no finished operation; of an honest bus it is `Device`. After it nothing is known of the pages. (ONFI 1.0,
+    /// Block Erase and Read Status.)
+    fn erase(&mut self, block: u32) -> Result<Outcome, BusFault>
+        requires block_in { block < self.old.geometry.blocks }
+
+        // What every die promises.
+        ensures step { IfOk result (λ outcome. B.honest self.old.bus ≡ true →
+            Steps (flash_by B.die self.old) (Erase block (is_passed outcome) (block_at (flash_by B.die self.new) block)) (flash_by B.die self.new)) }
+        ensures whole { OnOk result (B.honest self.old.bus ≡ true → IsWhole (flash_by B.die self.new)) }
+        ensures geometry { self.new.geometry ≡ self.old.geometry }
+        ensures honest { B.honest self.new.bus ≡ B.honest self.old.bus }
+        ensures reads { self.new.reads ≡ self.old.reads }
+        ensures programs { self.new.programs ≡ self.old.programs }
+        ensures erases { self.new.erases ≡ counted self.old.erases }
+        ensures failed { self.old.failures ≤ self.new.failures }
+        ensures rose { OnErr result (HasRisen self.old.failures self.new.failures) }
+
+        // The cycles, and each fault counted once.
+        ensures spells { B.honest self.old.bus ≡ true → Spells (B.die self.old.bus) (erase_cycles self.old.geometry block) result (B.die self.new.bus) }
+        ensures kept { OnOk result (self.new.failures ≡ self.old.failures) }
+        ensures counts { OnErr result (self.new.failures ≡ counted self.old.failures) }
+
+        // An honest bus fails only by its device, which it counts.
+        ensures device { IfErr result (λ fault. B.honest self.old.bus ≡ true → fault ≡ BusFault.Device) }
+        ensures cause { OnErr result (B.honest self.old.bus ≡ true → HasRisen (B.failed self.old.bus) (B.failed self.new.bus)) }
+    {
+        self.erases = self.erases.saturating_add(1);
+        match erase_block(&mut self.bus, &self.geometry, block) {
+            Ok(outcome) => Ok(outcome),
+            Err(fault) => {
+                self.failures = self.failures.saturating_add(1);
+                Err(fault)
+            }
+        }
+    }
+}

@@ -1,0 +1,106 @@
+//! A die as the layers above see it.
+use page_layout::source::PageSource;
+use thiserror::Error;
+
+/// How a program or an erase ended, by the die's own word.
+#[derive(Clone, Copy, Debug, PartialEq, Eq)]
+pub enum Outcome {
+    /// The page holds what was handed in, or the block is erased.
+    Passed,
+    /// The page, or each page of the block, is as it was or has no sound record. A program of another page than the block's next
+    /// and a program or erase of a block that is bad or has failed are answered so and change nothing.
+    Failed,
+}
+
+impl Outcome {
+    ghost use Rattle.std.specs.Prelude.{◌≡◌};
+    ghost use Rattle.onfi_cycles.specs.Outcomes.{is_passed};
+
+    /// Whether the operation passed.
+    pub fn passed(self) -> bool
+        ensures { result ≡ is_passed self }
+    {
+        match self {
+            Outcome::Passed => true,
+            Outcome::Failed => false,
+        }
+    }
+}
+
+/// Why a cycle was not taken. (The rules of turns are this project's.)
+#[derive(Clone, Copy, Debug, PartialEq, Eq, Error)]
+pub enum BusFault {
+    /// A cycle other than Reset (FFh) came before the first Reset.
+    #[error("NoReset")]
+    NoReset = 1,
+    /// No command has this code.
+    #[error("UnknownCommand")]
+    UnknownCommand = 2,
+    /// The cycle is not due now.
+    #[error("OutOfTurn")]
+    OutOfTurn = 3,
+    /// The row is past the die's last, or Read ID knows no such address.
+    #[error("AddressRange")]
+    AddressRange = 4,
+    /// The column, or the data from it on, is past the page's last byte.
+    #[error("ColumnRange")]
+    ColumnRange = 5,
+    /// The device failed. What the die holds is then not known.
+    #[error("Device")]
+    Device = 6,
+}
+
+impl BusFault {
+    ghost use Rattle.std.specs.Prelude.{◌≡◌};
+    ghost use Rattle.onfi_cycles.specs.Outcomes.{number_of};
+
+    /// The fault's number, 1 to 6 in the order above. (This project.)
+    pub fn number(self) -> u8
+        ensures { result ≡ number_of self }
+    {
+        self as u8
+    }
+}
+
+/// A die that can be read, programmed and erased. For an honest one each operation that is answered `Ok` is one step of its log:
+/// the page or block holds what the outcome says, all other pages stay, the block's count of programs or erases rises, and
+/// `abuse` rises just where the operation was not allowed. (This project.)
+pub trait Nand: PageSource {
+    ghost use Rattle.std.specs.Prelude.{◌≡◌, ◌<◌, ◌≤◌, ℕ, true, length, IfOk, OnOk, OnErr};
+    ghost use Rattle.page_layout.specs.Geometry.{row_count};
+    ghost use Rattle.page_layout.specs.Page.{page};
+    ghost use Rattle.page_layout.specs.Counter.{counted, HasRisen};
+    ghost use Rattle.page_layout.specs.Flash.{page_at, block_at, IsWhole, Steps, Program, Erase};
+    ghost use Rattle.onfi_cycles.specs.Outcomes.{is_passed};
+
+    /// Programs the page of a row with the bytes of its data area and its spare area. After an `Err` nothing is known of the pages,
+    /// and the count of failures has risen or stands at 2^64 - 1.
+    fn program(&mut self, row: u32, body: &[u8], spare: &[u8]) -> Result<Outcome, BusFault>
+        requires row_in { row < row_count (Self.flash self.old).geometry }
+        requires body_whole { length body.now ≡ (Self.flash self.old).geometry.data_bytes }
+        requires spare_whole { length spare.now ≡ (Self.flash self.old).geometry.spare_bytes }
+        ensures step { IfOk result (λ outcome. Self.honest self.old ≡ true →
+            Steps (Self.flash self.old) (Program row (page body.now spare.now) (is_passed outcome) (page_at (Self.flash self.new) row)) (Self.flash self.new)) }
+        ensures whole { OnOk result (Self.honest self.old ≡ true → IsWhole (Self.flash self.new)) }
+        ensures geometry { (Self.flash self.new).geometry ≡ (Self.flash self.old).geometry }
+        ensures honest { Self.honest self.new ≡ Self.honest self.old }
+        ensures reads { Self.reads self.new ≡ Self.reads self.old }
+        ensures programs { Self.programs self.new ≡ counted (Self.programs self.old) }
+        ensures erases { Self.erases self.new ≡ Self.erases self.old }
+        ensures failed { Self.failed self.old ≤ Self.failed self.new }
+        ensures rose { OnErr result (HasRisen (Self.failed self.old) (Self.failed self.new)) };
+
+    /// Erases a block. After an `Err` nothing is known of the pages, and the count of failures has risen or stands at 2^64 - 1.
+    fn erase(&mut self, block: u32) -> Result<Outcome, BusFault>
+        requires block_in { block < (Self.flash self.old).geometry.blocks }
+        ensures step { IfOk result (λ outcome. Self.honest self.old ≡ true →
+            Steps (Self.flash self.old) (Erase block (is_passed outcome) (block_at (Self.flash self.new) block)) (Self.flash self.new)) }
+        ensures whole { OnOk result (Self.honest self.old ≡ true → IsWhole (Self.flash self.new)) }
+        ensures geometry { (Self.flash self.new).geometry ≡ (Self.flash self.old).geometry }
+        ensures honest { Self.honest self.new ≡ Self.honest self.old }
+        ensures reads { Self.reads self.new ≡ Self.reads self.old }
+        ensures programs { Self.programs self.new ≡ Self.programs self.old }
+        ensures erases { Self.erases self.new ≡ counted (Self.erases self.old) }
+        ensures failed { Self.failed self.old ≤ Self.failed self.new }
+        ensures rose { OnErr result (HasRisen (Self.failed self.old) (Self.failed self.new)) };
+}
