@@ -1,0 +1,7 @@
+pub mod PagesLemmas
+pub mod LeftLemmas
+pub mod StepLemmas
+pub mod NextLemmas
+pub mod MakeLemmas
+pub mod ActLemmas
+pub mod LawLemmas

@@ -1,0 +1,76 @@
+-- What a die in memory does, said of its value before and after.
+use Rattle.std.specs.Prelude.{List, Contains, ◌≡◌, ◌⊎◌, ◌↔◌, ℕ, ◌<◌, true, false, if◌then◌else◌, length, IsSome, None}
+use Rattle.page_layout.specs.Page.{Page}
+use Rattle.page_layout.specs.Counter.{counted}
+use Rattle.page_layout.specs.Flash.{may_program, may_erase}
+use Rattle.onfi_cycles.specs.Cycles.{Phase, Moves, Resets, Programs, Erases, Refuses}
+use Rattle.onfi_cycles.specs.declared.nand.BusFault.{BusFault}
+use Rattle.page_layout.specs.declared.geometry.Geometry.{Geometry}
+use Rattle.nand_die.specs.declared.fault.Fault.{Fault}
+use Rattle.nand_die.specs.declared.fault.DieFault.{DieFault}
+use Rattle.nand_die.specs.Made.{AreNames, IsFirstMisnamed, is_named, past_last, IsNextPage}
+use Rattle.nand_die.specs.Faults.{ArePagesLeft, HasFirstWrong}
+use Rattle.nand_die.specs.DieValue.{DieValue, fault_next, answered}
+
+-- A program passes, with status E0h, just where its page is the next of a block that is neither bad nor failed and no fault is due. Else
+-- it fails, with status E1h.
+abbrev pub ProgramPassesLaw : Type 0
+ProgramPassesLaw = (d : DieValue) (row : ℕ) (page : Page) →
+    (((answered (Programs row page) d).state.status ≡ 0xE0) ↔ ((may_program d.state.flash row ≡ true) × (fault_next d ≡ None)))
+    × (((answered (Programs row page) d).state.status ≡ 0xE1) ↔ ((may_program d.state.flash row ≡ false) ⊎ IsSome (fault_next d)))
+
+-- An erase passes just where its block is neither bad nor failed and no fault is due.
+abbrev pub ErasePassesLaw : Type 0
+ErasePassesLaw = (d : DieValue) (block : ℕ) →
+    (((answered (Erases block) d).state.status ≡ 0xE0) ↔ ((may_erase d.state.flash block ≡ true) × (fault_next d ≡ None)))
+    × (((answered (Erases block) d).state.status ≡ 0xE1) ↔ ((may_erase d.state.flash block ≡ false) ⊎ IsSome (fault_next d)))
+
+-- An illegal program leaves every page as it was, and it alone counts as abuse.
+abbrev pub ProgramAbuseLaw : Type 0
+ProgramAbuseLaw = (d : DieValue) (row : ℕ) (page : Page) →
+    ((answered (Programs row page) d).state.flash.abuse ≡ (if may_program d.state.flash row then d.state.flash.abuse else counted d.state.flash.abuse))
+    × (may_program d.state.flash row ≡ false → row < length d.state.flash.image → (answered (Programs row page) d).state.flash.image ≡ d.state.flash.image)
+
+-- The same of an erase.
+abbrev pub EraseAbuseLaw : Type 0
+EraseAbuseLaw = (d : DieValue) (block : ℕ) →
+    ((answered (Erases block) d).state.flash.abuse ≡ (if may_erase d.state.flash block then d.state.flash.abuse else counted d.state.flash.abuse))
+    × (may_erase d.state.flash block ≡ false → (answered (Erases block) d).state.flash.image ≡ d.state.flash.image)
+
+-- Each program and each erase uses up one number of the faults' count, and the list stays.
+abbrev pub CountLaw : Type 0
+CountLaw = (d : DieValue) →
+    ((row : ℕ) (page : Page) → (answered (Programs row page) d).asked ≡ counted d.asked)
+    × ((block : ℕ) → (answered (Erases block) d).asked ≡ counted d.asked)
+
+-- No other cycle touches the flash, the faults or their count.
+abbrev pub QuietLaw : Type 0
+QuietLaw = (d : DieValue) →
+    ((phase : Phase) → ((answered (Moves phase) d).state.flash ≡ d.state.flash) × ((answered (Moves phase) d).asked ≡ d.asked))
+    × (((answered Resets d).state.flash ≡ d.state.flash) × ((answered Resets d).asked ≡ d.asked))
+    × ((fault : BusFault) → ((answered (Refuses fault) d).state.flash ≡ d.state.flash) × ((answered (Refuses fault) d).asked ≡ d.asked))
+
+-- ---- what a die is made of
+
+-- The next page of a block, as a die takes it from an image: all pages from there on are erased, the one before is not, and no other
+-- number is so.
+abbrev pub NextPageLaw : Type 0
+NextPageLaw = (ps : List Page) (next : ℕ) → (next ≡ past_last ps) ↔ IsNextPage ps next
+
+-- A block is bad just where the list has it.
+abbrev pub NamedLaw : Type 0
+NamedLaw = (names : List ℕ) (block : ℕ) → (is_named names block ≡ true) ↔ Contains names block
+
+-- A list that is refused is not one that is taken, and is refused for one block.
+abbrev pub NoneMisnamedLaw : Type 0
+NoneMisnamedLaw = (g : Geometry) (names : List ℕ) (block : ℕ) → AreNames g names → ¬ IsFirstMisnamed g names block
+
+abbrev pub OneMisnamedLaw : Type 0
+OneMisnamedLaw = (g : Geometry) (names : List ℕ) (a b : ℕ) → IsFirstMisnamed g names a → IsFirstMisnamed g names b → a ≡ b
+
+-- Nor is a list of faults that is refused one that is taken, and it is refused for one reason.
+abbrev pub NoneWrongLaw : Type 0
+NoneWrongLaw = (g : Geometry) (faults : List Fault) (why : DieFault) → ArePagesLeft g faults → ¬ HasFirstWrong g faults why
+
+abbrev pub OneWrongLaw : Type 0
+OneWrongLaw = (g : Geometry) (faults : List Fault) (a b : DieFault) → HasFirstWrong g faults a → HasFirstWrong g faults b → a ≡ b

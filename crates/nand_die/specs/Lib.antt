@@ -1,0 +1,6 @@
+pub mod Faults
+pub mod BusState
+pub mod Turns
+pub mod Made
+pub mod DieValue
+pub mod Laws

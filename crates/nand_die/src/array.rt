@@ -1,0 +1,71 @@
+// The pages of a die, one after another in an array of bytes.
+ghost use Rattle.std.specs.Prelude.{◌≡◌, ◌<◌, ◌*◌, List, length, slice_set, take, drop, replicate, get_or};
+ghost use Rattle.page_layout.specs.Geometry.{row_count, page_bytes};
+ghost use Rattle.page_layout.specs.Raw.{raw_image};
+ghost use Rattle.page_layout.specs.Change.{erased_page};
+ghost use Rattle.page_layout.specs.Flash.{no_page, with_block};
+ghost use Rattle.onfi_cycles.specs.Cycles.{page_of};
+ghost use Rattle.nand_die.specs.Made.{with_mark};
+
+use page_layout::geometry::Geometry;
+
+// The bytes of a page.
+pub fn page_length(geometry: &Geometry) -> usize
+    ensures { result ≡ page_bytes geometry.now }
+{
+    geometry.data_bytes() + geometry.spare_bytes()
+}
+
+// The bytes of a raw image.
+pub fn image_length(geometry: &Geometry) -> usize
+    ensures { result ≡ row_count geometry.now * page_bytes geometry.now }
+{
+    geometry.rows() as usize * page_length(geometry)
+}
+
+// Writes a page into its place.
+pub fn write_page(bytes: &mut [u8], geometry: &Geometry, row: u32, page: &[u8])
+    requires in_range { row < row_count geometry.now }
+    requires whole { length bytes.old ≡ row_count geometry.now * page_bytes geometry.now }
+    requires page { length page.now ≡ page_bytes geometry.now }
+    ensures { raw_image geometry.now bytes.new ≡ slice_set (raw_image geometry.now bytes.old) row (page_of geometry.now page.now) }
+{
+    let size = page_length(geometry);
+    let start = row as usize * size;
+    bytes[start..start + size].copy_from_slice(page);
+}
+
+// A page, lent.
+pub fn page_slice<'a>(bytes: &'a [u8], geometry: &Geometry, row: u32) -> &'a [u8]
+    requires in_range { row < row_count geometry.now }
+    requires whole { length bytes.now ≡ row_count geometry.now * page_bytes geometry.now }
+    ensures page { get_or (raw_image geometry.now bytes.now) row no_page ≡ page_of geometry.now result.now }
+    ensures size { length result.now ≡ page_bytes geometry.now }
+{
+    let size = page_length(geometry);
+    let start = row as usize * size;
+    &bytes[start..start + size]
+}
+
+// Puts a factory mark on a page.
+pub fn mark_page(bytes: &mut [u8], geometry: &Geometry, row: u32)
+    requires in_range { row < row_count geometry.now }
+    requires whole { length bytes.old ≡ row_count geometry.now * page_bytes geometry.now }
+    ensures { raw_image geometry.now bytes.new ≡ slice_set (raw_image geometry.now bytes.old) row (with_mark (get_or (raw_image geometry.now bytes.old) row no_page)) }
+{
+    let size = page_length(geometry);
+    let start = row as usize * size;
+    let page = &mut bytes[start..start + size];
+    page[geometry.data_bytes()] = 0;
+}
+
+// Erases the pages of a block.
+pub fn erase_pages(bytes: &mut [u8], geometry: &Geometry, block: u32)
+    requires in_range { block < geometry.now.blocks }
+    requires whole { length bytes.old ≡ row_count geometry.now * page_bytes geometry.now }
+    ensures { raw_image geometry.now bytes.new ≡ with_block geometry.now.pages block (replicate geometry.now.pages (erased_page geometry.now)) (raw_image geometry.now bytes.old) }
+{
+    let size = geometry.pages() as usize * page_length(geometry);
+    let start = block as usize * size;
+    bytes[start..start + size].fill(0xFF);
+}

@@ -1,0 +1,184 @@
+// What a program or an erase does to the pages and to the turns of the blocks.
+ghost use Rattle.std.specs.Prelude.{◌≡◌, ◌<◌, ◌-◌, ◌^◌, ◌+◌, ◌*◌, ◌/◌, ◌%◌, ℕ, true, not, ◌&&◌, ◌==◌, length, take, drop, slice_set, get_or, if◌then◌else◌};
+ghost use Rattle.page_layout.specs.Geometry.{row_count, page_bytes};
+ghost use Rattle.page_layout.specs.Raw.{raw_image, IsRaw};
+ghost use Rattle.page_layout.specs.Counter.{counted};
+ghost use Rattle.page_layout.specs.Flash.{after, may_program, may_erase, Program, Erase, page_at, block_at, after_program, after_erase, with_block, no_page};
+ghost use Rattle.onfi_cycles.specs.Cycles.{page_of};
+ghost use Rattle.nand_die.specs.Turns.{turn_of, flash_of, left_page, left_block};
+
+use crate::array::{erase_pages, write_page};
+use crate::fault::Strike;
+use page_layout::geometry::Geometry;
+
+// The next page of a block, whether the block is bad or has failed, and what was asked of it.
+#[derive(Clone, Copy)]
+pub struct BlockTurn {
+    pub next: u32,
+    pub barred: bool,
+    pub programs: u64,
+    pub erases: u64,
+}
+
+// A program or an erase, as it went.
+#[derive(Clone, Copy)]
+pub struct Change {
+    pub legal: bool,
+    pub passed: bool,
+}
+
+// Whether a page is the next of its block.
+fn is_due(turn: BlockTurn, page: u32) -> bool
+    ensures { result ≡ (not turn.barred && (turn.next == page)) }
+{
+    !turn.barred && turn.next == page
+}
+
+fn change_of(legal: bool, struck: bool) -> Change
+    ensures legal { result.legal ≡ legal }
+    ensures passed { result.passed ≡ (legal && not struck) }
+{
+    Change {
+        legal,
+        passed: legal && !struck,
+    }
+}
+
+// The turn of a block after a program.
+fn programmed(turn: BlockTurn, change: Change) -> BlockTurn
+    requires { change.legal ≡ true → turn.next < 2 ^ 32 - 1 }
+    ensures { turn_of result ≡ after_program (turn_of turn) change.legal change.passed }
+{
+    BlockTurn {
+        next: if change.legal && change.passed {
+            turn.next + 1
+        } else {
+            turn.next
+        },
+        barred: turn.barred || (change.legal && !change.passed),
+        programs: turn.programs.saturating_add(1),
+        erases: turn.erases,
+    }
+}
+
+// The turn of a block after an erase.
+fn erased(turn: BlockTurn, change: Change) -> BlockTurn
+    ensures { turn_of result ≡ after_erase (turn_of turn) change.legal change.passed }
+{
+    BlockTurn {
+        next: if change.legal && change.passed {
+            0
+        } else {
+            turn.next
+        },
+        barred: turn.barred || (change.legal && !change.passed),
+        programs: turn.programs,
+        erases: turn.erases.saturating_add(1),
+    }
+}
+
+// Leaves in a page what a program leaves there.
+fn leave_page(
+    bytes: &mut [u8],
+    geometry: &Geometry,
+    row: u32,
+    change: Change,
+    page: &[u8],
+    left: &[u8],
+)
+    requires in_range { row < row_count geometry.now }
+    requires whole { length bytes.old ≡ row_count geometry.now * page_bytes geometry.now }
+    requires page { length page.now ≡ page_bytes geometry.now }
+    requires left { 0 < length left.now → length left.now ≡ page_bytes geometry.now }
+    ensures { raw_image geometry.now bytes.new ≡ slice_set (raw_image geometry.now bytes.old) row
+        (left_page geometry.now (get_or (raw_image geometry.now bytes.old) row no_page) change.legal change.passed (page_of geometry.now page.now) left.now) }
+{
+    if change.passed {
+        write_page(bytes, geometry, row, page);
+        return;
+    }
+    if !change.legal {
+        return;
+    }
+    if left.is_empty() {
+        return;
+    }
+    write_page(bytes, geometry, row, left);
+}
+
+// Leaves in a block what an erase leaves there.
+fn leave_block(bytes: &mut [u8], geometry: &Geometry, block: u32, change: Change, left: &[u8])
+    requires in_range { block < geometry.now.blocks }
+    requires whole { length bytes.old ≡ row_count geometry.now * page_bytes geometry.now }
+    requires left { 0 < length left.now → length left.now ≡ page_bytes geometry.now }
+    ensures { raw_image geometry.now bytes.new ≡ with_block geometry.now.pages block
+        (left_block geometry.now (take geometry.now.pages (drop (block * geometry.now.pages) (raw_image geometry.now bytes.old))) change.legal change.passed left.now) (raw_image geometry.now bytes.old) }
+{
+    if change.passed {
+        erase_pages(bytes, geometry, block);
+        return;
+    }
+    if !change.legal {
+        return;
+    }
+    if left.is_empty() {
+        return;
+    }
+    write_page(bytes, geometry, geometry.row(block, 0), left);
+}
+
+// A program of a page, which a fault may strike.
+pub fn program_into(
+    bytes: &mut [u8],
+    turns: &mut [BlockTurn],
+    geometry: &Geometry,
+    row: u32,
+    page: &[u8],
+    strike: Strike,
+) -> Change
+    requires in_range { row < row_count geometry.now }
+    requires whole { length bytes.old ≡ row_count geometry.now * page_bytes geometry.now }
+    requires blocks { length turns.old ≡ geometry.now.blocks }
+    requires page { length page.now ≡ page_bytes geometry.now }
+    requires left { 0 < length strike.page_left.now → length strike.page_left.now ≡ page_bytes geometry.now }
+    ensures raw { IsRaw geometry.now bytes.new }
+    ensures legal { (abuse : ℕ) → result.legal ≡ may_program (flash_of geometry.now bytes.old turns.old abuse) row }
+    ensures passed { result.passed ≡ (result.legal && not strike.entry.comes) }
+    ensures flash { (abuse : ℕ) → let old = flash_of geometry.now bytes.old turns.old abuse in
+        flash_of geometry.now bytes.new turns.new (if result.legal then abuse else counted abuse)
+        ≡ after old (Program row (page_of geometry.now page.now) result.passed (left_page geometry.now (page_at old row) result.legal result.passed (page_of geometry.now page.now) strike.entry.page_left.now)) }
+{
+    let block = row / geometry.pages();
+    let turn = turns[block as usize];
+    let legal = is_due(turn, row % geometry.pages());
+    let change = change_of(legal, strike.comes);
+    leave_page(bytes, geometry, row, change, page, strike.page_left);
+    turns[block as usize] = programmed(turn, change);
+    change
+}
+
+// An erase of a block, which a fault may strike.
+pub fn erase_into(
+    bytes: &mut [u8],
+    turns: &mut [BlockTurn],
+    geometry: &Geometry,
+    block: u32,
+    strike: Strike,
+) -> Change
+    requires in_range { block < geometry.now.blocks }
+    requires whole { length bytes.old ≡ row_count geometry.now * page_bytes geometry.now }
+    requires blocks { length turns.old ≡ geometry.now.blocks }
+    requires left { 0 < length strike.page_left.now → length strike.page_left.now ≡ page_bytes geometry.now }
+    ensures raw { IsRaw geometry.now bytes.new }
+    ensures legal { (abuse : ℕ) → result.legal ≡ may_erase (flash_of geometry.now bytes.old turns.old abuse) block }
+    ensures passed { result.passed ≡ (result.legal && not strike.entry.comes) }
+    ensures flash { (abuse : ℕ) → let old = flash_of geometry.now bytes.old turns.old abuse in
+        flash_of geometry.now bytes.new turns.new (if result.legal then abuse else counted abuse)
+        ≡ after old (Erase block result.passed (left_block geometry.now (block_at old block) result.legal result.passed strike.entry.page_left.now)) }
+{
+    let turn = turns[block as usize];
+    let change = change_of(!turn.barred, strike.comes);
+    leave_block(bytes, geometry, block, change, strike.page_left);
+    turns[block as usize] = erased(turn, change);
+    change
+}

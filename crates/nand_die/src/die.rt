@@ -1,0 +1,381 @@
+// A die in memory.
+ghost use Rattle.std.specs.Prelude.{◌≡◌, ◌<◌, ◌*◌, ℕ, true, List, length, map, IfOk, IfErr, OnOk, OnErr, if◌then◌else◌};
+ghost use Rattle.page_layout.specs.Geometry.{row_count, page_bytes};
+ghost use Rattle.page_layout.specs.Raw.{raw_bytes};
+ghost use Rattle.page_layout.specs.Counter.{counted};
+ghost use Rattle.page_layout.specs.Flash.{IsWhole};
+ghost use Rattle.onfi_cycles.specs.Cycles.{Programs, Erases, Refuses, Loading, Command, Address, DataIn, DataOut, CycleStep, page_of, command_due, address_due, data_in_due, data_out_due, bytes_out};
+ghost use Rattle.nand_die.specs.BusState.{IsProtocolFault};
+
+use crate::array::{image_length, page_length};
+use crate::bus_state::{AddressStep, BusState, CommandStep, OutputSource};
+use crate::change::{BlockTurn, Change, erase_into, program_into};
+use crate::cycle_step::{address_step, command_step, data_place};
+use crate::data_out::put_out_at;
+use crate::fault::{DieFault, Fault, Mark};
+use crate::make::{blank, copy_of, load_turns, mark_all, new_turns};
+use crate::strike::{check_faults, next_strike};
+use onfi_cycles::{Bus, BusFault};
+use page_layout::geometry::Geometry;
+use std::alloc::Global;
+use std::marker::Model;
+
+// How many programs and erases were illegal, and were asked for since the faults were set.
+#[derive(Clone, Copy)]
+pub struct ChangeCounts {
+    pub abuse: u64,
+    pub asked: u64,
+}
+
+// The counts after a program or an erase.
+fn counts_after(counts: ChangeCounts, change: Change) -> ChangeCounts
+    ensures abuse { result.abuse ≡ (if change.legal then counts.abuse else counted counts.abuse) }
+    ensures asked { result.asked ≡ counted counts.asked }
+{
+    ChangeCounts {
+        abuse: if change.legal {
+            counts.abuse
+        } else {
+            counts.abuse.saturating_add(1)
+        },
+        asked: counts.asked.saturating_add(1),
+    }
+}
+
+/// A raw NAND die in memory, behind its bus. It is always ready after a confirm cycle, never write
+/// protected, and never answers `Device`; it holds its image once, and a program copies one page.
+///
+/// A program or an erase fails just where it is illegal or a fault is set for it. Illegal is a program
+/// of another page than the next of its block, and a program or an erase of a block that is bad or has
+/// failed: it changes no page. A block that failed where it was legal takes nothing more. (Commands and
+/// status bits are ONFI 1.0's; the rules of turns are this project's.)
+#[derive(Drop)]
+pub struct Die {
+    geometry: Geometry,
+    bytes: Vec<u8>,
+    register: Vec<u8>,
+    turns: Vec<BlockTurn>,
+    bus_state: BusState,
+    passed: bool,
+    faults: Vec<Fault>,
+    counts: ChangeCounts,
+}
+
+impl Model for Die {
+    ghost use Rattle.onfi_cycles.specs.Cycles.{status_of};
+    ghost use Rattle.nand_die.specs.BusState.{phase_of};
+    ghost use Rattle.nand_die.specs.Turns.{flash_of};
+    ghost use Rattle.nand_die.specs.DieValue.{DieValue, AreFields};
+
+    ghost Value = { DieValue };
+
+    ghost view = { λ d. record {
+      state = record { flash = flash_of d.geometry d.bytes.items d.turns.items d.counts.abuse; phase = phase_of d.register.items d.bus_state; status = status_of d.passed };
+      faults = d.faults.items;
+      asked = d.counts.asked;
+    } };
+
+    ghost invariant = { λ d. AreFields d.geometry d.bytes.items d.register.items d.turns.items d.bus_state d.faults.items };
+}
+
+impl Die {
+    ghost use Rattle.nand_die.specs.DieValue.{DieValue, Acts, before_reset};
+    ghost use Rattle.nand_die.specs.Faults.{ArePagesLeft, HasFirstWrong};
+    ghost use Rattle.nand_die.specs.Turns.{flash_of};
+    ghost use Rattle.nand_die.specs.Made.{AreNames, marked_blocks, new_flash, loaded_flash, RefusesMarks, RefusesImage};
+
+    fn of(
+        alloc: Global,
+        geometry: Geometry,
+        bytes: Vec<u8>,
+        register: Vec<u8>,
+        turns: Vec<BlockTurn>,
+    ) -> Die
+        requires whole { length bytes.items ≡ row_count geometry * page_bytes geometry }
+        requires register { length register.items ≡ page_bytes geometry }
+        requires blocks { length turns.items ≡ geometry.blocks }
+        ensures { result ≡ before_reset (flash_of geometry bytes.items turns.items 0) }
+    {
+        Die {
+            geometry,
+            bytes,
+            register,
+            turns,
+            bus_state: BusState::Unreset,
+            passed: true,
+            faults: Vec::new(alloc),
+            counts: ChangeCounts { abuse: 0, asked: 0 },
+        }
+    }
+
+    /// A new die: every byte of its pages is FFh but for the factory marks, nothing was programmed, and
+    /// the marked blocks are bad. It waits for its first Reset.
+    ///
+    /// # Errors
+    ///
+    /// - `BadMark` with the first block of `marks` that lies past the die or was named earlier in it.
+    /// - `OutOfMemory` where a growth was refused.
+    pub fn new(alloc: Global, geometry: Geometry, marks: &[Mark]) -> Result<Die, DieFault>
+        ensures made { IfOk result (λ die. die ≡ before_reset (new_flash geometry marks.now)) }
+        ensures named { OnOk result (AreNames geometry (marked_blocks marks.now)) }
+        ensures err { IfErr result (RefusesMarks geometry marks.now) }
+    {
+        let mut bytes = blank(alloc, image_length(&geometry))?;
+        let register = blank(alloc, page_length(&geometry))?;
+        let mut turns = new_turns(alloc, &geometry)?;
+        mark_all(&mut bytes, &mut turns, &geometry, marks)?;
+        Ok(Die::of(alloc, geometry, bytes, register, turns))
+    }
+
+    /// A die that holds a raw image: the pages in row order, each its data area and then its spare
+    /// area. The next page of each block is one past its last page that is not erased, and the blocks
+    /// of `bad` are bad. It waits for its first Reset. The time is linear in the image.
+    ///
+    /// # Errors
+    ///
+    /// - `WrongLength` where the image has not as many bytes as the die's pages, whatever `bad` is.
+    /// - Else `BadMark` with the first block of `bad` that lies past the die or was named earlier in it.
+    /// - `OutOfMemory` where a growth was refused.
+    pub fn from_image(
+        alloc: Global,
+        geometry: Geometry,
+        image: &[u8],
+        bad: &[u32],
+    ) -> Result<Die, DieFault>
+        ensures made { IfOk result (λ die. die ≡ before_reset (loaded_flash geometry image.now bad.now)) }
+        ensures whole { OnOk result (length image.now ≡ row_count geometry * page_bytes geometry) }
+        ensures named { OnOk result (AreNames geometry bad.now) }
+        ensures err { IfErr result (RefusesImage geometry image.now bad.now) }
+    {
+        if image.len() != image_length(&geometry) {
+            return Err(DieFault::WrongLength);
+        }
+        let bytes = copy_of(alloc, image)?;
+        let register = blank(alloc, page_length(&geometry))?;
+        let mut turns = new_turns(alloc, &geometry)?;
+        load_turns(&mut turns, &geometry, image, bad)?;
+        Ok(Die::of(alloc, geometry, bytes, register, turns))
+    }
+
+    /// The programs and erases so far that were illegal. The count stays at 2^64 - 1 once there.
+    pub fn abuse(&self) -> u64
+        ensures { result ≡ self.now.state.flash.abuse }
+    {
+        self.counts.abuse
+    }
+
+    /// Writes the raw image out: the pages in row order, each its data area and then its spare area.
+    /// `out` has as many bytes as they have. The time is linear in the image.
+    pub fn image_into(&self, out: &mut [u8])
+        requires whole { length out.old ≡ row_count self.now.state.flash.geometry * page_bytes self.now.state.flash.geometry }
+        ensures { out.new ≡ raw_bytes self.now.state.flash.image }
+    {
+        out.copy_from_slice(self.bytes.as_slice());
+    }
+
+    /// Sets the programs and erases that are to fail, counted from now on, in place of those set
+    /// before. Of two faults with one number the first counts. One that meets an illegal program or
+    /// erase is used up and changes nothing; the block does not become failed by it.
+    ///
+    /// # Errors
+    ///
+    /// After a refusal the list set before stands, with its count. The first fault of the list whose
+    /// `page_left` may not be left decides:
+    ///
+    /// - `WrongLength` where it is neither empty nor as long as a page.
+    /// - Else `SoundFaultPage` where the page has a sound record.
+    pub fn set_faults(&mut self, faults: Vec<Fault>) -> Result<(), DieFault>
+        ensures ok { OnOk result (self.new ≡ record { state = self.old.state; faults = faults.items; asked = 0 }) }
+        ensures left { OnOk result (ArePagesLeft self.old.state.flash.geometry faults.items) }
+        ensures err { IfErr result (HasFirstWrong self.old.state.flash.geometry faults.items) }
+        ensures kept { OnErr result (self.new ≡ self.old) }
+    {
+        check_faults(&self.geometry, faults.as_slice())?;
+        self.faults = faults;
+        self.counts.asked = 0;
+        Ok(())
+    }
+
+    // Gives up the unfinished command.
+    fn refuse(&mut self, fault: BusFault) -> Result<(), BusFault>
+        requires { IsProtocolFault fault }
+        ensures { Acts (Refuses fault) self.old self.new result }
+    {
+        self.bus_state = self.bus_state.given_up();
+        Err(fault)
+    }
+
+    // The program that a confirm cycle asks for.
+    fn confirm_program(&mut self, row: u32) -> Result<(), BusFault>
+        requires in_range { row < row_count self.old.state.flash.geometry }
+        ensures { (register : List ℕ) (column : ℕ) → self.old.state.phase ≡ Loading row column register → Acts (Programs row (page_of self.old.state.flash.geometry register)) self.old self.new result }
+    {
+        let strike = next_strike(self.faults.as_slice(), self.counts.asked);
+        let change = program_into(
+            &mut self.bytes,
+            &mut self.turns,
+            &self.geometry,
+            row,
+            &self.register,
+            strike,
+        );
+        self.counts = counts_after(self.counts, change);
+        self.passed = change.passed;
+        self.bus_state = BusState::Ready(OutputSource::Nothing);
+        Ok(())
+    }
+
+    // The erase that a confirm cycle asks for.
+    fn confirm_erase(&mut self, block: u32) -> Result<(), BusFault>
+        requires in_range { block < self.old.state.flash.geometry.blocks }
+        ensures { Acts (Erases block) self.old self.new result }
+    {
+        let strike = next_strike(self.faults.as_slice(), self.counts.asked);
+        let change = erase_into(
+            &mut self.bytes,
+            &mut self.turns,
+            &self.geometry,
+            block,
+            strike,
+        );
+        self.counts = counts_after(self.counts, change);
+        self.passed = change.passed;
+        self.bus_state = BusState::Ready(OutputSource::Nothing);
+        Ok(())
+    }
+
+    fn take_command(&mut self, code: u8) -> Result<(), BusFault>
+        ensures { Acts (command_due self.old.state.flash.geometry self.old.state.phase code) self.old self.new result }
+    {
+        match command_step(&self.geometry, self.bus_state, code) {
+            CommandStep::Moves(to) => {
+                self.bus_state = to;
+                Ok(())
+            }
+            CommandStep::Resets => {
+                self.passed = true;
+                self.bus_state = BusState::Ready(OutputSource::Nothing);
+                Ok(())
+            }
+            CommandStep::Programs { row } => self.confirm_program(row),
+            CommandStep::Erases { block } => self.confirm_erase(block),
+            CommandStep::Refuses(fault) => self.refuse(fault),
+        }
+    }
+
+    fn take_address(&mut self, byte: u8) -> Result<(), BusFault>
+        ensures { Acts (address_due self.old.state.flash.geometry self.old.state.phase byte) self.old self.new result }
+    {
+        match address_step(&self.geometry, self.bus_state, byte) {
+            AddressStep::Moves(to) => {
+                self.bus_state = to;
+                Ok(())
+            }
+            AddressStep::Loads { row, column } => {
+                self.register.as_mut_slice().fill(0xFF);
+                self.bus_state = BusState::Loading { row, column };
+                Ok(())
+            }
+            AddressStep::Refuses(fault) => self.refuse(fault),
+        }
+    }
+
+    fn take_data(&mut self, bytes: &[u8]) -> Result<(), BusFault>
+        ensures { Acts (data_in_due self.old.state.flash.geometry self.old.state.phase bytes.now) self.old self.new result }
+    {
+        match data_place(&self.geometry, self.bus_state, bytes.len()) {
+            Ok((row, column)) => {
+                let end = column as usize + bytes.len();
+                self.register[column as usize..end].copy_from_slice(bytes);
+                self.bus_state = BusState::Loading {
+                    row,
+                    column: end as u32,
+                };
+                Ok(())
+            }
+            Err(fault) => self.refuse(fault),
+        }
+    }
+
+    fn put_data(&mut self, bytes: &mut [u8]) -> Result<(), BusFault>
+        ensures acts { Acts (data_out_due self.old.state.flash.geometry self.old.state.phase (length bytes.old)) self.old self.new result }
+        ensures out { OnOk result (bytes.new ≡ bytes_out self.old.state self.old.state.phase (length bytes.old)) }
+        ensures kept { OnErr result (bytes.new ≡ bytes.old) }
+    {
+        match put_out_at(
+            &self.geometry,
+            self.bytes.as_slice(),
+            self.passed,
+            self.bus_state,
+            bytes,
+        ) {
+            Ok(next) => {
+                self.bus_state = BusState::Ready(next);
+                Ok(())
+            }
+            Err(fault) => self.refuse(fault),
+        }
+    }
+}
+
+impl Bus for Die {
+    ghost use Rattle.nand_die.specs.DieValue.{after_cycle};
+
+    ghost die = { λ d. d.state };
+
+    ghost honest = { λ _. true };
+
+    ghost failed = { λ _. 0 };
+
+    /// A command cycle, as the bus protocol has it. What a program or an erase leaves follows from the
+    /// die's value: see `DieValue` in `specs/`.
+    fn command(&mut self, code: u8) -> Result<(), BusFault>
+        ensures cycle { CycleStep self.old.state (Command code) result self.new.state }
+        ensures acts { self.new ≡ after_cycle (Command code) self.old }
+        ensures own { IfErr result IsProtocolFault }
+        ensures geometry { self.new.state.flash.geometry ≡ self.old.state.flash.geometry }
+        ensures whole { IsWhole self.new.state.flash }
+    {
+        self.take_command(code)
+    }
+
+    /// An address cycle, as the bus protocol has it.
+    fn address(&mut self, byte: u8) -> Result<(), BusFault>
+        ensures cycle { CycleStep self.old.state (Address byte) result self.new.state }
+        ensures acts { self.new ≡ after_cycle (Address byte) self.old }
+        ensures own { IfErr result IsProtocolFault }
+        ensures geometry { self.new.state.flash.geometry ≡ self.old.state.flash.geometry }
+        ensures whole { IsWhole self.new.state.flash }
+    {
+        self.take_address(byte)
+    }
+
+    /// Bytes for the page register, as the bus protocol has it.
+    fn data_in(&mut self, bytes: &[u8]) -> Result<(), BusFault>
+        ensures cycle { CycleStep self.old.state (DataIn bytes.now) result self.new.state }
+        ensures acts { self.new ≡ after_cycle (DataIn bytes.now) self.old }
+        ensures own { IfErr result IsProtocolFault }
+        ensures geometry { self.new.state.flash.geometry ≡ self.old.state.flash.geometry }
+        ensures whole { IsWhole self.new.state.flash }
+    {
+        self.take_data(bytes)
+    }
+
+    /// Bytes put out, as the bus protocol has it. After an `Err` the buffer is as it was.
+    fn data_out(&mut self, bytes: &mut [u8]) -> Result<(), BusFault>
+        ensures cycle { CycleStep self.old.state (DataOut (length bytes.old)) result self.new.state }
+        ensures acts { self.new ≡ after_cycle (DataOut (length bytes.old)) self.old }
+        ensures out { OnOk result (bytes.new ≡ bytes_out self.old.state self.old.state.phase (length bytes.old)) }
+        ensures kept { OnErr result (bytes.new ≡ bytes.old) }
+        ensures own { IfErr result IsProtocolFault }
+        ensures geometry { self.new.state.flash.geometry ≡ self.old.state.flash.geometry }
+        ensures whole { IsWhole self.new.state.flash }
+    {
+        self.put_data(bytes)
+    }
+
+    /// Always 0: a die in memory has no faults of its own.
+    fn failures(&self) -> u64 {
+        0
+    }
+}

@@ -1,0 +1,25 @@
+//! What the definitions of this crate come to, as contracts of functions that do nothing: so each law
+//! is proved with the crate, and a caller of the function has it at hand.
+ghost use Rattle.nand_die.specs.Laws.{ProgramPassesLaw, ErasePassesLaw, ProgramAbuseLaw, EraseAbuseLaw, CountLaw, QuietLaw, NextPageLaw, NamedLaw, NoneMisnamedLaw, OneMisnamedLaw, NoneWrongLaw, OneWrongLaw};
+
+/// When a program or an erase of a die in memory passes, what counts as abuse, and that no other cycle
+/// changes a page. It does nothing. (This project.)
+pub fn change_laws()
+    ensures program { ProgramPassesLaw }
+    ensures erase { ErasePassesLaw }
+    ensures program_abuse { ProgramAbuseLaw }
+    ensures erase_abuse { EraseAbuseLaw }
+    ensures count { CountLaw }
+    ensures quiet { QuietLaw }
+{}
+
+/// The next page of a block of an image, and that a list of bad blocks or of faults is either taken or
+/// refused for one reason. It does nothing. (This project.)
+pub fn made_laws()
+    ensures next_page { NextPageLaw }
+    ensures named { NamedLaw }
+    ensures none_misnamed { NoneMisnamedLaw }
+    ensures one_misnamed { OneMisnamedLaw }
+    ensures none_wrong { NoneWrongLaw }
+    ensures one_wrong { OneWrongLaw }
+{}

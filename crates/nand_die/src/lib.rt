@@ -1,0 +1,25 @@
+//! A raw NAND die in memory, behind the bus of `onfi_cycles`: what the layers above are tested and run on.
+//!
+//! - `Die`: an image, the turn of each block, and the cycles of a bus that is always honest.
+//! - `Mark`: factory marks of a new die. `Fault`: programs and erases that are to fail. `DieFault`: what is refused.
+//! - `laws`: when a program or an erase fails, what counts as abuse, and what dies are made of, proved.
+//!
+//! The commands are those of ONFI 1.0; the rules of turns, the marks and the faults are this project's.
+#![tactic(auto)]
+
+mod array;
+mod bus_state;
+mod change;
+mod cycle_step;
+mod data_out;
+mod die;
+mod fault;
+pub mod laws;
+mod make;
+mod strike;
+
+pub use die::Die;
+pub use fault::{DieFault, Fault, Mark};
+
+#[cfg(test)]
+mod tests;

@@ -1,0 +1,144 @@
+// What a die is made of.
+ghost use Rattle.std.specs.Prelude.{◌≡◌, ◌⊎◌, ◌<◌, ◌≤◌, ◌*◌, ℕ, true, false, [], length, map, replicate, slice_set, get_or, IfOk, IfErr, OnOk, OnErr};
+ghost use Rattle.page_layout.specs.Geometry.{row_count, page_bytes};
+ghost use Rattle.page_layout.specs.Raw.{raw_image};
+ghost use Rattle.page_layout.specs.Flash.{no_turn};
+ghost use Rattle.nand_die.specs.Turns.{turn_of};
+ghost use Rattle.nand_die.specs.Made.{AreNames, NamesFirst, first_turn, first_turns, barred_turn, marked_blocks, new_image, next_in};
+
+use crate::array::{mark_page, page_slice};
+use crate::change::BlockTurn;
+use crate::fault::{DieFault, Mark};
+use page_layout::geometry::Geometry;
+use page_layout::record::is_erased;
+use std::alloc::Global;
+
+// So many bytes FFh.
+pub fn blank(alloc: Global, count: usize) -> Result<Vec<u8>, DieFault>
+    ensures ok { IfOk result (λ bytes. bytes.items ≡ replicate count 255) }
+    ensures err { IfErr result (λ fault. fault ≡ DieFault.OutOfMemory) }
+{
+    vec![in alloc; 0xFF; count].map_err(|_| DieFault::OutOfMemory)
+}
+
+// An image of its own.
+pub fn copy_of(alloc: Global, image: &[u8]) -> Result<Vec<u8>, DieFault>
+    ensures ok { IfOk result (λ bytes. bytes.items ≡ image.now) }
+    ensures err { IfErr result (λ fault. fault ≡ DieFault.OutOfMemory) }
+{
+    image.to_vec(alloc).map_err(|_| DieFault::OutOfMemory)
+}
+
+// The turn of a block of which nothing was asked.
+fn turn_from(next: u32) -> BlockTurn
+    ensures { turn_of result ≡ first_turn next false }
+{
+    BlockTurn {
+        next,
+        barred: false,
+        programs: 0,
+        erases: 0,
+    }
+}
+
+// The turns of blocks that are erased.
+pub fn new_turns(alloc: Global, geometry: &Geometry) -> Result<Vec<BlockTurn>, DieFault>
+    ensures ok { IfOk result (λ turns. map turn_of turns.items ≡ first_turns geometry.now (λ block. 0) []) }
+    ensures len { IfOk result (λ turns. length turns.items ≡ geometry.now.blocks) }
+    ensures err { IfErr result (λ fault. fault ≡ DieFault.OutOfMemory) }
+{
+    match vec![in alloc; turn_from(0); geometry.blocks() as usize] {
+        Ok(turns) => Ok(turns),
+        Err(_) => Err(DieFault::OutOfMemory),
+    }
+}
+
+// One past the last page of a block that isn't erased.
+fn next_page(bytes: &[u8], geometry: &Geometry, block: u32) -> u32
+    requires in_range { block < geometry.now.blocks }
+    requires whole { length bytes.now ≡ row_count geometry.now * page_bytes geometry.now }
+    ensures { result ≡ next_in geometry.now (raw_image geometry.now bytes.now) block }
+{
+    let mut next = geometry.pages();
+    while next > 0 {
+        let page = page_slice(bytes, geometry, geometry.row(block, next - 1));
+        let (body, spare) = page.split_at(geometry.data_bytes());
+        if !is_erased(body, spare) {
+            return next;
+        }
+        next -= 1;
+    }
+    0
+}
+
+// Sets the turns to those of the blocks of an image.
+fn find_next_pages(turns: &mut [BlockTurn], geometry: &Geometry, bytes: &[u8])
+    requires blocks { length turns.old ≡ geometry.now.blocks }
+    requires whole { length bytes.now ≡ row_count geometry.now * page_bytes geometry.now }
+    ensures { map turn_of turns.new ≡ first_turns geometry.now (next_in geometry.now (raw_image geometry.now bytes.now)) [] }
+{
+    for block in 0..geometry.blocks() {
+        turns[block as usize] = turn_from(next_page(bytes, geometry, block));
+    }
+}
+
+// Names a block bad.
+fn bar(turns: &mut [BlockTurn], block: u32) -> Result<(), DieFault>
+    ensures ok { OnOk result ((block < length turns.old) × ((get_or (map turn_of turns.old) block no_turn).barred ≡ false)
+        × (map turn_of turns.new ≡ slice_set (map turn_of turns.old) block (barred_turn (get_or (map turn_of turns.old) block no_turn)))) }
+    ensures err { IfErr result (λ fault. (fault ≡ DieFault.BadMark block) × ((length turns.old ≤ block) ⊎ ((get_or (map turn_of turns.old) block no_turn).barred ≡ true))) }
+{
+    if block as usize >= turns.len() {
+        return Err(DieFault::BadMark { block });
+    }
+    let turn = &mut turns[block as usize];
+    if turn.barred {
+        return Err(DieFault::BadMark { block });
+    }
+    turn.barred = true;
+    Ok(())
+}
+
+// Sets the turns to those of the blocks of an image, some of them named bad.
+pub fn load_turns(
+    turns: &mut [BlockTurn],
+    geometry: &Geometry,
+    bytes: &[u8],
+    bad: &[u32],
+) -> Result<(), DieFault>
+    requires blocks { length turns.old ≡ geometry.now.blocks }
+    requires whole { length bytes.now ≡ row_count geometry.now * page_bytes geometry.now }
+    ensures turns { OnOk result (map turn_of turns.new ≡ first_turns geometry.now (next_in geometry.now (raw_image geometry.now bytes.now)) bad.now) }
+    ensures named { OnOk result (AreNames geometry.now bad.now) }
+    ensures err { IfErr result (NamesFirst geometry.now bad.now) }
+{
+    find_next_pages(turns, geometry, bytes);
+    for block in bad {
+        bar(turns, *block)?;
+    }
+    Ok(())
+}
+
+// Puts factory marks on erased pages, and names their blocks bad.
+pub fn mark_all(
+    bytes: &mut [u8],
+    turns: &mut [BlockTurn],
+    geometry: &Geometry,
+    marks: &[Mark],
+) -> Result<(), DieFault>
+    requires blocks { length turns.old ≡ geometry.now.blocks }
+    requires whole { length bytes.old ≡ row_count geometry.now * page_bytes geometry.now }
+    requires fresh { map turn_of turns.old ≡ first_turns geometry.now (λ block. 0) [] }
+    requires erased { raw_image geometry.now bytes.old ≡ new_image geometry.now [] }
+    ensures image { OnOk result (raw_image geometry.now bytes.new ≡ new_image geometry.now marks.now) }
+    ensures turns { OnOk result (map turn_of turns.new ≡ first_turns geometry.now (λ block. 0) (marked_blocks marks.now)) }
+    ensures named { OnOk result (AreNames geometry.now (marked_blocks marks.now)) }
+    ensures err { IfErr result (NamesFirst geometry.now (marked_blocks marks.now)) }
+{
+    for mark in marks {
+        bar(turns, mark.block)?;
+        let page = if mark.last { geometry.pages() - 1 } else { 0 };
+        mark_page(bytes, geometry, geometry.row(mark.block, page));
+    }
+    Ok(())
+}
