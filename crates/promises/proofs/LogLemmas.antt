@@ -1,0 +1,192 @@
+-- Logs: what they count, which blocks they leave good, and where they lead.
+use Rattle.std.proofs.Common.{◌≡◌, ◌<◌, inl, inr, ◌+◌, ◌/◌, ◌^◌, ◌==◌, ℕ, Bool, true, false, not, ◌&&◌, ◌||◌, List, [], ◌∷◌, ◌++◌, refl, sym, ◌∙◌, ap, subst, arith, get_or, length, if◌then◌else◌}
+use Rattle.std.specs.Prelude.{slice_set}
+use Rattle.std.proofs.Math.Bool.{or_assoc}
+use Rattle.std.proofs.lemmas.List.{get_or-set_same, get_or-set_other, length-set}
+use Rattle.std.proofs.lemmas.Bool.Decides.{eqb_tells}
+use Rattle.page_layout.specs.Page.{Page}
+use Rattle.page_layout.specs.Counter.{counted}
+use Rattle.page_layout.specs.Flash.{Flash, Operation, Program, Erase, Turn, no_turn, turn_at, after, after_program, after_erase, may_program, may_erase, Leads}
+use Rattle.promises.specs.Log.{block_of, has_passed, programs_in, erases_in, programs_of, erases_of, one_where, failed_in, CountsLaw, BadJoinLaw, BadStaysLaw, LeadsJoinLaw, CompleteLaw}
+
+-- ---- counts
+
+programs_in-append : (xs ys : List Operation) → programs_in (xs ++ ys) ≡ programs_in xs + programs_in ys
+programs_in-append [] ys = omega arith
+programs_in-append (Program row page passed left ∷ xs) ys = let e = programs_in-append xs ys in omega arith
+programs_in-append (Erase block passed left ∷ xs) ys = programs_in-append xs ys
+
+erases_in-append : (xs ys : List Operation) → erases_in (xs ++ ys) ≡ erases_in xs + erases_in ys
+erases_in-append [] ys = omega arith
+erases_in-append (Program row page passed left ∷ xs) ys = erases_in-append xs ys
+erases_in-append (Erase block passed left ∷ xs) ys = let e = erases_in-append xs ys in omega arith
+
+programs_of-append : (pages block : ℕ) (xs ys : List Operation) → programs_of pages (xs ++ ys) block ≡ programs_of pages xs block + programs_of pages ys block
+programs_of-append pages block [] ys = omega arith
+programs_of-append pages block (Program row page passed left ∷ xs) ys = let e = programs_of-append pages block xs ys in omega (arith, e)
+programs_of-append pages block (Erase other passed left ∷ xs) ys = programs_of-append pages block xs ys
+
+pub erases_of-append : (block : ℕ) (xs ys : List Operation) → erases_of (xs ++ ys) block ≡ erases_of xs block + erases_of ys block
+erases_of-append block [] ys = omega arith
+erases_of-append block (Program row page passed left ∷ xs) ys = erases_of-append block xs ys
+erases_of-append block (Erase other passed left ∷ xs) ys = let e = erases_of-append block xs ys in omega (arith, e)
+
+pub counts : CountsLaw
+counts pages block xs ys = record {
+  programs = programs_in-append xs ys;
+  erases = erases_in-append xs ys;
+  programs_at = programs_of-append pages block xs ys;
+  erases_at = erases_of-append block xs ys;
+}
+
+-- ---- bad blocks
+
+failed_in-append : (pages block : ℕ) (xs ys : List Operation) → failed_in pages (xs ++ ys) block ≡ (failed_in pages xs block || failed_in pages ys block)
+failed_in-append pages block [] ys = refl
+failed_in-append pages block (op ∷ xs) ys =
+    let here = not (has_passed op) && (block_of pages op == block) in
+    ap (λ b. here || b) (failed_in-append pages block xs ys) ∙ sym (or_assoc here (failed_in pages xs block) (failed_in pages ys block))
+
+pub bad_join : BadJoinLaw
+bad_join pages block bad xs ys = ap (λ b. bad block || b) (failed_in-append pages block xs ys) ∙ sym (or_assoc (bad block) (failed_in pages xs block) (failed_in pages ys block))
+
+pub bad_stays : BadStaysLaw
+bad_stays pages block bad xs ys h = bad_join pages block bad xs ys ∙ ap (λ b. b || failed_in pages ys block) h
+
+-- ---- where a log leads
+
+pub leads_join : LeadsJoinLaw
+leads_join old mid new [] ys h k = subst (λ s. Leads s ys new) h k
+leads_join old mid new (op ∷ xs) ys h k = (h.0, h.1, leads_join h.0 mid new xs ys h.2 k)
+
+unfoldable pub after_all : Flash → List Operation → Flash
+after_all s [] = s
+after_all s (op ∷ log) = after_all (after s op) log
+
+pub leads_after : (old new : Flash) (log : List Operation) → Leads old log new → new ≡ after_all old log
+unfolding after_all
+leads_after old new [] h = h
+leads_after old new (op ∷ log) h = leads_after h.0 new log h.2 ∙ ap (λ s. after_all s log) h.1.left
+
+pub after-geometry : (s : Flash) (op : Operation) → (after s op).geometry ≡ s.geometry
+unfolding after
+after-geometry s (Program row page passed left) = refl
+after-geometry s (Erase block passed left) = refl
+
+pub leads-geometry : (old new : Flash) (log : List Operation) → Leads old log new → new.geometry ≡ old.geometry
+leads-geometry old new [] h = ap (λ (s : Flash). s.geometry) h
+leads-geometry old new (op ∷ log) h = leads-geometry h.0 new log h.2 ∙ (ap (λ (s : Flash). s.geometry) h.1.left ∙ after-geometry old op)
+
+-- ---- a log leaves nothing out
+
+after-length : (s : Flash) (op : Operation) → length (after s op).turns ≡ length s.turns
+unfolding after
+after-length s (Program row page passed left) = length-set s.turns _ _
+after-length s (Erase block passed left) = length-set s.turns _ _
+
+-- the count of a block after one operation
+counted_where : Bool → ℕ → ℕ
+counted_where b n = if b then counted n else n
+
+turn-same : (s : Flash) (block : ℕ) (turn : Turn) → block < length s.turns → get_or (slice_set s.turns block turn) block no_turn ≡ turn
+turn-same s block turn lt = get_or-set_same s.turns block turn no_turn lt
+
+programs_after : (s : Flash) (row : ℕ) (page left : Page) (passed : Bool) (block : ℕ) → block < length s.turns
+    → (turn_at (after s (Program row page passed left)) block).programs ≡ counted_where (row / s.geometry.pages == block) (turn_at s block).programs
+unfolding after counted_where
+programs_after s row page left passed block lt =
+    let at : ℕ = row / s.geometry.pages in
+    let turn : Turn = after_program (turn_at s at) (may_program s row) passed in
+    elim (eqb_tells at block) [
+      | inl e ↦
+          let here : get_or (slice_set s.turns at turn) block no_turn ≡ turn = ap (λ n. get_or (slice_set s.turns at turn) n no_turn) (sym e.1) ∙ turn-same s at turn (subst (λ n. n < length s.turns) (sym e.1) lt) in
+          ap (λ (t : Turn). t.programs) here ∙ (ap (λ n. counted (turn_at s n).programs) e.1 ∙ ap (λ b. if b then counted (turn_at s block).programs else (turn_at s block).programs) (sym e.0))
+      | inr e ↦
+          let other : get_or (slice_set s.turns at turn) block no_turn ≡ turn_at s block = get_or-set_other s.turns at block turn no_turn (λ x. e.1 (sym x)) in
+          ap (λ (t : Turn). t.programs) other ∙ ap (λ b. if b then counted (turn_at s block).programs else (turn_at s block).programs) (sym e.0)
+    ]
+
+programs_erased : (s : Flash) (other : ℕ) (left : List Page) (passed : Bool) (block : ℕ) → block < length s.turns
+    → (turn_at (after s (Erase other passed left)) block).programs ≡ (turn_at s block).programs
+unfolding after
+programs_erased s other left passed block lt =
+    let turn : Turn = after_erase (turn_at s other) (may_erase s other) passed in
+    elim (eqb_tells other block) [
+      | inl e ↦
+          let here : get_or (slice_set s.turns other turn) block no_turn ≡ turn = ap (λ n. get_or (slice_set s.turns other turn) n no_turn) (sym e.1) ∙ turn-same s other turn (subst (λ n. n < length s.turns) (sym e.1) lt) in
+          ap (λ (t : Turn). t.programs) here ∙ ap (λ n. (turn_at s n).programs) e.1
+      | inr e ↦ ap (λ (t : Turn). t.programs) (get_or-set_other s.turns other block turn no_turn (λ x. e.1 (sym x)))
+    ]
+
+erases_after : (s : Flash) (other : ℕ) (left : List Page) (passed : Bool) (block : ℕ) → block < length s.turns
+    → (turn_at (after s (Erase other passed left)) block).erases ≡ counted_where (other == block) (turn_at s block).erases
+unfolding after counted_where
+erases_after s other left passed block lt =
+    let turn : Turn = after_erase (turn_at s other) (may_erase s other) passed in
+    elim (eqb_tells other block) [
+      | inl e ↦
+          let here : get_or (slice_set s.turns other turn) block no_turn ≡ turn = ap (λ n. get_or (slice_set s.turns other turn) n no_turn) (sym e.1) ∙ turn-same s other turn (subst (λ n. n < length s.turns) (sym e.1) lt) in
+          ap (λ (t : Turn). t.erases) here ∙ (ap (λ n. counted (turn_at s n).erases) e.1 ∙ ap (λ b. if b then counted (turn_at s block).erases else (turn_at s block).erases) (sym e.0))
+      | inr e ↦
+          let same : get_or (slice_set s.turns other turn) block no_turn ≡ turn_at s block = get_or-set_other s.turns other block turn no_turn (λ x. e.1 (sym x)) in
+          ap (λ (t : Turn). t.erases) same ∙ ap (λ b. if b then counted (turn_at s block).erases else (turn_at s block).erases) (sym e.0)
+    ]
+
+erases_programmed : (s : Flash) (row : ℕ) (page left : Page) (passed : Bool) (block : ℕ) → block < length s.turns
+    → (turn_at (after s (Program row page passed left)) block).erases ≡ (turn_at s block).erases
+unfolding after
+erases_programmed s row page left passed block lt =
+    let at : ℕ = row / s.geometry.pages in
+    let turn : Turn = after_program (turn_at s at) (may_program s row) passed in
+    elim (eqb_tells at block) [
+      | inl e ↦
+          let here : get_or (slice_set s.turns at turn) block no_turn ≡ turn = ap (λ n. get_or (slice_set s.turns at turn) n no_turn) (sym e.1) ∙ turn-same s at turn (subst (λ n. n < length s.turns) (sym e.1) lt) in
+          ap (λ (t : Turn). t.erases) here ∙ ap (λ n. (turn_at s n).erases) e.1
+      | inr e ↦ ap (λ (t : Turn). t.erases) (get_or-set_other s.turns at block turn no_turn (λ x. e.1 (sym x)))
+    ]
+
+-- one more, below the top
+one_more : (b : Bool) (n m k rest : ℕ) → m ≡ counted_where b n → n + (rest + one_where b) < 2 ^ 64 → (m + rest < 2 ^ 64 → k ≡ m + rest) → k ≡ n + (rest + one_where b)
+unfolding counted_where
+one_more true n m k rest is lt more = let at : m ≡ n + 1 = omega (arith, is, lt) in omega (arith, more (omega (arith, at, lt)), at)
+one_more false n m k rest is lt more = let at : m ≡ n = is in omega (arith, more (omega (arith, at, lt)), at)
+
+all_programs : (s : Flash) (log : List Operation) (pages block : ℕ) → s.geometry.pages ≡ pages → block < length s.turns → (turn_at s block).programs + programs_of pages log block < 2 ^ 64
+    → (turn_at (after_all s log) block).programs ≡ (turn_at s block).programs + programs_of pages log block
+unfolding after_all
+all_programs s [] pages block same lt fits = omega arith
+all_programs s (Program row page passed left ∷ log) pages block same lt fits =
+    let op : Operation = Program row page passed left in
+    let t : Flash = after s op in
+    let now : (turn_at t block).programs ≡ counted_where (row / pages == block) (turn_at s block).programs = programs_after s row page left passed block lt ∙ ap (λ p. counted_where (row / p == block) (turn_at s block).programs) same in
+    one_more (row / pages == block) (turn_at s block).programs (turn_at t block).programs (turn_at (after_all t log) block).programs (programs_of pages log block) now fits
+    (λ small. all_programs t log pages block (ap (λ g. g.pages) (after-geometry s op) ∙ same) (subst (λ n. block < n) (sym (after-length s op)) lt) small)
+all_programs s (Erase other passed left ∷ log) pages block same lt fits =
+    let op : Operation = Erase other passed left in
+    let t : Flash = after s op in
+    let now : (turn_at t block).programs ≡ (turn_at s block).programs = programs_erased s other left passed block lt in
+    all_programs t log pages block (ap (λ g. g.pages) (after-geometry s op) ∙ same) (subst (λ n. block < n) (sym (after-length s op)) lt) (subst (λ n. n + programs_of pages log block < 2 ^ 64) (sym now) fits)
+    ∙ ap (λ n. n + programs_of pages log block) now
+
+all_erases : (s : Flash) (log : List Operation) (block : ℕ) → block < length s.turns → (turn_at s block).erases + erases_of log block < 2 ^ 64
+    → (turn_at (after_all s log) block).erases ≡ (turn_at s block).erases + erases_of log block
+unfolding after_all
+all_erases s [] block lt fits = omega arith
+all_erases s (Program row page passed left ∷ log) block lt fits =
+    let op : Operation = Program row page passed left in
+    let t : Flash = after s op in
+    let now : (turn_at t block).erases ≡ (turn_at s block).erases = erases_programmed s row page left passed block lt in
+    all_erases t log block (subst (λ n. block < n) (sym (after-length s op)) lt) (subst (λ n. n + erases_of log block < 2 ^ 64) (sym now) fits) ∙ ap (λ n. n + erases_of log block) now
+all_erases s (Erase other passed left ∷ log) block lt fits =
+    let op : Operation = Erase other passed left in
+    let t : Flash = after s op in
+    one_more (other == block) (turn_at s block).erases (turn_at t block).erases (turn_at (after_all t log) block).erases (erases_of log block) (erases_after s other left passed block lt) fits
+    (λ small. all_erases t log block (subst (λ n. block < n) (sym (after-length s op)) lt) small)
+
+pub complete : CompleteLaw
+complete old new log block lt h =
+    let end : new ≡ after_all old log = leads_after old new log h in
+    record {
+      programs = λ fits. ap (λ (s : Flash). (turn_at s block).programs) end ∙ all_programs old log old.geometry.pages block refl lt fits;
+      erases = λ fits. ap (λ (s : Flash). (turn_at s block).erases) end ∙ all_erases old log block lt fits;
+    }

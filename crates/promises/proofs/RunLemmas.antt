@@ -1,0 +1,34 @@
+-- Runs of a device.
+use Rattle.std.proofs.Common.{◌≡◌, [], ◌∷◌, ◌++◌, refl, sym, ◌∙◌, ap, subst, suc, append_assoc}
+use Rattle.promises.specs.Step.{ArrayRun}
+use Rattle.promises.specs.Run.{Device, state_of, Run, commands_of, replies_of, log_of, OneMoreEventLaw, RunJoinLaw, LastLaw, OneLogLaw, AnswersLaw, EachLaw, LogsLaw}
+use Rattle.promises.proofs.LogLemmas.{leads_join, leads-geometry}
+
+pub run_join : RunJoinLaw
+run_join old mid new [] ys h k = subst (λ d. Run d ys new) h k
+run_join old mid new (e ∷ xs) ys h k = (h.0, run_join e.left mid new xs ys h.1 k)
+
+pub one_more_event : OneMoreEventLaw
+one_more_event old mid events event h k = run_join old mid event.left events (event ∷ []) h (k, refl)
+
+pub last : LastLaw
+last old new [] h = h
+last old new (e ∷ events) h = last e.left new events h.1
+
+pub one_log : OneLogLaw
+one_log old new [] h = ap (λ (d : Device). d.flash) h
+one_log old new (e ∷ events) h = leads_join old.flash e.left.flash new.flash e.piece (log_of events) h.0.leads (one_log e.left new events h.1)
+
+pub answers : AnswersLaw
+answers old new [] h = ap state_of h
+answers old new (e ∷ events) h =
+    let same : e.left.flash.geometry ≡ old.flash.geometry = leads-geometry old.flash e.left.flash e.piece h.0.leads in
+    (state_of e.left, h.0.step, subst (λ g. ArrayRun g (state_of e.left) (commands_of events) (replies_of events) (state_of new)) same (answers e.left new events h.1))
+
+pub each : EachLaw
+each [] = (refl, refl)
+each (e ∷ events) = let r = each events in (ap suc r.0, ap suc r.1)
+
+pub logs : LogsLaw
+logs [] ys = refl
+logs (e ∷ xs) ys = ap (λ l. e.piece ++ l) (logs xs ys) ∙ sym (append_assoc e.piece (log_of xs) (log_of ys))

@@ -1,0 +1,113 @@
+-- Logs of programs and erases: what they count, and which blocks they leave good.
+use Rattle.std.specs.Prelude.{◌≡◌, ◌⊎◌, ◌<◌, ℕ, ◌+◌, ◌/◌, ◌==◌, ◌&&◌, ◌||◌, not, Bool, true, false, List, [], ◌∷◌, ◌++◌, length, ◌^◌, if◌then◌else◌}
+use Rattle.std.specs.List.{list_all}
+use Rattle.page_layout.specs.declared.geometry.Geometry.{Geometry}
+use Rattle.page_layout.specs.Geometry.{need}
+use Rattle.page_layout.specs.Page.{Image}
+use Rattle.page_layout.specs.Sound.{is_erased_page}
+use Rattle.page_layout.specs.Block.{block_pages}
+use Rattle.page_layout.specs.Count.{blocks_that}
+use Rattle.page_layout.specs.Flash.{Operation, Program, Erase, Flash, Leads, turn_at}
+
+-- the block that an operation names
+abbrev pub block_of : ℕ → Operation → ℕ
+block_of pages (Program row page passed left) = row / pages
+block_of pages (Erase block passed left) = block
+
+-- by the die's word
+abbrev pub has_passed : Operation → Bool
+has_passed (Program row page passed left) = passed
+has_passed (Erase block passed left) = passed
+
+-- ---- counts of what was asked for, failing ones too
+
+abbrev pub programs_in : List Operation → ℕ
+programs_in [] = 0
+programs_in (Program row page passed left ∷ log) = programs_in log + 1
+programs_in (Erase block passed left ∷ log) = programs_in log
+
+abbrev pub erases_in : List Operation → ℕ
+erases_in [] = 0
+erases_in (Program row page passed left ∷ log) = erases_in log
+erases_in (Erase block passed left ∷ log) = erases_in log + 1
+
+-- one where the test passes
+abbrev pub one_where : Bool → ℕ
+one_where b = if b then 1 else 0
+
+-- the same of one block
+abbrev pub programs_of : ℕ → List Operation → ℕ → ℕ
+programs_of pages [] block = 0
+programs_of pages (Program row page passed left ∷ log) block = programs_of pages log block + one_where (row / pages == block)
+programs_of pages (Erase other passed left ∷ log) block = programs_of pages log block
+
+abbrev pub erases_of : List Operation → ℕ → ℕ
+erases_of [] block = 0
+erases_of (Program row page passed left ∷ log) block = erases_of log block
+erases_of (Erase other passed left ∷ log) block = erases_of log block + one_where (other == block)
+
+-- ---- bad, good and free blocks
+
+-- an operation on the block failed
+abbrev pub failed_in : ℕ → List Operation → ℕ → Bool
+failed_in pages [] block = false
+failed_in pages (op ∷ log) block = (not (has_passed op) && (block_of pages op == block)) || failed_in pages log block
+
+-- a block is bad that was bad before the log, or failed in it
+abbrev pub bad_of : ℕ → (ℕ → Bool) → List Operation → ℕ → Bool
+bad_of pages bad log block = bad block || failed_in pages log block
+
+-- the others are good
+abbrev pub good_of : ℕ → (ℕ → Bool) → List Operation → ℕ → Bool
+good_of pages bad log block = not (bad_of pages bad log block)
+
+-- a good block is free whose pages are all erased in the image
+abbrev pub free_of : Geometry → (ℕ → Bool) → List Operation → Image → ℕ → Bool
+free_of g bad log image block = good_of g.pages bad log block && list_all is_erased_page (block_pages g image block)
+
+-- how many there are
+abbrev pub good_count : Geometry → (ℕ → Bool) → List Operation → ℕ
+good_count g bad log = blocks_that g (good_of g.pages bad log)
+
+abbrev pub free_count : Geometry → (ℕ → Bool) → List Operation → Image → ℕ
+free_count g bad log image = blocks_that g (free_of g bad log image)
+
+abbrev pub failed_count : Geometry → List Operation → ℕ
+failed_count g log = blocks_that g (failed_in g.pages log)
+
+-- A SHORTAGE. After the call fewer than `need` blocks are good, or more than two failed in the call, or the device was read-only
+-- before it. `before` is the log up to the call, `call` what the call added.
+abbrev pub IsShort : Geometry → (ℕ → Bool) → (before call : List Operation) → Bool → Type 0
+IsShort g bad before call ro = (good_count g bad (before ++ call) < need g) ⊎ (2 < failed_count g call) ⊎ (ro ≡ true)
+
+-- ---- laws
+
+-- a log in two parts counts what both count
+pub record CountsJoin (pages block : ℕ) (xs ys : List Operation) : Type 0 where
+  pub programs : programs_in (xs ++ ys) ≡ programs_in xs + programs_in ys
+  pub erases : erases_in (xs ++ ys) ≡ erases_in xs + erases_in ys
+  pub programs_at : programs_of pages (xs ++ ys) block ≡ programs_of pages xs block + programs_of pages ys block
+  pub erases_at : erases_of (xs ++ ys) block ≡ erases_of xs block + erases_of ys block
+
+abbrev pub CountsLaw : Type 0
+CountsLaw = (pages block : ℕ) (xs ys : List Operation) → CountsJoin pages block xs ys
+
+-- the bad blocks of a log in two parts: the first part's, carried on
+abbrev pub BadJoinLaw : Type 0
+BadJoinLaw = (pages block : ℕ) (bad : ℕ → Bool) (xs ys : List Operation) → bad_of pages bad (xs ++ ys) block ≡ bad_of pages (bad_of pages bad xs) ys block
+
+-- a bad block stays so
+abbrev pub BadStaysLaw : Type 0
+BadStaysLaw = (pages block : ℕ) (bad : ℕ → Bool) (xs ys : List Operation) → bad_of pages bad xs block ≡ true → bad_of pages bad (xs ++ ys) block ≡ true
+
+-- one log after another
+abbrev pub LeadsJoinLaw : Type 0
+LeadsJoinLaw = (old mid new : Flash) (xs ys : List Operation) → Leads old xs mid → Leads mid ys new → Leads old (xs ++ ys) new
+
+-- a log leaves nothing out: the die counts for each block what was asked for, and the log has it all
+pub record CountsAll (old new : Flash) (log : List Operation) (block : ℕ) : Type 0 where
+  pub programs : (turn_at old block).programs + programs_of old.geometry.pages log block < 2 ^ 64 → (turn_at new block).programs ≡ (turn_at old block).programs + programs_of old.geometry.pages log block
+  pub erases : (turn_at old block).erases + erases_of log block < 2 ^ 64 → (turn_at new block).erases ≡ (turn_at old block).erases + erases_of log block
+
+abbrev pub CompleteLaw : Type 0
+CompleteLaw = (old new : Flash) (log : List Operation) (block : ℕ) → block < length old.turns → Leads old log new → CountsAll old new log block

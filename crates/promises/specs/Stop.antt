@@ -1,0 +1,61 @@
+-- The images that a stop in the middle of operations may leave.
+use Rattle.std.specs.Prelude.{◌≡◌, ◌⊎◌, ◌↔◌, ℕ, List, [], ◌∷◌, ◌++◌, slice_set}
+use Rattle.page_layout.specs.declared.geometry.Geometry.{Geometry}
+use Rattle.page_layout.specs.Page.{Image, IsImage}
+use Rattle.page_layout.specs.Change.{FailsAt, LosesIn}
+use Rattle.page_layout.specs.Flash.{Flash, Operation, Program, Erase, Leads, with_block}
+
+-- the image after an operation
+unfoldable pub image_after : ℕ → Image → Operation → Image
+image_after pages image (Program row page passed left) = slice_set image row left
+image_after pages image (Erase block passed left) = with_block pages block left image
+
+abbrev pub image_after_all : ℕ → Image → List Operation → Image
+image_after_all pages image [] = image
+image_after_all pages image (op ∷ log) = image_after_all pages (image_after pages image op) log
+
+-- Stopped before an operation or in it. A program: the image is as before, or its page alone has changed and has no sound record. An
+-- erase: each page of its block is as before or has no sound record.
+abbrev pub Tears : ℕ → Operation → Image → Image → Type 0
+Tears pages (Program row page passed left) image torn = FailsAt row image torn
+Tears pages (Erase block passed left) image torn = LosesIn pages block image torn
+
+-- stopped before one of the operations or in it, or after the last
+abbrev pub LeftBy : ℕ → Image → List Operation → Image → Type 0
+LeftBy pages image [] left = left ≡ image
+LeftBy pages image (op ∷ log) left = Tears pages op image left ⊎ LeftBy pages (image_after pages image op) log left
+
+-- AN IMAGE THAT A STOP MAY LEAVE, by the operations that came after this image: an image of the die, left by them
+pub record MayLeave (g : Geometry) (image : Image) (log : List Operation) (left : Image) : Type 0 where
+  pub whole : IsImage g left
+  pub by : LeftBy g.pages image log left
+
+-- ---- laws
+
+-- without an operation it is the one image
+abbrev pub NoOperationLaw : Type 0
+NoOperationLaw = (g : Geometry) (image left : Image) → MayLeave g image [] left → left ≡ image
+
+-- stopped in one of the operations: those before it are done
+pub record StopsIn (pages : ℕ) (image : Image) (log : List Operation) (left : Image) : Type 0 where
+  pub before : List Operation
+  pub op : Operation
+  pub after : List Operation
+  pub cut : log ≡ before ++ op ∷ after
+  pub tears : Tears pages op (image_after_all pages image before) left
+
+-- it is the image after all, or after some of them and torn in the one page or block that the next names, and nothing else
+abbrev pub TornInOneLaw : Type 0
+TornInOneLaw = (pages : ℕ) (image left : Image) (log : List Operation) → LeftBy pages image log left ↔ ((left ≡ image_after_all pages image log) ⊎ StopsIn pages image log left)
+
+-- the images before, between and after the operations are among them
+abbrev pub BetweenLaw : Type 0
+BetweenLaw = (pages : ℕ) (image : Image) (before after : List Operation) → LeftBy pages image (before ++ after) (image_after_all pages image before)
+
+-- what two lists of operations in a row may leave is what either may
+abbrev pub StopsJoinLaw : Type 0
+StopsJoinLaw = (pages : ℕ) (image left : Image) (xs ys : List Operation) → LeftBy pages image (xs ++ ys) left ↔ (LeftBy pages image xs left ⊎ LeftBy pages (image_after_all pages image xs) ys left)
+
+-- the die's image after its log is the image after its operations
+abbrev pub ImageLaw : Type 0
+ImageLaw = (old new : Flash) (log : List Operation) → Leads old log new → new.image ≡ image_after_all old.geometry.pages old.image log

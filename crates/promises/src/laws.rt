@@ -1,0 +1,85 @@
+//! What a reader would ask of the definitions first. Each function does nothing: its contract is the law.
+ghost use Rattle.promises.specs.Step.{OneReadLaw, ReadBackLaw, KeptLaw, ReadOnlyLaw, SectorCountLaw, NeverLaw, RepliesLaw, SixLaw, OtherBytesLaw};
+ghost use Rattle.promises.specs.Log.{CountsLaw, BadJoinLaw, BadStaysLaw, LeadsJoinLaw, CompleteLaw};
+ghost use Rattle.promises.specs.Legal.{EmptyLaw, JoinLaw, AccountsLaw, OneMoreLaw, NoBadBlockLaw, NotTwiceLaw, OnErasedLaw, InOrderLaw};
+ghost use Rattle.promises.specs.Run.{OneMoreEventLaw, RunJoinLaw, LastLaw, OneLogLaw, AnswersLaw, EachLaw, LogsLaw};
+ghost use Rattle.promises.specs.Stream.{OneWayLaw, SomeWayLaw, RepliesJoinLaw, OpLaw, CutShortLaw, CutShortOutLaw, BadHeaderLaw, ElevenLaw};
+ghost use Rattle.promises.specs.Stop.{NoOperationLaw, TornInOneLaw, BetweenLaw, StopsJoinLaw, ImageLaw};
+
+/// The step of the array: a read has one answer, what was written is read back, what isn't answered Done has changed no sector, and
+/// a device that is read-only stays as it is. (This project.)
+pub fn step_laws()
+    ensures one_read { OneReadLaw }
+    ensures read_back { ReadBackLaw }
+    ensures kept { KeptLaw }
+    ensures read_only { ReadOnlyLaw }
+    ensures sector_count { SectorCountLaw }
+    ensures never { NeverLaw }
+    ensures as_many { RepliesLaw }
+{}
+
+/// A run of six commands with each kind of reply, worked out by hand; and one with another answer, which is none. (This project.)
+pub fn worked_run()
+    ensures six { SixLaw }
+    ensures other_bytes { OtherBytesLaw }
+{}
+
+/// Logs: counts and bad blocks of two in a row, where two in a row lead, and that a log leaves out nothing that the die counts.
+/// (This project.)
+pub fn log_laws()
+    ensures counts { CountsLaw }
+    ensures bad_join { BadJoinLaw }
+    ensures bad_stays { BadStaysLaw }
+    ensures leads_join { LeadsJoinLaw }
+    ensures complete { CompleteLaw }
+{}
+
+/// Legal logs: two in a row, one more operation, and what the check is for: no bad block is touched, no page is programmed twice
+/// between erases, nor one that isn't erased, and pages come in their order. (ONFI 1.0: pages of a block are programmed in order.)
+pub fn legal_laws()
+    ensures empty { EmptyLaw }
+    ensures join { JoinLaw }
+    ensures accounts { AccountsLaw }
+    ensures one_more { OneMoreLaw }
+    ensures no_bad_block { NoBadBlockLaw }
+    ensures not_twice { NotTwiceLaw }
+    ensures on_erased { OnErasedLaw }
+    ensures in_order { InOrderLaw }
+{}
+
+/// Runs: one more event, two in a row, the last device, the one log, and the answers as a run of the array. (This project.)
+pub fn run_laws()
+    ensures one_more { OneMoreEventLaw }
+    ensures join { RunJoinLaw }
+    ensures last { LastLaw }
+    ensures one_log { OneLogLaw }
+    ensures answers { AnswersLaw }
+    ensures each { EachLaw }
+    ensures logs { LogsLaw }
+{}
+
+/// The request stream: it splits in just one way, and in some way. (This project.)
+pub fn stream_laws()
+    ensures one_way { OneWayLaw }
+    ensures some_way { SomeWayLaw }
+    ensures replies_join { RepliesJoinLaw }
+    ensures op { OpLaw }
+{}
+
+/// Three streams worked out by hand: one that ends after the header of a write, one with a bad header, one of eleven bytes. (This
+/// project.)
+pub fn worked_streams()
+    ensures cut_short { CutShortLaw }
+    ensures cut_short_out { CutShortOutLaw }
+    ensures bad_header { BadHeaderLaw }
+    ensures eleven { ElevenLaw }
+{}
+
+/// Images that a stop may leave: torn in one operation or none, and of operations in a row those of either. (This project.)
+pub fn stop_laws()
+    ensures no_operation { NoOperationLaw }
+    ensures torn_in_one { TornInOneLaw }
+    ensures between { BetweenLaw }
+    ensures join { StopsJoinLaw }
+    ensures image { ImageLaw }
+{}
