@@ -1,0 +1,4 @@
+pub mod Table
+pub mod TablePage
+pub mod Laws
+pub mod Marks
