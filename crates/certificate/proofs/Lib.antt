@@ -1,0 +1,10 @@
+pub mod RowLemmas
+pub mod BlockLemmas
+pub mod ClaimLemmas
+pub mod HeadLemmas
+pub mod ReadLemmas
+pub mod LawLemmas
+pub mod BodyLemmas
+pub mod FaultLemmas
+pub mod PartLemmas
+pub mod FirstLemmas
