@@ -1,0 +1,16 @@
+pub mod SectorLemmas
+pub mod SurveyLemmas
+pub mod LookLemmas
+pub mod TableLemmas
+pub mod PartLemmas
+pub mod PassLemmas
+pub mod CountingLemmas
+pub mod SequenceLemmas
+pub mod MountableLemmas
+pub mod BlockLemmas
+pub mod TablesLemmas
+pub mod LiveMostLemmas
+pub mod StateLemmas
+pub mod StaleLemmas
+pub mod ChainLemmas
+pub mod JudgeLemmas

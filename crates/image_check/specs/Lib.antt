@@ -1,0 +1,14 @@
+pub mod Sector
+pub mod Blocks
+pub mod Stale
+pub mod Agrees
+pub mod Mountable
+pub mod Survey
+pub mod Pairs
+pub mod Surveyed
+pub mod Refused
+pub mod Aspects
+pub mod States
+pub mod Rising
+pub mod Accepted
+pub mod Room

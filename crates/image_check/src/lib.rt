@@ -1,0 +1,27 @@
+//! Looking at raw images: the plain scan, which gives one sector, and the exact checker, which holds a certificate against an image.
+#![tactic(auto)]
+
+mod accepted;
+mod blocks;
+#[cfg(test)]
+mod check_rows;
+mod checker;
+mod judge;
+pub mod laws;
+mod live;
+mod look;
+mod notes;
+mod parts;
+mod pass;
+mod refusal;
+mod scan;
+mod sequences;
+mod stale;
+mod states;
+mod survey;
+mod tables;
+
+pub use accepted::Accepted;
+pub use checker::check;
+pub use refusal::Refusal;
+pub use scan::{SectorFault, sector, sector_in};

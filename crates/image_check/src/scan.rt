@@ -1,0 +1,208 @@
+//! The plain scan: one sector of an image, found by a look at every page.
+ghost use Rattle.std.specs.Prelude.{◌≡◌, ◌≢◌, ◌+◌, ◌^◌, ◌≤◌, ◌<◌, ℕ, ◌↔◌, Bool, true, Err, OnOk, OnErr, length, IfOk, IfErr, unwrap_or, option_copied, IfSome, Some};
+ghost use Rattle.page_layout.specs.Counter.{HasRisen};
+ghost use Rattle.page_layout.specs.Page.{Image, IsImage, page};
+ghost use Rattle.page_layout.specs.Newest.{latest_below};
+ghost use Rattle.page_layout.specs.Array.{marks, zeros, content, sector_of};
+ghost use Rattle.page_layout.specs.Geometry.{row_count, page_bytes};
+ghost use Rattle.image_check.specs.Sector.{IsAmbiguous, NamesRows, IsRepeated, IsBelow};
+
+use page_layout::geometry::Geometry;
+use page_layout::newest::Latest;
+use page_layout::record::{Key, Kind, read_record, sequence_in};
+use page_layout::source::{ImageSlice, PageSource, SourceFault};
+use thiserror::Error;
+
+/// Why an image gives no bytes for a sector.
+#[derive(Clone, Copy, Debug, PartialEq, Eq, Error)]
+pub enum SectorFault {
+    /// The sector's number is at or past the number of sectors.
+    #[error("there is no such sector")]
+    OutOfRange,
+    /// Two pages of the sector share its greatest sequence. These are the lowest two such rows.
+    #[error("the pages of rows {first} and {second} share the sector's greatest sequence")]
+    SequenceRepeated { first: u32, second: u32 },
+    /// A page could not be read.
+    #[error("a page could not be read")]
+    Source,
+}
+
+// What all pages together say of the newest page of a key.
+#[tactic(auto, using(page_layout::proofs::ArrayLemmas::latest_none, page_layout::proofs::ArrayLemmas::latest_more))]
+fn latest(image: &ImageSlice, key: Key) -> Latest
+    ensures { result ≡ latest_below (marks image.now.flash.image) key (row_count image.now.flash.geometry) }
+{
+    let geometry = image.geometry();
+    let mut latest = Latest::Never;
+    for row in 0..geometry.rows() {
+        let (body, spare) = image.page(row);
+        let sequence = sequence_in(&geometry, key, body, spare);
+        latest = latest.step(row, sequence);
+    }
+    latest
+}
+
+// What a sector reads as whose newest page this is: its data area, or `None` for zeros.
+#[tactic(auto, unfolding(page_layout::specs::Array::content))]
+fn content<'a>(geometry: &Geometry, body: &'a [u8], spare: &[u8]) -> Option<&'a [u8]>
+    requires body_whole { length body.now ≡ geometry.now.data_bytes }
+    requires spare_whole { length spare.now ≡ geometry.now.spare_bytes }
+    ensures is { unwrap_or (option_copied result) (zeros geometry.now) ≡ content geometry.now (Some (page body.now spare.now)) }
+    ensures whole { IfSome result (λ found. length found.now ≡ geometry.now.data_bytes) }
+{
+    match read_record(geometry, body, spare) {
+        Some(found) if found.kind == Kind::Sector => Some(body),
+        _ => None,
+    }
+}
+
+/// A sector of a raw image in memory: the data area of the sector's newest page, lent without a
+/// copy, or `None` where the sector reads as zeros (its newest page is a trim, or it has none).
+///
+/// The newest page of a sector is its sound page of greatest sequence, over all blocks, bad ones
+/// included. Takes no memory.
+///
+/// # Errors
+///
+/// `OutOfRange` exactly where `sector` is at or past the geometry's sectors; else
+/// `SequenceRepeated`, with the rows, exactly where two pages of the sector share its greatest
+/// sequence. Never `Source`.
+///
+/// (This project's rule.)
+pub fn sector_in<'a>(image: &ImageSlice<'a>, sector: u32) -> Result<Option<&'a [u8]>, SectorFault>
+    ensures range { (result ≡ Err SectorFault.OutOfRange) ↔ (image.now.flash.geometry.sectors ≤ sector) }
+    ensures repeated { IsRepeated result ↔ IsAmbiguous image.now.flash.geometry image.now.flash.image sector }
+    ensures rows { IfErr result (NamesRows image.now.flash.image sector) }
+    ensures never_source { result ≢ Err SectorFault.Source }
+
+    // What is lent is the sector, and nothing lent means zeros.
+    ensures ok { IfOk result (λ found. unwrap_or (option_copied found) (zeros image.now.flash.geometry) ≡ sector_of image.now.flash.geometry image.now.flash.image sector) }
+    ensures whole { IfOk result (λ found. IfSome found (λ bytes. length bytes.now ≡ image.now.flash.geometry.data_bytes)) }
+{
+    let geometry = image.geometry();
+    if geometry.sectors() <= sector {
+        return Err(SectorFault::OutOfRange);
+    }
+    match latest(image, Key::Sector(sector)) {
+        Latest::Never => Ok(None),
+        Latest::Tied(first, second, _) => Err(SectorFault::SequenceRepeated { first, second }),
+        Latest::Once(row, _) => {
+            let (body, spare) = image.page(row);
+            Ok(content(&geometry, body, spare))
+        }
+    }
+}
+
+impl From<SourceFault> for SectorFault {
+    ghost use Rattle.std.specs.Prelude.{◌≡◌};
+    ghost use Rattle.image_check.specs.declared.scan.SectorFault.{SectorFault};
+
+    ghost from_gives = { λ _ fault. fault ≡ SectorFault.Source };
+
+    fn from(_fault: SourceFault) -> SectorFault {
+        SectorFault::Source
+    }
+}
+
+// What all pages together say of the newest page of a key, read one by one.
+#[tactic(auto, using(page_layout::proofs::ArrayLemmas::latest_none, page_layout::proofs::ArrayLemmas::latest_more, crate::proofs::SectorLemmas::step_below))]
+fn latest_of<S: PageSource>(
+    source: &mut S,
+    geometry: &Geometry,
+    key: Key,
+    body: &mut [u8],
+    spare: &mut [u8],
+) -> Result<Latest, SourceFault>
+    requires same_geometry { (S.flash source.old).geometry ≡ geometry.now }
+    requires body_whole { length body.old ≡ geometry.now.data_bytes }
+    requires spare_whole { length spare.old ≡ geometry.now.spare_bytes }
+    ensures found { IfOk result (λ latest. S.honest source.old ≡ true → latest ≡ latest_below (marks (S.flash source.old).image) key (row_count geometry.now)) }
+    ensures within { IfOk result (IsBelow (row_count geometry.now)) }
+    ensures same { OnOk result (S.honest source.old ≡ true → S.flash source.new ≡ S.flash source.old) }
+    ensures whole { OnOk result (S.honest source.old ≡ true → IsImage geometry.now (S.flash source.new).image) }
+    ensures geometry { (S.flash source.new).geometry ≡ (S.flash source.old).geometry }
+    ensures honest { S.honest source.new ≡ S.honest source.old }
+    ensures reads { S.reads source.new ≤ S.reads source.old + row_count geometry.now }
+    ensures counted { S.reads source.old < 2 ^ 64 → (S.reads source.old ≤ S.reads source.new) × (S.reads source.new < 2 ^ 64) }
+    ensures programs { S.programs source.new ≡ S.programs source.old }
+    ensures erases { S.erases source.new ≡ S.erases source.old }
+    ensures failed { S.failed source.old ≤ S.failed source.new }
+    ensures rose { OnErr result (HasRisen (S.failed source.old) (S.failed source.new)) }
+{
+    let mut newest = Latest::Never;
+    for row in 0..geometry.rows() {
+        source.read_page(row, body, spare)?;
+        let sequence = sequence_in(geometry, key, body, spare);
+        newest = newest.step(row, sequence);
+    }
+    Ok(newest)
+}
+
+/// Reads a sector into `out` by a look at every page of the source: the data area of the sector's
+/// newest page, or zeros where that page is a trim or the sector has none.
+///
+/// `page` is scratch of one page, data area and spare area together; `out` has the bytes of a data
+/// area. Takes no memory. Reads each page once and the newest one once more, programs and erases
+/// nothing, and leaves an honest source's pages as they are.
+///
+/// # Errors
+///
+/// Each leaves `out` all 00h. `OutOfRange` exactly where `sector` is at or past the geometry's
+/// sectors, whatever the source does, and nothing is read then. Else, where no page read failed,
+/// `SequenceRepeated`, with the rows, exactly where two pages of the sector share its greatest
+/// sequence. `Source` only where a page read failed: the source's count of failures rose, or stands
+/// at its greatest value.
+///
+/// (This project's rule.)
+pub fn sector<S: PageSource>(
+    source: &mut S,
+    geometry: &Geometry,
+    sector: u32,
+    page: &mut [u8],
+    out: &mut [u8],
+) -> Result<(), SectorFault>
+    requires same_geometry { (S.flash source.old).geometry ≡ geometry.now }
+    requires page_whole { length page.old ≡ page_bytes geometry.now }
+    requires out_whole { length out.old ≡ geometry.now.data_bytes }
+    ensures range { (result ≡ Err SectorFault.OutOfRange) ↔ (geometry.now.sectors ≤ sector) }
+    ensures zeros { OnErr result (out.new ≡ zeros geometry.now) }
+    ensures rose { result ≡ Err SectorFault.Source → HasRisen (S.failed source.old) (S.failed source.new) }
+
+    // What an honest source's image says.
+    ensures ok { OnOk result (S.honest source.old ≡ true → out.new ≡ sector_of geometry.now (S.flash source.old).image sector) }
+    ensures repeated { S.honest source.old ≡ true → result ≢ Err SectorFault.Source → (IsRepeated result ↔ IsAmbiguous geometry.now (S.flash source.old).image sector) }
+    ensures rows { S.honest source.old ≡ true → IfErr result (NamesRows (S.flash source.old).image sector) }
+    ensures same { S.honest source.old ≡ true → result ≢ Err SectorFault.Source → S.flash source.new ≡ S.flash source.old }
+
+    // What stays the same of any source.
+    ensures unread { geometry.now.sectors ≤ sector → source.new ≡ source.old }
+    ensures geometry { (S.flash source.new).geometry ≡ (S.flash source.old).geometry }
+    ensures honest { S.honest source.new ≡ S.honest source.old }
+    ensures reads { S.reads source.new ≤ S.reads source.old + row_count geometry.now + 1 }
+    ensures counted { S.reads source.old < 2 ^ 64 → S.reads source.old ≤ S.reads source.new }
+    ensures programs { S.programs source.new ≡ S.programs source.old }
+    ensures erases { S.erases source.new ≡ S.erases source.old }
+    ensures failed { S.failed source.old ≤ S.failed source.new }
+{
+    out.fill(0);
+    if sector >= geometry.sectors() {
+        return Err(SectorFault::OutOfRange);
+    }
+    let (body, spare) = page.split_at_mut(geometry.data_bytes());
+    let latest = latest_of(source, geometry, Key::Sector(sector), body, spare)?;
+    let row = match latest {
+        Latest::Never => return Ok(()),
+        Latest::Tied(first, second, _) => {
+            return Err(SectorFault::SequenceRepeated { first, second });
+        }
+        Latest::Once(row, _) => row,
+    };
+    source.read_page(row, body, spare)?;
+    if let Some(found) = content(geometry, body, spare) {
+        out.copy_from_slice(found);
+    }
+    Ok(())
+}
+
+#[cfg(test)]
+mod tests;

@@ -1,0 +1,115 @@
+//! The sectors whose entries on flash differ from the rows of their newest pages.
+ghost use Rattle.std.specs.Prelude.{◌≡◌, ◌≢◌, true, Err, ℕ, ◌+◌, ◌-◌, ◌*◌, ◌<◌, ◌≤◌, ◌++◌, [], All, length, filter, not, get_or, IfOk, IfErr, OnOk, OnErr};
+ghost use Rattle.std.specs.List.{range_with_len};
+ghost use Rattle.page_layout.specs.Counter.{HasRisen};
+ghost use Rattle.page_layout.specs.Geometry.{row_count, key_count, entries, translation_pages};
+ghost use Rattle.page_layout.specs.Greatest.{place_of};
+ghost use Rattle.page_layout.specs.Page.{Image, IsImage};
+ghost use Rattle.page_layout.specs.declared.newest.Latest.TheVariants.{Never};
+ghost use Rattle.translation_pages.specs.TranslationPage.{entry_at};
+ghost use Rattle.image_check.specs.Sector.{IsBelow};
+ghost use Rattle.image_check.specs.Stale.{same_row, entry_in, stale_sectors};
+ghost use Rattle.image_check.specs.Surveyed.{SurveysKeys};
+ghost use Rattle.image_check.specs.Refused.{IsStop};
+ghost use Rattle.image_check.specs.Rising.{IsRisingBelow};
+
+use crate::parts::same_row;
+use crate::refusal::Refusal;
+use page_layout::geometry::Geometry;
+use page_layout::newest::Latest;
+use page_layout::source::{PageSource, SourceFault};
+use std::alloc::AllocError;
+use translation_pages::entry;
+
+// Notes which sectors from `first` up to `end` differ from their entries in this translation page.
+fn note_stale(
+    newest: &[Latest],
+    first: u32,
+    end: u32,
+    page: &[u8],
+    stale: &mut Vec<u32>,
+) -> Result<(), AllocError>
+    requires order { first ≤ end }
+    requires sectors { end ≤ length newest.now }
+    requires entries { 4 * (end - first) ≤ length page.now }
+    ensures noted { OnOk result (stale.new.items ≡ stale.old.items ++ filter (λ n. not (same_row (entry_at page.now (n - first)) (place_of (get_or newest.now n Never)))) (range_with_len first (end - first))) }
+    ensures rising { OnOk result (IsRisingBelow first stale.old.items → IsRisingBelow end stale.new.items) }
+{
+    for sector in first..end {
+        let newest_row = newest[sector as usize].row();
+        if !same_row(entry(page, sector - first), newest_row) {
+            stale.push(sector)?;
+        }
+    }
+    Ok(())
+}
+
+// Puts the newest page of translation page `page` into `body`, or FFh bytes where there is none.
+fn read_translation<S: PageSource>(
+    source: &mut S,
+    geometry: &Geometry,
+    latest: Latest,
+    body: &mut [u8],
+    spare: &mut [u8],
+) -> Result<(), SourceFault>
+    requires same_geometry { (S.flash source.old).geometry ≡ geometry.now }
+    requires within { IsBelow (row_count geometry.now) latest }
+    requires body_whole { length body.old ≡ geometry.now.data_bytes }
+    requires spare_whole { length spare.old ≡ geometry.now.spare_bytes }
+    ensures entries { OnOk result (S.honest source.old ≡ true → (i : ℕ) → i < entries geometry.now → entry_at body.new i ≡ entry_in (S.flash source.old).image i (place_of latest)) }
+    ensures same { OnOk result (S.honest source.old ≡ true → S.flash source.new ≡ S.flash source.old) }
+    ensures geometry { (S.flash source.new).geometry ≡ (S.flash source.old).geometry }
+    ensures honest { S.honest source.new ≡ S.honest source.old }
+    ensures reads { S.reads source.new ≤ S.reads source.old + 1 }
+    ensures programs { S.programs source.new ≡ S.programs source.old }
+    ensures erases { S.erases source.new ≡ S.erases source.old }
+    ensures failed { S.failed source.old ≤ S.failed source.new }
+    ensures rose { OnErr result (HasRisen (S.failed source.old) (S.failed source.new)) }
+{
+    match latest.row() {
+        Some(row) => source.read_page(row, body, spare),
+        None => {
+            body.fill(0xFF);
+            Ok(())
+        }
+    }
+}
+
+/// Finds the stale sectors, rising, by the newest translation pages.
+pub(crate) fn find_stale<S: PageSource>(
+    source: &mut S,
+    geometry: &Geometry,
+    newest: &[Latest],
+    body: &mut [u8],
+    spare: &mut [u8],
+    stale: &mut Vec<u32>,
+) -> Result<(), Refusal>
+    requires same_geometry { (S.flash source.old).geometry ≡ geometry.now }
+    requires newest { length newest.now ≡ key_count geometry.now }
+    requires within { All (λ latest. IsBelow (row_count geometry.now) latest) newest.now }
+    requires body_whole { length body.old ≡ geometry.now.data_bytes }
+    requires spare_whole { length spare.old ≡ geometry.now.spare_bytes }
+    requires empty { stale.old.items ≡ [] }
+    ensures stale { OnOk result (S.honest source.old ≡ true → SurveysKeys geometry.now (S.flash source.old).image newest.now → stale.new.items ≡ stale_sectors geometry.now (S.flash source.old).image) }
+    ensures rising { OnOk result (IsRisingBelow geometry.now.sectors stale.new.items) }
+    ensures same { result ≢ Err Refusal.Source → S.honest source.old ≡ true → S.flash source.new ≡ S.flash source.old }
+    ensures stops { IfErr result IsStop }
+    ensures geometry { (S.flash source.new).geometry ≡ (S.flash source.old).geometry }
+    ensures honest { S.honest source.new ≡ S.honest source.old }
+    ensures reads { S.reads source.new ≤ S.reads source.old + translation_pages geometry.now }
+    ensures programs { S.programs source.new ≡ S.programs source.old }
+    ensures erases { S.erases source.new ≡ S.erases source.old }
+    ensures failed { S.failed source.old ≤ S.failed source.new }
+    ensures rose { result ≡ Err Refusal.Source → HasRisen (S.failed source.old) (S.failed source.new) }
+{
+    let sectors = geometry.sectors();
+    let entries = geometry.entries();
+    for page in 0..geometry.translation_pages() {
+        let latest = newest[(sectors + page) as usize];
+        read_translation(source, geometry, latest, body, spare)?;
+        let first = page * entries;
+        let end = sectors.min(first + entries);
+        note_stale(newest, first, end, body, stale)?;
+    }
+    Ok(())
+}
