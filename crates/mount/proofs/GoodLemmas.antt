@@ -1,0 +1,33 @@
+-- Counting good blocks.
+use Rattle.std.proofs.Common.{◌≡◌, ℕ, zero, suc, ◌+◌, ◌<◌, true, false, cond, List, [], ◌∷◌, length, refl, arith}
+use Rattle.std.proofs.lemmas.List.Sums.{sum_by-cons}
+use Rattle.bad_blocks.specs.declared.class.Class.{Class}
+use Rattle.bad_blocks.specs.declared.class.Class.TheVariants.{Good, Factory, Grown}
+use Rattle.bad_blocks.specs.declared.table.TableRow.{TableRow}
+use Rattle.bad_blocks.specs.Table.{is_good, is_good_class, is_good_at, good_count, retired}
+
+-- where no block is good
+pub none_good : (rows : List TableRow) → ((b : ℕ) → b < length rows → is_good_at rows b ≡ false) → good_count rows ≡ 0
+none_good [] none = refl
+none_good (row ∷ rows) none =
+    let here : is_good row ≡ false = none 0 (omega arith) in
+    let one : ◌≡◌ {A = ℕ} (cond (is_good row) 1 0) 0 = rw here refl in
+    let rest : good_count rows ≡ 0 = none_good rows (λ b l. none (suc b) (omega arith)) in
+    omega (arith, sum_by-cons (λ x. cond (is_good x) 1 0) row rows, one, rest)
+
+-- a block that fails is one good block less
+pub good_count-retired : (rows : List TableRow) (b : ℕ) → b < length rows → is_good_at rows b ≡ true → good_count (retired rows b) + 1 ≡ good_count rows
+good_count-retired [] b l good = absurd (omega arith)
+good_count-retired (row ∷ rows) zero l good =
+    let grown : TableRow = record { class = Grown; wear = row.wear } in
+    let here : is_good row ≡ true = good in
+    let one : ◌≡◌ {A = ℕ} (cond (is_good row) 1 0) 1 = rw here refl in
+    omega (arith, sum_by-cons (λ x. cond (is_good x) 1 0) row rows, sum_by-cons (λ x. cond (is_good x) 1 0) grown rows, one)
+good_count-retired (row ∷ rows) (suc b) l good =
+    let rest : good_count (retired rows b) + 1 ≡ good_count rows = good_count-retired rows b (omega arith) good in
+    omega (arith, sum_by-cons (λ x. cond (is_good x) 1 0) row rows, sum_by-cons (λ x. cond (is_good x) 1 0) row (retired rows b), rest)
+
+pub good_class : (class : Class) → is_good_class class ≡ true → class ≡ Good
+good_class Good good = refl
+good_class Factory good = absurd (cc good)
+good_class Grown good = absurd (cc good)

@@ -1,0 +1,13 @@
+pub mod LookLemmas
+pub mod FirstLemmas
+pub mod SurveyLemmas
+pub mod LogLemmas
+pub mod TableLemmas
+pub mod BlockLemmas
+pub mod FreshLemmas
+pub mod AttemptLemmas
+pub mod FinishLemmas
+pub mod SizeLemmas
+pub mod GoodLemmas
+pub mod TriesLemmas
+pub mod FormatLaws

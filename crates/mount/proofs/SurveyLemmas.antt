@@ -1,0 +1,57 @@
+-- What the pages of a block say of it.
+use Rattle.std.proofs.Common.{[], ◌≡◌, inl, inr, ℕ, ◌+◌, ◌-◌, ◌*◌, ◌/◌, ◌<◌, ◌≤◌, Bool, false, List, length, set, Option, Some, None, get_or, sym, ◌∙◌, ap, arith}
+use Rattle.std.specs.Option.{IfSome, option_or}
+use Rattle.std.proofs.lemmas.Bool.{cases_eq}
+use Rattle.std.proofs.lemmas.List.{get_or-set_same, get_or-set_other}
+use Rattle.std.proofs.lemmas.Nat.{div-mul-add}
+use Rattle.page_layout.specs.declared.geometry.Geometry.{Geometry}
+use Rattle.page_layout.specs.Page.{Image}
+use Rattle.page_layout.specs.Flash.{no_page}
+use Rattle.bad_blocks.specs.declared.table.TableRow.{TableRow}
+use Rattle.bad_blocks.specs.Marks.{is_marked}
+use Rattle.mount.specs.Fresh.{is_page_used, is_used, IsFirst}
+use Rattle.mount.specs.Formatted.{class_after}
+use Rattle.bad_blocks.specs.Table.{no_table_row}
+use Rattle.mount.proofs.TableLemmas.{row_after}
+use Rattle.mount.proofs.FirstLemmas.{IsFirst-same, first_behind, first_in_front}
+
+-- the rows of a block
+pub block_in_range : (pages block row : ℕ) → block * pages ≤ row → row < block * pages + pages → row / pages ≡ block
+block_in_range pages block row low high =
+    let k : ℕ = row - block * pages in
+    let is : row ≡ block * pages + k = omega arith in
+    ap (λ n. n / pages) is ∙ div-mul-add block pages k (omega arith)
+
+-- whether a row of the block is used, once the block's mark is known
+pub is_used-block : (g : Geometry) (image : Image) (block row : ℕ) (marked : Bool) → marked ≡ is_marked g image block → block * g.pages ≤ row → row < block * g.pages + g.pages
+    → is_used g image row ≡ is_page_used marked (get_or image row no_page)
+is_used-block g image block row marked is low high =
+    ap (λ b. is_page_used (is_marked g image b) (get_or image row no_page)) (block_in_range g.pages block row low high)
+    ∙ ap (λ m. is_page_used m (get_or image row no_page)) (sym is)
+
+-- the first used row among some rows of the block
+pub first_used-block : (g : Geometry) (image : Image) (block from to : ℕ) (marked : Bool) (found : Option ℕ) → marked ≡ is_marked g image block → block * g.pages ≤ from → to ≤ block * g.pages + g.pages
+    → IsFirst (λ row. is_page_used marked (get_or image row no_page)) from to found → IsFirst (is_used g image) from to found
+first_used-block g image block from to marked found is low high first =
+    IsFirst-same (λ row. is_page_used marked (get_or image row no_page)) (is_used g image) from to found
+    (λ row l h. is_used-block g image block row marked is (omega arith) (omega arith)) first
+
+-- one block more
+pub rows_more : (g : Geometry) (image : Image) (block : ℕ) (marked : Bool) (row : TableRow) (rows : List TableRow) → marked ≡ is_marked g image block → row ≡ record { class = class_after marked false; wear = 0 } → block < length rows
+    → ((k : ℕ) → k < block → get_or rows k no_table_row ≡ row_after g image [] k) → (k : ℕ) → k < block + 1 → get_or (set rows block row) k no_table_row ≡ row_after g image [] k
+rows_more g image block marked row rows is row_is within below k l = elim (cases_eq k block) [
+  | inl same ↦
+      let of_mark : Bool → TableRow = λ m. record { class = class_after m false; wear = 0 } in
+      rw (same, get_or-set_same rows block row no_table_row within) (row_is ∙ ap of_mark is)
+  | inr ne ↦ rw (get_or-set_other rows block k row no_table_row ne) (below k (omega arith))
+]
+
+-- what was found below a block, and then in it
+pub first_more : (test : ℕ → Bool) (block pages : ℕ) (first used : Option ℕ) → IsFirst test 0 (block * pages) first → IsFirst test (block * pages) (block * pages + pages) used
+    → IsFirst test 0 ((block + 1) * pages) (option_or first used)
+first_more test block pages None used below here = let e : (block + 1) * pages ≡ block * pages + pages = omega arith in rw e (first_behind test 0 (block * pages) (block * pages + pages) used (omega arith) below here)
+first_more test block pages (Some k) used below here = first_in_front test 0 (block * pages) ((block + 1) * pages) k (omega arith) below
+
+pub IfSome-or : (P : ℕ → Type 0) (a b : Option ℕ) → IfSome a P → IfSome b P → IfSome (option_or a b) P
+IfSome-or P None b ha hb = hb
+IfSome-or P (Some x) b ha hb = ha

@@ -1,0 +1,103 @@
+-- Writing the table pages into one block after another.
+use Rattle.std.proofs.Common.{◌≡◌, refl, ℕ, ◌+◌, ◌<◌, ◌≤◌, true, false, List, [], ◌∷◌, Result, Ok, Err, sym, ◌∙◌, ap, arith}
+use Rattle.page_layout.specs.declared.geometry.Geometry.{Geometry}
+use Rattle.page_layout.specs.Geometry.{need, row_count, table_pages}
+use Rattle.page_layout.specs.Flash.{Flash, Operation, Program, Erase, Leads}
+use Rattle.onfi_cycles.specs.declared.nand.Outcome.{Outcome}
+use Rattle.onfi_cycles.specs.declared.nand.Outcome.TheVariants.{Passed, Failed}
+use Rattle.onfi_cycles.specs.Outcomes.{is_passed}
+use Rattle.bad_blocks.specs.declared.table.TableRow.{TableRow}
+use Rattle.bad_blocks.specs.Table.{good_count, is_good_at, retired}
+use Rattle.promises.specs.Log.{programs_in, erases_in}
+use Rattle.mount.specs.Log.{failures}
+use Rattle.mount.specs.Fresh.{is_used, IsFirstPass}
+use Rattle.mount.proofs.TableLemmas.{good_count-table}
+use Rattle.mount.specs.Formatted.{good_after, IsNotFresh, table_after, IsFormatted, IsTooFewGood, IsWriteFailed, Formats}
+use Rattle.mount.specs.Attempt.{IsTrying, Tries, Writes}
+use Rattle.mount.specs.declared.format_fault.FormatFault.{FormatFault}
+use Rattle.mount.specs.declared.format_fault.FormatFault.TheVariants.{TooFewGood, Bus, OutOfMemory, WriteFailed, NotFresh}
+use Rattle.mount.proofs.FinishLemmas.{finished}
+
+-- ---- by the outcome
+
+pub tries-passed : (g : Geometry) (first now : Flash) (table : List TableRow) (block next failed : ℕ) (outcome : Outcome) → is_passed outcome ≡ true → Tries g first now table block next failed outcome → IsTrying g first now table block (table_pages g) next failed
+tries-passed g first now table block next failed Passed passed tries = tries
+tries-passed g first now table block next failed Failed passed tries = absurd (cc passed)
+
+pub tries-failed : (g : Geometry) (first now : Flash) (table : List TableRow) (block next failed : ℕ) (outcome : Outcome) → is_passed outcome ≡ false → Tries g first now table block next failed outcome
+    → (other : ℕ) → IsTrying g first now (retired table block) other 0 next (failed + 1)
+tries-failed g first now table block next failed Passed passed tries other = absurd (cc passed)
+tries-failed g first now table block next failed Failed passed tries other = tries other
+
+-- ---- the answers
+
+pub writes_all : (g : Geometry) (first now : Flash) (table : List TableRow) (block next failed good : ℕ) → IsTrying g first now table block (table_pages g) next failed → block < g.blocks → is_good_at table block ≡ true
+    → ((lower : ℕ) → lower < block → is_good_at table lower ≡ false) → failed ≤ 2 → good ≡ good_count table → need g ≤ good → IsFormatted g first now good
+writes_all g first now table block next failed good trying within is_good lowest most good_is enough =
+    finished g first now table block next good trying.log trying.underway within is_good lowest (omega (arith, trying.failed_is, most)) good_is (omega (arith, trying.failed_is, trying.fewer, good_is)) enough
+
+no_log : (a b : Flash) (log : List Operation) → Leads a log b → programs_in log ≡ 0 → erases_in log ≡ 0 → b ≡ a
+no_log a b [] leads programs erases = leads
+no_log a b (Program row page passed left ∷ log) leads programs erases = absurd (omega arith)
+no_log a b (Erase block passed left ∷ log) leads programs erases = absurd (omega arith)
+
+pub too_few : (g : Geometry) (first now : Flash) (table : List TableRow) (block next failed good asked : ℕ) → IsTrying g first now table block 0 next failed → good ≡ good_count table → good < need g → asked ≡ need g → failed ≤ 2
+    → (failed ≡ 0 → next ≤ 1) → (0 < failed → need g ≤ good_count table + 1) → IsTooFewGood g first now good asked
+too_few g first now table block next failed good asked trying good_is few asked_is most none just =
+    let same : good_count table ≡ good_after g first.image trying.log = ap good_count trying.underway.table_is ∙ good_count-table g first.image trying.log in
+    let is : failures trying.log ≡ failed = trying.failed_is in
+    record {
+      log = trying.log;
+      done = trying.underway.did;
+      good_is = good_is ∙ same;
+      fewer = omega (arith, trying.fewer, good_is, is);
+      few = few;
+      asked_is = asked_is;
+      at_most = omega (arith, is, most);
+      untouched = λ zero_failed.
+          let at_most : next ≤ 1 = none (sym is ∙ zero_failed) in
+          no_log first now trying.log trying.underway.did.leads (omega (arith, trying.underway.count, at_most)) trying.underway.did.erases;
+      fresh = λ some. trying.underway.fresh;
+      just = λ some. let enough : need g ≤ good_count table + 1 = just (omega (arith, is, some)) in omega (arith, good_is, few);
+    }
+
+pub gives_up : (g : Geometry) (first now : Flash) (table : List TableRow) (block next failed : ℕ) → IsTrying g first now table block 0 next failed → failed ≡ 3 → need g ≤ good_count table + 1 → IsWriteFailed g first now
+gives_up g first now table block next failed trying three enough = record {
+  log = trying.log;
+  done = trying.underway.did;
+  three = trying.failed_is ∙ three;
+  fewer = (let same : good_count table ≡ good_after g first.image trying.log = ap good_count trying.underway.table_is ∙ good_count-table g first.image trying.log in omega (arith, trying.fewer));
+  fresh = trying.underway.fresh;
+  enough = (let same : good_count table ≡ good_after g first.image trying.log = ap good_count trying.underway.table_is ∙ good_count-table g first.image trying.log in omega (arith, enough));
+}
+
+pub writes_formats : (g : Geometry) (first now : Flash) (r : Result ℕ FormatFault) → Writes g first now r → Formats g first now r
+writes_formats g first now (Ok good) writes = writes
+writes_formats g first now (Err (TooFewGood good asked)) writes = writes
+writes_formats g first now (Err Bus) writes = writes
+writes_formats g first now (Err OutOfMemory) writes = absurd writes
+writes_formats g first now (Err WriteFailed) writes = writes
+writes_formats g first now (Err (NotFresh row)) writes = absurd writes
+
+-- ---- refusals by the scan
+
+pub few_at_once : (g : Geometry) (old : Flash) (table : List TableRow) → table ≡ table_after g old.image [] → good_count table < need g → IsTooFewGood g old old (good_count table) (need g)
+few_at_once g old table is few = record {
+  log = [];
+  done = record { leads = refl; legal = tt; erases = refl };
+  good_is = ap good_count is ∙ good_count-table g old.image [];
+  fewer = (let same : good_count table ≡ good_after g old.image [] = ap good_count is ∙ good_count-table g old.image [] in omega (arith, same));
+  few = few;
+  asked_is = refl;
+  at_most = omega arith;
+  untouched = λ none. refl;
+  fresh = λ some. absurd (omega arith);
+  just = λ some. absurd (omega arith);
+}
+
+pub used_at : (g : Geometry) (old : Flash) (table : List TableRow) (row : ℕ) → table ≡ table_after g old.image [] → need g ≤ good_count table → IsFirstPass (is_used g old.image) 0 (row_count g) row → IsNotFresh g old old row
+used_at g old table row is enough first = record {
+  enough = (let same : good_count table ≡ good_after g old.image [] = ap good_count is ∙ good_count-table g old.image [] in omega arith);
+  first = first;
+  untouched = refl;
+}

@@ -1,0 +1,93 @@
+-- A die while its table pages are being written.
+use Rattle.std.specs.Prelude.{◌≡◌, [], ℕ, ◌+◌, ◌*◌, ◌/◌, ◌%◌, ◌<◌, ◌≤◌, ◌==◌, true, false, List, slice_get, Some, None, Result, Ok, Err, if◌then◌else◌}
+use Rattle.page_layout.specs.declared.geometry.Geometry.{Geometry}
+use Rattle.page_layout.specs.declared.record.Key.TheVariants.{Sector, Translation}
+use Rattle.page_layout.specs.Geometry.{entries, need, row_count, table_pages}
+use Rattle.page_layout.specs.Page.{Page, IsImage}
+use Rattle.page_layout.specs.Sound.{record_of}
+use Rattle.page_layout.specs.Newest.{newest}
+use Rattle.page_layout.specs.OneArray.{AreBelow}
+use Rattle.page_layout.specs.Array.{marks, HasOneArray}
+use Rattle.page_layout.specs.Flash.{Flash, Operation, Program, Steps, page_at}
+use Rattle.bad_blocks.specs.declared.table.TableRow.{TableRow}
+use Rattle.bad_blocks.specs.Marks.{is_marked}
+use Rattle.bad_blocks.specs.Table.{good_count, is_good_at, retired}
+use Rattle.bad_blocks.specs.TablePage.{table_bytes}
+use Rattle.onfi_cycles.specs.declared.nand.Outcome.{Outcome}
+use Rattle.onfi_cycles.specs.declared.nand.Outcome.TheVariants.{Passed, Failed}
+use Rattle.onfi_cycles.specs.Outcomes.{is_passed}
+use Rattle.page_layout.specs.declared.record.Kind.TheVariants as kind
+use Rattle.mount.specs.Fresh.{IsFresh}
+use Rattle.promises.specs.Log.{programs_in, failed_in}
+use Rattle.promises.specs.Legal.{account_at, accounts_of, accounted_all}
+use Rattle.mount.specs.Log.{failures}
+use Rattle.mount.specs.Formatted.{table_after, good_after, IsDone, HasTablePage, IsFormatted, IsTooFewGood, IsWriteFailed}
+use Rattle.mount.specs.declared.format_fault.FormatFault.{FormatFault}
+use Rattle.mount.specs.declared.format_fault.FormatFault.TheVariants.{TooFewGood, Bus, OutOfMemory, WriteFailed, NotFresh}
+
+-- ---- one program
+
+-- table page u of the table was programmed in a row, with a record of this sequence
+pub record IsTableProgram (g : Geometry) (old new : Flash) (row u sequence : ℕ) (table : List TableRow) (wear : ℕ) (outcome : Outcome) : Type 0 where
+  pub its : Page
+  pub step : Steps old (Program row its (is_passed outcome) (page_at new row)) new
+  pub body : its.body ≡ table_bytes (entries g) table u
+  pub says : record_of its ≡ Some (record { kind = kind.Table; number = u; sequence = sequence; wear = wear })
+
+-- ---- the programs so far
+
+-- how many pages of a block were programmed, where so many were in the block that is being tried
+abbrev pub done_in : ℕ → ℕ → ℕ → ℕ
+done_in block done b = if b == block then done else 0
+
+-- A fresh die after a log of programs: the first pages of a block hold table pages, the pages of the other good blocks are
+-- as they were, and every block that failed is lower than every good one.
+pub record IsUnderway (g : Geometry) (first now : Flash) (table : List TableRow) (block done next : ℕ) (log : List Operation) : Type 0 where
+  pub fresh : IsFresh g first.image
+  pub whole : IsImage g first.image
+  pub did : IsDone g first now log
+  pub count : programs_in log + 1 ≡ next
+  pub table_is : table ≡ table_after g first.image log
+  pub turns : (b : ℕ) → b < g.blocks → is_good_at table b ≡ true →
+      account_at (accounted_all g.pages (accounts_of g first.image (is_marked g first.image)) log) b ≡ record { next = done_in block done b; barred = false }
+  pub kept : (row : ℕ) → row < row_count g → is_good_at table (row / g.pages) ≡ true → done_in block done (row / g.pages) ≤ row % g.pages → slice_get now.image row ≡ slice_get first.image row
+  pub one : HasOneArray g now.image
+  pub below : AreBelow (marks now.image) next
+  pub no_sector : (n : ℕ) → newest (marks now.image) (Sector n) ≡ None
+  pub no_translation : (t : ℕ) → newest (marks now.image) (Translation t) ≡ None
+  pub tried : (other b : ℕ) → failed_in g.pages log other ≡ true → b < g.blocks → is_good_at table b ≡ true → other < b
+  pub sequence : ℕ
+  pub sequence_is : sequence + done ≡ next
+  pub pages : (u : ℕ) → u < done → HasTablePage g now.image (block * g.pages + u) u (sequence + u) table
+
+-- the same for some log with so many failures, each of which made one good block less
+pub record IsTrying (g : Geometry) (first now : Flash) (table : List TableRow) (block done next failed : ℕ) : Type 0 where
+  pub log : List Operation
+  pub underway : IsUnderway g first now table block done next log
+  pub failed_is : failures log ≡ failed
+  pub fewer : good_count table + failed ≡ good_after g first.image []
+
+-- what the programs in one block did, by their outcome: all table pages stand in it, or it has failed
+abbrev pub Tries : Geometry → Flash → Flash → List TableRow → ℕ → ℕ → ℕ → Outcome → Type 0
+Tries g first now table block next failed Passed = IsTrying g first now table block (table_pages g) next failed
+Tries g first now table block next failed Failed = (other : ℕ) → IsTrying g first now (retired table block) other 0 next (failed + 1)
+
+-- ---- the answers of the programs
+
+-- what writing the table pages of a fresh die answers
+abbrev pub Writes : Geometry → Flash → Flash → Result ℕ FormatFault → Type 0
+Writes g first now (Ok good) = IsFormatted g first now good
+Writes g first now (Err (TooFewGood good asked)) = IsTooFewGood g first now good asked
+Writes g first now (Err Bus) = Unit {0}
+Writes g first now (Err OutOfMemory) = ⊥
+Writes g first now (Err WriteFailed) = IsWriteFailed g first now
+Writes g first now (Err (NotFresh row)) = ⊥
+
+-- what it answers for any die
+abbrev pub AnswersWrite : Geometry → Result ℕ FormatFault → Type 0
+AnswersWrite g (Ok good) = (need g ≤ good) × (good ≤ g.blocks)
+AnswersWrite g (Err (TooFewGood good asked)) = (good < need g) × (asked ≡ need g)
+AnswersWrite g (Err Bus) = Unit {0}
+AnswersWrite g (Err OutOfMemory) = ⊥
+AnswersWrite g (Err WriteFailed) = Unit {0}
+AnswersWrite g (Err (NotFresh row)) = ⊥

@@ -1,0 +1,6 @@
+pub mod Fresh
+pub mod Log
+pub mod Formatted
+pub mod FormatLaws
+pub mod Look
+pub mod Attempt

@@ -1,0 +1,161 @@
+//! The table pages that make a fresh die ready.
+ghost use Rattle.std.specs.Prelude.{◌≡◌, ◌<◌, ◌≤◌, ℕ, ◌+◌, ◌*◌, ◌^◌, [], true, false, length, IfOk, IfErr, IsErrOf, OnOk, OnErr};
+ghost use Rattle.page_layout.specs.Counter.{counted, HasRisen};
+ghost use Rattle.page_layout.specs.Flash.{Flash};
+ghost use Rattle.page_layout.specs.Geometry.{need, table_pages};
+ghost use Rattle.bad_blocks.specs.Table.{good_count, is_good_at, wear_at};
+ghost use Rattle.mount.specs.Attempt.{IsTableProgram, IsTrying, Tries, Writes, AnswersWrite};
+
+use crate::format_fault::FormatFault;
+use bad_blocks::{Class, Table, write_table_page};
+use onfi_cycles::{BusFault, Nand, Outcome};
+use page_layout::geometry::Geometry;
+use page_layout::record::{Kind, Record, write_record};
+
+#[tactic(auto, using(crate::proofs::SizeLemmas::table_pages_fit))]
+fn program_table<N: Nand>(
+    nand: &mut N,
+    geometry: &Geometry,
+    table: &Table,
+    block: u32,
+    u: u32,
+    sequence: u64,
+    body: &mut [u8],
+    spare: &mut [u8],
+) -> Result<Outcome, BusFault>
+    requires geometry { (N.flash nand.old).geometry ≡ geometry.now }
+    requires block_in { block < geometry.now.blocks }
+    requires page_in { u < table_pages geometry.now }
+    requires table_whole { length table.now ≡ geometry.now.blocks }
+    requires body_whole { length body.old ≡ geometry.now.data_bytes }
+    requires spare_whole { length spare.old ≡ geometry.now.spare_bytes }
+    ensures programmed { IfOk result (λ outcome. N.honest nand.old ≡ true →
+        IsTableProgram geometry.now (N.flash nand.old) (N.flash nand.new) (block * geometry.now.pages + u)
+        u sequence table.now (wear_at table.now block) outcome) }
+    ensures geometry { (N.flash nand.new).geometry ≡ (N.flash nand.old).geometry }
+    ensures honest { N.honest nand.new ≡ N.honest nand.old }
+    ensures reads { N.reads nand.new ≡ N.reads nand.old }
+    ensures programs { N.programs nand.new ≡ counted (N.programs nand.old) }
+    ensures erases { N.erases nand.new ≡ N.erases nand.old }
+    ensures failed { N.failed nand.old ≤ N.failed nand.new }
+    ensures rose { OnErr result (HasRisen (N.failed nand.old) (N.failed nand.new)) }
+{
+    let record = Record {
+        kind: Kind::Table,
+        number: u,
+        sequence,
+        wear: table.wear(block),
+    };
+    write_table_page(table, u, body);
+    write_record(geometry, &record, body, spare);
+    nand.program(geometry.row(block, u), body, spare)
+}
+
+// Programs the table pages into the first pages of a block, up to one that fails.
+fn write_in_block<N: Nand>(
+    nand: &mut N,
+    geometry: &Geometry,
+    table: &Table,
+    block: u32,
+    sequence: &mut u64,
+    body: &mut [u8],
+    spare: &mut [u8],
+) -> Result<Outcome, BusFault>
+    requires geometry { (N.flash nand.old).geometry ≡ geometry.now }
+    requires block_in { block < geometry.now.blocks }
+    requires good { is_good_at table.now block ≡ true }
+    requires lowest { (lower : ℕ) → lower < block → is_good_at table.now lower ≡ false }
+    requires table_whole { length table.now ≡ geometry.now.blocks }
+    requires sequences { sequence.old + table_pages geometry.now < 2 ^ 64 }
+    requires body_whole { length body.old ≡ geometry.now.data_bytes }
+    requires spare_whole { length spare.old ≡ geometry.now.spare_bytes }
+    ensures tries { IfOk result (λ outcome. N.honest nand.old ≡ true → (first : Flash) (failed : ℕ) →
+        IsTrying geometry.now first (N.flash nand.old) table.now block 0 sequence.old failed →
+        Tries geometry.now first (N.flash nand.new) table.now block sequence.new failed outcome) }
+    ensures sequences { sequence.new ≤ sequence.old + table_pages geometry.now }
+    ensures geometry { (N.flash nand.new).geometry ≡ (N.flash nand.old).geometry }
+    ensures honest { N.honest nand.new ≡ N.honest nand.old }
+    ensures reads { N.reads nand.new ≡ N.reads nand.old }
+    ensures programs { N.programs nand.new ≤ N.programs nand.old + table_pages geometry.now }
+    ensures erases { N.erases nand.new ≡ N.erases nand.old }
+    ensures failed { N.failed nand.old ≤ N.failed nand.new }
+    ensures rose { OnErr result (HasRisen (N.failed nand.old) (N.failed nand.new)) }
+{
+    for u in 0..geometry.table_pages() {
+        let outcome = program_table(nand, geometry, table, block, u, *sequence, body, spare)?;
+        *sequence += 1;
+        if !outcome.passed() {
+            return Ok(Outcome::Failed);
+        }
+    }
+    Ok(Outcome::Passed)
+}
+
+fn lowest_good(table: &Table, geometry: &Geometry) -> u32
+    requires whole { length table.now ≡ geometry.now.blocks }
+    requires some { 0 < good_count table.now }
+    ensures within { result < geometry.now.blocks }
+    ensures good { is_good_at table.now result ≡ true }
+    ensures lowest { (lower : ℕ) → lower < result → is_good_at table.now lower ≡ false }
+{
+    for block in 0..geometry.blocks() {
+        if table.class(block) == Class::Good {
+            return block;
+        }
+    }
+    unreachable!()
+}
+
+/// Refuses a die with fewer good blocks than it needs.
+pub fn require_good(table: &Table, geometry: &Geometry) -> Result<(), FormatFault>
+    ensures ok { OnOk result (need geometry.now ≤ good_count table.now) }
+    ensures few { IfErr result (λ fault. (good_count table.now < need geometry.now)
+        × (fault ≡ FormatFault.TooFewGood (good_count table.now) (need geometry.now))) }
+{
+    let good = table.good();
+    let need = geometry.need();
+    if good < need {
+        return Err(FormatFault::TooFewGood { good, need });
+    }
+    Ok(())
+}
+
+// Programs that may fail before a die is given up.
+const TRIES: u32 = 3;
+
+/// Writes the table pages into the lowest good block, and into the next one where a program failed,
+/// with sequences from 1 on. Answers the good blocks.
+pub fn write_tables<N: Nand>(
+    nand: &mut N,
+    geometry: &Geometry,
+    table: &mut Table,
+    body: &mut [u8],
+    spare: &mut [u8],
+) -> Result<u32, FormatFault>
+    requires geometry { (N.flash nand.old).geometry ≡ geometry.now }
+    requires table_whole { length table.old ≡ geometry.now.blocks }
+    requires body_whole { length body.old ≡ geometry.now.data_bytes }
+    requires spare_whole { length spare.old ≡ geometry.now.spare_bytes }
+    ensures writes { N.honest nand.old ≡ true →
+        IsTrying geometry.now (N.flash nand.old) (N.flash nand.old) table.old 0 0 1 0 →
+        Writes geometry.now (N.flash nand.old) (N.flash nand.new) result }
+    ensures answers { AnswersWrite geometry.now result }
+    ensures geometry { (N.flash nand.new).geometry ≡ (N.flash nand.old).geometry }
+    ensures honest { N.honest nand.new ≡ N.honest nand.old }
+    ensures reads { N.reads nand.new ≡ N.reads nand.old }
+    ensures programs { N.programs nand.new ≤ N.programs nand.old + 3 * table_pages geometry.now }
+    ensures erases { N.erases nand.new ≡ N.erases nand.old }
+    ensures failed { N.failed nand.old ≤ N.failed nand.new }
+    ensures rose { IsErrOf result FormatFault.Bus → HasRisen (N.failed nand.old) (N.failed nand.new) }
+{
+    let mut sequence = 1;
+    for _failures in 0..TRIES {
+        require_good(table, geometry)?;
+        let block = lowest_good(table, geometry);
+        if write_in_block(nand, geometry, table, block, &mut sequence, body, spare)?.passed() {
+            return Ok(table.good());
+        }
+        table.retire(block);
+    }
+    Err(FormatFault::WriteFailed)
+}
