@@ -1,0 +1,13 @@
+//! The cached mapping table: the rows of recently used sectors, and the new rows of moved sectors
+//! that are not cached.
+#![tactic(auto)]
+
+mod mapping;
+mod pages;
+mod slot;
+#[cfg(test)]
+mod tests;
+
+pub use mapping::{LoadFault, Mapping};
+pub use pages::{DirtyOf, MovedOf};
+pub use slot::Slot;
