@@ -1,0 +1,4 @@
+pub mod PutLemmas
+pub mod AccountLemmas
+pub mod RoomLemmas
+pub mod CopyLemmas

@@ -1,0 +1,49 @@
+-- Collections until nine blocks are free.
+use Rattle.std.proofs.Common.{◌≡◌, ℕ, ◌+◌, ◌*◌, ◌≤◌, arith}
+use Rattle.std.proofs.Math.Nat.{add-mul}
+use Rattle.page_layout.proofs.LiveLemmas.{some_small_block}
+use Rattle.budget.specs.Laws.{FundedLaw, PutFundedLaw, CollectedFundedLaw, FreeLeftLaw, NeverStuckLaw, NineLaw, FallsLaw}
+use Rattle.budget.proofs.PutLemmas.{left_fits, pool_put}
+use Rattle.budget.proofs.AccountLemmas.{times_le}
+
+pub funded : FundedLaw
+funded pages s five = record { enough = let h : 5 * pages ≤ s.free * pages = times_le 5 s.free pages five in omega arith }
+
+pub put_funded : PutFundedLaw
+put_funded stream pages f old new fits put six = record {
+  enough =
+      let h : 6 * pages ≤ old.free * pages = times_le 6 old.free pages six in
+      let room = fits.data_open in
+      omega (arith, pool_put stream pages f old new (left_fits pages old stream fits) put);
+}
+
+pub collected_funded : CollectedFundedLaw
+collected_funded pages f old new funded c = record {
+  enough =
+      let s : (f + c.failures) * pages ≡ f * pages + c.failures * pages = add-mul f c.failures pages in
+      omega (arith, funded.enough, c.pays);
+}
+
+free_at_least : (pages free dl ml f : ℕ) → dl + 1 ≤ pages → ml + 1 ≤ pages → 5 * pages ≤ free * pages + dl + ml + f * pages → 4 ≤ free + f
+free_at_least pages free dl ml f a b enough =
+    let never : free + f ≤ 3 → ⊥ = λ (few : free + f ≤ 3). (let h : (free + f) * pages ≤ 3 * pages = times_le (free + f) 3 pages few in let s : (free + f) * pages ≡ free * pages + f * pages = add-mul free f pages in omega arith) in
+    omega (arith, never)
+
+pub free_left : FreeLeftLaw
+free_left pages f s fits funded = free_at_least pages s.free s.data_left s.meta_left f fits.data_open fits.meta_open funded.enough
+
+pub never_stuck : NeverStuckLaw
+never_stuck pages f old new fits funded stuck = omega (arith, free_left pages f old fits funded, stuck.few)
+
+pub nine : NineLaw
+nine g marks closed more free open_blocks enough two large =
+    let few : free ≤ 8 + more → ⊥ = λ (f : free ≤ 8 + more).
+    (let found = some_small_block g marks closed (omega arith) in
+    let over = large found.place (omega (arith, found.below)) found.is_closed in
+    omega (arith, found.is_small, over)) in
+    omega (arith, few)
+
+pub falls : FallsLaw
+falls pages old new fits c =
+    let same : old.good * pages ≡ new.good * pages + c.failures * pages = rw c.good (add-mul new.good c.failures pages) in
+    omega (arith, c.fits.within, c.pays, fits.within)

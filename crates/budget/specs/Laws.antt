@@ -1,0 +1,95 @@
+-- The laws of the count, as one statement each.
+use Rattle.std.specs.Prelude.{◌≡◌, ℕ, ◌+◌, ◌*◌, ◌/◌, ◌<◌, ◌≤◌, ◌==◌, min, Bool, true, List, length, count_by, Option}
+use Rattle.std.specs.List.{range_with_len}
+use Rattle.page_layout.specs.declared.record.Record.{Record}
+use Rattle.page_layout.specs.declared.geometry.Geometry.{Geometry}
+use Rattle.page_layout.specs.Geometry.{need, vmax, translation_pages}
+use Rattle.page_layout.specs.Live.{live}
+use Rattle.page_layout.specs.Count.{blocks_that}
+use Rattle.budget.specs.declared.stream.Stream.{Stream}
+use Rattle.budget.specs.Counts.{Counts, left_of, used, Fits, TakesOne, FailsOne, Erased}
+use Rattle.budget.specs.Put.{Tries, StreamPut, FindsNone}
+use Rattle.budget.specs.Account.{Account, data_of, meta_of, Collected, Stuck, IsFunded}
+
+-- ---- one page with its retries
+
+-- before the first try
+abbrev pub FirstTryLaw : Type 0
+FirstTryLaw = (stream : Stream) (s : Counts) → Tries stream 0 s s
+
+-- a try that fails
+abbrev pub FailedTryLaw : Type 0
+FailedTryLaw = (stream : Stream) (failures : ℕ) (old now new : Counts) → Tries stream failures old now → FailsOne stream now new → Tries stream (failures + 1) old new
+
+-- a try that passes
+abbrev pub PassedTryLaw : Type 0
+PassedTryLaw = (stream : Stream) (pages failures : ℕ) (old now new : Counts) → Fits pages old → Tries stream failures old now → TakesOne stream pages now new → StreamPut stream pages failures old new
+
+-- no block for the next try
+abbrev pub NoTryLaw : Type 0
+NoTryLaw = (stream : Stream) (failures : ℕ) (old now : Counts) → Tries stream failures old now → now.free ≡ 0 → left_of now stream ≡ 0 → FindsNone stream failures old now
+
+-- ---- some pages
+
+abbrev pub NoPageLaw : Type 0
+NoPageLaw = (pages : ℕ) (s : Counts) → Fits pages s → Account pages s s 0 0
+
+abbrev pub OnePageLaw : Type 0
+OnePageLaw = (stream : Stream) (pages failures data_pages meta_pages : ℕ) (first now new : Counts) → Account pages first now data_pages meta_pages → StreamPut stream pages failures now new → Account pages first new (data_pages + data_of stream) (meta_pages + meta_of stream)
+
+-- less than a block of pages opens at most two blocks, and one more for each failure
+abbrev pub OpeningsLaw : Type 0
+OpeningsLaw = (pages data_pages meta_pages : ℕ) (first now : Counts) → Account pages first now data_pages meta_pages → data_pages + meta_pages + 1 ≤ pages → first.free + now.good ≤ now.free + first.good + 2
+
+-- pages of the meta stream alone open at most as many blocks as they fill, and one more for each failure
+abbrev pub MetaOpeningsLaw : Type 0
+MetaOpeningsLaw = (pages meta_pages blocks : ℕ) (first now : Counts) → Account pages first now 0 meta_pages → now.meta_left + meta_pages < (blocks + 1) * pages → first.free + now.good ≤ now.free + first.good + blocks
+
+-- a page that finds no free block, with less than a block of pages before it
+abbrev pub StuckLaw : Type 0
+StuckLaw = (stream : Stream) (pages failures data_pages meta_pages : ℕ) (first now new : Counts) → Account pages first now data_pages meta_pages → data_pages + meta_pages + 2 ≤ pages → FindsNone stream failures now new → Stuck first new
+
+-- less than a block of pages, and then the block that they were copied from is erased or fails
+abbrev pub CollectedLaw : Type 0
+CollectedLaw = (pages failures data_pages meta_pages : ℕ) (first now new : Counts) → Account pages first now data_pages meta_pages → data_pages + meta_pages + 1 ≤ pages → Erased failures now new → Fits pages new → Collected pages first new
+
+-- ---- collections until nine blocks are free
+
+-- with five free blocks the pool is funded
+abbrev pub FundedLaw : Type 0
+FundedLaw = (pages : ℕ) (s : Counts) → 5 ≤ s.free → IsFunded pages 0 s
+
+-- with six it still is after a page, whatever its failures
+abbrev pub PutFundedLaw : Type 0
+PutFundedLaw = (stream : Stream) (pages failures : ℕ) (old new : Counts) → Fits pages old → StreamPut stream pages failures old new → 6 ≤ old.free → IsFunded pages failures new
+
+-- a collection keeps it funded
+abbrev pub CollectedFundedLaw : Type 0
+CollectedFundedLaw = (pages failures : ℕ) (old new : Counts) → IsFunded pages failures old → (c : Collected pages old new) → IsFunded pages (failures + c.failures) new
+
+-- a funded pool has at least four free blocks, but for the failures
+abbrev pub FreeLeftLaw : Type 0
+FreeLeftLaw = (pages failures : ℕ) (s : Counts) → Fits pages s → IsFunded pages failures s → 4 ≤ s.free + failures
+
+-- so a collection that finds no free block has seen three failures, its own and those before it
+abbrev pub NeverStuckLaw : Type 0
+NeverStuckLaw = (pages failures : ℕ) (old new : Counts) → Fits pages old → IsFunded pages failures old → Stuck old new → 3 + new.good ≤ failures + old.good
+
+-- With `need` good blocks collections go on until nine blocks are free, and with some more good ones until as many more are
+-- free: fewer free ones leave a closed block with at most `vmax` newest pages.
+abbrev pub NineLaw : Type 0
+NineLaw = (g : Geometry) (marks : List (Option Record)) (closed : ℕ → Bool) (more free open_blocks : ℕ) → need g + more ≤ free + open_blocks + blocks_that g closed → open_blocks ≤ 2 → ((block : ℕ) → block < g.blocks → closed block ≡ true → vmax g < live g marks block) → 9 + more ≤ free
+
+-- each collection leaves fewer pages that aren't in the pool
+abbrev pub FallsLaw : Type 0
+FallsLaw = (pages : ℕ) (old new : Counts) → Fits pages old → Collected pages old new → used pages new < used pages old
+
+-- ---- the pages of a collection
+
+-- a block with at most `vmax` newest pages has room for their copies and for as many translation pages
+abbrev pub CopiesFitLaw : Type 0
+CopiesFitLaw = (g : Geometry) (live_pages : ℕ) → live_pages ≤ vmax g → live_pages + min live_pages (translation_pages g) + 1 ≤ g.pages
+
+-- some sectors are of at most so many translation pages as they are, and of no more than there are
+abbrev pub TouchedLaw : Type 0
+TouchedLaw = (per_page count : ℕ) (sectors : List ℕ) (touched : ℕ → Bool) → ((t : ℕ) → t < count → touched t ≡ true → 0 < count_by (λ n. n / per_page == t) sectors) → count_by touched (range_with_len 0 count) ≤ min (length sectors) count

@@ -1,0 +1,36 @@
+ghost use Rattle.budget.specs.Laws.{FirstTryLaw, FailedTryLaw, PassedTryLaw, NoTryLaw, NoPageLaw, OnePageLaw, OpeningsLaw, MetaOpeningsLaw, StuckLaw, CollectedLaw, FundedLaw, PutFundedLaw, CollectedFundedLaw, FreeLeftLaw, NeverStuckLaw, NineLaw, FallsLaw, CopiesFitLaw, TouchedLaw};
+
+/// What a page costs that is tried again after each failure.
+pub fn put_laws()
+    ensures first { FirstTryLaw }
+    ensures failed { FailedTryLaw }
+    ensures passed { PassedTryLaw }
+    ensures none { NoTryLaw }
+{}
+
+/// What some pages cost, and a collection.
+pub fn account_laws()
+    ensures none { NoPageLaw }
+    ensures one_more { OnePageLaw }
+    ensures openings { OpeningsLaw }
+    ensures meta_openings { MetaOpeningsLaw }
+    ensures stuck { StuckLaw }
+    ensures collected { CollectedLaw }
+{}
+
+/// Why collections end with nine free blocks, and are stuck only after three failures.
+pub fn room_laws()
+    ensures begins { FundedLaw }
+    ensures put { PutFundedLaw }
+    ensures collected { CollectedFundedLaw }
+    ensures free_left { FreeLeftLaw }
+    ensures never_stuck { NeverStuckLaw }
+    ensures nine { NineLaw }
+    ensures falls { FallsLaw }
+{}
+
+/// Why a block that is worth collecting has room for all that its collection programs.
+pub fn copy_laws()
+    ensures fit { CopiesFitLaw }
+    ensures touched { TouchedLaw }
+{}
