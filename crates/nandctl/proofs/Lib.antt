@@ -1,0 +1,4 @@
+pub mod NumberLemmas
+pub mod WordLemmas
+pub mod ImageLemmas
+pub mod CommandLemmas

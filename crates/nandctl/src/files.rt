@@ -1,0 +1,36 @@
+//! Where the program's files come from.
+use thiserror::Error;
+
+/// Why a file was not read or written.
+#[derive(Clone, Copy, Debug, PartialEq, Eq, Error)]
+pub enum FileFault {
+    #[error("a file could not be read or written")]
+    Failed,
+    #[error("out of memory")]
+    OutOfMemory,
+}
+
+/// The files that the words name: those of the system, or some in memory.
+pub trait FileStore {
+    ghost use Rattle.std.specs.Prelude.{List, ℕ, IfOk};
+
+    /// What a load of a path may give. Of the system's files nothing is known, so there it is
+    /// anything.
+    ghost gives: { Self → List ℕ → List ℕ → Type 0 };
+
+    /// The bytes of a file, whole.
+    ///
+    /// # Errors
+    ///
+    /// `Failed` where the file cannot be read, `OutOfMemory` where a growth was refused.
+    fn load(&mut self, path: &str) -> Result<Vec<u8>, FileFault>
+        ensures bytes { IfOk result (λ found. gives self.old path.now found.items) }
+        ensures same { (at found : List ℕ) → gives self.new at found → gives self.old at found };
+
+    /// Writes a file, whole. Of a file whose writing failed nothing is promised.
+    ///
+    /// # Errors
+    ///
+    /// `Failed` where the file cannot be written, `OutOfMemory` where a growth was refused.
+    fn store(&mut self, path: &str, bytes: &[u8]) -> Result<(), FileFault>;
+}

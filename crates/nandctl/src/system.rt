@@ -1,0 +1,43 @@
+//! The files of the system.
+ghost use Rattle.std.specs.Prelude.{◌≡◌, ◌≢◌, ℕ, List};
+ghost use Rattle.std.specs.IoError.{error_kind};
+
+use crate::files::{FileFault, FileStore};
+use std::fs;
+use std::io::{Error, ErrorKind};
+use std::rt::Files;
+
+/// The system's files, by their paths.
+#[derive(Drop)]
+pub struct SystemFiles<'a, R> {
+    rt: &'a R,
+}
+
+impl<'a, R: Files + AllocGlobal> SystemFiles<'a, R> {
+    pub fn new(rt: &'a R) -> SystemFiles<'a, R> {
+        SystemFiles { rt }
+    }
+}
+
+fn fault_of(error: Error) -> FileFault
+    ensures memory { error_kind error ≡ ErrorKind.OutOfMemory → result ≡ FileFault.OutOfMemory }
+    ensures other { error_kind error ≢ ErrorKind.OutOfMemory → result ≡ FileFault.Failed }
+{
+    if error.kind() == ErrorKind::OutOfMemory {
+        FileFault::OutOfMemory
+    } else {
+        FileFault::Failed
+    }
+}
+
+impl<R: Files + AllocGlobal> FileStore for SystemFiles<'_, R> {
+    ghost gives = { λ _ _ _. Unit {0} };
+
+    fn load(&mut self, path: &str) -> Result<Vec<u8>, FileFault> {
+        fs::read(self.rt, path).map_err(fault_of)
+    }
+
+    fn store(&mut self, path: &str, bytes: &[u8]) -> Result<(), FileFault> {
+        fs::write(self.rt, path, bytes).map_err(fault_of)
+    }
+}

@@ -1,0 +1,137 @@
+//! What the program says when a command ends before it is done: one line, and the exit status.
+ghost use Rattle.nandctl.specs.Text.{IsTold};
+
+use image_check::SectorFault;
+use page_layout::geometry::GeometryFault;
+use std::fmt;
+use std::io::Write;
+
+/// The exit status of a command that was done.
+pub const DONE: u8 = 0;
+
+const REFUSED: u8 = 1;
+
+const USAGE: u8 = 2;
+
+/// The exit status where input or output failed.
+pub const IO: u8 = 3;
+
+/// Why a command ended before it was done.
+#[derive(Clone, Copy, Debug, PartialEq, Eq)]
+pub enum CommandFault<'a> {
+    /// The words are no command that the program has, with its number of words.
+    NoSuchCommand,
+    /// The word is no number, or no five numbers with four commas.
+    BadNumber(&'a str),
+    /// The numbers are no geometry.
+    Geometry(GeometryFault),
+    /// The image has not as many bytes as the geometry says.
+    WrongLength,
+    /// The row is past the die.
+    RowRange,
+    /// A growth was refused.
+    OutOfMemory,
+    /// The image gives no bytes for the sector.
+    Sector(SectorFault),
+    /// The file of this path could not be read.
+    Read(&'a str),
+    /// The file of this path, or standard output where it is `-`, could not be written.
+    Write(&'a str),
+}
+
+impl CommandFault<'_> {
+    ghost use Rattle.std.specs.Prelude.{◌≡◌};
+    ghost use Rattle.nandctl.specs.Text.{status_of};
+
+    /// The exit status.
+    pub fn status(&self) -> u8
+        ensures { result ≡ status_of self.now }
+    {
+        match self {
+            CommandFault::NoSuchCommand | CommandFault::BadNumber(_) => USAGE,
+            CommandFault::Geometry(_)
+            | CommandFault::WrongLength
+            | CommandFault::RowRange
+            | CommandFault::OutOfMemory
+            | CommandFault::Sector(_) => REFUSED,
+            CommandFault::Read(_) | CommandFault::Write(_) => IO,
+        }
+    }
+}
+
+/// The line that says the fault, without its line feed.
+impl fmt::Display for CommandFault<'_> {
+    ghost use Rattle.std.specs.Prelude.{Some};
+    ghost use Rattle.nandctl.specs.Text.{line_of};
+
+    ghost output = { λ fault. Some (line_of fault) };
+
+    fn fmt<W: fmt::Write>(&self, f: &mut fmt::Formatter<W>) -> fmt::Result {
+        match self {
+            CommandFault::NoSuchCommand => f.write_str("usage: no such command"),
+            CommandFault::BadNumber(word) => write!(f, "usage: bad number {word}"),
+            CommandFault::Geometry(fault) => {
+                let words = Words(*fault);
+                write!(f, "refused geometry {words}")
+            }
+            CommandFault::WrongLength => f.write_str("refused image 1 WrongLength"),
+            CommandFault::RowRange => f.write_str("refused image 2 RowRange"),
+            CommandFault::OutOfMemory => f.write_str("refused image 3 OutOfMemory"),
+            CommandFault::Sector(fault) => {
+                let words = Words(*fault);
+                write!(f, "refused sector {words}")
+            }
+            CommandFault::Read(path) => write!(f, "fault read {path}"),
+            CommandFault::Write(path) => write!(f, "fault write {path}"),
+        }
+    }
+}
+
+// A fault as its number, its name and its fields.
+#[derive(Clone, Copy)]
+struct Words<T>(T);
+
+impl fmt::Display for Words<GeometryFault> {
+    ghost use Rattle.std.specs.Prelude.{Some};
+    ghost use Rattle.nandctl.specs.Text.{geometry_words};
+
+    ghost output = { λ words. Some (geometry_words words.0) };
+
+    fn fmt<W: fmt::Write>(&self, f: &mut fmt::Formatter<W>) -> fmt::Result {
+        f.write_str(match self.0 {
+            GeometryFault::DataSize => "1 DataSize",
+            GeometryFault::SpareSize => "2 SpareSize",
+            GeometryFault::PagesPerBlock => "3 PagesPerBlock",
+            GeometryFault::Blocks => "4 Blocks",
+            GeometryFault::Sectors => "5 Sectors",
+        })
+    }
+}
+
+impl fmt::Display for Words<SectorFault> {
+    ghost use Rattle.std.specs.Prelude.{Some};
+    ghost use Rattle.nandctl.specs.Text.{sector_words};
+
+    ghost output = { λ words. Some (sector_words words.0) };
+
+    fn fmt<W: fmt::Write>(&self, f: &mut fmt::Formatter<W>) -> fmt::Result {
+        match self.0 {
+            SectorFault::OutOfRange => f.write_str("1 OutOfRange"),
+            SectorFault::SequenceRepeated { first, second } => {
+                write!(f, "2 SequenceRepeated row {first} row {second}")
+            }
+            SectorFault::Source => f.write_str("3 Source"),
+        }
+    }
+}
+
+/// Writes the fault's line to `err`, and answers its exit status, or that of input and output where
+/// the line could not be written.
+pub fn tell<E: Write>(fault: &CommandFault<'_>, err: &mut E) -> u8
+    ensures { IsTold fault.now (E.contents err.old) (E.contents err.new) result }
+{
+    match writeln!(err, "{fault}") {
+        Ok(()) => fault.status(),
+        Err(_) => IO,
+    }
+}
