@@ -1,0 +1,61 @@
+#!/usr/bin/env bash
+# Refuses each allocation of a run of the program in turn, and looks that the run then ends in its named refusal (nothing on
+# standard output, `refused image 3 OutOfMemory` on standard error, status 1), or, where a vector made do with a smaller
+# growth, as if nothing had been refused. Build the program first (`rt run` in crates/nandctl). The Nth call of malloc or
+# realloc is refused by a library that is loaded before the C library.
+#
+#     bench/refused_memory.sh WORD..       the program's words, in the folder of its stored run (default: that run's)
+set -eu
+top="$(cd "$(dirname "$0")/.." && pwd)"
+program="$top/crates/nandctl/out/nandctl"
+folder="$(mktemp -d)"
+trap 'rm -rf "$folder"' EXIT
+cat > "$folder/refuse.c" <<'C'
+#define _GNU_SOURCE
+#include <dlfcn.h>
+#include <fcntl.h>
+#include <stdlib.h>
+#include <unistd.h>
+
+static long left = -1;
+
+/* Whether this call is the one to refuse. The file REFUSED then says that it came. */
+static int is_refused(void) {
+    if (left < 0) left = atol(getenv("REFUSE"));
+    if (left == 0 || --left != 0) return 0;
+    close(open(getenv("REFUSED"), O_CREAT | O_WRONLY, 0600));
+    return 1;
+}
+
+void *malloc(size_t size) {
+    static void *(*next)(size_t);
+    if (!next) next = dlsym(RTLD_NEXT, "malloc");
+    return is_refused() ? NULL : next(size);
+}
+
+void *realloc(void *old, size_t size) {
+    static void *(*next)(void *, size_t);
+    if (!next) next = dlsym(RTLD_NEXT, "realloc");
+    return is_refused() ? NULL : next(old, size);
+}
+C
+cc -shared -fPIC -O1 -o "$folder/refuse.so" "$folder/refuse.c" -ldl
+cp "$top"/crates/nandctl/data/* "$folder"
+if [ $# -eq 0 ]; then mapfile -t words < "$top/crates/nandctl/args"; else words=("$@"); fi
+cd "$folder"
+wanted=0
+"$program" "${words[@]}" > wanted.out 2> wanted.err || wanted=$?
+named=0
+for ((n = 1; ; n++)); do
+    rm -f refused
+    status=0
+    REFUSE=$n REFUSED=refused LD_PRELOAD="$folder/refuse.so" "$program" "${words[@]}" > out 2> err || status=$?
+    [ -e refused ] || break
+    if [ "$status" -eq 1 ] && [ ! -s out ] && [ "$(cat err)" = "refused image 3 OutOfMemory" ]; then
+        named=$((named + 1))
+    elif [ "$status" -ne "$wanted" ] || ! cmp -s out wanted.out || ! cmp -s err wanted.err; then
+        echo "allocation $n refused: status $status, $(wc -c < out) bytes out, standard error: $(cat err)"
+        exit 1
+    fi
+done
+echo "$((n - 1)) allocations, each refused in turn: $named ended in \`refused image 3 OutOfMemory\`, $((n - 1 - named)) as if none had been refused"
