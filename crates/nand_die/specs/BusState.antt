@@ -28,6 +28,7 @@ output_of source.Status = cycles.StatusOut
 output_of (source.Identity taken) = cycles.IdentityOut (drop taken (0x4F ∷ 0x4E ∷ 0x46 ∷ 0x49 ∷ []))
 output_of (source.Zeros taken) = cycles.IdentityOut (drop taken (0 ∷ 0 ∷ []))
 
+-- what the address cycles are for, with the register that a change of column goes on with
 abbrev pub purpose_of : List ℕ → AddressUse → cycles.Purpose
 purpose_of register purpose.Read = cycles.ForRead
 purpose_of register purpose.Program = cycles.ForProgram
@@ -36,6 +37,7 @@ purpose_of register (purpose.ReadColumn row) = cycles.ForReadColumn row
 purpose_of register (purpose.WriteColumn row) = cycles.ForWriteColumn row register
 purpose_of register purpose.Identity = cycles.ForIdentity
 
+-- the address cycles taken so far
 abbrev pub address_bytes : AddressBytes → List ℕ
 address_bytes sent.Zero = []
 address_bytes (sent.One a) = a ∷ []
@@ -43,6 +45,7 @@ address_bytes (sent.Two a b) = a ∷ b ∷ []
 address_bytes (sent.Three a b c) = a ∷ b ∷ c ∷ []
 address_bytes (sent.Four a b c d) = a ∷ b ∷ c ∷ d ∷ []
 
+-- the phase of the protocol that the die's state stands for
 abbrev pub phase_of : List ℕ → BusState → cycles.Phase
 phase_of register state.Unreset = cycles.Unreset
 phase_of register (state.Ready source) = cycles.Ready (output_of source)
@@ -50,6 +53,7 @@ phase_of register (state.Addressing purpose bytes) = cycles.Taking (purpose_of r
 phase_of register (state.Confirming purpose row column) = cycles.Confirming (purpose_of register purpose) row column
 phase_of register (state.Loading row column) = cycles.Loading row column register
 
+-- what the protocol asks for, where the die answers a command so
 abbrev pub command_step_due : Geometry → List ℕ → CommandStep → cycles.Due
 command_step_due g register (command.Moves to) = cycles.Moves (phase_of register to)
 command_step_due g register command.Resets = cycles.Resets
@@ -57,6 +61,7 @@ command_step_due g register (command.Programs row) = cycles.Programs row (cycles
 command_step_due g register (command.Erases block) = cycles.Erases block
 command_step_due g register (command.Refuses fault) = cycles.Refuses fault
 
+-- what the protocol asks for, where the die answers an address cycle so
 abbrev pub address_step_due : Geometry → List ℕ → AddressStep → cycles.Due
 address_step_due g register (address.Moves to) = cycles.Moves (phase_of register to)
 address_step_due g register (address.Loads row column) = cycles.Moves (cycles.Loading row column (replicate (page_bytes g) 255))

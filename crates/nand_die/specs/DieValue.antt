@@ -33,12 +33,15 @@ fault_next d = fault_at d.faults (d.asked + 1)
 abbrev pub program_passes : DieValue → ℕ → Bool
 program_passes d row = may_program d.state.flash row && not (is_some (fault_next d))
 
+-- the same of an erase
 abbrev pub erase_passes : DieValue → ℕ → Bool
 erase_passes d block = may_erase d.state.flash block && not (is_some (fault_next d))
 
+-- what the program leaves in its page
 abbrev pub program_left : DieValue → ℕ → Page → Page
 program_left d row page = left_page d.state.flash.geometry (page_at d.state.flash row) (may_program d.state.flash row) (program_passes d row) page (left_by (fault_next d))
 
+-- what the erase leaves in its block
 abbrev pub erase_left : DieValue → ℕ → List Page
 erase_left d block = left_block d.state.flash.geometry (block_at d.state.flash block) (may_erase d.state.flash block) (erase_passes d block) (left_by (fault_next d))
 
@@ -50,6 +53,7 @@ changed d flash passed = record {
   asked = counted d.asked;
 }
 
+-- the die with this bus state, its faults as they were
 abbrev pub in_state : DieState → DieValue → DieValue
 in_state state d = record { state = state; faults = d.faults; asked = d.asked }
 

@@ -22,6 +22,7 @@ pub record IsPageLeft (g : Geometry) (left : List ℕ) : Type 0 where
   pub size : 0 < length left → length left ≡ page_bytes g
   pub unsound : 0 < length left → record_of (page_of g left) ≡ None
 
+-- the same of each fault of a list
 abbrev pub ArePagesLeft : Geometry → List Fault → Type 0
 ArePagesLeft g [] = Unit {0}
 ArePagesLeft g (f ∷ fs) = IsPageLeft g f.page_left.items × ArePagesLeft g fs

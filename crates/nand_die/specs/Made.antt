@@ -43,9 +43,11 @@ is_named names block = list_any (λ n. n == block) names
 
 -- ---- the turns of blocks of which nothing was asked
 
+-- of a block of which nothing was asked: its next page, and whether it is bad
 abbrev pub first_turn : ℕ → Bool → Turn
 first_turn next bad = record { next = next; barred = bad; programs = 0; erases = 0 }
 
+-- the same block, in which nothing more may be done
 abbrev pub barred_turn : Turn → Turn
 barred_turn t = record { next = t.next; barred = true; programs = t.programs; erases = t.erases }
 
@@ -55,6 +57,7 @@ first_turns g next names = map (λ block. first_turn (next block) (is_named name
 
 -- ---- a new die
 
+-- the blocks that the marks are of
 abbrev pub marked_blocks : List Mark → List ℕ
 marked_blocks marks = map (λ m. m.block) marks
 
@@ -70,6 +73,7 @@ with_mark p = page p.body (slice_set p.spare 0 0)
 abbrev pub new_page : Geometry → List Mark → ℕ → Page
 new_page g marks row = if list_any (λ m. marked_row g m == row) marks then with_mark (erased_page g) else erased_page g
 
+-- every page of a die that was never programmed
 abbrev pub new_image : Geometry → List Mark → Image
 new_image g marks = map (new_page g marks) (range_with_len 0 (row_count g))
 
@@ -90,6 +94,7 @@ pub record IsNextPage (ps : List Page) (next : ℕ) : Type 0 where
   pub erased : (k : ℕ) → next ≤ k → k < length ps → is_erased_page (get_or ps k no_page) ≡ true
   pub last : 0 < next → is_erased_page (get_or ps (next - 1) no_page) ≡ false
 
+-- the next page of a block of the image
 abbrev pub next_in : Geometry → Image → ℕ → ℕ
 next_in g image block = past_last (block_pages g image block)
 

@@ -8,9 +8,11 @@ use Rattle.page_layout.specs.Flash.{Flash, Turn}
 use Rattle.onfi_cycles.specs.Cycles.{page_of}
 use Rattle.nand_die.specs.declared.change.BlockTurn.{BlockTurn}
 
+-- the turn that a block's fields say
 abbrev pub turn_of : BlockTurn → Turn
 turn_of t = record { next = t.next; barred = t.barred; programs = t.programs; erases = t.erases }
 
+-- the flash that a die's fields say
 abbrev pub flash_of : Geometry → List ℕ → List BlockTurn → ℕ → Flash
 flash_of g bytes turns abuse = record { geometry = g; image = raw_image g bytes; turns = map turn_of turns; abuse = abuse }
 

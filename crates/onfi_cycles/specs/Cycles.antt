@@ -31,7 +31,8 @@ pub data Purpose : Type 0 where
   ForWriteColumn : (row : ℕ) (register : List ℕ) → Purpose
   ForIdentity : Purpose
 
--- where the die stands between two cycles
+-- where the die stands between two cycles: not yet reset; idle, and putting something out; taking address cycles, these so far; before a
+-- confirm cycle (of a read, an erase or a column of a read: programs wait in Loading, identities need none); or taking data in
 pub data Phase : Type 0 where
   Unreset : Phase
   Ready : (out : Output) → Phase
@@ -45,7 +46,7 @@ pub record DieState : Type 0 where
   pub phase : Phase
   pub status : ℕ
 
--- what a cycle asks for
+-- what a cycle asks for: to go on to a phase, to reset, to program or erase, or to be refused
 pub data Due : Type 0 where
   Moves : (phase : Phase) → Due
   Resets : Due
@@ -55,7 +56,7 @@ pub data Due : Type 0 where
 
 -- a register as a page
 abbrev pub page_of : Geometry → List ℕ → Page
-page_of s register = page (take s.data_bytes register) (drop s.data_bytes register)
+page_of g register = page (take g.data_bytes register) (drop g.data_bytes register)
 
 -- whether the code stands in the table of commands
 abbrev pub is_known : ℕ → Bool
@@ -76,8 +77,8 @@ change_read_due (IdentityOut bytes) = Refuses OutOfTurn
 
 -- a command other than Reset
 abbrev pub command_due' : Geometry → Phase → ℕ → Due
-command_due' s Unreset code = Refuses NoReset
-command_due' s (Ready out) code =
+command_due' g Unreset code = Refuses NoReset
+command_due' g (Ready out) code =
     if code == 0x00 then Moves (Taking ForRead [])
     else if code == 0x60 then Moves (Taking ForErase [])
     else if code == 0x70 then Moves (Ready StatusOut)
@@ -85,21 +86,21 @@ command_due' s (Ready out) code =
     else if code == 0x90 then Moves (Taking ForIdentity [])
     else if code == 0x05 then change_read_due out
     else not_due code
-command_due' s (Taking purpose got) code = not_due code
-command_due' s (Confirming ForRead row column) code = if code == 0x30 then Moves (Ready (PageOut row column)) else not_due code
-command_due' s (Confirming ForErase row column) code = if code == 0xD0 then Erases (row / s.pages) else not_due code
-command_due' s (Confirming (ForReadColumn r) row column) code = if code == 0xE0 then Moves (Ready (PageOut row column)) else not_due code
-command_due' s (Confirming ForProgram row column) code = not_due code
-command_due' s (Confirming (ForWriteColumn r g) row column) code = not_due code
-command_due' s (Confirming ForIdentity row column) code = not_due code
-command_due' s (Loading row column register) code =
-    if code == 0x10 then Programs row (page_of s register)
+command_due' g (Taking purpose got) code = not_due code
+command_due' g (Confirming ForRead row column) code = if code == 0x30 then Moves (Ready (PageOut row column)) else not_due code
+command_due' g (Confirming ForErase row column) code = if code == 0xD0 then Erases (row / g.pages) else not_due code
+command_due' g (Confirming (ForReadColumn r) row column) code = if code == 0xE0 then Moves (Ready (PageOut row column)) else not_due code
+command_due' g (Confirming ForProgram row column) code = not_due code
+command_due' g (Confirming (ForWriteColumn r kept) row column) code = not_due code
+command_due' g (Confirming ForIdentity row column) code = not_due code
+command_due' g (Loading row column register) code =
+    if code == 0x10 then Programs row (page_of g register)
     else if code == 0x85 then Moves (Taking (ForWriteColumn row register) [])
     else not_due code
 
 -- a command: Reset at any time
 unfoldable pub command_due : Geometry → Phase → ℕ → Due
-command_due s phase code = if code == 0xFF then Resets else command_due' s phase code
+command_due g phase code = if code == 0xFF then Resets else command_due' g phase code
 
 -- numbers of two and three address cycles, least significant byte first
 abbrev pub column_of : ℕ → ℕ → ℕ
@@ -110,42 +111,42 @@ row_of low middle high = low + 256 * middle + 65536 * high
 
 -- the cycles of column and row: the column is looked at when its second cycle comes, the row at its third
 abbrev pub page_address_due : Geometry → (ℕ → ℕ → Phase) → Purpose → List ℕ → ℕ → Due
-page_address_due s to purpose [] b = Moves (Taking purpose (b ∷ []))
-page_address_due s to purpose (c0 ∷ []) b = if nat_lt (column_of c0 b) (page_bytes s) then Moves (Taking purpose (c0 ∷ b ∷ [])) else Refuses ColumnRange
-page_address_due s to purpose (c0 ∷ c1 ∷ []) b = Moves (Taking purpose (c0 ∷ c1 ∷ b ∷ []))
-page_address_due s to purpose (c0 ∷ c1 ∷ r0 ∷ []) b = Moves (Taking purpose (c0 ∷ c1 ∷ r0 ∷ b ∷ []))
-page_address_due s to purpose (c0 ∷ c1 ∷ r0 ∷ r1 ∷ rest) b = if nat_lt (row_of r0 r1 b) (row_count s) then Moves (to (row_of r0 r1 b) (column_of c0 c1)) else Refuses AddressRange
+page_address_due g to purpose [] b = Moves (Taking purpose (b ∷ []))
+page_address_due g to purpose (c0 ∷ []) b = if nat_lt (column_of c0 b) (page_bytes g) then Moves (Taking purpose (c0 ∷ b ∷ [])) else Refuses ColumnRange
+page_address_due g to purpose (c0 ∷ c1 ∷ []) b = Moves (Taking purpose (c0 ∷ c1 ∷ b ∷ []))
+page_address_due g to purpose (c0 ∷ c1 ∷ r0 ∷ []) b = Moves (Taking purpose (c0 ∷ c1 ∷ r0 ∷ b ∷ []))
+page_address_due g to purpose (c0 ∷ c1 ∷ r0 ∷ r1 ∷ rest) b = if nat_lt (row_of r0 r1 b) (row_count g) then Moves (to (row_of r0 r1 b) (column_of c0 c1)) else Refuses AddressRange
 
 -- the cycles of a row alone
 abbrev pub row_address_due : Geometry → List ℕ → ℕ → Due
-row_address_due s [] b = Moves (Taking ForErase (b ∷ []))
-row_address_due s (r0 ∷ []) b = Moves (Taking ForErase (r0 ∷ b ∷ []))
-row_address_due s (r0 ∷ r1 ∷ rest) b = if nat_lt (row_of r0 r1 b) (row_count s) then Moves (Confirming ForErase (row_of r0 r1 b) 0) else Refuses AddressRange
+row_address_due g [] b = Moves (Taking ForErase (b ∷ []))
+row_address_due g (r0 ∷ []) b = Moves (Taking ForErase (r0 ∷ b ∷ []))
+row_address_due g (r0 ∷ r1 ∷ rest) b = if nat_lt (row_of r0 r1 b) (row_count g) then Moves (Confirming ForErase (row_of r0 r1 b) 0) else Refuses AddressRange
 
 -- the cycles of a column alone
 abbrev pub column_address_due : Geometry → (ℕ → Phase) → Purpose → List ℕ → ℕ → Due
-column_address_due s to purpose [] b = Moves (Taking purpose (b ∷ []))
-column_address_due s to purpose (c0 ∷ rest) b = if nat_lt (column_of c0 b) (page_bytes s) then Moves (to (column_of c0 b)) else Refuses ColumnRange
+column_address_due g to purpose [] b = Moves (Taking purpose (b ∷ []))
+column_address_due g to purpose (c0 ∷ rest) b = if nat_lt (column_of c0 b) (page_bytes g) then Moves (to (column_of c0 b)) else Refuses ColumnRange
 
 -- an address cycle, by what the address is for. After 80h the page register is all FFh. Read ID gives "ONFI" at 20h
 abbrev pub address_for : Geometry → Purpose → List ℕ → ℕ → Due
-address_for s ForRead got b = page_address_due s (λ row column. Confirming ForRead row column) ForRead got b
-address_for s ForProgram got b = page_address_due s (λ row column. Loading row column (replicate (page_bytes s) 255)) ForProgram got b
-address_for s ForErase got b = row_address_due s got b
-address_for s (ForReadColumn row) got b = column_address_due s (λ column. Confirming (ForReadColumn row) row column) (ForReadColumn row) got b
-address_for s (ForWriteColumn row register) got b = column_address_due s (λ column. Loading row column register) (ForWriteColumn row register) got b
-address_for s ForIdentity got b =
+address_for g ForRead got b = page_address_due g (λ row column. Confirming ForRead row column) ForRead got b
+address_for g ForProgram got b = page_address_due g (λ row column. Loading row column (replicate (page_bytes g) 255)) ForProgram got b
+address_for g ForErase got b = row_address_due g got b
+address_for g (ForReadColumn row) got b = column_address_due g (λ column. Confirming (ForReadColumn row) row column) (ForReadColumn row) got b
+address_for g (ForWriteColumn row register) got b = column_address_due g (λ column. Loading row column register) (ForWriteColumn row register) got b
+address_for g ForIdentity got b =
     if b == 0x20 then Moves (Ready (IdentityOut (0x4F ∷ 0x4E ∷ 0x46 ∷ 0x49 ∷ [])))
     else if b == 0x00 then Moves (Ready (IdentityOut (0 ∷ 0 ∷ [])))
     else Refuses AddressRange
 
 -- an address cycle: due only where an address is being taken
 unfoldable pub address_due : Geometry → Phase → ℕ → Due
-address_due s Unreset b = Refuses NoReset
-address_due s (Ready out) b = Refuses OutOfTurn
-address_due s (Taking purpose got) b = address_for s purpose got b
-address_due s (Confirming purpose row column) b = Refuses OutOfTurn
-address_due s (Loading row column register) b = Refuses OutOfTurn
+address_due g Unreset b = Refuses NoReset
+address_due g (Ready out) b = Refuses OutOfTurn
+address_due g (Taking purpose got) b = address_for g purpose got b
+address_due g (Confirming purpose row column) b = Refuses OutOfTurn
+address_due g (Loading row column register) b = Refuses OutOfTurn
 
 -- bytes in their place in the register
 abbrev pub replaced : List ℕ → ℕ → List ℕ → List ℕ
@@ -153,12 +154,12 @@ replaced register column bytes = take column register ++ bytes ++ drop (column +
 
 -- data in: due only between the last address cycle of a program and its confirm cycle; past the last column it moves nothing
 unfoldable pub data_in_due : Geometry → Phase → List ℕ → Due
-data_in_due s Unreset bytes = Refuses NoReset
-data_in_due s (Ready out) bytes = Refuses OutOfTurn
-data_in_due s (Taking purpose got) bytes = Refuses OutOfTurn
-data_in_due s (Confirming purpose row column) bytes = Refuses OutOfTurn
-data_in_due s (Loading row column register) bytes =
-    if nat_le (column + length bytes) (page_bytes s) then Moves (Loading row (column + length bytes) (replaced register column bytes)) else Refuses ColumnRange
+data_in_due g Unreset bytes = Refuses NoReset
+data_in_due g (Ready out) bytes = Refuses OutOfTurn
+data_in_due g (Taking purpose got) bytes = Refuses OutOfTurn
+data_in_due g (Confirming purpose row column) bytes = Refuses OutOfTurn
+data_in_due g (Loading row column register) bytes =
+    if nat_le (column + length bytes) (page_bytes g) then Moves (Loading row (column + length bytes) (replaced register column bytes)) else Refuses ColumnRange
 
 -- the bytes of a page in the order of its columns
 abbrev pub bytes_of : Page → List ℕ
@@ -166,18 +167,18 @@ bytes_of p = p.body ++ p.spare
 
 -- data out, by what is put out: past its end it moves nothing, and the status never ends
 abbrev pub output_due : Geometry → Output → ℕ → Due
-output_due s NoOutput n = Refuses OutOfTurn
-output_due s (PageOut row column) n = if nat_le (column + n) (page_bytes s) then Moves (Ready (PageOut row (column + n))) else Refuses ColumnRange
-output_due s StatusOut n = Moves (Ready StatusOut)
-output_due s (IdentityOut bytes) n = if nat_le n (length bytes) then Moves (Ready (IdentityOut (drop n bytes))) else Refuses ColumnRange
+output_due g NoOutput n = Refuses OutOfTurn
+output_due g (PageOut row column) n = if nat_le (column + n) (page_bytes g) then Moves (Ready (PageOut row (column + n))) else Refuses ColumnRange
+output_due g StatusOut n = Moves (Ready StatusOut)
+output_due g (IdentityOut bytes) n = if nat_le n (length bytes) then Moves (Ready (IdentityOut (drop n bytes))) else Refuses ColumnRange
 
 -- data out: due only where something is put out
 unfoldable pub data_out_due : Geometry → Phase → ℕ → Due
-data_out_due s Unreset n = Refuses NoReset
-data_out_due s (Ready out) n = output_due s out n
-data_out_due s (Taking purpose got) n = Refuses OutOfTurn
-data_out_due s (Confirming purpose row column) n = Refuses OutOfTurn
-data_out_due s (Loading row column register) n = Refuses OutOfTurn
+data_out_due g Unreset n = Refuses NoReset
+data_out_due g (Ready out) n = output_due g out n
+data_out_due g (Taking purpose got) n = Refuses OutOfTurn
+data_out_due g (Confirming purpose row column) n = Refuses OutOfTurn
+data_out_due g (Loading row column register) n = Refuses OutOfTurn
 
 -- what is put out
 abbrev pub bytes_for : DieState → Output → ℕ → List ℕ
