@@ -1,7 +1,7 @@
 // A die in memory.
 ghost use Rattle.std.specs.Prelude.{◌≡◌, ◌<◌, ◌*◌, ℕ, true, List, length, map, IfOk, IfErr, OnOk, OnErr, if◌then◌else◌};
 ghost use Rattle.page_layout.specs.Geometry.{row_count, page_bytes};
-ghost use Rattle.page_layout.specs.Raw.{raw_bytes};
+ghost use Rattle.page_layout.specs.Raw.{raw_bytes, raw_image};
 ghost use Rattle.page_layout.specs.Counter.{counted};
 ghost use Rattle.page_layout.specs.Flash.{IsWhole};
 ghost use Rattle.onfi_cycles.specs.Cycles.{Programs, Erases, Refuses, Loading, Command, Address, DataIn, DataOut, CycleStep, page_of, command_due, address_due, data_in_due, data_out_due, bytes_out};
@@ -168,7 +168,8 @@ impl Die {
     /// `out` has as many bytes as they have. The time is linear in the image.
     pub fn image_into(&self, out: &mut [u8])
         requires whole { length out.old ≡ row_count self.now.state.flash.geometry * page_bytes self.now.state.flash.geometry }
-        ensures { out.new ≡ raw_bytes self.now.state.flash.image }
+        ensures bytes { out.new ≡ raw_bytes self.now.state.flash.image }
+        ensures pages { raw_image self.now.state.flash.geometry out.new ≡ self.now.state.flash.image }
     {
         out.copy_from_slice(self.bytes.as_slice());
     }

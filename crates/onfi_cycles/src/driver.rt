@@ -28,14 +28,14 @@ pub struct Driver<B: Bus> {
 }
 
 impl<B: Bus> Model for Driver<B> {
-    ghost use Rattle.std.specs.Prelude.{◌≡◌, true};
+    ghost use Rattle.std.specs.Prelude.{◌≡◌, ◌≤◌, true};
     ghost use Rattle.onfi_cycles.specs.Driver.{DriverState, IsReady};
 
     ghost Value = { DriverState B };
 
     ghost view = { λ d. record { bus = d.bus; geometry = d.geometry; reads = d.reads; programs = d.programs; erases = d.erases; failures = d.failures } };
 
-    ghost invariant = { λ d. B.honest d.bus ≡ true → ((B.die d.bus).flash.geometry ≡ d.geometry) × IsReady (B.die d.bus).phase };
+    ghost invariant = { λ d. B.honest d.bus ≡ true → ((B.die d.bus).flash.geometry ≡ d.geometry) × IsReady (B.die d.bus).phase × (d.failures ≤ B.failed d.bus) };
 }
 
 impl<B: Bus> Driver<B> {
@@ -79,9 +79,12 @@ impl<B: Bus> Driver<B> {
         }
     }
 
-    /// Gives the bus back.
+    /// Gives the bus back. Behind an honest one stands the driver's die: its geometry, its pages, the turns of its blocks and its
+    /// count of abuse. It has counted at least as many failures as the driver has answered faults. (This project.)
     pub fn into_bus(self) -> B
-        ensures { result ≡ self.bus }
+        ensures bus { result ≡ self.bus }
+        ensures flash { B.honest self.bus ≡ true → (B.die result).flash ≡ flash_by B.die self }
+        ensures counted { B.honest self.bus ≡ true → self.failures ≤ B.failed result }
     {
         let Driver {
             bus,

@@ -1,4 +1,4 @@
-use Rattle.std.proofs.Common.{◌∙◌, ap, sym}
+use Rattle.std.proofs.Common.{◌∙◌, ap, arith, sym}
 use Rattle.onfi_cycles.specs.Cycles.{DieState, NoOutput}
 use Rattle.onfi_cycles.proofs.Resets.{reset_does, reset_fails, seen_is}
 use Rattle.onfi_cycles.proofs.driver.Driver.new.Goals as goal
@@ -6,7 +6,7 @@ use Rattle.onfi_cycles.proofs.driver.Driver.new.Goals as goal
 pub invariant_of-result : goal.invariant_of-result
 invariant_of-result g c h =
     let was = sym c.command.ensures.honest ∙ h in
-    (c.command.ensures.geometry was ∙ c.requires.geometry was, (NoOutput, ap (λ (d : DieState). d.phase) (reset_does _ _ (c.in-Ok.ensures.cycle was))))
+    (c.command.ensures.geometry was ∙ c.requires.geometry was, (NoOutput, ap (λ (d : DieState). d.phase) (reset_does _ _ (c.in-Ok.ensures.cycle was))), omega arith)
 
 pub returns-in-Ok-clause-flash : goal.returns-in-Ok-clause-flash
 returns-in-Ok-clause-flash g c h =
