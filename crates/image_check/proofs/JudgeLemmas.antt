@@ -1,5 +1,5 @@
 -- What the judges are told of a survey whose pairs are sorted.
-use Rattle.std.proofs.Common.{◌≡◌, ℕ, zero, suc, ◌-◌, ◌<◌, ◌≤◌, List, Bool, length, get_or, refl, sym, ap, subst, ◌∙◌, ◌⊎◌, inl, inr, arith}
+use Rattle.std.proofs.Common.{◌≡◌, ℕ, zero, suc, ◌-◌, ◌<◌, ◌≤◌, List, [], Bool, length, get_or, refl, sym, ap, subst, ◌∙◌, ◌⊎◌, inl, inr, arith}
 use Rattle.std.specs.Prelude.{IsPermutation}
 use Rattle.page_layout.specs.declared.geometry.Geometry.{Geometry}
 use Rattle.page_layout.specs.declared.newest.Latest.{Latest}
@@ -9,7 +9,7 @@ use Rattle.page_layout.specs.Array.{marks}
 use Rattle.page_layout.specs.OneArray.{AreDistinct}
 use Rattle.bad_blocks.specs.declared.table.TableRow.{TableRow}
 use Rattle.certificate.specs.declared.block_state.BlockState.{BlockState}
-use Rattle.certificate.specs.Claim.{Claim}
+use Rattle.certificate.specs.Claim.{Claim, sizes_of}
 use Rattle.image_check.specs.declared.refusal.Refusal.{Refusal}
 use Rattle.image_check.specs.declared.look.Look.{Look}
 use Rattle.image_check.specs.declared.survey.Survey.{Survey}
@@ -71,6 +71,14 @@ numbers_of g capacity image c h = h.part Numbers (omega arith) (omega arith)
 
 pub distinct_of : (g : Geometry) (capacity : ℕ) (image : Image) (c : Claim) → HoldBetween g capacity image c 1 4 → AreDistinct (marks image)
 distinct_of g capacity image c h = h.part Sequences (omega arith) (omega arith)
+
+-- a certificate that says nothing
+abbrev no_claim : Geometry → Claim
+no_claim g = record { sizes = sizes_of g; capacity = 0; next = 0; blocks = []; directory = []; sectors = [] }
+
+-- what holds whatever a certificate says
+pub numbers_any : (g : Geometry) (image : Image) → ((claim : Claim) → HoldBetween g 0 image claim 1 4) → AreInRange g (marks image)
+numbers_any g image h = numbers_of g 0 image (no_claim g) (h (no_claim g))
 
 -- ---- from the pass to the judges
 

@@ -190,7 +190,7 @@ pairs_apart ms rows new moved =
     AllPairs-from_IsDistinct same_pair_decides new (IsDistinct-IsPermutation same_pair same_pair_flips (pairs_below ms rows) new moved (IsDistinct-from_AllPairs same_pair_decides (pairs_below ms rows) (pairs_differ ms rows)))
 
 -- the record of a pair
-pair_from : (ms : List (Option Record)) (rows : ℕ) → All (λ (p : ℕ × ℕ). (r : Record) × (get_or ms p.1 None ≡ Some r) × (r.sequence ≡ p.0)) (pairs_below ms rows)
+pub pair_from : (ms : List (Option Record)) (rows : ℕ) → All (λ (p : ℕ × ℕ). (r : Record) × (get_or ms p.1 None ≡ Some r) × (r.sequence ≡ p.0)) (pairs_below ms rows)
 unfolding pairs_below
 pair_from ms zero = All-nil (λ (p : ℕ × ℕ). (r : Record) × (get_or ms p.1 None ≡ Some r) × (r.sequence ≡ p.0))
 pair_from ms (suc row) = All-append (λ (p : ℕ × ℕ). (r : Record) × (get_or ms p.1 None ≡ Some r) × (r.sequence ≡ p.0)) (pairs_below ms row) (pair_of row (get_or ms row None)) (pair_from ms row) (last (get_or ms row None) refl)

@@ -1,6 +1,6 @@
 -- The state of a block, from what its pages showed and what the table says of it.
 use Rattle.std.proofs.Common.{◌≡◌, ℕ, zero, suc, ◌+◌, ◌-◌, ◌*◌, ◌/◌, ◌%◌, ◌<◌, ◌≤◌, Bool, true, false, cond, eqb, ◌&&◌, ◌||◌, max, min, List, [], ◌∷◌, ◌++◌, length, length-append, get_or, Some, refl, sym, ap, subst, ◌∙◌, ◌⊎◌, inl, inr, arith, slice_get}
-use Rattle.std.specs.Prelude.{not, nat_le, nat_lt}
+use Rattle.std.specs.Prelude.{All, not, nat_le, nat_lt}
 use Rattle.std.specs.List.{list_all, list_any, range_with_len}
 use Rattle.std.proofs.lemmas.Bool.{cases_order, cases_lt, lt-ltb, eqb-true}
 use Rattle.std.proofs.lemmas.Option.{slice_get-get_or, get_or_from_slice_get}
@@ -20,6 +20,7 @@ use Rattle.bad_blocks.specs.declared.table.TableRow.{TableRow}
 use Rattle.bad_blocks.specs.TablePage.{code_of, word_of, word_or_padding}
 use Rattle.bad_blocks.specs.Table.{no_table_row}
 use Rattle.certificate.specs.declared.block_state.BlockState.{BlockState}
+use Rattle.certificate.specs.Spelling.{FitsBlock}
 use Rattle.image_check.specs.declared.look.Look.{Look}
 use Rattle.image_check.specs.Blocks.{word_of_block, table_class, table_wear, is_factory, is_grown, is_good, is_free, is_partial, is_of_data, sequence_of_last, same_test, is_no_rival, is_open, class, pointer, erase_count, block_state, AreStates, IsTableOf}
 use Rattle.image_check.specs.Survey.{look_of, HasLooks, AreLiveCounts}
@@ -476,3 +477,36 @@ states_are g image rows looks counts n states whole size numbers table looked li
       size = h.size ∙ (whole ∙ lsize);
       state = λ b l. state_same g image rows looks counts b states numbers (record { table = table; looked = looked; size = size }) lives l (h.state b (omega arith));
     }
+
+-- ---- what fits a certificate, whatever the pages were
+
+seen_below : (a b c d : Bool) → cond a 5 (cond b 0 (cond c (cond d 1 2) 3)) ≤ 5
+seen_below true b c d = omega arith
+seen_below false true c d = omega arith
+seen_below false false true true = omega arith
+seen_below false false true false = omega arith
+seen_below false false false d = omega arith
+
+class_seen_most : (class : Class) (look : Look) (top : ℕ) → class_seen class look top ≤ 5
+class_seen_most Factory look top = omega arith
+class_seen_most Grown look top = omega arith
+class_seen_most Good look top = seen_below (look.broken || look.gap) (eqb look.written 0) (look.erased && nat_le top look.last) look.of_data
+
+pointer_seen_most : (class : Class) (look : Look) → pointer_seen class look ≤ 65535
+pointer_seen_most Factory look = omega arith
+pointer_seen_most Grown look = omega arith
+pointer_seen_most Good look = cond_most (look.broken || look.gap) 0 (min look.written 65535) 65535 (omega arith) (omega arith)
+
+state_fits : (class : Class) (wear : ℕ) (look : Look) (top live : ℕ) → FitsBlock (state_seen class wear look top live)
+state_fits class wear look top live = record {
+  class = class_seen_most class look top;
+  pointer = let few = pointer_seen_most class look in omega arith;
+  live = omega arith;
+  wear = omega arith;
+}
+
+pub states_fit : (rows : List TableRow) (looks : List Look) (counts : List ℕ) (n : ℕ) (states : List BlockState) → AreStatesTo rows looks counts n states → All FitsBlock states
+states_fit rows looks counts n states h = λ k d l.
+    let size = h.size in
+    let s = h.state k (omega arith) in
+    subst FitsBlock (sym (get_or_from_slice_get states k _ d s.is)) (state_fits s.row.class s.row.wear s.look s.top (get_or counts k 0))

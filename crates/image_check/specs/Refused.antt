@@ -200,6 +200,25 @@ IsJudgement (refusals.TooStale stale most) = Unit {0}
 IsJudgement refusals.Source = ⊥
 IsJudgement refusals.OutOfMemory = Unit {0}
 
+-- what the pages of an image may be refused for, whatever a certificate says of them
+abbrev pub IsOfImage : Refusal → Type 0
+IsOfImage refusals.GeometryDiffers = ⊥
+IsOfImage (refusals.NumberRange row) = Unit {0}
+IsOfImage (refusals.SequenceRepeated a b) = Unit {0}
+IsOfImage refusals.NotFormatted = Unit {0}
+IsOfImage (refusals.TableDamaged u) = Unit {0}
+IsOfImage (refusals.DirectoryWrong i) = ⊥
+IsOfImage (refusals.NoSuchRecord n row) = ⊥
+IsOfImage (refusals.NotNewest n row) = ⊥
+IsOfImage (refusals.BadSetWrong b) = ⊥
+IsOfImage (refusals.BlockState b) = ⊥
+IsOfImage (refusals.LiveWrong b) = ⊥
+IsOfImage (refusals.WearWrong b) = ⊥
+IsOfImage refusals.NextSequence = ⊥
+IsOfImage (refusals.TooStale stale most) = ⊥
+IsOfImage refusals.Source = ⊥
+IsOfImage refusals.OutOfMemory = Unit {0}
+
 -- a growth was refused
 abbrev pub IsMemory : Refusal → Type 0
 IsMemory r = r ≡ refusals.OutOfMemory

@@ -1,16 +1,17 @@
 //! The parts in order, each after the ones before it.
-ghost use Rattle.std.specs.Prelude.{◌≡◌, ◌≢◌, ◌⊎◌, Err, ℕ, ◌+◌, ◌*◌, ◌<◌, ◌^◌, List, length, OnOk, IfOk, IfErr, IsPermutation};
+ghost use Rattle.std.specs.Prelude.{◌≡◌, ◌≢◌, ◌⊎◌, Err, ℕ, ◌+◌, ◌*◌, ◌<◌, ◌^◌, All, List, length, OnOk, IfOk, IfErr, IsPermutation};
 ghost use Rattle.page_layout.specs.declared.geometry.Geometry.{Geometry};
 ghost use Rattle.page_layout.specs.Array.{marks};
 ghost use Rattle.page_layout.specs.Geometry.{row_count, key_count, translation_pages, table_pages};
 ghost use Rattle.page_layout.specs.OneArray.{AreDistinct};
 ghost use Rattle.page_layout.specs.Page.{Image};
 ghost use Rattle.certificate.specs.Claim.{Claim};
+ghost use Rattle.certificate.specs.Spelling.{FitsBlock};
 ghost use Rattle.image_check.specs.Agrees.{IsCertificateOf};
 ghost use Rattle.image_check.specs.Blocks.{AreStates, IsTableOf};
 ghost use Rattle.image_check.specs.Survey.{HasPassed, pairs_below};
 ghost use Rattle.image_check.specs.Surveyed.{IsSized, Surveys, SurveysKeys};
-ghost use Rattle.image_check.specs.Refused.{HoldBetween, FailsFrom, IsMemory, IsJudgement};
+ghost use Rattle.image_check.specs.Refused.{HoldBetween, FailsFrom, IsMemory, IsJudgement, IsOfImage};
 
 use crate::blocks::{Aspect, check_blocks};
 use crate::live::live_counts;
@@ -44,7 +45,7 @@ pub(crate) fn judge_image(survey: &mut Survey, table: &mut Table) -> Result<(), 
     ensures ok { OnOk result ((capacity : ℕ) (image : Image) (claim : Claim) → Surveys survey.old.geometry image survey.old → HoldBetween survey.old.geometry capacity image claim 1 4) }
     ensures rows { OnOk result ((image : Image) → Surveys survey.old.geometry image survey.old → IsTableOf survey.old.geometry image table.new) }
     ensures err { IfErr result (λ refusal. (capacity : ℕ) (image : Image) (claim : Claim) → Surveys survey.old.geometry image survey.old → FailsFrom survey.old.geometry capacity image claim 1 refusal) }
-    ensures named { IfErr result IsJudgement }
+    ensures kind { IfErr result IsOfImage }
     ensures size { length table.new ≡ length table.old }
     ensures permutation { IsPermutation survey.old.pairs.items survey.new.pairs.items }
     ensures others { survey.new ≡ record survey.old { pairs = survey.new.pairs } }
@@ -86,6 +87,31 @@ fn judge_blocks(states: &[BlockState], certificate: &Certificate) -> Result<(), 
     Ok(())
 }
 
+/// The state of each block of a die whose pages a survey has seen, once what an image has to be whatever a certificate
+/// says of it was looked at: every number is in range, no two sound pages share a sequence, and each table page has a
+/// newest page, which is well formed. Sorts the survey's pairs, and leaves the rest of it.
+///
+/// # Errors
+/// `NumberRange`, `SequenceRepeated`, `NotFormatted` and `TableDamaged`, the first of this order that is so, at the lowest
+/// row or page. `OutOfMemory` where a growth was refused. (This project's rules.)
+pub fn describe_blocks(alloc: Global, survey: &mut Survey) -> Result<Vec<BlockState>, Refusal>
+    requires { IsSized survey.old.geometry (row_count survey.old.geometry) survey.old }
+    ensures ok { OnOk result ((capacity : ℕ) (image : Image) (claim : Claim) → Surveys survey.old.geometry image survey.old → HoldBetween survey.old.geometry capacity image claim 1 4) }
+    ensures states { IfOk result (λ states. (image : Image) → Surveys survey.old.geometry image survey.old → AreStates survey.old.geometry image states.items) }
+    ensures size { IfOk result (λ states. length states.items ≡ survey.old.geometry.blocks) }
+    ensures fits { IfOk result (λ states. All FitsBlock states.items) }
+    ensures err { IfErr result (λ refusal. (capacity : ℕ) (image : Image) (claim : Claim) → Surveys survey.old.geometry image survey.old → IsMemory refusal ⊎ FailsFrom survey.old.geometry capacity image claim 1 refusal) }
+    ensures kind { IfErr result IsOfImage }
+    ensures permutation { IsPermutation survey.old.pairs.items survey.new.pairs.items }
+    ensures others { survey.new ≡ record survey.old { pairs = survey.new.pairs } }
+{
+    let mut table = blank_table(alloc, survey.geometry.blocks())?;
+    judge_image(survey, &mut table)?;
+    let counts = live_counts(alloc, &survey.geometry, &survey.newest)?;
+    let states = block_states(alloc, &survey.looks, &table, &counts)?;
+    Ok(states)
+}
+
 /// Looks at the parts from the second to the last but one in order, and names the first that fails.
 pub(crate) fn judge(
     alloc: Global,
@@ -101,11 +127,8 @@ pub(crate) fn judge(
     ensures named { IfErr result IsJudgement }
     ensures others { survey.new ≡ record survey.old { pairs = survey.new.pairs } }
 {
-    let mut table = blank_table(alloc, survey.geometry.blocks())?;
-    judge_image(survey, &mut table)?;
+    let states = describe_blocks(alloc, survey)?;
     judge_rows(survey, certificate, passed)?;
-    let counts = live_counts(alloc, &survey.geometry, &survey.newest)?;
-    let states = block_states(alloc, &survey.looks, &table, &counts)?;
     judge_blocks(&states, certificate)?;
     check_next(&survey.pairs, certificate)?;
     Ok(())

@@ -1,4 +1,5 @@
-//! Looking at raw images: the plain scan, which gives one sector, and the exact checker, which holds a certificate against an image.
+//! Looking at raw images: the plain scan, which gives one sector, and the exact checker, which holds a certificate against an image. The
+//! checker's survey of all pages, and what follows from it whatever a certificate says, serve to make a certificate too.
 #![tactic(auto)]
 
 mod accepted;
@@ -23,5 +24,8 @@ mod tables;
 
 pub use accepted::Accepted;
 pub use checker::check;
+pub use judge::describe_blocks;
 pub use refusal::Refusal;
 pub use scan::{SectorFault, sector, sector_in};
+pub use stale::find_stale;
+pub use survey::Survey;

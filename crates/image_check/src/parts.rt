@@ -8,7 +8,7 @@ ghost use Rattle.page_layout.specs.Geometry.{row_count, key_count, translation_p
 ghost use Rattle.certificate.specs.Claim.{Claim};
 ghost use Rattle.image_check.specs.Surveyed.{Surveys, SurveysKeys, SurveysPairs};
 ghost use Rattle.image_check.specs.Agrees.{AreInRange, IsDirectory, AreNewest};
-ghost use Rattle.image_check.specs.Refused.{IsWrong, Numbers, Directory, Sectors, Next, IsJudgement};
+ghost use Rattle.image_check.specs.Refused.{IsWrong, Numbers, Directory, Sectors, Next, IsJudgement, IsOfImage};
 ghost use Rattle.image_check.specs.Survey.{HasPassed, AreClaimed};
 
 use crate::refusal::Refusal;
@@ -20,6 +20,7 @@ pub(crate) fn check_numbers(survey: &Survey) -> Result<(), Refusal>
     ensures ok { OnOk result ((image : Image) → Surveys survey.now.geometry image survey.now → AreInRange survey.now.geometry (marks image)) }
     ensures err { IfErr result (λ refusal. (capacity : ℕ) (image : Image) (claim : Claim) → Surveys survey.now.geometry image survey.now → IsWrong survey.now.geometry capacity image claim Numbers refusal) }
     ensures named { IfErr result IsJudgement }
+    ensures kind { IfErr result IsOfImage }
 {
     match survey.outside {
         Some(row) => Err(Refusal::NumberRange { row }),

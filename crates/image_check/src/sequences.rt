@@ -8,7 +8,7 @@ ghost use Rattle.page_layout.specs.declared.geometry.Geometry.{Geometry};
 ghost use Rattle.certificate.specs.Claim.{Claim};
 ghost use Rattle.image_check.specs.Survey.{pairs_below};
 ghost use Rattle.image_check.specs.Pairs.{AreInOrder, DifferBelow, IsLowestBelow};
-ghost use Rattle.image_check.specs.Refused.{IsWrong, Sequences, IsJudgement};
+ghost use Rattle.image_check.specs.Refused.{IsWrong, Sequences, IsJudgement, IsOfImage};
 
 use crate::refusal::Refusal;
 
@@ -43,6 +43,7 @@ pub(crate) fn check_sequences(pairs: &mut [(u64, u32)]) -> Result<(), Refusal>
     ensures ok { OnOk result ((g : Geometry) (image : Image) → length image ≡ row_count g → pairs.old ≡ pairs_below (marks image) (row_count g) → AreDistinct (marks image)) }
     ensures err { IfErr result (λ refusal. (g : Geometry) (capacity : ℕ) (image : Image) (claim : Claim) → length image ≡ row_count g → pairs.old ≡ pairs_below (marks image) (row_count g) → IsWrong g capacity image claim Sequences refusal) }
     ensures named { IfErr result IsJudgement }
+    ensures kind { IfErr result IsOfImage }
     ensures permutation { IsPermutation pairs.old pairs.new }
 {
     sort_pairs(pairs);

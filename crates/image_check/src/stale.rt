@@ -75,8 +75,12 @@ fn read_translation<S: PageSource>(
     }
 }
 
-/// Finds the stale sectors, rising, by the newest translation pages.
-pub(crate) fn find_stale<S: PageSource>(
+/// Finds the stale sectors, rising: those whose entry in the newest translation page isn't the row of their newest page.
+/// `newest` is a survey's, and one read is made of each newest translation page.
+///
+/// # Errors
+/// `Source` where a page read failed, `OutOfMemory` where a growth was refused. (This project's rules.)
+pub fn find_stale<S: PageSource>(
     source: &mut S,
     geometry: &Geometry,
     newest: &[Latest],

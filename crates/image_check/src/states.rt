@@ -1,9 +1,10 @@
 //! The state of each block, by what its pages showed and what the table says of it.
-ghost use Rattle.std.specs.Prelude.{◌≡◌, true, false, ℕ, ◌<◌, ◌^◌, max, if◌then◌else◌, length, IfOk};
+ghost use Rattle.std.specs.Prelude.{◌≡◌, true, false, ℕ, ◌<◌, ◌^◌, max, if◌then◌else◌, All, length, IfOk};
 ghost use Rattle.page_layout.specs.declared.geometry.Geometry.{Geometry};
 ghost use Rattle.page_layout.specs.Geometry.{row_count};
 ghost use Rattle.page_layout.specs.Page.{Image};
 ghost use Rattle.page_layout.specs.Array.{marks};
+ghost use Rattle.certificate.specs.Spelling.{FitsBlock};
 ghost use Rattle.image_check.specs.Agrees.{AreInRange};
 ghost use Rattle.image_check.specs.Blocks.{AreStates, IsTableOf};
 ghost use Rattle.image_check.specs.States.{shows_bad, is_partial_seen, class_seen, pointer_seen, state_seen, IsTop};
@@ -125,6 +126,7 @@ pub(crate) fn block_states(
     requires size { length table.now ≡ length looks.now }
     requires counts { length counts.now ≡ length looks.now }
     ensures size { IfOk result (λ states. length states.items ≡ length looks.now) }
+    ensures fits { IfOk result (λ states. All FitsBlock states.items) }
     ensures states { IfOk result (λ states. (g : Geometry) (image : Image) → AreInRange g (marks image) → HasLooks g image (row_count g) looks.now → IsTableOf g image table.now → AreLiveCounts g image counts.now → AreStates g image states.items) }
 {
     let tops = tops_of(looks, table);

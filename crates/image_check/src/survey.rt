@@ -6,15 +6,17 @@ use page_layout::newest::Latest;
 use page_layout::record::{Record, is_erased, read_record};
 use std::alloc::{AllocError, Global};
 
+/// What the pages of a die show, as far as they were seen. It is shown each page once, in row order. Source: this project.
 #[derive(Drop)]
-pub(crate) struct Survey {
+pub struct Survey {
     pub(crate) geometry: Geometry,
-    // for each key what is known of its newest page
-    pub(crate) newest: Vec<Latest>,
+    /// What is known of the newest page of each key: of the sectors, then of the translation pages, then of the table
+    /// pages.
+    pub newest: Vec<Latest>,
     // a row whose number is out of range
     pub(crate) outside: Option<u32>,
-    // the sequence and the row of each sound page
-    pub(crate) pairs: Vec<(u64, u32)>,
+    /// The sequence and the row of each sound page.
+    pub pairs: Vec<(u64, u32)>,
     // what each block shows
     pub(crate) looks: Vec<Look>,
     // the data areas of the newest table pages
@@ -28,8 +30,9 @@ impl Survey {
     ghost use Rattle.page_layout.specs.Sound.{record_of};
     ghost use Rattle.image_check.specs.Surveyed.{IsSized, IsSurvey};
 
-    /// Nothing seen yet. All the memory of the survey is taken here.
-    pub(crate) fn new(alloc: Global, geometry: &Geometry) -> Result<Survey, AllocError>
+    /// Nothing seen yet. All the memory of the survey is taken here: room for a pair of sequence and row for each page,
+    /// for what is known of each key and block, and for the table pages. `AllocError` where there is none.
+    pub fn new(alloc: Global, geometry: &Geometry) -> Result<Survey, AllocError>
         ensures sized { IfOk result (IsSized geometry.now 0) }
         ensures survey { IfOk result (λ s. (image : Image) → IsSurvey geometry.now image 0 s) }
     {
@@ -45,8 +48,8 @@ impl Survey {
         })
     }
 
-    /// The next page passes. Gives its record, if it is sound.
-    pub(crate) fn see(&mut self, row: u32, body: &[u8], spare: &[u8]) -> Option<Record>
+    /// The next page passes, of the row that comes after those seen so far. Gives its record, if it is sound.
+    pub fn see(&mut self, row: u32, body: &[u8], spare: &[u8]) -> Option<Record>
         requires sized { IsSized self.old.geometry row self.old }
         requires row_in { row < row_count self.old.geometry }
         requires body_whole { length body.now ≡ self.old.geometry.data_bytes }

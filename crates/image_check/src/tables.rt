@@ -7,7 +7,7 @@ ghost use Rattle.certificate.specs.Claim.{Claim};
 ghost use Rattle.image_check.specs.Blocks.{IsBodyOf, IsTableOf};
 ghost use Rattle.image_check.specs.Agrees.{IsFormatted, HasTables};
 ghost use Rattle.image_check.specs.Surveyed.{SurveysKeys, SurveysTables};
-ghost use Rattle.image_check.specs.Refused.{IsUnformatted, IsWrong, Tables, IsJudgement};
+ghost use Rattle.image_check.specs.Refused.{IsUnformatted, IsWrong, Tables, IsJudgement, IsOfImage};
 
 use crate::refusal::Refusal;
 use crate::survey::Survey;
@@ -52,6 +52,7 @@ pub(crate) fn check_tables(survey: &Survey, table: &mut Table) -> Result<(), Ref
     ensures rows { OnOk result ((image : Image) → SurveysTables survey.now.geometry image survey.now.newest.items survey.now.tables.items → IsTableOf survey.now.geometry image table.new) }
     ensures err { IfErr result (λ refusal. (capacity : ℕ) (image : Image) (claim : Claim) → SurveysTables survey.now.geometry image survey.now.newest.items survey.now.tables.items → IsWrong survey.now.geometry capacity image claim Tables refusal) }
     ensures named { IfErr result IsJudgement }
+    ensures kind { IfErr result IsOfImage }
     ensures size { length table.new ≡ length table.old }
 {
     if !is_formatted(&survey.geometry, &survey.newest) {

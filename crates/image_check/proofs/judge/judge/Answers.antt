@@ -4,14 +4,14 @@ use Rattle.image_check.specs.Blocks.{AreStates}
 use Rattle.image_check.specs.Surveyed.{SurveysPairs}
 use Rattle.image_check.specs.Refused.{Next, HoldBetween}
 use Rattle.image_check.proofs.ChainLemmas.{hold_join, hold_more, fails_here, fails_later}
-use Rattle.image_check.proofs.JudgeLemmas.{IsSorted, sorted_of, rows_hold, rows_fail, states_known, states_given, pairs_given, numbers_of, distinct_of}
+use Rattle.image_check.proofs.JudgeLemmas.{IsSorted, sorted_of, rows_hold, rows_fail, states_given, pairs_given, distinct_of}
 use Rattle.image_check.proofs.judge.judge.Goals as goal
 
-pub returns-in_err-judge_image-clause-err : goal.returns-in_err-judge_image-clause-err
-returns-in_err-judge_image-clause-err c =
-    let p = err_from_is_err_and c.from_residual-in_err-judge_image.result c.from_residual-in_err-judge_image.ensures.1 in
+pub returns-in_err-states-clause-err : goal.returns-in_err-states-clause-err
+returns-in_err-states-clause-err c =
+    let p = err_from_is_err_and c.from_residual.result c.from_residual.ensures.1 in
     rw (p.1, p.2) (λ capacity image h passes.
-    inr (c.in_err-judge_image.ensures.err capacity image c.args.certificate.now h))
+    c.in_err-states.ensures.err capacity image c.args.certificate.now h)
 
 pub returns-in_err-judge_rows-clause-err : goal.returns-in_err-judge_rows-clause-err
 returns-in_err-judge_rows-clause-err c =
@@ -19,8 +19,8 @@ returns-in_err-judge_rows-clause-err c =
     rw (p.1, p.2) (λ capacity image h passes.
     let g = c.args.survey.now.geometry in
     let claim = c.args.certificate.now in
-    let s = c.judge_image.new.survey in
-    let done = c.in_ok-judge_image.ensures in
+    let s = c.describe_blocks.new.survey in
+    let done = c.in_ok-states.ensures in
     let first : HoldBetween g capacity image claim 1 4 = done.ok capacity image claim h in
     let sorted : IsSorted g image s = sorted_of image c.args.survey.now s h done.others done.permutation in
     inr (fails_later g capacity image claim 1 4 _ first (rows_fail g s.geometry capacity image s.newest.items claim c.args.passed.now _ sorted.geometry_is sorted.keys passes (distinct_of g capacity image claim first) c.in_err-judge_rows.ensures.err)))
@@ -31,13 +31,12 @@ returns-in_err-judge_blocks-clause-err c =
     rw (p.1, p.2) (λ capacity image h passes.
     let g = c.args.survey.now.geometry in
     let claim = c.args.certificate.now in
-    let s = c.judge_image.new.survey in
-    let done = c.in_ok-judge_image.ensures in
+    let s = c.describe_blocks.new.survey in
+    let done = c.in_ok-states.ensures in
     let first : HoldBetween g capacity image claim 1 4 = done.ok capacity image claim h in
     let sorted : IsSorted g image s = sorted_of image c.args.survey.now s h done.others done.permutation in
     let rows : HoldBetween g capacity image claim 1 6 = hold_join g capacity image claim 1 4 6 first (rows_hold g s.geometry capacity image s.newest.items claim c.args.passed.now sorted.geometry_is sorted.keys passes c.in_ok-judge_rows.ensures.ok) in
-    let states : AreStates g image c.in_ok-states.states.items = states_known g s.geometry image s c.deref.result.now c.deref-2.result.now c.in_ok-counts.counts.items c.deref-3.result.now c.judge_image.new.table c.in_ok-states.states.items sorted.geometry_is sorted (numbers_of g capacity image claim first) (done.rows image h) c.deref.ensures.value c.deref-2.ensures.value c.deref-3.ensures.value c.in_ok-counts.ensures.counts c.in_ok-states.ensures.states in
-    let given : AreStates g image c.deref-4.result.now = states_given g image c.in_ok-states.states.items c.deref-4.result.now c.deref-4.ensures.value states in
+    let given : AreStates g image c.deref.result.now = states_given g image c.in_ok-states.states.items c.deref.result.now c.deref.ensures.value (done.states image h) in
     inr (fails_later g capacity image claim 1 6 _ rows (c.in_err-judge_blocks.ensures.err g capacity image given)))
 
 pub returns-in_err-check_next-clause-err : goal.returns-in_err-check_next-clause-err
@@ -46,28 +45,26 @@ returns-in_err-check_next-clause-err c =
     rw (p.1, p.2) (λ capacity image h passes.
     let g = c.args.survey.now.geometry in
     let claim = c.args.certificate.now in
-    let s = c.judge_image.new.survey in
-    let done = c.in_ok-judge_image.ensures in
+    let s = c.describe_blocks.new.survey in
+    let done = c.in_ok-states.ensures in
     let first : HoldBetween g capacity image claim 1 4 = done.ok capacity image claim h in
     let sorted : IsSorted g image s = sorted_of image c.args.survey.now s h done.others done.permutation in
     let rows : HoldBetween g capacity image claim 1 6 = hold_join g capacity image claim 1 4 6 first (rows_hold g s.geometry capacity image s.newest.items claim c.args.passed.now sorted.geometry_is sorted.keys passes c.in_ok-judge_rows.ensures.ok) in
-    let states : AreStates g image c.in_ok-states.states.items = states_known g s.geometry image s c.deref.result.now c.deref-2.result.now c.in_ok-counts.counts.items c.deref-3.result.now c.judge_image.new.table c.in_ok-states.states.items sorted.geometry_is sorted (numbers_of g capacity image claim first) (done.rows image h) c.deref.ensures.value c.deref-2.ensures.value c.deref-3.ensures.value c.in_ok-counts.ensures.counts c.in_ok-states.ensures.states in
-    let given : AreStates g image c.deref-4.result.now = states_given g image c.in_ok-states.states.items c.deref-4.result.now c.deref-4.ensures.value states in
+    let given : AreStates g image c.deref.result.now = states_given g image c.in_ok-states.states.items c.deref.result.now c.deref.ensures.value (done.states image h) in
     let blocks : HoldBetween g capacity image claim 1 10 = hold_join g capacity image claim 1 6 10 rows (c.in_ok-judge_blocks.ensures.ok g capacity image given) in
-    let pairs : SurveysPairs g image c.deref-5.result.now = pairs_given g image s.pairs.items c.deref-5.result.now c.deref-5.ensures.value sorted.pairs in
+    let pairs : SurveysPairs g image c.deref-2.result.now = pairs_given g image s.pairs.items c.deref-2.result.now c.deref-2.ensures.value sorted.pairs in
     inr (fails_here g capacity image claim Next 1 _ blocks (c.in_err-check_next.ensures.err g capacity image pairs)))
 
 pub returns-clause-ok : goal.returns-clause-ok
 returns-clause-ok c = λ capacity image h passes.
     let g = c.args.survey.now.geometry in
     let claim = c.args.certificate.now in
-    let s = c.judge_image.new.survey in
-    let done = c.in_ok-judge_image.ensures in
+    let s = c.describe_blocks.new.survey in
+    let done = c.in_ok-states.ensures in
     let first : HoldBetween g capacity image claim 1 4 = done.ok capacity image claim h in
     let sorted : IsSorted g image s = sorted_of image c.args.survey.now s h done.others done.permutation in
     let rows : HoldBetween g capacity image claim 1 6 = hold_join g capacity image claim 1 4 6 first (rows_hold g s.geometry capacity image s.newest.items claim c.args.passed.now sorted.geometry_is sorted.keys passes c.in_ok-judge_rows.ensures.ok) in
-    let states : AreStates g image c.in_ok-states.states.items = states_known g s.geometry image s c.deref.result.now c.deref-2.result.now c.in_ok-counts.counts.items c.deref-3.result.now c.judge_image.new.table c.in_ok-states.states.items sorted.geometry_is sorted (numbers_of g capacity image claim first) (done.rows image h) c.deref.ensures.value c.deref-2.ensures.value c.deref-3.ensures.value c.in_ok-counts.ensures.counts c.in_ok-states.ensures.states in
-    let given : AreStates g image c.deref-4.result.now = states_given g image c.in_ok-states.states.items c.deref-4.result.now c.deref-4.ensures.value states in
+    let given : AreStates g image c.deref.result.now = states_given g image c.in_ok-states.states.items c.deref.result.now c.deref.ensures.value (done.states image h) in
     let blocks : HoldBetween g capacity image claim 1 10 = hold_join g capacity image claim 1 6 10 rows (c.in_ok-judge_blocks.ensures.ok g capacity image given) in
-    let pairs : SurveysPairs g image c.deref-5.result.now = pairs_given g image s.pairs.items c.deref-5.result.now c.deref-5.ensures.value sorted.pairs in
+    let pairs : SurveysPairs g image c.deref-2.result.now = pairs_given g image s.pairs.items c.deref-2.result.now c.deref-2.ensures.value sorted.pairs in
     hold_more g capacity image claim Next 1 10 11 refl refl blocks (c.in_ok-check_next.ensures.ok g image pairs)

@@ -1,6 +1,6 @@
 use Rattle.std.proofs.Common.{◌+◌, arith, sym, ◌∙◌, subst}
 use Rattle.std.proofs.lemmas.Option.{slice_get-get_or}
-use Rattle.image_check.proofs.StateLemmas.{AreStatesTo, row_at, wear_at, top_for, states_more, states_are, state_made}
+use Rattle.image_check.proofs.StateLemmas.{AreStatesTo, row_at, wear_at, top_for, states_more, states_are, state_made, states_fit}
 use Rattle.image_check.proofs.states.block_states.Goals as goal
 
 pub loop-block-preserved : goal.loop-block-preserved
@@ -18,3 +18,6 @@ loop-block-preserved c =
 pub returns-clause-states : goal.returns-clause-states
 returns-clause-states c = λ g image numbers looked table lives.
     states_are g image c.args.table.now c.args.looks.now c.args.counts.now c.loop-block.block c.loop-block.states.items (omega arith) c.requires.size numbers table looked lives c.loop-block.invariant
+
+pub returns-clause-fits : goal.returns-clause-fits
+returns-clause-fits c = states_fit c.args.table.now c.args.looks.now c.args.counts.now c.loop-block.block c.loop-block.states.items c.loop-block.invariant
