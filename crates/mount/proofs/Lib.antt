@@ -11,3 +11,7 @@ pub mod SizeLemmas
 pub mod GoodLemmas
 pub mod TriesLemmas
 pub mod FormatLaws
+pub mod NextLemmas
+pub mod RefuseLemmas
+pub mod WordLemmas
+pub mod MountLemmas

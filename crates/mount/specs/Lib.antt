@@ -4,3 +4,5 @@ pub mod Formatted
 pub mod FormatLaws
 pub mod Look
 pub mod Attempt
+pub mod Mounted
+pub mod Shown

@@ -1,0 +1,110 @@
+//! Mounting: an image's certificate is made, or it is said why it has none.
+ghost use Rattle.std.specs.Prelude.{◌≡◌, ◌≢◌, ◌≤◌, ◌+◌, [], true, Err, vec_capacity, IfOk, IfErr};
+ghost use Rattle.page_layout.specs.Counter.{HasRisen};
+ghost use Rattle.page_layout.specs.Geometry.{row_count, translation_pages, table_pages};
+ghost use Rattle.image_check.specs.Agrees.{IsAsked};
+ghost use Rattle.mount.specs.Mounted.{IsMounted, Refuses, IsOfMounting};
+ghost use Rattle.mount.specs.Shown.{IsShownSized, HasWords};
+
+use crate::mount_pages::{Shown, show_pages};
+use certificate::Certificate;
+use image_check::{Refusal, find_stale};
+use page_layout::geometry::Geometry;
+use page_layout::source::PageSource;
+use page_layout::word::word_from;
+use std::alloc::Global;
+
+// Puts the row of each sector's newest page into `words`, for which there is room.
+fn put_sectors(words: &mut Vec<u32>, geometry: &Geometry, shown: &Shown)
+    requires empty { words.old.items ≡ [] }
+    requires room { geometry.now.sectors ≤ vec_capacity words.old }
+    requires shown { IsShownSized geometry.now shown.now }
+    ensures { HasWords shown.now.newest.items 0 geometry.now.sectors words.new.items }
+{
+    for sector in 0..geometry.sectors() {
+        let row = shown.newest[sector as usize].row();
+        words.push(word_from(row)).unwrap();
+    }
+}
+
+// Puts the row of each newest translation page, then of each newest table page into `words`, for which there is room.
+fn put_directory(words: &mut Vec<u32>, geometry: &Geometry, shown: &Shown)
+    requires empty { words.old.items ≡ [] }
+    requires room { translation_pages geometry.now + table_pages geometry.now ≤ vec_capacity words.old }
+    requires shown { IsShownSized geometry.now shown.now }
+    ensures { HasWords shown.now.newest.items geometry.now.sectors (translation_pages geometry.now + table_pages geometry.now) words.new.items }
+{
+    let sectors = geometry.sectors();
+    for page in 0..geometry.translation_pages() + geometry.table_pages() {
+        let row = shown.newest[(sectors + page) as usize].row();
+        words.push(word_from(row)).unwrap();
+    }
+}
+
+/// The certificate of an image: the one that agrees with it, whose next sequence is one more than the greatest of all
+/// sound pages, of good and bad blocks alike.
+///
+/// Where no page read fails and no growth is refused, the answer is `Ok` just where some certificate agrees with the
+/// image at this capacity, which counts the entries of the cache, from 1 to 65536. Any other refusal says what keeps the
+/// image from having one. At most one read is made of each page, and one more of each newest translation page. All memory
+/// but the table and the states of the blocks is taken before the first page is read.
+///
+/// # Errors
+/// `NumberRange`, `SequenceRepeated`, `NotFormatted` and `TableDamaged`, the first of this order that is so, at the lowest
+/// row or page. Then `NextSequence` where a sound page has sequence 2^64 - 1, and then `TooStale` where more sectors are
+/// stale than the capacity says. `Source` where a page read failed, `OutOfMemory` where a growth was refused. No other
+/// refusal comes. (This project's rules.)
+pub fn mount<S: PageSource>(
+    alloc: Global,
+    source: &mut S,
+    geometry: &Geometry,
+    capacity: u32,
+) -> Result<Certificate, Refusal>
+    requires same_geometry { (S.flash source.old).geometry ≡ geometry.now }
+    requires least { 1 ≤ capacity }
+    requires most { capacity ≤ 65536 }
+    // The truth of the answer, for a source that keeps its promises.
+    ensures ok { IfOk result (λ certificate. S.honest source.old ≡ true → IsMounted geometry.now capacity (S.flash source.old).image certificate) }
+    ensures err { IfErr result (λ refusal. S.honest source.old ≡ true → Refuses geometry.now capacity (S.flash source.old).image refusal) }
+    ensures same { result ≢ Err Refusal.Source → S.honest source.old ≡ true → S.flash source.new ≡ S.flash source.old }
+    // Whatever the source does.
+    ensures asked { IfOk result (IsAsked geometry.now capacity) }
+    ensures only { IfErr result IsOfMounting }
+    ensures geometry { (S.flash source.new).geometry ≡ (S.flash source.old).geometry }
+    ensures honest { S.honest source.new ≡ S.honest source.old }
+    ensures reads { S.reads source.new ≤ S.reads source.old + (row_count geometry.now + translation_pages geometry.now) }
+    ensures programs { S.programs source.new ≡ S.programs source.old }
+    ensures erases { S.erases source.new ≡ S.erases source.old }
+    ensures failed { S.failed source.old ≤ S.failed source.new }
+    ensures rose { result ≡ Err Refusal.Source → HasRisen (S.failed source.old) (S.failed source.new) }
+{
+    let pages = geometry.translation_pages() + geometry.table_pages();
+    let mut sectors = Vec::with_capacity(alloc, geometry.sectors() as usize)?;
+    let mut directory = Vec::with_capacity(alloc, pages as usize)?;
+    let mut stale = Vec::with_capacity(alloc, geometry.sectors() as usize)?;
+    let mut body = vec![in alloc; 0; geometry.data_bytes()]?;
+    let mut spare = vec![in alloc; 0; geometry.spare_bytes()]?;
+    let shown = show_pages(alloc, source, geometry, &mut body, &mut spare)?;
+    find_stale(
+        source,
+        geometry,
+        &shown.newest,
+        &mut body,
+        &mut spare,
+        &mut stale,
+    )?;
+    if stale.len() > capacity as usize {
+        let stale = stale.len() as u32;
+        return Err(Refusal::TooStale { stale, capacity });
+    }
+    put_sectors(&mut sectors, geometry, &shown);
+    put_directory(&mut directory, geometry, &shown);
+    Ok(Certificate::new(
+        *geometry,
+        capacity,
+        shown.next,
+        shown.blocks,
+        directory,
+        sectors,
+    ))
+}
