@@ -1,4 +1,7 @@
 pub mod NumberLemmas
 pub mod WordLemmas
 pub mod ImageLemmas
+pub mod CheckLemmas
+pub mod MountLemmas
 pub mod CommandLemmas
+pub mod FormatLemmas

@@ -66,7 +66,6 @@ pub record HasImage (gives : List ℕ → List ℕ → Type 0) (words : ImageWor
 abbrev pub DoesSector : (List ℕ → List ℕ → Type 0) → ImageWords → Option (List ℕ) → Option (List ℕ) → Result (Unit {0}) CommandFault → Type 0
 DoesSector gives words before after (Ok done) = (g : Geometry) × (n : ℕ) × (bytes : List ℕ) × HasImage gives words g n bytes
     × IsReadable g (raw_image g bytes) n × Appends before after (sector_line g (raw_image g bytes) n)
-DoesSector gives words before after (Err fault.NoSuchCommand) = ⊥
 DoesSector gives words before after (Err (fault.BadNumber word)) = Keeps before after
     × (((word.now ≡ words.geometry.now) × ((numbers : GeometryNumbers) → ¬ SpellsGeometry words.geometry.now numbers))
     ⊎ ((word.now ≡ words.number.now) × ((numbers : GeometryNumbers) × SpellsGeometry words.geometry.now numbers) × (number_of words.number.now ≡ None)))
@@ -80,5 +79,5 @@ DoesSector gives words before after (Err (fault.Sector refused)) = Keeps before 
     × ((g : Geometry) × (n : ℕ) × (bytes : List ℕ) × HasImage gives words g n bytes × IsUnreadable g (raw_image g bytes) n refused)
 DoesSector gives words before after (Err (fault.Write path)) = (path.now ≡ codes "-")
     × ((g : Geometry) × (n : ℕ) × (bytes : List ℕ) × HasImage gives words g n bytes × IsReadable g (raw_image g bytes) n)
-DoesSector gives words before after (Err fault.RowRange) = ⊥
 DoesSector gives words before after (Err fault.OutOfMemory) = Keeps before after
+DoesSector gives words before after (Err _) = ⊥

@@ -58,7 +58,6 @@ IsShowFault g row show.Write = row < row_count g
 abbrev pub DoesShow : (List ℕ → List ℕ → Type 0) → ImageWords → Option (List ℕ) → Option (List ℕ) → Result (Unit {0}) CommandFault → Type 0
 DoesShow gives words before after (Ok done) = (g : Geometry) × (row : ℕ) × (bytes : List ℕ) × HasImage gives words g row bytes
     × (row < row_count g) × Shows (raw_image g bytes) row before after
-DoesShow gives words before after (Err fault.NoSuchCommand) = ⊥
 DoesShow gives words before after (Err (fault.BadNumber word)) = Keeps before after
     × (((word.now ≡ words.geometry.now) × ((numbers : GeometryNumbers) → ¬ SpellsGeometry words.geometry.now numbers))
     ⊎ ((word.now ≡ words.number.now) × ((numbers : GeometryNumbers) × SpellsGeometry words.geometry.now numbers) × (number_of words.number.now ≡ None)))
@@ -70,7 +69,7 @@ DoesShow gives words before after (Err fault.WrongLength) = Keeps before after
     × ((g : Geometry) × (row : ℕ) × (bytes : List ℕ) × IsAsked words g row × gives words.image.now bytes × (length bytes ≢ row_count g * page_bytes g))
 DoesShow gives words before after (Err fault.RowRange) = Keeps before after
     × ((g : Geometry) × (row : ℕ) × (bytes : List ℕ) × HasImage gives words g row bytes × (row_count g ≤ row))
-DoesShow gives words before after (Err (fault.Sector refused)) = ⊥
 DoesShow gives words before after (Err (fault.Write path)) = (path.now ≡ codes "-")
     × ((g : Geometry) × (row : ℕ) × (bytes : List ℕ) × HasImage gives words g row bytes × (row < row_count g))
 DoesShow gives words before after (Err fault.OutOfMemory) = Keeps before after
+DoesShow gives words before after (Err _) = ⊥

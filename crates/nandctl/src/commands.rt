@@ -2,9 +2,13 @@
 ghost use Rattle.std.specs.Prelude.{Result};
 ghost use Rattle.nandctl.specs.declared.text.CommandFault.{CommandFault};
 ghost use Rattle.nandctl.specs.Commands.{Does, Obeys, Reports};
+ghost use Rattle.nandctl.specs.Files.{left};
 ghost use Rattle.nandctl.specs.Words.{texts};
 
+use crate::check::check_command;
 use crate::files::FileStore;
+use crate::format::format_command;
+use crate::mount_image::mount_command;
 use crate::sector::sector_command;
 use crate::show::show_command;
 use crate::text::{CommandFault, DONE, tell};
@@ -19,11 +23,14 @@ fn carry_out<'a, F: FileStore, W: Write>(
     files: &mut F,
     out: &mut W,
 ) -> Result<(), CommandFault<'a>>
-    ensures { Does (F.gives files.old) order.entry (W.contents out.old) (W.contents out.new) result }
+    ensures { Does (F.gives files.old) order.entry (left (F.stores files.old) (W.contents out.old)) (left (F.stores files.new) (W.contents out.new)) result }
 {
     match order {
         Order::Sector(words) => sector_command(alloc, words, files, out),
         Order::Show(words) => show_command(words, files, out),
+        Order::Format(words) => format_command(alloc, words, files, out),
+        Order::Check(words) => check_command(alloc, words, files, out),
+        Order::Mount(words) => mount_command(alloc, words, files, out),
     }
 }
 
@@ -34,7 +41,7 @@ fn obey<'a, F: FileStore, W: Write>(
     files: &mut F,
     out: &mut W,
 ) -> Result<(), CommandFault<'a>>
-    ensures { Obeys (F.gives files.old) (texts words.now) (W.contents out.old) (W.contents out.new) result }
+    ensures { Obeys (F.gives files.old) (texts words.now) (left (F.stores files.old) (W.contents out.old)) (left (F.stores files.new) (W.contents out.new)) result }
 {
     match parse(alloc, words) {
         Ok(order) => carry_out(alloc, order, files, out),
@@ -58,7 +65,7 @@ pub fn run<F: FileStore, R: Read, W: Write, E: Write>(
     out: &mut W,
     err: &mut E,
 ) -> u8
-    ensures { (done : Result (Unit {0}) CommandFault) × Obeys (F.gives files.old) (texts words.now) (W.contents out.old) (W.contents out.new) done × Reports done (E.contents err.old) (E.contents err.new) result }
+    ensures { (done : Result (Unit {0}) CommandFault) × Obeys (F.gives files.old) (texts words.now) (left (F.stores files.old) (W.contents out.old)) (left (F.stores files.new) (W.contents out.new)) done × Reports done (E.contents err.old) (E.contents err.new) result }
 {
     match obey(alloc, words, files, out) {
         Ok(()) => DONE,

@@ -12,11 +12,15 @@ pub enum FileFault {
 
 /// The files that the words name: those of the system, or some in memory.
 pub trait FileStore {
-    ghost use Rattle.std.specs.Prelude.{List, ℕ, IfOk};
+    ghost use Rattle.std.specs.Prelude.{◌≡◌, List, ℕ, Option, IfOk};
+    ghost use Rattle.nandctl.specs.Files.{Stored, stores_after};
 
     /// What a load of a path may give. Of the system's files nothing is known, so there it is
     /// anything.
     ghost gives: { Self → List ℕ → List ℕ → Type 0 };
+
+    /// The files that it was asked to store so far, in order. Of the system's files it isn't known.
+    ghost stores: { Self → Option (List Stored) };
 
     /// The bytes of a file, whole.
     ///
@@ -25,12 +29,14 @@ pub trait FileStore {
     /// `Failed` where the file cannot be read, `OutOfMemory` where a growth was refused.
     fn load(&mut self, path: &str) -> Result<Vec<u8>, FileFault>
         ensures bytes { IfOk result (λ found. gives self.old path.now found.items) }
-        ensures same { (at found : List ℕ) → gives self.new at found → gives self.old at found };
+        ensures same { (at found : List ℕ) → gives self.new at found → gives self.old at found }
+        ensures stores { stores self.new ≡ stores self.old };
 
     /// Writes a file, whole. Of a file whose writing failed nothing is promised.
     ///
     /// # Errors
     ///
     /// `Failed` where the file cannot be written, `OutOfMemory` where a growth was refused.
-    fn store(&mut self, path: &str, bytes: &[u8]) -> Result<(), FileFault>;
+    fn store(&mut self, path: &str, bytes: &[u8]) -> Result<(), FileFault>
+        ensures { stores self.new ≡ stores_after (stores self.old) path.now bytes.now result };
 }

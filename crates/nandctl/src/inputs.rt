@@ -2,12 +2,14 @@
 ghost use Rattle.std.specs.Prelude.{◌≡◌, ℕ, List, Some, None, IfOk, IfErr};
 ghost use Rattle.page_layout.specs.Faults.{HasNumbers};
 ghost use Rattle.nandctl.specs.declared.numbers.GeometryNumbers.{GeometryNumbers};
+ghost use Rattle.nandctl.specs.Check.{IsAsked, IsUnasked};
 ghost use Rattle.nandctl.specs.Inputs.{IsBadGeometry, IsBadNumber, IsUnread};
 ghost use Rattle.nandctl.specs.Numbers.{SpellsGeometry, number_of};
 
 use crate::files::{FileFault, FileStore};
 use crate::numbers::{GeometryNumbers, geometry_numbers, number};
 use crate::text::CommandFault;
+use crate::words::CertificateWords;
 use page_layout::geometry::Geometry;
 
 /// The number that a word writes.
@@ -63,6 +65,35 @@ pub fn geometry_of<'a>(numbers: &GeometryNumbers) -> Result<Geometry, CommandFau
     }
 }
 
+/// The greatest capacity of a cache, in entries.
+const MOST_CAPACITY: u32 = 65536;
+
+/// A geometry, and the capacity of a cache in entries, from 1 to 65536.
+#[derive(Clone, Copy, Debug, PartialEq, Eq)]
+pub struct CacheAsked {
+    pub geometry: Geometry,
+    pub capacity: u32,
+}
+
+/// The geometry and the capacity that a command's words ask for.
+///
+/// # Errors
+///
+/// The first of this order: `BadNumber` where a word writes no numbers, `Geometry` where they are no
+/// geometry, `Capacity` where the capacity is not from 1 to 65536.
+pub fn cache_asked<'a>(words: &CertificateWords<'a>) -> Result<CacheAsked, CommandFault<'a>>
+    ensures ok { IfOk result (λ asked. IsAsked words.now asked.geometry asked.capacity) }
+    ensures fault { IfErr result (IsUnasked words.now) }
+{
+    let numbers = numbers_at(words.geometry)?;
+    let capacity = number_at(words.capacity)?;
+    let geometry = geometry_of(&numbers)?;
+    if capacity == 0 || capacity > MOST_CAPACITY {
+        return Err(CommandFault::Capacity);
+    }
+    Ok(CacheAsked { geometry, capacity })
+}
+
 /// The bytes of a file, whole.
 ///
 /// # Errors
@@ -72,6 +103,7 @@ pub fn load<'a, F: FileStore>(files: &mut F, path: &'a str) -> Result<Vec<u8>, C
     ensures ok { IfOk result (λ bytes. F.gives files.old path.now bytes.items) }
     ensures fault { IfErr result (IsUnread path.now) }
     ensures same { (at found : List ℕ) → F.gives files.new at found → F.gives files.old at found }
+    ensures stores { F.stores files.new ≡ F.stores files.old }
 {
     match files.load(path) {
         Ok(bytes) => Ok(bytes),

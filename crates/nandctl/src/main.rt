@@ -4,10 +4,14 @@
 ghost use Rattle.std.specs.Prelude.{◌≡◌, ◌≢◌};
 ghost use Rattle.std.specs.IoError.{error_kind};
 
+mod check;
 mod commands;
 mod files;
+mod format;
 mod inputs;
+mod mount_image;
 mod numbers;
+mod outputs;
 mod sector;
 mod show;
 mod system;

@@ -107,7 +107,8 @@ pub fn sector_command<'a, F: FileStore, W: Write>(
     files: &mut F,
     out: &mut W,
 ) -> Result<(), CommandFault<'a>>
-    ensures { DoesSector (F.gives files.old) words.entry (W.contents out.old) (W.contents out.new) result }
+    ensures does { DoesSector (F.gives files.old) words.entry (W.contents out.old) (W.contents out.new) result }
+    ensures stores { F.stores files.new ≡ F.stores files.old }
 {
     let numbers = numbers_at(words.geometry)?;
     let sector = number_at(words.number)?;

@@ -114,7 +114,8 @@ pub fn show_command<'a, F: FileStore, W: Write>(
     files: &mut F,
     out: &mut W,
 ) -> Result<(), CommandFault<'a>>
-    ensures { DoesShow (F.gives files.old) words.entry (W.contents out.old) (W.contents out.new) result }
+    ensures does { DoesShow (F.gives files.old) words.entry (W.contents out.old) (W.contents out.new) result }
+    ensures stores { F.stores files.new ≡ F.stores files.old }
 {
     let numbers = numbers_at(words.geometry)?;
     let row = number_at(words.number)?;

@@ -31,7 +31,11 @@ fn fault_of(error: Error) -> FileFault
 }
 
 impl<R: Files + AllocGlobal> FileStore for SystemFiles<'_, R> {
+    ghost use Rattle.std.specs.Prelude.{None};
+
     ghost gives = { λ _ _ _. Unit {0} };
+
+    ghost stores = { λ _. None };
 
     fn load(&mut self, path: &str) -> Result<Vec<u8>, FileFault> {
         fs::read(self.rt, path).map_err(fault_of)

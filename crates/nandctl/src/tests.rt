@@ -1,5 +1,9 @@
 //! Runs of whole commands, with files in memory.
+ghost use Rattle.std.specs.Prelude.{◌≡◌, IfOk, string_bytes};
+
+mod check_rows;
 mod format_rows;
+mod mount_rows;
 mod recovery;
 
 use crate::commands::run;
@@ -7,6 +11,8 @@ use crate::files::{FileFault, FileStore};
 use page_layout::geometry::Geometry;
 use page_layout::record::{Kind, Record, write_record};
 use std::alloc::{AllocError, Global};
+use std::io;
+use std::io::{ErrorKind, Write};
 use std::test::Fail;
 
 /// A file in memory.
@@ -16,17 +22,47 @@ pub struct MemoryFile {
     pub bytes: Vec<u8>,
 }
 
-/// Files in memory. A path that is not among them can be neither read nor written; `refuses` makes each load end in
-/// want of memory.
+/// A file that was handed over to be written, and whether it was.
+#[derive(Drop)]
+pub struct StoredFile {
+    pub path: String,
+    pub bytes: Vec<u8>,
+    pub done: bool,
+}
+
+fn stored_file(
+    alloc: Global,
+    path: &str,
+    bytes: &[u8],
+    done: bool,
+) -> Result<StoredFile, AllocError>
+    ensures path { IfOk result (λ file. string_bytes file.path ≡ path.now) }
+    ensures bytes { IfOk result (λ file. file.bytes.items ≡ bytes.now) }
+    ensures done { IfOk result (λ file. file.done ≡ done) }
+{
+    Ok(StoredFile {
+        path: String::from_str(alloc, path)?,
+        bytes: Vec::from_slice(alloc, bytes)?,
+        done,
+    })
+}
+
+/// Files in memory, and those that were handed over to be written. A path that is not among them can be neither read nor
+/// written; `refuses` makes each load end in want of memory.
 #[derive(Drop)]
 pub struct MemoryFiles {
     pub alloc: Global,
     pub files: Vec<MemoryFile>,
+    pub stored: Vec<StoredFile>,
     pub refuses: bool,
 }
 
 impl FileStore for MemoryFiles {
+    ghost use Rattle.std.specs.Prelude.{Some, map, string_bytes};
+
     ghost gives = { λ _ _ _. Unit {0} };
+
+    ghost stores = { λ m. Some (map (λ s. record { path = string_bytes s.path; bytes = s.bytes.items; done = s.done }) m.stored.items) };
 
     fn load(&mut self, path: &str) -> Result<Vec<u8>, FileFault> {
         if self.refuses {
@@ -41,14 +77,21 @@ impl FileStore for MemoryFiles {
     }
 
     fn store(&mut self, path: &str, bytes: &[u8]) -> Result<(), FileFault> {
+        let place = self.files.iter().position(|file| file.path == path);
         let kept = Vec::from_slice(self.alloc, bytes).map_err(|_| FileFault::OutOfMemory)?;
-        for file in self.files.iter_mut() {
-            if file.path == path {
-                file.bytes = kept;
-                return Ok(());
+        let stored = stored_file(self.alloc, path, bytes, place.is_some()).map_err(
+            |_| FileFault::OutOfMemory,
+        )?;
+        self.stored
+            .push(stored)
+            .map_err(|_| FileFault::OutOfMemory)?;
+        match place {
+            Some(place) => {
+                self.files[place].bytes = kept;
+                Ok(())
             }
+            None => Err(FileFault::Failed),
         }
-        Err(FileFault::Failed)
     }
 }
 
@@ -104,6 +147,7 @@ pub fn files_of(alloc: Global, image: Option<Vec<u8>>) -> Result<MemoryFiles, Fa
     Ok(MemoryFiles {
         alloc,
         files,
+        stored: Vec::new(alloc),
         refuses: false,
     })
 }
@@ -126,4 +170,18 @@ pub fn run_with(alloc: Global, words: &[&str], files: &mut MemoryFiles) -> Resul
 /// A raw image of erased pages.
 pub fn erased_image(alloc: Global, length: usize) -> Result<Vec<u8>, AllocError> {
     vec![in alloc; 0xFF; length]
+}
+
+/// Standard output that is closed.
+#[derive(Drop)]
+pub struct Closed;
+
+impl Write for Closed {
+    fn write(&mut self, _buf: &[u8]) -> io::Result<usize> {
+        Err(io::Error::from(ErrorKind::BrokenPipe))
+    }
+
+    fn flush(&mut self) -> io::Result<()> {
+        Ok(())
+    }
 }

@@ -1,7 +1,10 @@
 //! What the program says when a command ends before it is done: one line, and the exit status.
 ghost use Rattle.nandctl.specs.Text.{IsTold};
 
-use image_check::SectorFault;
+use certificate::CertFault;
+use image_check::{Refusal, SectorFault};
+use mount::FormatFault;
+use nand_die::DieFault;
 use page_layout::geometry::GeometryFault;
 use std::fmt;
 use std::io::Write;
@@ -25,6 +28,8 @@ pub enum CommandFault<'a> {
     BadNumber(&'a str),
     /// The numbers are no geometry.
     Geometry(GeometryFault),
+    /// The capacity of the cache is not from 1 to 65536 entries.
+    Capacity,
     /// The image has not as many bytes as the geometry says.
     WrongLength,
     /// The row is past the die.
@@ -33,6 +38,16 @@ pub enum CommandFault<'a> {
     OutOfMemory,
     /// The image gives no bytes for the sector.
     Sector(SectorFault),
+    /// No die was made of the image.
+    Die(DieFault),
+    /// The die was not formatted.
+    Format(FormatFault),
+    /// The file's bytes are no certificate.
+    Certificate(CertFault),
+    /// The certificate was not found to agree with the image.
+    Check(Refusal),
+    /// The image was not mounted.
+    Mount(Refusal),
     /// The file of this path could not be read.
     Read(&'a str),
     /// The file of this path, or standard output where it is `-`, could not be written.
@@ -50,10 +65,16 @@ impl CommandFault<'_> {
         match self {
             CommandFault::NoSuchCommand | CommandFault::BadNumber(_) => USAGE,
             CommandFault::Geometry(_)
+            | CommandFault::Capacity
             | CommandFault::WrongLength
             | CommandFault::RowRange
             | CommandFault::OutOfMemory
-            | CommandFault::Sector(_) => REFUSED,
+            | CommandFault::Sector(_)
+            | CommandFault::Die(_)
+            | CommandFault::Format(_)
+            | CommandFault::Certificate(_)
+            | CommandFault::Check(_)
+            | CommandFault::Mount(_) => REFUSED,
             CommandFault::Read(_) | CommandFault::Write(_) => IO,
         }
     }
@@ -74,12 +95,33 @@ impl fmt::Display for CommandFault<'_> {
                 let words = Words(*fault);
                 write!(f, "refused geometry {words}")
             }
+            CommandFault::Capacity => f.write_str("refused geometry 6 Capacity"),
             CommandFault::WrongLength => f.write_str("refused image 1 WrongLength"),
             CommandFault::RowRange => f.write_str("refused image 2 RowRange"),
             CommandFault::OutOfMemory => f.write_str("refused image 3 OutOfMemory"),
             CommandFault::Sector(fault) => {
                 let words = Words(*fault);
                 write!(f, "refused sector {words}")
+            }
+            CommandFault::Die(fault) => {
+                let words = Words(*fault);
+                write!(f, "refused die {words}")
+            }
+            CommandFault::Format(fault) => {
+                let words = Words(*fault);
+                write!(f, "refused format {words}")
+            }
+            CommandFault::Certificate(fault) => {
+                let words = Words(*fault);
+                write!(f, "refused certificate {words}")
+            }
+            CommandFault::Check(refusal) => {
+                let words = Words(*refusal);
+                write!(f, "refused check {words}")
+            }
+            CommandFault::Mount(refusal) => {
+                let words = Words(*refusal);
+                write!(f, "refused mount {words}")
             }
             CommandFault::Read(path) => write!(f, "fault read {path}"),
             CommandFault::Write(path) => write!(f, "fault write {path}"),
@@ -121,6 +163,96 @@ impl fmt::Display for Words<SectorFault> {
                 write!(f, "2 SequenceRepeated row {first} row {second}")
             }
             SectorFault::Source => f.write_str("3 Source"),
+        }
+    }
+}
+
+impl fmt::Display for Words<DieFault> {
+    ghost use Rattle.std.specs.Prelude.{Some};
+    ghost use Rattle.nandctl.specs.Text.{die_words};
+
+    ghost output = { λ words. Some (die_words words.0) };
+
+    fn fmt<W: fmt::Write>(&self, f: &mut fmt::Formatter<W>) -> fmt::Result {
+        match self.0 {
+            DieFault::WrongLength => f.write_str("1 WrongLength"),
+            DieFault::BadMark { block } => write!(f, "2 BadMark block {block}"),
+            DieFault::OutOfMemory => f.write_str("3 OutOfMemory"),
+            DieFault::SoundFaultPage => f.write_str("4 SoundFaultPage"),
+        }
+    }
+}
+
+impl fmt::Display for Words<FormatFault> {
+    ghost use Rattle.std.specs.Prelude.{Some};
+    ghost use Rattle.nandctl.specs.Text.{format_words};
+
+    ghost output = { λ words. Some (format_words words.0) };
+
+    fn fmt<W: fmt::Write>(&self, f: &mut fmt::Formatter<W>) -> fmt::Result {
+        match self.0 {
+            FormatFault::TooFewGood { good, need } => {
+                write!(f, "1 TooFewGood good {good} need {need}")
+            }
+            FormatFault::Bus => f.write_str("2 Bus"),
+            FormatFault::OutOfMemory => f.write_str("3 OutOfMemory"),
+            FormatFault::WriteFailed => f.write_str("4 WriteFailed"),
+            FormatFault::NotFresh { row } => write!(f, "5 NotFresh row {row}"),
+        }
+    }
+}
+
+impl fmt::Display for Words<CertFault> {
+    ghost use Rattle.std.specs.Prelude.{Some};
+    ghost use Rattle.nandctl.specs.Text.{certificate_words};
+
+    ghost output = { λ words. Some (certificate_words words.0) };
+
+    fn fmt<W: fmt::Write>(&self, f: &mut fmt::Formatter<W>) -> fmt::Result {
+        f.write_str(match self.0 {
+            CertFault::Magic => "1 Magic",
+            CertFault::Short => "2 Short",
+            CertFault::Long => "3 Long",
+            CertFault::Limit => "4 Limit",
+            CertFault::RowRange => "5 RowRange",
+            CertFault::ClassRange => "6 ClassRange",
+            CertFault::OutOfMemory => "7 OutOfMemory",
+        })
+    }
+}
+
+impl fmt::Display for Words<Refusal> {
+    ghost use Rattle.std.specs.Prelude.{Some};
+    ghost use Rattle.nandctl.specs.Text.{refusal_words};
+
+    ghost output = { λ words. Some (refusal_words words.0) };
+
+    fn fmt<W: fmt::Write>(&self, f: &mut fmt::Formatter<W>) -> fmt::Result {
+        match self.0 {
+            Refusal::GeometryDiffers => f.write_str("1 GeometryDiffers"),
+            Refusal::SequenceRepeated { first, second } => {
+                write!(f, "2 SequenceRepeated row {first} row {second}")
+            }
+            Refusal::NotNewest { sector, row } => {
+                write!(f, "3 NotNewest sector {sector} row {row}")
+            }
+            Refusal::NoSuchRecord { sector, row } => {
+                write!(f, "4 NoSuchRecord sector {sector} row {row}")
+            }
+            Refusal::DirectoryWrong { page } => write!(f, "5 DirectoryWrong page {page}"),
+            Refusal::NumberRange { row } => write!(f, "6 NumberRange row {row}"),
+            Refusal::BlockState { block } => write!(f, "7 BlockState block {block}"),
+            Refusal::BadSetWrong { block } => write!(f, "8 BadSetWrong block {block}"),
+            Refusal::LiveWrong { block } => write!(f, "9 LiveWrong block {block}"),
+            Refusal::WearWrong { block } => write!(f, "10 WearWrong block {block}"),
+            Refusal::NextSequence => f.write_str("11 NextSequence"),
+            Refusal::TooStale { stale, capacity } => {
+                write!(f, "12 TooStale stale {stale} capacity {capacity}")
+            }
+            Refusal::NotFormatted => f.write_str("13 NotFormatted"),
+            Refusal::TableDamaged { page } => write!(f, "14 TableDamaged page {page}"),
+            Refusal::Source => f.write_str("15 Source"),
+            Refusal::OutOfMemory => f.write_str("16 OutOfMemory"),
         }
     }
 }

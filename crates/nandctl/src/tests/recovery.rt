@@ -1,10 +1,8 @@
-use super::{Written, files_of, image, run_over};
+use super::{Closed, Written, files_of, image, run_over};
 use crate::commands::run;
 use page_layout::geometry::Geometry;
 use page_layout::record::Kind;
 use std::alloc::Global;
-use std::io;
-use std::io::{ErrorKind, Write};
 use std::process::Abort;
 use std::test::Fail;
 
@@ -243,20 +241,6 @@ fn words_that_are_no_command(rt: HostRuntime) -> Result<(), Fail> {
         assert_eq!(rt; ran.status, 2);
     }
     Ok(())
-}
-
-// Standard output that is closed.
-#[derive(Drop)]
-struct Closed;
-
-impl Write for Closed {
-    fn write(&mut self, _buf: &[u8]) -> io::Result<usize> {
-        Err(io::Error::from(ErrorKind::BrokenPipe))
-    }
-
-    fn flush(&mut self) -> io::Result<()> {
-        Ok(())
-    }
 }
 
 #[test]

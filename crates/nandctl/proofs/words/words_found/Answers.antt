@@ -1,23 +1,24 @@
-use Rattle.std.proofs.Common.{codes}
+use Rattle.std.proofs.Common.{codes, inl, inr}
 use Rattle.clap.specs.Words.{found_of}
-use Rattle.nandctl.proofs.WordLemmas.{given_word, missing_word}
+use Rattle.nandctl.proofs.WordLemmas.{no_word_at, word_at, word_found}
 use Rattle.nandctl.proofs.words.words_found.Goals as goal
 
-pub returns-in_err-geometry : goal.returns-in_err-geometry
-returns-in_err-geometry c x y z has =
-    absurd (missing_word (found_of c.args.found.now) (codes "first") x c.get_str.result c.get_str.ensures has.at_first c.in_err-geometry.was)
+pub returns-in_err-get_str-clause-none : goal.returns-in_err-get_str-clause-none
+returns-in_err-get_str-clause-none c none =
+    inl (no_word_at (found_of c.args.found.now) (codes "first") c.get_str.result c.get_str.ensures c.in_err-get_str.was)
 
-pub returns-in_err-image : goal.returns-in_err-image
-returns-in_err-image c x y z has =
-    absurd (missing_word (found_of c.args.found.now) (codes "second") y c.get_str-2.result c.get_str-2.ensures has.at_second c.in_err-image.was)
+pub returns-in_err-get_str-2-clause-none : goal.returns-in_err-get_str-2-clause-none
+returns-in_err-get_str-2-clause-none c none =
+    inr (inl (no_word_at (found_of c.args.found.now) (codes "second") c.get_str-2.result c.get_str-2.ensures c.in_err-get_str-2.was))
 
-pub returns-in_err-number : goal.returns-in_err-number
-returns-in_err-number c x y z has =
-    absurd (missing_word (found_of c.args.found.now) (codes "third") z c.get_str-3.result c.get_str-3.ensures has.at_third c.in_err-number.was)
+pub returns-in_err-get_str-3-clause-none : goal.returns-in_err-get_str-3-clause-none
+returns-in_err-get_str-3-clause-none c none =
+    inr (inr (no_word_at (found_of c.args.found.now) (codes "third") c.get_str-3.result c.get_str-3.ensures c.in_err-get_str-3.was))
 
-pub returns : goal.returns
-returns c x y z has = (
-  given_word (found_of c.args.found.now) (codes "first") x c.get_str.result _ c.get_str.ensures has.at_first c.in_ok-geometry.was,
-  given_word (found_of c.args.found.now) (codes "second") y c.get_str-2.result _ c.get_str-2.ensures has.at_second c.in_ok-image.was,
-  given_word (found_of c.args.found.now) (codes "third") z c.get_str-3.result _ c.get_str-3.ensures has.at_third c.in_ok-number.was,
-)
+pub returns-clause-some : goal.returns-clause-some
+returns-clause-some c = record {
+  first = word_at (found_of c.args.found.now) (codes "first") c.get_str.result _ c.get_str.ensures c.in_ok-get_str.was;
+  second = word_at (found_of c.args.found.now) (codes "second") c.get_str-2.result _ c.get_str-2.ensures c.in_ok-get_str-2.was;
+  third = word_at (found_of c.args.found.now) (codes "third") c.get_str-3.result _ c.get_str-3.ensures c.in_ok-get_str-3.was;
+  fourth = word_found (found_of c.args.found.now) (codes "fourth") c.get_str-4.result c.get_str-4.ensures;
+}
