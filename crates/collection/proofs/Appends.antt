@@ -1,0 +1,26 @@
+-- A page of a cached sector is written.
+use Rattle.std.proofs.Common.{◌≡◌, ℕ, ◌<◌, List, Option, None, ap, sym, ◌∙◌, subst}
+use Rattle.page_layout.specs.declared.record.Kind.{Kind}
+use Rattle.page_layout.specs.declared.record.Key.{Key}
+use Rattle.page_layout.specs.declared.record.Key.TheVariants.{Sector}
+use Rattle.page_layout.specs.Page.{Image}
+use Rattle.page_layout.specs.Key.{key_from}
+use Rattle.page_layout.proofs.StepLemmas.{array_written}
+use Rattle.collection.specs.State.{Ram}
+use Rattle.collection.specs.Pages.{newest_row}
+use Rattle.collection.specs.Maps.{IsPageFor}
+use Rattle.collection.specs.Truth.{IsTrue}
+use Rattle.collection.specs.Results.{MayPut, IsReplaced, IsWritten}
+
+pub may_append : (r : Ram) (image : Image) (kind : Kind) (n : ℕ) (old_row : Option ℕ) (body : List ℕ) → IsTrue None r image → key_from kind n ≡ Sector n → old_row ≡ newest_row image (Sector n) → MayPut kind n old_row body r image
+may_append r image kind n old_row body w same is = record {
+  truth = w;
+  page_for = (let P : Key → Type 0 = λ k. IsPageFor r.geometry image r.mapping body k in let unit : P (Sector n) = tt in subst P (sym same) unit);
+  old_row_is = is ∙ ap (newest_row image) (sym same);
+}
+
+pub appended : (r r' : Ram) (image image' : Image) (kind : Kind) (n row : ℕ) (body : List ℕ) → key_from kind n ≡ Sector n → n < r.geometry.sectors → IsReplaced kind n row body r image r' image' → IsWritten kind n body r image r' image'
+appended r r' image image' kind n row body same lt p = record {
+  truth = p.truth;
+  array = array_written r.geometry n row _ body image image' lt same p.writes;
+}

@@ -1,0 +1,16 @@
+pub mod MapLemmas
+pub mod Programs
+pub mod Blocks
+pub mod Memory
+pub mod Lives
+pub mod Truths
+pub mod Logs
+pub mod Costs
+pub mod Attempts
+pub mod Puts
+pub mod Gates
+pub mod Looks
+pub mod WriteBacks
+pub mod Settles
+pub mod Appends
+pub mod Places

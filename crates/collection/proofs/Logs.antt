@@ -1,0 +1,124 @@
+-- Logs of an engine's operations.
+use Rattle.std.proofs.Common.{◌≡◌, ◌≢◌, inl, inr, ℕ, ◌+◌, ◌*◌, ◌/◌, ◌%◌, ◌<◌, Bool, true, not, List, [], ◌∷◌, ◌++◌, length, length-set, refl, ap, sym, ◌∙◌, subst, arith}
+use Rattle.std.proofs.lemmas.Bool.{cases_eq}
+use Rattle.std.proofs.lemmas.List.{get_or-set_same, get_or-set_other}
+use Rattle.std.proofs.lemmas.Nat.{div-mul-add, mod-mul-add}
+use Rattle.page_layout.specs.declared.geometry.Geometry.{Geometry}
+use Rattle.page_layout.specs.Page.{Page}
+use Rattle.page_layout.specs.Flash.{Flash, Operation, Program}
+use Rattle.page_layout.proofs.FlashLemmas.{Leads-append, Leads-one}
+use Rattle.bad_blocks.specs.declared.table.TableRow.{TableRow}
+use Rattle.bad_blocks.specs.Table.{is_good, is_good_at}
+use Rattle.allocation.specs.State.{State, pointer_at}
+use Rattle.promises.specs.Log.{block_of}
+use Rattle.promises.specs.Legal.{Account, account_at, no_account, noted, accounted, accounted_all, LegalFrom}
+use Rattle.promises.proofs.LogLemmas.{counts}
+use Rattle.promises.proofs.LegalLemmas.{accounts_join, legal_append}
+use Rattle.onfi_cycles.specs.declared.nand.Outcome.{Outcome}
+use Rattle.onfi_cycles.specs.Outcomes.{is_passed}
+use Rattle.collection.specs.State.{Ram}
+use Rattle.collection.specs.Log.{IsAccounted, Follows, Went}
+use Rattle.collection.specs.Results.{IsStep}
+use Rattle.collection.proofs.Blocks.{IsMade}
+
+-- ---- the account of one block more
+
+length-accounted : (pages : ℕ) (accounts : List Account) (op : Operation) → length (accounted pages accounts op) ≡ length accounts
+unfolding accounted
+length-accounted pages accounts op = length-set accounts (block_of pages op) (noted (account_at accounts (block_of pages op)) op)
+
+accounted-same : (pages : ℕ) (accounts : List Account) (op : Operation) (block : ℕ) → block_of pages op ≡ block → block < length accounts → account_at (accounted pages accounts op) block ≡ noted (account_at accounts block) op
+unfolding accounted
+accounted-same pages accounts op block is within =
+    rw is (get_or-set_same accounts block (noted (account_at accounts block) op) no_account within)
+
+accounted-other : (pages : ℕ) (accounts : List Account) (op : Operation) (block : ℕ) → block ≢ block_of pages op → account_at (accounted pages accounts op) block ≡ account_at accounts block
+unfolding accounted
+accounted-other pages accounts op block ne = get_or-set_other accounts (block_of pages op) block (noted (account_at accounts (block_of pages op)) op) no_account ne
+
+-- ---- one program
+
+-- the blocks after a program of the block's next page
+pub record HasFollowed (block : ℕ) (passed : Bool) (old new : State) : Type 0 where
+  pub is_block : block < old.geometry.blocks
+  pub was_good : is_good_at old.table block ≡ true
+  pub room : pointer_at old block < old.geometry.pages
+  pub made : IsMade block old new
+  pub good : is_good_at new.table block ≡ passed
+  pub pointer : pointer_at new block ≡ pointer_at old block + 1
+
+module _ (block row : ℕ) (p left : Page) (passed : Bool) (old new : State) (h : HasFollowed block passed old new) (row_is : row ≡ block * old.geometry.pages + pointer_at old block) where
+  op : Operation
+  op = Program row p passed left
+
+  block_is : row / old.geometry.pages ≡ block
+  block_is = ap (λ k. k / old.geometry.pages) row_is ∙ div-mul-add block old.geometry.pages (pointer_at old block) h.room
+
+  page_is : row % old.geometry.pages ≡ pointer_at old block
+  page_is = ap (λ k. k % old.geometry.pages) row_is ∙ mod-mul-add block old.geometry.pages (pointer_at old block) h.room
+
+  program_legal : (accounts : List Account) → IsAccounted accounts old → LegalFrom old.geometry.pages accounts (Program row p passed left ∷ [])
+  program_legal accounts a = (
+    record {
+      good = ap (λ k. (account_at accounts k).barred) block_is ∙ (a.barred block h.is_block ∙ ap not h.was_good);
+      next = ap (λ k. (account_at accounts k).next) block_is ∙ (a.next block h.is_block h.was_good ∙ sym page_is);
+    },
+    tt,
+  )
+
+  program_accounted : (accounts : List Account) → IsAccounted accounts old → IsAccounted (accounted old.geometry.pages accounts (Program row p passed left)) new
+  program_accounted accounts a = record {
+    size = length-accounted old.geometry.pages accounts (Program row p passed left) ∙ (a.size ∙ ap (λ g. g.blocks) (sym h.made.geometry));
+    barred = λ b within. barred b (rw (← h.made.geometry) within);
+    next = λ b within good. next b (rw (← h.made.geometry) within) good;
+  }
+    where
+      after : ℕ → Account
+      after b = account_at (accounted old.geometry.pages accounts (Program row p passed left)) b
+
+      here : after block ≡ noted (account_at accounts block) (Program row p passed left)
+      here = accounted-same old.geometry.pages accounts (Program row p passed left) block block_is (omega (arith, a.size, h.is_block))
+
+      there : (b : ℕ) → b ≢ block → after b ≡ account_at accounts b
+      there b ne = accounted-other old.geometry.pages accounts (Program row p passed left) b (λ e. ne (e ∙ block_is))
+
+      barred : (b : ℕ) → b < old.geometry.blocks → (after b).barred ≡ not (is_good_at new.table b)
+      barred b within = elim (cases_eq b block) [
+        | inl same ↦ ap (λ k. (after k).barred) same ∙ (ap (λ (x : Account). x.barred) here ∙ (ap not (sym h.good) ∙ ap (λ k. not (is_good_at new.table k)) (sym same)))
+        | inr ne ↦ ap (λ (x : Account). x.barred) (there b ne) ∙ (a.barred b within ∙ ap (λ (x : TableRow). not (is_good x)) (sym (h.made.others b ne).row))
+      ]
+
+      next : (b : ℕ) → b < old.geometry.blocks → is_good_at new.table b ≡ true → (after b).next ≡ pointer_at new b
+      next b within good = elim (cases_eq b block) [
+        | inl same ↦ ap (λ k. (after k).next) same ∙ (ap (λ (x : Account). x.next) here ∙ (ap (λ n. n + 1) (a.next block h.is_block h.was_good) ∙ (sym h.pointer ∙ ap (pointer_at new) (sym same))))
+        | inr ne ↦ ap (λ (x : Account). x.next) (there b ne) ∙ (a.next b within (ap is_good (sym (h.made.others b ne).row) ∙ good) ∙ sym (h.made.others b ne).pointer)
+      ]
+
+  pub program_follows : Follows old.geometry.pages (Program row p passed left ∷ []) old new
+  program_follows = record { legal = program_legal; accounted = program_accounted }
+
+-- ---- logs
+
+pub went_same : (r : Ram) (s : Flash) → Went r s r s
+went_same r s = record { log = []; leads = refl; follows = record { legal = λ accounts a. tt; accounted = λ accounts a. a }; next = omega arith }
+
+pub went_one : (old new : Ram) (before after : Flash) (block row : ℕ) (outcome : Outcome) → IsStep row outcome before after → old.blocks.geometry ≡ old.geometry → HasFollowed block (is_passed outcome) old.blocks new.blocks → row ≡ block * old.blocks.geometry.pages + pointer_at old.blocks block → new.next ≡ old.next + 1 → Went old before new after
+went_one old new before after block row outcome step same h row_is next = record {
+  log = Program row step.its (is_passed outcome) step.left ∷ [];
+  leads = Leads-one before after (Program row step.its (is_passed outcome) step.left) step.step;
+  follows = (let P : Geometry → Type 0 = λ g. Follows g.pages (Program row step.its (is_passed outcome) step.left ∷ []) old.blocks new.blocks in subst P same (program_follows block row step.its step.left (is_passed outcome) old.blocks new.blocks h row_is));
+  next = next;
+}
+
+pub went_then : (a b c : Ram) (x y z : Flash) → b.geometry ≡ a.geometry → Went a x b y → Went b y c z → Went a x c z
+went_then a b c x y z same v w =
+    let follows : Follows a.geometry.pages w.log b.blocks c.blocks = (let P : Geometry → Type 0 = λ g. Follows g.pages w.log b.blocks c.blocks in subst P same w.follows) in
+    record {
+      log = v.log ++ w.log;
+      leads = Leads-append x y z v.log w.log v.leads w.leads;
+      follows = record {
+        legal = λ accounts s. legal_append a.geometry.pages accounts v.log w.log (v.follows.legal accounts s) (follows.legal (accounted_all a.geometry.pages accounts v.log) (v.follows.accounted accounts s));
+        accounted = λ accounts s. rw (accounts_join a.geometry.pages accounts v.log w.log) (follows.accounted (accounted_all a.geometry.pages accounts v.log) (v.follows.accounted accounts s));
+      };
+      next = omega (arith, v.next, w.next, (counts a.geometry.pages 0 v.log w.log).programs);
+    }

@@ -1,0 +1,36 @@
+-- What one program does to the die, as its caller sees it.
+use Rattle.std.proofs.Common.{◌≡◌, ◌∙◌, ℕ, List, Result, Ok, Err, Some, IfOk, OnOk, subst, sym}
+use Rattle.std.specs.Vec.{with_items}
+use Rattle.page_layout.specs.declared.geometry.Geometry.{Geometry}
+use Rattle.page_layout.specs.declared.record.Record.{Record}
+use Rattle.page_layout.specs.Page.{Page, IsImage, page}
+use Rattle.page_layout.specs.Sound.{record_of}
+use Rattle.page_layout.specs.Flash.{Flash, Program, Steps, IsWhole, page_at}
+use Rattle.page_layout.specs.Change.{ProgramMeans}
+use Rattle.page_layout.proofs.FlashLemmas.{program_means}
+use Rattle.onfi_cycles.specs.declared.nand.Outcome.{Outcome}
+use Rattle.onfi_cycles.specs.declared.nand.BusFault.{BusFault}
+use Rattle.onfi_cycles.specs.Outcomes.{is_passed}
+use Rattle.collection.specs.declared.engine.Buffer.{Buffer}
+use Rattle.collection.specs.Safe.{IsBuffer}
+use Rattle.collection.specs.Results.{CanProgram, IsStep}
+
+pub stepped : (row : ℕ) (p : Page) (old new : Flash) (H : Type 0) (result : Result Outcome BusFault) → IfOk result (λ o. H → Steps old (Program row p (is_passed o) (page_at new row)) new) → H → IfOk result (λ o. IsStep row o old new)
+stepped row p old new H (Ok o) step h = record { its = p; left = page_at new row; step = step h }
+stepped row p old new H (Err e) step h = tt
+
+pub image_by : (g : Geometry) (old new : Flash) (H : Type 0) (result : Result Outcome BusFault) → new.geometry ≡ old.geometry → old.geometry ≡ g → OnOk result (H → IsWhole new) → H → OnOk result (IsImage g new.image)
+image_by g old new H (Ok o) same is whole h = (let P : Geometry → Type 0 = λ x. IsImage x new.image in subst P (same ∙ is) (whole h).image_whole)
+image_by g old new H (Err e) same is whole h = tt
+
+pub means_by : (g : Geometry) (row : ℕ) (r : Record) (body spare : List ℕ) (old new : Flash) (H : Type 0) (result : Result Outcome BusFault) → CanProgram g row r old.image → record_of (page body spare) ≡ Some r → IfOk result (λ o. H → Steps old (Program row (page body spare) (is_passed o) (page_at new row)) new) → H → IfOk result (λ o. ProgramMeans g r row body (is_passed o) old.image new.image)
+means_by g row r body spare old new H (Ok o) can is step h = program_means g old new row (page body spare) (page_at new row) (is_passed o) r (step h) can.one can.unsound is can.below can.in_range
+means_by g row r body spare old new H (Err e) can is step h = tt
+
+-- what a call says, in one of its outcomes
+pub at_outcome : (P : Outcome → Type 0) (x y : Outcome) → P x → x ≡ y → P y
+at_outcome P x y h is = subst P is h
+
+-- the spare area that a call wrote into keeps its length
+pub buffer_spare : (g : Geometry) (b : Buffer) (ws : List ℕ) → IsBuffer g b → IsBuffer g (record { body = b.body; spare = with_items b.spare ws })
+buffer_spare g b ws is = record { body = is.body; spare = sym (with_items b.spare ws).ok.0 ∙ (b.spare.ok.0 ∙ is.spare) }

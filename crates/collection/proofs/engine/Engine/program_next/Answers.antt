@@ -1,0 +1,159 @@
+use Rattle.std.proofs.Common.{◌∙◌, ap, refl, subst}
+use Rattle.page_layout.specs.Change.{Writes, ProgramMeans}
+use Rattle.onfi_cycles.specs.declared.nand.Outcome.TheVariants.{Passed, Failed}
+use Rattle.onfi_cycles.specs.Outcomes.{is_passed}
+use Rattle.bad_blocks.specs.Table.{wear_at}
+use Rattle.budget.specs.Stream.{stream_of}
+use Rattle.allocation.specs.View.{state}
+use Rattle.collection.specs.Safe.{ram}
+use Rattle.collection.specs.Results.{IsStep}
+use Rattle.collection.proofs.Programs.{at_outcome, buffer_spare}
+use Rattle.collection.proofs.Memory.{taken_outside}
+use Rattle.collection.proofs.Attempts.{taken_by, taken_good, next_record, step_others, asked_ram, asked_goes, failed_ram, failed_goes, failed_cost, failed_went, failed_kept, passed_ram, passed_goes, passed_cost, passed_went, passed_put, may_program}
+use Rattle.collection.proofs.engine.Engine.program_next.Goals as goal
+
+pub retire-requires-clause-good : goal.retire-requires-clause-good
+retire-requires-clause-good g c =
+    let r = ram c.args.self.now in
+    let t = state c.take_row.new.self in
+    taken_good c.of.result c.split_row-block.result.0 c.in-Some.row r.blocks t (taken_by r c.of.result c.in-Some.row c.split_row-block.result.0 t c.requires.safe.memory c.in-Some.ensures.some c.split_row-block.ensures.block_is)
+
+-- ---- it passed
+
+pub returns-in-Ok-Passed-clause-safe : goal.returns-in-Ok-Passed-clause-safe
+returns-in-Ok-Passed-clause-safe g c =
+    let r = ram c.args.self.now in
+    let t = state c.take_row.new.self in
+    let is = taken_by r c.of.result c.in-Some.row c.split_row-block.result.0 t c.requires.safe.memory c.in-Some.ensures.some c.split_row-block.ensures.block_is in
+    record {
+      memory = passed_ram c.of.result c.split_row-block.result.0 c.in-Some.row r t c.requires.safe.memory is _ (record { geometry = refl; directory = refl; mapping = refl; next = refl }) c.args.old_row c.count_move.ensures c.requires.old_row c.requires.next;
+      geometry = c.program_record.ensures.geometry ∙ c.requires.safe.geometry;
+      page = buffer_spare c.args.self.now.geometry c.args.self.now.page c.program_record.new.spare c.requires.safe.page;
+      scratch = c.requires.safe.scratch;
+      idle = c.requires.safe.idle;
+    }
+
+pub returns-in-Ok-Passed-clause-goes : goal.returns-in-Ok-Passed-clause-goes
+returns-in-Ok-Passed-clause-goes g c =
+    let r = ram c.args.self.now in
+    let t = state c.take_row.new.self in
+    let is = taken_by r c.of.result c.in-Some.row c.split_row-block.result.0 t c.requires.safe.memory c.in-Some.ensures.some c.split_row-block.ensures.block_is in
+    passed_goes c.of.result c.split_row-block.result.0 c.in-Some.row r t c.requires.safe.memory is _ (record { geometry = refl; directory = refl; mapping = refl; next = refl }) c.args.old_row c.count_move.ensures c.requires.old_row
+
+pub returns-in-Ok-Passed-clause-row : goal.returns-in-Ok-Passed-clause-row
+returns-in-Ok-Passed-clause-row g c =
+    let r = ram c.args.self.now in
+    let t = state c.take_row.new.self in
+    let is = taken_by r c.of.result c.in-Some.row c.split_row-block.result.0 t c.requires.safe.memory c.in-Some.ensures.some c.split_row-block.ensures.block_is in
+    taken_outside c.of.result c.split_row-block.result.0 c.in-Some.row r t c.requires.safe.memory is
+
+pub returns-in-Ok-Passed-clause-cost : goal.returns-in-Ok-Passed-clause-cost
+returns-in-Ok-Passed-clause-cost g c =
+    let r = ram c.args.self.now in
+    let t = state c.take_row.new.self in
+    let is = taken_by r c.of.result c.in-Some.row c.split_row-block.result.0 t c.requires.safe.memory c.in-Some.ensures.some c.split_row-block.ensures.block_is in
+    passed_cost c.of.result c.split_row-block.result.0 c.in-Some.row r t c.requires.safe.memory is _ (record { geometry = refl; directory = refl; mapping = refl; next = refl }) (stream_of c.args.kind) c.args.old_row c.of.ensures c.count_move.ensures c.requires.old_row
+
+pub returns-in-Ok-Passed-clause-went : goal.returns-in-Ok-Passed-clause-went
+returns-in-Ok-Passed-clause-went g c = λ honest _.
+    let r = ram c.args.self.now in
+    let t = state c.take_row.new.self in
+    let before = g.N.PageSource.flash c.args.self.now.nand in
+    let after = g.N.PageSource.flash c.program_record.new.nand in
+    let is = taken_by r c.of.result c.in-Some.row c.split_row-block.result.0 t c.requires.safe.memory c.in-Some.ensures.some c.split_row-block.ensures.block_is in
+    let step = at_outcome (λ o. IsStep c.in-Some.row o before after) c.in-Ok-Passed.field-0 Passed (c.in-Ok-Passed.ensures.step honest) c.in-Ok-Passed.field-0-is in
+    passed_went c.of.result c.split_row-block.result.0 c.in-Some.row r t c.requires.safe.memory is _ (record { geometry = refl; directory = refl; mapping = refl; next = refl }) before after c.args.old_row c.count_move.ensures c.requires.old_row step
+
+pub returns-in-Ok-Passed-clause-truth : goal.returns-in-Ok-Passed-clause-truth
+returns-in-Ok-Passed-clause-truth g c = λ honest may.
+    let r = ram c.args.self.now in
+    let t = state c.take_row.new.self in
+    let before = g.N.PageSource.flash c.args.self.now.nand in
+    let after = g.N.PageSource.flash c.program_record.new.nand in
+    let b = c.split_row-block.result.0 in
+    let row = c.in-Some.row in
+    let written = next_record c.args.kind c.args.number c.args.self.now.next c.wear.result in
+    let is = taken_by r c.of.result row b t c.requires.safe.memory c.in-Some.ensures.some c.split_row-block.ensures.block_is in
+    let step = at_outcome (λ o. IsStep row o before after) c.in-Ok-Passed.field-0 Passed (c.in-Ok-Passed.ensures.step honest) c.in-Ok-Passed.field-0-is in
+    let can = may_program c.of.result b row r t c.requires.safe.memory is c.args.kind c.args.number c.args.old_row c.args.self.now.page.body.items before.image may c.requires.key c.wear.result in
+    let means = at_outcome (λ o. ProgramMeans r.geometry written row c.deref.result.now (is_passed o) before.image after.image) c.in-Ok-Passed.field-0 Passed (c.in-Ok-Passed.ensures.means honest can) c.in-Ok-Passed.field-0-is in
+    let writes = subst (λ bytes. Writes r.geometry written row bytes before.image after.image) c.deref.ensures.value means in
+    let whole = c.in-Ok-Passed.ensures.image honest in
+    passed_put c.of.result b row r t c.requires.safe.memory is c.args.kind c.args.number c.args.old_row c.args.self.now.page.body.items before.image may c.requires.key _ (record { geometry = refl; directory = refl; mapping = refl; next = refl }) after.image whole (step_others row Passed before after step) c.wear.result (c.wear.ensures.is ∙ ap (λ x. wear_at x b) c.table.ensures) c.count_move.ensures c.requires.old_row writes
+
+-- ---- it failed
+
+pub returns-in-Ok-Failed-clause-safe : goal.returns-in-Ok-Failed-clause-safe
+returns-in-Ok-Failed-clause-safe g c =
+    let r = ram c.args.self.now in
+    let t = state c.take_row.new.self in
+    let is = taken_by r c.of.result c.in-Some.row c.split_row-block.result.0 t c.requires.safe.memory c.in-Some.ensures.some c.split_row-block.ensures.block_is in
+    record {
+      memory = failed_ram c.of.result c.split_row-block.result.0 c.in-Some.row r t c.requires.safe.memory is _ (record { geometry = refl; directory = refl; mapping = refl; next = refl }) c.retire.ensures.is c.requires.next;
+      geometry = c.program_record.ensures.geometry ∙ c.requires.safe.geometry;
+      page = buffer_spare c.args.self.now.geometry c.args.self.now.page c.program_record.new.spare c.requires.safe.page;
+      scratch = c.requires.safe.scratch;
+      idle = c.requires.safe.idle;
+    }
+
+pub returns-in-Ok-Failed-clause-goes : goal.returns-in-Ok-Failed-clause-goes
+returns-in-Ok-Failed-clause-goes g c =
+    let r = ram c.args.self.now in
+    let t = state c.take_row.new.self in
+    let is = taken_by r c.of.result c.in-Some.row c.split_row-block.result.0 t c.requires.safe.memory c.in-Some.ensures.some c.split_row-block.ensures.block_is in
+    failed_goes c.of.result c.split_row-block.result.0 c.in-Some.row r t c.requires.safe.memory is _ (record { geometry = refl; directory = refl; mapping = refl; next = refl }) c.retire.ensures.is
+
+pub returns-in-Ok-Failed-clause-cost : goal.returns-in-Ok-Failed-clause-cost
+returns-in-Ok-Failed-clause-cost g c =
+    let r = ram c.args.self.now in
+    let t = state c.take_row.new.self in
+    let is = taken_by r c.of.result c.in-Some.row c.split_row-block.result.0 t c.requires.safe.memory c.in-Some.ensures.some c.split_row-block.ensures.block_is in
+    failed_cost c.of.result c.split_row-block.result.0 c.in-Some.row r t c.requires.safe.memory is _ (record { geometry = refl; directory = refl; mapping = refl; next = refl }) (stream_of c.args.kind) c.of.ensures c.retire.ensures.is
+
+pub returns-in-Ok-Failed-clause-went : goal.returns-in-Ok-Failed-clause-went
+returns-in-Ok-Failed-clause-went g c = λ honest _.
+    let r = ram c.args.self.now in
+    let t = state c.take_row.new.self in
+    let before = g.N.PageSource.flash c.args.self.now.nand in
+    let after = g.N.PageSource.flash c.program_record.new.nand in
+    let is = taken_by r c.of.result c.in-Some.row c.split_row-block.result.0 t c.requires.safe.memory c.in-Some.ensures.some c.split_row-block.ensures.block_is in
+    let step = at_outcome (λ o. IsStep c.in-Some.row o before after) c.in-Ok-Failed.field-0 Failed (c.in-Ok-Failed.ensures.step honest) c.in-Ok-Failed.field-0-is in
+    failed_went c.of.result c.split_row-block.result.0 c.in-Some.row r t c.requires.safe.memory is _ (record { geometry = refl; directory = refl; mapping = refl; next = refl }) before after c.retire.ensures.is step
+
+pub returns-in-Ok-Failed-clause-truth : goal.returns-in-Ok-Failed-clause-truth
+returns-in-Ok-Failed-clause-truth g c = λ honest may.
+    let r = ram c.args.self.now in
+    let t = state c.take_row.new.self in
+    let before = g.N.PageSource.flash c.args.self.now.nand in
+    let after = g.N.PageSource.flash c.program_record.new.nand in
+    let b = c.split_row-block.result.0 in
+    let row = c.in-Some.row in
+    let written = next_record c.args.kind c.args.number c.args.self.now.next c.wear.result in
+    let is = taken_by r c.of.result row b t c.requires.safe.memory c.in-Some.ensures.some c.split_row-block.ensures.block_is in
+    let step = at_outcome (λ o. IsStep row o before after) c.in-Ok-Failed.field-0 Failed (c.in-Ok-Failed.ensures.step honest) c.in-Ok-Failed.field-0-is in
+    let can = may_program c.of.result b row r t c.requires.safe.memory is c.args.kind c.args.number c.args.old_row c.args.self.now.page.body.items before.image may c.requires.key c.wear.result in
+    let keeps = at_outcome (λ o. ProgramMeans r.geometry written row c.deref.result.now (is_passed o) before.image after.image) c.in-Ok-Failed.field-0 Failed (c.in-Ok-Failed.ensures.means honest can) c.in-Ok-Failed.field-0-is in
+    let whole = c.in-Ok-Failed.ensures.image honest in
+    failed_kept c.of.result b row r t c.requires.safe.memory is c.args.kind c.args.number c.args.old_row c.args.self.now.page.body.items before.image may c.requires.key _ (record { geometry = refl; directory = refl; mapping = refl; next = refl }) after.image whole (step_others row Failed before after step) c.retire.ensures.is keeps
+
+-- ---- the die answered nothing
+
+pub returns-in-Err-clause-safe : goal.returns-in-Err-clause-safe
+returns-in-Err-clause-safe g c =
+    let r = ram c.args.self.now in
+    let t = state c.take_row.new.self in
+    let is = taken_by r c.of.result c.in-Some.row c.split_row-block.result.0 t c.requires.safe.memory c.in-Some.ensures.some c.split_row-block.ensures.block_is in
+    record {
+      memory = asked_ram c.of.result c.split_row-block.result.0 c.in-Some.row r t c.requires.safe.memory is _ (record { geometry = refl; directory = refl; mapping = refl; next = refl }) refl c.requires.next;
+      geometry = c.program_record.ensures.geometry ∙ c.requires.safe.geometry;
+      page = buffer_spare c.args.self.now.geometry c.args.self.now.page c.program_record.new.spare c.requires.safe.page;
+      scratch = c.requires.safe.scratch;
+      idle = c.requires.safe.idle;
+    }
+
+pub returns-in-Err-clause-goes : goal.returns-in-Err-clause-goes
+returns-in-Err-clause-goes g c =
+    let r = ram c.args.self.now in
+    let t = state c.take_row.new.self in
+    let is = taken_by r c.of.result c.in-Some.row c.split_row-block.result.0 t c.requires.safe.memory c.in-Some.ensures.some c.split_row-block.ensures.block_is in
+    asked_goes c.of.result c.split_row-block.result.0 c.in-Some.row r t c.requires.safe.memory is _ (record { geometry = refl; directory = refl; mapping = refl; next = refl }) refl

@@ -1,0 +1,10 @@
+-- The faults of an engine's calls by their numbers.
+use Rattle.std.specs.Prelude.{ℕ}
+use Rattle.collection.specs.declared.fault.WriteFault.{WriteFault}
+use Rattle.collection.specs.declared.fault.WriteFault.TheVariants.{ReadOnly, SequenceSpent, Damaged, Bus}
+
+abbrev pub number_of : WriteFault → ℕ
+number_of ReadOnly = 2
+number_of SequenceSpent = 3
+number_of Damaged = 5
+number_of Bus = 6

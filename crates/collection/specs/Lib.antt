@@ -1,0 +1,11 @@
+pub mod Faults
+pub mod Pages
+pub mod State
+pub mod Safe
+pub mod Maps
+pub mod Looks
+pub mod Truth
+pub mod Cost
+pub mod Log
+pub mod Results
+pub mod Settle

@@ -1,0 +1,26 @@
+-- What went on at the die: a log of operations, and the blocks by its account.
+use Rattle.std.specs.Prelude.{◌≡◌, ℕ, ◌+◌, ◌<◌, not, true, List, length}
+use Rattle.page_layout.specs.Flash.{Flash, Operation, Leads}
+use Rattle.bad_blocks.specs.Table.{is_good_at}
+use Rattle.allocation.specs.State.{State, pointer_at}
+use Rattle.promises.specs.Log.{programs_in}
+use Rattle.promises.specs.Legal.{Account, account_at, accounted_all, LegalFrom}
+use Rattle.collection.specs.State.{Ram}
+
+-- the accounts of a log bar just the bad blocks, and of the good ones the next page is the memory's
+pub record IsAccounted (accounts : List Account) (s : State) : Type 0 where
+  pub size : length accounts ≡ s.geometry.blocks
+  pub barred : (b : ℕ) → b < s.geometry.blocks → (account_at accounts b).barred ≡ not (is_good_at s.table b)
+  pub next : (b : ℕ) → b < s.geometry.blocks → is_good_at s.table b ≡ true → (account_at accounts b).next ≡ pointer_at s b
+
+-- a log that is legal by accounts that agree with the memory leaves accounts that agree with it
+pub record Follows (pages : ℕ) (log : List Operation) (old new : State) : Type 0 where
+  pub legal : (accounts : List Account) → IsAccounted accounts old → LegalFrom pages accounts log
+  pub accounted : (accounts : List Account) → IsAccounted accounts old → IsAccounted (accounted_all pages accounts log) new
+
+-- There is such a log from the one state of the die to the other, and each program in it took the next sequence.
+pub record Went (old : Ram) (before : Flash) (new : Ram) (after : Flash) : Type 0 where
+  pub log : List Operation
+  pub leads : Leads before log after
+  pub follows : Follows old.geometry.pages log old.blocks new.blocks
+  pub next : new.next ≡ old.next + programs_in log

@@ -1,0 +1,62 @@
+//! The engine's memory.
+use crate::fault::WriteFault;
+use allocation::Blocks;
+use mapping_cache::Mapping;
+use onfi_cycles::Nand;
+use page_layout::geometry::Geometry;
+use translation_pages::Directory;
+
+mod begin;
+mod cache;
+mod entries;
+mod gate;
+mod look;
+mod put;
+mod room;
+mod settle;
+mod steps;
+mod write;
+mod write_back;
+
+/// The data area and the spare area of one page.
+#[derive(Drop)]
+pub struct Buffer {
+    /// The data area.
+    pub body: Vec<u8>,
+    /// The spare area.
+    pub spare: Vec<u8>,
+}
+
+/// A die with what is known of it in memory: where the newest pages are, and what each block may be
+/// used for.
+///
+/// Contracts see the memory as a `Ram`, and the die by its `Flash`. A call that was refused is
+/// answered by the same fault ever after.
+///
+/// Source: the DFTL paper, for the directory, the cached mapping table and the two streams; the rest
+/// is this project's.
+#[derive(Drop)]
+pub struct Engine<N: Nand> {
+    /// The die.
+    pub nand: N,
+    /// Its geometry.
+    pub geometry: Geometry,
+    /// What each block may be used for.
+    pub blocks: Blocks,
+    /// The rows of the newest translation pages and table pages.
+    pub directory: Directory,
+    /// The rows of cached and of moved sectors.
+    pub mapping: Mapping,
+    /// The sequence of the page that is programmed next.
+    pub next: u64,
+    /// The fault that every call answers again.
+    pub fault: Option<WriteFault>,
+    /// The page that is programmed next.
+    pub page: Buffer,
+    /// A page that is looked at.
+    pub scratch: Buffer,
+    /// The block that is being collected from turn to turn.
+    pub pinned: Option<u32>,
+    /// For each translation page, whether a collection has to write it.
+    pub marks: Vec<bool>,
+}

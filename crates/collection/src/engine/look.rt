@@ -1,0 +1,218 @@
+//! Where the newest page of a sector is, and what it holds.
+ghost use Rattle.std.specs.Prelude.{◌≡◌, ◌≢◌, ℕ, ◌+◌, ◌*◌, ◌<◌, ◌≤◌, true, length, replicate, slice_get, Some, None, Err, IfOk, IfErr, OnOk, OnErr, MatchResult};
+ghost use Rattle.std.specs.Option.{ForSome};
+ghost use Rattle.page_layout.specs.Page.{page};
+ghost use Rattle.page_layout.specs.Counter.{counted, HasRisen};
+ghost use Rattle.page_layout.specs.Geometry.{row_count};
+ghost use Rattle.page_layout.specs.declared.record.Key.TheVariants.{Sector};
+ghost use Rattle.mapping_cache.specs.Mapping.{known};
+ghost use Rattle.translation_pages.specs.TranslationPage.{entry_at};
+ghost use Rattle.collection.specs.Pages.{newest_row};
+ghost use Rattle.collection.specs.Safe.{IsSafe, IsBuffer, ram, image_in};
+ghost use Rattle.collection.specs.Truth.{IsTrue};
+ghost use Rattle.collection.specs.Looks.{IsPageOf, IsRead, GivesSector, IsReadFault};
+
+use super::steps::read_sound;
+use super::{Buffer, Engine};
+use crate::fault::WriteFault;
+use onfi_cycles::Nand;
+use page_layout::geometry::Geometry;
+use page_layout::record::{Key, Kind, Record, sequence_of};
+use translation_pages::entry;
+
+// Reads the page of a key into a buffer, and answers its record. A page that isn't sound or not of
+// the key is damaged.
+pub(crate) fn read_of<N: Nand>(
+    nand: &mut N,
+    geometry: &Geometry,
+    key: Key,
+    row: u32,
+    buffer: &mut Buffer,
+) -> Result<Record, WriteFault>
+    requires row_in { row < row_count geometry.now }
+    requires same_geometry { (N.flash nand.old).geometry ≡ geometry.now }
+    requires buffer { IsBuffer geometry.now buffer.old }
+    ensures buffer { IsBuffer geometry.now buffer.new }
+    ensures geometry { (N.flash nand.new).geometry ≡ (N.flash nand.old).geometry }
+    ensures honest { N.honest nand.new ≡ N.honest nand.old }
+    ensures reads { N.reads nand.new ≡ counted (N.reads nand.old) }
+    ensures programs { N.programs nand.new ≡ N.programs nand.old }
+    ensures erases { N.erases nand.new ≡ N.erases nand.old }
+    ensures failed { N.failed nand.old ≤ N.failed nand.new }
+    ensures faults { IfErr result IsReadFault }
+    ensures rose { result ≡ Err WriteFault.Bus → HasRisen (N.failed nand.old) (N.failed nand.new) }
+
+    // Whatever the die does, what is in the buffer is a sound page of the key.
+    ensures checked { IfOk result (λ found. IsPageOf key found (page buffer.new.body.items buffer.new.spare.items)) }
+    ensures same { N.honest nand.old ≡ true → result ≢ Err WriteFault.Bus → N.flash nand.new ≡ N.flash nand.old }
+    ensures page { N.honest nand.old ≡ true → OnOk result
+        (slice_get (N.flash nand.old).image row ≡ Some (page buffer.new.body.items buffer.new.spare.items)) }
+    ensures undamaged { N.honest nand.old ≡ true → newest_row (N.flash nand.old).image key ≡ Some row →
+        IfErr result (λ fault. fault ≡ WriteFault.Bus) }
+{
+    match read_sound(nand, geometry, row, &mut buffer.body, &mut buffer.spare) {
+        Err(_) => Err(WriteFault::Bus),
+        Ok(None) => Err(WriteFault::Damaged),
+        Ok(Some(found)) if sequence_of(key, Some(found)).is_none() => Err(WriteFault::Damaged),
+        Ok(Some(found)) => Ok(found),
+    }
+}
+
+// The row in an entry of a translation page, where it is one of the die.
+fn checked_entry(geometry: &Geometry, body: &[u8], i: u32) -> Result<Option<u32>, WriteFault>
+    requires { 4 * i + 4 ≤ length body.now }
+    ensures row { IfOk result (λ row. ForSome row (λ r. r < row_count geometry.now)) }
+    ensures entry { IfOk result (λ row. row ≡ entry_at body.now i) }
+    ensures damaged { IfErr result (λ fault. fault ≡ WriteFault.Damaged) }
+    ensures undamaged { ForSome (entry_at body.now i) (λ r. r < row_count geometry.now) → OnErr result ⊥ }
+{
+    let row = entry(body, i);
+    match row {
+        Some(r) if !geometry.has_row(r) => Err(WriteFault::Damaged),
+        _ => Ok(row),
+    }
+}
+
+// Makes all bytes 00h.
+pub(crate) fn clear(out: &mut [u8])
+    ensures { out.new ≡ replicate (length out.old) 0 }
+{
+    out.fill(0);
+}
+
+// Takes the bytes of a sector out of its page: a trim has none.
+fn copy_sector(kind: Kind, body: &[u8], out: &mut [u8])
+    requires { length body.now ≡ length out.old }
+    ensures sector { kind ≡ Kind.Sector → out.new ≡ body.now }
+    ensures others { kind ≢ Kind.Sector → out.new ≡ replicate (length out.old) 0 }
+{
+    match kind {
+        Kind::Sector => out.copy_from_slice(body),
+        Kind::Trim | Kind::Translation | Kind::Table => clear(out),
+    }
+}
+
+impl<N: Nand> Engine<N> {
+    /// The row of a sector's newest page, or `None` where the sector was never written. It is
+    /// answered from memory where the cached or the moved sectors have it, and else after one page
+    /// read; memory stays as it is, the order of the cache too.
+    ///
+    /// # Errors
+    ///
+    /// `Bus` where the die gives no page, and `Damaged` where the translation page isn't sound or
+    /// names a row that the die doesn't have; an honest die never does the latter.
+    pub fn row_of_sector(&mut self, sector: u32) -> Result<Option<u32>, WriteFault>
+        requires safe { IsSafe N.flash self.old }
+        requires sector { sector < self.old.geometry.sectors }
+        ensures safe { IsSafe N.flash self.new }
+        ensures memory { ram self.new ≡ ram self.old }
+        ensures page { self.new.page ≡ self.old.page }
+        ensures honest { N.honest self.new.nand ≡ N.honest self.old.nand }
+        ensures reads { N.reads self.new.nand ≤ N.reads self.old.nand + 1 }
+        ensures programs { N.programs self.new.nand ≡ N.programs self.old.nand }
+        ensures erases { N.erases self.new.nand ≡ N.erases self.old.nand }
+        ensures failed { N.failed self.old.nand ≤ N.failed self.new.nand }
+        ensures faults { IfErr result IsReadFault }
+        ensures rose { result ≡ Err WriteFault.Bus → HasRisen (N.failed self.old.nand) (N.failed self.new.nand) }
+        ensures row { IfOk result (λ row. ForSome row (λ r. r < row_count self.old.geometry)) }
+        ensures same { N.honest self.old.nand ≡ true → result ≢ Err WriteFault.Bus → N.flash self.new.nand ≡ N.flash self.old.nand }
+        ensures truth { N.honest self.old.nand ≡ true → IsTrue None (ram self.old) (image_in N.flash self.old) →
+            MatchResult result
+            (λ row. row ≡ newest_row (image_in N.flash self.old) (Sector sector))
+            (λ fault. fault ≡ WriteFault.Bus) }
+    {
+        let known = self.mapping.peek(sector);
+        match known {
+            Some(row) => Ok(row),
+            None => self.row_on_page(sector),
+        }
+    }
+
+    // The row that the newest translation page gives for a sector that the mapping doesn't know.
+    fn row_on_page(&mut self, sector: u32) -> Result<Option<u32>, WriteFault>
+        requires safe { IsSafe N.flash self.old }
+        requires sector { sector < self.old.geometry.sectors }
+        requires unknown { known self.old.mapping sector ≡ None }
+        ensures safe { IsSafe N.flash self.new }
+        ensures memory { ram self.new ≡ ram self.old }
+        ensures page { self.new.page ≡ self.old.page }
+        ensures honest { N.honest self.new.nand ≡ N.honest self.old.nand }
+        ensures reads { N.reads self.new.nand ≤ N.reads self.old.nand + 1 }
+        ensures programs { N.programs self.new.nand ≡ N.programs self.old.nand }
+        ensures erases { N.erases self.new.nand ≡ N.erases self.old.nand }
+        ensures failed { N.failed self.old.nand ≤ N.failed self.new.nand }
+        ensures faults { IfErr result IsReadFault }
+        ensures rose { result ≡ Err WriteFault.Bus → HasRisen (N.failed self.old.nand) (N.failed self.new.nand) }
+        ensures row { IfOk result (λ row. ForSome row (λ r. r < row_count self.old.geometry)) }
+        ensures same { N.honest self.old.nand ≡ true → result ≢ Err WriteFault.Bus → N.flash self.new.nand ≡ N.flash self.old.nand }
+        ensures truth { N.honest self.old.nand ≡ true → IsTrue None (ram self.old) (image_in N.flash self.old) →
+            MatchResult result
+            (λ row. row ≡ newest_row (image_in N.flash self.old) (Sector sector))
+            (λ fault. fault ≡ WriteFault.Bus) }
+    {
+        let entries = self.geometry.entries();
+        let t = sector / entries;
+        let found = self.directory.row_of(t);
+        let Some(at) = found else {
+            return Ok(None);
+        };
+        read_of(
+            &mut self.nand,
+            &self.geometry,
+            Key::Translation(t),
+            at,
+            &mut self.scratch,
+        )?;
+        checked_entry(&self.geometry, &self.scratch.body, sector % entries)
+    }
+
+    /// Reads a sector: `out`, of one data area, gets its bytes, or 00h bytes where it was never
+    /// written or was trimmed. It answers the row of the sector's newest page, if there is one, and
+    /// makes at most two page reads; it programs and erases nothing, and memory stays as it is.
+    ///
+    /// Whatever the die does, what it gives is zeros or the data area of the page in the page buffer,
+    /// which is sound and of the sector.
+    ///
+    /// # Errors
+    ///
+    /// `Bus` and `Damaged` as `row_of_sector`; `Damaged` also where the sector's page isn't sound or
+    /// not of the sector. `out` then stays.
+    pub fn read_sector(&mut self, sector: u32, out: &mut [u8]) -> Result<Option<u32>, WriteFault>
+        requires safe { IsSafe N.flash self.old }
+        requires sector { sector < self.old.geometry.sectors }
+        requires whole { length out.old ≡ self.old.geometry.data_bytes }
+        ensures safe { IsSafe N.flash self.new }
+        ensures memory { ram self.new ≡ ram self.old }
+        ensures honest { N.honest self.new.nand ≡ N.honest self.old.nand }
+        ensures reads { N.reads self.new.nand ≤ N.reads self.old.nand + 2 }
+        ensures programs { N.programs self.new.nand ≡ N.programs self.old.nand }
+        ensures erases { N.erases self.new.nand ≡ N.erases self.old.nand }
+        ensures failed { N.failed self.old.nand ≤ N.failed self.new.nand }
+        ensures faults { IfErr result IsReadFault }
+        ensures rose { result ≡ Err WriteFault.Bus → HasRisen (N.failed self.old.nand) (N.failed self.new.nand) }
+        ensures row { IfOk result (λ row. ForSome row (λ r. r < row_count self.old.geometry)) }
+        ensures refused { OnErr result (out.new ≡ out.old) }
+        ensures checked { OnOk result (GivesSector self.old.geometry sector
+            (page self.new.page.body.items self.new.page.spare.items) out.new) }
+        ensures same { N.honest self.old.nand ≡ true → result ≢ Err WriteFault.Bus → N.flash self.new.nand ≡ N.flash self.old.nand }
+        ensures truth { N.honest self.old.nand ≡ true → IsTrue None (ram self.old) (image_in N.flash self.old) →
+            MatchResult result
+            (λ row. IsRead sector row out.new self.old.geometry (image_in N.flash self.old))
+            (λ fault. fault ≡ WriteFault.Bus) }
+    {
+        let found = self.row_of_sector(sector)?;
+        let Some(row) = found else {
+            clear(out);
+            return Ok(None);
+        };
+        let written = read_of(
+            &mut self.nand,
+            &self.geometry,
+            Key::Sector(sector),
+            row,
+            &mut self.page,
+        )?;
+        copy_sector(written.kind, &self.page.body, out);
+        Ok(found)
+    }
+}

@@ -1,0 +1,72 @@
+//! Single operations of the die.
+ghost use Rattle.std.specs.Prelude.{◌≡◌, ◌≤◌, ◌<◌, true, length, slice_get, get_or, Some, None, IfOk, OnOk, OnErr};
+ghost use Rattle.page_layout.specs.Page.{page, IsImage};
+ghost use Rattle.page_layout.specs.Counter.{counted, HasRisen};
+ghost use Rattle.page_layout.specs.Geometry.{row_count};
+ghost use Rattle.page_layout.specs.Sound.{record_of};
+ghost use Rattle.page_layout.specs.Change.{ProgramMeans};
+ghost use Rattle.onfi_cycles.specs.Outcomes.{is_passed};
+ghost use Rattle.collection.specs.Results.{CanProgram, IsStep};
+
+use onfi_cycles::{BusFault, Nand, Outcome};
+use page_layout::geometry::Geometry;
+use page_layout::record::{Record, read_record, write_record};
+use page_layout::source::SourceFault;
+
+/// Programs a page with a record. Its spare area is written into `spare`.
+pub(crate) fn program_record<N: Nand>(
+    nand: &mut N,
+    geometry: &Geometry,
+    row: u32,
+    written: &Record,
+    body: &[u8],
+    spare: &mut [u8],
+) -> Result<Outcome, BusFault>
+    requires row_in { row < row_count geometry.now }
+    requires same_geometry { (N.flash nand.old).geometry ≡ geometry.now }
+    requires body_whole { length body.now ≡ geometry.now.data_bytes }
+    requires spare_whole { length spare.old ≡ geometry.now.spare_bytes }
+    ensures geometry { (N.flash nand.new).geometry ≡ (N.flash nand.old).geometry }
+    ensures honest { N.honest nand.new ≡ N.honest nand.old }
+    ensures reads { N.reads nand.new ≡ N.reads nand.old }
+    ensures erases { N.erases nand.new ≡ N.erases nand.old }
+    ensures failed { N.failed nand.old ≤ N.failed nand.new }
+    ensures rose { OnErr result (HasRisen (N.failed nand.old) (N.failed nand.new)) }
+    ensures step { N.honest nand.old ≡ true →
+        IfOk result (λ outcome. IsStep row outcome (N.flash nand.old) (N.flash nand.new)) }
+    ensures image { N.honest nand.old ≡ true → OnOk result (IsImage geometry.now (N.flash nand.new).image) }
+    ensures means { N.honest nand.old ≡ true → CanProgram geometry.now row written.now (N.flash nand.old).image →
+        IfOk result (λ outcome. ProgramMeans geometry.now written.now row body.now (is_passed outcome)
+        (N.flash nand.old).image (N.flash nand.new).image) }
+{
+    write_record(geometry, written, body, spare);
+    nand.program(row, body, spare)
+}
+
+/// Reads a page, and finds the record with which it is sound.
+pub(crate) fn read_sound<N: Nand>(
+    nand: &mut N,
+    geometry: &Geometry,
+    row: u32,
+    body: &mut [u8],
+    spare: &mut [u8],
+) -> Result<Option<Record>, SourceFault>
+    requires row_in { row < row_count geometry.now }
+    requires same_geometry { (N.flash nand.old).geometry ≡ geometry.now }
+    requires body_whole { length body.old ≡ geometry.now.data_bytes }
+    requires spare_whole { length spare.old ≡ geometry.now.spare_bytes }
+    ensures geometry { (N.flash nand.new).geometry ≡ (N.flash nand.old).geometry }
+    ensures honest { N.honest nand.new ≡ N.honest nand.old }
+    ensures reads { N.reads nand.new ≡ counted (N.reads nand.old) }
+    ensures programs { N.programs nand.new ≡ N.programs nand.old }
+    ensures erases { N.erases nand.new ≡ N.erases nand.old }
+    ensures failed { N.failed nand.old ≤ N.failed nand.new }
+    ensures rose { OnErr result (HasRisen (N.failed nand.old) (N.failed nand.new)) }
+    ensures same { N.honest nand.old ≡ true → OnOk result (N.flash nand.new ≡ N.flash nand.old) }
+    ensures record { IfOk result (λ found. found ≡ record_of (page body.new spare.new)) }
+    ensures page { N.honest nand.old ≡ true →
+        OnOk result (slice_get (N.flash nand.old).image row ≡ Some (page body.new spare.new)) }
+{
+    nand.read_page(row, body, spare)?;
+    Ok(read_record(geometry, body, spare))
+}

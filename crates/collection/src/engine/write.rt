@@ -1,0 +1,101 @@
+//! A cached sector is written or trimmed.
+ghost use Rattle.std.specs.Prelude.{◌≡◌, ◌≢◌, ◌≤◌, ◌<◌, true, length, Some, None, Err, IsSome, MatchResult};
+ghost use Rattle.std.specs.Option.{ForSome};
+ghost use Rattle.std.specs.Map.{keys_of};
+ghost use Rattle.page_layout.specs.Counter.{HasRisen};
+ghost use Rattle.page_layout.specs.Array.{zeros};
+ghost use Rattle.mapping_cache.specs.Mapping.{slot_of};
+ghost use Rattle.budget.specs.declared.stream.Stream.TheVariants.{Data};
+ghost use Rattle.collection.specs.Safe.{IsSafe, ram, image_in};
+ghost use Rattle.collection.specs.Truth.{IsTrue};
+ghost use Rattle.collection.specs.Cost.{PageCosts};
+ghost use Rattle.collection.specs.Log.{Went};
+ghost use Rattle.collection.specs.Settle.{HasNoMore};
+ghost use Rattle.collection.specs.Results.{IsWritten, Refused, Goes, fault_after};
+
+use super::Engine;
+use super::look::clear;
+use crate::fault::WriteFault;
+use onfi_cycles::Nand;
+use page_layout::record::Kind;
+
+impl<N: Nand> Engine<N> {
+    /// Writes a cached sector: programs a page of it with this data area, and sets its cached row,
+    /// dirty. The sector then holds these bytes, and all others hold what they held. The sectors that
+    /// are cached stay, and their order.
+    ///
+    /// # Errors
+    ///
+    /// Those of `put`, as there: after `ReadOnly` and `SequenceSpent` the array is as it was.
+    ///
+    /// It takes no memory. (This project.)
+    pub fn write_sector(&mut self, sector: u32, body: &[u8]) -> Result<(), WriteFault>
+        requires safe { IsSafe N.flash self.old }
+        requires sector { sector < self.old.geometry.sectors }
+        requires cached { IsSome (slot_of self.old.mapping sector) }
+        requires body { length body.now ≡ self.old.geometry.data_bytes }
+        ensures safe { IsSafe N.flash self.new }
+        ensures standing { ForSome self.old.fault (λ fault. (result ≡ Err fault) × (self.new ≡ self.old)) }
+        ensures fault { self.new.fault ≡ fault_after self.old.fault result }
+        ensures goes { Goes (ram self.old) (ram self.new) }
+        ensures honest { N.honest self.new.nand ≡ N.honest self.old.nand }
+        ensures reads { N.reads self.new.nand ≡ N.reads self.old.nand }
+        ensures erases { N.erases self.new.nand ≡ N.erases self.old.nand }
+        ensures failed { N.failed self.old.nand ≤ N.failed self.new.nand }
+        ensures rose { self.old.fault ≡ None → result ≡ Err WriteFault.Bus → HasRisen (N.failed self.old.nand) (N.failed self.new.nand) }
+        ensures keys { keys_of self.new.mapping.cached ≡ keys_of self.old.mapping.cached }
+        ensures no_more { HasNoMore self.old.mapping self.new.mapping }
+        ensures page { self.old.fault ≡ None → self.new.page.body.items ≡ body.now }
+        ensures cost { self.old.fault ≡ None → PageCosts Data (ram self.old) (ram self.new) result }
+        ensures went { N.honest self.old.nand ≡ true → result ≢ Err WriteFault.Bus →
+            Went (ram self.old) (N.flash self.old.nand) (ram self.new) (N.flash self.new.nand) }
+        ensures truth { N.honest self.old.nand ≡ true → self.old.fault ≡ None → IsTrue None (ram self.old) (image_in N.flash self.old) →
+            MatchResult result
+            (λ _. IsWritten Kind.Sector sector body.now (ram self.old) (image_in N.flash self.old) (ram self.new) (image_in N.flash self.new))
+            (Refused (ram self.old) (image_in N.flash self.old) (ram self.new) (image_in N.flash self.new)) }
+    {
+        self.standing()?;
+        self.page.body.copy_from_slice(body);
+        let answer = self.append(Kind::Sector, sector);
+        self.noted(answer)
+    }
+
+    /// Trims a cached sector: programs a trim page of it, which has a data area of 00h bytes, and
+    /// sets its cached row, dirty. The sector then reads as 00h bytes, and all others hold what they
+    /// held. The sectors that are cached stay, and their order.
+    ///
+    /// # Errors
+    ///
+    /// Those of `put`, as there: after `ReadOnly` and `SequenceSpent` the array is as it was.
+    ///
+    /// It takes no memory. (This project.)
+    pub fn trim_sector(&mut self, sector: u32) -> Result<(), WriteFault>
+        requires safe { IsSafe N.flash self.old }
+        requires sector { sector < self.old.geometry.sectors }
+        requires cached { IsSome (slot_of self.old.mapping sector) }
+        ensures safe { IsSafe N.flash self.new }
+        ensures standing { ForSome self.old.fault (λ fault. (result ≡ Err fault) × (self.new ≡ self.old)) }
+        ensures fault { self.new.fault ≡ fault_after self.old.fault result }
+        ensures goes { Goes (ram self.old) (ram self.new) }
+        ensures honest { N.honest self.new.nand ≡ N.honest self.old.nand }
+        ensures reads { N.reads self.new.nand ≡ N.reads self.old.nand }
+        ensures erases { N.erases self.new.nand ≡ N.erases self.old.nand }
+        ensures failed { N.failed self.old.nand ≤ N.failed self.new.nand }
+        ensures rose { self.old.fault ≡ None → result ≡ Err WriteFault.Bus → HasRisen (N.failed self.old.nand) (N.failed self.new.nand) }
+        ensures keys { keys_of self.new.mapping.cached ≡ keys_of self.old.mapping.cached }
+        ensures no_more { HasNoMore self.old.mapping self.new.mapping }
+        ensures page { self.old.fault ≡ None → self.new.page.body.items ≡ zeros self.old.geometry }
+        ensures cost { self.old.fault ≡ None → PageCosts Data (ram self.old) (ram self.new) result }
+        ensures went { N.honest self.old.nand ≡ true → result ≢ Err WriteFault.Bus →
+            Went (ram self.old) (N.flash self.old.nand) (ram self.new) (N.flash self.new.nand) }
+        ensures truth { N.honest self.old.nand ≡ true → self.old.fault ≡ None → IsTrue None (ram self.old) (image_in N.flash self.old) →
+            MatchResult result
+            (λ _. IsWritten Kind.Trim sector (zeros self.old.geometry) (ram self.old) (image_in N.flash self.old) (ram self.new) (image_in N.flash self.new))
+            (Refused (ram self.old) (image_in N.flash self.old) (ram self.new) (image_in N.flash self.new)) }
+    {
+        self.standing()?;
+        clear(&mut self.page.body);
+        let answer = self.append(Kind::Trim, sector);
+        self.noted(answer)
+    }
+}

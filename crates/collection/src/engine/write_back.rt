@@ -1,0 +1,170 @@
+//! Translation pages are brought up to date.
+ghost use Rattle.std.specs.Prelude.{◌≡◌, ◌≢◌, ℕ, ◌+◌, ◌*◌, ◌/◌, ◌<◌, ◌≤◌, true, Some, None, Ok, Err, IfErr, OnOk, OnErr, MatchResult};
+ghost use Rattle.std.specs.Option.{ForSome};
+ghost use Rattle.std.specs.Map.{keys_of};
+ghost use Rattle.page_layout.specs.Counter.{HasRisen};
+ghost use Rattle.page_layout.specs.Geometry.{row_count, translation_pages};
+ghost use Rattle.page_layout.specs.declared.record.Key.TheVariants.{Translation};
+ghost use Rattle.mapping_cache.specs.Mapping.{per_page, cleaned};
+ghost use Rattle.collection.specs.Pages.{newest_row};
+ghost use Rattle.collection.specs.Safe.{IsSafe, ram, image_in};
+ghost use Rattle.collection.specs.Truth.{IsTrue};
+ghost use Rattle.collection.specs.Cost.{WriteBackCosts};
+ghost use Rattle.collection.specs.Log.{Went};
+ghost use Rattle.collection.specs.Looks.{IsLoaded, IsFilled, IsPadded, IsReadFault};
+ghost use Rattle.collection.specs.Settle.{Cleans, HasNoMore};
+ghost use Rattle.collection.specs.Results.{IsWrittenBack, Refused, Goes, fault_after};
+
+use super::Engine;
+use super::entries::{clear_entries, fill_entries};
+use super::look::read_of;
+use crate::fault::WriteFault;
+use onfi_cycles::Nand;
+use page_layout::record::{Key, Kind};
+
+impl<N: Nand> Engine<N> {
+    // Takes translation page `t` as it stands on the die into the page buffer.
+    fn load_translation(&mut self, t: u32, row: Option<u32>) -> Result<(), WriteFault>
+        requires safe { IsSafe N.flash self.old }
+        requires row { ForSome row (λ r. r < row_count self.old.geometry) }
+        ensures safe { IsSafe N.flash self.new }
+        ensures memory { ram self.new ≡ ram self.old }
+        ensures honest { N.honest self.new.nand ≡ N.honest self.old.nand }
+        ensures reads { N.reads self.new.nand ≤ N.reads self.old.nand + 1 }
+        ensures programs { N.programs self.new.nand ≡ N.programs self.old.nand }
+        ensures erases { N.erases self.new.nand ≡ N.erases self.old.nand }
+        ensures failed { N.failed self.old.nand ≤ N.failed self.new.nand }
+        ensures faults { IfErr result IsReadFault }
+        ensures rose { result ≡ Err WriteFault.Bus → HasRisen (N.failed self.old.nand) (N.failed self.new.nand) }
+        ensures same { N.honest self.old.nand ≡ true → result ≢ Err WriteFault.Bus → N.flash self.new.nand ≡ N.flash self.old.nand }
+        ensures truth { N.honest self.old.nand ≡ true → newest_row (image_in N.flash self.old) (Translation t) ≡ row →
+            MatchResult result
+            (λ _. IsLoaded t self.new.page.body.items self.old.geometry (image_in N.flash self.old))
+            (λ fault. fault ≡ WriteFault.Bus) }
+    {
+        match row {
+            Some(at) => {
+                read_of(
+                    &mut self.nand,
+                    &self.geometry,
+                    Key::Translation(t),
+                    at,
+                    &mut self.page,
+                )?;
+            }
+            None => clear_entries(&mut self.page.body),
+        }
+        Ok(())
+    }
+
+    // Takes translation page `t` into the page buffer, with each row that it lacks, and no row in an
+    // entry past the last sector's.
+    fn fill_translation(&mut self, t: u32, row: Option<u32>) -> Result<(), WriteFault>
+        requires safe { IsSafe N.flash self.old }
+        requires page { t < translation_pages self.old.geometry }
+        requires row { ForSome row (λ r. r < row_count self.old.geometry) }
+        ensures safe { IsSafe N.flash self.new }
+        ensures memory { ram self.new ≡ ram self.old }
+        ensures honest { N.honest self.new.nand ≡ N.honest self.old.nand }
+        ensures reads { N.reads self.new.nand ≤ N.reads self.old.nand + 1 }
+        ensures programs { N.programs self.new.nand ≡ N.programs self.old.nand }
+        ensures erases { N.erases self.new.nand ≡ N.erases self.old.nand }
+        ensures failed { N.failed self.old.nand ≤ N.failed self.new.nand }
+        ensures faults { IfErr result IsReadFault }
+        ensures rose { result ≡ Err WriteFault.Bus → HasRisen (N.failed self.old.nand) (N.failed self.new.nand) }
+        ensures same { N.honest self.old.nand ≡ true → result ≢ Err WriteFault.Bus → N.flash self.new.nand ≡ N.flash self.old.nand }
+        ensures padded { OnOk result (IsPadded self.old.geometry t self.new.page.body.items) }
+        ensures truth { N.honest self.old.nand ≡ true → IsTrue None (ram self.old) (image_in N.flash self.old) →
+            newest_row (image_in N.flash self.old) (Translation t) ≡ row →
+            MatchResult result
+            (λ _. IsFilled t self.new.page.body.items self.old.geometry (image_in N.flash self.old))
+            (λ fault. fault ≡ WriteFault.Bus) }
+    {
+        self.load_translation(t, row)?;
+        fill_entries(&self.mapping, &self.geometry, t, &mut self.page.body);
+        Ok(())
+    }
+
+    // Writes translation page `t` anew, whatever fault stands.
+    fn write_page_back(&mut self, t: u32) -> Result<(), WriteFault>
+        requires safe { IsSafe N.flash self.old }
+        requires page { t < translation_pages self.old.geometry }
+        ensures safe { IsSafe N.flash self.new }
+        ensures goes { Goes (ram self.old) (ram self.new) }
+        ensures fault { self.new.fault ≡ self.old.fault }
+        ensures honest { N.honest self.new.nand ≡ N.honest self.old.nand }
+        ensures reads { N.reads self.new.nand ≤ N.reads self.old.nand + 1 }
+        ensures erases { N.erases self.new.nand ≡ N.erases self.old.nand }
+        ensures failed { N.failed self.old.nand ≤ N.failed self.new.nand }
+        ensures rose { result ≡ Err WriteFault.Bus → HasRisen (N.failed self.old.nand) (N.failed self.new.nand) }
+        ensures cleaned { OnOk result (self.new.mapping ≡ cleaned self.old.mapping t) }
+        ensures cleans { OnOk result (Cleans (per_page self.old.mapping) t self.old.mapping self.new.mapping) }
+        ensures keys { keys_of self.new.mapping.cached ≡ keys_of self.old.mapping.cached }
+        ensures no_more { HasNoMore self.old.mapping self.new.mapping }
+        ensures mapping { OnErr result (self.new.mapping ≡ self.old.mapping) }
+        ensures padded { OnOk result (IsPadded self.old.geometry t self.new.page.body.items) }
+        ensures cost { WriteBackCosts (ram self.old) (ram self.new) result }
+        ensures went { N.honest self.old.nand ≡ true → result ≢ Err WriteFault.Bus →
+            Went (ram self.old) (N.flash self.old.nand) (ram self.new) (N.flash self.new.nand) }
+        ensures truth { N.honest self.old.nand ≡ true → IsTrue None (ram self.old) (image_in N.flash self.old) →
+            MatchResult result
+            (λ _. IsWrittenBack t (ram self.old) (image_in N.flash self.old) (ram self.new) (image_in N.flash self.new))
+            (Refused (ram self.old) (image_in N.flash self.old) (ram self.new) (image_in N.flash self.new)) }
+    {
+        let row = self.directory.row_of(t);
+        self.fill_translation(t, row)?;
+        self.replace(Kind::Translation, t, row)?;
+        self.mapping.clean(t);
+        Ok(())
+    }
+
+    /// Writes translation page `t` anew: as it stands on the die, or empty where it was never
+    /// written, with the row of each of its sectors that is cached dirty or moved. The directory then
+    /// has its row, and it lacks none: its cached sectors are clean, and its moved ones are no longer
+    /// moved. Entries past the last sector have no row. The array stays, and so do the sectors that
+    /// are cached, and their order.
+    ///
+    /// # Errors
+    ///
+    /// Each is answered again by every later call, which changes nothing.
+    ///
+    /// - `ReadOnly`, `SequenceSpent` as `put`; the page lacks what it lacked.
+    /// - `Damaged` where the page as it stands isn't sound or not of its key; an honest die never
+    ///   gives such a page.
+    /// - `Bus` where the die answered no page or no outcome, and its count of failures has risen or
+    ///   stands at 2^64 - 1. What the die holds is then not known.
+    ///
+    /// It takes no memory.
+    ///
+    /// Source: the write-back of an evicted entry of the DFTL paper, with its batch update.
+    pub fn write_back(&mut self, t: u32) -> Result<(), WriteFault>
+        requires safe { IsSafe N.flash self.old }
+        requires page { t < translation_pages self.old.geometry }
+        ensures safe { IsSafe N.flash self.new }
+        ensures standing { ForSome self.old.fault (λ fault. (result ≡ Err fault) × (self.new ≡ self.old)) }
+        ensures fault { self.new.fault ≡ fault_after self.old.fault result }
+        ensures goes { Goes (ram self.old) (ram self.new) }
+        ensures honest { N.honest self.new.nand ≡ N.honest self.old.nand }
+        ensures reads { N.reads self.new.nand ≤ N.reads self.old.nand + 1 }
+        ensures erases { N.erases self.new.nand ≡ N.erases self.old.nand }
+        ensures failed { N.failed self.old.nand ≤ N.failed self.new.nand }
+        ensures rose { self.old.fault ≡ None → result ≡ Err WriteFault.Bus → HasRisen (N.failed self.old.nand) (N.failed self.new.nand) }
+        ensures cleaned { OnOk result (self.new.mapping ≡ cleaned self.old.mapping t) }
+        ensures cleans { OnOk result (Cleans (per_page self.old.mapping) t self.old.mapping self.new.mapping) }
+        ensures keys { keys_of self.new.mapping.cached ≡ keys_of self.old.mapping.cached }
+        ensures no_more { HasNoMore self.old.mapping self.new.mapping }
+        ensures mapping { OnErr result (self.new.mapping ≡ self.old.mapping) }
+        ensures padded { OnOk result (IsPadded self.old.geometry t self.new.page.body.items) }
+        ensures cost { self.old.fault ≡ None → WriteBackCosts (ram self.old) (ram self.new) result }
+        ensures went { N.honest self.old.nand ≡ true → result ≢ Err WriteFault.Bus →
+            Went (ram self.old) (N.flash self.old.nand) (ram self.new) (N.flash self.new.nand) }
+        ensures truth { N.honest self.old.nand ≡ true → self.old.fault ≡ None → IsTrue None (ram self.old) (image_in N.flash self.old) →
+            MatchResult result
+            (λ _. IsWrittenBack t (ram self.old) (image_in N.flash self.old) (ram self.new) (image_in N.flash self.new))
+            (Refused (ram self.old) (image_in N.flash self.old) (ram self.new) (image_in N.flash self.new)) }
+    {
+        self.standing()?;
+        let answer = self.write_page_back(t);
+        self.noted(answer)
+    }
+}

@@ -1,0 +1,33 @@
+//! Why a call of the engine was refused.
+ghost use Rattle.std.specs.Prelude.{◌≡◌};
+ghost use Rattle.collection.specs.Faults.{number_of};
+
+use thiserror::Error;
+
+/// Why a call of the engine was refused. The engine answers its first fault again to every later
+/// call, and asks nothing more of the die.
+#[derive(Clone, Copy, Debug, PartialEq, Eq, Error)]
+pub enum WriteFault {
+    /// There are too few free blocks.
+    #[error("ReadOnly")]
+    ReadOnly = 2,
+    /// The next sequence is 2^64 - 1, the one that no page has.
+    #[error("SequenceSpent")]
+    SequenceSpent = 3,
+    /// A page that was read isn't sound, or not of its key, or names a row that the die doesn't have.
+    /// This never comes of an honest die.
+    #[error("Damaged")]
+    Damaged = 5,
+    /// The die answered no outcome. What it holds is then not known.
+    #[error("BusFault")]
+    Bus = 6,
+}
+
+impl WriteFault {
+    /// The fault's number among those of a device. (This project.)
+    pub fn number(self) -> u8
+        ensures { result ≡ number_of self }
+    {
+        self as u8
+    }
+}
