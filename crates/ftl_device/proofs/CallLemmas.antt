@@ -1,0 +1,51 @@
+-- What is true after a call.
+use Rattle.std.proofs.Common.{◌≡◌, ◌≢◌, ℕ, ◌+◌, ◌≤◌, List, [], None, Result, Ok, Err, MatchResult, refl, sym, ap, subst, ◌∙◌}
+use Rattle.page_layout.specs.declared.geometry.Geometry.{Geometry}
+use Rattle.page_layout.specs.Page.{Image}
+use Rattle.page_layout.specs.Flash.{Flash}
+use Rattle.mapping_cache.specs.Mapping.{HasLimitsOf}
+use Rattle.image_check.specs.Mountable.{IsMountable}
+use Rattle.collection.specs.declared.engine.Engine.{Engine}
+use Rattle.collection.specs.declared.fault.WriteFault.TheVariants as engine_fault
+use Rattle.collection.specs.State.{Ram}
+use Rattle.collection.specs.Safe.{IsRam, ram, image_in}
+use Rattle.collection.specs.Truth.{IsTrue}
+use Rattle.ftl_device.specs.declared.device.Device.{Device}
+use Rattle.ftl_device.specs.declared.fault.CallFault.{CallFault}
+use Rattle.ftl_device.specs.declared.fault.CallFault.TheVariants as call
+use Rattle.ftl_device.specs.declared.fault.DeviceFault.{DeviceFault}
+use Rattle.ftl_device.specs.declared.fault.DeviceFault.TheVariants.{BusFault, OutOfMemory}
+use Rattle.ftl_device.specs.Calls.{stop_of, IsWell, HoldsSector, CallRefused, standing_after, answer_of}
+use Rattle.ftl_device.proofs.MountableLemmas.{restart_law}
+
+-- the engine isn't stopped, and what it knows is so
+pub well_ram : (answer : Result (Unit {0}) CallFault) (result : Result (Unit {0}) DeviceFault) (good n : ℕ) (bytes : List ℕ) (g : Geometry) (before after : Image) (r q : Ram) → r.fault ≡ standing_after answer → result ≡ answer_of q good answer → result ≢ Err BusFault → MatchResult answer (λ _. HoldsSector g n bytes before r after) (CallRefused g before r after) → (stop_of r.fault ≡ None) × IsTrue None r after
+well_ram (Ok done) result good n bytes g before after r q fault is ne h = (ap stop_of fault, h.truth)
+well_ram (Err (call.Engine engine_fault.ReadOnly)) result good n bytes g before after r q fault is ne h = (ap stop_of fault, h.truth)
+well_ram (Err (call.Engine engine_fault.SequenceSpent)) result good n bytes g before after r q fault is ne h = (ap stop_of fault, h.truth)
+well_ram (Err (call.Engine engine_fault.Damaged)) result good n bytes g before after r q fault is ne h = absurd h
+well_ram (Err (call.Engine engine_fault.Bus)) result good n bytes g before after r q fault is ne h = absurd (ne is)
+well_ram (Err call.OutOfMemory) result good n bytes g before after r q fault is ne h = (ap stop_of fault, h.truth)
+
+pub well_device : {N : Type 0} (flash : N → Flash) (d : Device N) (e : Engine N) → d.engine ≡ e → (stop_of e.fault ≡ None) × IsTrue None (ram e) (image_in flash e) → e.mapping.moved ≡ [] → IsWell flash d
+well_device {N} flash d e same known unmoved =
+    let P : Engine N → Type 0 = λ x. (stop_of x.fault ≡ None) × IsTrue None (ram x) (image_in flash x) × (x.mapping.moved ≡ []) in
+    let all : P d.engine = subst P (sym same) (known.0, known.1, unmoved) in
+    record { going = all.0; truth = all.1; unmoved = all.2 }
+
+-- a growth was refused while the sector was made ready
+pub memory_only : (answer : Result (Unit {0}) CallFault) (result : Result (Unit {0}) DeviceFault) (good : ℕ) (q : Ram) → result ≡ answer_of q good answer → result ≡ Err OutOfMemory → answer ≡ Err call.OutOfMemory
+memory_only (Ok done) result good q is e = (let no : ⊥ = cc in absurd no)
+memory_only (Err (call.Engine engine_fault.ReadOnly)) result good q is e = (let no : ⊥ = cc in absurd no)
+memory_only (Err (call.Engine engine_fault.SequenceSpent)) result good q is e = (let no : ⊥ = cc in absurd no)
+memory_only (Err (call.Engine engine_fault.Damaged)) result good q is e = (let no : ⊥ = cc in absurd no)
+memory_only (Err (call.Engine engine_fault.Bus)) result good q is e = (let no : ⊥ = cc in absurd no)
+memory_only (Err call.OutOfMemory) result good q is e = refl
+
+-- a certificate for the image is to be had, at the capacity that the device had before
+pub mountable_after : {N : Type 0} (flash : N → Flash) (old : Engine N) (d : Device N) (e : Engine N) → d.engine ≡ e → e.geometry ≡ old.geometry → HasLimitsOf old.mapping e.mapping → IsRam (ram d.engine) → IsWell flash d → old.mapping.capacity + old.geometry.pages ≤ 65536 → IsMountable old.geometry (old.mapping.capacity + old.geometry.pages) (image_in flash d.engine)
+mountable_after {N} flash old d e same sized limits safe w =
+    let g : d.engine.geometry ≡ old.geometry = ap (λ (x : Engine N). x.geometry) same ∙ sized in
+    let cap : d.engine.mapping.capacity ≡ old.mapping.capacity = ap (λ (x : Engine N). x.mapping.capacity) same ∙ limits.capacity in
+    let P : Geometry → ℕ → Type 0 = λ h c. c + h.pages ≤ 65536 → IsMountable h (c + h.pages) (image_in flash d.engine) in
+    subst (λ h. P h old.mapping.capacity) g (subst (λ c. P d.engine.geometry c) cap (restart_law (ram d.engine) (image_in flash d.engine) safe w.truth))

@@ -1,0 +1,9 @@
+pub mod BlockLemmas
+pub mod BeginLemmas
+pub mod GeometryLemmas
+pub mod LoadLemmas
+pub mod ReadLemmas
+pub mod StartLemmas
+pub mod ReadyLemmas
+pub mod CallLemmas
+pub mod MountableLemmas

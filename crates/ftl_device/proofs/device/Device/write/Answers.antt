@@ -1,0 +1,19 @@
+use Rattle.collection.specs.Safe.{ram}
+use Rattle.ftl_device.proofs.CallLemmas.{well_ram, well_device, memory_only, mountable_after}
+use Rattle.ftl_device.proofs.MountableLemmas.{stale_law, restart_law}
+use Rattle.ftl_device.proofs.device.Device.write.Goals as goal
+
+pub returns-clause-well : goal.returns-clause-well
+returns-clause-well g c = λ honest w ne.
+    let known = well_ram c.write_ready-answer.result c.finish.result c.good-good.result c.args.sector _ _ _ _ (ram c.write_ready-answer.new.engine) (ram c.finish.new.self.engine) c.write_ready-answer.ensures.fault c.finish.ensures.answer ne (c.write_ready-answer.ensures.truth honest w.truth) in
+    well_device _ c.finish.new.self _ c.finish.ensures.engine known (c.write_ready-answer.ensures.unmoved w.unmoved)
+
+pub returns-clause-stale : goal.returns-clause-stale
+returns-clause-stale g c = λ honest w old e.
+    c.write_ready-answer.ensures.cached (stale_law (ram c.args.self.now.engine) _ c.args.sector w.truth w.unmoved c.in_ok-may_change.ensures.may.within old) (memory_only c.write_ready-answer.result c.finish.result c.good-good.result (ram c.finish.new.self.engine) c.finish.ensures.answer e)
+
+pub returns-clause-mountable : goal.returns-clause-mountable
+returns-clause-mountable g c = λ honest w ne most. mountable_after _ c.args.self.now.engine c.finish.new.self _ c.finish.ensures.engine c.write_ready-answer.ensures.geometry c.write_ready-answer.ensures.limits c.finish.ensures.device.engine.memory (returns-clause-well g c honest w ne) most
+
+pub returns-in_err-may_change-clause-mountable : goal.returns-in_err-may_change-clause-mountable
+returns-in_err-may_change-clause-mountable g c = λ honest w ne most. restart_law (ram c.args.self.now.engine) _ c.requires.device.engine.memory w.truth most

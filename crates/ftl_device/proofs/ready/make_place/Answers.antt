@@ -1,0 +1,10 @@
+use Rattle.std.proofs.Common.{◌∙◌, sym}
+use Rattle.collection.specs.Safe.{ram}
+use Rattle.ftl_device.proofs.ReadyLemmas.{least_page, place_made}
+use Rattle.ftl_device.proofs.ready.make_place.Goals as goal
+
+pub write_back-requires-clause-page : goal.write_back-requires-clause-page
+write_back-requires-clause-page g c = least_page (ram c.args.engine.now) c.in-Some.least c.entries.result _ c.requires.safe.memory (sym c.least_recent.ensures ∙ c.in-Some.is) c.entries.ensures
+
+pub returns-in-Some-clause-place : goal.returns-in-Some-clause-place
+returns-in-Some-clause-place g c = place_made c.write_back.result (ram c.args.engine.now) (ram c.write_back.new.self) c.args.sector c.in-Some.least c.entries.result _ c.requires.safe.memory c.write_back.ensures.safe.memory (sym c.least_recent.ensures ∙ c.in-Some.is) c.entries.ensures c.write_back.ensures.keys c.write_back.ensures.cleans

@@ -1,0 +1,13 @@
+use Rattle.std.proofs.Common.{◌∙◌}
+use Rattle.std.proofs.lemmas.Result.{err_from_is_err_and}
+use Rattle.collection.proofs.Logs.{went_then}
+use Rattle.ftl_device.proofs.ReadyLemmas.{ok_not_bus, engine_not_bus}
+use Rattle.ftl_device.proofs.ready.write_ready.Goals as goal
+
+pub returns-in_err-write_sector-clause-went : goal.returns-in_err-write_sector-clause-went
+returns-in_err-write_sector-clause-went g c =
+    let p = err_from_is_err_and c.from_residual-in_err-write_sector.result c.from_residual-in_err-write_sector.ensures.1 in
+    rw (p.1, p.2) (λ honest ne. went_then _ _ _ _ _ _ c.make_ready.ensures.geometry (c.in_ok-make_ready.ensures.went honest (ok_not_bus _)) (c.in_err-write_sector.ensures.went (c.make_ready.ensures.honest ∙ honest) (engine_not_bus _ ne)))
+
+pub returns-clause-went : goal.returns-clause-went
+returns-clause-went g c = λ honest ne. went_then _ _ _ _ _ _ c.make_ready.ensures.geometry (c.in_ok-make_ready.ensures.went honest (ok_not_bus _)) (c.in_ok-write_sector.ensures.went (c.make_ready.ensures.honest ∙ honest) (λ e. (let no : ⊥ = cc in no)))

@@ -1,0 +1,205 @@
+-- What the calls of a device promise.
+use Rattle.std.specs.Prelude.{◌≡◌, ℕ, ◌+◌, ◌-◌, ◌<◌, ◌≤◌, ◌^◌, Bool, true, false, List, [], slice_set, Option, Some, None, IsSome, Result, Ok, Err}
+use Rattle.page_layout.specs.declared.geometry.Geometry.{Geometry}
+use Rattle.page_layout.specs.declared.record.Key.TheVariants.{Sector}
+use Rattle.page_layout.specs.Page.{Image}
+use Rattle.page_layout.specs.Geometry.{need}
+use Rattle.page_layout.specs.Array.{array_of}
+use Rattle.page_layout.specs.Flash.{Flash}
+use Rattle.bad_blocks.specs.Table.{good_count}
+use Rattle.allocation.specs.State.{free_count}
+use Rattle.mapping_cache.specs.Mapping.{slot_of}
+use Rattle.image_check.specs.Stale.{is_stale}
+use Rattle.image_check.specs.Mountable.{IsMountable}
+use Rattle.promises.specs.Step as step
+use Rattle.promises.specs.Step.{State, Reply}
+use Rattle.collection.specs.declared.fault.WriteFault.{WriteFault}
+use Rattle.collection.specs.declared.fault.WriteFault.TheVariants as engine_fault
+use Rattle.collection.specs.State.{Ram}
+use Rattle.collection.specs.Safe.{IsRam, ram, image_in}
+use Rattle.collection.specs.Pages.{newest_row}
+use Rattle.collection.specs.Truth.{IsTrue}
+use Rattle.collection.specs.Results.{IsSame}
+use Rattle.ftl_device.specs.declared.device.Device.{Device}
+use Rattle.ftl_device.specs.declared.fault.CallFault.{CallFault}
+use Rattle.ftl_device.specs.declared.fault.CallFault.TheVariants as call
+use Rattle.ftl_device.specs.declared.fault.CallFault.TheVariants.{Engine}
+use Rattle.ftl_device.specs.declared.fault.DeviceFault.{DeviceFault}
+use Rattle.ftl_device.specs.declared.fault.DeviceFault.TheVariants.{OutOfRange, ReadOnly, SequenceSpent, OutOfMemory, Damaged, BusFault}
+
+-- ---- a device as its promises see it
+
+-- the sectors that the image on its die holds
+abbrev pub array_in : {N : Type 0} → (N → Flash) → Device N → List (List ℕ)
+array_in flash d = array_of d.engine.geometry (image_in flash d.engine)
+
+abbrev pub state_in : {N : Type 0} → (N → Flash) → Device N → State
+state_in flash d = record { array = array_in flash d; ro = d.read_only }
+
+-- ---- what it answers
+
+abbrev pub reply_of_fault : DeviceFault → Reply
+reply_of_fault OutOfRange = step.OutOfRange
+reply_of_fault (ReadOnly good wanted failed) = step.ReadOnly
+reply_of_fault SequenceSpent = step.SequenceSpent
+reply_of_fault OutOfMemory = step.OutOfMemory
+reply_of_fault Damaged = step.Damaged
+reply_of_fault BusFault = step.BusFault
+
+-- of a call that gives no bytes
+abbrev pub reply_of : Result (Unit {0}) DeviceFault → Reply
+reply_of (Ok done) = step.Done
+reply_of (Err fault) = reply_of_fault fault
+
+-- of a read into a slice that holds these bytes as it ends
+abbrev pub read_reply_of : List ℕ → Result (Unit {0}) DeviceFault → Reply
+read_reply_of bytes (Ok done) = step.DoneWith bytes
+read_reply_of bytes (Err fault) = reply_of_fault fault
+
+-- the faults by their numbers
+abbrev pub number_of : DeviceFault → ℕ
+number_of OutOfRange = 1
+number_of (ReadOnly good wanted failed) = 2
+number_of SequenceSpent = 3
+number_of OutOfMemory = 4
+number_of Damaged = 5
+number_of BusFault = 6
+
+-- what a device answers ever after that was stopped: a call that changes sectors found damage, or the die gave no outcome
+abbrev pub stop_of : Option WriteFault → Option DeviceFault
+stop_of None = None
+stop_of (Some engine_fault.ReadOnly) = None
+stop_of (Some engine_fault.SequenceSpent) = None
+stop_of (Some engine_fault.Damaged) = Some Damaged
+stop_of (Some engine_fault.Bus) = Some BusFault
+
+-- ---- what is true of the image between two calls, where the die is honest
+
+-- the device isn't stopped, what it knows of the image is so, and no sector is moved
+pub record IsWell {N : Type 0} (flash : N → Flash) (d : Device N) : Type 0 where
+  pub going : stop_of d.engine.fault ≡ None
+  pub truth : IsTrue None (ram d.engine) (image_in flash d.engine)
+  pub unmoved : d.engine.mapping.moved ≡ []
+
+-- ---- when a call is refused
+
+-- fewer than five blocks are free as the call ends, and the counts are those of the good blocks then, of those that the geometry asks for,
+-- and of those that failed in the call
+pub record IsShortOf (old new : Ram) (good wanted failed : ℕ) : Type 0 where
+  pub scarce : free_count new.blocks < 5
+  pub good_is : good ≡ good_count new.blocks.table
+  pub wanted_is : wanted ≡ need new.geometry
+  pub failed_is : good + failed ≡ good_count old.blocks.table
+
+-- what each refusal says, from the memory as the call begins to that as it ends
+abbrev pub Says : Ram → Ram → DeviceFault → Type 0
+Says old new OutOfRange = new ≡ old
+Says old new (ReadOnly good wanted failed) = IsShortOf old new good wanted failed
+Says old new SequenceSpent = new.next ≡ 2 ^ 64 - 1
+Says old new OutOfMemory = Unit {0}
+Says old new Damaged = stop_of new.fault ≡ Some Damaged
+Says old new BusFault = stop_of new.fault ≡ Some BusFault
+
+-- ---- inside a call that changes a sector
+
+-- what the engine's memory tells of each answer
+abbrev pub Tells : {A : Type 0} → Ram → Ram → Result A WriteFault → Type 0
+Tells old new (Ok answer) = good_count new.blocks.table ≤ good_count old.blocks.table
+Tells old new (Err engine_fault.ReadOnly) = (free_count new.blocks < 5) × (good_count new.blocks.table ≤ good_count old.blocks.table)
+Tells old new (Err engine_fault.SequenceSpent) = new.next ≡ 2 ^ 64 - 1
+Tells old new (Err engine_fault.Damaged) = Unit {0}
+Tells old new (Err engine_fault.Bus) = Unit {0}
+
+-- the array is as it was, and the row is that of the sector's newest page
+pub record IsFound (n : ℕ) (row : Option ℕ) (old : Ram) (before : Image) (new : Ram) (after : Image) : Type 0 where
+  pub same : IsSame old before new after
+  pub row_is : row ≡ newest_row after (Sector n)
+
+-- the array is as it was, and what the memory knows of the image is so
+pub record KeepsArray (g : Geometry) (before : Image) (new : Ram) (after : Image) : Type 0 where
+  pub truth : IsTrue None new after
+  pub array : array_of g after ≡ array_of g before
+
+-- the same of a call that may want memory too
+abbrev pub CallTells : {A : Type 0} → Ram → Ram → Result A CallFault → Type 0
+CallTells old new (Ok answer) = good_count new.blocks.table ≤ good_count old.blocks.table
+CallTells old new (Err (Engine engine_fault.ReadOnly)) = (free_count new.blocks < 5) × (good_count new.blocks.table ≤ good_count old.blocks.table)
+CallTells old new (Err (Engine engine_fault.SequenceSpent)) = new.next ≡ 2 ^ 64 - 1
+CallTells old new (Err (Engine engine_fault.Damaged)) = Unit {0}
+CallTells old new (Err (Engine engine_fault.Bus)) = Unit {0}
+CallTells old new (Err call.OutOfMemory) = Unit {0}
+
+-- the fault that stands in the engine after such a call
+abbrev pub standing_after : {A : Type 0} → Result A CallFault → Option WriteFault
+standing_after (Ok answer) = None
+standing_after (Err (Engine fault)) = Some fault
+standing_after (Err call.OutOfMemory) = None
+
+-- what is true of the image where it was refused
+abbrev pub CallRefused : Geometry → Image → Ram → Image → CallFault → Type 0
+CallRefused g before new after (Engine engine_fault.ReadOnly) = KeepsArray g before new after
+CallRefused g before new after (Engine engine_fault.SequenceSpent) = KeepsArray g before new after
+CallRefused g before new after (Engine engine_fault.Damaged) = ⊥
+CallRefused g before new after (Engine engine_fault.Bus) = Unit {0}
+CallRefused g before new after call.OutOfMemory = KeepsArray g before new after
+
+-- sector n holds these bytes, and all others what they held
+pub record HoldsSector (g : Geometry) (n : ℕ) (bytes : List ℕ) (before : Image) (new : Ram) (after : Image) : Type 0 where
+  pub truth : IsTrue None new after
+  pub array : array_of g after ≡ slice_set (array_of g before) n bytes
+
+-- ---- the device around it
+
+-- what is so of a device that may change a sector
+pub record MayChange (r : Ram) (ro : Bool) (n : ℕ) : Type 0 where
+  pub going : r.fault ≡ None
+  pub within : n < r.geometry.sectors
+  pub writable : ro ≡ false
+
+-- it may not since there is no such sector
+pub record IsBeyond (r : Ram) (n : ℕ) : Type 0 where
+  pub going : stop_of r.fault ≡ None
+  pub past : r.geometry.sectors ≤ n
+
+-- or since it is read-only
+pub record IsClosed (r : Ram) (ro : Bool) (n good wanted failed : ℕ) : Type 0 where
+  pub going : stop_of r.fault ≡ None
+  pub within : n < r.geometry.sectors
+  pub closed : ro ≡ true
+  pub short : IsShortOf r r good wanted failed
+
+-- or since there is no sequence for it
+pub record IsSpentAt (r : Ram) (ro : Bool) (n : ℕ) : Type 0 where
+  pub going : stop_of r.fault ≡ None
+  pub within : n < r.geometry.sectors
+  pub writable : ro ≡ false
+  pub last : r.next ≡ 2 ^ 64 - 1
+
+-- why it may not
+abbrev pub MayNot : Ram → Bool → ℕ → DeviceFault → Type 0
+MayNot r ro n OutOfRange = IsBeyond r n
+MayNot r ro n (ReadOnly good wanted failed) = IsClosed r ro n good wanted failed
+MayNot r ro n SequenceSpent = IsSpentAt r ro n
+MayNot r ro n OutOfMemory = ⊥
+MayNot r ro n Damaged = stop_of r.fault ≡ Some Damaged
+MayNot r ro n BusFault = stop_of r.fault ≡ Some BusFault
+
+-- what a device answers where that many blocks were good as the call began, and this is so
+abbrev pub answer_of : Ram → ℕ → Result (Unit {0}) CallFault → Result (Unit {0}) DeviceFault
+answer_of r good (Ok done) = Ok done
+answer_of r good (Err (Engine engine_fault.ReadOnly)) = Err (ReadOnly (good_count r.blocks.table) (need r.geometry) (good - good_count r.blocks.table))
+answer_of r good (Err (Engine engine_fault.SequenceSpent)) = Err SequenceSpent
+answer_of r good (Err (Engine engine_fault.Damaged)) = Err Damaged
+answer_of r good (Err (Engine engine_fault.Bus)) = Err BusFault
+answer_of r good (Err call.OutOfMemory) = Err OutOfMemory
+
+-- ---- laws
+
+-- where no sector is moved, a sector that is stale in the image is cached
+abbrev pub StaleLaw : Type 0
+StaleLaw = (r : Ram) (image : Image) (n : ℕ) → IsTrue None r image → r.mapping.moved ≡ [] → n < r.geometry.sectors → is_stale r.geometry image n ≡ true → IsSome (slot_of r.mapping n)
+
+-- A device may be started again from what it holds: of a memory that agrees with the image, the image has a certificate at the capacity of
+-- the cached mapping table and the pages of a block.
+abbrev pub RestartLaw : Type 0
+RestartLaw = (r : Ram) (image : Image) → IsRam r → IsTrue None r image → r.mapping.capacity + r.geometry.pages ≤ 65536 → IsMountable r.geometry (r.mapping.capacity + r.geometry.pages) image

@@ -1,0 +1,4 @@
+pub mod Begin
+pub mod Device
+pub mod Calls
+pub mod Read

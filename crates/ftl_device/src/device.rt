@@ -1,0 +1,96 @@
+//! The device and its start.
+ghost use Rattle.std.specs.Prelude.{◌≡◌, true, None, IfOk, IfErr};
+ghost use Rattle.certificate.specs.Claim.{sizes_of, good_blocks};
+ghost use Rattle.bad_blocks.specs.Table.{good_count};
+ghost use Rattle.allocation.specs.View.{state};
+ghost use Rattle.promises.specs.Legal.{accounts_of};
+ghost use Rattle.collection.specs.Safe.{ram, image_in};
+ghost use Rattle.collection.specs.Truth.{IsTrue};
+ghost use Rattle.collection.specs.Log.{IsAccounted};
+ghost use Rattle.ftl_device.specs.Begin.{begun_ram, is_bad_in, free_in, is_scarce};
+ghost use Rattle.ftl_device.specs.Device.{IsDevice, IsAcceptedFor};
+
+use crate::begin::Known;
+use crate::fault::StartFault;
+use collection::Engine;
+use image_check::Accepted;
+use onfi_cycles::Nand;
+use std::alloc::Global;
+
+// With fewer free blocks than these a device only reads.
+pub(crate) const LEAST_FREE: u32 = 5;
+
+/// Sectors over a die: they are read and written, whatever fails on the die.
+///
+/// Source: the DFTL paper, for the mapping; the rest is this project's.
+#[derive(Drop)]
+pub struct Device<N: Nand> {
+    /// The die and what is known of it.
+    pub engine: Engine<N>,
+    /// Whether it refuses to change a sector.
+    pub read_only: bool,
+}
+
+impl<N: Nand> Device<N> {
+    /// A device over a die whose image a checker accepted. Nothing is asked of the die. The stale
+    /// sectors are cached as dirty, by rising number, and the cache has the capacity that was
+    /// accepted. It begins read-only just where fewer than five blocks are free.
+    ///
+    /// The geometry of the accepted certificate is the die's. Where the die is honest and the
+    /// certificate was accepted for its image, the device holds the image's array.
+    ///
+    /// # Errors
+    ///
+    /// `OutOfMemory` alone, where a growth was refused: the die and the certificate come back. (This
+    /// project's rules.)
+    pub fn start<'a>(
+        alloc: Global,
+        nand: N,
+        accepted: Accepted<'a>,
+    ) -> Result<Device<N>, StartFault<'a, N>>
+        requires same_geometry { sizes_of (N.flash nand).geometry ≡ accepted.claim.sizes }
+        ensures device { IfOk result (IsDevice N.flash) }
+        ensures nand { IfOk result (λ d. d.engine.nand ≡ nand) }
+        ensures begun { IfOk result (λ d. ram d.engine ≡ begun_ram (N.flash nand).geometry accepted.entry.claim accepted.entry.stale) }
+        ensures good { IfOk result (λ d. good_count (state d.engine.blocks).table ≡ good_blocks accepted.entry.claim) }
+        // The truth of it, for a die that keeps its promises.
+        ensures truth { IfOk result (λ d. N.honest nand ≡ true → IsAcceptedFor (N.flash nand) accepted.entry →
+            IsTrue None (ram d.engine) (image_in N.flash d.engine)) }
+        ensures free { IfOk result (λ d. N.honest nand ≡ true → IsAcceptedFor (N.flash nand) accepted.entry →
+            d.read_only ≡ is_scarce (free_in (N.flash nand).geometry accepted.entry.claim (N.flash nand).image)) }
+        ensures accounts { IfOk result (λ d. N.honest nand ≡ true → IsAcceptedFor (N.flash nand) accepted.entry →
+            IsAccounted (accounts_of (N.flash nand).geometry (N.flash nand).image (is_bad_in accepted.entry.claim)) (state d.engine.blocks)) }
+        ensures fault { IfErr result (λ fault. fault ≡ StartFault.OutOfMemory nand accepted.entry) }
+    {
+        let certificate = accepted.certificate();
+        let geometry = certificate.geometry();
+        let Ok(known) = Known::new(alloc, &geometry, &accepted) else {
+            return Err(StartFault::OutOfMemory { nand, accepted });
+        };
+        let Known {
+            blocks,
+            directory,
+            mapping,
+        } = known;
+        let read_only = blocks.free() < LEAST_FREE;
+        let next = certificate.next_sequence();
+        match Engine::new(alloc, nand, &geometry, blocks, directory, mapping, next) {
+            Ok(engine) => Ok(Device { engine, read_only }),
+            Err((nand, _)) => Err(StartFault::OutOfMemory { nand, accepted }),
+        }
+    }
+
+    /// Whether it refuses to change a sector, until it is started anew.
+    pub fn read_only(&self) -> bool
+        ensures { result ≡ self.now.read_only }
+    {
+        self.read_only
+    }
+
+    /// The die, given up by the device.
+    pub fn into_nand(self) -> N
+        ensures { result ≡ self.engine.nand }
+    {
+        self.engine.into_nand()
+    }
+}

@@ -1,0 +1,14 @@
+//! The device: sectors that are read and written over a die whose image a checker accepted.
+#![tactic(auto)]
+
+mod begin;
+mod device;
+mod fault;
+mod laws;
+mod read;
+mod ready;
+mod write;
+
+pub use device::Device;
+pub use fault::{DeviceFault, StartFault};
+pub use laws::{begin_laws, restart_laws};

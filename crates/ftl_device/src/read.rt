@@ -1,0 +1,125 @@
+//! Sectors are read.
+ghost use Rattle.std.specs.Prelude.{◌≡◌, ◌≢◌, ◌+◌, ◌<◌, ◌≤◌, [], true, length, None, Some, Err, IfOk, IfErr, OnOk, OnErr};
+ghost use Rattle.std.specs.Option.{ForSome};
+ghost use Rattle.page_layout.specs.Page.{Image, page};
+ghost use Rattle.page_layout.specs.Counter.{HasRisen};
+ghost use Rattle.page_layout.specs.Geometry.{row_count};
+ghost use Rattle.page_layout.specs.declared.record.Key.TheVariants.{Sector};
+ghost use Rattle.promises.specs.Step.{ArrayStep, Read};
+ghost use Rattle.mapping_cache.specs.Mapping.{HasLimitsOf};
+ghost use Rattle.collection.specs.Safe.{ram, image_in};
+ghost use Rattle.collection.specs.Truth.{IsTrue};
+ghost use Rattle.collection.specs.Pages.{newest_row};
+ghost use Rattle.collection.specs.Looks.{GivesSector, IsReadFault};
+ghost use Rattle.ftl_device.specs.Device.{IsDevice};
+ghost use Rattle.ftl_device.specs.Calls.{IsWell, stop_of, state_in, read_reply_of};
+ghost use Rattle.ftl_device.specs.Read.{LooksUp, LeavesRead, IsReadRefusal};
+
+use crate::device::Device;
+use crate::fault::DeviceFault;
+use collection::WriteFault;
+use onfi_cycles::Nand;
+
+impl<N: Nand> Device<N> {
+    // A sector that was read becomes the most recently used. One that was not cached is cached where
+    // no dirty entry has to leave for it; where memory is refused, it isn't.
+    fn remember(&mut self, sector: u32, row: Option<u32>)
+        requires device { IsDevice N.flash self.old }
+        requires sector { sector < self.old.engine.geometry.sectors }
+        requires row { ForSome row (λ r. r < row_count self.old.engine.geometry) }
+        ensures device { IsDevice N.flash self.new }
+        ensures same { self.new ≡ record self.old { engine = record self.old.engine { mapping = self.new.engine.mapping } } }
+        ensures looks_up { LooksUp sector self.old.engine.mapping self.new.engine.mapping }
+        ensures limits { HasLimitsOf self.old.engine.mapping self.new.engine.mapping }
+        ensures unmoved { self.old.engine.mapping.moved ≡ [] → self.new.engine.mapping.moved ≡ [] }
+        ensures truth { (image : Image) → IsTrue None (ram self.old.engine) image → row ≡ newest_row image (Sector sector) →
+            IsTrue None (ram self.new.engine) image }
+    {
+        if self.engine.mapping.can_load(sector) {
+            let _ = self.engine.cache_sector(sector, row);
+        }
+    }
+
+    // The answer to a fault of a read: the die's fault stops the device.
+    fn refused_read(&mut self, fault: WriteFault) -> DeviceFault
+        requires device { IsDevice N.flash self.old }
+        requires of_read { IsReadFault fault }
+        ensures device { IsDevice N.flash self.new }
+        ensures damaged { fault ≡ WriteFault.Damaged → (result ≡ DeviceFault.Damaged) × (self.new ≡ self.old) }
+        ensures bus { fault ≡ WriteFault.Bus → (result ≡ DeviceFault.BusFault) × (self.new ≡ record self.old { engine = record self.old.engine { fault = Some fault } }) }
+        ensures either { IsReadRefusal result }
+    {
+        if fault == WriteFault::Bus {
+            self.engine.fault = Some(fault);
+            DeviceFault::BusFault
+        } else {
+            DeviceFault::Damaged
+        }
+    }
+
+    /// Reads a sector: `out`, of one data area, gets its bytes, or 00h bytes where it was never
+    /// written or was trimmed. It programs and erases nothing, and makes at most two page reads.
+    ///
+    /// A cached sector becomes the most recently used. Another is cached where the cache isn't full or
+    /// its least recently used entry is clean, and memory is there; else it is read all the same.
+    ///
+    /// Whatever the die does, what it gives is 00h bytes or the data area of the page in the page
+    /// buffer, which is sound, of the sector and no trim.
+    ///
+    /// # Errors
+    ///
+    /// `out` then stays.
+    ///
+    /// - `Damaged` or `BusFault` where that fault stopped the device before. Nothing is asked of the
+    ///   die.
+    /// - `OutOfRange` just where there is no such sector. Nothing has changed.
+    /// - `Damaged` where a page that was read isn't sound or not of its key, or names a row that the
+    ///   die doesn't have; an honest die never does. Nothing has changed, and the device goes on.
+    /// - `BusFault` where the die gave no page. The device is stopped.
+    ///
+    /// (This project.)
+    pub fn read(&mut self, sector: u32, out: &mut [u8]) -> Result<(), DeviceFault>
+        requires device { IsDevice N.flash self.old }
+        requires whole { length out.old ≡ self.old.engine.geometry.data_bytes }
+        ensures device { IsDevice N.flash self.new }
+        ensures stopped { ForSome (stop_of self.old.engine.fault) (λ fault. (result ≡ Err fault) × (self.new ≡ self.old)) }
+        ensures past { stop_of self.old.engine.fault ≡ None → self.old.engine.geometry.sectors ≤ sector → (result ≡ Err DeviceFault.OutOfRange) × (self.new ≡ self.old) }
+        ensures within { sector < self.old.engine.geometry.sectors → result ≢ Err DeviceFault.OutOfRange }
+        ensures faults { IfErr result IsReadRefusal }
+        ensures refused { OnErr result (out.new ≡ out.old) }
+        ensures limits { HasLimitsOf self.old.engine.mapping self.new.engine.mapping }
+        ensures memory { LeavesRead sector result (ram self.old.engine) (ram self.new.engine) }
+        ensures read_only { self.new.read_only ≡ self.old.read_only }
+        ensures honest { N.honest self.new.engine.nand ≡ N.honest self.old.engine.nand }
+        ensures reads { N.reads self.new.engine.nand ≤ N.reads self.old.engine.nand + 2 }
+        ensures programs { N.programs self.new.engine.nand ≡ N.programs self.old.engine.nand }
+        ensures erases { N.erases self.new.engine.nand ≡ N.erases self.old.engine.nand }
+        ensures failed { N.failed self.old.engine.nand ≤ N.failed self.new.engine.nand }
+        ensures rose { stop_of self.old.engine.fault ≡ None → result ≡ Err DeviceFault.BusFault →
+            HasRisen (N.failed self.old.engine.nand) (N.failed self.new.engine.nand) }
+
+        // Whatever the die does: the page in the buffer holds what was given.
+        ensures checked { OnOk result (GivesSector self.old.engine.geometry sector
+            (page self.new.engine.page.body.items self.new.engine.page.spare.items) out.new) }
+
+        // The truth of it, for a die that keeps its promises.
+        ensures same { N.honest self.old.engine.nand ≡ true → result ≢ Err DeviceFault.BusFault →
+            N.flash self.new.engine.nand ≡ N.flash self.old.engine.nand }
+        ensures well { N.honest self.old.engine.nand ≡ true → IsWell N.flash self.old → result ≢ Err DeviceFault.BusFault →
+            IsWell N.flash self.new }
+        ensures step { N.honest self.old.engine.nand ≡ true → IsWell N.flash self.old → result ≢ Err DeviceFault.BusFault →
+            ArrayStep self.old.engine.geometry (state_in N.flash self.old) (Read sector) (read_reply_of out.new result) (state_in N.flash self.new) }
+    {
+        self.going()?;
+        if sector >= self.engine.geometry.sectors() {
+            return Err(DeviceFault::OutOfRange);
+        }
+        match self.engine.read_sector(sector, out) {
+            Ok(row) => {
+                self.remember(sector, row);
+                Ok(())
+            }
+            Err(fault) => Err(self.refused_read(fault)),
+        }
+    }
+}

@@ -1,0 +1,196 @@
+//! A sector is made ready: its entry is cached before anything of it is programmed.
+ghost use Rattle.std.specs.Prelude.{◌≡◌, ◌≢◌, ◌<◌, ◌≤◌, true, length, [], Some, None, Ok, Err, IfOk, IfErr, IsSome, OnOk, OnErr, MatchResult};
+ghost use Rattle.std.specs.Option.{ForSome};
+ghost use Rattle.std.specs.Map.{keys_of};
+ghost use Rattle.page_layout.specs.Counter.{HasRisen};
+ghost use Rattle.page_layout.specs.Geometry.{row_count};
+ghost use Rattle.page_layout.specs.declared.record.Key.TheVariants.{Sector};
+ghost use Rattle.page_layout.specs.Array.{zeros};
+ghost use Rattle.mapping_cache.specs.Mapping.{CanLoad, HasLimitsOf, slot_of};
+ghost use Rattle.collection.specs.Pages.{newest_row};
+ghost use Rattle.collection.specs.Safe.{IsSafe, ram, image_in};
+ghost use Rattle.collection.specs.Truth.{IsTrue};
+ghost use Rattle.collection.specs.Log.{Went};
+ghost use Rattle.collection.specs.Settle.{HasNoMore};
+ghost use Rattle.collection.specs.Looks.{IsReadFault};
+ghost use Rattle.collection.specs.Results.{IsSame, Refused, fault_after};
+ghost use Rattle.ftl_device.specs.Calls.{Tells, IsFound, CallTells, standing_after, KeepsArray, HoldsSector, CallRefused};
+
+use crate::fault::CallFault;
+use collection::{Engine, WriteFault};
+use onfi_cycles::Nand;
+
+// Writes back the translation page of the least recently used sector, where caching this one would
+// drop an entry that its page lacks.
+fn make_place<N: Nand>(engine: &mut Engine<N>, sector: u32) -> Result<(), WriteFault>
+    requires safe { IsSafe N.flash engine.old }
+    requires going { engine.old.fault ≡ None }
+    ensures safe { IsSafe N.flash engine.new }
+    ensures fault { engine.new.fault ≡ fault_after None result }
+    ensures geometry { engine.new.geometry ≡ engine.old.geometry }
+    ensures honest { N.honest engine.new.nand ≡ N.honest engine.old.nand }
+    ensures failed { N.failed engine.old.nand ≤ N.failed engine.new.nand }
+    ensures rose { result ≡ Err WriteFault.Bus → HasRisen (N.failed engine.old.nand) (N.failed engine.new.nand) }
+    ensures place { OnOk result (CanLoad engine.new.mapping sector) }
+    ensures keys { keys_of engine.new.mapping.cached ≡ keys_of engine.old.mapping.cached }
+    ensures no_more { HasNoMore engine.old.mapping engine.new.mapping }
+    ensures tells { Tells (ram engine.old) (ram engine.new) result }
+    ensures went { N.honest engine.old.nand ≡ true → result ≢ Err WriteFault.Bus →
+        Went (ram engine.old) (N.flash engine.old.nand) (ram engine.new) (N.flash engine.new.nand) }
+    ensures truth { N.honest engine.old.nand ≡ true → IsTrue None (ram engine.old) (image_in N.flash engine.old) →
+        MatchResult result
+        (λ _. IsSame (ram engine.old) (image_in N.flash engine.old) (ram engine.new) (image_in N.flash engine.new))
+        (Refused (ram engine.old) (image_in N.flash engine.old) (ram engine.new) (image_in N.flash engine.new)) }
+{
+    if engine.mapping.can_load(sector) {
+        return Ok(());
+    }
+    match engine.mapping.least_recent() {
+        Some((least, _)) => {
+            let page = least / engine.geometry.entries();
+            engine.write_back(page)
+        }
+        None => Ok(()),
+    }
+}
+
+// The row of a sector's newest page. A fault stops the engine.
+fn find_row<N: Nand>(engine: &mut Engine<N>, sector: u32) -> Result<Option<u32>, WriteFault>
+    requires safe { IsSafe N.flash engine.old }
+    requires going { engine.old.fault ≡ None }
+    requires sector { sector < engine.old.geometry.sectors }
+    ensures safe { IsSafe N.flash engine.new }
+    ensures memory { ram engine.new ≡ record (ram engine.old) { fault = fault_after None result } }
+    ensures honest { N.honest engine.new.nand ≡ N.honest engine.old.nand }
+    ensures failed { N.failed engine.old.nand ≤ N.failed engine.new.nand }
+    ensures rose { result ≡ Err WriteFault.Bus → HasRisen (N.failed engine.old.nand) (N.failed engine.new.nand) }
+    ensures faults { IfErr result IsReadFault }
+    ensures row { IfOk result (λ row. ForSome row (λ r. r < row_count engine.old.geometry)) }
+    ensures same { N.honest engine.old.nand ≡ true → result ≢ Err WriteFault.Bus → N.flash engine.new.nand ≡ N.flash engine.old.nand }
+    ensures truth { N.honest engine.old.nand ≡ true → IsTrue None (ram engine.old) (image_in N.flash engine.old) →
+        MatchResult result
+        (λ row. row ≡ newest_row (image_in N.flash engine.old) (Sector sector))
+        (λ fault. fault ≡ WriteFault.Bus) }
+{
+    let answer = engine.row_of_sector(sector);
+    if let Err(fault) = &answer {
+        engine.fault = Some(*fault);
+    }
+    answer
+}
+
+// Sees that there is room for the sector's page and a place for its entry, and finds the row that it
+// has so far.
+fn prepare<N: Nand>(engine: &mut Engine<N>, sector: u32) -> Result<Option<u32>, WriteFault>
+    requires safe { IsSafe N.flash engine.old }
+    requires going { engine.old.fault ≡ None }
+    requires sector { sector < engine.old.geometry.sectors }
+    ensures safe { IsSafe N.flash engine.new }
+    ensures fault { engine.new.fault ≡ fault_after None result }
+    ensures geometry { engine.new.geometry ≡ engine.old.geometry }
+    ensures honest { N.honest engine.new.nand ≡ N.honest engine.old.nand }
+    ensures failed { N.failed engine.old.nand ≤ N.failed engine.new.nand }
+    ensures rose { result ≡ Err WriteFault.Bus → HasRisen (N.failed engine.old.nand) (N.failed engine.new.nand) }
+    ensures place { OnOk result (CanLoad engine.new.mapping sector) }
+    ensures row { IfOk result (λ row. ForSome row (λ r. r < row_count engine.old.geometry)) }
+    ensures keys { keys_of engine.new.mapping.cached ≡ keys_of engine.old.mapping.cached }
+    ensures no_more { HasNoMore engine.old.mapping engine.new.mapping }
+    ensures tells { Tells (ram engine.old) (ram engine.new) result }
+    ensures went { N.honest engine.old.nand ≡ true → result ≢ Err WriteFault.Bus →
+        Went (ram engine.old) (N.flash engine.old.nand) (ram engine.new) (N.flash engine.new.nand) }
+    ensures truth { N.honest engine.old.nand ≡ true → IsTrue None (ram engine.old) (image_in N.flash engine.old) →
+        MatchResult result
+        (λ row. IsFound sector row (ram engine.old) (image_in N.flash engine.old) (ram engine.new) (image_in N.flash engine.new))
+        (Refused (ram engine.old) (image_in N.flash engine.old) (ram engine.new) (image_in N.flash engine.new)) }
+{
+    engine.make_room()?;
+    make_place(engine, sector)?;
+    find_row(engine, sector)
+}
+
+// Caches a sector before anything of it is programmed.
+fn make_ready<N: Nand>(engine: &mut Engine<N>, sector: u32) -> Result<(), CallFault>
+    requires safe { IsSafe N.flash engine.old }
+    requires going { engine.old.fault ≡ None }
+    requires sector { sector < engine.old.geometry.sectors }
+    ensures safe { IsSafe N.flash engine.new }
+    ensures fault { engine.new.fault ≡ standing_after result }
+    ensures geometry { engine.new.geometry ≡ engine.old.geometry }
+    ensures honest { N.honest engine.new.nand ≡ N.honest engine.old.nand }
+    ensures failed { N.failed engine.old.nand ≤ N.failed engine.new.nand }
+    ensures rose { result ≡ Err (CallFault.Engine WriteFault.Bus) → HasRisen (N.failed engine.old.nand) (N.failed engine.new.nand) }
+    ensures holds { OnOk result (IsSome (slot_of engine.new.mapping sector)) }
+    ensures cached { IsSome (slot_of engine.old.mapping sector) → result ≢ Err CallFault.OutOfMemory }
+    ensures limits { HasLimitsOf engine.old.mapping engine.new.mapping }
+    ensures unmoved { engine.old.mapping.moved ≡ [] → engine.new.mapping.moved ≡ [] }
+    ensures tells { CallTells (ram engine.old) (ram engine.new) result }
+    ensures went { N.honest engine.old.nand ≡ true → result ≢ Err (CallFault.Engine WriteFault.Bus) →
+        Went (ram engine.old) (N.flash engine.old.nand) (ram engine.new) (N.flash engine.new.nand) }
+    ensures truth { N.honest engine.old.nand ≡ true → IsTrue None (ram engine.old) (image_in N.flash engine.old) →
+        MatchResult result
+        (λ _. KeepsArray engine.old.geometry (image_in N.flash engine.old) (ram engine.new) (image_in N.flash engine.new))
+        (CallRefused engine.old.geometry (image_in N.flash engine.old) (ram engine.new) (image_in N.flash engine.new)) }
+{
+    let row = prepare(engine, sector)?;
+    engine.cache_sector(sector, row)?;
+    Ok(())
+}
+
+// Makes a sector ready and programs a page of it with this data area.
+pub(crate) fn write_ready<N: Nand>(
+    engine: &mut Engine<N>,
+    sector: u32,
+    body: &[u8],
+) -> Result<(), CallFault>
+    requires safe { IsSafe N.flash engine.old }
+    requires going { engine.old.fault ≡ None }
+    requires sector { sector < engine.old.geometry.sectors }
+    requires body { length body.now ≡ engine.old.geometry.data_bytes }
+    ensures safe { IsSafe N.flash engine.new }
+    ensures fault { engine.new.fault ≡ standing_after result }
+    ensures geometry { engine.new.geometry ≡ engine.old.geometry }
+    ensures honest { N.honest engine.new.nand ≡ N.honest engine.old.nand }
+    ensures failed { N.failed engine.old.nand ≤ N.failed engine.new.nand }
+    ensures rose { result ≡ Err (CallFault.Engine WriteFault.Bus) → HasRisen (N.failed engine.old.nand) (N.failed engine.new.nand) }
+    ensures cached { IsSome (slot_of engine.old.mapping sector) → result ≢ Err CallFault.OutOfMemory }
+    ensures limits { HasLimitsOf engine.old.mapping engine.new.mapping }
+    ensures unmoved { engine.old.mapping.moved ≡ [] → engine.new.mapping.moved ≡ [] }
+    ensures tells { CallTells (ram engine.old) (ram engine.new) result }
+    ensures went { N.honest engine.old.nand ≡ true → result ≢ Err (CallFault.Engine WriteFault.Bus) →
+        Went (ram engine.old) (N.flash engine.old.nand) (ram engine.new) (N.flash engine.new.nand) }
+    ensures truth { N.honest engine.old.nand ≡ true → IsTrue None (ram engine.old) (image_in N.flash engine.old) →
+        MatchResult result
+        (λ _. HoldsSector engine.old.geometry sector body.now (image_in N.flash engine.old) (ram engine.new) (image_in N.flash engine.new))
+        (CallRefused engine.old.geometry (image_in N.flash engine.old) (ram engine.new) (image_in N.flash engine.new)) }
+{
+    make_ready(engine, sector)?;
+    engine.write_sector(sector, body)?;
+    Ok(())
+}
+
+// Makes a sector ready and programs a trim page of it.
+pub(crate) fn trim_ready<N: Nand>(engine: &mut Engine<N>, sector: u32) -> Result<(), CallFault>
+    requires safe { IsSafe N.flash engine.old }
+    requires going { engine.old.fault ≡ None }
+    requires sector { sector < engine.old.geometry.sectors }
+    ensures safe { IsSafe N.flash engine.new }
+    ensures fault { engine.new.fault ≡ standing_after result }
+    ensures geometry { engine.new.geometry ≡ engine.old.geometry }
+    ensures honest { N.honest engine.new.nand ≡ N.honest engine.old.nand }
+    ensures failed { N.failed engine.old.nand ≤ N.failed engine.new.nand }
+    ensures rose { result ≡ Err (CallFault.Engine WriteFault.Bus) → HasRisen (N.failed engine.old.nand) (N.failed engine.new.nand) }
+    ensures cached { IsSome (slot_of engine.old.mapping sector) → result ≢ Err CallFault.OutOfMemory }
+    ensures limits { HasLimitsOf engine.old.mapping engine.new.mapping }
+    ensures unmoved { engine.old.mapping.moved ≡ [] → engine.new.mapping.moved ≡ [] }
+    ensures tells { CallTells (ram engine.old) (ram engine.new) result }
+    ensures went { N.honest engine.old.nand ≡ true → result ≢ Err (CallFault.Engine WriteFault.Bus) →
+        Went (ram engine.old) (N.flash engine.old.nand) (ram engine.new) (N.flash engine.new.nand) }
+    ensures truth { N.honest engine.old.nand ≡ true → IsTrue None (ram engine.old) (image_in N.flash engine.old) →
+        MatchResult result
+        (λ _. HoldsSector engine.old.geometry sector (zeros engine.old.geometry) (image_in N.flash engine.old) (ram engine.new) (image_in N.flash engine.new))
+        (CallRefused engine.old.geometry (image_in N.flash engine.old) (ram engine.new) (image_in N.flash engine.new)) }
+{
+    make_ready(engine, sector)?;
+    engine.trim_sector(sector)?;
+    Ok(())
+}

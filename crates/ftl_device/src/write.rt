@@ -1,0 +1,198 @@
+//! Sectors are written and trimmed.
+ghost use Rattle.std.specs.Prelude.{◌≡◌, ◌≢◌, ◌↔◌, ◌+◌, ◌-◌, ◌<◌, ◌≤◌, ◌^◌, true, length, Ok, Err, Some, None, IsOk, IfErr, IsSome, OnOk, MatchOption};
+ghost use Rattle.std.specs.Option.{ForSome};
+ghost use Rattle.page_layout.specs.Counter.{HasRisen};
+ghost use Rattle.page_layout.specs.Geometry.{need};
+ghost use Rattle.bad_blocks.specs.Table.{good_count};
+ghost use Rattle.mapping_cache.specs.Mapping.{HasLimitsOf, slot_of};
+ghost use Rattle.allocation.specs.State.{free_count};
+ghost use Rattle.promises.specs.Step.{ArrayStep, Write, Trim};
+ghost use Rattle.image_check.specs.Stale.{is_stale};
+ghost use Rattle.image_check.specs.Mountable.{IsMountable};
+ghost use Rattle.collection.specs.Safe.{IsSafe, ram, image_in};
+ghost use Rattle.collection.specs.Log.{Went};
+ghost use Rattle.ftl_device.specs.Device.{IsDevice};
+ghost use Rattle.ftl_device.specs.Calls.{state_in, reply_of, stop_of, IsWell, Says, CallTells, standing_after, MayChange, MayNot, answer_of};
+
+use crate::device::{Device, LEAST_FREE};
+use crate::fault::{CallFault, DeviceFault};
+use crate::ready::{trim_ready, write_ready};
+use collection::WriteFault;
+use onfi_cycles::Nand;
+
+impl<N: Nand> Device<N> {
+    // What a stopped device answers.
+    pub(crate) fn going(&self) -> Result<(), DeviceFault>
+        ensures { MatchOption (stop_of self.now.engine.fault) (IsOk result) (λ fault. result ≡ Err fault) }
+    {
+        match self.engine.fault {
+            Some(WriteFault::Damaged) => Err(DeviceFault::Damaged),
+            Some(WriteFault::Bus) => Err(DeviceFault::BusFault),
+            Some(WriteFault::ReadOnly | WriteFault::SequenceSpent) | None => Ok(()),
+        }
+    }
+
+    // The answer of a device with too few free blocks, where that many were good as the call began.
+    fn short_of(&self, good: u32) -> DeviceFault
+        requires fewer { good_count (ram self.now.engine).blocks.table ≤ good }
+        ensures { result ≡ DeviceFault.ReadOnly (good_count (ram self.now.engine).blocks.table)
+            (need self.now.engine.geometry) (good - good_count (ram self.now.engine).blocks.table) }
+    {
+        let left = self.engine.blocks.good();
+        DeviceFault::ReadOnly {
+            good: left,
+            need: self.engine.geometry.need(),
+            failed: good - left,
+        }
+    }
+
+    // Whether a call may change a sector.
+    fn may_change(&self, sector: u32) -> Result<(), DeviceFault>
+        requires device { IsDevice N.flash self.now }
+        ensures may { OnOk result (MayChange (ram self.now.engine) self.now.read_only sector) }
+        ensures may_not { IfErr result (MayNot (ram self.now.engine) self.now.read_only sector) }
+    {
+        self.going()?;
+        if sector >= self.engine.geometry.sectors() {
+            return Err(DeviceFault::OutOfRange);
+        }
+        if self.read_only {
+            return Err(self.short_of(self.engine.blocks.good()));
+        }
+        if self.engine.next == u64::MAX {
+            return Err(DeviceFault::SequenceSpent);
+        }
+        Ok(())
+    }
+
+    // Ends a call that may have programmed: with too few free blocks the device is read-only.
+    fn finish(&mut self, good: u32, answer: Result<(), CallFault>) -> Result<(), DeviceFault>
+        requires safe { IsSafe N.flash self.old.engine }
+        requires fault { self.old.engine.fault ≡ standing_after answer }
+        requires scarce { answer ≡ Err (CallFault.Engine WriteFault.ReadOnly) → free_count (ram self.old.engine).blocks < 5 }
+        requires fewer { answer ≡ Err (CallFault.Engine WriteFault.ReadOnly) → good_count (ram self.old.engine).blocks.table ≤ good }
+        requires spent { answer ≡ Err (CallFault.Engine WriteFault.SequenceSpent) → self.old.engine.next ≡ 2 ^ 64 - 1 }
+        ensures engine { self.new.engine ≡ self.old.engine }
+        ensures device { IsDevice N.flash self.new }
+        ensures answer { result ≡ answer_of (ram self.new.engine) good answer }
+    {
+        self.read_only = self.engine.blocks.free() < LEAST_FREE;
+        match answer {
+            Ok(()) => Ok(()),
+            Err(CallFault::OutOfMemory) => Err(DeviceFault::OutOfMemory),
+            Err(CallFault::Engine(WriteFault::ReadOnly)) => Err(self.short_of(good)),
+            Err(CallFault::Engine(WriteFault::SequenceSpent)) => Err(DeviceFault::SequenceSpent),
+            Err(CallFault::Engine(WriteFault::Damaged)) => Err(DeviceFault::Damaged),
+            Err(CallFault::Engine(WriteFault::Bus)) => Err(DeviceFault::BusFault),
+        }
+    }
+    /// Writes a sector: `body` is one data area. Done, the sector holds these bytes and all others
+    /// hold what they held. A page of the sector is programmed, and before it the translation page of
+    /// the least recently used sector where the cache is full and that one is dirty; a page whose
+    /// program fails is programmed again in another block, and the failed block is grown bad.
+    ///
+    /// A call that ends with fewer than five free blocks leaves the device read-only, whatever it
+    /// answered.
+    ///
+    /// # Errors
+    ///
+    /// The first of these that holds:
+    ///
+    /// - `Damaged`, `BusFault` where it was answered before: nothing changes, and the die isn't asked.
+    /// - `OutOfRange` where there is no such sector. Nothing has changed.
+    /// - `ReadOnly` where the device is read-only, or no block is left for a page; the array is as it
+    ///   was, and the device is read-only until it is started anew. `good` counts the good blocks as
+    ///   the call ends, `need` is the geometry's, and `failed` counts the blocks that failed in the call.
+    /// - `SequenceSpent` where the next sequence is 2^64 - 1, as the call begins or later in it. The
+    ///   array is as it was.
+    /// - `OutOfMemory` where a growth was refused, which never is where the sector is cached or is
+    ///   stale in the image. Nothing of the sector was programmed, and the array is as it was.
+    /// - `Damaged` where a translation page isn't sound or not of its key, or names a row that the die
+    ///   doesn't have, which never comes of an honest die. The device is stopped.
+    /// - `BusFault` where the die answered no page or no outcome, and its count of failures has risen
+    ///   or stands at 2^64 - 1. The device is stopped, and what the die holds isn't known.
+    ///
+    /// Source: the DFTL paper, for the eviction; the rest is this project's.
+    pub fn write(&mut self, sector: u32, body: &[u8]) -> Result<(), DeviceFault>
+        requires device { IsDevice N.flash self.old }
+        requires body { length body.now ≡ self.old.engine.geometry.data_bytes }
+        ensures device { IsDevice N.flash self.new }
+        ensures geometry { self.new.engine.geometry ≡ self.old.engine.geometry }
+        ensures limits { HasLimitsOf self.old.engine.mapping self.new.engine.mapping }
+        ensures honest { N.honest self.new.engine.nand ≡ N.honest self.old.engine.nand }
+        ensures failed { N.failed self.old.engine.nand ≤ N.failed self.new.engine.nand }
+
+        // When it is refused, whatever the die does.
+        ensures stopped { ForSome (stop_of self.old.engine.fault) (λ fault. (result ≡ Err fault) × (self.new ≡ self.old)) }
+        ensures past { stop_of self.old.engine.fault ≡ None → (result ≡ Err DeviceFault.OutOfRange) ↔ (self.old.engine.geometry.sectors ≤ sector) }
+        ensures untouched { result ≡ Err DeviceFault.OutOfRange → self.new ≡ self.old }
+        ensures closed { self.old.read_only ≡ true → self.new ≡ self.old }
+        ensures says { IfErr result (Says (ram self.old.engine) (ram self.new.engine)) }
+        ensures rose { stop_of self.old.engine.fault ≡ None → result ≡ Err DeviceFault.BusFault →
+            HasRisen (N.failed self.old.engine.nand) (N.failed self.new.engine.nand) }
+        ensures cached { IsSome (slot_of self.old.engine.mapping sector) → result ≢ Err DeviceFault.OutOfMemory }
+
+        // What is true of an honest die.
+        ensures went { N.honest self.old.engine.nand ≡ true → result ≢ Err DeviceFault.BusFault →
+            Went (ram self.old.engine) (N.flash self.old.engine.nand) (ram self.new.engine) (N.flash self.new.engine.nand) }
+        ensures step { N.honest self.old.engine.nand ≡ true → IsWell N.flash self.old → result ≢ Err DeviceFault.BusFault →
+            ArrayStep self.old.engine.geometry (state_in N.flash self.old) (Write sector body.now) (reply_of result) (state_in N.flash self.new) }
+        ensures well { N.honest self.old.engine.nand ≡ true → IsWell N.flash self.old → result ≢ Err DeviceFault.BusFault →
+            IsWell N.flash self.new }
+        ensures stale { N.honest self.old.engine.nand ≡ true → IsWell N.flash self.old →
+            is_stale self.old.engine.geometry (image_in N.flash self.old.engine) sector ≡ true → result ≢ Err DeviceFault.OutOfMemory }
+        ensures mountable { N.honest self.old.engine.nand ≡ true → IsWell N.flash self.old → result ≢ Err DeviceFault.BusFault →
+            self.old.engine.mapping.capacity + self.old.engine.geometry.pages ≤ 65536 →
+            IsMountable self.old.engine.geometry (self.old.engine.mapping.capacity + self.old.engine.geometry.pages) (image_in N.flash self.new.engine) }
+    {
+        self.may_change(sector)?;
+        let good = self.engine.blocks.good();
+        let answer = write_ready(&mut self.engine, sector, body);
+        self.finish(good, answer)
+    }
+
+    /// Trims a sector: Done, it reads as 00h bytes and all others hold what they held. A trim page of
+    /// it is programmed, as `write` programs its page, also where the sector was never written.
+    ///
+    /// # Errors
+    ///
+    /// Those of `write`, as there.
+    ///
+    /// Source: the DFTL paper, for the eviction; the rest is this project's.
+    pub fn trim(&mut self, sector: u32) -> Result<(), DeviceFault>
+        requires device { IsDevice N.flash self.old }
+        ensures device { IsDevice N.flash self.new }
+        ensures geometry { self.new.engine.geometry ≡ self.old.engine.geometry }
+        ensures limits { HasLimitsOf self.old.engine.mapping self.new.engine.mapping }
+        ensures honest { N.honest self.new.engine.nand ≡ N.honest self.old.engine.nand }
+        ensures failed { N.failed self.old.engine.nand ≤ N.failed self.new.engine.nand }
+
+        // When it is refused, whatever the die does.
+        ensures stopped { ForSome (stop_of self.old.engine.fault) (λ fault. (result ≡ Err fault) × (self.new ≡ self.old)) }
+        ensures past { stop_of self.old.engine.fault ≡ None → (result ≡ Err DeviceFault.OutOfRange) ↔ (self.old.engine.geometry.sectors ≤ sector) }
+        ensures untouched { result ≡ Err DeviceFault.OutOfRange → self.new ≡ self.old }
+        ensures closed { self.old.read_only ≡ true → self.new ≡ self.old }
+        ensures says { IfErr result (Says (ram self.old.engine) (ram self.new.engine)) }
+        ensures rose { stop_of self.old.engine.fault ≡ None → result ≡ Err DeviceFault.BusFault →
+            HasRisen (N.failed self.old.engine.nand) (N.failed self.new.engine.nand) }
+        ensures cached { IsSome (slot_of self.old.engine.mapping sector) → result ≢ Err DeviceFault.OutOfMemory }
+
+        // What is true of an honest die.
+        ensures went { N.honest self.old.engine.nand ≡ true → result ≢ Err DeviceFault.BusFault →
+            Went (ram self.old.engine) (N.flash self.old.engine.nand) (ram self.new.engine) (N.flash self.new.engine.nand) }
+        ensures step { N.honest self.old.engine.nand ≡ true → IsWell N.flash self.old → result ≢ Err DeviceFault.BusFault →
+            ArrayStep self.old.engine.geometry (state_in N.flash self.old) (Trim sector) (reply_of result) (state_in N.flash self.new) }
+        ensures well { N.honest self.old.engine.nand ≡ true → IsWell N.flash self.old → result ≢ Err DeviceFault.BusFault →
+            IsWell N.flash self.new }
+        ensures stale { N.honest self.old.engine.nand ≡ true → IsWell N.flash self.old →
+            is_stale self.old.engine.geometry (image_in N.flash self.old.engine) sector ≡ true → result ≢ Err DeviceFault.OutOfMemory }
+        ensures mountable { N.honest self.old.engine.nand ≡ true → IsWell N.flash self.old → result ≢ Err DeviceFault.BusFault →
+            self.old.engine.mapping.capacity + self.old.engine.geometry.pages ≤ 65536 →
+            IsMountable self.old.engine.geometry (self.old.engine.mapping.capacity + self.old.engine.geometry.pages) (image_in N.flash self.new.engine) }
+    {
+        self.may_change(sector)?;
+        let good = self.engine.blocks.good();
+        let answer = trim_ready(&mut self.engine, sector);
+        self.finish(good, answer)
+    }
+}
