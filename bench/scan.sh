@@ -11,4 +11,5 @@ geometry=4096,128,64,992,60000
 folder="$(mktemp -d)"
 trap 'rm -rf "$folder"' EXIT
 python3 "$top/bench/make_image.py" "$geometry" "$folder/image.bin" --full 70:data:5:99999:0:ab
-python3 "$top/bench/measure.py" "$repeats" "$folder/image.bin" "$top/crates/nandctl/out/nandctl" "$geometry"
+python3 "$top/bench/measure.py" "$repeats" "$folder/image.bin" "nandctl sector" 0.5 8 \
+    "$top/crates/nandctl/out/nandctl" sector "$geometry" "$folder/image.bin" 5
