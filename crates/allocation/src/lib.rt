@@ -9,8 +9,6 @@ mod blocks;
 mod choose;
 mod fill;
 mod laws;
-#[cfg(test)]
-mod tests;
 mod update;
 
 pub use blocks::Blocks;

@@ -4,12 +4,13 @@ use Rattle.std.specs.List.{range_with_len}
 use Rattle.std.proofs.lemmas.List.FromFn.{length-map-range_with_len, get_or-map-range_with_len}
 use Rattle.std.proofs.lemmas.Option.{slice_get-get_or, slice_get_past, get_or_from_slice_get, slice_get_within}
 use Rattle.std.proofs.lemmas.List.{get_or_past}
+use Rattle.std.proofs.lemmas.List.Elements.{All-map}
 use Rattle.std.proofs.lemmas.Bool.{cases_lt, lt-ltb, le-ltb}
 use Rattle.page_layout.specs.Word.{word_at}
 use Rattle.bad_blocks.specs.declared.class.Class.{Class}
 use Rattle.bad_blocks.specs.declared.class.Class.TheVariants.{Good, Factory, Grown}
 use Rattle.bad_blocks.specs.declared.table.TableRow.{TableRow}
-use Rattle.bad_blocks.specs.Table.{IsCounted, no_table_row}
+use Rattle.bad_blocks.specs.Table.{IsCounted, no_table_row, unworn}
 use Rattle.bad_blocks.specs.declared.table.page.TableFault.{TableFault}
 use Rattle.bad_blocks.specs.TablePage.{code_of, word_of, word_or_padding, table_word, table_bytes, IsTablePage, IsFirstWrong, is_right}
 use Rattle.bad_blocks.proofs.WordLemmas.{length-words, words_spelled, words_spell}
@@ -34,6 +35,13 @@ row_counted rows b r counted is =
 
 table_word_small : (rows : List TableRow) (b : ℕ) → All IsCounted rows → table_word rows b < 2 ^ 32
 table_word_small rows b counted = row_or_padding_small (slice_get rows b) (λ r is. row_counted rows b r counted is)
+
+-- the counts of blocks that were never erased
+pub unworn_counted : (classes : List Class) → All IsCounted (unworn classes)
+unworn_counted classes = All-map IsCounted never_erased classes (λ k d l. record { most = omega arith })
+  where
+    never_erased : Class → TableRow
+    never_erased class = record { class = class; wear = 0 }
 
 abbrev words_of : ℕ → List TableRow → ℕ → List ℕ
 words_of entries rows u = map (table_word rows) (range_with_len (u * entries) entries)
@@ -120,7 +128,7 @@ table_rows_same entries u rows others ca co n same b low high =
 
 -- ---- a page of a table is right
 
-right_word : (rows : List TableRow) (b : ℕ) → is_right (length rows) b (table_word rows b) ≡ true
+pub right_word : (rows : List TableRow) (b : ℕ) → is_right (length rows) b (table_word rows b) ≡ true
 right_word rows b = elim (cases_lt b (length rows)) [
   | inl within ↦
       let row : TableRow = get_or rows b no_table_row in

@@ -1,5 +1,5 @@
 -- The table of blocks as a list of rows, one a block.
-use Rattle.std.specs.Prelude.{ℕ, ◌+◌, ◌≤◌, Bool, true, false, List, count_by, get_or, min, slice_set}
+use Rattle.std.specs.Prelude.{ℕ, ◌+◌, ◌≤◌, Bool, true, false, List, count_by, get_or, map, min, slice_set}
 use Rattle.bad_blocks.specs.declared.class.Class.{Class}
 use Rattle.bad_blocks.specs.declared.class.Class.TheVariants.{Good, Factory, Grown}
 use Rattle.bad_blocks.specs.declared.table.TableRow.{TableRow}
@@ -39,6 +39,10 @@ is_good_at rows block = is_good (table_row_at rows block)
 -- how many blocks are good
 abbrev pub good_count : List TableRow → ℕ
 good_count rows = count_by is_good rows
+
+-- the table of blocks of these classes, none of which was ever erased
+abbrev pub unworn : List Class → List TableRow
+unworn classes = map (λ class. record { class = class; wear = 0 }) classes
 
 -- the table where a block has failed
 abbrev pub retired : List TableRow → ℕ → List TableRow

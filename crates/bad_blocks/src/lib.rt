@@ -6,10 +6,8 @@ mod class;
 pub mod laws;
 mod scan;
 mod table;
-#[cfg(test)]
-mod tests;
 
 pub use class::Class;
 pub use scan::{ScanFault, factory_scan, has_zero};
-pub use table::page::{TableFault, read_table_page, write_table_page};
+pub use table::page::{TableFault, read_table_page, write_table_page, write_unworn_page};
 pub use table::{MOST_WEAR, Table, TableRow};

@@ -17,6 +17,3 @@ pub use certificate::Certificate;
 pub use fault::CertFault;
 pub use read::read_certificate;
 pub use write::write_certificate;
-
-#[cfg(test)]
-mod tests;

@@ -2,7 +2,7 @@
 ghost use Rattle.std.specs.Prelude.{◌≡◌, ◌≢◌, ◌⊎◌, ◌≤◌, ◌<◌, ◌+◌, ◌↔◌, true, ℕ, List, Option, IsTrue, Err, length, OnOk, IfOk, IfErr};
 ghost use Rattle.page_layout.specs.declared.record.Record.{Record};
 ghost use Rattle.page_layout.specs.Counter.{HasRisen};
-ghost use Rattle.page_layout.specs.Page.{Image};
+ghost use Rattle.page_layout.specs.Page.{Image, IsImage};
 ghost use Rattle.page_layout.specs.Geometry.{row_count, translation_pages, table_pages};
 ghost use Rattle.certificate.specs.Claim.{sizes_of};
 ghost use Rattle.image_check.specs.Accepted.{IsAcceptance};
@@ -85,6 +85,7 @@ fn examine<S: PageSource>(
     requires claims { (marks : List (Option Record)) (claims : List (Option ℕ)) → HasPassed marks 0 claims room.old.passed.items }
     ensures ok { OnOk result (S.honest source.old ≡ true → (capacity : ℕ) → HoldBetween geometry.now capacity (S.flash source.old).image certificate.now 1 11) }
     ensures stale { OnOk result (S.honest source.old ≡ true → room.new.stale.items ≡ stale_sectors geometry.now (S.flash source.old).image) }
+    ensures whole { OnOk result (S.honest source.old ≡ true → IsImage geometry.now (S.flash source.old).image) }
     ensures rising { OnOk result (IsRisingBelow geometry.now.sectors room.new.stale.items) }
     ensures err { IfErr result (λ refusal. S.honest source.old ≡ true → (capacity : ℕ) → IsStop refusal ⊎ FailsFrom geometry.now capacity (S.flash source.old).image certificate.now 1 refusal) }
     ensures same { result ≢ Err Refusal.Source → S.honest source.old ≡ true → S.flash source.new ≡ S.flash source.old }
@@ -139,6 +140,7 @@ pub fn check<'a, S: PageSource>(
     requires same_geometry { (S.flash source.old).geometry ≡ geometry.now }
     // The truth of the answer, for a source that keeps its promises.
     ensures ok { IfOk result (λ accepted. S.honest source.old ≡ true → IsAcceptance geometry.now capacity (S.flash source.old).image certificate.now accepted) }
+    ensures whole { OnOk result (S.honest source.old ≡ true → IsImage geometry.now (S.flash source.old).image) }
     ensures err { IfErr result (λ refusal. S.honest source.old ≡ true → IsRefusal geometry.now capacity (S.flash source.old).image certificate.now refusal) }
     ensures same { result ≢ Err Refusal.Source → S.honest source.old ≡ true → S.flash source.new ≡ S.flash source.old }
     // Whatever the source does.

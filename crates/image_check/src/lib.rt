@@ -4,8 +4,6 @@
 
 mod accepted;
 mod blocks;
-#[cfg(test)]
-mod check_rows;
 mod checker;
 mod judge;
 pub mod laws;

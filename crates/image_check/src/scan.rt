@@ -203,6 +203,3 @@ pub fn sector<S: PageSource>(
     }
     Ok(())
 }
-
-#[cfg(test)]
-mod tests;

@@ -5,8 +5,6 @@
 mod mapping;
 mod pages;
 mod slot;
-#[cfg(test)]
-mod tests;
 
 pub use mapping::{LoadFault, Mapping};
 pub use pages::{DirtyOf, MovedOf};

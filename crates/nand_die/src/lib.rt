@@ -20,6 +20,3 @@ mod strike;
 
 pub use die::Die;
 pub use fault::{DieFault, Fault, Mark};
-
-#[cfg(test)]
-mod tests;

@@ -13,6 +13,3 @@ pub use bus::Bus;
 pub use driver::Driver;
 pub use nand::{BusFault, Nand, Outcome};
 pub use status::Status;
-
-#[cfg(test)]
-mod tests;

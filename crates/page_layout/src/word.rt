@@ -42,20 +42,3 @@ pub fn write_word(page: &mut [u8], i: u32, word: u32)
     let at = 4 * i as usize;
     page[at..at + 4].copy_from_slice(&word.to_le_bytes());
 }
-
-#[cfg(test)]
-mod tests {
-    use super::*;
-
-    #[test]
-    fn row_8_and_no_row(rt: HostRuntime) {
-        let mut page = [0xFF; 12];
-        assert_eq!(rt; row_from(read_word(&page, 1)), None);
-        write_word(&mut page, 1, word_from(Some(8)));
-        assert_eq!(rt; page[4..8], [0x08, 0x00, 0x00, 0x00][..]);
-        assert_eq!(rt; row_from(read_word(&page, 1)), Some(8));
-        assert_eq!(rt; row_from(read_word(&page, 2)), None);
-        write_word(&mut page, 1, word_from(None));
-        assert_eq!(rt; page, [0xFF; 12]);
-    }
-}

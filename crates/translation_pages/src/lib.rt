@@ -8,8 +8,6 @@
 
 mod directory;
 mod page;
-#[cfg(test)]
-mod tests;
 
 pub use directory::Directory;
 pub use page::{entry, patch, spelling_law};

@@ -1,7 +1,7 @@
 //! Table pages: the bytes that keep the table on flash.
 ghost use Rattle.std.specs.Prelude.{◌≡◌, ℕ, ◌+◌, ◌*◌, ◌/◌, ◌%◌, ◌<◌, ◌≤◌, ◌^◌, All, List, length, IsOk, IfErr, OnOk, OnErr};
 ghost use Rattle.page_layout.specs.Limits.{IsDataSize};
-ghost use Rattle.bad_blocks.specs.Table.{IsCounted};
+ghost use Rattle.bad_blocks.specs.Table.{IsCounted, unworn};
 ghost use Rattle.bad_blocks.specs.TablePage.{word_of, table_word, is_right, table_bytes, IsTablePage, IsWellFormed, IsFirstWrong, KeepsOthers};
 
 use super::{Table, TableRow, count_good};
@@ -39,6 +39,16 @@ fn word_of_block(rows: &[TableRow], block: usize) -> u32
 {
     match rows.get(block) {
         Some(row) => word_from(*row),
+        None => PADDING,
+    }
+}
+
+// The same of blocks that were never erased.
+fn word_of_unworn(classes: &[Class], block: usize) -> u32
+    ensures { result ≡ table_word (unworn classes.now) block }
+{
+    match classes.get(block) {
+        Some(class) => class.code() as u32,
         None => PADDING,
     }
 }
@@ -121,6 +131,16 @@ fn write_words(rows: &[TableRow], u: u32, page: &mut [u8])
     }
 }
 
+fn write_unworn_words(classes: &[Class], u: u32, page: &mut [u8])
+    requires { IsDataSize (length page.old) }
+    ensures { IsTablePage (length page.old / 4) (unworn classes.now) u page.new }
+{
+    let entries = entries_of(page);
+    for i in 0..entries {
+        write_word(page, i, word_of_unworn(classes, block_of(u, entries, i)));
+    }
+}
+
 // Takes the words of table page `u`, all of them right, for the rows of its blocks.
 fn read_words(rows: &mut [TableRow], u: u32, page: &[u8])
     requires counted { All IsCounted rows.old }
@@ -148,6 +168,15 @@ pub fn write_table_page(table: &Table, u: u32, page: &mut [u8])
     ensures { page.new ≡ table_bytes (length page.old / 4) table.now u }
 {
     write_words(&table.rows, u, page);
+}
+
+/// Writes table page `u` of blocks that were never erased, which are known by their classes: the page
+/// that `write_table_page` writes of their table (this project).
+pub fn write_unworn_page(classes: &[Class], u: u32, page: &mut [u8])
+    requires { IsDataSize (length page.old) }
+    ensures { page.new ≡ table_bytes (length page.old / 4) (unworn classes.now) u }
+{
+    write_unworn_words(classes, u, page);
 }
 
 /// Takes the rows of table page `u` from a page's data area (this project). A page that no table of

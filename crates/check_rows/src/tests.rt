@@ -1,0 +1,5 @@
+//! Translation pages, certificates, and images held against certificates.
+
+mod certificates;
+mod images;
+mod translation;
