@@ -25,11 +25,10 @@ use Rattle.mount.specs.Formatted.{table_after, table_record, IsDone, HasTablePag
 use Rattle.mount.specs.Attempt.{done_in, IsUnderway, IsTrying, IsTableProgram}
 use Rattle.onfi_cycles.specs.declared.nand.Outcome.{Outcome}
 use Rattle.onfi_cycles.specs.Outcomes.{is_passed}
-use Rattle.page_layout.specs.declared.record.Kind.TheVariants as kind
 use Rattle.mount.proofs.SizeLemmas.{table_pages_fit}
 use Rattle.mount.proofs.GoodLemmas.{good_count-retired}
 use Rattle.mount.proofs.LogLemmas.{length-accounts_of, length-accounted_all, accounted-same, accounted-other, failed_in-passed, failed_in-other, failures-passed, failures-failed}
-use Rattle.mount.proofs.TableLemmas.{length-table_after, table_after-at, table_after-passed, table_after-failed}
+use Rattle.mount.proofs.TableLemmas.{length-table_after, table_after-passed, table_after-failed}
 use Rattle.mount.proofs.BlockLemmas.{row_within, block_of_row, page_of_row}
 use Rattle.mount.proofs.FreshLemmas.{fresh_unsound, done_none}
 
@@ -264,38 +263,31 @@ fails g first old new table block done next other log its left h steps says lowe
 
 -- ---- the same for some log
 
--- what a block that was never erased has for its record
-fresh_wear : (g : Geometry) (first old : Flash) (table : List TableRow) (block done next : ℕ) (log : List Operation) → IsUnderway g first old table block done next log → block < g.blocks → wear_at table block ≡ 0
-fresh_wear g first old table block done next log u within =
-    ap (λ (t : List TableRow). wear_at t block) u.table_is ∙ ap (λ (row : TableRow). row.wear) (table_after-at g first.image log block within)
-
 pub tries_more : (g : Geometry) (first old new : Flash) (table : List TableRow) (block done next failed : ℕ) (outcome : Outcome) → IsTrying g first old table block done next failed → block < g.blocks → done < table_pages g
-    → is_good_at table block ≡ true → IsTableProgram g old new (row_of g block done) done next table (wear_at table block) outcome → is_passed outcome ≡ true → IsTrying g first new table block (done + 1) (next + 1) failed
+    → is_good_at table block ≡ true → IsTableProgram g old new (row_of g block done) done next table outcome → is_passed outcome ≡ true → IsTrying g first new table block (done + 1) (next + 1) failed
 tries_more g first old new table block done next failed outcome trying within room good program passed =
     let h : IsNext g first old table block done next trying.log = record { so_far = trying.underway; within = within; room = room; small = table_pages_fit g; good = good } in
     let row : ℕ = row_of g block done in
     let left : Page = page_at new row in
     let steps : Steps old (Program row program.its true left) new = subst (λ b. Steps old (Program row program.its b left) new) passed program.step in
-    let says : record_of program.its ≡ Some (table_record done next) = subst (λ w. record_of program.its ≡ Some (record { kind = kind.Table; number = done; sequence = next; wear = w })) (fresh_wear g first old table block done next trying.log trying.underway within) program.says in
     record {
       log = trying.log ++ Program row program.its true left ∷ [];
-      underway = passes g first old new table block done next trying.log program.its left h steps program.body says;
+      underway = passes g first old new table block done next trying.log program.its left h steps program.body program.says;
       failed_is = failures-passed trying.log (Program row program.its true left) refl ∙ trying.failed_is;
       fewer = trying.fewer;
     }
 
 pub tries_failed : (g : Geometry) (first old new : Flash) (table : List TableRow) (block done next failed : ℕ) (outcome : Outcome) → IsTrying g first old table block done next failed → block < g.blocks → done < table_pages g
-    → is_good_at table block ≡ true → ((lower : ℕ) → lower < block → is_good_at table lower ≡ false) → IsTableProgram g old new (row_of g block done) done next table (wear_at table block) outcome → is_passed outcome ≡ false
+    → is_good_at table block ≡ true → ((lower : ℕ) → lower < block → is_good_at table lower ≡ false) → IsTableProgram g old new (row_of g block done) done next table outcome → is_passed outcome ≡ false
     → (other : ℕ) → IsTrying g first new (retired table block) other 0 (next + 1) (failed + 1)
 tries_failed g first old new table block done next failed outcome trying within room good lowest program passed other =
     let h : IsNext g first old table block done next trying.log = record { so_far = trying.underway; within = within; room = room; small = table_pages_fit g; good = good } in
     let row : ℕ = row_of g block done in
     let left : Page = page_at new row in
     let steps : Steps old (Program row program.its false left) new = subst (λ b. Steps old (Program row program.its b left) new) passed program.step in
-    let says : record_of program.its ≡ Some (table_record done next) = subst (λ w. record_of program.its ≡ Some (record { kind = kind.Table; number = done; sequence = next; wear = w })) (fresh_wear g first old table block done next trying.log trying.underway within) program.says in
     record {
       log = trying.log ++ Program row program.its false left ∷ [];
-      underway = fails g first old new table block done next other trying.log program.its left h steps says lowest;
+      underway = fails g first old new table block done next other trying.log program.its left h steps program.says lowest;
       failed_is = failures-failed trying.log (Program row program.its false left) refl ∙ ap (λ n. n + 1) trying.failed_is;
       fewer = (let in_table : block < length table = rw (trying.underway.table_is, length-table_after g first.image trying.log) within in
           omega (arith, trying.fewer, good_count-retired table block in_table good));

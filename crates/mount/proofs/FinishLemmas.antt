@@ -35,7 +35,7 @@ map-replicate f x from (suc n) same =
     let tail : map f (range_with_len (from + 1) n) ≡ replicate n x = map-replicate f x (from + 1) n same in
     cc
 
-zero_sector : (g : Geometry) (image : Image) (n : ℕ) → newest (marks image) (Sector n) ≡ None → sector_of g image n ≡ zeros g
+pub zero_sector : (g : Geometry) (image : Image) (n : ℕ) → newest (marks image) (Sector n) ≡ None → sector_of g image n ≡ zeros g
 unfolding sector_of
 zero_sector g image n none = ap (λ row. content_at g image row) none
 
@@ -97,16 +97,18 @@ shows_none g first now table block done next b log u within good =
 -- ---- the whole die
 
 pub finished : (g : Geometry) (first now : Flash) (table : List TableRow) (block next good : ℕ) (log : List Operation) → IsUnderway g first now table block (table_pages g) next log → block < g.blocks → is_good_at table block ≡ true
-    → ((lower : ℕ) → lower < block → is_good_at table lower ≡ false) → failures log ≤ 2 → good ≡ good_count table → good + failures log ≡ good_after g first.image [] → need g ≤ good → IsFormatted g first now good
-finished g first now table block next good log u within is_good lowest most good_is fewer enough =
+    → ((lower : ℕ) → lower < block → is_good_at table lower ≡ false) → failures log ≤ 2 → next ≤ 1 + 3 * table_pages g → good ≡ good_count table → good + failures log ≡ good_after g first.image [] → need g ≤ good → IsFormatted g first now good
+finished g first now table block next good log u within is_good lowest most few good_is fewer enough =
     let same : table ≡ table_after g first.image log = u.table_is in
     let alike : (b : ℕ) → b < g.blocks → is_good_at table b ≡ is_good_after g first.image log b =
     λ b l. ap (λ (t : List TableRow). is_good_at t b) same ∙ good_after-table g first.image log b l in
     record {
+      whole = u.whole;
       fresh = u.fresh;
       log = log;
       done = u.did;
       at_most = most;
+      few_programs = omega (arith, u.count, few);
       good_is = good_is ∙ (ap good_count same ∙ good_count-table g first.image log);
       fewer = fewer;
       enough = enough;

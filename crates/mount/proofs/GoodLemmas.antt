@@ -1,10 +1,14 @@
 -- Counting good blocks.
-use Rattle.std.proofs.Common.{◌≡◌, ℕ, zero, suc, ◌+◌, ◌<◌, true, false, cond, List, [], ◌∷◌, length, refl, arith}
+use Rattle.std.proofs.Common.{◌≡◌, ℕ, zero, suc, ◌+◌, ◌<◌, true, false, cond, List, [], ◌∷◌, length, get_or, set, refl, ap, arith}
+use Rattle.std.specs.Prelude.{count_by}
+use Rattle.std.proofs.Math.ListN.{get_or-map}
+use Rattle.std.proofs.lemmas.List.{length-map}
 use Rattle.std.proofs.lemmas.List.Sums.{sum_by-cons}
 use Rattle.bad_blocks.specs.declared.class.Class.{Class}
 use Rattle.bad_blocks.specs.declared.class.Class.TheVariants.{Good, Factory, Grown}
 use Rattle.bad_blocks.specs.declared.table.TableRow.{TableRow}
-use Rattle.bad_blocks.specs.Table.{is_good, is_good_class, is_good_at, good_count, retired}
+use Rattle.bad_blocks.specs.Table.{is_good, is_good_class, is_good_at, good_count, retired, unworn}
+use Rattle.page_layout.proofs.CountLemmas.{count_by-map}
 
 -- where no block is good
 pub none_good : (rows : List TableRow) → ((b : ℕ) → b < length rows → is_good_at rows b ≡ false) → good_count rows ≡ 0
@@ -31,3 +35,22 @@ pub good_class : (class : Class) → is_good_class class ≡ true → class ≡ 
 good_class Good good = refl
 good_class Factory good = absurd (cc good)
 good_class Grown good = absurd (cc good)
+
+-- ---- blocks that were never erased
+
+abbrev row_of : Class → TableRow
+row_of class = record { class = class; wear = 0 }
+
+pub unworn_is_good_at : (classes : List Class) (b : ℕ) → is_good_at (unworn classes) b ≡ is_good_class (get_or classes b Good)
+unworn_is_good_at classes b = ap is_good (get_or-map row_of classes b Good)
+
+pub unworn_length : (classes : List Class) → length (unworn classes) ≡ length classes
+unworn_length classes = length-map classes row_of
+
+pub unworn_good_count : (classes : List Class) → good_count (unworn classes) ≡ count_by is_good_class classes
+unworn_good_count classes = count_by-map is_good row_of classes
+
+pub unworn_retired : (classes : List Class) (b : ℕ) → unworn (set classes b Grown) ≡ retired (unworn classes) b
+unworn_retired [] b = refl
+unworn_retired (class ∷ classes) zero = refl
+unworn_retired (class ∷ classes) (suc b) = ap (λ (rows : List TableRow). row_of class ∷ rows) (unworn_retired classes b)

@@ -15,3 +15,4 @@ pub mod NextLemmas
 pub mod RefuseLemmas
 pub mod WordLemmas
 pub mod MountLemmas
+pub mod ReadyLemmas

@@ -2,16 +2,20 @@
 use Rattle.std.proofs.Common.{[], ◌≡◌, inl, inr, ℕ, ◌+◌, ◌-◌, ◌*◌, ◌/◌, ◌<◌, ◌≤◌, Bool, false, List, length, set, Option, Some, None, get_or, sym, ◌∙◌, ap, arith}
 use Rattle.std.specs.Option.{IfSome, option_or}
 use Rattle.std.proofs.lemmas.Bool.{cases_eq}
-use Rattle.std.proofs.lemmas.List.{get_or-set_same, get_or-set_other}
+use Rattle.std.proofs.Math.ListN.{get_or-map}
+use Rattle.std.proofs.lemmas.List.{get_or-set_same, get_or-set_other, length-map}
 use Rattle.std.proofs.lemmas.Nat.{div-mul-add}
 use Rattle.page_layout.specs.declared.geometry.Geometry.{Geometry}
 use Rattle.page_layout.specs.Page.{Image}
 use Rattle.page_layout.specs.Flash.{no_page}
+use Rattle.bad_blocks.specs.declared.class.Class.{Class}
+use Rattle.bad_blocks.specs.declared.class.Class.TheVariants.{Good}
 use Rattle.bad_blocks.specs.declared.table.TableRow.{TableRow}
 use Rattle.bad_blocks.specs.Marks.{is_marked}
 use Rattle.mount.specs.Fresh.{is_page_used, is_used, IsFirst}
-use Rattle.mount.specs.Formatted.{class_after}
-use Rattle.bad_blocks.specs.Table.{no_table_row}
+use Rattle.mount.specs.Formatted.{class_after, table_after}
+use Rattle.bad_blocks.specs.Table.{no_table_row, unworn}
+use Rattle.bad_blocks.proofs.RangeLemmas.{map_range_from_places}
 use Rattle.mount.proofs.TableLemmas.{row_after}
 use Rattle.mount.proofs.FirstLemmas.{IsFirst-same, first_behind, first_in_front}
 
@@ -37,14 +41,21 @@ first_used-block g image block from to marked found is low high first =
     (λ row l h. is_used-block g image block row marked is (omega arith) (omega arith)) first
 
 -- one block more
-pub rows_more : (g : Geometry) (image : Image) (block : ℕ) (marked : Bool) (row : TableRow) (rows : List TableRow) → marked ≡ is_marked g image block → row ≡ record { class = class_after marked false; wear = 0 } → block < length rows
-    → ((k : ℕ) → k < block → get_or rows k no_table_row ≡ row_after g image [] k) → (k : ℕ) → k < block + 1 → get_or (set rows block row) k no_table_row ≡ row_after g image [] k
-rows_more g image block marked row rows is row_is within below k l = elim (cases_eq k block) [
-  | inl same ↦
-      let of_mark : Bool → TableRow = λ m. record { class = class_after m false; wear = 0 } in
-      rw (same, get_or-set_same rows block row no_table_row within) (row_is ∙ ap of_mark is)
-  | inr ne ↦ rw (get_or-set_other rows block k row no_table_row ne) (below k (omega arith))
+pub classes_more : (g : Geometry) (image : Image) (block : ℕ) (marked : Bool) (class : Class) (classes : List Class) → marked ≡ is_marked g image block → class ≡ class_after marked false → block < length classes
+    → ((k : ℕ) → k < block → get_or classes k Good ≡ class_after (is_marked g image k) false) → (k : ℕ) → k < block + 1 → get_or (set classes block class) k Good ≡ class_after (is_marked g image k) false
+classes_more g image block marked class classes is class_is within below k l = elim (cases_eq k block) [
+  | inl same ↦ rw (same, get_or-set_same classes block class Good within) (class_is ∙ ap (λ m. class_after m false) is)
+  | inr ne ↦ rw (get_or-set_other classes block k class Good ne) (below k (omega arith))
 ]
+
+-- the table of a fresh die, once the class of each block is known
+pub classes_table : (g : Geometry) (image : Image) (classes : List Class) → length classes ≡ g.blocks → ((k : ℕ) → k < g.blocks → get_or classes k Good ≡ class_after (is_marked g image k) false) → unworn classes ≡ table_after g image []
+classes_table g image classes size same =
+    map_range_from_places (row_after g image []) g.blocks no_table_row (unworn classes) (length-map classes row_of ∙ size)
+    (λ k l. get_or-map row_of classes k Good ∙ ap row_of (same k l))
+  where
+    row_of : Class → TableRow
+    row_of class = record { class = class; wear = 0 }
 
 -- what was found below a block, and then in it
 pub first_more : (test : ℕ → Bool) (block pages : ℕ) (first used : Option ℕ) → IsFirst test 0 (block * pages) first → IsFirst test (block * pages) (block * pages + pages) used

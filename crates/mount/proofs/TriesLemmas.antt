@@ -1,5 +1,5 @@
 -- Writing the table pages into one block after another.
-use Rattle.std.proofs.Common.{◌≡◌, refl, ℕ, ◌+◌, ◌<◌, ◌≤◌, true, false, List, [], ◌∷◌, Result, Ok, Err, sym, ◌∙◌, ap, arith}
+use Rattle.std.proofs.Common.{◌≡◌, refl, ℕ, ◌+◌, ◌*◌, ◌<◌, ◌≤◌, true, false, List, [], ◌∷◌, Result, Ok, Err, sym, ◌∙◌, ap, arith}
 use Rattle.page_layout.specs.declared.geometry.Geometry.{Geometry}
 use Rattle.page_layout.specs.Geometry.{need, row_count, table_pages}
 use Rattle.page_layout.specs.Flash.{Flash, Operation, Program, Erase, Leads}
@@ -32,9 +32,9 @@ tries-failed g first now table block next failed Failed passed tries other = tri
 -- ---- the answers
 
 pub writes_all : (g : Geometry) (first now : Flash) (table : List TableRow) (block next failed good : ℕ) → IsTrying g first now table block (table_pages g) next failed → block < g.blocks → is_good_at table block ≡ true
-    → ((lower : ℕ) → lower < block → is_good_at table lower ≡ false) → failed ≤ 2 → good ≡ good_count table → need g ≤ good → IsFormatted g first now good
-writes_all g first now table block next failed good trying within is_good lowest most good_is enough =
-    finished g first now table block next good trying.log trying.underway within is_good lowest (omega (arith, trying.failed_is, most)) good_is (omega (arith, trying.failed_is, trying.fewer, good_is)) enough
+    → ((lower : ℕ) → lower < block → is_good_at table lower ≡ false) → failed ≤ 2 → next ≤ 1 + 3 * table_pages g → good ≡ good_count table → need g ≤ good → IsFormatted g first now good
+writes_all g first now table block next failed good trying within is_good lowest most few good_is enough =
+    finished g first now table block next good trying.log trying.underway within is_good lowest (omega (arith, trying.failed_is, most)) few good_is (omega (arith, trying.failed_is, trying.fewer, good_is)) enough
 
 no_log : (a b : Flash) (log : List Operation) → Leads a log b → programs_in log ≡ 0 → erases_in log ≡ 0 → b ≡ a
 no_log a b [] leads programs erases = leads

@@ -16,23 +16,22 @@ use Rattle.bad_blocks.specs.TablePage.{table_bytes}
 use Rattle.onfi_cycles.specs.declared.nand.Outcome.{Outcome}
 use Rattle.onfi_cycles.specs.declared.nand.Outcome.TheVariants.{Passed, Failed}
 use Rattle.onfi_cycles.specs.Outcomes.{is_passed}
-use Rattle.page_layout.specs.declared.record.Kind.TheVariants as kind
 use Rattle.mount.specs.Fresh.{IsFresh}
 use Rattle.promises.specs.Log.{programs_in, failed_in}
 use Rattle.promises.specs.Legal.{account_at, accounts_of, accounted_all}
 use Rattle.mount.specs.Log.{failures}
-use Rattle.mount.specs.Formatted.{table_after, good_after, IsDone, HasTablePage, IsFormatted, IsTooFewGood, IsWriteFailed}
+use Rattle.mount.specs.Formatted.{table_after, table_record, good_after, IsDone, HasTablePage, IsFormatted, IsTooFewGood, IsWriteFailed}
 use Rattle.mount.specs.declared.format_fault.FormatFault.{FormatFault}
 use Rattle.mount.specs.declared.format_fault.FormatFault.TheVariants.{TooFewGood, Bus, OutOfMemory, WriteFailed, NotFresh}
 
 -- ---- one program
 
--- table page u of the table was programmed in a row, with a record of this sequence
-pub record IsTableProgram (g : Geometry) (old new : Flash) (row u sequence : ℕ) (table : List TableRow) (wear : ℕ) (outcome : Outcome) : Type 0 where
+-- table page u of the table was programmed in a row of a block that was never erased, with a record of this sequence
+pub record IsTableProgram (g : Geometry) (old new : Flash) (row u sequence : ℕ) (table : List TableRow) (outcome : Outcome) : Type 0 where
   pub its : Page
   pub step : Steps old (Program row its (is_passed outcome) (page_at new row)) new
   pub body : its.body ≡ table_bytes (entries g) table u
-  pub says : record_of its ≡ Some (record { kind = kind.Table; number = u; sequence = sequence; wear = wear })
+  pub says : record_of its ≡ Some (table_record u sequence)
 
 -- ---- the programs so far
 

@@ -6,7 +6,7 @@ use Rattle.page_layout.specs.declared.record.Record.{Record}
 use Rattle.page_layout.specs.declared.record.Kind.TheVariants as kind
 use Rattle.page_layout.specs.declared.record.Key.TheVariants.{Sector, Translation, Table}
 use Rattle.page_layout.specs.Geometry.{entries, need, row_count, table_pages}
-use Rattle.page_layout.specs.Page.{Page, Image}
+use Rattle.page_layout.specs.Page.{Page, Image, IsImage}
 use Rattle.page_layout.specs.Sound.{record_of}
 use Rattle.page_layout.specs.Block.{block_pages, is_broken, has_gap}
 use Rattle.page_layout.specs.Newest.{newest}
@@ -93,12 +93,15 @@ pub record IsBlank (g : Geometry) (image : Image) (next : ℕ) : Type 0 where
   pub below : AreBelow (marks image) next
 
 -- a formatted die with so many good blocks: those that the table calls good, in which no page shows a failure. What isn't
--- a table page in them is erased as it was.
+-- a table page in them is erased as it was. At most three blocks were tried.
+-- Law: what the checker finds in such a die (`FormattedLaw`).
 pub record IsFormatted (g : Geometry) (old new : Flash) (good : ℕ) : Type 0 where
+  pub whole : IsImage g old.image
   pub fresh : IsFresh g old.image
   pub log : List Operation
   pub done : IsDone g old new log
   pub at_most : failures log ≤ 2
+  pub few_programs : programs_in log ≤ 3 * table_pages g
   pub good_is : good ≡ good_after g old.image log
   pub fewer : good + failures log ≡ good_after g old.image []
   pub enough : need g ≤ good

@@ -6,3 +6,4 @@ pub mod Look
 pub mod Attempt
 pub mod Mounted
 pub mod Shown
+pub mod Ready

@@ -1,16 +1,17 @@
 //! One look at each page of a die that is to be formatted.
-ghost use Rattle.std.specs.Prelude.{◌≡◌, ◌<◌, ◌≤◌, ℕ, ◌+◌, ◌-◌, ◌*◌, ◌^◌, [], Bool, true, false, All, length, IfOk, IfSome, OnOk, OnErr};
+ghost use Rattle.std.specs.Prelude.{◌≡◌, ◌<◌, ◌≤◌, ℕ, ◌+◌, ◌-◌, ◌*◌, ◌^◌, [], Bool, true, false, length, IfOk, IfErr, IfSome, OnOk, OnErr};
 ghost use Rattle.page_layout.specs.Counter.{counted, HasRisen};
 ghost use Rattle.page_layout.specs.Flash.{page_at, no_page};
 ghost use Rattle.page_layout.specs.Geometry.{row_count};
 ghost use Rattle.page_layout.specs.Page.{page, IsImage};
 ghost use Rattle.bad_blocks.specs.Marks.{is_marked};
-ghost use Rattle.bad_blocks.specs.Table.{IsCounted};
+ghost use Rattle.bad_blocks.specs.Table.{unworn};
 ghost use Rattle.mount.specs.Fresh.{is_page_used, is_used, IsFirst};
 ghost use Rattle.mount.specs.Formatted.{class_after, table_after};
 ghost use Rattle.mount.specs.Look.{look_of, is_look_used};
 
-use bad_blocks::{Class, TableRow, has_zero};
+use crate::format_fault::FormatFault;
+use bad_blocks::{Class, has_zero};
 use page_layout::geometry::Geometry;
 use page_layout::record::{is_erased, read_record};
 use page_layout::source::{PageSource, SourceFault};
@@ -193,37 +194,32 @@ fn survey_block<S: PageSource>(
     Ok((marked, used))
 }
 
-// The row of the table for a block of a fresh die.
-fn fresh_row(marked: bool) -> TableRow
-    ensures row { result ≡ record { class = class_after marked false; wear = 0 } }
-    ensures counted { IsCounted result }
+// What a block of a fresh die is.
+fn fresh_class(marked: bool) -> Class
+    ensures { result ≡ class_after marked false }
 {
-    TableRow {
-        class: if marked { Class::Factory } else { Class::Good },
-        wear: 0,
-    }
+    if marked { Class::Factory } else { Class::Good }
 }
 
-/// Reads each page of a die once. It sets the rows of the table of a die of which nothing but the
+/// Reads each page of a die once. It sets the class of each block of a die of which nothing but the
 /// factory's marks is known, and answers the first row that keeps the die from being fresh.
 pub fn survey<S: PageSource>(
     source: &mut S,
     geometry: &Geometry,
-    rows: &mut [TableRow],
+    classes: &mut [Class],
     body: &mut [u8],
     spare: &mut [u8],
-) -> Result<Option<u32>, SourceFault>
+) -> Result<Option<u32>, FormatFault>
     requires geometry { (S.flash source.old).geometry ≡ geometry.now }
-    requires rows_whole { length rows.old ≡ geometry.now.blocks }
-    requires counted { All IsCounted rows.old }
+    requires classes_whole { length classes.old ≡ geometry.now.blocks }
     requires body_whole { length body.old ≡ geometry.now.data_bytes }
     requires spare_whole { length spare.old ≡ geometry.now.spare_bytes }
-    ensures rows { OnOk result (S.honest source.old ≡ true →
-        rows.new ≡ table_after geometry.now (S.flash source.old).image []) }
-    ensures counted { All IsCounted rows.new }
+    ensures table { OnOk result (S.honest source.old ≡ true →
+        unworn classes.new ≡ table_after geometry.now (S.flash source.old).image []) }
     ensures first { IfOk result (λ first. S.honest source.old ≡ true →
         IsFirst (is_used geometry.now (S.flash source.old).image) 0 (row_count geometry.now) first) }
     ensures row { IfOk result (λ first. IfSome first (λ row. row < row_count geometry.now)) }
+    ensures only { IfErr result (λ fault. fault ≡ FormatFault.Bus) }
     ensures same { OnOk result (S.honest source.old ≡ true → S.flash source.new ≡ S.flash source.old) }
     ensures whole { OnOk result (S.honest source.old ≡ true → IsImage geometry.now (S.flash source.old).image) }
     ensures geometry { (S.flash source.new).geometry ≡ (S.flash source.old).geometry }
@@ -239,7 +235,7 @@ pub fn survey<S: PageSource>(
     let mut first = None;
     for block in 0..geometry.blocks() {
         let (marked, used) = survey_block(source, geometry, block, body, spare)?;
-        rows[block as usize] = fresh_row(marked);
+        classes[block as usize] = fresh_class(marked);
         first = first.or(used);
     }
     Ok(first)

@@ -3,11 +3,11 @@ ghost use Rattle.std.specs.Prelude.{◌≡◌, ◌<◌, ◌≤◌, ℕ, ◌+◌,
 ghost use Rattle.page_layout.specs.Counter.{counted, HasRisen};
 ghost use Rattle.page_layout.specs.Flash.{Flash};
 ghost use Rattle.page_layout.specs.Geometry.{need, table_pages};
-ghost use Rattle.bad_blocks.specs.Table.{good_count, is_good_at, wear_at};
+ghost use Rattle.bad_blocks.specs.Table.{good_count, is_good_at, unworn};
 ghost use Rattle.mount.specs.Attempt.{IsTableProgram, IsTrying, Tries, Writes, AnswersWrite};
 
 use crate::format_fault::FormatFault;
-use bad_blocks::{Class, Table, write_table_page};
+use bad_blocks::{Class, write_unworn_page};
 use onfi_cycles::{BusFault, Nand, Outcome};
 use page_layout::geometry::Geometry;
 use page_layout::record::{Kind, Record, write_record};
@@ -16,7 +16,7 @@ use page_layout::record::{Kind, Record, write_record};
 fn program_table<N: Nand>(
     nand: &mut N,
     geometry: &Geometry,
-    table: &Table,
+    classes: &[Class],
     block: u32,
     u: u32,
     sequence: u64,
@@ -26,12 +26,11 @@ fn program_table<N: Nand>(
     requires geometry { (N.flash nand.old).geometry ≡ geometry.now }
     requires block_in { block < geometry.now.blocks }
     requires page_in { u < table_pages geometry.now }
-    requires table_whole { length table.now ≡ geometry.now.blocks }
     requires body_whole { length body.old ≡ geometry.now.data_bytes }
     requires spare_whole { length spare.old ≡ geometry.now.spare_bytes }
     ensures programmed { IfOk result (λ outcome. N.honest nand.old ≡ true →
         IsTableProgram geometry.now (N.flash nand.old) (N.flash nand.new) (block * geometry.now.pages + u)
-        u sequence table.now (wear_at table.now block) outcome) }
+        u sequence (unworn classes.now) outcome) }
     ensures geometry { (N.flash nand.new).geometry ≡ (N.flash nand.old).geometry }
     ensures honest { N.honest nand.new ≡ N.honest nand.old }
     ensures reads { N.reads nand.new ≡ N.reads nand.old }
@@ -44,9 +43,9 @@ fn program_table<N: Nand>(
         kind: Kind::Table,
         number: u,
         sequence,
-        wear: table.wear(block),
+        wear: 0,
     };
-    write_table_page(table, u, body);
+    write_unworn_page(classes, u, body);
     write_record(geometry, &record, body, spare);
     nand.program(geometry.row(block, u), body, spare)
 }
@@ -55,7 +54,7 @@ fn program_table<N: Nand>(
 fn write_in_block<N: Nand>(
     nand: &mut N,
     geometry: &Geometry,
-    table: &Table,
+    classes: &[Class],
     block: u32,
     sequence: &mut u64,
     body: &mut [u8],
@@ -63,15 +62,14 @@ fn write_in_block<N: Nand>(
 ) -> Result<Outcome, BusFault>
     requires geometry { (N.flash nand.old).geometry ≡ geometry.now }
     requires block_in { block < geometry.now.blocks }
-    requires good { is_good_at table.now block ≡ true }
-    requires lowest { (lower : ℕ) → lower < block → is_good_at table.now lower ≡ false }
-    requires table_whole { length table.now ≡ geometry.now.blocks }
+    requires good { is_good_at (unworn classes.now) block ≡ true }
+    requires lowest { (lower : ℕ) → lower < block → is_good_at (unworn classes.now) lower ≡ false }
     requires sequences { sequence.old + table_pages geometry.now < 2 ^ 64 }
     requires body_whole { length body.old ≡ geometry.now.data_bytes }
     requires spare_whole { length spare.old ≡ geometry.now.spare_bytes }
     ensures tries { IfOk result (λ outcome. N.honest nand.old ≡ true → (first : Flash) (failed : ℕ) →
-        IsTrying geometry.now first (N.flash nand.old) table.now block 0 sequence.old failed →
-        Tries geometry.now first (N.flash nand.new) table.now block sequence.new failed outcome) }
+        IsTrying geometry.now first (N.flash nand.old) (unworn classes.now) block 0 sequence.old failed →
+        Tries geometry.now first (N.flash nand.new) (unworn classes.now) block sequence.new failed outcome) }
     ensures sequences { sequence.new ≤ sequence.old + table_pages geometry.now }
     ensures geometry { (N.flash nand.new).geometry ≡ (N.flash nand.old).geometry }
     ensures honest { N.honest nand.new ≡ N.honest nand.old }
@@ -82,7 +80,7 @@ fn write_in_block<N: Nand>(
     ensures rose { OnErr result (HasRisen (N.failed nand.old) (N.failed nand.new)) }
 {
     for u in 0..geometry.table_pages() {
-        let outcome = program_table(nand, geometry, table, block, u, *sequence, body, spare)?;
+        let outcome = program_table(nand, geometry, classes, block, u, *sequence, body, spare)?;
         *sequence += 1;
         if !outcome.passed() {
             return Ok(Outcome::Failed);
@@ -91,28 +89,41 @@ fn write_in_block<N: Nand>(
     Ok(Outcome::Passed)
 }
 
-fn lowest_good(table: &Table, geometry: &Geometry) -> u32
-    requires whole { length table.now ≡ geometry.now.blocks }
-    requires some { 0 < good_count table.now }
+#[tactic(auto, using(crate::proofs::GoodLemmas::unworn_is_good_at))]
+fn lowest_good(classes: &[Class], geometry: &Geometry) -> u32
+    requires whole { length classes.now ≡ geometry.now.blocks }
+    requires some { 0 < good_count (unworn classes.now) }
     ensures within { result < geometry.now.blocks }
-    ensures good { is_good_at table.now result ≡ true }
-    ensures lowest { (lower : ℕ) → lower < result → is_good_at table.now lower ≡ false }
+    ensures good { is_good_at (unworn classes.now) result ≡ true }
+    ensures lowest { (lower : ℕ) → lower < result → is_good_at (unworn classes.now) lower ≡ false }
 {
     for block in 0..geometry.blocks() {
-        if table.class(block) == Class::Good {
+        if classes[block as usize] == Class::Good {
             return block;
         }
     }
     unreachable!()
 }
 
-/// Refuses a die with fewer good blocks than it needs.
-pub fn require_good(table: &Table, geometry: &Geometry) -> Result<(), FormatFault>
-    ensures ok { OnOk result (need geometry.now ≤ good_count table.now) }
-    ensures few { IfErr result (λ fault. (good_count table.now < need geometry.now)
-        × (fault ≡ FormatFault.TooFewGood (good_count table.now) (need geometry.now))) }
+#[tactic(auto, using(crate::proofs::GoodLemmas::unworn_good_count))]
+fn count_good(classes: &[Class]) -> u32
+    requires { length classes.now < 2 ^ 32 }
+    ensures { result ≡ good_count (unworn classes.now) }
 {
-    let good = table.good();
+    classes
+        .iter()
+        .filter(|class| **class == Class::Good)
+        .count() as u32
+}
+
+/// Refuses a die with fewer good blocks than it needs.
+pub fn require_good(classes: &[Class], geometry: &Geometry) -> Result<(), FormatFault>
+    requires { length classes.now ≡ geometry.now.blocks }
+    ensures ok { OnOk result (need geometry.now ≤ good_count (unworn classes.now)) }
+    ensures few { IfErr result (λ fault. (good_count (unworn classes.now) < need geometry.now)
+        × (fault ≡ FormatFault.TooFewGood (good_count (unworn classes.now)) (need geometry.now))) }
+{
+    let good = count_good(classes);
     let need = geometry.need();
     if good < need {
         return Err(FormatFault::TooFewGood { good, need });
@@ -128,16 +139,16 @@ const TRIES: u32 = 3;
 pub fn write_tables<N: Nand>(
     nand: &mut N,
     geometry: &Geometry,
-    table: &mut Table,
+    classes: &mut [Class],
     body: &mut [u8],
     spare: &mut [u8],
 ) -> Result<u32, FormatFault>
     requires geometry { (N.flash nand.old).geometry ≡ geometry.now }
-    requires table_whole { length table.old ≡ geometry.now.blocks }
+    requires classes_whole { length classes.old ≡ geometry.now.blocks }
     requires body_whole { length body.old ≡ geometry.now.data_bytes }
     requires spare_whole { length spare.old ≡ geometry.now.spare_bytes }
     ensures writes { N.honest nand.old ≡ true →
-        IsTrying geometry.now (N.flash nand.old) (N.flash nand.old) table.old 0 0 1 0 →
+        IsTrying geometry.now (N.flash nand.old) (N.flash nand.old) (unworn classes.old) 0 0 1 0 →
         Writes geometry.now (N.flash nand.old) (N.flash nand.new) result }
     ensures answers { AnswersWrite geometry.now result }
     ensures geometry { (N.flash nand.new).geometry ≡ (N.flash nand.old).geometry }
@@ -150,12 +161,12 @@ pub fn write_tables<N: Nand>(
 {
     let mut sequence = 1;
     for _failures in 0..TRIES {
-        require_good(table, geometry)?;
-        let block = lowest_good(table, geometry);
-        if write_in_block(nand, geometry, table, block, &mut sequence, body, spare)?.passed() {
-            return Ok(table.good());
+        require_good(classes, geometry)?;
+        let block = lowest_good(classes, geometry);
+        if write_in_block(nand, geometry, classes, block, &mut sequence, body, spare)?.passed() {
+            return Ok(count_good(classes));
         }
-        table.retire(block);
+        classes[block as usize] = Class::Grown;
     }
     Err(FormatFault::WriteFailed)
 }

@@ -1,4 +1,5 @@
 ghost use Rattle.mount.specs.FormatLaws.{FewLaw, FreshLaw, UsedLaw};
+ghost use Rattle.mount.specs.Ready.{FormattedLaw};
 
 /// What the state of an honest die allows its format to answer: a die with too few unmarked blocks,
 /// one with a used page, and a fresh one each have their own answers.
@@ -6,4 +7,11 @@ pub fn format_laws()
     ensures few { FewLaw }
     ensures used { UsedLaw }
     ensures fresh { FreshLaw }
+{}
+
+/// What the checker finds in a die as its format leaves it: class 4 stands for just the marked blocks, as many blocks are
+/// good as the format answered, no sector is stale, some certificate agrees at every capacity from 1 to 65536, and every
+/// sector is 00h bytes.
+pub fn formatted_laws()
+    ensures { FormattedLaw }
 {}

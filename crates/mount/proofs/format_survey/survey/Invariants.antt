@@ -1,18 +1,18 @@
-use Rattle.std.proofs.Common.{[], ◌≡◌, ◌<◌, ◌≤◌, ◌+◌, ◌*◌, ◌^◌, ℕ, true, All, get_or}
+use Rattle.std.proofs.Common.{◌≡◌, ◌<◌, ◌≤◌, ◌+◌, ◌*◌, ◌^◌, ℕ, true, false, get_or}
 use Rattle.std.specs.Prelude.{IfSome}
 use Rattle.page_layout.specs.Geometry.{row_count}
 use Rattle.page_layout.specs.Page.{IsImage}
-use Rattle.bad_blocks.specs.Table.{IsCounted, no_table_row}
+use Rattle.bad_blocks.specs.declared.class.Class.TheVariants.{Good}
+use Rattle.bad_blocks.specs.Marks.{is_marked}
 use Rattle.mount.specs.Fresh.{is_used, IsFirst}
-use Rattle.mount.proofs.TableLemmas.{row_after}
+use Rattle.mount.specs.Formatted.{class_after}
 use Rattle.mount.proofs.format_survey.survey.Given as goal
 
 abbrev pub invariant-loop-block : goal.invariant-loop-block
 invariant-loop-block g l =
     let s = g.S.PageSource in
     record {
-      rows : s.honest l.initial.source ≡ true → (k : ℕ) → k < l.block → get_or l.rows k no_table_row ≡ row_after l.geometry (s.flash l.initial.source).image [] k;
-      counted : All IsCounted l.rows;
+      classes : s.honest l.initial.source ≡ true → (k : ℕ) → k < l.block → get_or l.classes k Good ≡ class_after (is_marked l.geometry (s.flash l.initial.source).image k) false;
       first : s.honest l.initial.source ≡ true → IsFirst (is_used l.geometry (s.flash l.initial.source).image) 0 (l.block * l.geometry.pages) l.first;
       row : IfSome l.first (λ row. row < row_count l.geometry);
       same : s.honest l.initial.source ≡ true → s.flash l.source ≡ s.flash l.initial.source;

@@ -1,5 +1,6 @@
 use Rattle.std.proofs.Common.{◌≡◌, ◌≤◌, ℕ, ◌+◌, true}
 use Rattle.page_layout.specs.Flash.{Flash}
+use Rattle.bad_blocks.specs.Table.{unworn}
 use Rattle.mount.specs.Attempt.{IsTrying}
 use Rattle.mount.proofs.format_tables.write_in_block.Given as goal
 
@@ -7,8 +8,8 @@ abbrev pub invariant-loop-u : goal.invariant-loop-u
 invariant-loop-u g l =
     let n = g.N.PageSource in
     record {
-      trying : n.honest l.initial.nand ≡ true → (first : Flash) (failed : ℕ) → IsTrying l.geometry first (n.flash l.initial.nand) l.table l.block 0 l.initial.sequence failed →
-          IsTrying l.geometry first (n.flash l.nand) l.table l.block l.u l.sequence failed;
+      trying : n.honest l.initial.nand ≡ true → (first : Flash) (failed : ℕ) → IsTrying l.geometry first (n.flash l.initial.nand) (unworn l.classes) l.block 0 l.initial.sequence failed →
+          IsTrying l.geometry first (n.flash l.nand) (unworn l.classes) l.block l.u l.sequence failed;
       sequences : l.sequence ≡ l.initial.sequence + l.u;
       same_geometry : (n.flash l.nand).geometry ≡ (n.flash l.initial.nand).geometry;
       as_honest : n.honest l.nand ≡ n.honest l.initial.nand;

@@ -1,6 +1,6 @@
 use Rattle.std.proofs.Common.{◌≡◌, ◌<◌, ◌≤◌, ℕ, ◌+◌, ◌*◌, true, length}
 use Rattle.page_layout.specs.Geometry.{need, table_pages}
-use Rattle.bad_blocks.specs.Table.{good_count}
+use Rattle.bad_blocks.specs.Table.{good_count, unworn}
 use Rattle.mount.specs.Attempt.{IsTrying}
 use Rattle.mount.proofs.format_tables.write_tables.Given as goal
 
@@ -8,10 +8,10 @@ abbrev pub invariant-loop-failures : goal.invariant-loop-failures
 invariant-loop-failures g l =
     let n = g.N.PageSource in
     record {
-      trying : n.honest l.initial.nand ≡ true → IsTrying l.geometry (n.flash l.initial.nand) (n.flash l.initial.nand) l.initial.table 0 0 1 0 →
-          (other : ℕ) → IsTrying l.geometry (n.flash l.initial.nand) (n.flash l.nand) l.table other 0 l.sequence l._failures;
-      whole : length l.table ≡ l.geometry.blocks;
-      just : 0 < l._failures → need l.geometry ≤ good_count l.table + 1;
+      trying : n.honest l.initial.nand ≡ true → IsTrying l.geometry (n.flash l.initial.nand) (n.flash l.initial.nand) (unworn l.initial.classes) 0 0 1 0 →
+          (other : ℕ) → IsTrying l.geometry (n.flash l.initial.nand) (n.flash l.nand) (unworn l.classes) other 0 l.sequence l._failures;
+      whole : length l.classes ≡ l.geometry.blocks;
+      just : 0 < l._failures → need l.geometry ≤ good_count (unworn l.classes) + 1;
       sequences : l.sequence ≤ 1 + l._failures * table_pages l.geometry;
       same_geometry : (n.flash l.nand).geometry ≡ (n.flash l.initial.nand).geometry;
       as_honest : n.honest l.nand ≡ n.honest l.initial.nand;
