@@ -4,28 +4,13 @@
 ghost use Rattle.std.specs.Prelude.{◌≡◌, ◌≢◌};
 ghost use Rattle.std.specs.IoError.{error_kind};
 
-mod check;
-mod commands;
-mod files;
-mod format;
-mod inputs;
-mod mount_image;
-mod numbers;
-mod outputs;
-mod sector;
-mod show;
 mod system;
-#[cfg(test)]
-mod tests;
-mod text;
-mod words;
 
-use commands::run;
+use commands::{CommandFault, run, tell};
 use std::env;
 use std::io::{Error, ErrorKind};
 use std::process::ExitCode;
 use system::SystemFiles;
-use text::{CommandFault, tell};
 
 // Words that are no text are no command.
 fn words_fault(error: Error) -> CommandFault<'static>

@@ -2,7 +2,7 @@
 ghost use Rattle.std.specs.Prelude.{◌≡◌, ◌≢◌, ℕ, List};
 ghost use Rattle.std.specs.IoError.{error_kind};
 
-use crate::files::{FileFault, FileStore};
+use commands::{FileFault, FileStore};
 use std::fs;
 use std::io::{Error, ErrorKind};
 use std::rt::Files;

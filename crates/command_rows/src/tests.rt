@@ -1,0 +1,10 @@
+//! Runs of whole commands, with files in memory.
+mod check_rows;
+mod files;
+mod format_rows;
+mod images;
+mod mount_rows;
+mod runs;
+mod sector_rows;
+mod show_rows;
+mod word_rows;

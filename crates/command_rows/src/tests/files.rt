@@ -1,0 +1,120 @@
+//! Files in memory, and a writer that is closed.
+ghost use Rattle.std.specs.Prelude.{◌≡◌, IfOk, string_bytes};
+
+use commands::{FileFault, FileStore};
+use std::alloc::{AllocError, Global};
+use std::io::{self, ErrorKind, Write};
+use std::test::Fail;
+
+/// A file in memory, as it was before the first run.
+#[derive(Drop)]
+pub struct MemoryFile {
+    pub path: &'static str,
+    pub bytes: Vec<u8>,
+}
+
+/// A file that was handed over to be written, and whether it was.
+#[derive(Drop)]
+pub struct StoredFile {
+    pub path: String,
+    pub bytes: Vec<u8>,
+    pub done: bool,
+}
+
+fn stored_file(
+    alloc: Global,
+    path: &str,
+    bytes: &[u8],
+    done: bool,
+) -> Result<StoredFile, AllocError>
+    ensures path { IfOk result (λ file. string_bytes file.path ≡ path.now) }
+    ensures bytes { IfOk result (λ file. file.bytes.items ≡ bytes.now) }
+    ensures done { IfOk result (λ file. file.done ≡ done) }
+{
+    Ok(StoredFile {
+        path: String::from_str(alloc, path)?,
+        bytes: Vec::from_slice(alloc, bytes)?,
+        done,
+    })
+}
+
+/// Files in memory, and those that were handed over to be written. A path that is not among the files can be neither read nor
+/// written; `refuses` makes each load end in want of memory.
+#[derive(Drop)]
+pub struct MemoryFiles {
+    pub alloc: Global,
+    pub files: Vec<MemoryFile>,
+    pub stored: Vec<StoredFile>,
+    pub refuses: bool,
+}
+
+impl MemoryFiles {
+    /// No files.
+    pub fn new(alloc: Global) -> MemoryFiles {
+        MemoryFiles {
+            alloc,
+            files: Vec::new(alloc),
+            stored: Vec::new(alloc),
+            refuses: false,
+        }
+    }
+
+    /// These files and one more.
+    pub fn with(mut self, path: &'static str, bytes: Vec<u8>) -> Result<MemoryFiles, AllocError> {
+        self.files.push(MemoryFile { path, bytes })?;
+        Ok(self)
+    }
+
+    /// What a file holds now, where there is such a file.
+    pub fn contents(&self, path: &str) -> Option<&[u8]> {
+        let mut stored = self.stored.iter().rev();
+        if let Some(file) = stored.find(|file| file.done && file.path.as_str() == path) {
+            return Some(file.bytes.as_slice());
+        }
+        let file = self.files.iter().find(|file| file.path == path)?;
+        Some(file.bytes.as_slice())
+    }
+}
+
+impl FileStore for MemoryFiles {
+    ghost use Rattle.std.specs.Prelude.{Some, map, string_bytes};
+
+    ghost gives = { λ _ _ _. Unit {0} };
+
+    ghost stores = { λ m. Some (map (λ s. record { path = string_bytes s.path; bytes = s.bytes.items; done = s.done }) m.stored.items) };
+
+    fn load(&mut self, path: &str) -> Result<Vec<u8>, FileFault> {
+        if self.refuses {
+            return Err(FileFault::OutOfMemory);
+        }
+        match self.contents(path) {
+            Some(bytes) => Vec::from_slice(self.alloc, bytes).map_err(|_| FileFault::OutOfMemory),
+            None => Err(FileFault::Failed),
+        }
+    }
+
+    fn store(&mut self, path: &str, bytes: &[u8]) -> Result<(), FileFault> {
+        let done = self.files.iter().any(|file| file.path == path);
+        let Ok(stored) = stored_file(self.alloc, path, bytes, done) else {
+            return Err(FileFault::OutOfMemory);
+        };
+        if self.stored.push(stored).is_err() {
+            return Err(FileFault::OutOfMemory);
+        }
+        if done { Ok(()) } else { Err(FileFault::Failed) }
+    }
+}
+
+/// Standard output or standard error that is closed.
+#[derive(Drop)]
+pub struct Closed;
+
+impl Write for Closed {
+    fn write(&mut self, _buf: &[u8]) -> io::Result<usize> {
+        Err(io::Error::from(ErrorKind::BrokenPipe))
+    }
+
+    fn flush(&mut self) -> io::Result<()> {
+        Ok(())
+    }
+}

@@ -1,0 +1,57 @@
+-- From what a step of `mount` came to, to what the command came to.
+use Rattle.std.proofs.Common.{◌≡◌, ℕ, List, Result, Ok, Err, OnOk, IfErr, inl, inr, ap, ◌∙◌, subst, sym}
+use Rattle.std.specs.Io.KnownBytes.{Appends, Keeps}
+use Rattle.page_layout.specs.declared.geometry.Geometry.{Geometry}
+use Rattle.page_layout.specs.Raw.{raw_image}
+use Rattle.certificate.specs.Claim.{Claim, good_blocks}
+use Rattle.image_check.specs.Stale.{stale_count}
+use Rattle.commands.specs.declared.mount_image.Mounted.{Mounted}
+use Rattle.commands.specs.declared.text.CommandFault.{CommandFault}
+use Rattle.commands.specs.declared.words.CertificateWords.{CertificateWords}
+use Rattle.commands.specs.Check.{IsAsked, IsUnprinted}
+use Rattle.commands.specs.Files.{IsUnstored, Left, Leaves, with_store, written}
+use Rattle.commands.specs.Mount.{DoesMount, HasCertificate, IsMountedAs, IsUncertified, mounted_line, stored_as}
+
+-- a step before the storing that ended the command
+pub stops : (gives : List ℕ → List ℕ → Type 0) (words : CertificateWords) (before after : Left) (result : Result (Unit {0}) CommandFault) (stop : CommandFault)
+    → result ≡ Err stop → Leaves before after → IsUncertified gives words stop → DoesMount gives words before after result
+stops gives words before after result stop is leaves because =
+    let P : Result (Unit {0}) CommandFault → Type 0 = λ r. DoesMount gives words before after r in
+    subst P (sym is) (inl (leaves, because))
+
+-- the certificate that was made is the image's
+pub certified : (gives : List ℕ → List ℕ → Type 0) (words : CertificateWords) (g : Geometry) (capacity : ℕ) (bytes : List ℕ) (m : Mounted) → IsAsked words g capacity → gives words.image.now bytes
+    → (is : IsMountedAs g capacity bytes m) → HasCertificate gives words g capacity bytes is.claim
+certified gives words g capacity bytes m asked given is = record { asked = asked; image = given; certified = is.certified }
+
+-- the storing, where it failed
+pub unstored : (gives : List ℕ → List ℕ → Type 0) (words : CertificateWords) (g : Geometry) (capacity : ℕ) (bytes spelled : List ℕ) (m : Mounted) (before after : Left) (result : Result (Unit {0}) CommandFault)
+    (stop : CommandFault) → IsAsked words g capacity → gives words.image.now bytes → IsMountedAs g capacity bytes m → spelled ≡ m.written.items → result ≡ Err stop
+    → IsUnstored words.certificate.now spelled before.stores after.stores stop → Keeps before.out after.out → DoesMount gives words before after result
+unstored gives words g capacity bytes spelled m before after result stop asked given mounted same is failed keeps =
+    let P : Result (Unit {0}) CommandFault → Type 0 = λ r. DoesMount gives words before after r in
+    let Q : List ℕ → Type 0 = λ b. IsUnstored words.certificate.now b before.stores after.stores stop in
+    subst P (sym is) (inr (inl (g, capacity, bytes, mounted.claim, certified gives words g capacity bytes m asked given mounted, subst Q (same ∙ mounted.written_is) failed, keeps)))
+
+-- the printing, after all that came before it
+pub prints : (gives : List ℕ → List ℕ → Type 0) (words : CertificateWords) (g : Geometry) (capacity : ℕ) (bytes spelled : List ℕ) (m : Mounted) (before after : Left) (result : Result (Unit {0}) CommandFault)
+    → IsAsked words g capacity → gives words.image.now bytes → IsMountedAs g capacity bytes m → spelled ≡ m.written.items
+    → after.stores ≡ with_store before.stores (written words.certificate.now spelled)
+    → OnOk result (Appends before.out after.out (mounted_line m.next m.good m.stale)) → IfErr result IsUnprinted → DoesMount gives words before after result
+prints gives words g capacity bytes spelled m before after result asked given mounted same stored ok failed = go result ok failed
+  where
+    c : Claim
+    c = mounted.claim
+
+    has : HasCertificate gives words g capacity bytes mounted.claim
+    has = certified gives words g capacity bytes m asked given mounted
+
+    stores : after.stores ≡ with_store before.stores (stored_as words mounted.claim)
+    stores = stored ∙ ap (λ b. with_store before.stores (written words.certificate.now b)) (same ∙ mounted.written_is)
+
+    line : mounted_line m.next m.good m.stale ≡ mounted_line mounted.claim.next (good_blocks mounted.claim) (stale_count g (raw_image g bytes))
+    line = λ i. mounted_line (mounted.next_is i) (mounted.good_is i) (mounted.stale_is i)
+
+    go : (r : Result (Unit {0}) CommandFault) → OnOk r (Appends before.out after.out (mounted_line m.next m.good m.stale)) → IfErr r IsUnprinted → DoesMount gives words before after r
+    go (Ok done) told told_not = let P : List ℕ → Type 0 = λ l. Appends before.out after.out l in (g, capacity, bytes, mounted.claim, has, stores, subst P line told)
+    go (Err stop) told told_not = inr (inr (g, capacity, bytes, mounted.claim, has, stores, told_not))

@@ -1,0 +1,26 @@
+use Rattle.std.proofs.Common.{Err, ap, refl, ◌∙◌}
+use Rattle.onfi_cycles.specs.Driver.{seen}
+use Rattle.nand_die.specs.DieValue.{DieValue}
+use Rattle.commands.proofs.FormatLemmas.{formatted_image, not_risen, unformatted}
+use Rattle.commands.proofs.format.format_image.Goals as goal
+
+pub returns-in-Ok-answer-clause-ok : goal.returns-in-Ok-answer-clause-ok
+returns-in-Ok-answer-clause-ok c =
+    let g = c.args.geometry in
+    let first = c.driver_of-driver.result in
+    let last = c.format-answer.new.nand in
+    let loaded = c.driver_of-driver.ensures.flash ∙ ap (λ (d : DieValue). d.state.flash) c.in-Ok.ensures.made in
+    formatted_image g c.args.image.now c.image_into.new.out c.in-Ok-answer.good
+    (seen first.geometry first.bus.state.flash) (seen last.geometry last.bus.state.flash) c.into_bus-die.result.state.flash
+    c.in-Ok.ensures.whole loaded (c.in-Ok-answer.ensures.formats refl) (c.into_bus-die.ensures.flash refl)
+    (c.format-answer.ensures.geometry ∙ c.driver_of-driver.ensures.geometry) c.image_into.ensures.pages c.image_into.ensures.bytes
+
+pub returns-clause-fault : goal.returns-clause-fault
+returns-clause-fault c =
+    let g = c.args.geometry in
+    let first = c.driver_of-driver.result in
+    let last = c.format-answer.new.nand in
+    let loaded = c.driver_of-driver.ensures.flash ∙ ap (λ (d : DieValue). d.state.flash) c.in-Ok.ensures.made in
+    unformatted g c.args.image.now c.in-Err-answer.fault (seen first.geometry first.bus.state.flash) (seen last.geometry last.bus.state.flash)
+    c.in-Ok.ensures.whole loaded (c.in-Err-answer.ensures.formats refl)
+    (λ bus. not_risen first.failures last.failures 0 (c.in-Err-answer.ensures.bus (ap Err bus)) (c.into_bus-die.ensures.counted refl) refl)

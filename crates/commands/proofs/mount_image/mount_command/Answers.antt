@@ -1,0 +1,49 @@
+use Rattle.std.proofs.Common.{◌∙◌, List, Option, ℕ, inl, inr, refl, rules, subst, ap}
+use Rattle.commands.specs.Files.{IsUnstored, Stored, with_store, written}
+use Rattle.commands.specs.Mount.{IsMountedAs, IsUnmounted}
+use Rattle.commands.proofs.MountLemmas.{prints, stops, unstored}
+use Rattle.commands.proofs.mount_image.mount_command.Goals as goal
+
+pub returns-in_err-asked : goal.returns-in_err-asked
+returns-in_err-asked g c =
+    stops (g.F.FileStore.gives c.args.files.now) c.args.words _ _ c.from_residual.result c.in_err-asked.field-0.0 (search rules) (refl, search rules)
+    (inl c.in_err-asked.ensures.fault)
+
+pub returns-in_err-bytes : goal.returns-in_err-bytes
+returns-in_err-bytes g c =
+    let asked = c.in_ok-asked.asked in
+    stops (g.F.FileStore.gives c.args.files.now) c.args.words _ _ c.from_residual-in_err-bytes.result c.in_err-bytes.field-0.0 (search rules) (c.in_err-bytes.ensures.stores, search rules)
+    (inr (inl (asked.geometry, asked.capacity, c.in_ok-asked.ensures.ok, c.in_err-bytes.ensures.fault)))
+
+pub returns-in_err-mounted : goal.returns-in_err-mounted
+returns-in_err-mounted g c =
+    let asked = c.in_ok-asked.asked in
+    let bytes = c.in_ok-bytes.bytes.items in
+    let P : List ℕ → Type 0 = λ b. IsUnmounted asked.geometry asked.capacity b c.in_err-mounted.field-0.0 in
+    stops (g.F.FileStore.gives c.args.files.now) c.args.words _ _ c.from_residual-in_err-mounted.result c.in_err-mounted.field-0.0 (search rules) (c.in_ok-bytes.ensures.stores, search rules)
+    (inr (inr (asked.geometry, asked.capacity, bytes, c.in_ok-asked.ensures.ok, c.in_ok-bytes.ensures.ok, subst P c.deref.ensures.value c.in_err-mounted.ensures.fault)))
+
+pub returns-in_err-store : goal.returns-in_err-store
+returns-in_err-store g c =
+    let asked = c.in_ok-asked.asked in
+    let bytes = c.in_ok-bytes.bytes.items in
+    let m = c.in_ok-mounted.mounted in
+    let spelled = c.deref-2.result.now in
+    let stop = c.in_err-store.field-0.0 in
+    let P : List ℕ → Type 0 = λ b. IsMountedAs asked.geometry asked.capacity b m in
+    let Q : Option (List Stored) → Type 0 = λ s. IsUnstored c.args.words.certificate.now spelled s (g.F.FileStore.stores c.store.new.files) stop in
+    unstored (g.F.FileStore.gives c.args.files.now) c.args.words asked.geometry asked.capacity bytes spelled m _ _ c.from_residual-in_err-store.result stop
+    c.in_ok-asked.ensures.ok c.in_ok-bytes.ensures.ok (subst P c.deref.ensures.value c.in_ok-mounted.ensures.ok) c.deref-2.ensures.value (search rules)
+    (subst Q c.in_ok-bytes.ensures.stores c.in_err-store.ensures.fault) (search rules)
+
+pub returns : goal.returns
+returns g c =
+    let asked = c.in_ok-asked.asked in
+    let bytes = c.in_ok-bytes.bytes.items in
+    let m = c.in_ok-mounted.mounted in
+    let spelled = c.deref-2.result.now in
+    let P : List ℕ → Type 0 = λ b. IsMountedAs asked.geometry asked.capacity b m in
+    let stored = c.in_ok-store.ensures.ok ∙ ap (λ (s : Option (List Stored)). with_store s (written c.args.words.certificate.now spelled)) c.in_ok-bytes.ensures.stores in
+    prints (g.F.FileStore.gives c.args.files.now) c.args.words asked.geometry asked.capacity bytes spelled m _ _ c.print_mounted.result
+    c.in_ok-asked.ensures.ok c.in_ok-bytes.ensures.ok (subst P c.deref.ensures.value c.in_ok-mounted.ensures.ok) c.deref-2.ensures.value
+    stored c.print_mounted.ensures.ok c.print_mounted.ensures.fault

@@ -1,0 +1,63 @@
+use Rattle.std.proofs.Common.{true, false, ◌≡◌, Err, Result, refl, rules, subst, sym, ap, ◌∙◌, length}
+use Rattle.commands.specs.declared.text.CommandFault.{CommandFault}
+use Rattle.commands.specs.declared.sector.PrintFault.{PrintFault}
+use Rattle.commands.specs.Sector.{DoesSector, HasImage, IsAsked, IsPrintFault, IsUnprinted}
+use Rattle.commands.proofs.CommandLemmas.{unread_does}
+use Rattle.commands.proofs.ImageLemmas.{line_in, readable_in, unreadable_in}
+use Rattle.commands.proofs.sector.sector_command.Goals as goal
+
+pub returns-in_err-bytes-clause-does : goal.returns-in_err-bytes-clause-does
+returns-in_err-bytes-clause-does g c =
+    let asked : IsAsked c.args.words c.in_ok-geometry.geometry c.in_ok-sector.sector =
+    record { numbers = c.in_ok-numbers.numbers; geometry = c.in_ok-numbers.ensures.ok; sector = c.in_ok-sector.ensures.ok; valid = c.in_ok-geometry.ensures.ok } in
+    let is : c.from_residual-in_err-bytes.result ≡ Err c.in_err-bytes.field-0.0 = search rules in
+    let P : Result (Unit {0}) CommandFault → Type 0 = λ r. DoesSector (g.F.FileStore.gives c.args.files.now) c.args.words (g.W.Write.contents c.args.out.now) (g.W.Write.contents c.args.out.now) r in
+    subst P (sym is) (unread_does (g.F.FileStore.gives c.args.files.now) c.args.words c.in_ok-geometry.geometry c.in_ok-sector.sector _ _ c.in_err-bytes.field-0.0 asked (search rules) c.in_err-bytes.ensures.fault)
+
+pub returns-in-Err-clause-does : goal.returns-in-Err-clause-does
+returns-in-Err-clause-does g c =
+    let asked : IsAsked c.args.words c.in_ok-geometry.geometry c.in_ok-sector.sector =
+    record { numbers = c.in_ok-numbers.numbers; geometry = c.in_ok-numbers.ensures.ok; sector = c.in_ok-sector.ensures.ok; valid = c.in_ok-geometry.ensures.ok } in
+    (search rules, (c.in_ok-geometry.geometry, c.in_ok-sector.sector, c.in_ok-bytes.bytes.items, asked, c.in_ok-bytes.ensures.ok, λ whole. let taken : false ≡ true = c.in-Err.ensures.accepted.1 (ap length c.deref.ensures.value ∙ whole) in cc))
+
+pub returns-in-Ok-print_sector-clause-does : goal.returns-in-Ok-print_sector-clause-does
+returns-in-Ok-print_sector-clause-does g c =
+    let geometry = c.in_ok-geometry.geometry in
+    let bytes = c.in_ok-bytes.bytes.items in
+    let image : HasImage (g.F.FileStore.gives c.args.files.now) c.args.words geometry c.in_ok-sector.sector bytes = record {
+      asked = record { numbers = c.in_ok-numbers.numbers; geometry = c.in_ok-numbers.ensures.ok; sector = c.in_ok-sector.ensures.ok; valid = c.in_ok-geometry.ensures.ok };
+      given = c.in_ok-bytes.ensures.ok;
+      whole = ap length (sym c.deref.ensures.value) ∙ c.in-Ok.ensures.accepted.0 refl;
+    } in (
+      geometry,
+      c.in_ok-sector.sector,
+      bytes,
+      image,
+      readable_in c.in-Ok.image.flash geometry c.deref.result.now bytes c.in_ok-sector.sector c.in-Ok.ensures.image c.deref.ensures.value c.in-Ok-print_sector.ensures.readable,
+      line_in c.in-Ok.image.flash geometry c.deref.result.now bytes c.in_ok-sector.sector _ _ c.in-Ok.ensures.image c.deref.ensures.value c.in-Ok-print_sector.ensures.ok,
+    )
+
+pub returns-in-Err-Sector-clause-does : goal.returns-in-Err-Sector-clause-does
+returns-in-Err-Sector-clause-does g c =
+    let geometry = c.in_ok-geometry.geometry in
+    let bytes = c.in_ok-bytes.bytes.items in
+    let image : HasImage (g.F.FileStore.gives c.args.files.now) c.args.words geometry c.in_ok-sector.sector bytes = record {
+      asked = record { numbers = c.in_ok-numbers.numbers; geometry = c.in_ok-numbers.ensures.ok; sector = c.in_ok-sector.ensures.ok; valid = c.in_ok-geometry.ensures.ok };
+      given = c.in_ok-bytes.ensures.ok;
+      whole = ap length (sym c.deref.ensures.value) ∙ c.in-Ok.ensures.accepted.0 refl;
+    } in
+    let P : PrintFault → Type 0 = λ f. IsUnprinted f (g.W.Write.contents c.args.out.now) (g.W.Write.contents c.print_sector.new.out) in
+    let Q : PrintFault → Type 0 = λ f. IsPrintFault c.in-Ok.image.flash.geometry c.in-Ok.image.flash.image c.in_ok-sector.sector f in
+    (subst P c.in-Err-Sector.field-0-is c.in-Err-Sector.ensures.unprinted, (geometry, c.in_ok-sector.sector, bytes, image, unreadable_in c.in-Ok.image.flash geometry c.deref.result.now bytes c.in_ok-sector.sector c.in-Err-Sector.fault c.in-Ok.ensures.image c.deref.ensures.value (subst Q c.in-Err-Sector.field-0-is c.in-Err-Sector.ensures.fault)))
+
+pub returns-in-Err-Write-clause-does : goal.returns-in-Err-Write-clause-does
+returns-in-Err-Write-clause-does g c =
+    let geometry = c.in_ok-geometry.geometry in
+    let bytes = c.in_ok-bytes.bytes.items in
+    let image : HasImage (g.F.FileStore.gives c.args.files.now) c.args.words geometry c.in_ok-sector.sector bytes = record {
+      asked = record { numbers = c.in_ok-numbers.numbers; geometry = c.in_ok-numbers.ensures.ok; sector = c.in_ok-sector.ensures.ok; valid = c.in_ok-geometry.ensures.ok };
+      given = c.in_ok-bytes.ensures.ok;
+      whole = ap length (sym c.deref.ensures.value) ∙ c.in-Ok.ensures.accepted.0 refl;
+    } in
+    let Q : PrintFault → Type 0 = λ f. IsPrintFault c.in-Ok.image.flash.geometry c.in-Ok.image.flash.image c.in_ok-sector.sector f in
+    (refl, (geometry, c.in_ok-sector.sector, bytes, image, readable_in c.in-Ok.image.flash geometry c.deref.result.now bytes c.in_ok-sector.sector c.in-Ok.ensures.image c.deref.ensures.value (subst Q c.in-Err-Write.field-0-is c.in-Err-Write.ensures.fault)))

@@ -1,0 +1,100 @@
+-- The command `check`: what its words, its files and the checker come to.
+use Rattle.std.specs.Prelude.{◌≡◌, ◌⊎◌, ◌<◌, ◌≤◌, ◌*◌, ℕ, List, [], ◌∷◌, ◌++◌, length, codes, Option, None, Some, Result, Ok, Err}
+use Rattle.std.specs.Io.KnownBytes.{Appends, Keeps}
+use Rattle.page_layout.specs.declared.geometry.Geometry.{Geometry}
+use Rattle.page_layout.specs.Geometry.{row_count, page_bytes}
+use Rattle.page_layout.specs.Faults.{HasNumbers, IsFirstFault}
+use Rattle.page_layout.specs.Raw.{raw_image}
+use Rattle.certificate.specs.Claim.{Claim}
+use Rattle.certificate.specs.Spelling.{Fits, certificate_bytes}
+use Rattle.certificate.specs.Faults as certificate
+use Rattle.image_check.specs.Agrees.{Agrees}
+use Rattle.image_check.specs.Refused.{IsFirstWrong}
+use Rattle.image_check.specs.declared.refusal.Refusal.TheVariants as refusals
+use Rattle.commands.specs.declared.numbers.GeometryNumbers.{GeometryNumbers}
+use Rattle.commands.specs.declared.text.CommandFault.{CommandFault}
+use Rattle.commands.specs.declared.text.CommandFault.TheVariants as fault
+use Rattle.commands.specs.declared.words.CertificateWords.{CertificateWords}
+use Rattle.commands.specs.Inputs.{IsUnread}
+use Rattle.commands.specs.Numbers.{SpellsGeometry, number_of}
+
+-- the words are numbers, those of a geometry and of a capacity
+pub record IsAsked (words : CertificateWords) (g : Geometry) (capacity : ℕ) : Type 0 where
+  pub numbers : GeometryNumbers
+  pub geometry : SpellsGeometry words.geometry.now numbers
+  pub capacity_is : number_of words.capacity.now ≡ Some capacity
+  pub valid : HasNumbers numbers.data_bytes numbers.spare_bytes numbers.pages numbers.blocks numbers.sectors g
+  pub least : 1 ≤ capacity
+  pub most : capacity ≤ 65536
+
+-- why they are not: the first word that is no number, else the first limit of a die, else the capacity
+abbrev pub IsUnasked : CertificateWords → CommandFault → Type 0
+IsUnasked words (fault.BadNumber word) =
+    ((word.now ≡ words.geometry.now) × ((numbers : GeometryNumbers) → ¬ SpellsGeometry words.geometry.now numbers))
+    ⊎ ((word.now ≡ words.capacity.now) × ((numbers : GeometryNumbers) × SpellsGeometry words.geometry.now numbers) × (number_of words.capacity.now ≡ None))
+IsUnasked words (fault.Geometry broken) =
+    (numbers : GeometryNumbers) × (capacity : ℕ) × SpellsGeometry words.geometry.now numbers × (number_of words.capacity.now ≡ Some capacity)
+    × IsFirstFault numbers.data_bytes numbers.spare_bytes numbers.pages numbers.blocks numbers.sectors broken
+IsUnasked words fault.Capacity =
+    (numbers : GeometryNumbers) × (g : Geometry) × (capacity : ℕ) × SpellsGeometry words.geometry.now numbers × (number_of words.capacity.now ≡ Some capacity)
+    × HasNumbers numbers.data_bytes numbers.spare_bytes numbers.pages numbers.blocks numbers.sectors g × ((capacity ≡ 0) ⊎ (65536 < capacity))
+IsUnasked words _ = ⊥
+
+-- and both files were read; `gives` tells what a path's file may hold
+pub record HasFiles (gives : List ℕ → List ℕ → Type 0) (words : CertificateWords) (g : Geometry) (capacity : ℕ) (bytes written : List ℕ) : Type 0 where
+  pub asked : IsAsked words g capacity
+  pub image : gives words.image.now bytes
+  pub certificate : gives words.certificate.now written
+
+-- the bytes are those of this claim
+pub record IsSpelled (c : Claim) (written : List ℕ) : Type 0 where
+  pub fits : Fits c
+  pub spelled : certificate_bytes c ≡ written
+
+-- the fault is the first that stands in the bytes of a certificate
+abbrev pub IsNoCertificate : List ℕ → CommandFault → Type 0
+IsNoCertificate written (fault.Certificate broken) = certificate.IsFirstFault written broken
+IsNoCertificate written _ = ⊥
+
+-- as many bytes as the die's pages have
+abbrev pub IsWhole : Geometry → List ℕ → Type 0
+IsWhole g bytes = length bytes ≡ row_count g * page_bytes g
+
+-- why the certificate was not found to agree with the bytes of an image
+abbrev pub IsUnheld : Geometry → ℕ → List ℕ → Claim → CommandFault → Type 0
+IsUnheld g capacity bytes c fault.WrongLength = ¬ IsWhole g bytes
+IsUnheld g capacity bytes c (fault.Check refusal) = IsWhole g bytes × ((refusal ≡ refusals.OutOfMemory) ⊎ IsFirstWrong g capacity (raw_image g bytes) c refusal)
+IsUnheld g capacity bytes c _ = ⊥
+
+-- the image is whole, and the certificate agrees with it
+pub record IsHeld (g : Geometry) (capacity : ℕ) (bytes : List ℕ) (c : Claim) : Type 0 where
+  pub whole : IsWhole g bytes
+  pub agrees : Agrees g capacity (raw_image g bytes) c
+
+-- standard output could not be written
+abbrev pub IsUnprinted : CommandFault → Type 0
+IsUnprinted (fault.Write path) = path.now ≡ codes "-"
+IsUnprinted _ = ⊥
+
+-- nothing was written to standard output, unless it is what failed
+abbrev pub IsKept : CommandFault → Option (List ℕ) → Option (List ℕ) → Type 0
+IsKept (fault.Write path) before after = Unit {0}
+IsKept _ before after = Keeps before after
+
+-- Why the command ended before it was done. Each case says that none before it in the order held: the words, the image's
+-- file, the certificate's file, the certificate's bytes, the image's length and the checker, and at last the printing.
+abbrev pub IsCheckFault : (List ℕ → List ℕ → Type 0) → CertificateWords → CommandFault → Type 0
+IsCheckFault gives words stop =
+    IsUnasked words stop
+    ⊎ ((g : Geometry) × (capacity : ℕ) × IsAsked words g capacity × IsUnread words.image.now stop)
+    ⊎ ((g : Geometry) × (capacity : ℕ) × (bytes : List ℕ) × IsAsked words g capacity × gives words.image.now bytes × IsUnread words.certificate.now stop)
+    ⊎ ((g : Geometry) × (capacity : ℕ) × (bytes written : List ℕ) × HasFiles gives words g capacity bytes written × IsNoCertificate written stop)
+    ⊎ ((g : Geometry) × (capacity : ℕ) × (bytes written : List ℕ) × (c : Claim) × HasFiles gives words g capacity bytes written × IsSpelled c written × IsUnheld g capacity bytes c stop)
+    ⊎ ((g : Geometry) × (capacity : ℕ) × (bytes written : List ℕ) × (c : Claim) × HasFiles gives words g capacity bytes written × IsSpelled c written × IsHeld g capacity bytes c × IsUnprinted stop)
+
+-- What the command came to, with the bytes of standard output before and after.
+abbrev pub DoesCheck : (List ℕ → List ℕ → Type 0) → CertificateWords → Option (List ℕ) → Option (List ℕ) → Result (Unit {0}) CommandFault → Type 0
+DoesCheck gives words before after (Ok done) =
+    (g : Geometry) × (capacity : ℕ) × (bytes written : List ℕ) × (c : Claim) × HasFiles gives words g capacity bytes written × IsSpelled c written × IsHeld g capacity bytes c
+    × Appends before after (codes "accepted" ++ (10 ∷ []))
+DoesCheck gives words before after (Err stop) = IsKept stop before after × IsCheckFault gives words stop

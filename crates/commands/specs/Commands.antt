@@ -1,0 +1,39 @@
+-- What a run of the program comes to.
+use Rattle.std.specs.Prelude.{◌≡◌, ℕ, List, Option, Result, Ok, Err}
+use Rattle.std.specs.Io.KnownBytes.{Keeps}
+use Rattle.commands.specs.Files.{Left, Leaves}
+use Rattle.commands.specs.declared.text.CommandFault.{CommandFault}
+use Rattle.commands.specs.declared.text.CommandFault.TheVariants.{NoSuchCommand, OutOfMemory}
+use Rattle.commands.specs.declared.words.Order.{Order}
+use Rattle.commands.specs.declared.words.Order.TheVariants as order
+use Rattle.commands.specs.Words.{IsOrder}
+use Rattle.commands.specs.Sector.{DoesSector}
+use Rattle.commands.specs.Show.{DoesShow}
+use Rattle.commands.specs.Check.{DoesCheck}
+use Rattle.commands.specs.Mount.{DoesMount}
+use Rattle.commands.specs.Format.{DoesFormat}
+use Rattle.commands.specs.Text.{IsTold}
+
+-- what an order came to
+abbrev pub Does : (List ℕ → List ℕ → Type 0) → Order → Left → Left → Result (Unit {0}) CommandFault → Type 0
+Does gives (order.Sector words) before after result = DoesSector gives words before.out after.out result × (after.stores ≡ before.stores)
+Does gives (order.Show words) before after result = DoesShow gives words before.out after.out result × (after.stores ≡ before.stores)
+Does gives (order.Format words) before after result = DoesFormat gives words before after result
+Does gives (order.Check words) before after result = DoesCheck gives words before.out after.out result × (after.stores ≡ before.stores)
+Does gives (order.Mount words) before after result = DoesMount gives words before after result
+
+-- the words are an order, and it came to this
+abbrev pub DoesOrder : (List ℕ → List ℕ → Type 0) → List (List ℕ) → Left → Left → Result (Unit {0}) CommandFault → Type 0
+DoesOrder gives words before after result = (order : Order) × IsOrder words order × Does gives order before after result
+
+-- What the words came to, with the stores and the bytes of standard output before and after. Words that are no order leave
+-- them as they were.
+abbrev pub Obeys : (List ℕ → List ℕ → Type 0) → List (List ℕ) → Left → Left → Result (Unit {0}) CommandFault → Type 0
+Obeys gives words before after (Err NoSuchCommand) = Leaves before after × ((order : Order) → ¬ IsOrder words order)
+Obeys gives words before after (Err OutOfMemory) = Leaves before after
+Obeys gives words before after result = DoesOrder gives words before after result
+
+-- Status 0 and nothing on standard error where all was done; else the fault's line there, and its status.
+abbrev pub Reports : Result (Unit {0}) CommandFault → Option (List ℕ) → Option (List ℕ) → ℕ → Type 0
+Reports (Ok done) before after status = (status ≡ 0) × Keeps before after
+Reports (Err fault) before after status = IsTold fault before after status

@@ -1,0 +1,94 @@
+-- What the command `format` comes to.
+use Rattle.std.specs.Prelude.{◌≡◌, ◌≢◌, ◌⊎◌, ◌*◌, ℕ, List, [], ◌∷◌, ◌++◌, length, codes, Result, Ok, Err}
+use Rattle.std.specs.Io.KnownBytes.{Appends, Keeps}
+use Rattle.std.specs.Fmt.{decimal}
+use Rattle.page_layout.specs.declared.geometry.Geometry.{Geometry}
+use Rattle.page_layout.specs.Geometry.{row_count, page_bytes}
+use Rattle.page_layout.specs.Faults.{HasNumbers, IsFirstFault}
+use Rattle.page_layout.specs.Flash.{Flash}
+use Rattle.page_layout.specs.Raw.{raw_image, raw_bytes}
+use Rattle.nand_die.specs.declared.fault.DieFault.TheVariants as die
+use Rattle.nand_die.specs.Made.{loaded_flash}
+use Rattle.mount.specs.declared.format_fault.FormatFault.{FormatFault}
+use Rattle.mount.specs.declared.format_fault.FormatFault.TheVariants as refuse
+use Rattle.mount.specs.Formatted.{Formats, IsFormatted}
+use Rattle.commands.specs.declared.numbers.GeometryNumbers.{GeometryNumbers}
+use Rattle.commands.specs.declared.text.CommandFault.{CommandFault}
+use Rattle.commands.specs.declared.text.CommandFault.TheVariants as fault
+use Rattle.commands.specs.declared.words.FileWords.{FileWords}
+use Rattle.commands.specs.Numbers.{SpellsGeometry}
+use Rattle.commands.specs.Files.{Left, Leaves, with_store, written, unwritten}
+
+-- ---- an image in place
+
+-- the die that holds an image, with no bad blocks, formatted, holds this one
+pub record IsFormattedImage (g : Geometry) (before after : List ℕ) (good : ℕ) : Type 0 where
+  pub whole : length before ≡ row_count g * page_bytes g
+  pub flash : Flash
+  pub formatted : IsFormatted g (loaded_flash g before []) flash good
+  pub pages : raw_image g after ≡ flash.image
+  pub bytes : after ≡ raw_bytes flash.image
+
+-- the image has as many bytes as the die's pages, and the format of that die came to this refusal
+pub record IsRefused (g : Geometry) (bytes : List ℕ) (refused : FormatFault) : Type 0 where
+  pub whole : length bytes ≡ row_count g * page_bytes g
+  pub flash : Flash
+  pub formats : Formats g (loaded_flash g bytes []) flash (Err refused)
+
+-- Why an image was not formatted. A die in memory answers each read and each program.
+abbrev pub IsUnformatted : Geometry → List ℕ → CommandFault → Type 0
+IsUnformatted g bytes fault.WrongLength = length bytes ≢ row_count g * page_bytes g
+IsUnformatted g bytes (fault.Die die.OutOfMemory) = length bytes ≡ row_count g * page_bytes g
+IsUnformatted g bytes (fault.Format refuse.Bus) = ⊥
+IsUnformatted g bytes (fault.Format refused) = IsRefused g bytes refused
+IsUnformatted g bytes _ = ⊥
+
+-- ---- the command
+
+-- the word is the numbers of a geometry
+pub record IsGeometry (words : FileWords) (g : Geometry) : Type 0 where
+  pub numbers : GeometryNumbers
+  pub spelled : SpellsGeometry words.geometry.now numbers
+  pub valid : HasNumbers numbers.data_bytes numbers.spare_bytes numbers.pages numbers.blocks numbers.sectors g
+
+-- and the file IN holds these bytes; `gives` tells what a path's file may hold
+pub record HasInput (gives : List ℕ → List ℕ → Type 0) (words : FileWords) (g : Geometry) (bytes : List ℕ) : Type 0 where
+  pub asked : IsGeometry words g
+  pub given : gives words.input.now bytes
+
+-- the line
+abbrev pub good_line : ℕ → List ℕ
+good_line good = codes "good " ++ (decimal good ++ (10 ∷ []))
+
+-- the image of the file IN, formatted
+pub record HasFormatted (gives : List ℕ → List ℕ → Type 0) (words : FileWords) (after : List ℕ) (good : ℕ) : Type 0 where
+  pub geometry : Geometry
+  pub before : List ℕ
+  pub input : HasInput gives words geometry before
+  pub formatted : IsFormattedImage geometry before after good
+
+-- it could not be stored under OUT, and nothing was printed; or it was stored, and the line could not be printed
+abbrev pub IsUnwritten : FileWords → List ℕ → Left → Left → List ℕ → Type 0
+IsUnwritten words bytes before after path =
+    ((path ≡ words.output.now) × (after.stores ≡ with_store before.stores (unwritten words.output.now bytes)) × Keeps before.out after.out)
+    ⊎ ((path ≡ codes "-") × (after.stores ≡ with_store before.stores (written words.output.now bytes)))
+
+-- What the command came to, with the stores and the bytes of standard output before and after. Each fault says that nothing
+-- before it in the order failed: the geometry, the file, its length, the die, its format, the store under OUT, and then the line.
+abbrev pub DoesFormat : (List ℕ → List ℕ → Type 0) → FileWords → Left → Left → Result (Unit {0}) CommandFault → Type 0
+DoesFormat gives words before after (Ok done) = (bytes : List ℕ) × (good : ℕ) × HasFormatted gives words bytes good
+    × (after.stores ≡ with_store before.stores (written words.output.now bytes)) × Appends before.out after.out (good_line good)
+DoesFormat gives words before after (Err (fault.BadNumber word)) = Leaves before after
+    × (word.now ≡ words.geometry.now) × ((numbers : GeometryNumbers) → ¬ SpellsGeometry words.geometry.now numbers)
+DoesFormat gives words before after (Err (fault.Geometry broken)) = Leaves before after × ((numbers : GeometryNumbers) × SpellsGeometry words.geometry.now numbers
+    × IsFirstFault numbers.data_bytes numbers.spare_bytes numbers.pages numbers.blocks numbers.sectors broken)
+DoesFormat gives words before after (Err (fault.Read path)) = Leaves before after × (path.now ≡ words.input.now) × ((g : Geometry) × IsGeometry words g)
+DoesFormat gives words before after (Err fault.WrongLength) = Leaves before after
+    × ((g : Geometry) × (bytes : List ℕ) × HasInput gives words g bytes × IsUnformatted g bytes fault.WrongLength)
+DoesFormat gives words before after (Err (fault.Die broken)) = Leaves before after
+    × ((g : Geometry) × (bytes : List ℕ) × HasInput gives words g bytes × IsUnformatted g bytes (fault.Die broken))
+DoesFormat gives words before after (Err (fault.Format refused)) = Leaves before after
+    × ((g : Geometry) × (bytes : List ℕ) × HasInput gives words g bytes × IsUnformatted g bytes (fault.Format refused))
+DoesFormat gives words before after (Err (fault.Write path)) = (bytes : List ℕ) × (good : ℕ) × HasFormatted gives words bytes good × IsUnwritten words bytes before after path.now
+DoesFormat gives words before after (Err fault.OutOfMemory) = Leaves before after
+DoesFormat gives words before after (Err _) = ⊥

@@ -1,0 +1,22 @@
+-- What the faults of a command's words and files say.
+use Rattle.std.specs.Prelude.{◌≡◌, ℕ, List}
+use Rattle.page_layout.specs.Faults.{IsFirstFault}
+use Rattle.commands.specs.declared.numbers.GeometryNumbers.{GeometryNumbers}
+use Rattle.commands.specs.declared.text.CommandFault.{CommandFault}
+use Rattle.commands.specs.declared.text.CommandFault.TheVariants.{BadNumber, Geometry, OutOfMemory, Read}
+
+-- the fault names the word as no number
+abbrev pub IsBadNumber : List ℕ → CommandFault → Type 0
+IsBadNumber text (BadNumber word) = word.now ≡ text
+IsBadNumber text _ = ⊥
+
+-- the fault names the first limit that the numbers break
+abbrev pub IsBadGeometry : GeometryNumbers → CommandFault → Type 0
+IsBadGeometry numbers (Geometry fault) = IsFirstFault numbers.data_bytes numbers.spare_bytes numbers.pages numbers.blocks numbers.sectors fault
+IsBadGeometry numbers _ = ⊥
+
+-- the fault says that the path's file was not read, for itself or for want of memory
+abbrev pub IsUnread : List ℕ → CommandFault → Type 0
+IsUnread text (Read path) = path.now ≡ text
+IsUnread text OutOfMemory = Unit {0}
+IsUnread text _ = ⊥

@@ -1,0 +1,83 @@
+-- What printing a sector comes to, and the command `sector`.
+use Rattle.std.specs.Prelude.{◌≡◌, ◌≢◌, ◌⊎◌, ◌<◌, ◌≤◌, ◌*◌, ℕ, List, [], ◌∷◌, ◌++◌, length, codes, Option, Some, None, Result, Ok, Err}
+use Rattle.std.specs.Io.KnownBytes.{Appends, Keeps}
+use Rattle.hex.specs.Hex.{encode_lower}
+use Rattle.page_layout.specs.declared.geometry.Geometry.{Geometry}
+use Rattle.page_layout.specs.Geometry.{row_count, page_bytes}
+use Rattle.page_layout.specs.Faults.{HasNumbers, IsFirstFault}
+use Rattle.page_layout.specs.Page.{Image}
+use Rattle.page_layout.specs.Raw.{raw_image}
+use Rattle.page_layout.specs.Array.{sector_of}
+use Rattle.image_check.specs.declared.scan.SectorFault.{SectorFault}
+use Rattle.image_check.specs.declared.scan.SectorFault.TheVariants as scan
+use Rattle.image_check.specs.Sector.{IsAmbiguous, SharesSequence}
+use Rattle.commands.specs.declared.numbers.GeometryNumbers.{GeometryNumbers}
+use Rattle.commands.specs.declared.sector.PrintFault.{PrintFault}
+use Rattle.commands.specs.declared.sector.PrintFault.TheVariants as print
+use Rattle.commands.specs.declared.text.CommandFault.{CommandFault}
+use Rattle.commands.specs.declared.text.CommandFault.TheVariants as fault
+use Rattle.commands.specs.declared.words.ImageWords.{ImageWords}
+use Rattle.commands.specs.Numbers.{SpellsGeometry, number_of}
+
+-- the image has the sector, and no two of its pages share its greatest sequence
+pub record IsReadable (g : Geometry) (image : Image) (n : ℕ) : Type 0 where
+  pub in_range : n < g.sectors
+  pub clear : ¬ IsAmbiguous g image n
+
+-- why it is not so
+abbrev pub IsUnreadable : Geometry → Image → ℕ → SectorFault → Type 0
+IsUnreadable g image n scan.OutOfRange = g.sectors ≤ n
+IsUnreadable g image n (scan.SequenceRepeated first second) = (n < g.sectors) × SharesSequence image n first second
+IsUnreadable g image n scan.Source = ⊥
+
+-- the line of a sector: two lower case digits a byte, and a line feed
+abbrev pub sector_line : Geometry → Image → ℕ → List ℕ
+sector_line g image n = encode_lower (sector_of g image n) ++ (10 ∷ [])
+
+-- what a fault of printing says of the image
+abbrev pub IsPrintFault : Geometry → Image → ℕ → PrintFault → Type 0
+IsPrintFault g image n (print.Sector fault) = IsUnreadable g image n fault
+IsPrintFault g image n print.Write = IsReadable g image n
+IsPrintFault g image n print.OutOfMemory = IsReadable g image n
+
+-- nothing was written, unless it was the writer that failed
+abbrev pub IsUnprinted : PrintFault → Option (List ℕ) → Option (List ℕ) → Type 0
+IsUnprinted print.Write before after = Unit {0}
+IsUnprinted (print.Sector fault) before after = Keeps before after
+IsUnprinted print.OutOfMemory before after = Keeps before after
+
+-- ---- the command
+
+-- the words are numbers, those of a geometry
+pub record IsAsked (words : ImageWords) (g : Geometry) (n : ℕ) : Type 0 where
+  pub numbers : GeometryNumbers
+  pub geometry : SpellsGeometry words.geometry.now numbers
+  pub sector : number_of words.number.now ≡ Some n
+  pub valid : HasNumbers numbers.data_bytes numbers.spare_bytes numbers.pages numbers.blocks numbers.sectors g
+
+-- and the file holds an image of it; `gives` tells what a path's file may hold
+pub record HasImage (gives : List ℕ → List ℕ → Type 0) (words : ImageWords) (g : Geometry) (n : ℕ) (bytes : List ℕ) : Type 0 where
+  pub asked : IsAsked words g n
+  pub given : gives words.image.now bytes
+  pub whole : length bytes ≡ row_count g * page_bytes g
+
+-- What the command came to, with the bytes of standard output before and after. Each fault says that nothing before it in
+-- the order failed: the numbers by their words, the geometry, the file, its length, and then the sector's own faults.
+abbrev pub DoesSector : (List ℕ → List ℕ → Type 0) → ImageWords → Option (List ℕ) → Option (List ℕ) → Result (Unit {0}) CommandFault → Type 0
+DoesSector gives words before after (Ok done) = (g : Geometry) × (n : ℕ) × (bytes : List ℕ) × HasImage gives words g n bytes
+    × IsReadable g (raw_image g bytes) n × Appends before after (sector_line g (raw_image g bytes) n)
+DoesSector gives words before after (Err (fault.BadNumber word)) = Keeps before after
+    × (((word.now ≡ words.geometry.now) × ((numbers : GeometryNumbers) → ¬ SpellsGeometry words.geometry.now numbers))
+    ⊎ ((word.now ≡ words.number.now) × ((numbers : GeometryNumbers) × SpellsGeometry words.geometry.now numbers) × (number_of words.number.now ≡ None)))
+DoesSector gives words before after (Err (fault.Geometry broken)) = Keeps before after
+    × ((numbers : GeometryNumbers) × (n : ℕ) × SpellsGeometry words.geometry.now numbers × (number_of words.number.now ≡ Some n)
+    × IsFirstFault numbers.data_bytes numbers.spare_bytes numbers.pages numbers.blocks numbers.sectors broken)
+DoesSector gives words before after (Err (fault.Read path)) = Keeps before after × (path.now ≡ words.image.now) × ((g : Geometry) × (n : ℕ) × IsAsked words g n)
+DoesSector gives words before after (Err fault.WrongLength) = Keeps before after
+    × ((g : Geometry) × (n : ℕ) × (bytes : List ℕ) × IsAsked words g n × gives words.image.now bytes × (length bytes ≢ row_count g * page_bytes g))
+DoesSector gives words before after (Err (fault.Sector refused)) = Keeps before after
+    × ((g : Geometry) × (n : ℕ) × (bytes : List ℕ) × HasImage gives words g n bytes × IsUnreadable g (raw_image g bytes) n refused)
+DoesSector gives words before after (Err (fault.Write path)) = (path.now ≡ codes "-")
+    × ((g : Geometry) × (n : ℕ) × (bytes : List ℕ) × HasImage gives words g n bytes × IsReadable g (raw_image g bytes) n)
+DoesSector gives words before after (Err fault.OutOfMemory) = Keeps before after
+DoesSector gives words before after (Err _) = ⊥

@@ -1,0 +1,116 @@
+-- What the program says of a command that ended before it was done.
+use Rattle.std.specs.Prelude.{◌≡◌, ◌⊎◌, ℕ, List, [], ◌∷◌, ◌++◌, codes, Option}
+use Rattle.std.specs.Io.KnownBytes.{Appends}
+use Rattle.std.specs.Fmt.{decimal}
+use Rattle.page_layout.specs.declared.geometry.GeometryFault.{GeometryFault}
+use Rattle.page_layout.specs.declared.geometry.GeometryFault.TheVariants as geometry
+use Rattle.image_check.specs.declared.scan.SectorFault.{SectorFault}
+use Rattle.image_check.specs.declared.scan.SectorFault.TheVariants as sector
+use Rattle.image_check.specs.declared.refusal.Refusal.{Refusal}
+use Rattle.image_check.specs.declared.refusal.Refusal.TheVariants as refusal
+use Rattle.certificate.specs.declared.fault.CertFault.{CertFault}
+use Rattle.certificate.specs.declared.fault.CertFault.TheVariants as certificate
+use Rattle.mount.specs.declared.format_fault.FormatFault.{FormatFault}
+use Rattle.mount.specs.declared.format_fault.FormatFault.TheVariants as format
+use Rattle.nand_die.specs.declared.fault.DieFault.{DieFault}
+use Rattle.nand_die.specs.declared.fault.DieFault.TheVariants as die
+use Rattle.commands.specs.declared.text.CommandFault.{CommandFault}
+use Rattle.commands.specs.declared.text.CommandFault.TheVariants.{NoSuchCommand, BadNumber, Geometry, Capacity, WrongLength, RowRange, OutOfMemory, Sector, Die, Format, Certificate, Check, Mount, Read, Write}
+
+-- the number and the name of a limit that is broken
+abbrev pub geometry_words : GeometryFault → List ℕ
+geometry_words geometry.DataSize = codes "1 DataSize"
+geometry_words geometry.SpareSize = codes "2 SpareSize"
+geometry_words geometry.PagesPerBlock = codes "3 PagesPerBlock"
+geometry_words geometry.Blocks = codes "4 Blocks"
+geometry_words geometry.Sectors = codes "5 Sectors"
+
+-- the number and the name of a sector's fault, and the rows that it names
+abbrev pub sector_words : SectorFault → List ℕ
+sector_words sector.OutOfRange = codes "1 OutOfRange"
+sector_words (sector.SequenceRepeated first second) = codes "2 SequenceRepeated row " ++ (decimal first ++ (codes " row " ++ decimal second))
+sector_words sector.Source = codes "3 Source"
+
+-- the number and the name of why no die was made, and the block that it names
+abbrev pub die_words : DieFault → List ℕ
+die_words die.WrongLength = codes "1 WrongLength"
+die_words (die.BadMark block) = codes "2 BadMark block " ++ decimal block
+die_words die.OutOfMemory = codes "3 OutOfMemory"
+die_words die.SoundFaultPage = codes "4 SoundFaultPage"
+
+-- the number and the name of why a die was not formatted, and its fields
+abbrev pub format_words : FormatFault → List ℕ
+format_words (format.TooFewGood good need) = codes "1 TooFewGood good " ++ (decimal good ++ (codes " need " ++ decimal need))
+format_words format.Bus = codes "2 Bus"
+format_words format.OutOfMemory = codes "3 OutOfMemory"
+format_words format.WriteFailed = codes "4 WriteFailed"
+format_words (format.NotFresh row) = codes "5 NotFresh row " ++ decimal row
+
+-- the number and the name of why bytes are no certificate
+abbrev pub certificate_words : CertFault → List ℕ
+certificate_words certificate.Magic = codes "1 Magic"
+certificate_words certificate.Short = codes "2 Short"
+certificate_words certificate.Long = codes "3 Long"
+certificate_words certificate.Limit = codes "4 Limit"
+certificate_words certificate.RowRange = codes "5 RowRange"
+certificate_words certificate.ClassRange = codes "6 ClassRange"
+certificate_words certificate.OutOfMemory = codes "7 OutOfMemory"
+
+-- the number and the name of a refusal by the checker or by mount, then each field by its name and its value
+abbrev pub refusal_words : Refusal → List ℕ
+refusal_words refusal.GeometryDiffers = codes "1 GeometryDiffers"
+refusal_words (refusal.SequenceRepeated first second) = codes "2 SequenceRepeated row " ++ (decimal first ++ (codes " row " ++ decimal second))
+refusal_words (refusal.NotNewest sector row) = codes "3 NotNewest sector " ++ (decimal sector ++ (codes " row " ++ decimal row))
+refusal_words (refusal.NoSuchRecord sector row) = codes "4 NoSuchRecord sector " ++ (decimal sector ++ (codes " row " ++ decimal row))
+refusal_words (refusal.DirectoryWrong page) = codes "5 DirectoryWrong page " ++ decimal page
+refusal_words (refusal.NumberRange row) = codes "6 NumberRange row " ++ decimal row
+refusal_words (refusal.BlockState block) = codes "7 BlockState block " ++ decimal block
+refusal_words (refusal.BadSetWrong block) = codes "8 BadSetWrong block " ++ decimal block
+refusal_words (refusal.LiveWrong block) = codes "9 LiveWrong block " ++ decimal block
+refusal_words (refusal.WearWrong block) = codes "10 WearWrong block " ++ decimal block
+refusal_words refusal.NextSequence = codes "11 NextSequence"
+refusal_words (refusal.TooStale stale capacity) = codes "12 TooStale stale " ++ (decimal stale ++ (codes " capacity " ++ decimal capacity))
+refusal_words refusal.NotFormatted = codes "13 NotFormatted"
+refusal_words (refusal.TableDamaged page) = codes "14 TableDamaged page " ++ decimal page
+refusal_words refusal.Source = codes "15 Source"
+refusal_words refusal.OutOfMemory = codes "16 OutOfMemory"
+
+-- the line, without its line feed
+abbrev pub line_of : CommandFault → List ℕ
+line_of NoSuchCommand = codes "usage: no such command"
+line_of (BadNumber word) = codes "usage: bad number " ++ word.now
+line_of (Geometry fault) = codes "refused geometry " ++ geometry_words fault
+line_of Capacity = codes "refused geometry 6 Capacity"
+line_of WrongLength = codes "refused image 1 WrongLength"
+line_of RowRange = codes "refused image 2 RowRange"
+line_of OutOfMemory = codes "refused image 3 OutOfMemory"
+line_of (Sector fault) = codes "refused sector " ++ sector_words fault
+line_of (Die fault) = codes "refused die " ++ die_words fault
+line_of (Format fault) = codes "refused format " ++ format_words fault
+line_of (Certificate fault) = codes "refused certificate " ++ certificate_words fault
+line_of (Check refused) = codes "refused check " ++ refusal_words refused
+line_of (Mount refused) = codes "refused mount " ++ refusal_words refused
+line_of (Read path) = codes "fault read " ++ path.now
+line_of (Write path) = codes "fault write " ++ path.now
+
+-- the exit status: 1 refused, 2 usage, 3 input or output
+abbrev pub status_of : CommandFault → ℕ
+status_of NoSuchCommand = 2
+status_of (BadNumber word) = 2
+status_of (Geometry fault) = 1
+status_of Capacity = 1
+status_of WrongLength = 1
+status_of RowRange = 1
+status_of OutOfMemory = 1
+status_of (Sector fault) = 1
+status_of (Die fault) = 1
+status_of (Format fault) = 1
+status_of (Certificate fault) = 1
+status_of (Check refused) = 1
+status_of (Mount refused) = 1
+status_of (Read path) = 3
+status_of (Write path) = 3
+
+-- The fault's line was written, and the status is the fault's. Where it could not be written the status is 3.
+abbrev pub IsTold : CommandFault → Option (List ℕ) → Option (List ℕ) → ℕ → Type 0
+IsTold fault before after status = ((status ≡ status_of fault) × Appends before after (line_of fault ++ (10 ∷ []))) ⊎ (status ≡ 3)

@@ -1,0 +1,81 @@
+//! The command `check GEOM C IMAGE CERT`.
+ghost use Rattle.std.specs.Prelude.{◌≡◌, OnOk, IfOk, IfErr, ◌∷◌, [], ◌++◌, codes};
+ghost use Rattle.std.specs.Io.KnownBytes.{Appends};
+ghost use Rattle.commands.specs.Check.{DoesCheck, IsHeld, IsNoCertificate, IsSpelled, IsUnheld, IsUnprinted};
+
+use crate::files::FileStore;
+use crate::inputs::{CacheAsked, cache_asked, load};
+use crate::text::CommandFault;
+use crate::words::CertificateWords;
+use certificate::{Certificate, read_certificate};
+use image_check::check;
+use page_layout::source::ImageSlice;
+use std::alloc::Global;
+use std::io::Write;
+
+// The certificate that a file's bytes spell.
+fn certificate_in<'a>(alloc: Global, written: &[u8]) -> Result<Certificate, CommandFault<'a>>
+    ensures ok { IfOk result (λ certificate. IsSpelled certificate written.now) }
+    ensures fault { IfErr result (IsNoCertificate written.now) }
+{
+    match read_certificate(alloc, written) {
+        Ok(certificate) => Ok(certificate),
+        Err(fault) => Err(CommandFault::Certificate(fault)),
+    }
+}
+
+// Holds a certificate against the bytes of an image.
+fn hold<'a>(
+    alloc: Global,
+    asked: &CacheAsked,
+    bytes: &[u8],
+    certificate: &Certificate,
+) -> Result<(), CommandFault<'a>>
+    ensures ok { OnOk result (IsHeld asked.now.geometry asked.now.capacity bytes.now certificate.now) }
+    ensures fault { IfErr result (IsUnheld asked.now.geometry asked.now.capacity bytes.now certificate.now) }
+{
+    let mut image = match ImageSlice::new(&asked.geometry, bytes) {
+        Ok(image) => image,
+        Err(_) => return Err(CommandFault::WrongLength),
+    };
+    match check(
+        alloc,
+        &mut image,
+        &asked.geometry,
+        asked.capacity,
+        certificate,
+    ) {
+        Ok(_) => Ok(()),
+        Err(refusal) => Err(CommandFault::Check(refusal)),
+    }
+}
+
+// Prints that the certificate was accepted.
+fn print_accepted<'a, W: Write>(out: &mut W) -> Result<(), CommandFault<'a>>
+    ensures ok { OnOk result (Appends (W.contents out.old) (W.contents out.new) (codes "accepted" ++ (10 ∷ []))) }
+    ensures fault { IfErr result IsUnprinted }
+{
+    match writeln!(out, "accepted") {
+        Ok(()) => Ok(()),
+        Err(_) => Err(CommandFault::Write("-")),
+    }
+}
+
+/// The command `check`: prints that the certificate CERT, for a cache of C entries, agrees with the
+/// raw image IMAGE, of the geometry GEOM.
+pub fn check_command<'a, F: FileStore, W: Write>(
+    alloc: Global,
+    words: CertificateWords<'a>,
+    files: &mut F,
+    out: &mut W,
+) -> Result<(), CommandFault<'a>>
+    ensures does { DoesCheck (F.gives files.old) words.entry (W.contents out.old) (W.contents out.new) result }
+    ensures stores { F.stores files.new ≡ F.stores files.old }
+{
+    let asked = cache_asked(&words)?;
+    let bytes = load(files, words.image)?;
+    let written = load(files, words.certificate)?;
+    let certificate = certificate_in(alloc, &written)?;
+    hold(alloc, &asked, &bytes, &certificate)?;
+    print_accepted(out)
+}

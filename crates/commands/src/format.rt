@@ -1,0 +1,82 @@
+//! The command `format GEOM IN OUT`.
+ghost use Rattle.std.specs.Prelude.{◌≡◌, IfOk, IfErr};
+ghost use Rattle.onfi_cycles.specs.Driver.{seen};
+ghost use Rattle.commands.specs.Format.{DoesFormat, IsFormattedImage, IsUnformatted};
+ghost use Rattle.commands.specs.Files.{left};
+
+use crate::files::FileStore;
+use crate::inputs::{geometry_of, load, numbers_at};
+use crate::outputs::store;
+use crate::text::CommandFault;
+use crate::words::FileWords;
+use mount::format;
+use nand_die::{Die, DieFault};
+use onfi_cycles::Driver;
+use page_layout::geometry::Geometry;
+use std::alloc::Global;
+use std::io::Write;
+
+// A die in memory behind a driver. It always takes Reset.
+fn driver_of(die: Die, geometry: Geometry) -> Driver<Die>
+    requires { die.state.flash.geometry ≡ geometry }
+    ensures geometry { result.geometry ≡ geometry }
+    ensures flash { seen result.geometry result.bus.state.flash ≡ die.state.flash }
+{
+    match Driver::new(die, geometry) {
+        Ok(driver) => driver,
+        Err(_) => unreachable!(),
+    }
+}
+
+/// Formats the raw image of a fresh die without bad blocks in place, and answers its good blocks.
+///
+/// # Errors
+///
+/// `WrongLength` where the image has not as many bytes as the geometry says. `Die` with `OutOfMemory` where a growth was refused while
+/// the die was made. `Format` with the fault of `mount::format`. After each the image is as it was.
+pub fn format_image<'a>(
+    alloc: Global,
+    geometry: Geometry,
+    image: &mut [u8],
+) -> Result<u32, CommandFault<'a>>
+    ensures ok { IfOk result (IsFormattedImage geometry image.old image.new) }
+    ensures fault { IfErr result (IsUnformatted geometry image.old) }
+    ensures same { IfErr result (λ _. image.new ≡ image.old) }
+{
+    let die = match Die::from_image(alloc, geometry, image, &[]) {
+        Ok(die) => die,
+        Err(DieFault::WrongLength) => return Err(CommandFault::WrongLength),
+        Err(fault) => return Err(CommandFault::Die(fault)),
+    };
+    let mut driver = driver_of(die, geometry);
+    let answer = format(alloc, &mut driver, &geometry);
+    let die = driver.into_bus();
+    match answer {
+        Ok(good) => {
+            die.image_into(image);
+            Ok(good)
+        }
+        Err(fault) => Err(CommandFault::Format(fault)),
+    }
+}
+
+/// The command `format`: formats the raw image IN of a fresh die of the geometry GEOM, stores it under OUT, and then prints how many
+/// good blocks it has. A refusal stores and prints nothing.
+pub fn format_command<'a, F: FileStore, W: Write>(
+    alloc: Global,
+    words: FileWords<'a>,
+    files: &mut F,
+    out: &mut W,
+) -> Result<(), CommandFault<'a>>
+    ensures { DoesFormat (F.gives files.old) words.entry (left (F.stores files.old) (W.contents out.old)) (left (F.stores files.new) (W.contents out.new)) result }
+{
+    let numbers = numbers_at(words.geometry)?;
+    let geometry = geometry_of(&numbers)?;
+    let mut bytes = load(files, words.input)?;
+    let good = format_image(alloc, geometry, &mut bytes)?;
+    store(files, words.output, &bytes)?;
+    match writeln!(out, "good {good}") {
+        Ok(()) => Ok(()),
+        Err(_) => Err(CommandFault::Write("-")),
+    }
+}

@@ -1,0 +1,113 @@
+//! What the commands take from their words and files.
+ghost use Rattle.std.specs.Prelude.{◌≡◌, ℕ, List, Some, None, IfOk, IfErr};
+ghost use Rattle.page_layout.specs.Faults.{HasNumbers};
+ghost use Rattle.commands.specs.declared.numbers.GeometryNumbers.{GeometryNumbers};
+ghost use Rattle.commands.specs.Check.{IsAsked, IsUnasked};
+ghost use Rattle.commands.specs.Inputs.{IsBadGeometry, IsBadNumber, IsUnread};
+ghost use Rattle.commands.specs.Numbers.{SpellsGeometry, number_of};
+
+use crate::files::{FileFault, FileStore};
+use crate::numbers::{GeometryNumbers, geometry_numbers, number};
+use crate::text::CommandFault;
+use crate::words::CertificateWords;
+use page_layout::geometry::Geometry;
+
+/// The number that a word writes.
+///
+/// # Errors
+///
+/// `BadNumber` where the word writes none.
+pub fn number_at(word: &str) -> Result<u32, CommandFault<'_>>
+    ensures ok { IfOk result (λ n. number_of word.now ≡ Some n) }
+    ensures fault { IfErr result (IsBadNumber word.now) }
+    ensures none { IfErr result (λ _. number_of word.now ≡ None) }
+{
+    match number(word) {
+        Some(value) => Ok(value),
+        None => Err(CommandFault::BadNumber(word)),
+    }
+}
+
+/// The five numbers of a word GEOM.
+///
+/// # Errors
+///
+/// `BadNumber` where the word is not five numbers with four commas between them.
+pub fn numbers_at(word: &str) -> Result<GeometryNumbers, CommandFault<'_>>
+    ensures ok { IfOk result (SpellsGeometry word.now) }
+    ensures fault { IfErr result (IsBadNumber word.now) }
+    ensures none { IfErr result (λ _. (numbers : GeometryNumbers) → ¬ SpellsGeometry word.now numbers) }
+{
+    match geometry_numbers(word) {
+        Some(numbers) => Ok(numbers),
+        None => Err(CommandFault::BadNumber(word)),
+    }
+}
+
+/// The geometry of five numbers.
+///
+/// # Errors
+///
+/// `Geometry`, with the first limit that the numbers break.
+pub fn geometry_of<'a>(numbers: &GeometryNumbers) -> Result<Geometry, CommandFault<'a>>
+    ensures ok { IfOk result (HasNumbers numbers.now.data_bytes numbers.now.spare_bytes numbers.now.pages numbers.now.blocks numbers.now.sectors) }
+    ensures fault { IfErr result (IsBadGeometry numbers.now) }
+{
+    match Geometry::new(
+        numbers.data_bytes,
+        numbers.spare_bytes,
+        numbers.pages,
+        numbers.blocks,
+        numbers.sectors,
+    ) {
+        Ok(geometry) => Ok(geometry),
+        Err(fault) => Err(CommandFault::Geometry(fault)),
+    }
+}
+
+/// The greatest capacity of a cache, in entries.
+const MOST_CAPACITY: u32 = 65536;
+
+/// A geometry, and the capacity of a cache in entries, from 1 to 65536.
+#[derive(Clone, Copy)]
+pub struct CacheAsked {
+    pub geometry: Geometry,
+    pub capacity: u32,
+}
+
+/// The geometry and the capacity that a command's words ask for.
+///
+/// # Errors
+///
+/// The first of this order: `BadNumber` where a word writes no numbers, `Geometry` where they are no
+/// geometry, `Capacity` where the capacity is not from 1 to 65536.
+pub fn cache_asked<'a>(words: &CertificateWords<'a>) -> Result<CacheAsked, CommandFault<'a>>
+    ensures ok { IfOk result (λ asked. IsAsked words.now asked.geometry asked.capacity) }
+    ensures fault { IfErr result (IsUnasked words.now) }
+{
+    let numbers = numbers_at(words.geometry)?;
+    let capacity = number_at(words.capacity)?;
+    let geometry = geometry_of(&numbers)?;
+    if capacity == 0 || capacity > MOST_CAPACITY {
+        return Err(CommandFault::Capacity);
+    }
+    Ok(CacheAsked { geometry, capacity })
+}
+
+/// The bytes of a file, whole.
+///
+/// # Errors
+///
+/// `Read` where the file cannot be read, `OutOfMemory` where a growth was refused.
+pub fn load<'a, F: FileStore>(files: &mut F, path: &'a str) -> Result<Vec<u8>, CommandFault<'a>>
+    ensures ok { IfOk result (λ bytes. F.gives files.old path.now bytes.items) }
+    ensures fault { IfErr result (IsUnread path.now) }
+    ensures same { (at found : List ℕ) → F.gives files.new at found → F.gives files.old at found }
+    ensures stores { F.stores files.new ≡ F.stores files.old }
+{
+    match files.load(path) {
+        Ok(bytes) => Ok(bytes),
+        Err(FileFault::Failed) => Err(CommandFault::Read(path)),
+        Err(FileFault::OutOfMemory) => Err(CommandFault::OutOfMemory),
+    }
+}

@@ -1,0 +1,22 @@
+//! The commands of the program `nandctl`, on raw images of one NAND die: which words are a command, what it prints and stores, and
+//! the line and the exit status of each refusal. The caller gives the files and the writers, so that the same functions serve the
+//! program, over the system's files, and tests, over files in memory.
+#![tactic(auto)]
+
+mod check;
+mod files;
+mod format;
+mod inputs;
+mod mount_image;
+mod numbers;
+mod outputs;
+mod program;
+mod sector;
+mod show;
+mod text;
+mod words;
+
+pub use files::{FileFault, FileStore};
+pub use program::run;
+pub use sector::{PrintFault, print_sector};
+pub use text::{CommandFault, tell};

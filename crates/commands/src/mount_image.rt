@@ -1,0 +1,123 @@
+//! The command `mount GEOM C IMAGE CERT`.
+ghost use Rattle.std.specs.Prelude.{◌≡◌, ◌≤◌, OnOk, IfOk, IfErr};
+ghost use Rattle.std.specs.Io.KnownBytes.{Appends};
+ghost use Rattle.certificate.specs.Spelling.{certificate_bytes};
+ghost use Rattle.image_check.specs.Agrees.{Agrees};
+ghost use Rattle.image_check.specs.Stale.{stale_count};
+ghost use Rattle.commands.specs.Check.{IsUnprinted};
+ghost use Rattle.commands.specs.Files.{left};
+ghost use Rattle.commands.specs.Mount.{DoesMount, IsMountedAs, IsNoMemory, IsUnmounted, IsUnspelled, mounted_line};
+
+use crate::files::FileStore;
+use crate::inputs::{CacheAsked, cache_asked, load};
+use crate::outputs::store;
+use crate::text::CommandFault;
+use crate::words::CertificateWords;
+use certificate::{Certificate, write_certificate};
+use image_check::check;
+use mount::mount;
+use page_layout::source::ImageSlice;
+use std::alloc::Global;
+use std::io::Write;
+
+// A certificate as it is stored, and what is told of it.
+#[derive(Drop)]
+struct Mounted {
+    written: Vec<u8>,
+    next: u64,
+    good: u32,
+    stale: usize,
+}
+
+// How many sectors are stale in an image that was just mounted.
+fn count_stale<'a>(
+    alloc: Global,
+    asked: &CacheAsked,
+    image: &mut ImageSlice,
+    certificate: &Certificate,
+) -> Result<usize, CommandFault<'a>>
+    requires same_geometry { image.old.flash.geometry ≡ asked.now.geometry }
+    requires agrees { Agrees asked.now.geometry asked.now.capacity image.old.flash.image certificate.now }
+    ensures ok { IfOk result (λ count. count ≡ stale_count asked.now.geometry image.old.flash.image) }
+    ensures fault { IfErr result IsNoMemory }
+{
+    match check(alloc, image, &asked.geometry, asked.capacity, certificate) {
+        Ok(accepted) => Ok(accepted.stale().len()),
+        Err(refusal) => Err(CommandFault::Mount(refusal)),
+    }
+}
+
+// The bytes of a certificate.
+fn spell<'a>(alloc: Global, certificate: &Certificate) -> Result<Vec<u8>, CommandFault<'a>>
+    ensures ok { IfOk result (λ bytes. bytes.items ≡ certificate_bytes certificate.now) }
+    ensures fault { IfErr result IsUnspelled }
+{
+    match write_certificate(alloc, certificate) {
+        Ok(bytes) => Ok(bytes),
+        Err(fault) => Err(CommandFault::Certificate(fault)),
+    }
+}
+
+// Makes the certificate of the bytes of an image.
+fn mount_bytes<'a>(
+    alloc: Global,
+    asked: &CacheAsked,
+    bytes: &[u8],
+) -> Result<Mounted, CommandFault<'a>>
+    requires least { 1 ≤ asked.now.capacity }
+    requires most { asked.now.capacity ≤ 65536 }
+    ensures ok { IfOk result (IsMountedAs asked.now.geometry asked.now.capacity bytes.now) }
+    ensures fault { IfErr result (IsUnmounted asked.now.geometry asked.now.capacity bytes.now) }
+{
+    let mut image = match ImageSlice::new(&asked.geometry, bytes) {
+        Ok(image) => image,
+        Err(_) => return Err(CommandFault::WrongLength),
+    };
+    let certificate = match mount(alloc, &mut image, &asked.geometry, asked.capacity) {
+        Ok(certificate) => certificate,
+        Err(refusal) => return Err(CommandFault::Mount(refusal)),
+    };
+    let stale = count_stale(alloc, asked, &mut image, &certificate)?;
+    let written = spell(alloc, &certificate)?;
+    Ok(Mounted {
+        written,
+        next: certificate.next_sequence(),
+        good: certificate.good(),
+        stale,
+    })
+}
+
+// Prints what is told of a certificate.
+fn print_mounted<'a, W: Write>(mounted: &Mounted, out: &mut W) -> Result<(), CommandFault<'a>>
+    ensures ok { OnOk result (Appends (W.contents out.old) (W.contents out.new) (mounted_line mounted.now.next mounted.now.good mounted.now.stale)) }
+    ensures fault { IfErr result IsUnprinted }
+{
+    let Mounted {
+        next,
+        good,
+        stale,
+        ..
+    } = mounted;
+    match writeln!(out, "mounted next {next} good {good} stale {stale}") {
+        Ok(()) => Ok(()),
+        Err(_) => Err(CommandFault::Write("-")),
+    }
+}
+
+/// The command `mount`: stores the certificate of the raw image IMAGE, of the geometry GEOM and for
+/// a cache of C entries, as CERT, and then prints its next sequence, its good blocks and how many
+/// sectors are stale.
+pub fn mount_command<'a, F: FileStore, W: Write>(
+    alloc: Global,
+    words: CertificateWords<'a>,
+    files: &mut F,
+    out: &mut W,
+) -> Result<(), CommandFault<'a>>
+    ensures { DoesMount (F.gives files.old) words.entry (left (F.stores files.old) (W.contents out.old)) (left (F.stores files.new) (W.contents out.new)) result }
+{
+    let asked = cache_asked(&words)?;
+    let bytes = load(files, words.image)?;
+    let mounted = mount_bytes(alloc, &asked, &bytes)?;
+    store(files, words.certificate, &mounted.written)?;
+    print_mounted(&mounted, out)
+}

@@ -1,0 +1,78 @@
+//! The program's commands.
+ghost use Rattle.std.specs.Prelude.{Result};
+ghost use Rattle.commands.specs.declared.text.CommandFault.{CommandFault};
+ghost use Rattle.commands.specs.Commands.{Does, Obeys, Reports};
+ghost use Rattle.commands.specs.Files.{left};
+ghost use Rattle.commands.specs.Words.{texts};
+
+use crate::check::check_command;
+use crate::files::FileStore;
+use crate::format::format_command;
+use crate::mount_image::mount_command;
+use crate::sector::sector_command;
+use crate::show::show_command;
+use crate::text::{CommandFault, DONE, tell};
+use crate::words::{Order, WordsFault, parse};
+use std::alloc::Global;
+use std::io::{Read, Write};
+
+// Does what an order asks.
+fn carry_out<'a, F: FileStore, W: Write>(
+    alloc: Global,
+    order: Order<'a>,
+    files: &mut F,
+    out: &mut W,
+) -> Result<(), CommandFault<'a>>
+    ensures { Does (F.gives files.old) order.entry (left (F.stores files.old) (W.contents out.old)) (left (F.stores files.new) (W.contents out.new)) result }
+{
+    match order {
+        Order::Sector(words) => sector_command(alloc, words, files, out),
+        Order::Show(words) => show_command(words, files, out),
+        Order::Format(words) => format_command(alloc, words, files, out),
+        Order::Check(words) => check_command(alloc, words, files, out),
+        Order::Mount(words) => mount_command(alloc, words, files, out),
+    }
+}
+
+// Does what the words ask, where they ask for something.
+fn obey<'a, F: FileStore, W: Write>(
+    alloc: Global,
+    words: &'a [&'a str],
+    files: &mut F,
+    out: &mut W,
+) -> Result<(), CommandFault<'a>>
+    ensures { Obeys (F.gives files.old) (texts words.now) (left (F.stores files.old) (W.contents out.old)) (left (F.stores files.new) (W.contents out.new)) result }
+{
+    match parse(alloc, words) {
+        Ok(order) => carry_out(alloc, order, files, out),
+        Err(WordsFault::NoSuchCommand) => Err(CommandFault::NoSuchCommand),
+        Err(WordsFault::OutOfMemory) => Err(CommandFault::OutOfMemory),
+    }
+}
+
+/// Does what the words say, and answers the exit status: 0 done, 1 refused, 2 usage, 3 input or
+/// output. `words` begins with the program's name. Results go to `out`; of a command that was not
+/// done one line goes to `err`, and nothing to `out` unless it is `out` that failed. No command so
+/// far reads `input`.
+///
+/// Where several faults hold, the first of this order is told: words that are no command, numbers by
+/// the order of the words, the geometry, the cache's capacity, the files by the order of the words,
+/// the certificate's bytes, the image's length, and the command's own refusals. After each of these
+/// nothing was stored. A file is stored before the line that tells of it is printed.
+///
+/// (The words, the lines and the statuses are this project's.)
+pub fn run<F: FileStore, R: Read, W: Write, E: Write>(
+    alloc: Global,
+    words: &[&str],
+    files: &mut F,
+    _input: &mut R,
+    out: &mut W,
+    err: &mut E,
+) -> u8
+    ensures { (done : Result (Unit {0}) CommandFault) × Obeys (F.gives files.old) (texts words.now) (left (F.stores files.old) (W.contents out.old)) (left (F.stores files.new) (W.contents out.new)) done × Reports done (E.contents err.old) (E.contents err.new) result }
+{
+    match obey(alloc, words, files, out) {
+        Ok(()) => DONE,
+        Err(fault) => tell(&fault, err),
+    }
+}

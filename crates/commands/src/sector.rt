@@ -1,0 +1,129 @@
+//! The command `sector GEOM IMAGE N`.
+ghost use Rattle.std.specs.Prelude.{◌≡◌, ◌≢◌, ◌∷◌, [], ◌++◌, OnOk, IfOk, IfErr, string_bytes};
+ghost use Rattle.std.specs.Io.KnownBytes.{Appends};
+ghost use Rattle.hex.specs.Hex.{encode_lower};
+ghost use Rattle.commands.specs.Sector.{DoesSector, IsPrintFault, IsReadable, IsUnprinted};
+
+use crate::files::FileStore;
+use crate::inputs::{geometry_of, load, number_at, numbers_at};
+use crate::text::CommandFault;
+use crate::words::ImageWords;
+use image_check::{SectorFault, sector_in};
+use page_layout::source::ImageSlice;
+use std::alloc::{AllocError, Global};
+use std::io::Write;
+
+/// Why a sector was not printed.
+#[derive(Clone, Copy, Debug, PartialEq, Eq)]
+pub enum PrintFault {
+    /// The image gives no bytes for the sector.
+    Sector(SectorFault),
+    /// The writer failed, and may have taken a part of the line.
+    Write,
+    /// A growth was refused.
+    OutOfMemory,
+}
+
+impl From<SectorFault> for PrintFault {
+    ghost use Rattle.std.specs.Prelude.{◌≡◌};
+    ghost use Rattle.commands.specs.declared.sector.PrintFault.{PrintFault};
+
+    ghost from_gives = { λ fault made. made ≡ PrintFault.Sector fault };
+
+    fn from(fault: SectorFault) -> PrintFault {
+        PrintFault::Sector(fault)
+    }
+}
+
+impl From<AllocError> for PrintFault {
+    ghost use Rattle.std.specs.Prelude.{◌≡◌};
+    ghost use Rattle.commands.specs.declared.sector.PrintFault.{PrintFault};
+
+    ghost from_gives = { λ _ made. made ≡ PrintFault.OutOfMemory };
+
+    fn from(_error: AllocError) -> PrintFault {
+        PrintFault::OutOfMemory
+    }
+}
+
+// The bytes in lower case hexadecimal, two digits a byte, and a line feed.
+fn hex_line(alloc: Global, bytes: &[u8]) -> Result<String, AllocError>
+    ensures { IfOk result (λ line. string_bytes line ≡ encode_lower bytes.now ++ (10 ∷ [])) }
+{
+    let mut line = hex::encode(alloc, bytes)?;
+    line.push('\n')?;
+    Ok(line)
+}
+
+// The line of a sector.
+fn sector_line(alloc: Global, image: &ImageSlice, sector: u32) -> Result<String, PrintFault>
+    ensures ok { IfOk result (λ line. string_bytes line ≡ Rattle.commands.specs.Sector.sector_line image.now.flash.geometry image.now.flash.image sector) }
+    ensures readable { OnOk result (IsReadable image.now.flash.geometry image.now.flash.image sector) }
+    ensures fault { IfErr result (IsPrintFault image.now.flash.geometry image.now.flash.image sector) }
+    ensures unwritten { IfErr result (λ fault. fault ≢ PrintFault.Write) }
+{
+    let found = sector_in(image, sector)?;
+    let line = match found {
+        Some(bytes) => hex_line(alloc, bytes)?,
+        None => {
+            let zeros = vec![in alloc; 0u8; image.geometry().data_bytes()]?;
+            hex_line(alloc, &zeros)?
+        }
+    };
+    Ok(line)
+}
+
+/// Writes a sector of the image as one line: lower case hexadecimal, two digits a byte, and a line
+/// feed.
+///
+/// # Errors
+///
+/// `Sector` with the fault of `image_check::sector_in`: `OutOfRange` exactly where `sector` is at or
+/// past the geometry's sectors, else `SequenceRepeated` exactly where two pages of the sector share
+/// its greatest sequence. `OutOfMemory` where a growth was refused. After these two nothing was
+/// written. `Write` where the writer failed: a part of the line may have been written.
+///
+/// (The line is this project's, its digits are those of the crate `hex`.)
+pub fn print_sector<W: Write>(
+    alloc: Global,
+    image: &ImageSlice,
+    sector: u32,
+    out: &mut W,
+) -> Result<(), PrintFault>
+    ensures ok { OnOk result (Appends (W.contents out.old) (W.contents out.new) (Rattle.commands.specs.Sector.sector_line image.now.flash.geometry image.now.flash.image sector)) }
+    ensures readable { OnOk result (IsReadable image.now.flash.geometry image.now.flash.image sector) }
+    ensures fault { IfErr result (IsPrintFault image.now.flash.geometry image.now.flash.image sector) }
+    ensures unprinted { IfErr result (λ fault. IsUnprinted fault (W.contents out.old) (W.contents out.new)) }
+{
+    let line = sector_line(alloc, image, sector)?;
+    match out.write_all(line.as_bytes()) {
+        Ok(()) => Ok(()),
+        Err(_) => Err(PrintFault::Write),
+    }
+}
+
+/// The command `sector`: prints sector N of the raw image IMAGE, of the geometry GEOM.
+pub fn sector_command<'a, F: FileStore, W: Write>(
+    alloc: Global,
+    words: ImageWords<'a>,
+    files: &mut F,
+    out: &mut W,
+) -> Result<(), CommandFault<'a>>
+    ensures does { DoesSector (F.gives files.old) words.entry (W.contents out.old) (W.contents out.new) result }
+    ensures stores { F.stores files.new ≡ F.stores files.old }
+{
+    let numbers = numbers_at(words.geometry)?;
+    let sector = number_at(words.number)?;
+    let geometry = geometry_of(&numbers)?;
+    let bytes = load(files, words.image)?;
+    let image = match ImageSlice::new(&geometry, &bytes) {
+        Ok(image) => image,
+        Err(_) => return Err(CommandFault::WrongLength),
+    };
+    match print_sector(alloc, &image, sector, out) {
+        Ok(()) => Ok(()),
+        Err(PrintFault::Sector(fault)) => Err(CommandFault::Sector(fault)),
+        Err(PrintFault::Write) => Err(CommandFault::Write("-")),
+        Err(PrintFault::OutOfMemory) => Err(CommandFault::OutOfMemory),
+    }
+}
