@@ -177,7 +177,7 @@ erased_from g image b p whole good lt in_block past =
 
 -- ---- counts
 
-count_same : (p q : ℕ → Bool) (a n : ℕ) → ((k : ℕ) → a ≤ k → k < a + n → p k ≡ q k) → count_by p (range_with_len a n) ≡ count_by q (range_with_len a n)
+pub count_same : (p q : ℕ → Bool) (a n : ℕ) → ((k : ℕ) → a ≤ k → k < a + n → p k ≡ q k) → count_by p (range_with_len a n) ≡ count_by q (range_with_len a n)
 count_same p q a zero same = refl
 count_same p q a (suc n) same =
     let here : bit (p a) ≡ bit (q a) = ap bit (same a (omega arith) (omega arith)) in

@@ -1,5 +1,6 @@
 -- What is true after a call.
 use Rattle.std.proofs.Common.{◌≡◌, ◌≢◌, ℕ, ◌+◌, ◌≤◌, List, [], None, Result, Ok, Err, MatchResult, refl, sym, ap, subst, ◌∙◌}
+use Rattle.std.specs.Prelude.{OnOk}
 use Rattle.page_layout.specs.declared.geometry.Geometry.{Geometry}
 use Rattle.page_layout.specs.Page.{Image}
 use Rattle.page_layout.specs.Flash.{Flash}
@@ -15,7 +16,7 @@ use Rattle.ftl_device.specs.declared.fault.CallFault.{CallFault}
 use Rattle.ftl_device.specs.declared.fault.CallFault.TheVariants as call
 use Rattle.ftl_device.specs.declared.fault.DeviceFault.{DeviceFault}
 use Rattle.ftl_device.specs.declared.fault.DeviceFault.TheVariants.{BusFault, OutOfMemory}
-use Rattle.ftl_device.specs.Calls.{stop_of, IsWell, HoldsSector, CallRefused, standing_after, answer_of}
+use Rattle.ftl_device.specs.Calls.{stop_of, IsWell, HoldsSector, CallRefused, standing_after, answer_of, IsMostRecent}
 use Rattle.ftl_device.proofs.MountableLemmas.{restart_law}
 
 -- the engine isn't stopped, and what it knows is so
@@ -49,3 +50,21 @@ mountable_after {N} flash old d e same sized limits safe w =
     let cap : d.engine.mapping.capacity ≡ old.mapping.capacity = ap (λ (x : Engine N). x.mapping.capacity) same ∙ limits.capacity in
     let P : Geometry → ℕ → Type 0 = λ h c. c + h.pages ≤ 65536 → IsMountable h (c + h.pages) (image_in flash d.engine) in
     subst (λ h. P h old.mapping.capacity) g (subst (λ c. P d.engine.geometry c) cap (restart_law (ram d.engine) (image_in flash d.engine) safe w.truth))
+
+-- so it is where nothing was programmed
+pub mountable_kept : {N : Type 0} (flash : N → Flash) (old new : Engine N) → flash new.nand ≡ flash old.nand → IsRam (ram old) → IsTrue None (ram old) (image_in flash old) → old.mapping.capacity + old.geometry.pages ≤ 65536 → IsMountable old.geometry (old.mapping.capacity + old.geometry.pages) (image_in flash new)
+mountable_kept flash old new same safe truth most = subst (λ (s : Flash). IsMountable old.geometry (old.mapping.capacity + old.geometry.pages) s.image) (sym same) (restart_law (ram old) (image_in flash old) safe truth most)
+
+-- what is so of a call that was done is so of the answer
+done_too : (P : Type 0) (answer : Result (Unit {0}) CallFault) (good : ℕ) (q : Ram) → OnOk answer P → OnOk (answer_of q good answer) P
+done_too P (Ok done) good q h = h
+done_too P (Err (call.Engine engine_fault.ReadOnly)) good q h = tt
+done_too P (Err (call.Engine engine_fault.SequenceSpent)) good q h = tt
+done_too P (Err (call.Engine engine_fault.Damaged)) good q h = tt
+done_too P (Err (call.Engine engine_fault.Bus)) good q h = tt
+done_too P (Err call.OutOfMemory) good q h = tt
+
+pub recent_after : {N : Type 0} (e last : Engine N) (n : ℕ) (answer : Result (Unit {0}) CallFault) (result : Result (Unit {0}) DeviceFault) (good : ℕ) → last ≡ e → result ≡ answer_of (ram last) good answer → OnOk answer (IsMostRecent n e.mapping) → OnOk result (IsMostRecent n last.mapping)
+recent_after {N} e last n answer result good same is first =
+    let here : OnOk answer (IsMostRecent n last.mapping) = subst (λ (x : Engine N). OnOk answer (IsMostRecent n x.mapping)) (sym same) first in
+    subst (λ r. OnOk r (IsMostRecent n last.mapping)) (sym is) (done_too (IsMostRecent n last.mapping) answer good (ram last) here)

@@ -7,3 +7,9 @@ pub mod StartLemmas
 pub mod ReadyLemmas
 pub mod CallLemmas
 pub mod MountableLemmas
+pub mod AccountLemmas
+pub mod CountLemmas
+pub mod ShownLemmas
+pub mod RunLemmas
+pub mod LoopLemmas
+pub mod AcceptedLemmas

@@ -1,8 +1,8 @@
 -- A sector is made ready: the place that its entry finds.
-use Rattle.std.proofs.Common.{◌≡◌, ◌≢◌, ℕ, zero, suc, ◌-◌, ◌/◌, ◌<◌, ◌∙◌, false, eqb, List, [], ◌∷◌, length, map, slice_get, Option, Some, None, IsSome, Result, Ok, Err, OnOk, refl, sym, ap, subst}
+use Rattle.std.proofs.Common.{◌≡◌, ◌≢◌, ℕ, zero, suc, ◌-◌, ◌/◌, ◌<◌, ◌∙◌, true, false, eqb, List, [], ◌∷◌, length, map, slice_get, Option, Some, None, IsSome, Result, Ok, Err, OnOk, refl, sym, ap, subst}
 use Rattle.std.specs.List.{IsDistinct}
-use Rattle.std.specs.Option.{ForSome, option_map}
-use Rattle.std.specs.Map.{keys_of, lookup}
+use Rattle.std.specs.Option.{ForSome, option_map, option_map_or}
+use Rattle.std.specs.Map.{keys_of, lookup, lookup_entry, remove_entry}
 use Rattle.std.proofs.lemmas.Bool.{eqb-true, cond-true, cond-false}
 use Rattle.std.proofs.lemmas.Map.{lookup-none}
 use Rattle.std.proofs.lemmas.Map.Keys.{IsDistinct-head, IsDistinct-tail}
@@ -11,8 +11,8 @@ use Rattle.std.proofs.lemmas.Option.{slice_get-map}
 use Rattle.page_layout.specs.Geometry.{entries, translation_pages}
 use Rattle.page_layout.proofs.GeometryLemmas.{sector_entry}
 use Rattle.mapping_cache.specs.declared.slot.Slot.{Slot}
-use Rattle.mapping_cache.specs.Mapping.{MappingState, IsMapping, CanLoad, per_page, slot_of, moved_row, pending, pending_by}
-use Rattle.mapping_cache.proofs.Entries.{by_test, eqb_self}
+use Rattle.mapping_cache.specs.Mapping.{MappingState, IsMapping, CanLoad, per_page, slot_of, moved_row, pending, pending_by, used, loaded, loaded_by}
+use Rattle.mapping_cache.proofs.Entries.{by_test, eqb_self, lookup-from_entry, entry_passes}
 use Rattle.mapping_cache.proofs.Clean.{passes_from_keys}
 use Rattle.mapping_cache.proofs.Steps.{known-cached, pending-at, not_moved}
 use Rattle.collection.specs.declared.fault.WriteFault.{WriteFault}
@@ -22,6 +22,7 @@ use Rattle.collection.specs.Safe.{IsRam}
 use Rattle.collection.specs.Settle.{Cleans}
 use Rattle.ftl_device.specs.declared.fault.CallFault.{CallFault}
 use Rattle.ftl_device.specs.declared.fault.CallFault.TheVariants.{Engine}
+use Rattle.ftl_device.specs.Calls.{IsMostRecent}
 
 -- ---- an entry by its place
 
@@ -115,3 +116,22 @@ engine_err fault = Err fault
 
 pub engine_not_bus : (fault : WriteFault) → call_err (Engine fault) ≢ call_err (Engine Bus) → engine_err fault ≢ engine_err Bus
 engine_not_bus fault ne e = (let same : fault ≡ Bus = cc in ne (ap (λ f. call_err (Engine f)) same))
+
+-- ---- the most recently used sector
+
+used_first : (m : MappingState) (n : ℕ) → IsSome (slot_of m n) → IsMostRecent n (used m n)
+used_first m n some = at (lookup_entry (eqb n) m.cached) refl
+  where
+    at : (o : Option (ℕ × Slot)) → lookup_entry (eqb n) m.cached ≡ o → slice_get (keys_of (option_map_or (λ e. e ∷ remove_entry (eqb n) m.cached) o m.cached)) 0 ≡ Some n
+    at None h = (let none : lookup (eqb n) m.cached ≡ None = lookup-from_entry (eqb n) m.cached ∙ ap (option_map (λ (e : ℕ × Slot). e.1)) h in let no : false ≡ true = subst IsSome none some in cc)
+    at (Some f) h = ap Some (sym (eqb-true n f.0 (entry_passes (eqb n) m.cached f h)))
+
+loaded_first : (m : MappingState) (n : ℕ) (row : Option ℕ) (o : Option Slot) → slot_of m n ≡ o → IsMostRecent n (loaded_by o m n row)
+loaded_first m n row None is = refl
+loaded_first m n row (Some s) is = used_first m n (subst IsSome (sym is) refl)
+
+pub most_recent : (m new : MappingState) (n : ℕ) (row : Option ℕ) → new ≡ loaded m n row → IsMostRecent n new
+most_recent m new n row same = subst (IsMostRecent n) (sym same) (loaded_first m n row (slot_of m n) refl)
+
+pub recent_kept : (n : ℕ) (old new : MappingState) → keys_of new.cached ≡ keys_of old.cached → IsMostRecent n old → IsMostRecent n new
+recent_kept n old new keys first = ap (λ ks. slice_get ks 0) keys ∙ first

@@ -1,5 +1,6 @@
 -- What the calls of a device promise.
-use Rattle.std.specs.Prelude.{◌≡◌, ℕ, ◌+◌, ◌-◌, ◌<◌, ◌≤◌, ◌^◌, Bool, true, false, List, [], slice_set, Option, Some, None, IsSome, Result, Ok, Err}
+use Rattle.std.specs.Prelude.{◌≡◌, ℕ, ◌+◌, ◌-◌, ◌<◌, ◌≤◌, ◌^◌, Bool, true, false, List, [], slice_get, slice_set, Option, Some, None, IsSome, Result, Ok, Err}
+use Rattle.std.specs.Map.{keys_of}
 use Rattle.page_layout.specs.declared.geometry.Geometry.{Geometry}
 use Rattle.page_layout.specs.declared.record.Key.TheVariants.{Sector}
 use Rattle.page_layout.specs.Page.{Image}
@@ -8,7 +9,7 @@ use Rattle.page_layout.specs.Array.{array_of}
 use Rattle.page_layout.specs.Flash.{Flash}
 use Rattle.bad_blocks.specs.Table.{good_count}
 use Rattle.allocation.specs.State.{free_count}
-use Rattle.mapping_cache.specs.Mapping.{slot_of}
+use Rattle.mapping_cache.specs.Mapping.{MappingState, slot_of}
 use Rattle.image_check.specs.Stale.{is_stale}
 use Rattle.image_check.specs.Mountable.{IsMountable}
 use Rattle.promises.specs.Step as step
@@ -183,6 +184,10 @@ MayNot r ro n SequenceSpent = IsSpentAt r ro n
 MayNot r ro n OutOfMemory = ⊥
 MayNot r ro n Damaged = stop_of r.fault ≡ Some Damaged
 MayNot r ro n BusFault = stop_of r.fault ≡ Some BusFault
+
+-- the sector is the most recently used of those that are cached
+abbrev pub IsMostRecent : ℕ → MappingState → Type 0
+IsMostRecent n m = slice_get (keys_of m.cached) 0 ≡ Some n
 
 -- what a device answers where that many blocks were good as the call began, and this is so
 abbrev pub answer_of : Ram → ℕ → Result (Unit {0}) CallFault → Result (Unit {0}) DeviceFault

@@ -2,3 +2,5 @@ pub mod Begin
 pub mod Device
 pub mod Calls
 pub mod Read
+pub mod Counts
+pub mod Run

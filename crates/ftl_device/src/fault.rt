@@ -8,16 +8,28 @@ use mapping_cache::LoadFault;
 use std::alloc::AllocError;
 use thiserror::Error;
 
-/// Why a device was not started. What was handed in comes back, as it was.
-#[derive(Drop)]
+/// Why a device was not started. What was handed in comes back, as it was (this project).
+#[derive(Drop, Error)]
 pub enum StartFault<'a, N> {
     /// A growth was refused.
+    #[error("OutOfMemory")]
     OutOfMemory {
         /// The die, of which nothing was asked.
         nand: N,
         /// The accepted certificate.
         accepted: Accepted<'a>,
     },
+}
+
+impl<N> StartFault<'_, N> {
+    /// The fault's number.
+    pub fn number(&self) -> u8
+        ensures { result ≡ 1 }
+    {
+        match self {
+            StartFault::OutOfMemory { .. } => 1,
+        }
+    }
 }
 
 /// A growth was refused.

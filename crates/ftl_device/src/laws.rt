@@ -1,5 +1,6 @@
 ghost use Rattle.ftl_device.specs.Begin.{BeginLaw, FreeLaw, GoodLaw, AccountsLaw};
 ghost use Rattle.ftl_device.specs.Calls.{StaleLaw, RestartLaw};
+ghost use Rattle.ftl_device.specs.Counts.{FreeNowLaw, GoodNowLaw, BadNowLaw, ShortLaw};
 
 /// An accepted certificate gives a memory that agrees with the image, the good and the free blocks
 /// that the image shows, and the accounts with which a log begins.
@@ -15,4 +16,14 @@ pub fn begin_laws()
 pub fn restart_laws()
     ensures stale { StaleLaw }
     ensures restart { RestartLaw }
+{}
+
+/// At every call: the good and the free blocks of a memory that agrees with the image are those that
+/// the image shows, a log leaves bad those that were bad and those that failed in it, and a shortage
+/// by the memory is one by the image and the log.
+pub fn count_laws()
+    ensures free { FreeNowLaw }
+    ensures good { GoodNowLaw }
+    ensures bad { BadNowLaw }
+    ensures short { ShortLaw }
 {}

@@ -7,8 +7,10 @@ mod fault;
 mod laws;
 mod read;
 mod ready;
+mod run;
 mod write;
 
 pub use device::Device;
 pub use fault::{DeviceFault, StartFault};
-pub use laws::{begin_laws, restart_laws};
+pub use laws::{begin_laws, count_laws, restart_laws};
+pub use run::{Call, Command};

@@ -6,6 +6,7 @@ ghost use Rattle.page_layout.specs.Counter.{HasRisen};
 ghost use Rattle.page_layout.specs.Geometry.{row_count};
 ghost use Rattle.page_layout.specs.declared.record.Key.TheVariants.{Sector};
 ghost use Rattle.promises.specs.Step.{ArrayStep, Read};
+ghost use Rattle.image_check.specs.Mountable.{IsMountable};
 ghost use Rattle.mapping_cache.specs.Mapping.{HasLimitsOf};
 ghost use Rattle.collection.specs.Safe.{ram, image_in};
 ghost use Rattle.collection.specs.Truth.{IsTrue};
@@ -109,6 +110,9 @@ impl<N: Nand> Device<N> {
             IsWell N.flash self.new }
         ensures step { N.honest self.old.engine.nand ≡ true → IsWell N.flash self.old → result ≢ Err DeviceFault.BusFault →
             ArrayStep self.old.engine.geometry (state_in N.flash self.old) (Read sector) (read_reply_of out.new result) (state_in N.flash self.new) }
+        ensures mountable { N.honest self.old.engine.nand ≡ true → IsWell N.flash self.old → result ≢ Err DeviceFault.BusFault →
+            self.old.engine.mapping.capacity + self.old.engine.geometry.pages ≤ 65536 →
+            IsMountable self.old.engine.geometry (self.old.engine.mapping.capacity + self.old.engine.geometry.pages) (image_in N.flash self.new.engine) }
     {
         self.going()?;
         if sector >= self.engine.geometry.sectors() {

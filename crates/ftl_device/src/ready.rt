@@ -14,7 +14,7 @@ ghost use Rattle.collection.specs.Log.{Went};
 ghost use Rattle.collection.specs.Settle.{HasNoMore};
 ghost use Rattle.collection.specs.Looks.{IsReadFault};
 ghost use Rattle.collection.specs.Results.{IsSame, Refused, fault_after};
-ghost use Rattle.ftl_device.specs.Calls.{Tells, IsFound, CallTells, standing_after, KeepsArray, HoldsSector, CallRefused};
+ghost use Rattle.ftl_device.specs.Calls.{Tells, IsFound, CallTells, standing_after, KeepsArray, HoldsSector, CallRefused, IsMostRecent};
 
 use crate::fault::CallFault;
 use collection::{Engine, WriteFault};
@@ -120,6 +120,7 @@ fn make_ready<N: Nand>(engine: &mut Engine<N>, sector: u32) -> Result<(), CallFa
     ensures failed { N.failed engine.old.nand ≤ N.failed engine.new.nand }
     ensures rose { result ≡ Err (CallFault.Engine WriteFault.Bus) → HasRisen (N.failed engine.old.nand) (N.failed engine.new.nand) }
     ensures holds { OnOk result (IsSome (slot_of engine.new.mapping sector)) }
+    ensures recent { OnOk result (IsMostRecent sector engine.new.mapping) }
     ensures cached { IsSome (slot_of engine.old.mapping sector) → result ≢ Err CallFault.OutOfMemory }
     ensures limits { HasLimitsOf engine.old.mapping engine.new.mapping }
     ensures unmoved { engine.old.mapping.moved ≡ [] → engine.new.mapping.moved ≡ [] }
@@ -152,6 +153,7 @@ pub(crate) fn write_ready<N: Nand>(
     ensures honest { N.honest engine.new.nand ≡ N.honest engine.old.nand }
     ensures failed { N.failed engine.old.nand ≤ N.failed engine.new.nand }
     ensures rose { result ≡ Err (CallFault.Engine WriteFault.Bus) → HasRisen (N.failed engine.old.nand) (N.failed engine.new.nand) }
+    ensures recent { OnOk result (IsMostRecent sector engine.new.mapping) }
     ensures cached { IsSome (slot_of engine.old.mapping sector) → result ≢ Err CallFault.OutOfMemory }
     ensures limits { HasLimitsOf engine.old.mapping engine.new.mapping }
     ensures unmoved { engine.old.mapping.moved ≡ [] → engine.new.mapping.moved ≡ [] }
@@ -179,6 +181,7 @@ pub(crate) fn trim_ready<N: Nand>(engine: &mut Engine<N>, sector: u32) -> Result
     ensures honest { N.honest engine.new.nand ≡ N.honest engine.old.nand }
     ensures failed { N.failed engine.old.nand ≤ N.failed engine.new.nand }
     ensures rose { result ≡ Err (CallFault.Engine WriteFault.Bus) → HasRisen (N.failed engine.old.nand) (N.failed engine.new.nand) }
+    ensures recent { OnOk result (IsMostRecent sector engine.new.mapping) }
     ensures cached { IsSome (slot_of engine.old.mapping sector) → result ≢ Err CallFault.OutOfMemory }
     ensures limits { HasLimitsOf engine.old.mapping engine.new.mapping }
     ensures unmoved { engine.old.mapping.moved ≡ [] → engine.new.mapping.moved ≡ [] }

@@ -12,7 +12,8 @@ ghost use Rattle.image_check.specs.Mountable.{IsMountable};
 ghost use Rattle.collection.specs.Safe.{IsSafe, ram, image_in};
 ghost use Rattle.collection.specs.Log.{Went};
 ghost use Rattle.ftl_device.specs.Device.{IsDevice};
-ghost use Rattle.ftl_device.specs.Calls.{state_in, reply_of, stop_of, IsWell, Says, CallTells, standing_after, MayChange, MayNot, answer_of};
+ghost use Rattle.ftl_device.specs.Calls.{state_in, reply_of, stop_of, IsWell, Says, CallTells, standing_after, MayChange, MayNot, answer_of, IsMostRecent};
+ghost use Rattle.ftl_device.specs.Counts.{is_bad_by, IsShown};
 
 use crate::device::{Device, LEAST_FREE};
 use crate::fault::{CallFault, DeviceFault};
@@ -131,6 +132,7 @@ impl<N: Nand> Device<N> {
         ensures rose { stop_of self.old.engine.fault ≡ None → result ≡ Err DeviceFault.BusFault →
             HasRisen (N.failed self.old.engine.nand) (N.failed self.new.engine.nand) }
         ensures cached { IsSome (slot_of self.old.engine.mapping sector) → result ≢ Err DeviceFault.OutOfMemory }
+        ensures recent { OnOk result (IsMostRecent sector self.new.engine.mapping) }
 
         // What is true of an honest die.
         ensures went { N.honest self.old.engine.nand ≡ true → result ≢ Err DeviceFault.BusFault →
@@ -141,6 +143,9 @@ impl<N: Nand> Device<N> {
             IsWell N.flash self.new }
         ensures stale { N.honest self.old.engine.nand ≡ true → IsWell N.flash self.old →
             is_stale self.old.engine.geometry (image_in N.flash self.old.engine) sector ≡ true → result ≢ Err DeviceFault.OutOfMemory }
+        ensures shown { N.honest self.old.engine.nand ≡ true → IsWell N.flash self.old → result ≢ Err DeviceFault.BusFault →
+            (w : Went (ram self.old.engine) (N.flash self.old.engine.nand) (ram self.new.engine) (N.flash self.new.engine.nand)) →
+            IfErr result (IsShown self.old.engine.geometry (is_bad_by (ram self.old.engine)) self.old.engine.next w.log w.log (image_in N.flash self.new.engine)) }
         ensures mountable { N.honest self.old.engine.nand ≡ true → IsWell N.flash self.old → result ≢ Err DeviceFault.BusFault →
             self.old.engine.mapping.capacity + self.old.engine.geometry.pages ≤ 65536 →
             IsMountable self.old.engine.geometry (self.old.engine.mapping.capacity + self.old.engine.geometry.pages) (image_in N.flash self.new.engine) }
@@ -176,6 +181,7 @@ impl<N: Nand> Device<N> {
         ensures rose { stop_of self.old.engine.fault ≡ None → result ≡ Err DeviceFault.BusFault →
             HasRisen (N.failed self.old.engine.nand) (N.failed self.new.engine.nand) }
         ensures cached { IsSome (slot_of self.old.engine.mapping sector) → result ≢ Err DeviceFault.OutOfMemory }
+        ensures recent { OnOk result (IsMostRecent sector self.new.engine.mapping) }
 
         // What is true of an honest die.
         ensures went { N.honest self.old.engine.nand ≡ true → result ≢ Err DeviceFault.BusFault →
@@ -186,6 +192,9 @@ impl<N: Nand> Device<N> {
             IsWell N.flash self.new }
         ensures stale { N.honest self.old.engine.nand ≡ true → IsWell N.flash self.old →
             is_stale self.old.engine.geometry (image_in N.flash self.old.engine) sector ≡ true → result ≢ Err DeviceFault.OutOfMemory }
+        ensures shown { N.honest self.old.engine.nand ≡ true → IsWell N.flash self.old → result ≢ Err DeviceFault.BusFault →
+            (w : Went (ram self.old.engine) (N.flash self.old.engine.nand) (ram self.new.engine) (N.flash self.new.engine.nand)) →
+            IfErr result (IsShown self.old.engine.geometry (is_bad_by (ram self.old.engine)) self.old.engine.next w.log w.log (image_in N.flash self.new.engine)) }
         ensures mountable { N.honest self.old.engine.nand ≡ true → IsWell N.flash self.old → result ≢ Err DeviceFault.BusFault →
             self.old.engine.mapping.capacity + self.old.engine.geometry.pages ≤ 65536 →
             IsMountable self.old.engine.geometry (self.old.engine.mapping.capacity + self.old.engine.geometry.pages) (image_in N.flash self.new.engine) }

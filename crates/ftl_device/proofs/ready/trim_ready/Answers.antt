@@ -1,7 +1,7 @@
 use Rattle.std.proofs.Common.{◌∙◌}
 use Rattle.std.proofs.lemmas.Result.{err_from_is_err_and}
 use Rattle.collection.proofs.Logs.{went_then}
-use Rattle.ftl_device.proofs.ReadyLemmas.{ok_not_bus, engine_not_bus}
+use Rattle.ftl_device.proofs.ReadyLemmas.{ok_not_bus, engine_not_bus, recent_kept}
 use Rattle.ftl_device.proofs.ready.trim_ready.Goals as goal
 
 pub returns-in_err-trim_sector-clause-went : goal.returns-in_err-trim_sector-clause-went
@@ -11,3 +11,6 @@ returns-in_err-trim_sector-clause-went g c =
 
 pub returns-clause-went : goal.returns-clause-went
 returns-clause-went g c = λ honest ne. went_then _ _ _ _ _ _ c.make_ready.ensures.geometry (c.in_ok-make_ready.ensures.went honest (ok_not_bus _)) (c.in_ok-trim_sector.ensures.went (c.make_ready.ensures.honest ∙ honest) (λ e. (let no : ⊥ = cc in no)))
+
+pub returns-clause-recent : goal.returns-clause-recent
+returns-clause-recent g c = recent_kept c.args.sector c.make_ready.new.engine.mapping c.trim_sector.new.self.mapping c.in_ok-trim_sector.ensures.keys c.in_ok-make_ready.ensures.recent

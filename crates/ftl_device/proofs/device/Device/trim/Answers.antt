@@ -1,6 +1,8 @@
+use Rattle.std.proofs.lemmas.Result.{err_from_is_err_and}
 use Rattle.collection.specs.Safe.{ram}
-use Rattle.ftl_device.proofs.CallLemmas.{well_ram, well_device, memory_only, mountable_after}
+use Rattle.ftl_device.proofs.CallLemmas.{well_ram, well_device, memory_only, mountable_after, recent_after}
 use Rattle.ftl_device.proofs.MountableLemmas.{stale_law, restart_law}
+use Rattle.ftl_device.proofs.ShownLemmas.{shown_refused, shown_after}
 use Rattle.ftl_device.proofs.device.Device.trim.Goals as goal
 
 pub returns-clause-well : goal.returns-clause-well
@@ -17,3 +19,14 @@ returns-clause-mountable g c = λ honest w ne most. mountable_after _ c.args.sel
 
 pub returns-in_err-may_change-clause-mountable : goal.returns-in_err-may_change-clause-mountable
 returns-in_err-may_change-clause-mountable g c = λ honest w ne most. restart_law (ram c.args.self.now.engine) _ c.requires.device.engine.memory w.truth most
+
+pub returns-clause-shown : goal.returns-clause-shown
+returns-clause-shown g c = λ honest w ne log. shown_after g.N.PageSource.flash c.args.self.now.engine c.trim_ready-answer.new.engine c.finish.new.self.engine log c.args.sector _ c.trim_ready-answer.result c.finish.result c.good-good.result c.finish.ensures.engine c.requires.device.engine.memory c.trim_ready-answer.ensures.safe.memory c.trim_ready-answer.ensures.geometry c.good-good.ensures c.finish.ensures.answer c.trim_ready-answer.ensures.tells (c.trim_ready-answer.ensures.truth honest w.truth) ne
+
+pub returns-in_err-may_change-clause-shown : goal.returns-in_err-may_change-clause-shown
+returns-in_err-may_change-clause-shown g c = λ honest w ne log.
+    let p = err_from_is_err_and c.from_residual.result c.from_residual.ensures.1 in
+    rw (p.1, p.2) (shown_refused (ram c.args.self.now.engine) (g.N.PageSource.flash c.args.self.now.engine.nand) log c.args.self.now.read_only c.args.sector _ c.requires.device.engine.memory w.truth w.going c.in_err-may_change.ensures.may_not)
+
+pub returns-clause-recent : goal.returns-clause-recent
+returns-clause-recent g c = recent_after c.trim_ready-answer.new.engine c.finish.new.self.engine c.args.sector c.trim_ready-answer.result c.finish.result c.good-good.result c.finish.ensures.engine c.finish.ensures.answer c.trim_ready-answer.ensures.recent

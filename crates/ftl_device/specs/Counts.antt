@@ -1,0 +1,65 @@
+-- Free and good blocks as the image and the log show them, at every call.
+use Rattle.std.specs.Prelude.{◌≡◌, ℕ, ◌+◌, ◌-◌, ◌^◌, ◌<◌, not, Bool, [], List, None}
+use Rattle.page_layout.specs.declared.geometry.Geometry.{Geometry}
+use Rattle.page_layout.specs.Page.{Image}
+use Rattle.page_layout.specs.Geometry.{need}
+use Rattle.page_layout.specs.Flash.{Operation}
+use Rattle.bad_blocks.specs.Table.{is_good_at, good_count}
+use Rattle.allocation.specs.State.{free_count}
+use Rattle.promises.specs.Log as logs
+use Rattle.promises.specs.Log.{programs_in, bad_of, failed_count}
+use Rattle.collection.specs.State.{Ram}
+use Rattle.collection.specs.Safe.{IsRam}
+use Rattle.collection.specs.Truth.{IsTrue}
+use Rattle.collection.specs.Log.{Follows}
+use Rattle.ftl_device.specs.declared.fault.DeviceFault.{DeviceFault}
+use Rattle.ftl_device.specs.declared.fault.DeviceFault.TheVariants.{OutOfRange, ReadOnly, SequenceSpent, OutOfMemory, Damaged, BusFault}
+use Rattle.ftl_device.specs.Calls.{IsShortOf}
+
+-- the blocks that the memory counts as bad
+abbrev pub is_bad_by : Ram → ℕ → Bool
+is_bad_by r block = not (is_good_at r.blocks.table block)
+
+-- how many blocks are free and how many are good, by the image and the blocks that the memory counts as bad
+abbrev pub free_by : Ram → Image → ℕ
+free_by r image = logs.free_count r.geometry (is_bad_by r) [] image
+
+abbrev pub good_by : Ram → ℕ
+good_by r = logs.good_count r.geometry (is_bad_by r) []
+
+-- A SHORTAGE AS THE IMAGE AND THE LOG SHOW IT. After the call fewer than five blocks are free in the image; `good` is the number of good
+-- blocks then, `wanted` the geometry's, `failed` the number of blocks that failed in the call. `bad` are the blocks that were bad before
+-- the log, `log` leads up to the end of the call, and `call` is its last part, that the call added.
+pub record IsShortIn (g : Geometry) (bad : ℕ → Bool) (log call : List Operation) (image : Image) (good wanted failed : ℕ) : Type 0 where
+  pub scarce : logs.free_count g bad log image < 5
+  pub good_is : good ≡ logs.good_count g bad log
+  pub wanted_is : wanted ≡ need g
+  pub failed_is : failed ≡ failed_count g call
+
+-- what a refusal shows of them: `next` was the next sequence as the log began
+abbrev pub IsShown : Geometry → (ℕ → Bool) → ℕ → (log call : List Operation) → Image → DeviceFault → Type 0
+IsShown g bad next log call image OutOfRange = Unit {0}
+IsShown g bad next log call image (ReadOnly good wanted failed) = IsShortIn g bad log call image good wanted failed
+IsShown g bad next log call image SequenceSpent = next + programs_in log ≡ 2 ^ 64 - 1
+IsShown g bad next log call image OutOfMemory = Unit {0}
+IsShown g bad next log call image Damaged = ⊥
+IsShown g bad next log call image BusFault = ⊥
+
+-- ---- laws
+
+-- where the memory is true of the image, its free blocks are those that the image shows
+abbrev pub FreeNowLaw : Type 0
+FreeNowLaw = (r : Ram) (image : Image) → IsRam r → IsTrue None r image → free_count r.blocks ≡ free_by r image
+
+-- its good blocks are those that it doesn't count as bad
+abbrev pub GoodNowLaw : Type 0
+GoodNowLaw = (r : Ram) → IsRam r → good_count r.blocks.table ≡ good_by r
+
+-- after a log the blocks are bad that were bad before it and those that failed in it
+abbrev pub BadNowLaw : Type 0
+BadNowLaw = (old new : Ram) (log : List Operation) (b : ℕ) → old.blocks.geometry ≡ old.geometry → Follows old.geometry.pages log old.blocks new.blocks → b < old.geometry.blocks → is_bad_by new b ≡ bad_of old.geometry.pages (is_bad_by old) log b
+
+-- a shortage by the memory is one by the image and the log of the call
+abbrev pub ShortLaw : Type 0
+ShortLaw = (old new : Ram) (log : List Operation) (image : Image) (good wanted failed : ℕ) → IsRam old → IsRam new → new.geometry ≡ old.geometry → Follows old.geometry.pages log old.blocks new.blocks → IsTrue None new image
+    → IsShortOf old new good wanted failed → IsShortIn old.geometry (is_bad_by old) log log image good wanted failed

@@ -1,0 +1,154 @@
+//! Commands, told to a device one after another.
+ghost use Rattle.std.specs.Prelude.{◌≡◌, ◌≢◌, ◌≤◌, true, map, None, Some, Err, IsSome, IfOk, IfErr, OnOk, OnErr};
+ghost use Rattle.mapping_cache.specs.Mapping.{HasLimitsOf};
+ghost use Rattle.certificate.specs.Claim.{sizes_of};
+ghost use Rattle.ftl_device.specs.Device.{IsDevice, IsAcceptedFor};
+ghost use Rattle.ftl_device.specs.Calls.{IsWell};
+ghost use Rattle.ftl_device.specs.Run.{room_for, told, HasRoom, AreWhole, AreKnown, AreAnswered, Happened, Ran, RanFrom};
+
+use crate::device::Device;
+use crate::fault::{DeviceFault, StartFault};
+use image_check::Accepted;
+use onfi_cycles::Nand;
+use page_layout::geometry::Geometry;
+use std::alloc::{AllocError, Global};
+
+/// What a device is told.
+#[derive(Clone, Copy)]
+pub enum Command<'a> {
+    /// Read a sector.
+    Read { sector: u32 },
+    /// Write a sector: `body` is one data area.
+    Write { sector: u32, body: &'a [u8] },
+    /// Trim a sector, which then reads as 00h bytes.
+    Trim { sector: u32 },
+}
+
+/// A command, and what the device answered to it.
+#[derive(Drop)]
+pub struct Call<'a> {
+    /// What the device is told.
+    pub command: Command<'a>,
+    /// What it answered; `None` before it was told.
+    pub reply: Option<Result<(), DeviceFault>>,
+    /// For a read, room for one data area, into which the sector's bytes go.
+    pub bytes: Vec<u8>,
+}
+
+impl<'a> Call<'a> {
+    /// A command that was not told yet. A read has room for one data area of this geometry; no other
+    /// command needs any.
+    ///
+    /// # Errors
+    ///
+    /// `AllocError` where a growth was refused. (This project.)
+    pub fn new(
+        alloc: Global,
+        geometry: &Geometry,
+        command: Command<'a>,
+    ) -> Result<Call<'a>, AllocError>
+        ensures command { IfOk result (λ call. call.command ≡ command.entry) }
+        ensures untold { IfOk result (λ call. call.reply ≡ None) }
+        ensures room { IfOk result (λ call. call.bytes.items ≡ room_for geometry.now command.entry) }
+    {
+        let bytes = match command {
+            Command::Read { .. } => vec![in alloc; 0; geometry.data_bytes()]?,
+            Command::Write { .. } | Command::Trim { .. } => Vec::new(alloc),
+        };
+        Ok(Call {
+            command,
+            reply: None,
+            bytes,
+        })
+    }
+}
+
+impl<N: Nand> Device<N> {
+    // Tells the device one command; a read gives its bytes.
+    fn tell(&mut self, command: Command<'_>, bytes: &mut [u8]) -> Result<(), DeviceFault>
+        requires device { IsDevice N.flash self.old }
+        requires room { HasRoom self.old.engine.geometry command bytes.old }
+        ensures device { IsDevice N.flash self.new }
+        ensures geometry { self.new.engine.geometry ≡ self.old.engine.geometry }
+        ensures limits { HasLimitsOf self.old.engine.mapping self.new.engine.mapping }
+        ensures honest { N.honest self.new.engine.nand ≡ N.honest self.old.engine.nand }
+        ensures room { HasRoom self.old.engine.geometry command.entry bytes.new }
+        ensures well { N.honest self.old.engine.nand ≡ true → IsWell N.flash self.old → result ≢ Err DeviceFault.BusFault →
+            IsWell N.flash self.new }
+        ensures happened { N.honest self.old.engine.nand ≡ true → IsWell N.flash self.old → result ≢ Err DeviceFault.BusFault →
+            Happened N.flash self.old command.entry bytes.new result self.new }
+    {
+        match command {
+            Command::Read { sector } => self.read(sector, bytes),
+            Command::Write { sector, body } => self.write(sector, body),
+            Command::Trim { sector } => self.trim(sector),
+        }
+    }
+
+    /// Tells the device a list of commands, one after another, and puts its answer to each. A read
+    /// that is done has the sector's bytes; the commands stay as they are. It takes no memory of its
+    /// own, and a device that was stopped answers its fault to all that is left.
+    ///
+    /// Where the die is honest and gave every outcome, the answers are a run of the array that the
+    /// die's image holds as it begins: each answer is the array's, the image holds the array after
+    /// each, the log of it all is legal, and each refusal shows a shortage by the image and that log.
+    ///
+    /// (This project.)
+    pub fn run(&mut self, calls: &mut [Call<'_>])
+        requires device { IsDevice N.flash self.old }
+        requires whole { AreWhole self.old.engine.geometry calls.old }
+        ensures device { IsDevice N.flash self.new }
+        ensures geometry { self.new.engine.geometry ≡ self.old.engine.geometry }
+        ensures limits { HasLimitsOf self.old.engine.mapping self.new.engine.mapping }
+        ensures honest { N.honest self.new.engine.nand ≡ N.honest self.old.engine.nand }
+        ensures whole { AreWhole self.old.engine.geometry calls.new }
+        ensures commands { map told calls.new ≡ map told calls.old }
+        ensures answered { AreAnswered calls.new }
+
+        // What is true of an honest die.
+        ensures well { N.honest self.old.engine.nand ≡ true → IsWell N.flash self.old → AreKnown calls.new → IsWell N.flash self.new }
+        ensures ran { N.honest self.old.engine.nand ≡ true → IsWell N.flash self.old → AreKnown calls.new →
+            Ran N.flash self.old calls.new self.new }
+    {
+        for call in calls.iter_mut() {
+            call.reply = Some(self.tell(call.command, &mut call.bytes));
+        }
+    }
+
+    /// Starts a device over a die whose image a checker accepted, and tells it a list of commands, as
+    /// `start` and `run` do.
+    ///
+    /// Where the die is honest and gave every outcome, and the certificate was accepted for its image,
+    /// the answers are a run of the array that this image holds; the log of it all is legal for this
+    /// image and the certificate's bad blocks, and each refusal shows a shortage by the image and that
+    /// log. `read_only` is the run's as it ends.
+    ///
+    /// # Errors
+    ///
+    /// `OutOfMemory` alone, where a growth was refused before the first command: the die and the
+    /// certificate come back, and no command was told. (This project.)
+    pub fn run_accepted<'a>(
+        alloc: Global,
+        nand: N,
+        accepted: Accepted<'a>,
+        calls: &mut [Call<'_>],
+    ) -> Result<Device<N>, StartFault<'a, N>>
+        requires same_geometry { sizes_of (N.flash nand).geometry ≡ accepted.claim.sizes }
+        requires whole { AreWhole (N.flash nand).geometry calls.old }
+        ensures device { IfOk result (IsDevice N.flash) }
+        ensures commands { map told calls.new ≡ map told calls.old }
+        ensures answered { OnOk result (AreAnswered calls.new) }
+
+        // What is true of an honest die.
+        ensures well { IfOk result (λ d. N.honest nand ≡ true → IsAcceptedFor (N.flash nand) accepted.entry → AreKnown calls.new →
+            IsWell N.flash d) }
+        ensures ran { IfOk result (λ d. N.honest nand ≡ true → IsAcceptedFor (N.flash nand) accepted.entry → AreKnown calls.new →
+            RanFrom N.flash (N.flash nand) accepted.entry.claim calls.new d) }
+        ensures fault { IfErr result (λ fault. fault ≡ StartFault.OutOfMemory nand accepted.entry) }
+        ensures untold { OnErr result (calls.new ≡ calls.old) }
+    {
+        let mut device = Device::start(alloc, nand, accepted)?;
+        device.run(calls);
+        Ok(device)
+    }
+}
