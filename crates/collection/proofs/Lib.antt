@@ -13,4 +13,3 @@ pub mod Looks
 pub mod WriteBacks
 pub mod Settles
 pub mod Appends
-pub mod Places

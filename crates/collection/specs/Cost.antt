@@ -1,5 +1,5 @@
 -- What a page costs, whatever the die does: sequences, and blocks that fail or are opened.
-use Rattle.std.specs.Prelude.{◌≡◌, ◌⊎◌, ℕ, ◌+◌, ◌-◌, ◌/◌, ◌^◌, min, Option, Some, None, Result, Ok, Err}
+use Rattle.std.specs.Prelude.{◌≡◌, ℕ, ◌+◌, ◌-◌, ◌/◌, ◌^◌, min, Option, Some, None, Result, Ok, Err}
 use Rattle.budget.specs.declared.stream.Stream.{Stream}
 use Rattle.budget.specs.declared.stream.Stream.TheVariants.{Meta}
 use Rattle.budget.specs.Counts.{TakesOne, FailsOne}
@@ -96,7 +96,3 @@ WriteBackCosts old new (Err ReadOnly) = HasRunOut Meta old new
 WriteBackCosts old new (Err SequenceSpent) = HasSpent Meta old new
 WriteBackCosts old new (Err Damaged) = new.next ≡ old.next
 WriteBackCosts old new (Err Bus) = Unit {0}
-
--- the same of a place in the cache, for which a translation page may be written back
-abbrev pub PlaceCosts : Ram → Ram → Result (Unit {0}) WriteFault → Type 0
-PlaceCosts old new result = (new ≡ old) ⊎ WriteBackCosts old new result
