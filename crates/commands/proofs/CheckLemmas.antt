@@ -11,7 +11,7 @@ use Rattle.image_check.specs.declared.refusal.Refusal.TheVariants as refusals
 use Rattle.image_check.specs.Refused.{IsFirstWrong, IsRefusal}
 use Rattle.commands.specs.declared.text.CommandFault.{CommandFault}
 use Rattle.commands.specs.declared.text.CommandFault.TheVariants as fault
-use Rattle.commands.specs.declared.words.CertificateWords.{CertificateWords}
+use Rattle.command_words.specs.declared.words.CertificateWords.{CertificateWords}
 use Rattle.commands.specs.Check.{DoesCheck, HasFiles, IsCheckFault, IsHeld, IsKept, IsSpelled, IsUnprinted}
 
 -- a count of failures that stays at none did not rise

@@ -4,10 +4,10 @@ use Rattle.std.specs.Io.KnownBytes.{Keeps}
 use Rattle.page_layout.specs.declared.geometry.Geometry.{Geometry}
 use Rattle.commands.specs.declared.text.CommandFault.{CommandFault}
 use Rattle.commands.specs.declared.text.CommandFault.TheVariants as fault
-use Rattle.commands.specs.declared.words.Order.{Order}
-use Rattle.commands.specs.declared.words.Order.TheVariants as order
-use Rattle.commands.specs.declared.words.ImageWords.{ImageWords}
-use Rattle.commands.specs.declared.words.CertificateWords.{CertificateWords}
+use Rattle.command_words.specs.declared.words.Order.{Order}
+use Rattle.command_words.specs.declared.words.Order.TheVariants as order
+use Rattle.command_words.specs.declared.words.ImageWords.{ImageWords}
+use Rattle.command_words.specs.declared.words.CertificateWords.{CertificateWords}
 use Rattle.commands.specs.Check.{IsCheckFault}
 use Rattle.commands.specs.Mount.{DoesMount}
 use Rattle.commands.specs.Commands.{Does, Obeys}
@@ -15,7 +15,7 @@ use Rattle.commands.specs.Files.{Left, Leaves}
 use Rattle.commands.specs.Inputs.{IsUnread}
 use Rattle.commands.specs.Sector.{DoesSector, IsAsked}
 use Rattle.commands.specs.Show.{DoesShow}
-use Rattle.commands.specs.Words.{IsOrder}
+use Rattle.command_words.specs.Words.{IsOrder}
 
 -- a file that was not read ends the command
 pub unread_does : (gives : List ℕ → List ℕ → Type 0) (words : ImageWords) (g : Geometry) (n : ℕ) (before after : Option (List ℕ)) (fault : CommandFault)

@@ -13,7 +13,7 @@ use Rattle.mount.specs.declared.format_fault.FormatFault.TheVariants as refuse
 use Rattle.mount.specs.Formatted.{Formats, IsFormatted}
 use Rattle.commands.specs.declared.text.CommandFault.{CommandFault}
 use Rattle.commands.specs.declared.text.CommandFault.TheVariants as fault
-use Rattle.commands.specs.declared.words.FileWords.{FileWords}
+use Rattle.command_words.specs.declared.words.FileWords.{FileWords}
 use Rattle.commands.specs.Files.{Left, Leaves, IsUnstored}
 use Rattle.commands.specs.Inputs.{IsUnread}
 use Rattle.commands.specs.Format.{DoesFormat, HasFormatted, HasInput, IsFormattedImage, IsGeometry, IsRefused, IsUnformatted}

@@ -1,5 +1,3 @@
-pub mod NumberLemmas
-pub mod WordLemmas
 pub mod ImageLemmas
 pub mod CheckLemmas
 pub mod MountLemmas

@@ -7,7 +7,7 @@ use Rattle.certificate.specs.Claim.{Claim, good_blocks}
 use Rattle.image_check.specs.Stale.{stale_count}
 use Rattle.commands.specs.declared.mount_image.Mounted.{Mounted}
 use Rattle.commands.specs.declared.text.CommandFault.{CommandFault}
-use Rattle.commands.specs.declared.words.CertificateWords.{CertificateWords}
+use Rattle.command_words.specs.declared.words.CertificateWords.{CertificateWords}
 use Rattle.commands.specs.Check.{IsAsked, IsUnprinted}
 use Rattle.commands.specs.Files.{IsUnstored, Left, Leaves, with_store, written}
 use Rattle.commands.specs.Mount.{DoesMount, HasCertificate, IsMountedAs, IsUncertified, mounted_line, stored_as}

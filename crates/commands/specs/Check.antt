@@ -11,12 +11,12 @@ use Rattle.certificate.specs.Faults as certificate
 use Rattle.image_check.specs.Agrees.{Agrees}
 use Rattle.image_check.specs.Refused.{IsFirstWrong}
 use Rattle.image_check.specs.declared.refusal.Refusal.TheVariants as refusals
-use Rattle.commands.specs.declared.numbers.GeometryNumbers.{GeometryNumbers}
+use Rattle.command_words.specs.declared.numbers.GeometryNumbers.{GeometryNumbers}
 use Rattle.commands.specs.declared.text.CommandFault.{CommandFault}
 use Rattle.commands.specs.declared.text.CommandFault.TheVariants as fault
-use Rattle.commands.specs.declared.words.CertificateWords.{CertificateWords}
+use Rattle.command_words.specs.declared.words.CertificateWords.{CertificateWords}
 use Rattle.commands.specs.Inputs.{IsUnread}
-use Rattle.commands.specs.Numbers.{SpellsGeometry, number_of}
+use Rattle.command_words.specs.Numbers.{SpellsGeometry, number_of}
 
 -- the words are numbers, those of a geometry and of a capacity
 pub record IsAsked (words : CertificateWords) (g : Geometry) (capacity : ℕ) : Type 0 where

@@ -4,9 +4,9 @@ use Rattle.std.specs.Io.KnownBytes.{Keeps}
 use Rattle.commands.specs.Files.{Left, Leaves}
 use Rattle.commands.specs.declared.text.CommandFault.{CommandFault}
 use Rattle.commands.specs.declared.text.CommandFault.TheVariants.{NoSuchCommand, OutOfMemory}
-use Rattle.commands.specs.declared.words.Order.{Order}
-use Rattle.commands.specs.declared.words.Order.TheVariants as order
-use Rattle.commands.specs.Words.{IsOrder}
+use Rattle.command_words.specs.declared.words.Order.{Order}
+use Rattle.command_words.specs.declared.words.Order.TheVariants as order
+use Rattle.command_words.specs.Words.{IsOrder}
 use Rattle.commands.specs.Sector.{DoesSector}
 use Rattle.commands.specs.Show.{DoesShow}
 use Rattle.commands.specs.Check.{DoesCheck}

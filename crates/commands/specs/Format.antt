@@ -12,11 +12,11 @@ use Rattle.nand_die.specs.Made.{loaded_flash}
 use Rattle.mount.specs.declared.format_fault.FormatFault.{FormatFault}
 use Rattle.mount.specs.declared.format_fault.FormatFault.TheVariants as refuse
 use Rattle.mount.specs.Formatted.{Formats, IsFormatted}
-use Rattle.commands.specs.declared.numbers.GeometryNumbers.{GeometryNumbers}
+use Rattle.command_words.specs.declared.numbers.GeometryNumbers.{GeometryNumbers}
 use Rattle.commands.specs.declared.text.CommandFault.{CommandFault}
 use Rattle.commands.specs.declared.text.CommandFault.TheVariants as fault
-use Rattle.commands.specs.declared.words.FileWords.{FileWords}
-use Rattle.commands.specs.Numbers.{SpellsGeometry}
+use Rattle.command_words.specs.declared.words.FileWords.{FileWords}
+use Rattle.command_words.specs.Numbers.{SpellsGeometry}
 use Rattle.commands.specs.Files.{Left, Leaves, with_store, written, unwritten}
 
 -- ---- an image in place

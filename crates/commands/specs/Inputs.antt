@@ -1,7 +1,7 @@
 -- What the faults of a command's words and files say.
 use Rattle.std.specs.Prelude.{◌≡◌, ℕ, List}
 use Rattle.page_layout.specs.Faults.{IsFirstFault}
-use Rattle.commands.specs.declared.numbers.GeometryNumbers.{GeometryNumbers}
+use Rattle.command_words.specs.declared.numbers.GeometryNumbers.{GeometryNumbers}
 use Rattle.commands.specs.declared.text.CommandFault.{CommandFault}
 use Rattle.commands.specs.declared.text.CommandFault.TheVariants.{BadNumber, Geometry, OutOfMemory, Read}
 

@@ -1,10 +1,8 @@
-pub mod Numbers
 pub mod Text
 pub mod Files
 pub mod Sector
 pub mod Show
 pub mod Format
-pub mod Words
 pub mod Inputs
 pub mod Check
 pub mod Mount

@@ -13,7 +13,7 @@ use Rattle.mount.specs.Mounted.{IsMounted, IsUnmountable}
 use Rattle.commands.specs.declared.mount_image.Mounted.{Mounted}
 use Rattle.commands.specs.declared.text.CommandFault.{CommandFault}
 use Rattle.commands.specs.declared.text.CommandFault.TheVariants as fault
-use Rattle.commands.specs.declared.words.CertificateWords.{CertificateWords}
+use Rattle.command_words.specs.declared.words.CertificateWords.{CertificateWords}
 use Rattle.commands.specs.Check.{IsAsked, IsUnasked, IsUnprinted, IsWhole}
 use Rattle.commands.specs.Files.{IsUnstored, Left, Leaves, Stored, with_store, written}
 use Rattle.commands.specs.Inputs.{IsUnread}

@@ -11,15 +11,15 @@ use Rattle.page_layout.specs.Faults.{IsFirstFault}
 use Rattle.page_layout.specs.Page.{Page, Image}
 use Rattle.page_layout.specs.Raw.{raw_image}
 use Rattle.page_layout.specs.Sound.{record_of, is_erased_page}
-use Rattle.commands.specs.declared.numbers.GeometryNumbers.{GeometryNumbers}
+use Rattle.command_words.specs.declared.numbers.GeometryNumbers.{GeometryNumbers}
 use Rattle.commands.specs.declared.show.Shown.{Shown}
 use Rattle.commands.specs.declared.show.Shown.TheVariants.{Sound, Erased, Unsound}
 use Rattle.commands.specs.declared.show.ShowFault.{ShowFault}
 use Rattle.commands.specs.declared.show.ShowFault.TheVariants as show
 use Rattle.commands.specs.declared.text.CommandFault.{CommandFault}
 use Rattle.commands.specs.declared.text.CommandFault.TheVariants as fault
-use Rattle.commands.specs.declared.words.ImageWords.{ImageWords}
-use Rattle.commands.specs.Numbers.{SpellsGeometry, number_of}
+use Rattle.command_words.specs.declared.words.ImageWords.{ImageWords}
+use Rattle.command_words.specs.Numbers.{SpellsGeometry, number_of}
 use Rattle.commands.specs.Sector.{IsAsked, HasImage}
 
 -- its record where it has one, else whether it is erased

@@ -6,8 +6,8 @@ ghost use Rattle.commands.specs.Check.{DoesCheck, IsHeld, IsNoCertificate, IsSpe
 use crate::files::FileStore;
 use crate::inputs::{CacheAsked, cache_asked, load};
 use crate::text::CommandFault;
-use crate::words::CertificateWords;
 use certificate::{Certificate, read_certificate};
+use command_words::CertificateWords;
 use image_check::check;
 use page_layout::source::ImageSlice;
 use std::alloc::Global;

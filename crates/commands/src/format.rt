@@ -8,7 +8,7 @@ use crate::files::FileStore;
 use crate::inputs::{geometry_of, load, numbers_at};
 use crate::outputs::store;
 use crate::text::CommandFault;
-use crate::words::FileWords;
+use command_words::FileWords;
 use mount::format;
 use nand_die::{Die, DieFault};
 use onfi_cycles::Driver;

@@ -1,15 +1,14 @@
 //! What the commands take from their words and files.
 ghost use Rattle.std.specs.Prelude.{◌≡◌, ℕ, List, Some, None, IfOk, IfErr};
 ghost use Rattle.page_layout.specs.Faults.{HasNumbers};
-ghost use Rattle.commands.specs.declared.numbers.GeometryNumbers.{GeometryNumbers};
+ghost use Rattle.command_words.specs.declared.numbers.GeometryNumbers.{GeometryNumbers};
 ghost use Rattle.commands.specs.Check.{IsAsked, IsUnasked};
 ghost use Rattle.commands.specs.Inputs.{IsBadGeometry, IsBadNumber, IsUnread};
-ghost use Rattle.commands.specs.Numbers.{SpellsGeometry, number_of};
+ghost use Rattle.command_words.specs.Numbers.{SpellsGeometry, number_of};
 
 use crate::files::{FileFault, FileStore};
-use crate::numbers::{GeometryNumbers, geometry_numbers, number};
 use crate::text::CommandFault;
-use crate::words::CertificateWords;
+use command_words::{CertificateWords, GeometryNumbers, geometry_numbers, number};
 use page_layout::geometry::Geometry;
 
 /// The number that a word writes.

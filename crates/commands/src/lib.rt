@@ -8,13 +8,11 @@ mod files;
 mod format;
 mod inputs;
 mod mount_image;
-mod numbers;
 mod outputs;
 mod program;
 mod sector;
 mod show;
 mod text;
-mod words;
 
 pub use files::{FileFault, FileStore};
 pub use program::run;

@@ -3,7 +3,7 @@ ghost use Rattle.std.specs.Prelude.{Result};
 ghost use Rattle.commands.specs.declared.text.CommandFault.{CommandFault};
 ghost use Rattle.commands.specs.Commands.{Does, Obeys, Reports};
 ghost use Rattle.commands.specs.Files.{left};
-ghost use Rattle.commands.specs.Words.{texts};
+ghost use Rattle.command_words.specs.Words.{texts};
 
 use crate::check::check_command;
 use crate::files::FileStore;
@@ -12,7 +12,7 @@ use crate::mount_image::mount_command;
 use crate::sector::sector_command;
 use crate::show::show_command;
 use crate::text::{CommandFault, DONE, tell};
-use crate::words::{Order, WordsFault, parse};
+use command_words::{Order, WordsFault, parse};
 use std::alloc::Global;
 use std::io::{Read, Write};
 

@@ -7,7 +7,7 @@ ghost use Rattle.commands.specs.Sector.{DoesSector, IsPrintFault, IsReadable, Is
 use crate::files::FileStore;
 use crate::inputs::{geometry_of, load, number_at, numbers_at};
 use crate::text::CommandFault;
-use crate::words::ImageWords;
+use command_words::ImageWords;
 use image_check::{SectorFault, sector_in};
 use page_layout::source::ImageSlice;
 use std::alloc::{AllocError, Global};

@@ -9,7 +9,7 @@ ghost use Rattle.commands.specs.Show.{DoesShow, IsShowFault, Shows, shown_of};
 use crate::files::FileStore;
 use crate::inputs::{geometry_of, load, number_at, numbers_at};
 use crate::text::CommandFault;
-use crate::words::ImageWords;
+use command_words::ImageWords;
 use page_layout::geometry::Geometry;
 use page_layout::record::{Kind, Record, is_erased, read_record};
 use page_layout::source::ImageSlice;

@@ -21,10 +21,10 @@ use Rattle.clap.specs.declared.parser.matches.ValueSource.TheVariants.{CommandLi
 use Rattle.clap.specs.declared.error.kind.ErrorKind.{ErrorKind}
 use Rattle.clap.specs.declared.error.kind.ErrorKind.TheVariants.{InvalidSubcommand, MissingRequiredArgument, MissingSubcommand, UnknownArgument}
 use Rattle.clap.proofs.OnLiterals.{clap_on_literals}
-use Rattle.commands.specs.declared.words.Order.{Order}
-use Rattle.commands.specs.declared.words.Order.TheVariants as order
-use Rattle.commands.specs.declared.words.Places.{Places}
-use Rattle.commands.specs.Words.{AreFound, CommandName, Sector, Show, Format, Check, Mount, Size, Three, Four, HasAll, IsNamed, IsOrder, certificate_words, file_words, grammar, image_words, is_option, name_of, order_words, places, size_of, texts, words_wanted}
+use Rattle.command_words.specs.declared.words.Order.{Order}
+use Rattle.command_words.specs.declared.words.Order.TheVariants as order
+use Rattle.command_words.specs.declared.words.Places.{Places}
+use Rattle.command_words.specs.Words.{AreFound, CommandName, Sector, Show, Format, Check, Mount, Size, Three, Four, HasAll, IsNamed, IsOrder, certificate_words, file_words, grammar, image_words, is_option, name_of, order_words, places, size_of, texts, words_wanted}
 
 -- the grammar is one of which `clap` tells what it makes of all words
 pub simple_grammar : is_simple_and_free grammar ≡ true

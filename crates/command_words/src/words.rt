@@ -3,8 +3,8 @@ ghost use Rattle.std.specs.Prelude.{◌≡◌, ◌≢◌, ◌⊎◌, ◌∷◌, 
 ghost use Rattle.std.specs.List.{list_any};
 ghost use Rattle.clap.specs.declared.builder.command.Command.{out-Command};
 ghost use Rattle.clap.specs.Words.{app_of, first_of, found_of, rows_of, fault_of, rule_of, subcommand_of, subcommand_rows_of, with_subcommand};
-ghost use Rattle.commands.specs.declared.words.Order.{Order};
-ghost use Rattle.commands.specs.Words.{AreFound, CommandName, HasAll, IsNamed, IsOrder, certificate_words, file_words, image_words, name_of, order_words, places, size_of, texts};
+ghost use Rattle.command_words.specs.declared.words.Order.{Order};
+ghost use Rattle.command_words.specs.Words.{AreFound, CommandName, HasAll, IsNamed, IsOrder, certificate_words, file_words, image_words, name_of, order_words, places, size_of, texts};
 
 use clap::error::ErrorKind;
 use clap::{Arg, ArgAction, ArgMatches, Command};
@@ -61,7 +61,7 @@ pub enum WordsFault {
 
 impl From<AllocError> for WordsFault {
     ghost use Rattle.std.specs.Prelude.{◌≡◌};
-    ghost use Rattle.commands.specs.declared.words.WordsFault.{WordsFault};
+    ghost use Rattle.command_words.specs.declared.words.WordsFault.{WordsFault};
 
     ghost from_gives = { λ _ fault. fault ≡ WordsFault.OutOfMemory };
 
@@ -72,7 +72,7 @@ impl From<AllocError> for WordsFault {
 
 // A word that a command wants.
 fn place<'a>(alloc: Global, id: &'a str) -> Arg<'a>
-    ensures rule { rule_of result ≡ Rattle.commands.specs.Words.place id.now }
+    ensures rule { rule_of result ≡ Rattle.command_words.specs.Words.place id.now }
     ensures local { result.global ≡ false }
 {
     Arg::new(alloc, id).required(true).action(ArgAction::Set)
@@ -80,7 +80,7 @@ fn place<'a>(alloc: Global, id: &'a str) -> Arg<'a>
 
 // A command of three words. What each word is for stands in `Order`.
 fn three_words<'a>(alloc: Global, name: &'a str) -> Result<Command<'a>, AllocError>
-    ensures app { IfOk result (λ command. app_of command ≡ Rattle.commands.specs.Words.three_words name.now) }
+    ensures app { IfOk result (λ command. app_of command ≡ Rattle.command_words.specs.Words.three_words name.now) }
     ensures local { IfOk result (λ command. (out-Command command).has_globals ≡ false) }
 {
     Command::new(alloc, name)
@@ -91,7 +91,7 @@ fn three_words<'a>(alloc: Global, name: &'a str) -> Result<Command<'a>, AllocErr
 
 // A command of four words.
 fn four_words<'a>(alloc: Global, name: &'a str) -> Result<Command<'a>, AllocError>
-    ensures app { IfOk result (λ command. app_of command ≡ Rattle.commands.specs.Words.four_words name.now) }
+    ensures app { IfOk result (λ command. app_of command ≡ Rattle.command_words.specs.Words.four_words name.now) }
     ensures local { IfOk result (λ command. (out-Command command).has_globals ≡ false) }
 {
     three_words(alloc, name)?.arg(place(alloc, "fourth"))
@@ -103,7 +103,7 @@ fn with_three<'a>(
     program: Command<'a>,
     name: &'a str,
 ) -> Result<Command<'a>, AllocError>
-    ensures { IfOk result (λ made. app_of made ≡ with_subcommand (app_of program.entry) (Rattle.commands.specs.Words.three_words name.now).top) }
+    ensures { IfOk result (λ made. app_of made ≡ with_subcommand (app_of program.entry) (Rattle.command_words.specs.Words.three_words name.now).top) }
 {
     program.subcommand(three_words(alloc, name)?)
 }
@@ -114,14 +114,14 @@ fn with_four<'a>(
     program: Command<'a>,
     name: &'a str,
 ) -> Result<Command<'a>, AllocError>
-    ensures { IfOk result (λ made. app_of made ≡ with_subcommand (app_of program.entry) (Rattle.commands.specs.Words.four_words name.now).top) }
+    ensures { IfOk result (λ made. app_of made ≡ with_subcommand (app_of program.entry) (Rattle.command_words.specs.Words.four_words name.now).top) }
 {
     program.subcommand(four_words(alloc, name)?)
 }
 
 // The commands that the program has. There are no options and no help.
 fn grammar<'a>(alloc: Global) -> Result<Command<'a>, AllocError>
-    ensures { IfOk result (λ command. app_of command ≡ Rattle.commands.specs.Words.grammar) }
+    ensures { IfOk result (λ command. app_of command ≡ Rattle.command_words.specs.Words.grammar) }
 {
     let program = Command::new(alloc, "nandctl")
         .disable_help_flag(true)
@@ -135,7 +135,7 @@ fn grammar<'a>(alloc: Global) -> Result<Command<'a>, AllocError>
 }
 
 fn is_option(word: &str) -> bool
-    ensures { result ≡ Rattle.commands.specs.Words.is_option word.now }
+    ensures { result ≡ Rattle.command_words.specs.Words.is_option word.now }
 {
     match word.as_bytes() {
         [first, ..] => *first == b'-',
@@ -154,7 +154,7 @@ struct Places<'a> {
 
 impl<'a> Places<'a> {
     ghost use Rattle.std.specs.Prelude.{◌≡◌};
-    ghost use Rattle.commands.specs.Words.{certificate_words, file_words, image_words};
+    ghost use Rattle.command_words.specs.Words.{certificate_words, file_words, image_words};
 
     // A geometry, an image and a number.
     fn of_image(&self) -> ImageWords<'a>
@@ -232,16 +232,16 @@ fn order_of<'a>(matches: &ArgMatches<'a>) -> Option<Order<'a>>
 }
 
 fn has_option(words: &[&str]) -> bool
-    ensures { result ≡ list_any (λ word. Rattle.commands.specs.Words.is_option word.now) words.now }
+    ensures { result ≡ list_any (λ word. Rattle.command_words.specs.Words.is_option word.now) words.now }
 {
     words.iter().any(|word| is_option(word))
 }
 
 // What `clap` finds in the words.
 fn matches_of<'a>(alloc: Global, words: &'a [&'a str]) -> Result<ArgMatches<'a>, WordsFault>
-    ensures taken { OnOk result (fault_of Rattle.commands.specs.Words.grammar (texts words.now) ≡ []) }
-    ensures found { IfOk result (λ matches. subcommand_rows_of matches ≡ subcommand_of Rattle.commands.specs.Words.grammar (texts words.now)) }
-    ensures refused { result ≡ Err WordsFault.NoSuchCommand → fault_of Rattle.commands.specs.Words.grammar (texts words.now) ≢ [] }
+    ensures taken { OnOk result (fault_of Rattle.command_words.specs.Words.grammar (texts words.now) ≡ []) }
+    ensures found { IfOk result (λ matches. subcommand_rows_of matches ≡ subcommand_of Rattle.command_words.specs.Words.grammar (texts words.now)) }
+    ensures refused { result ≡ Err WordsFault.NoSuchCommand → fault_of Rattle.command_words.specs.Words.grammar (texts words.now) ≢ [] }
 {
     match grammar(alloc)?.try_get_matches_from(words) {
         Ok(matches) => Ok(matches),

@@ -1,8 +1,8 @@
 use Rattle.std.proofs.Common.{◌≡◌, ◌∙◌, refl, List, ℕ, Some, sym, subst, option_map}
 use Rattle.clap.specs.Words.{found_of, rows_of, subcommand_rows_of}
-use Rattle.commands.specs.Words.{HasAll, name_of, places, size_of}
-use Rattle.commands.proofs.WordLemmas.{IsOrderNamed, name_named, named_spells, none_missing, rows_name, rows_named}
-use Rattle.commands.proofs.words.order_of.Goals as goal
+use Rattle.command_words.specs.Words.{HasAll, name_of, places, size_of}
+use Rattle.command_words.proofs.WordLemmas.{IsOrderNamed, name_named, named_spells, none_missing, rows_name, rows_named}
+use Rattle.command_words.proofs.words.order_of.Goals as goal
 
 pub returns-in_err-words : goal.returns-in_err-words
 returns-in_err-words c command given named =

@@ -1,10 +1,10 @@
 use Rattle.std.proofs.Common.{arith, rules, sym, ◌∙◌}
 use Rattle.std.proofs.lemmas.Bool.Decides.{nat_tests}
 use Rattle.clap.specs.Words.{subcommand_rows_of}
-use Rattle.commands.specs.Words.{texts}
-use Rattle.commands.proofs.WordLemmas.{at_none, at_some, no_order_empty, no_order_option, order_found, order_taken}
-use Rattle.commands.proofs.words.parse.Goals as goal
-use Rattle.commands.proofs.words.parse.Goals.{then-is_empty-via-then-is_empty, then-is_empty-via-else-is_empty+then-has_option}
+use Rattle.command_words.specs.Words.{texts}
+use Rattle.command_words.proofs.WordLemmas.{at_none, at_some, no_order_empty, no_order_option, order_found, order_taken}
+use Rattle.command_words.proofs.words.parse.Goals as goal
+use Rattle.command_words.proofs.words.parse.Goals.{then-is_empty-via-then-is_empty, then-is_empty-via-else-is_empty+then-has_option}
 
 pub returns-in_err-matches-clause-none : goal.returns-in_err-matches-clause-none
 returns-in_err-matches-clause-none c refused order is =

@@ -1,7 +1,7 @@
 use Rattle.std.proofs.Common.{codes, inl, inr}
 use Rattle.clap.specs.Words.{found_of}
-use Rattle.commands.proofs.WordLemmas.{no_word_at, word_at, word_found}
-use Rattle.commands.proofs.words.words_found.Goals as goal
+use Rattle.command_words.proofs.WordLemmas.{no_word_at, word_at, word_found}
+use Rattle.command_words.proofs.words.words_found.Goals as goal
 
 pub returns-in_err-get_str-clause-none : goal.returns-in_err-get_str-clause-none
 returns-in_err-get_str-clause-none c none =

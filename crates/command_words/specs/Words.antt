@@ -5,12 +5,12 @@ use Rattle.std.specs.Borrow.{Bor}
 use Rattle.clap.specs.declared.builder.action.ArgAction.TheVariants.{Set}
 use Rattle.clap.specs.Words.{App, Row, Rule, first_of, new_app, new_rule, with_rule, with_subcommand}
 use Rattle.clap.specs.Simple.{on_top}
-use Rattle.commands.specs.declared.words.Order.{Order}
-use Rattle.commands.specs.declared.words.Order.TheVariants as order
-use Rattle.commands.specs.declared.words.Places.{Places}
-use Rattle.commands.specs.declared.words.ImageWords.{ImageWords}
-use Rattle.commands.specs.declared.words.FileWords.{FileWords}
-use Rattle.commands.specs.declared.words.CertificateWords.{CertificateWords}
+use Rattle.command_words.specs.declared.words.Order.{Order}
+use Rattle.command_words.specs.declared.words.Order.TheVariants as order
+use Rattle.command_words.specs.declared.words.Places.{Places}
+use Rattle.command_words.specs.declared.words.ImageWords.{ImageWords}
+use Rattle.command_words.specs.declared.words.FileWords.{FileWords}
+use Rattle.command_words.specs.declared.words.CertificateWords.{CertificateWords}
 
 -- the word begins with `-`
 abbrev pub is_option : List ℕ → Bool
