@@ -1,5 +1,6 @@
-//! Translation pages, certificates, and images held against certificates.
+//! Translation pages, certificates, images held against certificates, and rows that a recoverer of one sector rests on.
 
 mod certificates;
 mod images;
+mod recovery_rows;
 mod translation;

@@ -4,6 +4,7 @@ ghost use Rattle.page_layout.specs.Faults.{HasNumbers};
 use certificate::{BlockState, CertFault, Certificate, read_certificate, write_certificate};
 use page_layout::geometry::Geometry;
 use std::alloc::{AllocError, Global};
+use std::process::Abort;
 use std::test::*;
 
 const NO_ROW: u32 = 0xffff_ffff;
@@ -31,33 +32,41 @@ fn formatted(alloc: Global, geometry: Geometry) -> Result<Certificate, AllocErro
     Ok(Certificate::new(geometry, 4, 3, blocks, directory, sectors))
 }
 
-// The bytes of that certificate.
-fn spelled() -> [u8; 472] {
-    let mut bytes = [0u8; 472];
-    bytes[..8].copy_from_slice(&[0x44, 0x46, 0x54, 0x4c, 0x43, 0x52, 0x54, 0x31]);
-    bytes[8] = 64;
-    bytes[12] = 32;
-    bytes[16] = 8;
-    bytes[20] = 32;
-    bytes[24] = 32;
-    bytes[28] = 4;
-    bytes[32] = 3;
-    bytes[40..49].copy_from_slice(&[2, 2, 0, 2, 0, 0, 0, 0, 0]);
-    bytes[328..336].copy_from_slice(&[0xff; 8]);
-    bytes[340] = 1;
-    bytes[344..].copy_from_slice(&[0xff; 128]);
-    bytes
+// The bytes of that certificate: its magic, the five numbers of the die, the capacity, the next sequence, the blocks, the
+// directory of translation and of table pages, the sectors.
+const SPELLED: [&[u8]; 14] = [
+    &[0x44, 0x46, 0x54, 0x4c, 0x43, 0x52, 0x54, 0x31],
+    &[64, 0, 0, 0],
+    &[32, 0, 0, 0],
+    &[8, 0, 0, 0],
+    &[32, 0, 0, 0],
+    &[32, 0, 0, 0],
+    &[4, 0, 0, 0],
+    &[3, 0, 0, 0, 0, 0, 0, 0],
+    &[2, 2, 0, 2, 0, 0, 0, 0, 0],
+    &[0; 279],
+    &[0xff; 8],
+    &[0, 0, 0, 0],
+    &[1, 0, 0, 0],
+    &[0xff; 128],
+];
+
+fn spelled(alloc: Global) -> Result<Vec<u8>, AllocError> {
+    let mut bytes = Vec::new(alloc);
+    for part in SPELLED {
+        bytes.extend_from_slice(part)?;
+    }
+    Ok(bytes)
 }
 
 // Those bytes, some of them replaced.
-fn replaced(edits: &[(usize, u8)]) -> [u8; 472] {
-    let mut bytes = spelled();
+fn replaced(rt: &impl Abort, alloc: Global, edits: &[(usize, u8)]) -> Result<Vec<u8>, AllocError> {
+    let mut bytes = spelled(alloc)?;
     for (place, byte) in edits {
-        if *place < bytes.len() {
-            bytes[*place] = *byte;
-        }
+        assert!(rt; *place < bytes.len());
+        bytes[*place] = *byte;
     }
-    bytes
+    Ok(bytes)
 }
 
 #[test]
@@ -65,142 +74,214 @@ fn a_formatted_die_is_spelled(rt: HostRuntime) -> Result<(), Fail> {
     let geometry = Geometry::new(64, 32, 8, 32, 32)?;
     let certificate = formatted(rt.alloc(), geometry)?;
     let bytes = write_certificate(rt.alloc(), &certificate)?;
-    assert_eq!(rt; bytes.as_slice(), spelled().as_slice());
+    assert!(rt; bytes == spelled(rt.alloc())?);
+    assert!(rt; bytes.len() == 472);
+    Ok(())
+}
+
+// Something that a certificate says.
+#[derive(Clone, Copy)]
+enum Said {
+    Capacity(u32),
+    NextSequence(u64),
+    Good(u32),
+    // A block's class, write pointer, live pages and erase count.
+    Block(u32, (u8, u16, u16, u32)),
+    // The row of a page in the directory: first the translation pages, then the pages of the table.
+    Directory(u32, Option<u32>),
+    Sector(u32, Option<u32>),
+}
+
+// A spelling, and what is read there.
+struct Reading {
+    name: &'static str,
+    edits: &'static [(usize, u8)],
+    said: &'static [Said],
+}
+
+const READINGS: [Reading; 2] = [
+    Reading {
+        name: "a formatted die",
+        edits: &[],
+        said: &[
+            Said::Capacity(4),
+            Said::NextSequence(3),
+            Said::Good(32),
+            Said::Block(0, (2, 2, 2, 0)),
+            Said::Block(31, (0, 0, 0, 0)),
+            Said::Directory(1, None),
+            Said::Directory(2, Some(0)),
+            Said::Directory(3, Some(1)),
+            Said::Sector(5, None),
+        ],
+    },
+    // Block 1 of classes 4 and 5 with all ones behind, rows 255.
+    Reading {
+        name: "the greatest values",
+        edits: &[
+            (28, 0),
+            (30, 1),
+            (32, 255),
+            (33, 255),
+            (34, 255),
+            (35, 255),
+            (36, 255),
+            (37, 255),
+            (38, 255),
+            (39, 255),
+            (49, 4),
+            (50, 255),
+            (51, 255),
+            (52, 255),
+            (53, 255),
+            (54, 255),
+            (55, 255),
+            (56, 255),
+            (57, 255),
+            (58, 5),
+            (329, 0),
+            (330, 0),
+            (331, 0),
+            (469, 0),
+            (470, 0),
+            (471, 0),
+        ],
+        said: &[
+            Said::Capacity(65_536),
+            Said::NextSequence(18_446_744_073_709_551_615),
+            Said::Good(30),
+        ],
+    },
+];
+
+fn is_block(certificate: &Certificate, block: u32, want: (u8, u16, u16, u32)) -> bool {
+    if block >= certificate.geometry().blocks() {
+        return false;
+    }
+    let state = certificate.block(block);
+    (state.class, state.pointer, state.live, state.wear) == want
+}
+
+fn is_directory_row(certificate: &Certificate, key: u32, want: Option<u32>) -> bool {
+    let geometry = certificate.geometry();
+    key < geometry.translation_pages() + geometry.table_pages()
+        && certificate.directory_row(key) == want
+}
+
+fn is_sector_row(certificate: &Certificate, sector: u32, want: Option<u32>) -> bool {
+    sector < certificate.geometry().sectors() && certificate.sector_row(sector) == want
+}
+
+fn says(certificate: &Certificate, said: Said) -> bool {
+    match said {
+        Said::Capacity(want) => certificate.capacity() == want,
+        Said::NextSequence(want) => certificate.next_sequence() == want,
+        Said::Good(want) => certificate.good() == want,
+        Said::Block(block, want) => is_block(certificate, block, want),
+        Said::Directory(key, want) => is_directory_row(certificate, key, want),
+        Said::Sector(sector, want) => is_sector_row(certificate, sector, want),
+    }
+}
+
+fn is_of_the_die(certificate: &Certificate) -> Result<bool, Fail> {
+    let geometry = Geometry::new(64, 32, 8, 32, 32)?;
+    Ok(certificate.geometry() == geometry)
+}
+
+// What is read says all that, and is spelled as before.
+fn hold_reading(rt: &impl Abort, alloc: Global, reading: &Reading) -> Result<(), Fail> {
+    let bytes = replaced(rt, alloc, reading.edits)?;
+    let certificate = read_certificate(alloc, &bytes)?;
+    for (at, said) in reading.said.iter().enumerate() {
+        assert!(rt; says(&certificate, *said), "{}: {at}", reading.name);
+    }
+    assert!(rt; is_of_the_die(&certificate)?, "{}", reading.name);
+    assert!(rt;
+        write_certificate(alloc, &certificate)? == bytes,
+        "{}",
+        reading.name
+    );
     Ok(())
 }
 
 #[test]
 fn what_is_spelled_is_read(rt: HostRuntime) -> Result<(), Fail> {
-    let certificate = read_certificate(rt.alloc(), &spelled())?;
-    let geometry = certificate.geometry();
-    assert_eq!(rt; geometry, Geometry::new(64, 32, 8, 32, 32)?);
-    assert_eq!(rt; certificate.capacity(), 4);
-    assert_eq!(rt; certificate.next_sequence(), 3);
-    assert_eq!(rt; certificate.good(), 32);
-    assert_eq!(rt; geometry.blocks(), 32);
-    let first = certificate.block(0);
-    assert_eq!(rt;
-        (first.class, first.pointer, first.live, first.wear),
-        (2, 2, 2, 0)
-    );
-    assert_eq!(rt; certificate.block(31).class, 0);
+    for reading in &READINGS {
+        hold_reading(&rt, rt.alloc(), reading)?;
+    }
     Ok(())
 }
 
-#[test]
-fn rows_that_are_spelled_are_read(rt: HostRuntime) -> Result<(), Fail> {
-    let certificate = read_certificate(rt.alloc(), &spelled())?;
-    let geometry = certificate.geometry();
-    assert_eq!(rt; geometry.translation_pages(), 2);
-    assert_eq!(rt; geometry.table_pages(), 2);
-    assert_eq!(rt; certificate.directory_row(1), None);
-    assert_eq!(rt; certificate.directory_row(2), Some(0));
-    assert_eq!(rt; certificate.directory_row(3), Some(1));
-    assert_eq!(rt; geometry.sectors(), 32);
-    assert_eq!(rt; certificate.sector_row(5), None);
-    Ok(())
-}
-
-#[test]
-fn the_greatest_values_are_read_and_written(rt: HostRuntime) -> Result<(), Fail> {
-    // Capacity 65536, sequence 2^64 - 1, block 1 of classes 4 and 5 with all ones behind, rows 255.
-    let limits = [
-        (28, 0),
-        (30, 1),
-        (32, 255),
-        (33, 255),
-        (34, 255),
-        (35, 255),
-        (36, 255),
-        (37, 255),
-        (38, 255),
-        (39, 255),
-        (49, 4),
-        (50, 255),
-        (51, 255),
-        (52, 255),
-        (53, 255),
-        (54, 255),
-        (55, 255),
-        (56, 255),
-        (57, 255),
-        (58, 5),
-        (329, 0),
-        (330, 0),
-        (331, 0),
-        (469, 0),
-        (470, 0),
-        (471, 0),
-    ];
-    let bytes = replaced(&limits);
-    let certificate = read_certificate(rt.alloc(), &bytes)?;
-    assert_eq!(rt; certificate.capacity(), 65_536);
-    assert_eq!(rt; certificate.next_sequence(), 18_446_744_073_709_551_615);
-    assert_eq!(rt; certificate.good(), 30);
-    let again = write_certificate(rt.alloc(), &certificate)?;
-    assert_eq!(rt; again.as_slice(), bytes.as_slice());
-    Ok(())
+// Why the first so many bytes aren't read, or none where they are, or where there are fewer.
+fn fault_of(alloc: Global, bytes: &[u8], length: usize) -> Option<CertFault> {
+    match bytes.get(..length) {
+        Some(first) => read_certificate(alloc, first).err(),
+        None => None,
+    }
 }
 
 #[test]
 fn each_length_but_one_is_refused(rt: HostRuntime) -> Result<(), Fail> {
-    let bytes = spelled();
+    let mut bytes = spelled(rt.alloc())?;
     for length in 0..bytes.len() {
-        let fault = read_certificate(rt.alloc(), &bytes[..length]).err();
-        assert_eq!(rt; fault, Some(CertFault::Short), "at {length}");
+        let fault = fault_of(rt.alloc(), &bytes, length);
+        assert!(rt; fault == Some(CertFault::Short), "at {length}");
     }
-    let mut longer = [0u8; 473];
-    longer[..472].copy_from_slice(&bytes);
-    assert_eq!(rt;
-        read_certificate(rt.alloc(), &longer).err(),
-        Some(CertFault::Long)
-    );
+    bytes.push(0)?;
+    assert!(rt; fault_of(rt.alloc(), &bytes, 473) == Some(CertFault::Long));
+    Ok(())
+}
+
+// The spelling with some bytes replaced, so many of its bytes, and why they aren't read.
+type Fault = (&'static [(usize, u8)], usize, CertFault);
+
+const FAULTS: [Fault; 19] = [
+    (&[(7, 0x32)], 472, CertFault::Magic),
+    (&[(0, 0)], 8, CertFault::Magic),
+    // Sizes of data: no power of two, below 64, above 4096.
+    (&[(8, 65)], 472, CertFault::Limit),
+    (&[(8, 32)], 472, CertFault::Limit),
+    (&[(8, 0), (9, 32)], 472, CertFault::Limit),
+    (&[(12, 31)], 472, CertFault::Limit),
+    (&[(16, 6)], 472, CertFault::Limit),
+    (&[(20, 11)], 472, CertFault::Limit),
+    // More blocks than one block's table pages have entries for.
+    (&[(20, 129)], 472, CertFault::Limit),
+    (&[(24, 0)], 472, CertFault::Limit),
+    // Capacities 0 and 65537.
+    (&[(28, 0)], 472, CertFault::Limit),
+    (&[(28, 1), (30, 1)], 472, CertFault::Limit),
+    // One sector more is promised, or one less.
+    (&[(24, 33)], 472, CertFault::Short),
+    (&[(24, 31)], 472, CertFault::Long),
+    (&[(40, 6)], 472, CertFault::ClassRange),
+    // Row 256 of a translation page, of the last sector, and the row before none.
+    (
+        &[(328, 0), (329, 1), (330, 0), (331, 0)],
+        472,
+        CertFault::RowRange,
+    ),
+    (
+        &[(468, 0), (469, 1), (470, 0), (471, 0)],
+        472,
+        CertFault::RowRange,
+    ),
+    (&[(344, 0xfe)], 472, CertFault::RowRange),
+    // Of two the earlier.
+    (&[(319, 6), (344, 0xfe)], 472, CertFault::ClassRange),
+];
+
+fn hold_fault(rt: &impl Abort, alloc: Global, row: usize, fault: &Fault) -> Result<(), Fail> {
+    let (edits, length, want) = *fault;
+    let bytes = replaced(rt, alloc, edits)?;
+    assert!(rt; fault_of(alloc, &bytes, length) == Some(want), "row {row}");
     Ok(())
 }
 
 #[test]
 fn each_fault_is_named(rt: HostRuntime) -> Result<(), Fail> {
-    let cases: [(&[(usize, u8)], CertFault); 18] = [
-        (&[(7, 0x32)], CertFault::Magic),
-        // Sizes of data: no power of two, below 64, above 4096.
-        (&[(8, 65)], CertFault::Limit),
-        (&[(8, 32)], CertFault::Limit),
-        (&[(8, 0), (9, 32)], CertFault::Limit),
-        (&[(12, 31)], CertFault::Limit),
-        (&[(16, 6)], CertFault::Limit),
-        (&[(20, 11)], CertFault::Limit),
-        // More blocks than one block's table pages have entries for.
-        (&[(20, 129)], CertFault::Limit),
-        (&[(24, 0)], CertFault::Limit),
-        // Capacities 0 and 65537.
-        (&[(28, 0)], CertFault::Limit),
-        (&[(28, 1), (30, 1)], CertFault::Limit),
-        // One sector more is promised, or one less.
-        (&[(24, 33)], CertFault::Short),
-        (&[(24, 31)], CertFault::Long),
-        (&[(40, 6)], CertFault::ClassRange),
-        // Row 256 of a translation page, of the last sector, and the row before none.
-        (
-            &[(328, 0), (329, 1), (330, 0), (331, 0)],
-            CertFault::RowRange,
-        ),
-        (
-            &[(468, 0), (469, 1), (470, 0), (471, 0)],
-            CertFault::RowRange,
-        ),
-        (&[(344, 0xfe)], CertFault::RowRange),
-        // Of two the earlier.
-        (&[(319, 6), (344, 0xfe)], CertFault::ClassRange),
-    ];
-    for (edits, fault) in cases {
-        let read = read_certificate(rt.alloc(), &replaced(edits)).err();
-        assert_eq!(rt; read, Some(fault), "at {edits:?}");
+    for (row, fault) in FAULTS.iter().enumerate() {
+        hold_fault(&rt, rt.alloc(), row, fault)?;
     }
-    let mut short = spelled();
-    short[0] = 0;
-    assert_eq!(rt;
-        read_certificate(rt.alloc(), &short[..8]).err(),
-        Some(CertFault::Magic)
-    );
     Ok(())
 }

@@ -39,9 +39,10 @@ fn stored_file(
 }
 
 /// Files in memory, and those that were handed over to be written. A path that is not among the files can be neither read nor
-/// written; `refuses` makes each load end in want of memory.
+/// written; `refuses` makes each load end in want of memory. A run that fails tells the name of its case.
 #[derive(Drop)]
 pub struct MemoryFiles {
+    pub case: &'static str,
     pub alloc: Global,
     pub files: Vec<MemoryFile>,
     pub stored: Vec<StoredFile>,
@@ -50,8 +51,9 @@ pub struct MemoryFiles {
 
 impl MemoryFiles {
     /// No files.
-    pub fn new(alloc: Global) -> MemoryFiles {
+    pub fn new(alloc: Global, case: &'static str) -> MemoryFiles {
         MemoryFiles {
+            case,
             alloc,
             files: Vec::new(alloc),
             stored: Vec::new(alloc),
@@ -59,10 +61,10 @@ impl MemoryFiles {
         }
     }
 
-    /// These files and one more.
-    pub fn with(mut self, path: &'static str, bytes: Vec<u8>) -> Result<MemoryFiles, AllocError> {
+    /// Adds a file.
+    pub fn put(&mut self, path: &'static str, bytes: Vec<u8>) -> Result<(), AllocError> {
         self.files.push(MemoryFile { path, bytes })?;
-        Ok(self)
+        Ok(())
     }
 
     /// What a file holds now, where there is such a file.

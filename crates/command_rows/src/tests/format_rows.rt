@@ -1,150 +1,132 @@
 //! What `format` makes of fresh images, and what it refuses.
-use super::files::MemoryFiles;
-use super::images::{IMAGE_BYTES, PAGE_BYTES, erased, set_byte};
-use super::runs::{Row, expect, expect_closed, expect_rows, expect_stored, expect_unstored};
+use super::images::{IMAGE_BYTES, Made, PAGE_BYTES};
+use super::runs::{Case, Step, expect_cases};
 use super::sector_rows::ZEROS;
-use std::alloc::Global;
-use std::process::Abort;
 use std::test::Fail;
 
 const FORMAT: &str = "nandctl format 64,32,8,32,32 in.bin out.bin";
 
-// An image of erased pages, but for spare byte 0 of these rows, which is 00h.
-fn marked(rt: &impl Abort, alloc: Global, rows: &[usize]) -> Result<Vec<u8>, Fail> {
-    let mut bytes = erased(alloc, IMAGE_BYTES)?;
-    for row in rows {
-        assert!(rt; *row < 256);
-        set_byte(rt, &mut bytes, *row * PAGE_BYTES + 64, 0);
-    }
-    Ok(bytes)
-}
+const EMPTY: (&str, Made) = ("out.bin", Made::Erased(0));
 
-// The first pages of the blocks from one on.
-fn first_pages(alloc: Global, from: usize) -> Result<Vec<usize>, Fail> {
-    let mut rows = Vec::new(alloc);
-    for block in from..32 {
-        rows.push(block * 8)?;
-    }
-    Ok(rows)
-}
+// The first page of block 3, and the last one of block 9.
+const MARKED: [usize; 2] = [24, 79];
 
-// `in.bin` with these bytes, and an empty `out.bin`.
-fn files_of(alloc: Global, bytes: Vec<u8>) -> Result<MemoryFiles, Fail> {
-    Ok(
-        MemoryFiles::new(alloc)
-            .with("in.bin", bytes)?
-            .with("out.bin", Vec::new(alloc))?,
-    )
-}
+// The first table page's entries: the blocks 3 and 9 are marked. The second one's are zeros.
+const CLASSES: [u8; 64] = [
+    0, 0, 0, 0, 0, 0, 0, 0, 0, 0, 0, 0, 1, 0, 0, 0, 0, 0, 0, 0, 0, 0, 0, 0, 0, 0, 0, 0, 0, 0, 0, 0,
+    0, 0, 0, 0, 1, 0, 0, 0, 0, 0, 0, 0, 0, 0, 0, 0, 0, 0, 0, 0, 0, 0, 0, 0, 0, 0, 0, 0, 0, 0, 0, 0,
+];
 
-// The first table page names the blocks 3 and 9, the second none, and past these two pages the image is as it was.
-fn expect_tables(rt: &impl Abort, before: &[u8], after: &[u8]) {
-    let mut classes = [0; 64];
-    classes[12] = 1;
-    classes[36] = 1;
-    assert_eq!(rt; after.len(), IMAGE_BYTES);
-    assert_eq!(rt; after.get(..64), Some(classes.as_slice()));
-    assert_eq!(rt; after.get(96..160), Some([0; 64].as_slice()));
-    assert_eq!(rt; after.get(192..), before.get(192..));
-}
-
-const STORED: [Row; 5] = [
-    (
+// Past the two table pages the image is as it was.
+const STORED: [Step; 10] = [
+    Step::Run(FORMAT, 0, "good 30\n"),
+    Step::Stored(1, "out.bin", true),
+    Step::HoldsPart("out.bin", 0, 64, &CLASSES),
+    Step::HoldsPart("out.bin", 96, 160, &[0; 64]),
+    Step::HoldsFrom("out.bin", 192, Made::Marked(&MARKED)),
+    Step::Run(
         "nandctl show 64,32,8,32,32 out.bin 0",
         0,
         "table 0 sequence 1 wear 0\n",
     ),
-    (
+    Step::Run(
         "nandctl show 64,32,8,32,32 out.bin 1",
         0,
         "table 1 sequence 2 wear 0\n",
     ),
-    ("nandctl show 64,32,8,32,32 out.bin 2", 0, "erased\n"),
-    ("nandctl show 64,32,8,32,32 out.bin 24", 0, "unsound\n"),
-    ("nandctl sector 64,32,8,32,32 out.bin 5", 0, ZEROS),
+    Step::Run("nandctl show 64,32,8,32,32 out.bin 2", 0, "erased\n"),
+    Step::Run("nandctl show 64,32,8,32,32 out.bin 24", 0, "unsound\n"),
+    Step::Run("nandctl sector 64,32,8,32,32 out.bin 5", 0, ZEROS),
 ];
 
-// The first page of block 3 is marked, and the last one of block 9.
-#[test]
-fn marked_blocks_are_left_out(rt: HostRuntime) -> Result<(), Fail> {
-    let alloc = rt.alloc();
-    let before = marked(&rt, alloc, &[24, 79])?;
-    let mut files = files_of(alloc, before.clone()?)?;
-    expect(&rt, alloc, &mut files, FORMAT, 0, "good 30\n")?;
-    expect_stored(&rt, &files, "out.bin", true)?;
-    let after = files.contents("out.bin").ok_or("no such file")?;
-    expect_tables(&rt, &before, after);
-    expect_rows(&rt, alloc, &mut files, &STORED)
-}
+// The first pages of the blocks from 17 on, and from 16 on.
+const FROM_17: [usize; 15] = [
+    136, 144, 152, 160, 168, 176, 184, 192, 200, 208, 216, 224, 232, 240, 248,
+];
 
-#[test]
-fn good_blocks_are_counted(rt: HostRuntime) -> Result<(), Fail> {
-    let alloc = rt.alloc();
-    for (from, status, said) in [
-        (17, 0, "good 17\n"),
-        (16, 1, "refused format 1 TooFewGood good 16 need 17\n"),
-    ] {
-        let rows = first_pages(alloc, from)?;
-        let mut files = files_of(alloc, marked(&rt, alloc, &rows)?)?;
-        expect(&rt, alloc, &mut files, FORMAT, status, said)?;
-    }
-    Ok(())
-}
+const FROM_16: [usize; 16] = [
+    128, 136, 144, 152, 160, 168, 176, 184, 192, 200, 208, 216, 224, 232, 240, 248,
+];
 
 // An image that was formatted is not fresh.
-const TWICE: [Row; 2] = [
-    ("nandctl format 64,32,8,32,32 in.bin in.bin", 0, "good 32\n"),
-    (FORMAT, 1, "refused format 5 NotFresh row 0\n"),
+const TWICE: [Step; 2] = [
+    Step::Run("nandctl format 64,32,8,32,32 in.bin in.bin", 0, "good 32\n"),
+    Step::Run(FORMAT, 1, "refused format 5 NotFresh row 0\n"),
 ];
 
-#[test]
-fn used_dies_are_refused(rt: HostRuntime) -> Result<(), Fail> {
-    let alloc = rt.alloc();
-    let mut used = erased(alloc, IMAGE_BYTES)?;
-    set_byte(&rt, &mut used, 40 * PAGE_BYTES + 7, 0);
-    let mut files = files_of(alloc, used)?;
-    let said = "refused format 5 NotFresh row 40\n";
-    expect(&rt, alloc, &mut files, FORMAT, 1, said)?;
-    let mut files = files_of(alloc, erased(alloc, IMAGE_BYTES)?)?;
-    expect_rows(&rt, alloc, &mut files, &TWICE)
-}
-
 // Over a file that is a byte too short.
-const REFUSED: [Row; 4] = [
-    (FORMAT, 1, "refused image 1 WrongLength\n"),
-    (
+const REFUSED: [Step; 4] = [
+    Step::Run(FORMAT, 1, "refused image 1 WrongLength\n"),
+    Step::Run(
         "nandctl format 64,32,8,32 absent.bin out.bin",
         2,
         "usage: bad number 64,32,8,32\n",
     ),
-    (
+    Step::Run(
         "nandctl format 64,32,8,129,32 absent.bin out.bin",
         1,
         "refused geometry 4 Blocks\n",
     ),
-    (
+    Step::Run(
         "nandctl format 64,32,8,32,32 absent.bin out.bin",
         3,
         "fault read absent.bin\n",
     ),
 ];
 
-#[test]
-fn other_refusals_of_format(rt: HostRuntime) -> Result<(), Fail> {
-    let alloc = rt.alloc();
-    let mut files = files_of(alloc, erased(alloc, IMAGE_BYTES - 1)?)?;
-    expect_rows(&rt, alloc, &mut files, &REFUSED)
-}
-
 // Nothing is printed of an image that was not stored; one whose line was not printed is stored.
+const CLOSED: [Step; 4] = [
+    Step::Unstored(
+        "nandctl format 64,32,8,32,32 in.bin absent.bin",
+        "fault write absent.bin\n",
+    ),
+    Step::Stored(1, "absent.bin", false),
+    Step::Closed(FORMAT, 3, "fault write -\n"),
+    Step::Stored(2, "out.bin", true),
+];
+
+const CASES: [Case; 7] = [
+    Case {
+        name: "marked blocks are left out",
+        files: &[("in.bin", Made::Marked(&MARKED)), EMPTY],
+        steps: &STORED,
+    },
+    Case {
+        name: "17 good blocks",
+        files: &[("in.bin", Made::Marked(&FROM_17)), EMPTY],
+        steps: &[Step::Run(FORMAT, 0, "good 17\n")],
+    },
+    Case {
+        name: "16 good blocks",
+        files: &[("in.bin", Made::Marked(&FROM_16)), EMPTY],
+        steps: &[Step::Run(FORMAT, 1, "refused format 1 TooFewGood good 16 need 17\n")],
+    },
+    Case {
+        name: "a byte of row 40 was programmed",
+        files: &[
+            ("in.bin", Made::ImageBut(&[], 40 * PAGE_BYTES + 7, 0)),
+            EMPTY,
+        ],
+        steps: &[Step::Run(FORMAT, 1, "refused format 5 NotFresh row 40\n")],
+    },
+    Case {
+        name: "an image that was formatted",
+        files: &[("in.bin", Made::Erased(IMAGE_BYTES)), EMPTY],
+        steps: &TWICE,
+    },
+    Case {
+        name: "other refusals",
+        files: &[("in.bin", Made::Erased(IMAGE_BYTES - 1)), EMPTY],
+        steps: &REFUSED,
+    },
+    Case {
+        name: "the image is stored before the line",
+        files: &[("in.bin", Made::Erased(IMAGE_BYTES)), EMPTY],
+        steps: &CLOSED,
+    },
+];
+
 #[test]
-fn the_image_is_stored_before_the_line(rt: HostRuntime) -> Result<(), Fail> {
-    let alloc = rt.alloc();
-    let mut files = files_of(alloc, erased(alloc, IMAGE_BYTES)?)?;
-    let line = "nandctl format 64,32,8,32,32 in.bin absent.bin";
-    let said = "fault write absent.bin\n";
-    expect_unstored(&rt, alloc, &mut files, line, "absent.bin", said)?;
-    files.stored.clear();
-    expect_closed(&rt, alloc, &mut files, FORMAT, 3, "fault write -\n")?;
-    expect_stored(&rt, &files, "out.bin", true)
+fn format_rows(rt: HostRuntime) -> Result<(), Fail> {
+    expect_cases(&rt, rt.alloc(), &CASES)
 }

@@ -1,29 +1,20 @@
-//! The driver over buses that write down what they are handed, and over one that never answers.
-ghost use Rattle.std.specs.Prelude.{◌≡◌, ◌≤◌, true, IfOk, IfErr, length};
+//! The driver over a bus that answers with one byte, whose cycles are written down, and over one that never answers.
+ghost use Rattle.std.specs.Prelude.{◌≡◌, ◌≤◌, true, IfErr};
 ghost use Rattle.onfi_cycles.specs.Cycles.{IsCounted};
 
+use super::operations::{Operation, after};
+use super::recorder::{Recorder, Seen, after_cycles};
 use super::small;
-use onfi_cycles::{Bus, BusFault, Driver, Nand, Outcome};
+use onfi_cycles::{Bus, BusFault, Driver, Outcome};
 use page_layout::geometry::Geometry;
-use page_layout::source::{PageSource, SourceFault};
-use std::alloc::{AllocError, Global};
+use page_layout::source::SourceFault;
+use std::alloc::Global;
 use std::process::Abort;
-use std::test::Fail;
 
-// What a bus was handed.
-#[derive(Clone, Copy, Debug, PartialEq, Eq)]
-enum Seen {
-    Command(u8),
-    Address(u8),
-    In(u8),
-    Out(usize),
-}
-
-// A bus that writes down its cycles, puts out one byte over and over, and fails at one cycle where it is told to.
+// A bus that puts out one byte over and over, and fails at one cycle where it is told to.
 #[derive(Drop)]
-struct Recorder {
+struct Parrot {
     geometry: Geometry,
-    seen: Vec<Seen>,
     byte: u8,
     fails_at: u64,
     fault: BusFault,
@@ -31,23 +22,7 @@ struct Recorder {
     faults: u64,
 }
 
-impl Recorder {
-    fn note(&mut self, seen: Seen)
-        ensures geometry { self.new.geometry ≡ self.old.geometry }
-        ensures faults { self.new.faults ≡ self.old.faults }
-    {
-        let _ = self.seen.push(seen);
-    }
-
-    fn note_all(&mut self, bytes: &[u8])
-        ensures geometry { self.new.geometry ≡ self.old.geometry }
-        ensures faults { self.new.faults ≡ self.old.faults }
-    {
-        for byte in bytes {
-            self.note(Seen::In(*byte));
-        }
-    }
-
+impl Parrot {
     // Whether this cycle is the one that fails.
     fn cycle(&mut self) -> Result<(), BusFault>
         ensures geometry { self.new.geometry ≡ self.old.geometry }
@@ -63,7 +38,7 @@ impl Recorder {
     }
 }
 
-impl Bus for Recorder {
+impl Bus for Parrot {
     ghost use Rattle.std.specs.Prelude.{false, []};
     ghost use Rattle.page_layout.specs.Raw.{still};
     ghost use Rattle.onfi_cycles.specs.Cycles.{Unreset};
@@ -74,23 +49,19 @@ impl Bus for Recorder {
 
     ghost failed = { λ bus. bus.faults };
 
-    fn command(&mut self, code: u8) -> Result<(), BusFault> {
-        self.note(Seen::Command(code));
+    fn command(&mut self, _code: u8) -> Result<(), BusFault> {
         self.cycle()
     }
 
-    fn address(&mut self, byte: u8) -> Result<(), BusFault> {
-        self.note(Seen::Address(byte));
+    fn address(&mut self, _byte: u8) -> Result<(), BusFault> {
         self.cycle()
     }
 
-    fn data_in(&mut self, bytes: &[u8]) -> Result<(), BusFault> {
-        self.note_all(bytes);
+    fn data_in(&mut self, _bytes: &[u8]) -> Result<(), BusFault> {
         self.cycle()
     }
 
     fn data_out(&mut self, bytes: &mut [u8]) -> Result<(), BusFault> {
-        self.note(Seen::Out(bytes.len()));
         bytes.fill(self.byte);
         self.cycle()
     }
@@ -100,124 +71,212 @@ impl Bus for Recorder {
     }
 }
 
-// A driver over a recorder that puts out this byte and fails at this cycle, counted from 1, Reset included.
-fn driver(
-    rt: &impl Abort,
-    alloc: Global,
-    geometry: &Geometry,
-    byte: u8,
-    fails_at: u64,
-    fault: BusFault,
-) -> Driver<Recorder>
-    ensures { result.geometry ≡ geometry.now }
+const PASSED: Result<Outcome, BusFault> = Ok(Outcome::Passed);
+
+const FAILED: Result<Outcome, BusFault> = Ok(Outcome::Failed);
+
+const FAULTY: Result<Outcome, BusFault> = Err(BusFault::Device);
+
+const BOTH_PASS: &[Operation] = &[
+    Operation::Program(8, 1, 2, PASSED),
+    Operation::Erase(1, PASSED),
+    Operation::Failures(0),
+];
+
+const BOTH_FAIL: &[Operation] = &[
+    Operation::Program(8, 1, 2, FAILED),
+    Operation::Erase(1, FAILED),
+    Operation::Failures(0),
+];
+
+const BOTH_ARE_FAULTY: &[Operation] = &[
+    Operation::Program(8, 1, 2, FAULTY),
+    Operation::Failures(1),
+    Operation::Erase(1, FAULTY),
+    Operation::Failures(2),
+];
+
+// The byte that a bus puts out, and what a driver over it answers.
+const STATUS: [(&str, u8, &[Operation]); 10] = [
+    ("status E0", 0xE0, BOTH_PASS),
+    ("status E1", 0xE1, BOTH_FAIL),
+    ("status E2", 0xE2, BOTH_PASS),
+    ("status E3", 0xE3, BOTH_FAIL),
+    ("status FC", 0xFC, BOTH_PASS),
+    ("status 60", 0x60, BOTH_ARE_FAULTY),
+    ("status A0", 0xA0, BOTH_ARE_FAULTY),
+    ("status C1", 0xC1, BOTH_ARE_FAULTY),
+    ("status 00", 0x00, BOTH_ARE_FAULTY),
+    (
+        "an erase and then a program",
+        0xE0,
+        &[
+            Operation::Erase(1, PASSED),
+            Operation::Program(8, 1, 2, PASSED),
+        ],
+    ),
+];
+
+// The fault of the fourth cycle of a bus, which is the second address cycle of the page read, and what a driver over it answers.
+const FAULTS: [(&str, BusFault, &[Operation]); 6] = [
+    (
+        "NoReset",
+        BusFault::NoReset,
+        &[
+            Operation::Fails(8, SourceFault(1)),
+            Operation::Failures(1),
+            Operation::Program(8, 1, 2, PASSED),
+            Operation::Failures(1),
+        ],
+    ),
+    (
+        "UnknownCommand",
+        BusFault::UnknownCommand,
+        &[
+            Operation::Fails(8, SourceFault(2)),
+            Operation::Failures(1),
+            Operation::Program(8, 1, 2, PASSED),
+            Operation::Failures(1),
+        ],
+    ),
+    (
+        "OutOfTurn",
+        BusFault::OutOfTurn,
+        &[
+            Operation::Fails(8, SourceFault(3)),
+            Operation::Failures(1),
+            Operation::Program(8, 1, 2, PASSED),
+            Operation::Failures(1),
+        ],
+    ),
+    (
+        "AddressRange",
+        BusFault::AddressRange,
+        &[
+            Operation::Fails(8, SourceFault(4)),
+            Operation::Failures(1),
+            Operation::Program(8, 1, 2, PASSED),
+            Operation::Failures(1),
+        ],
+    ),
+    (
+        "ColumnRange",
+        BusFault::ColumnRange,
+        &[
+            Operation::Fails(8, SourceFault(5)),
+            Operation::Failures(1),
+            Operation::Program(8, 1, 2, PASSED),
+            Operation::Failures(1),
+        ],
+    ),
+    (
+        "Device",
+        BusFault::Device,
+        &[
+            Operation::Fails(8, SourceFault(6)),
+            Operation::Failures(1),
+            Operation::Program(8, 1, 2, PASSED),
+            Operation::Failures(1),
+        ],
+    ),
+];
+
+// A parrot that never fails, or at this cycle, counted from 1, Reset included.
+fn new_parrot(geometry: Geometry, byte: u8, fails: Option<(u64, BusFault)>) -> Parrot
+    ensures { result.geometry ≡ geometry }
 {
-    let bus = Recorder {
-        geometry: *geometry,
-        seen: Vec::new(alloc),
+    let (fails_at, fault) = fails.unwrap_or((0, BusFault::Device));
+    Parrot {
+        geometry,
         byte,
         fails_at,
         fault,
         cycles: 0,
         faults: 0,
-    };
-    let Ok(driver) = Driver::new(bus, *geometry) else {
-        panic!(rt; "Reset failed");
-    };
-    driver
+    }
 }
 
-const ROW: [Seen; 3] = [Seen::Address(8), Seen::Address(0), Seen::Address(0)];
+// Asks a driver over a parrot.
+fn ask_parrot(
+    rt: &impl Abort,
+    byte: u8,
+    fails: Option<(u64, BusFault)>,
+    name: &str,
+    operations: &[Operation],
+) {
+    let geometry = small(rt);
+    after(
+        rt,
+        new_parrot(geometry, byte, fails),
+        geometry,
+        name,
+        operations,
+    );
+}
+
+#[test]
+fn the_status_byte_decides(rt: HostRuntime) {
+    for (name, byte, operations) in &STATUS {
+        ask_parrot(&rt, *byte, None, name, operations);
+    }
+}
+
+#[test]
+fn a_fault_keeps_its_number(rt: HostRuntime) {
+    for (name, fault, operations) in &FAULTS {
+        ask_parrot(&rt, 0xE0, Some((4, *fault)), name, operations);
+    }
+}
 
 // What a program, an erase and a page read are spelled as, behind the Reset of a new driver.
-fn spelling(alloc: Global) -> Result<Vec<Seen>, AllocError> {
-    let mut want = Vec::new(alloc);
-    want.extend_from_slice(&[Seen::Command(0xFF), Seen::Command(0x80)])?;
-    want.extend_from_slice(&[Seen::Address(0); 2])?;
-    want.extend_from_slice(&ROW)?;
-    want.extend_from_slice(&[Seen::In(1); 64])?;
-    want.extend_from_slice(&[Seen::In(2); 32])?;
-    want.extend_from_slice(&[Seen::Command(0x10), Seen::Command(0x70), Seen::Out(1)])?;
-    want.push(Seen::Command(0x60))?;
-    want.extend_from_slice(&ROW)?;
-    want.extend_from_slice(&[Seen::Command(0xD0), Seen::Command(0x70), Seen::Out(1)])?;
-    want.push(Seen::Command(0x00))?;
-    want.extend_from_slice(&[Seen::Address(0); 2])?;
-    want.extend_from_slice(&ROW)?;
-    want.extend_from_slice(&[Seen::Command(0x30), Seen::Out(64), Seen::Out(32)])?;
-    Ok(want)
-}
+const SPELLING: &[Seen] = &[
+    Seen::Command(0xFF),
+    Seen::Command(0x80),
+    Seen::Address(0),
+    Seen::Address(0),
+    Seen::Address(8),
+    Seen::Address(0),
+    Seen::Address(0),
+    Seen::In(64, 1),
+    Seen::In(32, 2),
+    Seen::Command(0x10),
+    Seen::Command(0x70),
+    Seen::Out(1, 0xE0),
+    Seen::Command(0x60),
+    Seen::Address(8),
+    Seen::Address(0),
+    Seen::Address(0),
+    Seen::Command(0xD0),
+    Seen::Command(0x70),
+    Seen::Out(1, 0xE0),
+    Seen::Command(0x00),
+    Seen::Address(0),
+    Seen::Address(0),
+    Seen::Address(8),
+    Seen::Address(0),
+    Seen::Address(0),
+    Seen::Command(0x30),
+    Seen::Out(64, 0xE0),
+    Seen::Out(32, 0xE0),
+];
+
+const SPELLED: &[Operation] = &[
+    Operation::Program(8, 1, 2, PASSED),
+    Operation::Erase(1, PASSED),
+    Operation::Read(8, 0xE0, 0xE0),
+    Operation::Failures(0),
+];
 
 #[test]
-fn operations_are_spelled_cycle_by_cycle(rt: HostRuntime) -> Result<(), Fail> {
+fn operations_are_spelled_cycle_by_cycle(rt: HostRuntime) {
     let geometry = small(&rt);
-    let mut driver = driver(&rt, rt.alloc(), &geometry, 0xE0, 0, BusFault::Device);
-    assert_eq!(rt; driver.program(8, &[1; 64], &[2; 32]), Ok(Outcome::Passed));
-    assert_eq!(rt; driver.erase(1), Ok(Outcome::Passed));
-    let (mut body, mut spare) = ([0; 64], [0; 32]);
-    assert_eq!(rt; driver.read_page(8, &mut body, &mut spare), Ok(()));
-    assert_eq!(rt; driver.failures(), 0);
-    let want = spelling(rt.alloc())?;
-    assert_eq!(rt; driver.into_bus().seen.as_slice(), want.as_slice());
-    Ok(())
-}
-
-#[test]
-fn the_status_byte_decides(rt: HostRuntime) -> Result<(), Fail> {
-    let geometry = small(&rt);
-    let passed = Ok(Outcome::Passed);
-    let failed = Ok(Outcome::Failed);
-    let faulty = Err(BusFault::Device);
-    let table = [
-        (0xE0, passed),
-        (0xE1, failed),
-        (0xE2, passed),
-        (0xE3, failed),
-        (0xFC, passed),
-        (0x60, faulty),
-        (0xA0, faulty),
-        (0xC1, faulty),
-        (0x00, faulty),
-    ];
-    for (byte, want) in table {
-        let mut driver = driver(&rt, rt.alloc(), &geometry, byte, 0, BusFault::Device);
-        assert_eq!(rt;
-            driver.program(8, &[1; 64], &[2; 32]),
-            want,
-            "program at {byte}"
-        );
-        assert_eq!(rt; driver.erase(1), want, "erase at {byte}");
-        assert_eq!(rt; driver.failures() == 0, want.is_ok(), "at {byte}");
-    }
-    Ok(())
-}
-
-#[test]
-fn a_fault_keeps_its_number(rt: HostRuntime) -> Result<(), Fail> {
-    let geometry = small(&rt);
-    let table = [
-        (BusFault::NoReset, 1),
-        (BusFault::UnknownCommand, 2),
-        (BusFault::OutOfTurn, 3),
-        (BusFault::AddressRange, 4),
-        (BusFault::ColumnRange, 5),
-        (BusFault::Device, 6),
-    ];
-    for (fault, number) in table {
-        let mut driver = driver(&rt, rt.alloc(), &geometry, 0xE0, 4, fault);
-        let (mut body, mut spare) = ([0; 64], [0; 32]);
-        assert_eq!(rt;
-            driver.read_page(8, &mut body, &mut spare),
-            Err(SourceFault(number))
-        );
-        assert_eq!(rt; driver.failures(), 1);
-        assert_eq!(rt; driver.program(8, &[1; 64], &[2; 32]), Ok(Outcome::Passed));
-        assert_eq!(rt; driver.failures(), 1);
-    }
-    Ok(())
+    let recorder = Recorder::new(rt.alloc(), new_parrot(geometry, 0xE0, None));
+    let recorder = after(&rt, recorder, geometry, "spelled", SPELLED);
+    after_cycles(&rt, rt.alloc(), recorder, "spelled", &[SPELLING]);
 }
 
 // An honest bus whose device fails at every cycle, and says so each time.
-#[derive(Clone, Copy, Debug, Drop)]
+#[derive(Drop)]
 struct Deaf {
     geometry: Geometry,
     faults: u64,
@@ -270,38 +329,30 @@ impl Bus for Deaf {
     }
 }
 
+// A driver is refused, with the bus back.
+fn refused_driver<B: Bus + Drop>(rt: &impl Abort, bus: B, geometry: Geometry) -> (B, BusFault)
+    requires { (B.die bus).flash.geometry ≡ geometry }
+{
+    match Driver::new(bus, geometry) {
+        Ok(_) => panic!(rt; "a driver on a bus that never answers"),
+        Err(refused) => refused,
+    }
+}
+
 #[test]
-fn a_deaf_bus_is_handed_back(rt: HostRuntime) -> Result<(), Fail> {
+fn a_deaf_bus_is_handed_back(rt: HostRuntime) {
     let geometry = small(&rt);
     let deaf = Deaf {
         geometry,
         faults: 0,
     };
-    let Err((bus, fault)) = Driver::new(deaf, geometry) else {
-        return Err(Fail::from("a driver on a bus that never answers"));
-    };
+    let (bus, fault) = refused_driver(&rt, deaf, geometry);
     assert_eq!(rt; fault, BusFault::Device);
     assert_eq!(rt; bus.failures(), 1);
-    Ok(())
-}
-
-// A generic caller of a die, at a concrete type.
-fn rewrite<N: Nand>(nand: &mut N, geometry: &Geometry) -> Result<bool, BusFault>
-    requires same { (N.flash nand.old).geometry ≡ geometry.now }
-    requires data_bytes { geometry.now.data_bytes ≡ 64 }
-    requires spare_bytes { geometry.now.spare_bytes ≡ 32 }
-    requires pages { geometry.now.pages ≡ 8 }
-    requires blocks { geometry.now.blocks ≡ 32 }
-{
-    let erased = nand.erase(1)?;
-    let written = nand.program(8, &[1; 64], &[2; 32])?;
-    Ok(erased.passed() && written.passed())
 }
 
 #[test]
-fn a_driver_is_a_die(rt: HostRuntime) -> Result<(), Fail> {
-    let geometry = small(&rt);
-    let mut driver = driver(&rt, rt.alloc(), &geometry, 0xE0, 0, BusFault::Device);
-    assert_eq!(rt; rewrite(&mut driver, &geometry), Ok(true));
-    Ok(())
+fn an_outcome_says_whether_it_passed(rt: HostRuntime) {
+    assert_eq!(rt; Outcome::Passed.passed(), true);
+    assert_eq!(rt; Outcome::Failed.passed(), false);
 }

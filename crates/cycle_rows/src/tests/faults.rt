@@ -1,63 +1,77 @@
 //! Faults on order, and the blocks that they leave failed.
-use super::{add_fault, command, erase, fault, new_die, program, read, small};
-use nand_die::{DieFault, Fault};
-use std::test::Fail;
+use super::steps::{ERASED, Left, Page, Row, Step, walk_rows};
+use nand_die::DieFault;
+
+const RESET: Step = Step::Open(0xFF, &[]);
+
+// Pages of one byte.
+const ZEROS: Page = &[(0, 0x00)];
+
+const ONES: Page = &[(0, 0x11)];
+
+const TWOS: Page = &[(0, 0x22)];
+
+const FAULTS: [Row; 4] = [
+    Row {
+        name: "the first of two faults counts",
+        marks: &[],
+        steps: &[
+            RESET,
+            Step::Set(&[
+                (2, Left::Bytes(0, 96)),
+                (2, Left::Nothing),
+                (0, Left::Nothing),
+            ]),
+            Step::Program(8, ONES, 0xE0),
+            Step::Program(9, ONES, 0xE1),
+            Step::Read(9, ZEROS),
+            Step::Erase(8, 0xE1),
+            Step::Read(8, ONES),
+            Step::Program(16, ONES, 0xE0),
+            Step::Abuse(1),
+        ],
+    },
+    Row {
+        name: "an erase that fails leaves page 0",
+        marks: &[],
+        steps: &[
+            RESET,
+            Step::Program(8, ONES, 0xE0),
+            Step::Program(9, TWOS, 0xE0),
+            Step::Set(&[(1, Left::Bytes(0, 96))]),
+            Step::Erase(9, 0xE1),
+            Step::Read(8, ZEROS),
+            Step::Read(9, TWOS),
+            Step::Abuse(0),
+        ],
+    },
+    Row {
+        name: "a fault on an illegal change is used up",
+        marks: &[],
+        steps: &[
+            RESET,
+            Step::Set(&[(1, Left::Bytes(0, 96))]),
+            Step::Program(9, ONES, 0xE1),
+            Step::Read(9, ERASED),
+            Step::Program(8, ONES, 0xE0),
+            Step::Abuse(1),
+        ],
+    },
+    Row {
+        name: "the first wrong page left decides",
+        marks: &[],
+        steps: &[Step::NotSet(
+            &[
+                (1, Left::Bytes(0, 96)),
+                (1, Left::Bytes(0, 1)),
+                (1, Left::Bytes(0, 96)),
+            ],
+            DieFault::WrongLength,
+        )],
+    },
+];
 
 #[test]
-fn the_first_of_two_faults_counts(rt: HostRuntime) -> Result<(), Fail> {
-    let alloc = rt.alloc();
-    let mut die = new_die(&rt, alloc, small(&rt), &[]);
-    command(&rt, &mut die, 0xFF);
-    let mut faults = fault(&rt, alloc, 2, Some((0, 96)));
-    add_fault(&rt, &mut faults, 2, None);
-    add_fault(&rt, &mut faults, 0, None);
-    die.set_faults(faults)?;
-    assert_eq!(rt; program(&rt, &mut die, 8, &[0x11; 96]), 0xE0);
-    assert_eq!(rt; program(&rt, &mut die, 9, &[0x11; 96]), 0xE1);
-    assert_eq!(rt; read(&rt, &mut die, 9), [0; 96]);
-    assert_eq!(rt; erase(&rt, &mut die, 8), 0xE1);
-    assert_eq!(rt; read(&rt, &mut die, 8), [0x11; 96]);
-    assert_eq!(rt; program(&rt, &mut die, 16, &[0x11; 96]), 0xE0);
-    assert_eq!(rt; die.abuse(), 1);
-    Ok(())
-}
-
-#[test]
-fn an_erase_that_fails_leaves_page_0(rt: HostRuntime) -> Result<(), Fail> {
-    let alloc = rt.alloc();
-    let mut die = new_die(&rt, alloc, small(&rt), &[]);
-    command(&rt, &mut die, 0xFF);
-    assert_eq!(rt; program(&rt, &mut die, 8, &[0x11; 96]), 0xE0);
-    assert_eq!(rt; program(&rt, &mut die, 9, &[0x22; 96]), 0xE0);
-    die.set_faults(fault(&rt, alloc, 1, Some((0, 96))))?;
-    assert_eq!(rt; erase(&rt, &mut die, 9), 0xE1);
-    assert_eq!(rt; read(&rt, &mut die, 8), [0; 96]);
-    assert_eq!(rt; read(&rt, &mut die, 9), [0x22; 96]);
-    assert_eq!(rt; die.abuse(), 0);
-    Ok(())
-}
-
-#[test]
-fn a_fault_on_an_illegal_change_is_used_up(rt: HostRuntime) -> Result<(), Fail> {
-    let alloc = rt.alloc();
-    let mut die = new_die(&rt, alloc, small(&rt), &[]);
-    command(&rt, &mut die, 0xFF);
-    die.set_faults(fault(&rt, alloc, 1, Some((0, 96))))?;
-    assert_eq!(rt; program(&rt, &mut die, 9, &[0x11; 96]), 0xE1);
-    assert_eq!(rt; read(&rt, &mut die, 9), [0xFF; 96]);
-    assert_eq!(rt; program(&rt, &mut die, 8, &[0x11; 96]), 0xE0);
-    assert_eq!(rt; die.abuse(), 1);
-    Ok(())
-}
-
-#[test]
-fn the_first_wrong_page_left_decides(rt: HostRuntime) -> Result<(), Fail> {
-    let alloc = rt.alloc();
-    let mut die = new_die(&rt, alloc, small(&rt), &[]);
-    let mut faults: Vec<Fault> = Vec::new(alloc);
-    for (byte, count) in [(0, 96), (0, 1), (0, 96)] {
-        add_fault(&rt, &mut faults, 1, Some((byte, count)));
-    }
-    assert_eq!(rt; die.set_faults(faults), Err(DieFault::WrongLength));
-    Ok(())
+fn faults_on_order(rt: HostRuntime) {
+    walk_rows(&rt, rt.alloc(), &FAULTS);
 }

@@ -1,116 +1,182 @@
 //! Dies made with marks, and of an image.
-use super::{command, data_in, erase, new_die, open, program, read, small, take_status};
+ghost use Rattle.std.specs.Prelude.{◌≡◌};
+ghost use Rattle.page_layout.specs.Geometry.{row_count};
+
+use super::small;
+use super::steps::{Cycle, ERASED, Page, Row, Step, walk, walk_rows};
 use nand_die::{Die, DieFault, Mark};
+use std::alloc::Global;
+use std::process::Abort;
 use std::test::Fail;
 
-#[test]
-fn marks_are_spare_bytes_of_bad_blocks(rt: HostRuntime) -> Result<(), Fail> {
-    let alloc = rt.alloc();
-    let marks = [
-        Mark {
-            block: 3,
-            last: false,
-        },
-        Mark {
-            block: 9,
-            last: true,
-        },
-    ];
-    let mut die = new_die(&rt, alloc, small(&rt), &marks);
-    command(&rt, &mut die, 0xFF);
-    let mut marked = [0xFF; 96];
-    marked[64] = 0;
-    for row in 0..=255 {
-        let want = if row == 24 || row == 79 {
-            marked
-        } else {
-            [0xFF; 96]
-        };
-        assert_eq!(rt; read(&rt, &mut die, row), want);
-    }
-    assert_eq!(rt; program(&rt, &mut die, 72, &[0; 96]), 0xE1);
-    assert_eq!(rt; erase(&rt, &mut die, 24), 0xE1);
-    assert_eq!(rt; read(&rt, &mut die, 24), marked);
-    assert_eq!(rt; die.abuse(), 2);
-    Ok(())
-}
+const RESET: Step = Step::Open(0xFF, &[]);
+
+const ZEROS: Page = &[(0, 0x00)];
+
+const ONES: Page = &[(0, 0x11)];
+
+// The page of a factory mark.
+const MARKED: Page = &[(0, 0xFF), (64, 0x00), (65, 0xFF)];
+
+const MADE: [Row; 2] = [
+    Row {
+        name: "marks are spare bytes of bad blocks",
+        marks: &[
+            Mark {
+                block: 3,
+                last: false,
+            },
+            Mark {
+                block: 9,
+                last: true,
+            },
+        ],
+        steps: &[
+            RESET,
+            Step::ReadEach(0, 23, ERASED),
+            Step::Read(24, MARKED),
+            Step::ReadEach(25, 78, ERASED),
+            Step::Read(79, MARKED),
+            Step::ReadEach(80, 255, ERASED),
+            Step::Program(72, ZEROS, 0xE1),
+            Step::Erase(24, 0xE1),
+            Step::Read(24, MARKED),
+            Step::Abuse(2),
+        ],
+    },
+    Row {
+        name: "columns of a program",
+        marks: &[],
+        steps: &[
+            RESET,
+            Step::Open(0x80, &[1, 0, 8, 0, 0]),
+            Step::Taken(Cycle::In(&[0x11; 2])),
+            Step::Open(0x85, &[0x40, 0]),
+            Step::Taken(Cycle::In(&[0x22; 31])),
+            Step::Open(0x10, &[]),
+            Step::Status(0xE0),
+            Step::Read(
+                8,
+                &[(0, 0xFF), (1, 0x11), (3, 0xFF), (64, 0x22), (95, 0xFF)],
+            ),
+            Step::Open(0x80, &[0, 0, 9, 0, 0]),
+            Step::Open(0x10, &[]),
+            Step::Status(0xE0),
+            Step::Read(9, ERASED),
+            Step::Program(10, ONES, 0xE0),
+        ],
+    },
+];
 
 #[test]
-fn marks_that_are_refused(rt: HostRuntime) {
-    let alloc = rt.alloc();
-    let at = |block| Mark { block, last: false };
-    let past = Die::new(alloc, small(&rt), &[at(31), at(32), at(31)]);
-    assert_eq!(rt; past.err(), Some(DieFault::BadMark { block: 32 }));
-    let twice = Die::new(
-        alloc,
-        small(&rt),
+fn dies_with_and_without_marks(rt: HostRuntime) {
+    walk_rows(&rt, rt.alloc(), &MADE);
+}
+
+// Marks that are refused, and the block that is named in the fault.
+const BAD_MARKS: [(&[Mark], u32); 2] = [
+    (
         &[
-            at(4),
+            Mark {
+                block: 31,
+                last: false,
+            },
+            Mark {
+                block: 32,
+                last: false,
+            },
+            Mark {
+                block: 31,
+                last: false,
+            },
+        ],
+        32,
+    ),
+    (
+        &[
+            Mark {
+                block: 4,
+                last: false,
+            },
             Mark {
                 block: 4,
                 last: true,
             },
         ],
-    );
-    assert_eq!(rt; twice.err(), Some(DieFault::BadMark { block: 4 }));
+        4,
+    ),
+];
+
+#[test]
+fn marks_that_are_refused(rt: HostRuntime) {
+    for (marks, block) in &BAD_MARKS {
+        let refused = Die::new(rt.alloc(), small(&rt), marks).err();
+        assert_eq!(rt; refused, Some(DieFault::BadMark { block: *block }));
+    }
 }
+
+// Rows 8 and 10, with row 9 erased between them, and one byte of row 16.
+fn write_rows(image: &mut [u8]) {
+    for (place, byte) in [(8 * 96, 0x11), (10 * 96 + 95, 0x22), (16 * 96 + 64, 0x33)] {
+        if let Some(written) = image.get_mut(place) {
+            *written = byte;
+        }
+    }
+}
+
+// The image that a die puts out.
+fn image_of(rt: &impl Abort, alloc: Global, die: &Die) -> Vec<u8>
+    requires rows { row_count die.now.state.flash.geometry ≡ 256 }
+    requires data_bytes { die.now.state.flash.geometry.data_bytes ≡ 64 }
+    requires spare_bytes { die.now.state.flash.geometry.spare_bytes ≡ 32 }
+{
+    let mut image = vec![in alloc; 0; 24576].expect(rt, "an image");
+    die.image_into(image.as_mut_slice());
+    image
+}
+
+// A die of an image, that puts out the same.
+fn die_of(rt: &impl Abort, alloc: Global, image: &[u8], bad: &[u32]) -> Die {
+    let die = Die::from_image(alloc, small(rt), image, bad).expect(rt, "a die");
+    assert_eq!(rt; image_of(rt, alloc, &die).as_slice(), image);
+    die
+}
+
+const ON_AN_IMAGE: &[Step] = &[
+    RESET,
+    Step::Program(9, ONES, 0xE1),
+    Step::Program(11, ONES, 0xE0),
+    Step::Program(0, ONES, 0xE0),
+    Step::Program(17, ONES, 0xE1),
+    Step::Erase(255, 0xE1),
+    Step::Abuse(3),
+];
 
 #[test]
 fn an_image_goes_on_where_it_stopped(rt: HostRuntime) -> Result<(), Fail> {
     let alloc = rt.alloc();
     let mut image = vec![in alloc; 0xFF; 24576]?;
-    // Rows 8 and 10, with row 9 erased between them, and one byte of row 16.
-    image[8 * 96] = 0x11;
-    image[10 * 96 + 95] = 0x22;
-    image[16 * 96 + 64] = 0x33;
-    let mut die = Die::from_image(alloc, small(&rt), image.as_slice(), &[2, 31])?;
-    let mut out = vec![in alloc; 0; 24576]?;
-    die.image_into(out.as_mut_slice());
-    assert_eq!(rt; out.as_slice(), image.as_slice());
-    command(&rt, &mut die, 0xFF);
-    assert_eq!(rt; program(&rt, &mut die, 9, &[0x11; 96]), 0xE1);
-    assert_eq!(rt; program(&rt, &mut die, 11, &[0x11; 96]), 0xE0);
-    assert_eq!(rt; program(&rt, &mut die, 0, &[0x11; 96]), 0xE0);
-    assert_eq!(rt; program(&rt, &mut die, 17, &[0x11; 96]), 0xE1);
-    assert_eq!(rt; erase(&rt, &mut die, 255), 0xE1);
-    assert_eq!(rt; die.abuse(), 3);
+    write_rows(image.as_mut_slice());
+    let mut die = die_of(&rt, alloc, image.as_slice(), &[2, 31]);
+    walk(&rt, alloc, &mut die, "an image", ON_AN_IMAGE);
     Ok(())
 }
+
+// So many bytes FFh, the blocks that are named bad, and the fault.
+const BAD_IMAGES: [(usize, &[u32], DieFault); 4] = [
+    (24575, &[3, 9], DieFault::WrongLength),
+    (24577, &[3, 3], DieFault::WrongLength),
+    (24576, &[3, 3], DieFault::BadMark { block: 3 }),
+    (24576, &[32, 32], DieFault::BadMark { block: 32 }),
+];
 
 #[test]
 fn images_that_are_refused(rt: HostRuntime) -> Result<(), Fail> {
     let alloc = rt.alloc();
-    for (count, bad, want) in [
-        (24575, [3, 9], DieFault::WrongLength),
-        (24577, [3, 3], DieFault::WrongLength),
-        (24576, [3, 3], DieFault::BadMark { block: 3 }),
-        (24576, [32, 32], DieFault::BadMark { block: 32 }),
-    ] {
-        let image = vec![in alloc; 0xFF; count]?;
-        let refused = Die::from_image(alloc, small(&rt), image.as_slice(), &bad);
-        assert_eq!(rt; refused.err(), Some(want));
+    for (count, bad, want) in &BAD_IMAGES {
+        let image = vec![in alloc; 0xFF; *count]?;
+        let refused = Die::from_image(alloc, small(&rt), image.as_slice(), bad).err();
+        assert_eq!(rt; refused, Some(*want), "{count} bytes, {bad:?}");
     }
-    Ok(())
-}
-
-#[test]
-fn columns_of_a_program(rt: HostRuntime) -> Result<(), Fail> {
-    let mut die = new_die(&rt, rt.alloc(), small(&rt), &[]);
-    command(&rt, &mut die, 0xFF);
-    open(&rt, &mut die, 0x80, &[1, 0, 8, 0, 0]);
-    data_in(&rt, &mut die, &[0x11; 2]);
-    open(&rt, &mut die, 0x85, &[0x40, 0]);
-    data_in(&rt, &mut die, &[0x22; 31]);
-    command(&rt, &mut die, 0x10);
-    assert_eq!(rt; take_status(&rt, &mut die), 0xE0);
-    let mut want = [0xFF; 96];
-    want[1..3].fill(0x11);
-    want[64..95].fill(0x22);
-    assert_eq!(rt; read(&rt, &mut die, 8), want);
-    open(&rt, &mut die, 0x80, &[0, 0, 9, 0, 0]);
-    command(&rt, &mut die, 0x10);
-    assert_eq!(rt; take_status(&rt, &mut die), 0xE0);
-    assert_eq!(rt; read(&rt, &mut die, 9), [0xFF; 96]);
-    assert_eq!(rt; program(&rt, &mut die, 10, &[0x11; 96]), 0xE0);
     Ok(())
 }

@@ -1,403 +1,638 @@
 //! Every cycle in every phase, against the rules of turns as a table of their own.
-use super::{
-    address_all, command, data_in, data_out, new_die, open, program, read, small, take_status,
-};
+use super::steps::{Cycle, Row, Step, send, walk, walk_rows};
+use super::{new_die, small};
 use nand_die::Die;
-use onfi_cycles::{Bus, BusFault};
+use onfi_cycles::BusFault;
+use std::alloc::Global;
 use std::process::Abort;
 
-#[derive(Clone, Copy, Debug)]
-enum Sent {
-    Command(u8),
-    Address(u8),
-    In(u8),
-    Out(u8),
-}
-
-fn send(die: &mut Die, cycle: Sent) -> Result<(), BusFault> {
-    match cycle {
-        Sent::Command(code) => die.command(code),
-        Sent::Address(byte) => die.address(byte),
-        Sent::In(count) => die.data_in(&[0x5A; 255][..count as usize]),
-        Sent::Out(count) => die.data_out(&mut [0; 255][..count as usize]),
-    }
-}
-
-// Where a die stands between two cycles.
-#[derive(Clone, Copy, Debug)]
-enum Phase {
-    Idle,
-    Page,
-    PageInPart,
-    PageAtColumn,
-    Status,
-    StatusAfterPage,
-    Name,
-    NameInPart,
-    Zeros,
-    Programmed,
-    Erased,
-    Refused,
-    // A command has come, and so many address cycles, but not the last.
-    Addressing { code: u8, sent: u8 },
-    ReadConfirm,
-    ColumnConfirm,
-    EraseConfirm,
-    Loading,
-    LoadingInPart,
-    LoadingAtColumn,
-}
-
-// A page that is put out, of row 0 from column 0 on.
-fn open_page(rt: &impl Abort, die: &mut Die) {
-    open(rt, die, 0x00, &[0; 5]);
-    command(rt, die, 0x30);
-}
-
-// From Reset to where a page or an identity is put out, or none is.
-fn reach_output(rt: &impl Abort, die: &mut Die, phase: Phase) {
-    match phase {
-        Phase::Page => open_page(rt, die),
-        Phase::PageInPart => {
-            open_page(rt, die);
-            data_out(rt, die, &mut [0]);
-        }
-        Phase::PageAtColumn => {
-            open_page(rt, die);
-            open(rt, die, 0x05, &[3, 0]);
-            command(rt, die, 0xE0);
-        }
-        Phase::Status => command(rt, die, 0x70),
-        Phase::StatusAfterPage => {
-            open_page(rt, die);
-            command(rt, die, 0x70);
-        }
-        Phase::Name => open(rt, die, 0x90, &[0x20]),
-        Phase::NameInPart => {
-            open(rt, die, 0x90, &[0x20]);
-            data_out(rt, die, &mut [0]);
-        }
-        Phase::Zeros => open(rt, die, 0x90, &[0x00]),
-        Phase::Refused => assert_eq!(rt; die.command(0x10), Err(BusFault::OutOfTurn)),
-        _ => {}
-    }
-}
-
-// From Reset to where a command is unfinished, or was confirmed.
-fn reach_command(rt: &impl Abort, die: &mut Die, phase: Phase) {
-    match phase {
-        Phase::ReadConfirm => open(rt, die, 0x00, &[0; 5]),
-        Phase::ColumnConfirm => {
-            open_page(rt, die);
-            open(rt, die, 0x05, &[3, 0]);
-        }
-        Phase::EraseConfirm => open(rt, die, 0x60, &[0; 3]),
-        Phase::Loading => open(rt, die, 0x80, &[0; 5]),
-        Phase::LoadingInPart => {
-            open(rt, die, 0x80, &[0; 5]);
-            data_in(rt, die, &[0x5A]);
-        }
-        Phase::LoadingAtColumn => {
-            open(rt, die, 0x80, &[0; 5]);
-            open(rt, die, 0x85, &[3, 0]);
-        }
-        Phase::Programmed => {
-            open(rt, die, 0x80, &[0; 5]);
-            command(rt, die, 0x10);
-        }
-        Phase::Erased => {
-            open(rt, die, 0x60, &[0; 3]);
-            command(rt, die, 0xD0);
-        }
-        _ => {}
-    }
-}
-
-fn reach(rt: &impl Abort, die: &mut Die, phase: Phase) {
-    command(rt, die, 0xFF);
-    match phase {
-        Phase::Addressing { code, sent } => {
-            if code == 0x05 {
-                open_page(rt, die);
-            }
-            if code == 0x85 {
-                open(rt, die, 0x80, &[0; 5]);
-            }
-            open(rt, die, code, &[]);
-            for _ in 0..sent {
-                address_all(rt, die, &[0]);
-            }
-        }
-        _ => {
-            reach_output(rt, die, phase);
-            reach_command(rt, die, phase);
-        }
-    }
-}
-
 // The codes that the table of commands has.
-fn is_known(code: u8) -> bool {
-    matches!(
-        code,
-        0x00 | 0x05 | 0x10 | 0x30 | 0x60 | 0x70 | 0x80 | 0x85 | 0x90 | 0xD0 | 0xE0 | 0xFF
-    )
+const KNOWN: &[u8] = &[
+    0x00, 0x05, 0x10, 0x30, 0x60, 0x70, 0x80, 0x85, 0x90, 0xD0, 0xE0, 0xFF,
+];
+
+// What is due: the codes beside Reset, and whether an address cycle, data in and data out are.
+struct Due {
+    codes: &'static [u8],
+    address: bool,
+    data_in: bool,
+    data_out: bool,
 }
 
-// The codes that are due, beside Reset.
-fn is_due(phase: Phase, code: u8) -> bool {
-    match phase {
-        Phase::Addressing { .. } => false,
-        Phase::ReadConfirm => code == 0x30,
-        Phase::ColumnConfirm => code == 0xE0,
-        Phase::EraseConfirm => code == 0xD0,
-        Phase::Loading | Phase::LoadingInPart | Phase::LoadingAtColumn => {
-            code == 0x10 || code == 0x85
-        }
-        Phase::Page | Phase::PageInPart | Phase::PageAtColumn => {
-            matches!(code, 0x00 | 0x05 | 0x60 | 0x70 | 0x80 | 0x90)
-        }
-        _ => matches!(code, 0x00 | 0x60 | 0x70 | 0x80 | 0x90),
+const ADDRESS: Due = Due {
+    codes: &[],
+    address: true,
+    data_in: false,
+    data_out: false,
+};
+
+const CONFIRM_READ: Due = Due {
+    codes: &[0x30],
+    address: false,
+    data_in: false,
+    data_out: false,
+};
+
+const CONFIRM_COLUMN: Due = Due {
+    codes: &[0xE0],
+    address: false,
+    data_in: false,
+    data_out: false,
+};
+
+const CONFIRM_ERASE: Due = Due {
+    codes: &[0xD0],
+    address: false,
+    data_in: false,
+    data_out: false,
+};
+
+const LOAD: Due = Due {
+    codes: &[0x10, 0x85],
+    address: false,
+    data_in: true,
+    data_out: false,
+};
+
+// A page is put out.
+const PAGE: Due = Due {
+    codes: &[0x00, 0x05, 0x60, 0x70, 0x80, 0x90],
+    address: false,
+    data_in: false,
+    data_out: true,
+};
+
+// The status or an identity is put out.
+const OUTPUT: Due = Due {
+    codes: &[0x00, 0x60, 0x70, 0x80, 0x90],
+    address: false,
+    data_in: false,
+    data_out: true,
+};
+
+const COMMAND: Due = Due {
+    codes: &[0x00, 0x60, 0x70, 0x80, 0x90],
+    address: false,
+    data_in: false,
+    data_out: false,
+};
+
+// Where a die stands between two cycles: the steps there from its Reset on, and what is due.
+struct Phase {
+    name: &'static str,
+    steps: &'static [Step],
+    due: &'static Due,
+}
+
+const RESET: Step = Step::Open(0xFF, &[]);
+
+// Row 0 from column 0 on, of a page read and of a program, and where the page is put out.
+const READ: Step = Step::Open(0x00, &[0; 5]);
+
+const PUT_OUT: Step = Step::Open(0x30, &[]);
+
+const PROGRAM: Step = Step::Open(0x80, &[0; 5]);
+
+// Block 0.
+const ERASE: Step = Step::Open(0x60, &[0; 3]);
+
+// A command has come, and some of its address cycles, but not the last.
+const ADDRESS_DUE: [Phase; 18] = [
+    Phase {
+        name: "00h with 0 address cycles",
+        steps: &[RESET, Step::Open(0x00, &[])],
+        due: &ADDRESS,
+    },
+    Phase {
+        name: "00h with 1 address cycle",
+        steps: &[RESET, Step::Open(0x00, &[0])],
+        due: &ADDRESS,
+    },
+    Phase {
+        name: "00h with 2 address cycles",
+        steps: &[RESET, Step::Open(0x00, &[0; 2])],
+        due: &ADDRESS,
+    },
+    Phase {
+        name: "00h with 3 address cycles",
+        steps: &[RESET, Step::Open(0x00, &[0; 3])],
+        due: &ADDRESS,
+    },
+    Phase {
+        name: "00h with 4 address cycles",
+        steps: &[RESET, Step::Open(0x00, &[0; 4])],
+        due: &ADDRESS,
+    },
+    Phase {
+        name: "80h with 0 address cycles",
+        steps: &[RESET, Step::Open(0x80, &[])],
+        due: &ADDRESS,
+    },
+    Phase {
+        name: "80h with 1 address cycle",
+        steps: &[RESET, Step::Open(0x80, &[0])],
+        due: &ADDRESS,
+    },
+    Phase {
+        name: "80h with 2 address cycles",
+        steps: &[RESET, Step::Open(0x80, &[0; 2])],
+        due: &ADDRESS,
+    },
+    Phase {
+        name: "80h with 3 address cycles",
+        steps: &[RESET, Step::Open(0x80, &[0; 3])],
+        due: &ADDRESS,
+    },
+    Phase {
+        name: "80h with 4 address cycles",
+        steps: &[RESET, Step::Open(0x80, &[0; 4])],
+        due: &ADDRESS,
+    },
+    Phase {
+        name: "60h with 0 address cycles",
+        steps: &[RESET, Step::Open(0x60, &[])],
+        due: &ADDRESS,
+    },
+    Phase {
+        name: "60h with 1 address cycle",
+        steps: &[RESET, Step::Open(0x60, &[0])],
+        due: &ADDRESS,
+    },
+    Phase {
+        name: "60h with 2 address cycles",
+        steps: &[RESET, Step::Open(0x60, &[0; 2])],
+        due: &ADDRESS,
+    },
+    Phase {
+        name: "90h with 0 address cycles",
+        steps: &[RESET, Step::Open(0x90, &[])],
+        due: &ADDRESS,
+    },
+    Phase {
+        name: "05h with 0 address cycles",
+        steps: &[RESET, READ, PUT_OUT, Step::Open(0x05, &[])],
+        due: &ADDRESS,
+    },
+    Phase {
+        name: "05h with 1 address cycle",
+        steps: &[RESET, READ, PUT_OUT, Step::Open(0x05, &[0])],
+        due: &ADDRESS,
+    },
+    Phase {
+        name: "85h with 0 address cycles",
+        steps: &[RESET, PROGRAM, Step::Open(0x85, &[])],
+        due: &ADDRESS,
+    },
+    Phase {
+        name: "85h with 1 address cycle",
+        steps: &[RESET, PROGRAM, Step::Open(0x85, &[0])],
+        due: &ADDRESS,
+    },
+];
+
+const NO_ADDRESS_DUE: &[Phase] = &[
+    Phase {
+        name: "idle",
+        steps: &[RESET],
+        due: &COMMAND,
+    },
+    Phase {
+        name: "a page",
+        steps: &[RESET, READ, PUT_OUT],
+        due: &PAGE,
+    },
+    Phase {
+        name: "a page, put out in part",
+        steps: &[RESET, READ, PUT_OUT, Step::Taken(Cycle::Out(1))],
+        due: &PAGE,
+    },
+    Phase {
+        name: "a page at a column",
+        steps: &[
+            RESET,
+            READ,
+            PUT_OUT,
+            Step::Open(0x05, &[3, 0]),
+            Step::Open(0xE0, &[]),
+        ],
+        due: &PAGE,
+    },
+    Phase {
+        name: "status",
+        steps: &[RESET, Step::Open(0x70, &[])],
+        due: &OUTPUT,
+    },
+    Phase {
+        name: "status after a page",
+        steps: &[RESET, READ, PUT_OUT, Step::Open(0x70, &[])],
+        due: &OUTPUT,
+    },
+    Phase {
+        name: "a name",
+        steps: &[RESET, Step::Open(0x90, &[0x20])],
+        due: &OUTPUT,
+    },
+    Phase {
+        name: "a name, put out in part",
+        steps: &[RESET, Step::Open(0x90, &[0x20]), Step::Taken(Cycle::Out(1))],
+        due: &OUTPUT,
+    },
+    Phase {
+        name: "zeros",
+        steps: &[RESET, Step::Open(0x90, &[0x00])],
+        due: &OUTPUT,
+    },
+    Phase {
+        name: "programmed",
+        steps: &[RESET, PROGRAM, Step::Open(0x10, &[])],
+        due: &COMMAND,
+    },
+    Phase {
+        name: "erased",
+        steps: &[RESET, ERASE, Step::Open(0xD0, &[])],
+        due: &COMMAND,
+    },
+    Phase {
+        name: "refused",
+        steps: &[
+            RESET,
+            Step::Refused(Cycle::Command(0x10), BusFault::OutOfTurn),
+        ],
+        due: &COMMAND,
+    },
+    Phase {
+        name: "a read to confirm",
+        steps: &[RESET, READ],
+        due: &CONFIRM_READ,
+    },
+    Phase {
+        name: "a column to confirm",
+        steps: &[RESET, READ, PUT_OUT, Step::Open(0x05, &[3, 0])],
+        due: &CONFIRM_COLUMN,
+    },
+    Phase {
+        name: "an erase to confirm",
+        steps: &[RESET, ERASE],
+        due: &CONFIRM_ERASE,
+    },
+    Phase {
+        name: "loading",
+        steps: &[RESET, PROGRAM],
+        due: &LOAD,
+    },
+    Phase {
+        name: "loading, in part",
+        steps: &[RESET, PROGRAM, Step::Taken(Cycle::In(&[0x5A]))],
+        due: &LOAD,
+    },
+    Phase {
+        name: "loading at a column",
+        steps: &[RESET, PROGRAM, Step::Open(0x85, &[3, 0])],
+        due: &LOAD,
+    },
+];
+
+// What a code is answered.
+fn answer(due: &Due, code: u8) -> Result<(), BusFault> {
+    if code == 0xFF || due.codes.contains(&code) {
+        Ok(())
+    } else if KNOWN.contains(&code) {
+        Err(BusFault::OutOfTurn)
+    } else {
+        Err(BusFault::UnknownCommand)
     }
 }
 
-fn takes_address(phase: Phase) -> bool {
-    matches!(phase, Phase::Addressing { .. })
-}
-
-fn takes_data(phase: Phase) -> bool {
-    matches!(
-        phase,
-        Phase::Loading | Phase::LoadingInPart | Phase::LoadingAtColumn
-    )
-}
-
-fn puts_out(phase: Phase) -> bool {
-    match phase {
-        Phase::Page | Phase::PageInPart | Phase::PageAtColumn => true,
-        Phase::Status | Phase::StatusAfterPage => true,
-        Phase::Name | Phase::NameInPart | Phase::Zeros => true,
-        _ => false,
+fn in_turn(due: bool) -> Result<(), BusFault> {
+    if due {
+        Ok(())
+    } else {
+        Err(BusFault::OutOfTurn)
     }
 }
 
-// One cycle in a phase; after a fault the die is idle.
-fn check(rt: &impl Abort, die: &mut Die, phase: Phase, cycle: Sent, want: Result<(), BusFault>) {
-    reach(rt, die, phase);
-    assert_eq!(rt; send(die, cycle), want, "{cycle:?} in {phase:?}");
+// One cycle, held to its answer.
+fn expect(rt: &impl Abort, die: &mut Die, cycle: Cycle, want: Result<(), BusFault>, name: &str) {
+    assert_eq!(rt; send(die, cycle), want, "{cycle:?}: {name}");
+}
+
+// After a fault a die is idle.
+const AFTER_A_FAULT: &[Step] = &[
+    Step::Refused(Cycle::Out(1), BusFault::OutOfTurn),
+    Step::Refused(Cycle::Command(0x05), BusFault::OutOfTurn),
+    Step::Taken(Cycle::Command(0x70)),
+];
+
+// One cycle after these steps.
+fn check(
+    rt: &impl Abort,
+    alloc: Global,
+    die: &mut Die,
+    name: &str,
+    steps: &[Step],
+    cycle: Cycle,
+    want: Result<(), BusFault>,
+) {
+    walk(rt, alloc, die, name, steps);
+    expect(rt, die, cycle, want, name);
     if want.is_err() {
-        assert_eq!(rt; send(die, Sent::Out(1)), Err(BusFault::OutOfTurn));
-        assert_eq!(rt; send(die, Sent::Command(0x05)), Err(BusFault::OutOfTurn));
-        assert_eq!(rt; send(die, Sent::Command(0x70)), Ok(()));
+        walk(rt, alloc, die, name, AFTER_A_FAULT);
     }
 }
 
-fn check_phase(rt: &impl Abort, die: &mut Die, phase: Phase) {
-    for code in 0..256u16 {
-        let code = code as u8;
-        let want = if code == 0xFF || is_due(phase, code) {
-            Ok(())
-        } else if is_known(code) {
-            Err(BusFault::OutOfTurn)
-        } else {
-            Err(BusFault::UnknownCommand)
-        };
-        check(rt, die, phase, Sent::Command(code), want);
+fn check_codes(rt: &impl Abort, alloc: Global, die: &mut Die, phase: &Phase) {
+    for code in 0..=255 {
+        let want = answer(phase.due, code);
+        check(
+            rt,
+            alloc,
+            die,
+            phase.name,
+            phase.steps,
+            Cycle::Command(code),
+            want,
+        );
     }
+}
+
+fn check_data(rt: &impl Abort, alloc: Global, die: &mut Die, phase: &Phase) {
     for (cycle, due) in [
-        (Sent::Address(0), takes_address(phase)),
-        (Sent::In(1), takes_data(phase)),
-        (Sent::Out(1), puts_out(phase)),
+        (Cycle::Address(0), phase.due.address),
+        (Cycle::In(&[0x5A]), phase.due.data_in),
+        (Cycle::Out(1), phase.due.data_out),
     ] {
-        let want = if due {
-            Ok(())
-        } else {
-            Err(BusFault::OutOfTurn)
-        };
-        check(rt, die, phase, cycle, want);
+        check(rt, alloc, die, phase.name, phase.steps, cycle, in_turn(due));
     }
 }
 
-#[test]
-fn nothing_but_reset_on_a_new_die(rt: HostRuntime) {
-    let mut die = new_die(&rt, rt.alloc(), small(&rt), &[]);
-    for code in 0..255u16 {
-        let code = code as u8;
-        assert_eq!(rt; die.command(code), Err(BusFault::NoReset), "{code:02X}");
+fn check_phases(rt: &impl Abort, alloc: Global, phases: &[Phase]) {
+    let mut die = new_die(rt, alloc, small(rt), &[]);
+    for phase in phases {
+        check_codes(rt, alloc, &mut die, phase);
+        check_data(rt, alloc, &mut die, phase);
     }
-    for cycle in [Sent::Address(0), Sent::In(1), Sent::Out(1)] {
-        assert_eq!(rt; send(&mut die, cycle), Err(BusFault::NoReset), "{cycle:?}");
-    }
-    command(&rt, &mut die, 0xFF);
-    assert_eq!(rt; take_status(&rt, &mut die), 0xE0);
 }
 
 #[test]
 fn while_an_address_is_due(rt: HostRuntime) {
-    let mut die = new_die(&rt, rt.alloc(), small(&rt), &[]);
-    for (code, cycles) in [
-        (0x00, 5u8),
-        (0x80, 5),
-        (0x60, 3),
-        (0x90, 1),
-        (0x05, 2),
-        (0x85, 2),
-    ] {
-        for sent in 0..cycles {
-            check_phase(&rt, &mut die, Phase::Addressing { code, sent });
-        }
-    }
+    check_phases(&rt, rt.alloc(), &ADDRESS_DUE);
 }
 
 #[test]
 fn while_no_address_is_due(rt: HostRuntime) {
+    check_phases(&rt, rt.alloc(), NO_ADDRESS_DUE);
+}
+
+// A new die, which takes Reset alone.
+const NEW: &[Step] = &[
+    Step::Refused(Cycle::Address(0), BusFault::NoReset),
+    Step::Refused(Cycle::In(&[0x5A]), BusFault::NoReset),
+    Step::Refused(Cycle::Out(1), BusFault::NoReset),
+    RESET,
+    Step::Status(0xE0),
+];
+
+#[test]
+fn nothing_but_reset_on_a_new_die(rt: HostRuntime) {
     let mut die = new_die(&rt, rt.alloc(), small(&rt), &[]);
-    for phase in [
-        Phase::Idle,
-        Phase::Page,
-        Phase::PageInPart,
-        Phase::PageAtColumn,
-        Phase::Status,
-        Phase::StatusAfterPage,
-        Phase::Name,
-        Phase::NameInPart,
-        Phase::Zeros,
-        Phase::Programmed,
-        Phase::Erased,
-        Phase::Refused,
-        Phase::ReadConfirm,
-        Phase::ColumnConfirm,
-        Phase::EraseConfirm,
-        Phase::Loading,
-        Phase::LoadingInPart,
-        Phase::LoadingAtColumn,
-    ] {
-        check_phase(&rt, &mut die, phase);
+    for code in 0..255 {
+        expect(
+            &rt,
+            &mut die,
+            Cycle::Command(code),
+            Err(BusFault::NoReset),
+            "a new die",
+        );
+    }
+    walk(&rt, rt.alloc(), &mut die, "a new die", NEW);
+}
+
+// Address cycles, all taken but the last, and what the last is answered.
+type LastAddress = (&'static [u8], u8, Result<(), BusFault>);
+
+const COLUMNS: [LastAddress; 4] = [
+    (&[0x5F], 0, Ok(())),
+    (&[0x60], 0, Err(BusFault::ColumnRange)),
+    (&[0], 1, Err(BusFault::ColumnRange)),
+    (&[0xFF], 0xFF, Err(BusFault::ColumnRange)),
+];
+
+const ROWS: [LastAddress; 4] = [
+    (&[0xFF, 0], 0, Ok(())),
+    (&[0, 1], 0, Err(BusFault::AddressRange)),
+    (&[0, 0], 1, Err(BusFault::AddressRange)),
+    (&[0xFF, 0xFF], 0xFF, Err(BusFault::AddressRange)),
+];
+
+// Where the address cycles stand, and these.
+const LAST_ADDRESSES: [(&str, &[Step], &[LastAddress]); 7] = [
+    ("a column of 00h", &[RESET, Step::Open(0x00, &[])], &COLUMNS),
+    ("a column of 80h", &[RESET, Step::Open(0x80, &[])], &COLUMNS),
+    (
+        "a column of 05h",
+        &[RESET, READ, PUT_OUT, Step::Open(0x05, &[])],
+        &COLUMNS,
+    ),
+    (
+        "a column of 85h",
+        &[RESET, PROGRAM, Step::Open(0x85, &[])],
+        &COLUMNS,
+    ),
+    ("a row of 00h", &[RESET, Step::Open(0x00, &[0; 2])], &ROWS),
+    ("a row of 80h", &[RESET, Step::Open(0x80, &[0; 2])], &ROWS),
+    ("a row of 60h", &[RESET, Step::Open(0x60, &[])], &ROWS),
+];
+
+fn check_last(
+    rt: &impl Abort,
+    alloc: Global,
+    die: &mut Die,
+    name: &str,
+    steps: &[Step],
+    addresses: &[LastAddress],
+) {
+    for (before, last, want) in addresses {
+        walk(rt, alloc, die, name, steps);
+        take_addresses(rt, die, before, name);
+        expect(rt, die, Cycle::Address(*last), *want, name);
+    }
+}
+
+fn take_addresses(rt: &impl Abort, die: &mut Die, addresses: &[u8], name: &str) {
+    for byte in addresses {
+        expect(rt, die, Cycle::Address(*byte), Ok(()), name);
     }
 }
 
 #[test]
-fn columns_at_the_end(rt: HostRuntime) {
+fn columns_and_rows_at_the_end(rt: HostRuntime) {
     let mut die = new_die(&rt, rt.alloc(), small(&rt), &[]);
-    for code in [0x00, 0x80, 0x05, 0x85] {
-        for (low, high, want) in [
-            (0x5F, 0, Ok(())),
-            (0x60, 0, Err(BusFault::ColumnRange)),
-            (0, 1, Err(BusFault::ColumnRange)),
-            (0xFF, 0xFF, Err(BusFault::ColumnRange)),
-        ] {
-            reach(&rt, &mut die, Phase::Addressing { code, sent: 0 });
-            assert_eq!(rt; die.address(low), Ok(()), "{code:02X} {low}");
-            assert_eq!(rt; die.address(high), want, "{code:02X} {low} {high}");
-        }
+    for (name, steps, addresses) in &LAST_ADDRESSES {
+        check_last(&rt, rt.alloc(), &mut die, name, steps, addresses);
     }
 }
 
-#[test]
-fn rows_at_the_end(rt: HostRuntime) {
-    let mut die = new_die(&rt, rt.alloc(), small(&rt), &[]);
-    for (code, sent) in [(0x00, 2), (0x80, 2), (0x60, 0)] {
-        for (low, middle, high, want) in [
-            (0xFF, 0, 0, Ok(())),
-            (0, 1, 0, Err(BusFault::AddressRange)),
-            (0, 0, 1, Err(BusFault::AddressRange)),
-            (0xFF, 0xFF, 0xFF, Err(BusFault::AddressRange)),
-        ] {
-            reach(&rt, &mut die, Phase::Addressing { code, sent });
-            assert_eq!(rt; die.address(low), Ok(()), "{code:02X} {low}");
-            assert_eq!(rt; die.address(middle), Ok(()), "{code:02X} {low} {middle}");
-            assert_eq!(rt; die.address(high), want, "{code:02X} {low} {middle} {high}");
-        }
-    }
-}
+const READ_ID: &[Step] = &[RESET, Step::Open(0x90, &[])];
 
 #[test]
 fn addresses_of_a_name(rt: HostRuntime) {
     let mut die = new_die(&rt, rt.alloc(), small(&rt), &[]);
-    for byte in 0..256u16 {
-        let byte = byte as u8;
+    for byte in 0..=255 {
         let want = if byte == 0x00 || byte == 0x20 {
             Ok(())
         } else {
             Err(BusFault::AddressRange)
         };
-        let phase = Phase::Addressing {
-            code: 0x90,
-            sent: 0,
-        };
-        check(&rt, &mut die, phase, Sent::Address(byte), want);
+        check(
+            &rt,
+            rt.alloc(),
+            &mut die,
+            "Read ID",
+            READ_ID,
+            Cycle::Address(byte),
+            want,
+        );
     }
 }
+
+const DATA_AT_THE_END: [Row; 13] = [
+    Row {
+        name: "bytes in: 0 and then 96",
+        marks: &[],
+        steps: &[
+            RESET,
+            PROGRAM,
+            Step::Taken(Cycle::In(&[])),
+            Step::Taken(Cycle::In(&[0x5A; 96])),
+        ],
+    },
+    Row {
+        name: "bytes in: 96 and then 0",
+        marks: &[],
+        steps: &[
+            RESET,
+            PROGRAM,
+            Step::Taken(Cycle::In(&[0x5A; 96])),
+            Step::Taken(Cycle::In(&[])),
+        ],
+    },
+    Row {
+        name: "bytes of a page: 0 and then 96",
+        marks: &[],
+        steps: &[
+            RESET,
+            READ,
+            PUT_OUT,
+            Step::Taken(Cycle::Out(0)),
+            Step::Taken(Cycle::Out(96)),
+        ],
+    },
+    Row {
+        name: "bytes of a page: 96 and then 0",
+        marks: &[],
+        steps: &[
+            RESET,
+            READ,
+            PUT_OUT,
+            Step::Taken(Cycle::Out(96)),
+            Step::Taken(Cycle::Out(0)),
+        ],
+    },
+    Row {
+        name: "bytes of a name: 1 and then 3",
+        marks: &[],
+        steps: &[
+            RESET,
+            Step::Open(0x90, &[0x20]),
+            Step::Taken(Cycle::Out(1)),
+            Step::Taken(Cycle::Out(3)),
+        ],
+    },
+    Row {
+        name: "bytes of zeros: 2 and then 0",
+        marks: &[],
+        steps: &[
+            RESET,
+            Step::Open(0x90, &[0x00]),
+            Step::Taken(Cycle::Out(2)),
+            Step::Taken(Cycle::Out(0)),
+        ],
+    },
+    Row {
+        name: "bytes of status: 255 and then 255",
+        marks: &[],
+        steps: &[
+            RESET,
+            Step::Open(0x70, &[]),
+            Step::Taken(Cycle::Out(255)),
+            Step::Taken(Cycle::Out(255)),
+        ],
+    },
+    Row {
+        name: "bytes in: 0 and then 97",
+        marks: &[],
+        steps: &[
+            RESET,
+            PROGRAM,
+            Step::Taken(Cycle::In(&[])),
+            Step::Refused(Cycle::In(&[0x5A; 97]), BusFault::ColumnRange),
+        ],
+    },
+    Row {
+        name: "bytes in: 96 and then 1",
+        marks: &[],
+        steps: &[
+            RESET,
+            PROGRAM,
+            Step::Taken(Cycle::In(&[0x5A; 96])),
+            Step::Refused(Cycle::In(&[0x5A]), BusFault::ColumnRange),
+        ],
+    },
+    Row {
+        name: "bytes of a page: 0 and then 97",
+        marks: &[],
+        steps: &[
+            RESET,
+            READ,
+            PUT_OUT,
+            Step::Taken(Cycle::Out(0)),
+            Step::Refused(Cycle::Out(97), BusFault::ColumnRange),
+        ],
+    },
+    Row {
+        name: "bytes of a page: 96 and then 1",
+        marks: &[],
+        steps: &[
+            RESET,
+            READ,
+            PUT_OUT,
+            Step::Taken(Cycle::Out(96)),
+            Step::Refused(Cycle::Out(1), BusFault::ColumnRange),
+        ],
+    },
+    Row {
+        name: "bytes of a name: 1 and then 4",
+        marks: &[],
+        steps: &[
+            RESET,
+            Step::Open(0x90, &[0x20]),
+            Step::Taken(Cycle::Out(1)),
+            Step::Refused(Cycle::Out(4), BusFault::ColumnRange),
+        ],
+    },
+    Row {
+        name: "bytes of zeros: 2 and then 1",
+        marks: &[],
+        steps: &[
+            RESET,
+            Step::Open(0x90, &[0x00]),
+            Step::Taken(Cycle::Out(2)),
+            Step::Refused(Cycle::Out(1), BusFault::ColumnRange),
+        ],
+    },
+];
 
 #[test]
 fn data_at_the_end(rt: HostRuntime) {
-    let mut die = new_die(&rt, rt.alloc(), small(&rt), &[]);
-    for (phase, first, second, want) in [
-        (Phase::Loading, Sent::In(0), Sent::In(96), Ok(())),
-        (Phase::Loading, Sent::In(96), Sent::In(0), Ok(())),
-        (Phase::Page, Sent::Out(0), Sent::Out(96), Ok(())),
-        (Phase::Page, Sent::Out(96), Sent::Out(0), Ok(())),
-        (Phase::Name, Sent::Out(1), Sent::Out(3), Ok(())),
-        (Phase::Zeros, Sent::Out(2), Sent::Out(0), Ok(())),
-        (Phase::Status, Sent::Out(255), Sent::Out(255), Ok(())),
-        (
-            Phase::Loading,
-            Sent::In(0),
-            Sent::In(97),
-            Err(BusFault::ColumnRange),
-        ),
-        (
-            Phase::Loading,
-            Sent::In(96),
-            Sent::In(1),
-            Err(BusFault::ColumnRange),
-        ),
-        (
-            Phase::Page,
-            Sent::Out(0),
-            Sent::Out(97),
-            Err(BusFault::ColumnRange),
-        ),
-        (
-            Phase::Page,
-            Sent::Out(96),
-            Sent::Out(1),
-            Err(BusFault::ColumnRange),
-        ),
-        (
-            Phase::Name,
-            Sent::Out(1),
-            Sent::Out(4),
-            Err(BusFault::ColumnRange),
-        ),
-        (
-            Phase::Zeros,
-            Sent::Out(2),
-            Sent::Out(1),
-            Err(BusFault::ColumnRange),
-        ),
-    ] {
-        reach(&rt, &mut die, phase);
-        assert_eq!(rt; send(&mut die, first), Ok(()), "{first:?} in {phase:?}");
-        assert_eq!(rt; send(&mut die, second), want, "{second:?} after {first:?}");
-    }
-}
-
-#[test]
-fn a_refusal_leaves_page_and_status(rt: HostRuntime) {
-    let mut die = new_die(&rt, rt.alloc(), small(&rt), &[]);
-    command(&rt, &mut die, 0xFF);
-    assert_eq!(rt; program(&rt, &mut die, 8, &[0x11; 96]), 0xE0);
-    assert_eq!(rt; program(&rt, &mut die, 8, &[0x22; 96]), 0xE1);
-    for cycle in [
-        Sent::Command(0x17),
-        Sent::Command(0x10),
-        Sent::Address(0),
-        Sent::In(1),
-    ] {
-        assert!(rt; send(&mut die, cycle).is_err(), "{cycle:?}");
-        assert_eq!(rt; take_status(&rt, &mut die), 0xE1);
-    }
-    assert_eq!(rt; read(&rt, &mut die, 8), [0x11; 96]);
-    command(&rt, &mut die, 0xFF);
-    assert_eq!(rt; take_status(&rt, &mut die), 0xE0);
+    walk_rows(&rt, rt.alloc(), &DATA_AT_THE_END);
 }

@@ -1,153 +1,129 @@
 // Programs that fail.
-use super::bench::Call::{Read, Trim, Write};
-use super::bench::{Case, fresh, run_case, sector_at};
-use super::recorder::Operation;
+use super::calls::Call::{Read, Trim, Write};
+use super::cases::Step::{Done, Refused};
+use super::cases::{Case, QUIET, hold_cases};
+use super::pages::PageAt;
+use super::recorder::Operation::{Program, Programs, Read as ReadPage};
 use ftl_device::DeviceFault;
-use std::alloc::{AllocError, Global};
 use std::test::Fail;
 
-// The numbers from 1 to 31, for the first programs after the format.
-const FIRST: [u16; 31] = [
+// The first programs after the format.
+const FIRST_27: [u16; 27] = [
+    1, 2, 3, 4, 5, 6, 7, 8, 9, 10, 11, 12, 13, 14, 15, 16, 17, 18, 19, 20, 21, 22, 23, 24, 25, 26,
+    27,
+];
+
+const FIRST_31: [u16; 31] = [
     1, 2, 3, 4, 5, 6, 7, 8, 9, 10, 11, 12, 13, 14, 15, 16, 17, 18, 19, 20, 21, 22, 23, 24, 25, 26,
     27, 28, 29, 30, 31,
 ];
 
-// The same numbers, for the blocks that they then leave bad.
-const BLOCKS: [u32; 31] = [
-    1, 2, 3, 4, 5, 6, 7, 8, 9, 10, 11, 12, 13, 14, 15, 16, 17, 18, 19, 20, 21, 22, 23, 24, 25, 26,
-    27, 28, 29, 30, 31,
-];
+// Read-only with so many good blocks, of which so many failed in the call.
+const FIVE_LEFT: DeviceFault = DeviceFault::ReadOnly {
+    good: 5,
+    need: 17,
+    failed: 0,
+};
 
-// A program of the first page of each block from 1 on, so many of them, all of which failed, and
-// these operations after them.
-fn failures_then(
-    alloc: Global,
-    blocks: u8,
-    then: &[Operation],
-) -> Result<Vec<Operation>, AllocError> {
-    let mut operations = Vec::new(alloc);
-    for block in 0..blocks {
-        operations.push(Operation::Program((block % 31) * 8 + 8, 0xE1))?;
-    }
-    operations.extend_from_slice(then)?;
-    Ok(operations)
-}
+const ONE_LEFT: DeviceFault = DeviceFault::ReadOnly {
+    good: 1,
+    need: 17,
+    failed: 0,
+};
+
+const ONE_LEFT_OF_32: DeviceFault = DeviceFault::ReadOnly {
+    good: 1,
+    need: 17,
+    failed: 31,
+};
 
 // A sector is tried in the next block with the next sequence after each failure, which leaves its
 // block bad.
-#[test]
-fn failed_program_is_tried_elsewhere(rt: HostRuntime) -> Result<(), Fail> {
-    let device = fresh(rt.alloc(), &FIRST[..1], 4)?;
-    let case = Case {
-        calls: &[(&[Write(5, 0x77), Read(5, 0x77), Read(6, 0)], Ok(()))],
-        bad: &BLOCKS[..1],
+const TRIED_ELSEWHERE: [Case; 3] = [
+    Case {
+        name: "one failed program",
+        failing: &[1],
+        steps: &[Done(&[Write(5, 0x77), Read(5, 0x77), Read(6, 0)])],
+        bad: 1,
         free: 29,
-        read_only: false,
         cached: &[5, 6],
-        operations: &[
-            Operation::Program(8, 0xE1),
-            Operation::Program(16, 0xE0),
-            Operation::Read(16),
-        ],
-        pages: &[sector_at(16, 5, 4, 0x77)],
-    };
-    run_case(&rt, rt.alloc(), device, &case)?;
-    Ok(())
-}
-
-#[test]
-fn two_failed_programs_are_tried_elsewhere(rt: HostRuntime) -> Result<(), Fail> {
-    let device = fresh(rt.alloc(), &FIRST[..2], 4)?;
-    let case = Case {
-        calls: &[(&[Write(5, 0x77), Read(5, 0x77)], Ok(()))],
-        bad: &BLOCKS[..2],
+        operations: &[Program(8, 0xE1), Program(16, 0xE0), ReadPage(16)],
+        pages: &[PageAt::Sector(16, 5, 4, 0x77)],
+        ..QUIET
+    },
+    Case {
+        name: "two failed programs",
+        failing: &[1, 2],
+        steps: &[Done(&[Write(5, 0x77), Read(5, 0x77)])],
+        bad: 2,
         free: 28,
-        read_only: false,
         cached: &[5],
         operations: &[
-            Operation::Program(8, 0xE1),
-            Operation::Program(16, 0xE1),
-            Operation::Program(24, 0xE0),
-            Operation::Read(24),
+            Program(8, 0xE1),
+            Program(16, 0xE1),
+            Program(24, 0xE0),
+            ReadPage(24),
         ],
-        pages: &[sector_at(24, 5, 5, 0x77)],
-    };
-    run_case(&rt, rt.alloc(), device, &case)?;
-    Ok(())
-}
-
-#[test]
-fn three_failed_programs_are_tried_elsewhere(rt: HostRuntime) -> Result<(), Fail> {
-    let device = fresh(rt.alloc(), &FIRST[..3], 4)?;
-    let case = Case {
-        calls: &[(&[Write(5, 0x77), Read(5, 0x77)], Ok(()))],
-        bad: &BLOCKS[..3],
+        pages: &[PageAt::Sector(24, 5, 5, 0x77)],
+        ..QUIET
+    },
+    Case {
+        name: "three failed programs",
+        failing: &[1, 2, 3],
+        steps: &[Done(&[Write(5, 0x77), Read(5, 0x77)])],
+        bad: 3,
         free: 27,
-        read_only: false,
         cached: &[5],
         operations: &[
-            Operation::Program(8, 0xE1),
-            Operation::Program(16, 0xE1),
-            Operation::Program(24, 0xE1),
-            Operation::Program(32, 0xE0),
-            Operation::Read(32),
+            Program(8, 0xE1),
+            Program(16, 0xE1),
+            Program(24, 0xE1),
+            Program(32, 0xE0),
+            ReadPage(32),
         ],
-        pages: &[sector_at(32, 5, 6, 0x77)],
-    };
-    run_case(&rt, rt.alloc(), device, &case)?;
-    Ok(())
-}
+        pages: &[PageAt::Sector(32, 5, 6, 0x77)],
+        ..QUIET
+    },
+];
 
-// A device that is read-only with so many good blocks, of which so many failed in the call.
-fn refused(good: u32, failed: u32) -> Result<(), DeviceFault> {
-    Err(DeviceFault::ReadOnly {
-        good,
-        need: 17,
-        failed,
-    })
-}
-
-// Three blocks are left, so the next write is refused, and asks the die for nothing.
-#[test]
-fn few_blocks_are_left(rt: HostRuntime) -> Result<(), Fail> {
-    let device = fresh(rt.alloc(), &FIRST[..27], 4)?;
-    let then = [Operation::Program(224, 0xE0), Operation::Read(224)];
-    let operations = failures_then(rt.alloc(), 27, &then)?;
-    let case = Case {
-        calls: &[
-            (&[Write(5, 0x77)], Ok(())),
-            (&[Write(5, 0x78), Trim(5)], refused(5, 0)),
-            (&[Read(5, 0x77), Read(6, 0)], Ok(())),
+const FEW_BLOCKS: [Case; 2] = [
+    // Three blocks are left, so the next write is refused, and asks the die for nothing.
+    Case {
+        name: "few blocks are left",
+        failing: &FIRST_27,
+        steps: &[
+            Done(&[Write(5, 0x77)]),
+            Refused(FIVE_LEFT, &[Write(5, 0x78), Trim(5)]),
+            Done(&[Read(5, 0x77), Read(6, 0)]),
         ],
-        bad: &BLOCKS[..27],
+        bad: 27,
         free: 3,
         read_only: true,
         cached: &[5, 6],
-        operations: operations.as_slice(),
-        pages: &[sector_at(224, 5, 30, 0x77)],
-    };
-    run_case(&rt, rt.alloc(), device, &case)?;
-    Ok(())
-}
-
-// No block is left to try the sector in.
-#[test]
-fn no_block_is_left(rt: HostRuntime) -> Result<(), Fail> {
-    let device = fresh(rt.alloc(), &FIRST, 4)?;
-    let operations = failures_then(rt.alloc(), 31, &[])?;
-    let case = Case {
-        calls: &[
-            (&[Write(5, 0x77)], refused(1, 31)),
-            (&[Read(5, 0)], Ok(())),
-            (&[Write(5, 0x77), Trim(6)], refused(1, 0)),
+        operations: &[Programs(8, 8, 27, 0xE1), Program(224, 0xE0), ReadPage(224)],
+        pages: &[PageAt::Sector(224, 5, 30, 0x77)],
+        ..QUIET
+    },
+    // No block is left to try the sector in.
+    Case {
+        name: "no block is left",
+        failing: &FIRST_31,
+        steps: &[
+            Refused(ONE_LEFT_OF_32, &[Write(5, 0x77)]),
+            Done(&[Read(5, 0)]),
+            Refused(ONE_LEFT, &[Write(5, 0x77), Trim(6)]),
         ],
-        bad: &BLOCKS,
+        bad: 31,
         free: 0,
         read_only: true,
         cached: &[5],
-        operations: operations.as_slice(),
-        pages: &[],
-    };
-    run_case(&rt, rt.alloc(), device, &case)?;
-    Ok(())
+        operations: &[Programs(8, 8, 31, 0xE1)],
+        ..QUIET
+    },
+];
+
+#[test]
+fn failed_programs_are_tried_elsewhere(rt: HostRuntime) -> Result<(), Fail> {
+    hold_cases(&rt, rt.alloc(), &TRIED_ELSEWHERE)?;
+    hold_cases(&rt, rt.alloc(), &FEW_BLOCKS)
 }

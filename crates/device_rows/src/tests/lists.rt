@@ -1,69 +1,184 @@
 // Lists of commands, told from an accepted certificate on.
-use super::bench::formatted;
+ghost use Rattle.std.specs.Prelude.{◌≡◌, IfOk};
+ghost use Rattle.certificate.specs.Claim.{sizes_of};
+ghost use Rattle.ftl_device.specs.Run.{IsWhole, AreWhole};
+
+use super::bench::{checked, formatted_die, mounted, small};
 use ftl_device::{Call, Command, Device, DeviceFault};
-use image_check::check;
-use mount::mount;
+use image_check::Accepted;
+use onfi_cycles::Nand;
 use page_layout::geometry::Geometry;
 use std::alloc::Global;
 use std::process::Abort;
 use std::test::Fail;
 
-// Each call has the answer that is wanted, and the bytes of a data area that are all this one.
-fn assert_told(rt: &impl Abort, call: &Call<'_>, want: Result<(), DeviceFault>, byte: u8) {
-    assert_eq!(rt; call.reply, Some(want));
-    assert!(rt; call.bytes.iter().all(|b| *b == byte));
+const BODY: [u8; 64] = [0x11; 64];
+
+const COMMANDS: [Command; 6] = [
+    Command::Write {
+        sector: 5,
+        body: &BODY,
+    },
+    Command::Read { sector: 5 },
+    Command::Trim { sector: 5 },
+    Command::Read { sector: 5 },
+    Command::Write {
+        sector: 32,
+        body: &BODY,
+    },
+    Command::Read { sector: 31 },
+];
+
+// A command of a list, which was not told yet.
+fn call_of(
+    rt: &impl Abort,
+    alloc: Global,
+    geometry: &Geometry,
+    command: Command<'static>,
+) -> Result<Call<'static>, Fail>
+    ensures { IfOk result (IsWhole geometry.now) }
+{
+    match command {
+        Command::Read { sector } => Ok(Call::new(alloc, geometry, Command::Read { sector })?),
+        Command::Trim { sector } => Ok(Call::new(alloc, geometry, Command::Trim { sector })?),
+        Command::Write { sector, body } => {
+            assert!(rt; geometry.data_bytes() == body.len());
+            Ok(Call::new(alloc, geometry, Command::Write { sector, body })?)
+        }
+    }
 }
 
-// A list of six on a formatted die, of which these programs fail.
-fn tell_six(rt: &impl Abort, alloc: Global, failing: &[u16]) -> Result<(), Fail> {
-    let geometry = Geometry::new(64, 32, 8, 32, 32)?;
-    assert!(rt; geometry.data_bytes() == 64);
-    let body = [0x11; 64];
-    let mut calls = [
-        Call::new(
-            alloc,
-            &geometry,
-            Command::Write {
-                sector: 5,
-                body: &body,
-            },
-        )?,
-        Call::new(alloc, &geometry, Command::Read { sector: 5 })?,
-        Call::new(alloc, &geometry, Command::Trim { sector: 5 })?,
-        Call::new(alloc, &geometry, Command::Read { sector: 5 })?,
-        Call::new(
-            alloc,
-            &geometry,
-            Command::Write {
-                sector: 32,
-                body: &body,
-            },
-        )?,
-        Call::new(alloc, &geometry, Command::Read { sector: 31 })?,
-    ];
-    let mut driver = formatted(alloc, geometry, failing, 0)?;
-    let certificate = mount(alloc, &mut driver, &geometry, 4)?;
-    let accepted = check(alloc, &mut driver, &geometry, 4, &certificate)?;
-    match Device::run_accepted(alloc, driver, accepted, &mut calls) {
-        Ok(device) => assert!(rt; !device.read_only()),
+// The list of the six.
+fn list_of_six(
+    rt: &impl Abort,
+    alloc: Global,
+    geometry: &Geometry,
+) -> Result<Vec<Call<'static>>, Fail>
+    ensures { IfOk result (λ calls. AreWhole geometry.now calls.items) }
+{
+    let mut calls = Vec::new(alloc);
+    for command in &COMMANDS {
+        calls.push(call_of(rt, alloc, geometry, *command)?)?;
+    }
+    Ok(calls)
+}
+
+const ELEVENS: [u8; 64] = [0x11; 64];
+
+const ZEROS: [u8; 64] = [0x00; 64];
+
+// What a command is answered, and the bytes that it has then.
+struct Told {
+    name: &'static str,
+    answer: Result<(), DeviceFault>,
+    bytes: &'static [u8],
+}
+
+const TOLD: &[Told] = &[
+    Told {
+        name: "write",
+        answer: Ok(()),
+        bytes: &[],
+    },
+    Told {
+        name: "read",
+        answer: Ok(()),
+        bytes: &ELEVENS,
+    },
+    Told {
+        name: "trim",
+        answer: Ok(()),
+        bytes: &[],
+    },
+    Told {
+        name: "read after the trim",
+        answer: Ok(()),
+        bytes: &ZEROS,
+    },
+    Told {
+        name: "write of no sector",
+        answer: Err(DeviceFault::OutOfRange),
+        bytes: &[],
+    },
+    Told {
+        name: "read of another",
+        answer: Ok(()),
+        bytes: &ZEROS,
+    },
+];
+
+// A device isn't read-only.
+fn hold_writable<N: Nand>(rt: &impl Abort, device: &Device<N>) {
+    assert!(rt; !device.read_only());
+}
+
+// Tells a list to a device on a die that was accepted.
+fn tell_accepted<N: Nand + Drop>(
+    rt: &impl Abort,
+    alloc: Global,
+    nand: N,
+    accepted: Accepted<'_>,
+    calls: &mut [Call<'_>],
+) -> Result<(), Fail>
+    requires same { sizes_of (N.flash nand).geometry ≡ accepted.claim.sizes }
+    requires whole { AreWhole (N.flash nand).geometry calls.old }
+{
+    match Device::run_accepted(alloc, nand, accepted, calls) {
+        Ok(device) => {
+            hold_writable(rt, &device);
+            Ok(())
+        }
         Err(_) => Err("no memory")?,
     }
-    assert_told(rt, &calls[0], Ok(()), 0);
-    assert_told(rt, &calls[1], Ok(()), 0x11);
-    assert_told(rt, &calls[2], Ok(()), 0);
-    assert_told(rt, &calls[3], Ok(()), 0);
-    assert_told(rt, &calls[4], Err(DeviceFault::OutOfRange), 0);
-    assert_told(rt, &calls[5], Ok(()), 0);
-    assert_eq!(rt; calls[1].bytes.len(), 64);
+}
+
+// Tells a list to a device on a die that is mounted and checked.
+fn tell<N: Nand + Drop>(
+    rt: &impl Abort,
+    alloc: Global,
+    mut nand: N,
+    geometry: &Geometry,
+    calls: &mut [Call<'_>],
+) -> Result<(), Fail>
+    requires same { (N.flash nand).geometry ≡ geometry.now }
+    requires whole { AreWhole geometry.now calls.old }
+{
+    let certificate = mounted(alloc, &mut nand, geometry, 4)?;
+    let accepted = checked(alloc, &mut nand, geometry, 4, &certificate)?;
+    tell_accepted(rt, alloc, nand, accepted, calls)
+}
+
+// A command has its answer and its bytes.
+fn hold_told(rt: &impl Abort, call: &Call<'_>, told: &Told) {
+    let Told {
+        name,
+        answer,
+        bytes,
+    } = told;
+    assert!(rt; call.reply == Some(*answer), "{name}");
+    assert!(rt; call.bytes.as_slice() == *bytes, "{name}");
+}
+
+// All six have.
+fn hold_all_told(rt: &impl Abort, calls: &[Call<'_>]) {
+    assert!(rt; calls.len() == TOLD.len());
+    for nth in 0..TOLD.len() {
+        hold_told(rt, &calls[nth], &TOLD[nth]);
+    }
+}
+
+// Tells the six to a device on a formatted die, of which these programs fail.
+fn tell_six(rt: &impl Abort, alloc: Global, failing: &[u16]) -> Result<(), Fail> {
+    let geometry = small()?;
+    let driver = formatted_die(alloc, geometry, failing, 0)?;
+    let mut calls = list_of_six(rt, alloc, &geometry)?;
+    tell(rt, alloc, driver, &geometry, &mut calls)?;
+    hold_all_told(rt, &calls);
     Ok(())
 }
 
 #[test]
 fn list_is_answered(rt: HostRuntime) -> Result<(), Fail> {
-    tell_six(&rt, rt.alloc(), &[])
-}
-
-#[test]
-fn list_is_answered_over_failing_programs(rt: HostRuntime) -> Result<(), Fail> {
+    tell_six(&rt, rt.alloc(), &[])?;
     tell_six(&rt, rt.alloc(), &[1, 2, 4])
 }

@@ -2,13 +2,22 @@
 // refused here unless the tests are run so.
 ghost use Rattle.ftl_device.specs.Device.{IsDevice};
 
-use super::bench::Call::{Read, Trim, Write};
-use super::bench::{Call, formatted, make, read, started};
+use super::bench::{formatted, small, started};
+use super::calls::Call::{Read, Trim, Write};
+use super::calls::{Call, make, read};
 use ftl_device::{Device, DeviceFault};
 use onfi_cycles::Nand;
-use page_layout::geometry::Geometry;
 use std::process::Abort;
 use std::test::Fail;
+
+// The sector of a call has 64 bytes of this one.
+fn hold_byte<N: Nand>(rt: &impl Abort, device: &mut Device<N>, sector: u32, byte: u8)
+    requires { IsDevice N.flash device.old }
+    ensures { IsDevice N.flash device.new }
+{
+    let answer = read(rt, device, "refused", sector, byte);
+    assert!(rt; answer.is_ok(), "sector {sector}");
+}
 
 // Makes a call on a sector that has 64 bytes of this one. Where a growth was refused, it still has
 // them, and the call is made again.
@@ -21,13 +30,12 @@ fn make_again<N: Nand>(
     requires { IsDevice N.flash device.old }
     ensures { IsDevice N.flash device.new }
 {
-    let answer = make(rt, device, call);
+    let answer = make(rt, device, "first", call);
     if answer != Err(DeviceFault::OutOfMemory) {
         return answer;
     }
-    let (Call::Write(sector, _) | Call::Read(sector, _) | Call::Trim(sector)) = call;
-    assert_eq!(rt; read(rt, device, sector, before), Ok(()));
-    make(rt, device, call)
+    hold_byte(rt, device, call.sector(), before);
+    make(rt, device, "again", call)
 }
 
 // Makes these calls.
@@ -36,28 +44,30 @@ fn make_all<N: Nand>(rt: &impl Abort, device: &mut Device<N>, calls: &[(Call, u8
     ensures { IsDevice N.flash device.new }
 {
     for (call, before) in calls {
-        assert_eq!(rt; make_again(rt, device, *call, *before), Ok(()));
+        assert_eq!(rt; make_again(rt, device, *call, *before), Ok(()), "{call:?}");
     }
 }
 
+// Calls, and the byte that their sector has before each.
+const CALLS: [(Call, u8); 11] = [
+    (Read(3, 0), 0),
+    (Write(3, 1), 0),
+    (Read(4, 0), 0),
+    (Write(3, 2), 1),
+    (Trim(5), 0),
+    (Write(16, 3), 0),
+    (Write(17, 4), 0),
+    (Read(3, 2), 2),
+    (Read(5, 0), 0),
+    (Read(16, 3), 3),
+    (Read(17, 4), 4),
+];
+
 #[test]
 fn calls_are_made_again(rt: HostRuntime) -> Result<(), Fail> {
-    let geometry = Geometry::new(64, 32, 8, 32, 32)?;
+    let geometry = small()?;
     let driver = formatted(rt.alloc(), geometry, &[], 0)?;
     let mut device = started(rt.alloc(), driver, &geometry, 4)?;
-    let calls = [
-        (Read(3, 0), 0),
-        (Write(3, 1), 0),
-        (Read(4, 0), 0),
-        (Write(3, 2), 1),
-        (Trim(5), 0),
-        (Write(16, 3), 0),
-        (Write(17, 4), 0),
-        (Read(3, 2), 2),
-        (Read(5, 0), 0),
-        (Read(16, 3), 3),
-        (Read(17, 4), 4),
-    ];
-    make_all(&rt, &mut device, &calls);
+    make_all(&rt, &mut device, &CALLS);
     Ok(())
 }

@@ -1,4 +1,4 @@
-// A bus that notes the cycles of a die in memory.
+// A bus that notes the cycles of a die in memory, and the cycles that operations have.
 ghost use Rattle.std.specs.Prelude.{◌≡◌};
 
 use nand_die::Die;
@@ -6,7 +6,7 @@ use onfi_cycles::{Bus, BusFault};
 use std::alloc::{AllocError, Global};
 
 // A cycle of a bus. Of data in and data out it has the count of bytes, of a single byte out the byte.
-#[derive(Clone, Copy, Debug, PartialEq, Eq)]
+#[derive(Clone, Copy, Debug, PartialEq)]
 pub enum Cycle {
     Command(u8),
     Address(u8),
@@ -23,9 +23,7 @@ pub struct Recorder {
 }
 
 impl Recorder {
-    pub fn new(alloc: Global, die: Die) -> Recorder
-        ensures { result.die ≡ die }
-    {
+    pub fn new(alloc: Global, die: Die) -> Recorder {
         let seen = Vec::new(alloc);
         Recorder { die, seen }
     }
@@ -38,12 +36,13 @@ impl Recorder {
     }
 }
 
+// No promise is made of it, so that nothing which is proved over it rests on what the die answers.
 impl Bus for Recorder {
-    ghost use Rattle.std.specs.Prelude.{true};
+    ghost use Rattle.std.specs.Prelude.{false};
 
     ghost die = { λ bus. bus.die.state };
 
-    ghost honest = { λ _. true };
+    ghost honest = { λ _. false };
 
     ghost failed = { λ _. 0 };
 
@@ -76,32 +75,63 @@ impl Bus for Recorder {
     }
 }
 
-// A program or a page read, of a row below 256. A program ends with its status byte.
-#[derive(Clone, Copy, Debug, PartialEq, Eq)]
+// Programs and page reads, of rows below 256. A program ends with its status byte.
 pub enum Operation {
+    // A row, and the status byte.
     Program(u8, u8),
+    // Programs of rows from the first on, so far apart, so many, all with this status byte.
+    Programs(u8, u8, u8, u8),
+    // A row.
     Read(u8),
 }
 
-// Adds the cycles of an operation.
-fn add_cycles(cycles: &mut Vec<Cycle>, operation: Operation) -> Result<(), AllocError> {
-    let (code, row) = match operation {
-        Operation::Program(row, _) => (0x80, row),
-        Operation::Read(row) => (0x00, row),
-    };
-    cycles.push(Cycle::Command(code))?;
-    for byte in [0, 0, row, 0, 0] {
-        cycles.push(Cycle::Address(byte))?;
+// Adds the command and the address cycles that begin an operation on a row.
+fn add_address(cycles: &mut Vec<Cycle>, code: u8, row: u8) -> Result<(), AllocError> {
+    cycles.extend_from_slice(&[
+        Cycle::Command(code),
+        Cycle::Address(0),
+        Cycle::Address(0),
+        Cycle::Address(row),
+        Cycle::Address(0),
+        Cycle::Address(0),
+    ])
+}
+
+// Adds the cycles of a program.
+fn add_program(cycles: &mut Vec<Cycle>, row: u8, status: u8) -> Result<(), AllocError> {
+    add_address(cycles, 0x80, row)?;
+    cycles.extend_from_slice(&[
+        Cycle::In(64),
+        Cycle::In(32),
+        Cycle::Command(0x10),
+        Cycle::Command(0x70),
+        Cycle::Byte(status),
+    ])
+}
+
+// Adds the cycles of programs.
+fn add_programs(
+    cycles: &mut Vec<Cycle>,
+    first: u8,
+    apart: u8,
+    count: u8,
+    status: u8,
+) -> Result<(), AllocError> {
+    for nth in 0..count {
+        add_program(cycles, first.wrapping_add(apart.wrapping_mul(nth)), status)?;
     }
+    Ok(())
+}
+
+// Adds the cycles of an operation.
+fn add_cycles(cycles: &mut Vec<Cycle>, operation: &Operation) -> Result<(), AllocError> {
     match operation {
-        Operation::Program(_, status) => cycles.extend_from_slice(&[
-            Cycle::In(64),
-            Cycle::In(32),
-            Cycle::Command(0x10),
-            Cycle::Command(0x70),
-            Cycle::Byte(status),
-        ]),
-        Operation::Read(_) => {
+        Operation::Program(row, status) => add_program(cycles, *row, *status),
+        Operation::Programs(first, apart, count, status) => {
+            add_programs(cycles, *first, *apart, *count, *status)
+        }
+        Operation::Read(row) => {
+            add_address(cycles, 0x00, *row)?;
             cycles.extend_from_slice(&[Cycle::Command(0x30), Cycle::Out(64), Cycle::Out(32)])
         }
     }
@@ -112,7 +142,7 @@ pub fn cycles_of(alloc: Global, operations: &[Operation]) -> Result<Vec<Cycle>, 
     let mut cycles = Vec::new(alloc);
     cycles.push(Cycle::Command(0xFF))?;
     for operation in operations {
-        add_cycles(&mut cycles, *operation)?;
+        add_cycles(&mut cycles, operation)?;
     }
     Ok(cycles)
 }

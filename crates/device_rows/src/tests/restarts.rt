@@ -1,21 +1,43 @@
 // Devices that are given up and started anew, and certificates that say too little or too much.
-ghost use Rattle.std.specs.Prelude.{◌≡◌};
+ghost use Rattle.std.specs.Prelude.{◌≡◌, IfOk};
 
-use super::bench::Call::{Read, Trim, Write};
-use super::bench::{
-    Call, Case, after_calls, assert_answers, formatted, recorded_at, run_case, sector_at, started,
-};
-use super::recorder::Operation;
-use certificate::{Certificate, read_certificate, write_certificate};
+use super::bench::{after_calls, bytes_of, formatted, mounted, small, with_bytes};
+use super::calls::Call;
+use super::calls::Call::{Read, Trim, Write};
+use super::cases::Step::{Done, Refused};
+use super::cases::{Case, QUIET, hold_cases};
+use super::pages::PageAt;
+use super::recorder::Operation::{Program, Read as ReadPage};
+use super::recorder::Recorder;
+use certificate::Certificate;
 use ftl_device::DeviceFault;
 use image_check::{Refusal, check};
 use mount::mount;
-use nand_die::Die;
 use onfi_cycles::Driver;
 use page_layout::geometry::Geometry;
+use page_layout::source::PageSource;
 use std::alloc::Global;
 use std::process::Abort;
 use std::test::Fail;
+
+// There are so many bytes, of which one is this.
+fn hold_byte(rt: &impl Abort, bytes: &[u8], length: usize, at: usize, byte: u8) {
+    assert_eq!(rt; bytes.len(), length);
+    assert_eq!(rt; bytes.get(at), Some(&byte));
+}
+
+// A certificate has so many bytes, of which one is this.
+fn hold_certificate(
+    rt: &impl Abort,
+    alloc: Global,
+    certificate: &Certificate,
+    length: usize,
+    at: usize,
+    byte: u8,
+) -> Result<(), Fail> {
+    hold_byte(rt, &bytes_of(alloc, certificate)?, length, at, byte);
+    Ok(())
+}
 
 // The certificate with row 8 for sector 5 in place of row 9.
 fn with_older_row(
@@ -23,99 +45,123 @@ fn with_older_row(
     alloc: Global,
     certificate: &Certificate,
 ) -> Result<Certificate, Fail> {
-    let mut bytes = write_certificate(alloc, certificate)?;
-    assert_eq!(rt; bytes.len(), 472);
-    assert_eq!(rt; bytes[364], 9);
-    bytes[364] = 8;
-    Ok(read_certificate(alloc, &bytes)?)
+    hold_certificate(rt, alloc, certificate, 472, 364, 9)?;
+    with_bytes(rt, alloc, certificate, 364, &[8])
+}
+
+// Why a checker refuses a certificate.
+fn check_refusal<S: PageSource>(
+    alloc: Global,
+    source: &mut S,
+    geometry: &Geometry,
+    certificate: &Certificate,
+) -> Option<Refusal>
+    requires { (S.flash source.old).geometry ≡ geometry.now }
+{
+    check(alloc, source, geometry, 4, certificate).err()
+}
+
+// Why a mount with a cache of two is refused.
+fn mount_refusal<S: PageSource>(
+    alloc: Global,
+    source: &mut S,
+    geometry: &Geometry,
+) -> Option<Refusal>
+    requires { (S.flash source.old).geometry ≡ geometry.now }
+{
+    mount(alloc, source, geometry, 2).err()
+}
+
+// The die after these calls.
+fn die_after(
+    rt: &impl Abort,
+    alloc: Global,
+    calls: &[Call],
+) -> Result<(Driver<Recorder>, Geometry), Fail>
+    ensures { IfOk result (λ pair. pair.0.geometry ≡ pair.1) }
+{
+    let geometry = small()?;
+    let driver = formatted(alloc, geometry, &[], 0)?;
+    after_calls(rt, alloc, driver, &geometry, calls)
 }
 
 // A certificate that has an older page of a sector than its newest is refused.
 #[test]
 fn older_page_is_refused(rt: HostRuntime) -> Result<(), Fail> {
     let calls = [Write(5, 1), Write(5, 2)];
-    let (mut driver, geometry) = after_calls(&rt, rt.alloc(), &calls)?;
-    let mounted = mount(rt.alloc(), &mut driver, &geometry, 4)?;
+    let (mut driver, geometry) = die_after(&rt, rt.alloc(), &calls)?;
+    let mounted = mounted(rt.alloc(), &mut driver, &geometry, 4)?;
     let older = with_older_row(&rt, rt.alloc(), &mounted)?;
-    let refused = check(rt.alloc(), &mut driver, &geometry, 4, &older).err();
-    assert_eq!(rt; refused, Some(Refusal::NotNewest { sector: 5, row: 9 }));
+    let refusal = check_refusal(rt.alloc(), &mut driver, &geometry, &older);
+    assert_eq!(rt; refusal, Some(Refusal::NotNewest { sector: 5, row: 9 }));
     Ok(())
 }
 
-// A restart with this cache, and these calls then.
-fn assert_restarts(
-    rt: &impl Abort,
-    alloc: Global,
-    driver: Driver<Die>,
-    geometry: &Geometry,
-    capacity: u32,
-    calls: &[Call],
-) -> Result<(), Fail>
-    requires { driver.geometry ≡ geometry.now }
-{
-    let mut device = started(alloc, driver, geometry, capacity)?;
-    assert_answers(rt, &mut device, calls, Ok(()));
-    Ok(())
-}
+const THREE: [Call; 3] = [Write(0, 3), Write(1, 4), Write(2, 5)];
 
 // Three sectors were written and no translation page.
 #[test]
-fn restart_needs_room_for_stale_sectors(rt: HostRuntime) -> Result<(), Fail> {
-    let calls = [Write(0, 3), Write(1, 4), Write(2, 5)];
-    let (mut driver, geometry) = after_calls(&rt, rt.alloc(), &calls)?;
-    let refused = mount(rt.alloc(), &mut driver, &geometry, 2).err();
+fn mount_needs_room_for_stale_sectors(rt: HostRuntime) -> Result<(), Fail> {
+    let (mut driver, geometry) = die_after(&rt, rt.alloc(), &THREE)?;
+    let refusal = mount_refusal(rt.alloc(), &mut driver, &geometry);
     let want = Refusal::TooStale {
         stale: 3,
         capacity: 2,
     };
-    assert_eq!(rt; refused, Some(want));
-    let calls = [Read(0, 3), Read(1, 4), Read(2, 5), Read(3, 0)];
-    assert_restarts(&rt, rt.alloc(), driver, &geometry, 3, &calls)
+    assert_eq!(rt; refusal, Some(want));
+    Ok(())
 }
 
-// A certificate whose next sequence is 2^64 - 1 is accepted, and its device only reads.
-#[test]
-fn sequences_run_out(rt: HostRuntime) -> Result<(), Fail> {
-    let (driver, geometry) = after_calls(&rt, rt.alloc(), &[Write(7, 0x66)])?;
-    let device = recorded_at(rt.alloc(), driver, &geometry, [0xFF; 8])?;
-    let spent = Err(DeviceFault::SequenceSpent);
-    let case = Case {
-        calls: &[
-            (&[Write(5, 1), Write(7, 1), Trim(6)], spent),
-            (&[Read(5, 0), Read(7, 0x66)], Ok(())),
+const RESTARTS: [Case; 3] = [
+    Case {
+        name: "a cache with just the room for three stale sectors",
+        before: &THREE,
+        capacity: 3,
+        steps: &[Done(&[Read(0, 3), Read(1, 4), Read(2, 5), Read(3, 0)])],
+        cached: &[0, 1, 2],
+        operations: &[ReadPage(8), ReadPage(9), ReadPage(10)],
+        pages: &[
+            PageAt::Sector(8, 0, 3, 3),
+            PageAt::Sector(9, 1, 4, 4),
+            PageAt::Sector(10, 2, 5, 5),
         ],
-        bad: &[],
-        free: 30,
-        read_only: false,
+        ..QUIET
+    },
+    // A certificate whose next sequence is 2^64 - 1 is accepted, and its device only reads.
+    Case {
+        name: "sequences run out",
+        before: &[Write(7, 0x66)],
+        next: Some([0xFF; 8]),
+        steps: &[
+            Refused(
+                DeviceFault::SequenceSpent,
+                &[Write(5, 1), Write(7, 1), Trim(6)],
+            ),
+            Done(&[Read(5, 0), Read(7, 0x66)]),
+        ],
         cached: &[5, 7],
-        operations: &[Operation::Read(8)],
-        pages: &[sector_at(8, 7, 3, 0x66)],
-    };
-    run_case(&rt, rt.alloc(), device, &case)?;
-    Ok(())
-}
-
-// The last sequence goes to a program that fails: no block is opened for another.
-#[test]
-fn last_sequence_fails(rt: HostRuntime) -> Result<(), Fail> {
-    let geometry = Geometry::new(64, 32, 8, 32, 32)?;
-    let driver = formatted(rt.alloc(), geometry, &[1], 0)?;
-    let next = [0xFE, 0xFF, 0xFF, 0xFF, 0xFF, 0xFF, 0xFF, 0xFF];
-    let device = recorded_at(rt.alloc(), driver, &geometry, next)?;
-    let spent = Err(DeviceFault::SequenceSpent);
-    let case = Case {
-        calls: &[
-            (&[Write(5, 1)], spent),
-            (&[Read(5, 0)], Ok(())),
-            (&[Write(5, 1)], spent),
+        operations: &[ReadPage(8)],
+        pages: &[PageAt::Sector(8, 7, 3, 0x66)],
+        ..QUIET
+    },
+    // The last sequence goes to a program that fails: no block is opened for another.
+    Case {
+        name: "the last sequence fails",
+        failing: &[1],
+        next: Some([0xFE, 0xFF, 0xFF, 0xFF, 0xFF, 0xFF, 0xFF, 0xFF]),
+        steps: &[
+            Refused(DeviceFault::SequenceSpent, &[Write(5, 1)]),
+            Done(&[Read(5, 0)]),
+            Refused(DeviceFault::SequenceSpent, &[Write(5, 1)]),
         ],
-        bad: &[1],
-        free: 30,
-        read_only: false,
+        bad: 1,
         cached: &[5],
-        operations: &[Operation::Program(8, 0xE1)],
-        pages: &[],
-    };
-    run_case(&rt, rt.alloc(), device, &case)?;
-    Ok(())
+        operations: &[Program(8, 0xE1)],
+        ..QUIET
+    },
+];
+
+#[test]
+fn devices_are_started_anew(rt: HostRuntime) -> Result<(), Fail> {
+    hold_cases(&rt, rt.alloc(), &RESTARTS)
 }

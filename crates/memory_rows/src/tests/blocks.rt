@@ -1,15 +1,176 @@
 //! The choice of blocks: rows in order, failures, erase counts, victims.
-ghost use Rattle.std.specs.Prelude.{◌≡◌, IfOk, length, vec_len};
-
 use allocation::{Blocks, Stream};
 use bad_blocks::Class;
 use certificate::BlockState;
 use page_layout::geometry::Geometry;
 use page_layout::record::Kind;
+use std::alloc::Global;
 use std::process::Abort;
 use std::test::*;
 
-fn state(class: u8, pointer: u16, live: u16, wear: u32) -> BlockState {
+// A call on the blocks, or what is to be seen of them.
+#[derive(Clone, Copy)]
+enum Step {
+    // The row that a page of this kind gets.
+    Row(Kind, Option<u32>),
+    // Rows from the first up to the end, none of them of a closed block.
+    Rows(Kind, u32, u32),
+    // So many programs of a sector's page fail.
+    Failures(u32),
+    // A good block is grown bad.
+    Retire(u32),
+    // A closed block was erased.
+    Freed(u32),
+    LiveUp(u32),
+    LiveDown(u32),
+    Free(u32),
+    Good(u32),
+    Wear(u32, u32),
+    Closed(u32),
+    Open(Stream, Option<u32>),
+    Victim(Option<u32>),
+}
+
+// A block's class, write pointer, live pages and erase count.
+type State = (u8, u16, u16, u32);
+
+// 32 blocks of 8 pages. Block 0 holds the two table pages of a formatted die, some are named, and the others are all alike.
+struct Script {
+    name: &'static str,
+    others: State,
+    named: &'static [(usize, State)],
+    steps: &'static [Step],
+}
+
+const TABLES: State = (2, 2, 2, 0);
+
+const ERASED: State = (0, 0, 0, 0);
+
+const SCRIPTS: [Script; 9] = [
+    Script {
+        name: "rows come in order",
+        others: ERASED,
+        named: &[],
+        steps: &[
+            Step::Free(31),
+            Step::Good(32),
+            Step::Row(Kind::Translation, Some(2)),
+            Step::Rows(Kind::Trim, 8, 16),
+            Step::Closed(1),
+            Step::Open(Stream::Data, None),
+            Step::Row(Kind::Sector, Some(16)),
+            Step::Open(Stream::Data, Some(2)),
+            Step::Free(29),
+            Step::Victim(Some(1)),
+            // Collected, the block is free again, worn once, and the last that is opened.
+            Step::Freed(1),
+            Step::Free(30),
+            Step::Wear(1, 1),
+            Step::Rows(Kind::Sector, 17, 25),
+        ],
+    },
+    Script {
+        name: "no program fails",
+        others: ERASED,
+        named: &[],
+        steps: &[
+            Step::Row(Kind::Sector, Some(8)),
+            Step::Free(30),
+            Step::Good(32),
+        ],
+    },
+    Script {
+        name: "one program fails",
+        others: ERASED,
+        named: &[],
+        steps: &[
+            Step::Failures(1),
+            Step::Row(Kind::Sector, Some(16)),
+            Step::Free(29),
+            Step::Good(31),
+        ],
+    },
+    Script {
+        name: "two programs fail",
+        others: ERASED,
+        named: &[],
+        steps: &[
+            Step::Failures(2),
+            Step::Row(Kind::Sector, Some(24)),
+            Step::Free(28),
+            Step::Good(30),
+        ],
+    },
+    Script {
+        name: "27 programs fail",
+        others: ERASED,
+        named: &[],
+        steps: &[
+            Step::Failures(27),
+            Step::Row(Kind::Sector, Some(224)),
+            Step::Free(3),
+            Step::Good(5),
+        ],
+    },
+    Script {
+        name: "a program fails in each free block, and one of the tables",
+        others: ERASED,
+        named: &[],
+        steps: &[
+            Step::Failures(31),
+            Step::Row(Kind::Sector, None),
+            Step::Free(0),
+            Step::Good(1),
+            Step::Retire(0),
+            Step::Open(Stream::Meta, None),
+            Step::Row(Kind::Table, None),
+        ],
+    },
+    Script {
+        name: "the least worn block is opened",
+        others: (0, 0, 0, 7),
+        named: &[(20, (0, 0, 0, 3)), (9, (0, 0, 0, 3)), (4, (4, 0, 0, 0))],
+        steps: &[Step::Row(Kind::Sector, Some(72))],
+    },
+    Script {
+        name: "the victim has fewest live pages",
+        others: ERASED,
+        named: &[
+            (3, (3, 8, 5, 0)),
+            (4, (3, 8, 4, 9)),
+            (5, (3, 8, 4, 2)),
+            (6, (3, 8, 4, 2)),
+            (7, (5, 0, 0, 0)),
+        ],
+        steps: &[
+            Step::Victim(Some(5)),
+            Step::LiveUp(5),
+            Step::Victim(Some(6)),
+            Step::LiveDown(4),
+            Step::Victim(Some(4)),
+            Step::Freed(4),
+            Step::Free(27),
+            Step::Wear(4, 10),
+            Step::Retire(6),
+            Step::Victim(Some(3)),
+            Step::Good(30),
+        ],
+    },
+    Script {
+        name: "an erase count stays at its greatest",
+        others: (3, 8, 8, 16_777_215),
+        named: &[],
+        steps: &[
+            Step::Row(Kind::Sector, None),
+            Step::Freed(31),
+            Step::Wear(31, 16_777_215),
+            Step::Row(Kind::Sector, Some(248)),
+        ],
+    },
+];
+
+fn state_of(said: State) -> BlockState {
+    let (class, pointer, live, wear) = said;
     BlockState {
         class,
         pointer,
@@ -18,152 +179,123 @@ fn state(class: u8, pointer: u16, live: u16, wear: u32) -> BlockState {
     }
 }
 
-// 32 blocks: block 0 holds the two table pages of a formatted die, and the others are all alike.
-fn states_of(rt: &HostRuntime, others: BlockState) -> Result<Vec<BlockState>, Fail>
-    ensures { IfOk result (λ v. vec_len v ≡ 32) }
-{
-    let mut states = vec![in rt.alloc(); others; 32]?;
-    states[0] = state(2, 2, 2, 0);
+fn states_of(rt: &impl Abort, alloc: Global, script: &Script) -> Result<Vec<BlockState>, Fail> {
+    let mut states = vec![in alloc; state_of(script.others); 32]?;
+    states[0] = state_of(TABLES);
+    for (block, said) in script.named {
+        assert!(rt; *block < states.len());
+        states[*block] = state_of(*said);
+    }
     Ok(states)
 }
 
-// Blocks of 8 pages.
-fn begin(rt: &HostRuntime, states: &[BlockState]) -> Result<Blocks, Fail>
-    requires { length states.now ≡ 32 }
-{
+fn begin(rt: &impl Abort, alloc: Global, script: &Script) -> Result<Blocks, Fail> {
     let geometry = Geometry::new(64, 32, 8, 32, 32)?;
-    Ok(Blocks::new(rt.alloc(), &geometry, states)?)
+    let states = states_of(rt, alloc, script)?;
+    assert!(rt; states.len() == 32);
+    Ok(Blocks::new(alloc, &geometry, &states)?)
 }
 
-fn formatted(rt: &HostRuntime) -> Result<Blocks, Fail> {
-    let states = states_of(rt, state(0, 0, 0, 0))?;
-    begin(rt, &states)
+// Whether a call can be made and what is seen is as the step says.
+fn passes(blocks: &mut Blocks, step: Step) -> bool {
+    match step {
+        Step::Row(kind, want) => blocks.take_row(Stream::of(kind)) == want,
+        Step::Rows(kind, first, end) => rows(blocks, kind, first, end),
+        Step::Failures(count) => failures(blocks, count),
+        Step::Retire(block) => retire(blocks, block),
+        Step::Freed(block) => freed(blocks, block),
+        Step::LiveUp(block) => live_up(blocks, block),
+        Step::LiveDown(block) => live_down(blocks, block),
+        Step::Free(want) => blocks.free() == want,
+        Step::Good(want) => blocks.good() == want,
+        Step::Wear(block, want) => wear(blocks, block) == Some(want),
+        Step::Closed(block) => closed(blocks, block) == Some(true),
+        Step::Open(stream, want) => blocks.open(stream) == want,
+        Step::Victim(want) => blocks.victim() == want,
+    }
 }
 
-fn is_closed(rt: &impl Abort, blocks: &Blocks, block: u32) -> bool {
-    assert!(rt; block < blocks.geometry().blocks());
-    blocks.closed(block)
-}
-
-fn free_closed(rt: &impl Abort, blocks: &mut Blocks, block: u32) {
-    assert!(rt; block < blocks.geometry().blocks());
-    assert!(rt; blocks.closed(block));
-    blocks.freed(block);
-}
-
-fn retire_good(rt: &impl Abort, blocks: &mut Blocks, block: u32) {
-    assert!(rt; block < blocks.geometry().blocks());
-    assert_eq!(rt; blocks.table().class(block), Class::Good);
-    blocks.retire(block);
-    assert_eq!(rt; blocks.table().class(block), Class::Grown);
-}
-
-fn wear_of(rt: &impl Abort, blocks: &Blocks, block: u32) -> u32 {
-    assert!(rt; block < blocks.geometry().blocks());
-    blocks.table().wear(block)
-}
-
-fn live_up(rt: &impl Abort, blocks: &mut Blocks, block: u32) {
-    assert!(rt; block < blocks.geometry().blocks());
-    blocks.live_up(block);
-}
-
-fn live_down(rt: &impl Abort, blocks: &mut Blocks, block: u32) {
-    assert!(rt; block < blocks.geometry().blocks());
-    blocks.live_down(block);
-}
-
-// So many programs of a page fail, and then one finds this row, or none.
-fn row_after(rt: &impl Abort, blocks: &mut Blocks, failures: u32, want: Option<u32>) {
-    for _ in 0..failures {
-        let row = blocks.take_row(Stream::of(Kind::Sector));
-        assert!(rt; row.is_some());
-        if let Some(row) = row {
-            retire_good(rt, blocks, row / 8);
+fn rows(blocks: &mut Blocks, kind: Kind, first: u32, end: u32) -> bool {
+    for row in first..end {
+        if closed(blocks, row / 8) != Some(false)
+            || blocks.take_row(Stream::of(kind)) != Some(row)
+        {
+            return false;
         }
     }
-    assert_eq!(rt; blocks.take_row(Stream::of(Kind::Sector)), want);
+    true
 }
 
-#[test]
-fn rows_come_in_order(rt: HostRuntime) -> Result<(), Fail> {
-    let mut blocks = formatted(&rt)?;
-    assert_eq!(rt; (blocks.free(), blocks.good()), (31, 32));
-    assert_eq!(rt; blocks.take_row(Stream::of(Kind::Translation)), Some(2));
-    for row in 8..16 {
-        assert!(rt; !is_closed(&rt, &blocks, 1));
-        assert_eq!(rt; blocks.take_row(Stream::of(Kind::Trim)), Some(row));
+fn failures(blocks: &mut Blocks, count: u32) -> bool {
+    for _ in 0..count {
+        match blocks.take_row(Stream::of(Kind::Sector)) {
+            Some(row) if retire(blocks, row / 8) => {}
+            _ => return false,
+        }
     }
-    assert!(rt; is_closed(&rt, &blocks, 1));
-    assert_eq!(rt; blocks.open(Stream::Data), None);
-    assert_eq!(rt; blocks.take_row(Stream::Data), Some(16));
-    assert_eq!(rt; blocks.open(Stream::Data), Some(2));
-    assert_eq!(rt; (blocks.free(), blocks.victim()), (29, Some(1)));
+    true
+}
 
-    // Collected, the block is free again, worn once, and the last that is opened.
-    free_closed(&rt, &mut blocks, 1);
-    assert_eq!(rt; (blocks.free(), wear_of(&rt, &blocks, 1)), (30, 1));
-    for row in 17..25 {
-        assert_eq!(rt; blocks.take_row(Stream::Data), Some(row));
+fn retire(blocks: &mut Blocks, block: u32) -> bool {
+    if block >= blocks.geometry().blocks() || blocks.table().class(block) != Class::Good {
+        return false;
+    }
+    blocks.retire(block);
+    blocks.table().class(block) == Class::Grown
+}
+
+fn freed(blocks: &mut Blocks, block: u32) -> bool {
+    let may = block < blocks.geometry().blocks() && blocks.closed(block);
+    if may {
+        blocks.freed(block);
+    }
+    may
+}
+
+fn live_up(blocks: &mut Blocks, block: u32) -> bool {
+    let is_block = block < blocks.geometry().blocks();
+    if is_block {
+        blocks.live_up(block);
+    }
+    is_block
+}
+
+fn live_down(blocks: &mut Blocks, block: u32) -> bool {
+    let is_block = block < blocks.geometry().blocks();
+    if is_block {
+        blocks.live_down(block);
+    }
+    is_block
+}
+
+fn wear(blocks: &Blocks, block: u32) -> Option<u32> {
+    if block < blocks.geometry().blocks() {
+        Some(blocks.table().wear(block))
+    } else {
+        None
+    }
+}
+
+fn closed(blocks: &Blocks, block: u32) -> Option<bool> {
+    if block < blocks.geometry().blocks() {
+        Some(blocks.closed(block))
+    } else {
+        None
+    }
+}
+
+fn run(rt: &impl Abort, alloc: Global, script: &Script) -> Result<(), Fail> {
+    let mut blocks = begin(rt, alloc, script)?;
+    for (at, step) in script.steps.iter().enumerate() {
+        assert!(rt; passes(&mut blocks, *step), "{}: step {at}", script.name);
     }
     Ok(())
 }
 
 #[test]
-fn after_a_failure_another_block_is_opened(rt: HostRuntime) -> Result<(), Fail> {
-    for (failures, row, free) in [(0, 8, 30), (1, 16, 29), (2, 24, 28), (27, 224, 3)] {
-        let mut blocks = formatted(&rt)?;
-        row_after(&rt, &mut blocks, failures, Some(row));
-        assert_eq!(rt; (blocks.free(), blocks.good()), (free, 32 - failures));
+fn scripts_pass(rt: HostRuntime) -> Result<(), Fail> {
+    for script in &SCRIPTS {
+        run(&rt, rt.alloc(), script)?;
     }
-    let mut blocks = formatted(&rt)?;
-    row_after(&rt, &mut blocks, 31, None);
-    assert_eq!(rt; (blocks.free(), blocks.good()), (0, 1));
-    retire_good(&rt, &mut blocks, 0);
-    assert_eq!(rt; blocks.open(Stream::Meta), None);
-    assert_eq!(rt; blocks.take_row(Stream::Meta), None);
-    Ok(())
-}
-
-#[test]
-fn the_least_worn_block_is_opened(rt: HostRuntime) -> Result<(), Fail> {
-    let mut states = states_of(&rt, state(0, 0, 0, 7))?;
-    states[20].wear = 3;
-    states[9].wear = 3;
-    states[4] = state(4, 0, 0, 0);
-    let mut blocks = begin(&rt, &states)?;
-    assert_eq!(rt; blocks.take_row(Stream::Data), Some(72));
-    Ok(())
-}
-
-#[test]
-fn the_victim_has_fewest_live_pages(rt: HostRuntime) -> Result<(), Fail> {
-    let mut states = states_of(&rt, state(0, 0, 0, 0))?;
-    states[3] = state(3, 8, 5, 0);
-    states[4] = state(3, 8, 4, 9);
-    states[5] = state(3, 8, 4, 2);
-    states[6] = state(3, 8, 4, 2);
-    states[7] = state(5, 0, 0, 0);
-    let mut blocks = begin(&rt, &states)?;
-    assert_eq!(rt; blocks.victim(), Some(5));
-    live_up(&rt, &mut blocks, 5);
-    assert_eq!(rt; blocks.victim(), Some(6));
-    live_down(&rt, &mut blocks, 4);
-    assert_eq!(rt; blocks.victim(), Some(4));
-    free_closed(&rt, &mut blocks, 4);
-    assert_eq!(rt; (blocks.free(), wear_of(&rt, &blocks, 4)), (27, 10));
-    retire_good(&rt, &mut blocks, 6);
-    assert_eq!(rt; (blocks.victim(), blocks.good()), (Some(3), 30));
-    Ok(())
-}
-
-#[test]
-fn an_erase_count_stays_at_its_greatest(rt: HostRuntime) -> Result<(), Fail> {
-    let states = states_of(&rt, state(3, 8, 8, 16_777_215))?;
-    let mut blocks = begin(&rt, &states)?;
-    assert_eq!(rt; blocks.take_row(Stream::Data), None);
-    free_closed(&rt, &mut blocks, 31);
-    assert_eq!(rt; wear_of(&rt, &blocks, 31), 16_777_215);
-    assert_eq!(rt; blocks.take_row(Stream::Data), Some(248));
     Ok(())
 }

@@ -2,15 +2,195 @@
 ghost use Rattle.std.specs.Prelude.{IsTrue};
 ghost use Rattle.mapping_cache.specs.Mapping.{IsEntryOf};
 
-use mapping_cache::Mapping;
+use mapping_cache::{Mapping, Slot};
 use page_layout::geometry::Geometry;
+use std::alloc::Global;
 use std::process::Abort;
 use std::test::*;
+use translation_pages::entry;
+
+// A call on a mapping, or what is to be seen in it.
+#[derive(Clone, Copy)]
+enum Step {
+    // A sector is cached with its row so far.
+    Load(u32, Option<u32>),
+    // The same, where memory may be refused: the sector is then as unknown as it was.
+    TryLoad(u32, Option<u32>),
+    // A cached sector has a row that its translation page lacks.
+    SetDirty(u32, u32),
+    // The page of a sector that is not cached has moved to a row.
+    Move(u32, u32),
+    // A translation page was written back.
+    Clean(u32),
+    Peek(u32, Option<Option<u32>>),
+    Lookup(u32, Option<Option<u32>>),
+    IsFull,
+    HasNoPlace(u32),
+    // The rows that a translation page lacks.
+    Lacks(u32, &'static [(u32, Option<u32>)]),
+    // Those of them that moved.
+    Moved(u32, &'static [(u32, u32)]),
+    // The entries of an erased translation page into which these rows were written.
+    Spells(u32, &'static [Option<u32>; 16]),
+    // The cached sectors, the least recently used first, all of them clean. They are dropped.
+    Holds(&'static [(u32, u32)]),
+}
+
+// Calls on an empty mapping, one after the other.
+struct Script {
+    name: &'static str,
+    steps: &'static [Step],
+}
+
+const SCRIPTS: [Script; 4] = [
+    Script {
+        name: "a write evicts what was written back",
+        steps: &[
+            Step::Peek(0, None),
+            Step::Load(0, None),
+            Step::SetDirty(0, 8),
+            Step::Peek(0, Some(Some(8))),
+            Step::Peek(1, None),
+            Step::Load(1, None),
+            Step::SetDirty(1, 9),
+            Step::Peek(1, Some(Some(9))),
+            Step::Peek(2, None),
+            Step::Load(2, None),
+            Step::SetDirty(2, 10),
+            Step::Peek(2, Some(Some(10))),
+            Step::Peek(3, None),
+            Step::Load(3, None),
+            Step::SetDirty(3, 11),
+            Step::Peek(3, Some(Some(11))),
+            // A read of sector 16 finds no place; one of sector 0 makes it the most recent.
+            Step::Lookup(16, None),
+            Step::IsFull,
+            Step::HasNoPlace(16),
+            Step::Lookup(0, Some(Some(8))),
+            // A write of sector 16 wants room: page 0 is written back, and its entries are clean.
+            Step::Lacks(
+                0,
+                &[(0, Some(8)), (1, Some(9)), (2, Some(10)), (3, Some(11))],
+            ),
+            Step::Lacks(1, &[]),
+            Step::Spells(
+                0,
+                &[
+                    Some(8),
+                    Some(9),
+                    Some(10),
+                    Some(11),
+                    None,
+                    None,
+                    None,
+                    None,
+                    None,
+                    None,
+                    None,
+                    None,
+                    None,
+                    None,
+                    None,
+                    None,
+                ],
+            ),
+            Step::Clean(0),
+            Step::Lacks(0, &[]),
+            Step::Load(16, None),
+            Step::SetDirty(16, 12),
+            Step::Peek(16, Some(Some(12))),
+            Step::Lacks(1, &[(16, Some(12))]),
+            Step::Peek(1, None),
+            Step::Clean(1),
+            Step::Holds(&[(2, 10), (3, 11), (0, 8), (16, 12)]),
+        ],
+    },
+    Script {
+        name: "moved sectors wait for their page",
+        steps: &[
+            Step::Load(7, None),
+            Step::SetDirty(7, 8),
+            Step::Peek(7, Some(Some(8))),
+            Step::Load(7, None),
+            Step::SetDirty(7, 9),
+            Step::Peek(7, Some(Some(9))),
+            Step::Load(0, None),
+            Step::SetDirty(0, 10),
+            Step::Peek(0, Some(Some(10))),
+            Step::Load(1, None),
+            Step::SetDirty(1, 11),
+            Step::Peek(1, Some(Some(11))),
+            Step::Load(2, None),
+            Step::SetDirty(2, 12),
+            Step::Peek(2, Some(Some(12))),
+            Step::HasNoPlace(3),
+            Step::Clean(0),
+            Step::Load(3, None),
+            Step::SetDirty(3, 13),
+            Step::Peek(3, Some(Some(13))),
+            Step::Load(4, None),
+            Step::SetDirty(4, 14),
+            Step::Peek(4, Some(Some(14))),
+            Step::Load(5, None),
+            Step::SetDirty(5, 15),
+            Step::Peek(5, Some(Some(15))),
+            // The pages of all seven sectors move, and the order of the cached ones stays.
+            Step::Move(7, 16),
+            Step::Move(0, 17),
+            Step::Move(1, 18),
+            Step::SetDirty(2, 19),
+            Step::SetDirty(3, 20),
+            Step::SetDirty(4, 21),
+            Step::SetDirty(5, 22),
+            Step::Moved(0, &[(7, 16), (0, 17), (1, 18)]),
+            Step::Moved(1, &[]),
+            Step::Lacks(
+                0,
+                &[
+                    (7, Some(16)),
+                    (0, Some(17)),
+                    (1, Some(18)),
+                    (2, Some(19)),
+                    (3, Some(20)),
+                    (4, Some(21)),
+                    (5, Some(22)),
+                ],
+            ),
+            Step::Lookup(7, Some(Some(16))),
+            Step::Clean(0),
+            Step::Peek(7, None),
+            Step::Holds(&[(2, 19), (3, 20), (4, 21), (5, 22)]),
+        ],
+    },
+    Script {
+        name: "a moved sector that is cached is dirty",
+        steps: &[
+            Step::Move(7, 16),
+            Step::Move(20, 18),
+            Step::Move(7, 19),
+            Step::Load(7, Some(3)),
+            Step::Moved(0, &[]),
+            Step::Lacks(0, &[(7, Some(19))]),
+            Step::Lacks(1, &[(20, Some(18))]),
+        ],
+    },
+    Script {
+        name: "a refused load changes nothing",
+        steps: &[
+            Step::TryLoad(0, Some(0)),
+            Step::TryLoad(1, Some(1)),
+            Step::TryLoad(2, Some(2)),
+            Step::TryLoad(3, Some(3)),
+            Step::TryLoad(4, Some(4)),
+            Step::TryLoad(5, Some(5)),
+        ],
+    },
+];
 
 // 16 entries a page, two translation pages, eight pages a block, 256 rows; four cached sectors.
-fn small(rt: &HostRuntime) -> Result<Mapping, Fail> {
+fn small(alloc: Global) -> Result<Mapping, Fail> {
     let geometry = Geometry::new(64, 32, 8, 32, 32)?;
-    Ok(Mapping::new(rt.alloc(), &geometry, 4)?)
+    Ok(Mapping::new(alloc, &geometry, 4)?)
 }
 
 fn is_entry(geometry: &Geometry, sector: u32, row: Option<u32>) -> bool
@@ -22,166 +202,134 @@ fn is_entry(geometry: &Geometry, sector: u32, row: Option<u32>) -> bool
     }
 }
 
-fn load(rt: &impl Abort, mapping: &mut Mapping, sector: u32, row: Option<u32>) {
-    assert!(rt; is_entry(&mapping.geometry(), sector, row));
-    assert!(rt; mapping.can_load(sector));
-    assert!(rt; mapping.load(sector, row) == Ok(()));
+// Whether the sector was cached, or none where it has no place.
+fn load(mapping: &mut Mapping, sector: u32, row: Option<u32>) -> Option<bool> {
+    if is_entry(&mapping.geometry(), sector, row) && mapping.can_load(sector) {
+        Some(mapping.load(sector, row).is_ok())
+    } else {
+        None
+    }
 }
 
-fn set_dirty(rt: &impl Abort, mapping: &mut Mapping, sector: u32, row: u32) {
-    assert!(rt; is_entry(&mapping.geometry(), sector, Some(row)));
-    assert!(rt; mapping.is_cached(sector));
-    mapping.set_dirty(sector, Some(row));
+fn is_known(mapping: &Mapping, sector: u32, known: bool) -> bool {
+    mapping.peek(sector).is_some() == known && mapping.is_cached(sector) == known
 }
 
-// A write of a sector whose page goes to this row.
-fn write(rt: &impl Abort, mapping: &mut Mapping, sector: u32, row: u32) {
-    load(rt, mapping, sector, None);
-    set_dirty(rt, mapping, sector, row);
-    assert_eq!(rt; mapping.peek(sector), Some(Some(row)));
+fn set_dirty(mapping: &mut Mapping, sector: u32, row: u32) -> bool {
+    let may = is_entry(&mapping.geometry(), sector, Some(row)) && mapping.is_cached(sector);
+    if may {
+        mapping.set_dirty(sector, Some(row));
+    }
+    may
 }
 
-fn move_entry(rt: &impl Abort, mapping: &mut Mapping, sector: u32, row: u32) {
-    assert!(rt; is_entry(&mapping.geometry(), sector, Some(row)));
-    assert!(rt; !mapping.is_cached(sector));
-    assert!(rt; mapping.can_move(sector));
-    mapping.move_entry(sector, row);
+fn move_entry(mapping: &mut Mapping, sector: u32, row: u32) -> bool {
+    let may = is_entry(&mapping.geometry(), sector, Some(row))
+        && !mapping.is_cached(sector)
+        && mapping.can_move(sector);
+    if may {
+        mapping.move_entry(sector, row);
+    }
+    may
 }
 
-fn clean(rt: &impl Abort, mapping: &mut Mapping, t: u32) {
-    assert!(rt; t < mapping.geometry().translation_pages());
-    mapping.clean(t);
+fn clean(mapping: &mut Mapping, t: u32) -> bool {
+    let may = t < mapping.geometry().translation_pages();
+    if may {
+        mapping.clean(t);
+    }
+    may
 }
 
-// The rows that a translation page lacks are these.
-fn lacks(rt: &impl Abort, mapping: &Mapping, t: u32, want: &[(u32, Option<u32>)]) {
-    assert!(rt; t < mapping.geometry().translation_pages());
+fn lacks(mapping: &Mapping, t: u32, want: &[(u32, Option<u32>)]) -> bool {
+    if t >= mapping.geometry().translation_pages() {
+        return false;
+    }
     let mut rows = mapping.dirty_of(t);
     for row in want {
-        assert!(rt; rows.next() == Some(*row));
-    }
-    assert!(rt; rows.next() == None);
-    assert_eq!(rt; mapping.lacks(t), want.len() > 0);
-}
-
-// The cached sectors are these, the least recently used first, and all are clean.
-fn holds(rt: &impl Abort, mapping: &mut Mapping, want: &[(u32, u32)]) {
-    for (sector, row) in want {
-        let least = mapping.least_recent();
-        assert!(rt; least.is_some());
-        if let Some((least, slot)) = least {
-            assert_eq!(rt; least, *sector);
-            assert_eq!(rt; slot.row, Some(*row));
-            assert!(rt; !slot.dirty);
-            mapping.drop_least();
+        if rows.next() != Some(*row) {
+            return false;
         }
     }
-    assert!(rt; mapping.least_recent().is_none());
+    rows.next() == None && mapping.lacks(t) == (want.len() > 0)
 }
 
-#[test]
-fn a_write_evicts_what_was_written_back(rt: HostRuntime) -> Result<(), Fail> {
-    let mut mapping = small(&rt)?;
-    for sector in 0..4 {
-        assert_eq!(rt; mapping.peek(sector), None);
-        write(&rt, &mut mapping, sector, 8 + sector);
+fn moved(mapping: &Mapping, t: u32, want: &[(u32, u32)]) -> bool {
+    let mut rows = mapping.moved_of(t);
+    for row in want {
+        if rows.next() != Some(*row) {
+            return false;
+        }
     }
+    rows.next() == None
+}
 
-    // A read of sector 16 finds no place; one of sector 0 makes it the most recent.
-    assert_eq!(rt; mapping.lookup(16), None);
-    assert!(rt; mapping.is_full());
-    assert!(rt; !mapping.can_load(16));
-    assert_eq!(rt; mapping.lookup(0), Some(Some(8)));
-
-    // A write of sector 16 wants room: page 0 is written back, and its entries are clean.
-    let rows = [(0, Some(8)), (1, Some(9)), (2, Some(10)), (3, Some(11))];
-    lacks(&rt, &mapping, 0, &rows);
-    lacks(&rt, &mapping, 1, &[]);
-    let mut page = [0xffu8; 64];
+fn page_of(mapping: &Mapping, t: u32) -> [u8; 64] {
+    let mut page = [0xFF; 64];
     let geometry = mapping.geometry();
-    assert!(rt; geometry.data_bytes() == page.len());
-    assert!(rt; geometry.translation_pages() == 2);
-    mapping.write_into(0, &mut page);
+    if geometry.data_bytes() == page.len() && t < geometry.translation_pages() {
+        mapping.write_into(t, &mut page);
+    }
+    page
+}
+
+fn spells(page: &[u8; 64], want: &[Option<u32>; 16]) -> bool {
     for i in 0..16 {
-        let want = if i < 4 { Some(8 + i) } else { None };
-        assert_eq!(rt; translation_pages::entry(&page, i), want);
+        if entry(page, i) != want[i as usize] {
+            return false;
+        }
     }
-    clean(&rt, &mut mapping, 0);
-    lacks(&rt, &mapping, 0, &[]);
-    write(&rt, &mut mapping, 16, 12);
-    lacks(&rt, &mapping, 1, &[(16, Some(12))]);
-    assert_eq!(rt; mapping.peek(1), None);
-    clean(&rt, &mut mapping, 1);
-    holds(&rt, &mut mapping, &[(2, 10), (3, 11), (0, 8), (16, 12)]);
+    true
+}
+
+fn holds(mapping: &mut Mapping, want: &[(u32, u32)]) -> bool {
+    for (sector, row) in want {
+        let least = Slot {
+            row: Some(*row),
+            dirty: false,
+        };
+        if mapping.least_recent() != Some((*sector, least)) {
+            return false;
+        }
+        mapping.drop_least();
+    }
+    mapping.least_recent().is_none()
+}
+
+// Whether a call can be made and what is seen is as the step says.
+fn passes(mapping: &mut Mapping, step: Step) -> bool {
+    match step {
+        Step::Load(sector, row) => load(mapping, sector, row) == Some(true),
+        Step::TryLoad(sector, row) => match load(mapping, sector, row) {
+            Some(known) => is_known(mapping, sector, known),
+            None => false,
+        },
+        Step::SetDirty(sector, row) => set_dirty(mapping, sector, row),
+        Step::Move(sector, row) => move_entry(mapping, sector, row),
+        Step::Clean(t) => clean(mapping, t),
+        Step::Peek(sector, want) => mapping.peek(sector) == want,
+        Step::Lookup(sector, want) => mapping.lookup(sector) == want,
+        Step::IsFull => mapping.is_full(),
+        Step::HasNoPlace(sector) => !mapping.can_load(sector),
+        Step::Lacks(t, want) => lacks(mapping, t, want),
+        Step::Moved(t, want) => moved(mapping, t, want),
+        Step::Spells(t, want) => spells(&page_of(mapping, t), want),
+        Step::Holds(want) => holds(mapping, want),
+    }
+}
+
+fn run(rt: &impl Abort, alloc: Global, script: &Script) -> Result<(), Fail> {
+    let mut mapping = small(alloc)?;
+    for (at, step) in script.steps.iter().enumerate() {
+        assert!(rt; passes(&mut mapping, *step), "{}: step {at}", script.name);
+    }
     Ok(())
 }
 
 #[test]
-fn moved_sectors_wait_for_their_page(rt: HostRuntime) -> Result<(), Fail> {
-    let mut mapping = small(&rt)?;
-    write(&rt, &mut mapping, 7, 8);
-    write(&rt, &mut mapping, 7, 9);
-    for sector in 0..3 {
-        write(&rt, &mut mapping, sector, 10 + sector);
-    }
-    assert!(rt; !mapping.can_load(3));
-    clean(&rt, &mut mapping, 0);
-    for sector in 3..6 {
-        write(&rt, &mut mapping, sector, 10 + sector);
-    }
-
-    // The pages of all seven sectors move, and the order of the cached ones stays.
-    move_entry(&rt, &mut mapping, 7, 16);
-    move_entry(&rt, &mut mapping, 0, 17);
-    move_entry(&rt, &mut mapping, 1, 18);
-    for sector in 2..6 {
-        set_dirty(&rt, &mut mapping, sector, 17 + sector);
-    }
-    let mut moved = mapping.moved_of(0);
-    assert!(rt; moved.next() == Some((7, 16)));
-    assert!(rt; moved.next() == Some((0, 17)));
-    assert!(rt; moved.next() == Some((1, 18)));
-    assert!(rt; moved.next() == None);
-    assert!(rt; mapping.moved_of(1).next() == None);
-    let rows = [
-        (7, Some(16)),
-        (0, Some(17)),
-        (1, Some(18)),
-        (2, Some(19)),
-        (3, Some(20)),
-        (4, Some(21)),
-        (5, Some(22)),
-    ];
-    lacks(&rt, &mapping, 0, &rows);
-    assert_eq!(rt; mapping.lookup(7), Some(Some(16)));
-    clean(&rt, &mut mapping, 0);
-    assert_eq!(rt; mapping.peek(7), None);
-    holds(&rt, &mut mapping, &[(2, 19), (3, 20), (4, 21), (5, 22)]);
-    Ok(())
-}
-
-#[test]
-fn a_moved_sector_that_is_cached_is_dirty(rt: HostRuntime) -> Result<(), Fail> {
-    let mut mapping = small(&rt)?;
-    move_entry(&rt, &mut mapping, 7, 16);
-    move_entry(&rt, &mut mapping, 20, 18);
-    move_entry(&rt, &mut mapping, 7, 19);
-    load(&rt, &mut mapping, 7, Some(3));
-    assert!(rt; mapping.moved_of(0).next() == None);
-    lacks(&rt, &mapping, 0, &[(7, Some(19))]);
-    lacks(&rt, &mapping, 1, &[(20, Some(18))]);
-    Ok(())
-}
-
-#[test]
-fn a_refused_load_changes_nothing(rt: HostRuntime) -> Result<(), Fail> {
-    let mut mapping = small(&rt)?;
-    for sector in 0..6 {
-        assert!(rt; is_entry(&mapping.geometry(), sector, Some(sector)));
-        assert!(rt; mapping.can_load(sector));
-        let known = mapping.load(sector, Some(sector)).is_ok();
-        assert_eq!(rt; mapping.peek(sector).is_some(), known);
-        assert_eq!(rt; mapping.is_cached(sector), known);
+fn scripts_pass(rt: HostRuntime) -> Result<(), Fail> {
+    for script in &SCRIPTS {
+        run(&rt, rt.alloc(), script)?;
     }
     Ok(())
 }

@@ -2,10 +2,16 @@
 use budget::Stream;
 use page_layout::record::Kind;
 
+const STREAMS: [(Kind, Stream); 4] = [
+    (Kind::Sector, Stream::Data),
+    (Kind::Trim, Stream::Data),
+    (Kind::Translation, Stream::Meta),
+    (Kind::Table, Stream::Meta),
+];
+
 #[test]
 fn trims_go_with_sectors(rt: HostRuntime) {
-    assert_eq!(rt; Stream::of(Kind::Sector), Stream::Data);
-    assert_eq!(rt; Stream::of(Kind::Trim), Stream::Data);
-    assert_eq!(rt; Stream::of(Kind::Translation), Stream::Meta);
-    assert_eq!(rt; Stream::of(Kind::Table), Stream::Meta);
+    for (kind, stream) in STREAMS {
+        assert!(rt; Stream::of(kind) == stream, "at {kind:?}");
+    }
 }

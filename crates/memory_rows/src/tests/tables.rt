@@ -8,6 +8,43 @@ use std::alloc::{AllocError, Global};
 use std::process::Abort;
 use std::test::Fail;
 
+// Bytes in an image of 32 blocks of 8 pages of 64 and 32 bytes that is else erased.
+const WRITTEN: [(usize, u8); 5] = [
+    // Block 3: the last spare byte of its first page. Block 9: the first spare byte of its last page.
+    (24 * 96 + 95, 0),
+    (79 * 96 + 64, 0),
+    // Block 5: a data byte of its first page. Block 6: a spare byte of its second page. Block 7: another byte.
+    (40 * 96 + 63, 0),
+    (49 * 96 + 64, 0),
+    (56 * 96 + 64, 1),
+];
+
+fn image_of(
+    rt: &impl Abort,
+    alloc: Global,
+    written: &[(usize, u8)],
+) -> Result<Vec<u8>, AllocError> {
+    let mut bytes = vec![in alloc; 0xFFu8; 24576]?;
+    for (place, byte) in written {
+        assert!(rt; *place < bytes.len());
+        bytes[*place] = *byte;
+    }
+    Ok(bytes)
+}
+
+#[test]
+fn spare_bytes_of_first_and_last_pages_are_marks(rt: HostRuntime) -> Result<(), Fail> {
+    let geometry = Geometry::new(64, 32, 8, 32, 32)?;
+    let bytes = image_of(&rt, rt.alloc(), &WRITTEN)?;
+    let mut image = ImageSlice::new(&geometry, &bytes)?;
+    assert!(rt; image.geometry() == geometry);
+    let marks = factory_scan(rt.alloc(), &mut image, &geometry)?;
+    for (block, marked) in marks.iter().enumerate() {
+        assert!(rt; *marked == (block == 3 || block == 9), "block {block}");
+    }
+    Ok(())
+}
+
 // A table of good blocks that were never erased, but for these factory bad ones.
 fn fresh_table(
     rt: &impl Abort,
@@ -38,55 +75,77 @@ fn read(table: &mut Table, u: u32, page: &[u8; 64]) -> Result<(), TableFault> {
     read_table_page(table, u, page)
 }
 
-// 32 blocks of 8 pages of 64 and 32 bytes.
 #[test]
-fn spare_bytes_of_first_and_last_pages_are_marks(rt: HostRuntime) -> Result<(), Fail> {
-    let geometry = Geometry::new(64, 32, 8, 32, 32)?;
-    let mut bytes = vec![in rt.alloc(); 0xFFu8; 24576]?;
-    // Block 3: the last spare byte of its first page. Block 9: the first spare byte of its last page.
-    bytes[24 * 96 + 95] = 0;
-    bytes[79 * 96 + 64] = 0;
-    // Block 5: a data byte of its first page. Block 6: a spare byte of its second page. Block 7: another byte.
-    bytes[40 * 96 + 63] = 0;
-    bytes[49 * 96 + 64] = 0;
-    bytes[56 * 96 + 64] = 1;
-    let mut image = ImageSlice::new(&geometry, &bytes)?;
-    assert_eq!(rt; image.geometry(), geometry);
-    let marks = factory_scan(rt.alloc(), &mut image, &geometry)?;
-    for (block, marked) in marks.iter().enumerate() {
-        assert_eq!(rt; *marked, block == 3 || block == 9);
+fn factory_bad_blocks_are_spelled(rt: HostRuntime) -> Result<(), Fail> {
+    let table = fresh_table(&rt, rt.alloc(), 32, &[3, 9])?;
+    assert!(rt; table.good() == 30);
+    let mut page = [0xFF; 64];
+    write(&table, 0, &mut page);
+    for (place, byte) in page.iter().enumerate() {
+        let class = if place == 12 || place == 36 { 1 } else { 0 };
+        assert!(rt; *byte == class, "byte {place}");
     }
     Ok(())
 }
 
-#[test]
-fn factory_bad_blocks_are_spelled(rt: HostRuntime) -> Result<(), Fail> {
-    let table = fresh_table(&rt, rt.alloc(), 32, &[3, 9])?;
-    assert_eq!(rt; table.good(), 30);
-    let mut page = [0xFF; 64];
-    write(&table, 0, &mut page);
-    for (place, byte) in page.iter().enumerate() {
-        assert_eq!(rt; *byte, if place == 12 || place == 36 { 1 } else { 0 });
+// A table page of zeros so far, then of FFh, with some bytes replaced, what reading it answers, and how many blocks of
+// the table are good then.
+struct Page {
+    name: &'static str,
+    number: u32,
+    zeros: usize,
+    replaced: &'static [(usize, u8)],
+    answer: Result<(), TableFault>,
+    good: u32,
+}
+
+// Of a table of 24 blocks of which block 1 is bad. Blocks 16 to 23 stand in table page 1, and padding from byte 32 on.
+const PAGES: [Page; 3] = [
+    Page {
+        name: "no class 3",
+        number: 0,
+        zeros: 64,
+        replaced: &[(4, 3)],
+        answer: Err(TableFault::BadClass),
+        good: 23,
+    },
+    Page {
+        name: "padding is no FFh",
+        number: 1,
+        zeros: 32,
+        replaced: &[(32, 0)],
+        answer: Err(TableFault::BadPadding),
+        good: 23,
+    },
+    Page {
+        name: "the last block is grown bad",
+        number: 1,
+        zeros: 32,
+        replaced: &[(28, 2), (29, 5), (30, 1), (31, 0)],
+        answer: Ok(()),
+        good: 22,
+    },
+];
+
+fn page_of(rt: &impl Abort, page: &Page) -> [u8; 64] {
+    let mut bytes = [0xFF; 64];
+    assert!(rt; page.zeros <= bytes.len());
+    bytes[..page.zeros].fill(0);
+    for (place, byte) in page.replaced {
+        assert!(rt; *place < bytes.len());
+        bytes[*place] = *byte;
     }
-    Ok(())
+    bytes
 }
 
 #[test]
 fn pages_that_no_table_has_are_refused(rt: HostRuntime) -> Result<(), Fail> {
     let mut table = fresh_table(&rt, rt.alloc(), 24, &[1])?;
-    let mut first = [0; 64];
-    first[4] = 3;
-    assert_eq!(rt; read(&mut table, 0, &first), Err(TableFault::BadClass));
-    // Blocks 16 to 23 stand in table page 1, and padding from byte 32 on.
-    let mut second = [0xFF; 64];
-    second[..32].fill(0);
-    second[32] = 0;
-    assert_eq!(rt; read(&mut table, 1, &second), Err(TableFault::BadPadding));
-    assert_eq!(rt; table.good(), 23);
-    second[32] = 0xFF;
-    second[28..32].copy_from_slice(&[2, 5, 1, 0]);
-    assert_eq!(rt; read(&mut table, 1, &second), Ok(()));
-    assert_eq!(rt; table.good(), 22);
+    for page in &PAGES {
+        let answer = read(&mut table, page.number, &page_of(&rt, page));
+        assert!(rt; answer == page.answer, "{}", page.name);
+        assert!(rt; table.good() == page.good, "{}", page.name);
+    }
     Ok(())
 }
 
@@ -101,9 +160,9 @@ fn failures_and_erases_are_counted(rt: HostRuntime) -> Result<(), Fail> {
     table.count_erase(1);
     table.retire(1);
     table.retire(1);
-    assert_eq!(rt; table.good(), 1);
-    assert_eq!(rt; table.wear(1), 16_777_215);
-    assert_eq!(rt; table.class(1), Class::Grown);
-    assert_eq!(rt; table.class(0), Class::Good);
+    assert!(rt; table.good() == 1);
+    assert!(rt; table.wear(1) == 16_777_215);
+    assert!(rt; table.class(1) == Class::Grown);
+    assert!(rt; table.class(0) == Class::Good);
     Ok(())
 }

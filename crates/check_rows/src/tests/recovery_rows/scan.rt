@@ -1,0 +1,258 @@
+//! One sector by the plain scan, over images whose pages are built one by one.
+ghost use Rattle.std.specs.Prelude.{◌≡◌};
+
+use super::hold;
+use image_check::{SectorFault, sector, sector_in};
+use page_layout::geometry::Geometry;
+use page_layout::record::{Kind, Record, write_record};
+use page_layout::source::{ImageSlice, PageSource, SourceFault};
+use std::alloc::{AllocError, Global};
+use std::process::Abort;
+use std::test::Fail;
+
+// A page of sector 5: its row, its kind, its sequence, and the byte that fills its data area.
+struct Written {
+    row: u32,
+    kind: Kind,
+    sequence: u64,
+    fill: u8,
+}
+
+// The areas of this page, or of an erased one.
+fn areas_of(rt: &impl Abort, geometry: &Geometry, page: Option<&Written>) -> ([u8; 64], [u8; 32]) {
+    let Some(page) = page else {
+        return ([0xFF; 64], [0xFF; 32]);
+    };
+    let written = Record {
+        kind: page.kind,
+        number: 5,
+        sequence: page.sequence,
+        wear: 0,
+    };
+    let body = [page.fill; 64];
+    let mut spare = [0; 32];
+    assert!(rt; geometry.data_bytes() == 64 && geometry.spare_bytes() == 32);
+    write_record(geometry, &written, &body, &mut spare);
+    (body, spare)
+}
+
+// Erased pages, but for these.
+fn image(
+    rt: &impl Abort,
+    alloc: Global,
+    geometry: &Geometry,
+    pages: &[Written],
+) -> Result<Vec<u8>, AllocError> {
+    let mut bytes = Vec::new(alloc);
+    for row in 0..geometry.rows() {
+        let page = pages.iter().find(|page| page.row == row);
+        let (body, spare) = areas_of(rt, geometry, page);
+        bytes.extend_from_slice(&body)?;
+        bytes.extend_from_slice(&spare)?;
+    }
+    Ok(bytes)
+}
+
+// What the scan answers, with what it left of a sector of AAh bytes.
+fn copied<S: PageSource>(
+    alloc: Global,
+    source: &mut S,
+    geometry: &Geometry,
+    number: u32,
+) -> Result<(Result<(), SectorFault>, Vec<u8>), AllocError>
+    requires { (S.flash source.old).geometry ≡ geometry.now }
+{
+    let mut page = vec![in alloc; 0u8; geometry.data_bytes() + geometry.spare_bytes()]?;
+    let mut out = vec![in alloc; 0xAAu8; geometry.data_bytes()]?;
+    let answer = sector(source, geometry, number, &mut page, &mut out);
+    Ok((answer, out))
+}
+
+// The first byte of what is lent of a sector.
+fn first_lent(slice: &ImageSlice<'_>, number: u32) -> Option<u8> {
+    let lent = sector_in(slice, number).ok().flatten()?;
+    lent.first().copied()
+}
+
+// The pages of an image, and what both calls answer for sector 5: the one that copies it, with the byte that fills it then, and the
+// first byte that the other one lends.
+struct Scanned {
+    name: &'static str,
+    pages: &'static [Written],
+    answer: Result<(), SectorFault>,
+    fill: u8,
+    lent: Option<u8>,
+}
+
+const SCANNED: [Scanned; 3] = [
+    Scanned {
+        name: "the newest page is the sector",
+        pages: &[
+            Written {
+                row: 8,
+                kind: Kind::Sector,
+                sequence: 9,
+                fill: 0x11,
+            },
+            Written {
+                row: 16,
+                kind: Kind::Sector,
+                sequence: 4,
+                fill: 0x22,
+            },
+        ],
+        answer: Ok(()),
+        fill: 0x11,
+        lent: Some(0x11),
+    },
+    Scanned {
+        name: "a trim reads as zeros",
+        pages: &[
+            Written {
+                row: 8,
+                kind: Kind::Sector,
+                sequence: 3,
+                fill: 0x11,
+            },
+            Written {
+                row: 9,
+                kind: Kind::Trim,
+                sequence: 4,
+                fill: 0x22,
+            },
+        ],
+        answer: Ok(()),
+        fill: 0,
+        lent: None,
+    },
+    Scanned {
+        name: "of three rows that share the sequence the lowest two are named",
+        pages: &[
+            Written {
+                row: 7,
+                kind: Kind::Sector,
+                sequence: 8,
+                fill: 0x11,
+            },
+            Written {
+                row: 8,
+                kind: Kind::Sector,
+                sequence: 9,
+                fill: 0x11,
+            },
+            Written {
+                row: 16,
+                kind: Kind::Trim,
+                sequence: 9,
+                fill: 0x22,
+            },
+            Written {
+                row: 24,
+                kind: Kind::Sector,
+                sequence: 9,
+                fill: 0x33,
+            },
+            Written {
+                row: 25,
+                kind: Kind::Sector,
+                sequence: 7,
+                fill: 0x33,
+            },
+        ],
+        answer: Err(SectorFault::SequenceRepeated {
+            first: 8,
+            second: 16,
+        }),
+        fill: 0,
+        lent: None,
+    },
+];
+
+fn hold_scan(rt: &impl Abort, alloc: Global, row: &Scanned) -> Result<(), Fail> {
+    let geometry = Geometry::new(64, 32, 8, 32, 32)?;
+    let bytes = image(rt, alloc, &geometry, row.pages)?;
+    let mut slice = ImageSlice::new(&geometry, &bytes)?;
+    hold(rt, &row.name, &first_lent(&slice, 5), &row.lent);
+    let (answer, out) = copied(alloc, &mut slice, &geometry, 5)?;
+    hold(rt, &row.name, &answer, &row.answer);
+    hold(rt, &row.name, &out.as_slice(), &[row.fill; 64].as_slice());
+    Ok(())
+}
+
+#[test]
+fn scanned_images(rt: HostRuntime) -> Result<(), Fail> {
+    for row in &SCANNED {
+        hold_scan(&rt, rt.alloc(), row)?;
+    }
+    Ok(())
+}
+
+// A source whose every read fails.
+#[derive(Drop)]
+struct Unreadable {
+    geometry: Geometry,
+    reads: u64,
+}
+
+impl PageSource for Unreadable {
+    ghost use Rattle.std.specs.Prelude.{false, []};
+    ghost use Rattle.page_layout.specs.Raw.{still};
+
+    ghost flash = { λ s. still s.geometry [] };
+
+    ghost honest = { λ _. false };
+
+    ghost reads = { λ s. s.reads };
+
+    ghost programs = { λ _. 0 };
+
+    ghost erases = { λ _. 0 };
+
+    ghost failed = { λ s. s.reads };
+
+    fn read_page(
+        &mut self,
+        _row: u32,
+        body: &mut [u8],
+        _spare: &mut [u8],
+    ) -> Result<(), SourceFault> {
+        self.reads = self.reads.saturating_add(1);
+        body.fill(0x55);
+        Err(SourceFault(6))
+    }
+
+    fn failures(&self) -> u64 {
+        self.reads
+    }
+}
+
+// A sector, what the scan answers for it, and the reads that failed since the first row.
+const REFUSED: [(u32, SectorFault, u64); 2] = [
+    (32, SectorFault::OutOfRange, 0),
+    (31, SectorFault::Source, 1),
+];
+
+fn hold_refusal(
+    rt: &impl Abort,
+    alloc: Global,
+    source: &mut Unreadable,
+    number: u32,
+    fault: SectorFault,
+) -> Result<(), AllocError> {
+    let geometry = source.geometry;
+    let (answer, out) = copied(alloc, source, &geometry, number)?;
+    hold(rt, &fault, &answer, &Err(fault));
+    hold(rt, &fault, &out.as_slice(), &[0; 64].as_slice());
+    Ok(())
+}
+
+#[test]
+fn failed_read_leaves_zeros(rt: HostRuntime) -> Result<(), Fail> {
+    let geometry = Geometry::new(64, 32, 8, 32, 32)?;
+    let mut source = Unreadable { geometry, reads: 0 };
+    for (number, fault, failures) in REFUSED {
+        hold_refusal(&rt, rt.alloc(), &mut source, number, fault)?;
+        hold(&rt, &fault, &source.failures(), &failures);
+    }
+    Ok(())
+}

@@ -1,0 +1,136 @@
+//! What a die of the small geometry is asked for through any driver, and what it answers.
+ghost use Rattle.std.specs.Prelude.{◌≡◌, ◌<◌};
+ghost use Rattle.page_layout.specs.Geometry.{row_count};
+
+use super::steps::Place;
+use onfi_cycles::{Bus, BusFault, Driver, Nand, Outcome};
+use page_layout::geometry::Geometry;
+use page_layout::source::{PageSource, SourceFault};
+use std::process::Abort;
+
+/// An operation and its answer. A page is one byte in its data area and another in its spare area.
+#[derive(Clone, Copy)]
+pub enum Operation {
+    // A program of a row.
+    Program(u32, u8, u8, Result<Outcome, BusFault>),
+    // An erase of a block.
+    Erase(u32, Result<Outcome, BusFault>),
+    // A page read of a row.
+    Read(u32, u8, u8),
+    // A page read of a row that fails.
+    Fails(u32, SourceFault),
+    // How many faults were answered.
+    Failures(u64),
+}
+
+// A program of a row with one byte in the data area and another in the spare area.
+fn program<N: Nand>(
+    rt: &impl Abort,
+    nand: &mut N,
+    row: u32,
+    body: u8,
+    spare: u8,
+) -> Result<Outcome, BusFault>
+    requires rows { row_count (N.flash nand.old).geometry ≡ 256 }
+    requires data_bytes { (N.flash nand.old).geometry.data_bytes ≡ 64 }
+    requires spare_bytes { (N.flash nand.old).geometry.spare_bytes ≡ 32 }
+    ensures { (N.flash nand.new).geometry ≡ (N.flash nand.old).geometry }
+{
+    assert!(rt; row < 256);
+    nand.program(row, &[body; 64], &[spare; 32])
+}
+
+fn erase<N: Nand>(rt: &impl Abort, nand: &mut N, block: u32) -> Result<Outcome, BusFault>
+    requires blocks { (N.flash nand.old).geometry.blocks ≡ 32 }
+    ensures { (N.flash nand.new).geometry ≡ (N.flash nand.old).geometry }
+{
+    assert!(rt; block < 32);
+    nand.erase(block)
+}
+
+// The page of a row.
+fn read<N: Nand>(
+    rt: &impl Abort,
+    nand: &mut N,
+    row: u32,
+) -> Result<([u8; 64], [u8; 32]), SourceFault>
+    requires rows { row_count (N.flash nand.old).geometry ≡ 256 }
+    requires data_bytes { (N.flash nand.old).geometry.data_bytes ≡ 64 }
+    requires spare_bytes { (N.flash nand.old).geometry.spare_bytes ≡ 32 }
+    ensures { (N.flash nand.new).geometry ≡ (N.flash nand.old).geometry }
+{
+    assert!(rt; row < 256);
+    let mut body = [0; 64];
+    let mut spare = [0; 32];
+    nand.read_page(row, &mut body, &mut spare)?;
+    Ok((body, spare))
+}
+
+// One operation, held to its answer.
+fn ask<N: Nand>(rt: &impl Abort, nand: &mut N, operation: Operation, place: Place)
+    requires rows { row_count (N.flash nand.old).geometry ≡ 256 }
+    requires blocks { (N.flash nand.old).geometry.blocks ≡ 32 }
+    requires data_bytes { (N.flash nand.old).geometry.data_bytes ≡ 64 }
+    requires spare_bytes { (N.flash nand.old).geometry.spare_bytes ≡ 32 }
+    ensures { (N.flash nand.new).geometry ≡ (N.flash nand.old).geometry }
+{
+    match operation {
+        Operation::Program(row, body, spare, want) => {
+            assert_eq!(rt; program(rt, nand, row, body, spare), want, "{place:?}");
+        }
+        Operation::Erase(block, want) => {
+            assert_eq!(rt; erase(rt, nand, block), want, "{place:?}");
+        }
+        Operation::Read(row, body, spare) => {
+            let want = Ok(([body; 64], [spare; 32]));
+            assert_eq!(rt; read(rt, nand, row), want, "{place:?}");
+        }
+        Operation::Fails(row, fault) => {
+            assert_eq!(rt; read(rt, nand, row), Err(fault), "{place:?}");
+        }
+        Operation::Failures(count) => {
+            assert_eq!(rt; nand.failures(), count, "{place:?}");
+        }
+    }
+}
+
+// Operations one after another, through any die.
+fn ask_each<N: Nand>(rt: &impl Abort, nand: &mut N, name: &str, operations: &[Operation])
+    requires rows { row_count (N.flash nand.old).geometry ≡ 256 }
+    requires blocks { (N.flash nand.old).geometry.blocks ≡ 32 }
+    requires data_bytes { (N.flash nand.old).geometry.data_bytes ≡ 64 }
+    requires spare_bytes { (N.flash nand.old).geometry.spare_bytes ≡ 32 }
+{
+    for (step, operation) in operations.iter().enumerate() {
+        ask(rt, nand, *operation, Place { row: name, step });
+    }
+}
+
+fn driver_of<B: Bus + Drop>(rt: &impl Abort, bus: B, geometry: Geometry) -> Driver<B>
+    requires { (B.die bus).flash.geometry ≡ geometry }
+    ensures { result.geometry ≡ geometry }
+{
+    match Driver::new(bus, geometry) {
+        Ok(driver) => driver,
+        Err(_) => panic!(rt; "no reset"),
+    }
+}
+
+/// A bus after a driver was made over it and was asked for these operations.
+pub fn after<B: Bus + Drop>(
+    rt: &impl Abort,
+    bus: B,
+    geometry: Geometry,
+    name: &str,
+    operations: &[Operation],
+) -> B
+    requires bus { (B.die bus).flash.geometry ≡ geometry }
+    requires rows { row_count geometry ≡ 256 }
+    requires blocks { geometry.blocks ≡ 32 }
+    requires data_bytes { geometry.data_bytes ≡ 64 }
+    requires spare_bytes { geometry.spare_bytes ≡ 32 }
+{
+    let mut driver = driver_of(rt, bus, geometry);
+    ask_each(rt, &mut driver, name, operations);
+    driver.into_bus()
+}

@@ -1,0 +1,115 @@
+//! A bus that writes down its cycles.
+ghost use Rattle.std.specs.Prelude.{◌≡◌};
+
+use onfi_cycles::{Bus, BusFault};
+use std::alloc::Global;
+use std::process::Abort;
+
+/// What a bus was handed or put out. Of data it has how many bytes, and the one that each of them is.
+#[derive(Clone, Copy, Debug, PartialEq, Eq)]
+pub enum Seen {
+    Command(u8),
+    Address(u8),
+    In(usize, u8),
+    Out(usize, u8),
+    // Data with no byte, or with different ones.
+    Mixed,
+}
+
+/// A bus that writes down the cycles of another.
+#[derive(Drop)]
+pub struct Recorder<B: Bus> {
+    bus: B,
+    seen: Vec<Seen>,
+}
+
+// The byte that each of these is.
+fn repeated(bytes: &[u8]) -> Option<u8> {
+    let first = *bytes.first()?;
+    for byte in bytes {
+        if *byte != first {
+            return None;
+        }
+    }
+    Some(first)
+}
+
+fn data_in(bytes: &[u8]) -> Seen {
+    match repeated(bytes) {
+        Some(byte) => Seen::In(bytes.len(), byte),
+        None => Seen::Mixed,
+    }
+}
+
+fn data_out(bytes: &[u8]) -> Seen {
+    match repeated(bytes) {
+        Some(byte) => Seen::Out(bytes.len(), byte),
+        None => Seen::Mixed,
+    }
+}
+
+impl<B: Bus> Recorder<B> {
+    pub fn new(alloc: Global, bus: B) -> Recorder<B>
+        ensures { result.bus ≡ bus }
+    {
+        let seen = Vec::new(alloc);
+        Recorder { bus, seen }
+    }
+
+    // A cycle that finds no memory is missing in the notes.
+    fn note(&mut self, seen: Seen)
+        ensures { self.new.bus ≡ self.old.bus }
+    {
+        let _ = self.seen.push(seen);
+    }
+}
+
+impl<B: Bus> Bus for Recorder<B> {
+    ghost die = { λ recorder. B.die recorder.bus };
+
+    ghost honest = { λ recorder. B.honest recorder.bus };
+
+    ghost failed = { λ recorder. B.failed recorder.bus };
+
+    fn command(&mut self, code: u8) -> Result<(), BusFault> {
+        self.note(Seen::Command(code));
+        self.bus.command(code)
+    }
+
+    fn address(&mut self, byte: u8) -> Result<(), BusFault> {
+        self.note(Seen::Address(byte));
+        self.bus.address(byte)
+    }
+
+    fn data_in(&mut self, bytes: &[u8]) -> Result<(), BusFault> {
+        self.note(data_in(bytes));
+        self.bus.data_in(bytes)
+    }
+
+    fn data_out(&mut self, bytes: &mut [u8]) -> Result<(), BusFault> {
+        let answer = self.bus.data_out(bytes);
+        self.note(data_out(bytes));
+        answer
+    }
+
+    fn failures(&self) -> u64 {
+        self.bus.failures()
+    }
+}
+
+/// Gives the bus back, after just these cycles.
+pub fn after_cycles<B: Bus>(
+    rt: &impl Abort,
+    alloc: Global,
+    recorder: Recorder<B>,
+    name: &str,
+    parts: &[&[Seen]],
+) -> B {
+    let Recorder { bus, seen } = recorder;
+    let mut want = Vec::new(alloc);
+    for part in parts {
+        want.extend_from_slice(part).expect(rt, "a list");
+    }
+    assert_eq!(rt; seen, want, "{name}");
+    bus
+}

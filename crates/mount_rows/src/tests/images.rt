@@ -1,0 +1,306 @@
+//! Images of the geometry 64,32,8,32,32, whose pages are built one by one, and sources that fail.
+use super::said::{Said, hold_said, mounted, stale_count};
+use image_check::Refusal;
+use page_layout::geometry::Geometry;
+use page_layout::record::{Kind, Record, write_record};
+use page_layout::source::{ImageSlice, PageSource, SourceFault};
+use std::alloc::{AllocError, Global};
+use std::process::Abort;
+use std::test::Fail;
+
+// A sound page: its row, its record's kind, number and sequence, and the byte that fills its data area.
+type Page = (u32, Kind, u32, u64, u8);
+
+// What the certificate says that mounting answers, and how many sectors a check of it finds stale.
+type Accepted = (&'static [Said], usize);
+
+// The pages of a die that is else erased, the capacity of its mapping, and what mounting answers.
+struct Case {
+    name: &'static str,
+    pages: &'static [Page],
+    capacity: u32,
+    answer: Result<Accepted, Refusal>,
+}
+
+// The two table pages of a formatted die without marks.
+const TABLE_0: Page = (0, Kind::Table, 0, 1, 0);
+
+const TABLE_1: Page = (1, Kind::Table, 1, 2, 0);
+
+// A table page whose record is sound, and whose bytes no table has.
+const DAMAGED: Page = (0, Kind::Table, 0, 1, 3);
+
+const LAST: Page = (8, Kind::Sector, 5, u64::MAX, 1);
+
+// Three sectors were written and no translation page.
+const THREE: [Page; 5] = [
+    TABLE_0,
+    TABLE_1,
+    (8, Kind::Sector, 0, 3, 1),
+    (9, Kind::Sector, 1, 4, 1),
+    (10, Kind::Sector, 2, 5, 1),
+];
+
+const CASES: [Case; 14] = [
+    Case {
+        name: "three stale sectors, and room for two",
+        pages: &THREE,
+        capacity: 2,
+        answer: Err(Refusal::TooStale {
+            stale: 3,
+            capacity: 2,
+        }),
+    },
+    Case {
+        name: "three stale sectors",
+        pages: &THREE,
+        capacity: 3,
+        answer: Ok((
+            &[
+                Said::NextSequence(6),
+                Said::Block(0, (2, 2, 2, 0)),
+                Said::Block(1, (1, 3, 3, 0)),
+                Said::Block(2, (0, 0, 0, 0)),
+            ],
+            3,
+        )),
+    },
+    Case {
+        name: "a shared sequence",
+        pages: &[
+            TABLE_0,
+            TABLE_1,
+            (8, Kind::Sector, 1, 9, 1),
+            (16, Kind::Translation, 0, 9, 0xFF),
+        ],
+        capacity: 4,
+        answer: Err(Refusal::SequenceRepeated {
+            first: 8,
+            second: 16,
+        }),
+    },
+    // A block whose first page is erased and whose second is sound was programmed out of order. Its newest page counts.
+    Case {
+        name: "a gap makes a block grown bad",
+        pages: &[TABLE_0, TABLE_1, (41, Kind::Sector, 5, 3, 1)],
+        capacity: 4,
+        answer: Ok((
+            &[
+                Said::Block(5, (5, 0, 1, 0)),
+                Said::Good(31),
+                Said::Sector(5, Some(41)),
+            ],
+            1,
+        )),
+    },
+    Case {
+        name: "an erased die",
+        pages: &[],
+        capacity: 4,
+        answer: Err(Refusal::NotFormatted),
+    },
+    Case {
+        name: "a sector past the last",
+        pages: &[TABLE_0, TABLE_1, (8, Kind::Sector, 32, 3, 1)],
+        capacity: 4,
+        answer: Err(Refusal::NumberRange { row: 8 }),
+    },
+    Case {
+        name: "a damaged table page",
+        pages: &[TABLE_0, (1, Kind::Table, 1, 2, 3)],
+        capacity: 4,
+        answer: Err(Refusal::TableDamaged { page: 1 }),
+    },
+    Case {
+        name: "the greatest sequence leaves no next",
+        pages: &[TABLE_0, TABLE_1, LAST],
+        capacity: 4,
+        answer: Err(Refusal::NextSequence),
+    },
+    Case {
+        name: "the greatest but one leaves the greatest",
+        pages: &[TABLE_0, TABLE_1, (8, Kind::Sector, 5, u64::MAX - 1, 1)],
+        capacity: 4,
+        answer: Ok((&[Said::NextSequence(u64::MAX)], 1)),
+    },
+    // From here on each image breaks two parts that stand side by side in the order. The first is answered.
+    Case {
+        name: "a number before a sequence",
+        pages: &[TABLE_0, TABLE_1, (8, Kind::Sector, 32, 1, 1)],
+        capacity: 4,
+        answer: Err(Refusal::NumberRange { row: 8 }),
+    },
+    Case {
+        name: "a sequence before a missing table page",
+        pages: &[TABLE_0, (8, Kind::Sector, 1, 1, 1)],
+        capacity: 4,
+        answer: Err(Refusal::SequenceRepeated {
+            first: 0,
+            second: 8,
+        }),
+    },
+    Case {
+        name: "a missing table page before a damaged one",
+        pages: &[DAMAGED],
+        capacity: 4,
+        answer: Err(Refusal::NotFormatted),
+    },
+    Case {
+        name: "a damaged table page before the next sequence",
+        pages: &[DAMAGED, TABLE_1, LAST],
+        capacity: 4,
+        answer: Err(Refusal::TableDamaged { page: 0 }),
+    },
+    Case {
+        name: "the next sequence before the stale sectors",
+        pages: &[TABLE_0, TABLE_1, LAST, (9, Kind::Sector, 6, 3, 1)],
+        capacity: 1,
+        answer: Err(Refusal::NextSequence),
+    },
+];
+
+// Writes the spare area of a page with this record.
+fn write_spare(geometry: &Geometry, found: &Record, body: &[u8], spare: &mut [u8]) {
+    if geometry.data_bytes() == body.len() && geometry.spare_bytes() == spare.len() {
+        write_record(geometry, found, body, spare);
+    }
+}
+
+// Writes a page's data and spare areas, of 64 and of 32 bytes.
+fn write_page(geometry: &Geometry, page: &Page, body: &mut [u8; 64], spare: &mut [u8; 32]) {
+    let (_, kind, number, sequence, fill) = *page;
+    let found = Record {
+        kind,
+        number,
+        sequence,
+        wear: 0,
+    };
+    *body = [fill; 64];
+    write_spare(geometry, &found, body, spare);
+}
+
+fn push_row(
+    bytes: &mut Vec<u8>,
+    geometry: &Geometry,
+    pages: &[Page],
+    row: u32,
+) -> Result<(), AllocError> {
+    let mut body = [0xFF; 64];
+    let mut spare = [0xFF; 32];
+    for page in pages {
+        if page.0 == row {
+            write_page(geometry, page, &mut body, &mut spare);
+        }
+    }
+    bytes.extend_from_slice(&body)?;
+    bytes.extend_from_slice(&spare)
+}
+
+// The image of a die that is erased but for these pages.
+fn image_of(alloc: Global, geometry: &Geometry, pages: &[Page]) -> Result<Vec<u8>, AllocError> {
+    let mut bytes = Vec::new(alloc);
+    for row in 0..256 {
+        push_row(&mut bytes, geometry, pages, row)?;
+    }
+    Ok(bytes)
+}
+
+fn hold_case(rt: &impl Abort, alloc: Global, case: &Case) -> Result<(), Fail> {
+    let geometry = Geometry::new(64, 32, 8, 32, 32)?;
+    let bytes = image_of(alloc, &geometry, case.pages)?;
+    let mut source = ImageSlice::new(&geometry, &bytes)?;
+    match mounted(alloc, &mut source, &geometry, case.capacity) {
+        Ok(certificate) => {
+            let (said, want) = case.answer?;
+            hold_said(rt, case.name, &certificate, said);
+            let stale = stale_count(alloc, &mut source, &geometry, case.capacity, &certificate);
+            assert!(rt; stale == Ok(want), "{}", case.name);
+        }
+        Err(refusal) => assert!(rt; case.answer.err() == Some(refusal), "{}", case.name),
+    }
+    Ok(())
+}
+
+#[test]
+fn images_are_mounted(rt: HostRuntime) -> Result<(), Fail> {
+    for case in &CASES {
+        hold_case(&rt, rt.alloc(), case)?;
+    }
+    Ok(())
+}
+
+// An image whose page read of one number fails.
+#[derive(Drop)]
+struct FailingAt<'a> {
+    image: ImageSlice<'a>,
+    nth: u64,
+    reads: u64,
+    faults: u64,
+}
+
+impl<'a> PageSource for FailingAt<'a> {
+    ghost use Rattle.std.specs.Prelude.{false};
+
+    ghost flash = { λ s. s.image.flash };
+
+    ghost honest = { λ _. false };
+
+    ghost reads = { λ s. s.reads };
+
+    ghost programs = { λ _. 0 };
+
+    ghost erases = { λ _. 0 };
+
+    ghost failed = { λ s. s.faults };
+
+    fn read_page(
+        &mut self,
+        row: u32,
+        body: &mut [u8],
+        spare: &mut [u8],
+    ) -> Result<(), SourceFault> {
+        self.reads = self.reads.saturating_add(1);
+        if self.reads == self.nth {
+            self.faults = self.faults.saturating_add(1);
+            return Err(SourceFault(6));
+        }
+        self.image.read_page(row, body, spare)
+    }
+
+    fn failures(&self) -> u64 {
+        self.faults
+    }
+}
+
+const NEWEST: [Page; 3] = [TABLE_0, TABLE_1, (2, Kind::Translation, 0, 3, 0xFF)];
+
+// The number of the page read that fails, and what mounting answers: the first page, the last, and the newest translation
+// page, which is read again.
+const FAILING: [(u64, Option<Refusal>); 4] = [
+    (1, Some(Refusal::Source)),
+    (256, Some(Refusal::Source)),
+    (257, Some(Refusal::Source)),
+    (258, None),
+];
+
+// What mounting an image of those pages answers where the page read of this number fails.
+fn failing_at(alloc: Global, bytes: &[u8], nth: u64) -> Result<Option<Refusal>, Fail> {
+    let geometry = Geometry::new(64, 32, 8, 32, 32)?;
+    let mut source = FailingAt {
+        image: ImageSlice::new(&geometry, bytes)?,
+        nth,
+        reads: 0,
+        faults: 0,
+    };
+    Ok(mounted(alloc, &mut source, &geometry, 4).err())
+}
+
+#[test]
+fn failed_read_is_answered(rt: HostRuntime) -> Result<(), Fail> {
+    let geometry = Geometry::new(64, 32, 8, 32, 32)?;
+    let bytes = image_of(rt.alloc(), &geometry, &NEWEST)?;
+    for (nth, want) in FAILING {
+        assert!(rt; failing_at(rt.alloc(), &bytes, nth)? == want, "at {nth}");
+    }
+    Ok(())
+}
