@@ -4,26 +4,8 @@ use Rattle.std.specs.List.{flat_map}
 use Rattle.std.specs.Int.{w32, to_le_bytes}
 use Rattle.std.proofs.lemmas.Nat.{le_bytes_4, from_le_bytes-to_le_bytes_4}
 use Rattle.page_layout.specs.Word.{word_at}
+use Rattle.page_layout.proofs.WordLemmas.{word_at-shift, four_below}
 use Rattle.bad_blocks.specs.TablePage.{word_bytes}
-
-get_or-shift : (a b c d : ℕ) (bytes : List ℕ) (j m : ℕ) → m ≡ suc (suc (suc (suc j))) → get_or (a ∷ b ∷ c ∷ d ∷ bytes) m 0 ≡ get_or bytes j 0
-get_or-shift a b c d bytes j m e = rw e
-
--- four bytes more in front
-word_at-shift : (a b c d : ℕ) (bytes : List ℕ) (i : ℕ) → word_at (a ∷ b ∷ c ∷ d ∷ bytes) (4 * suc i) ≡ word_at bytes (4 * i)
-word_at-shift a b c d bytes i =
-    let e0 = get_or-shift a b c d bytes (4 * i) (4 * suc i) (omega arith) in
-    let e1 = get_or-shift a b c d bytes (4 * i + 1) (4 * suc i + 1) (omega arith) in
-    let e2 = get_or-shift a b c d bytes (4 * i + 2) (4 * suc i + 2) (omega arith) in
-    let e3 = get_or-shift a b c d bytes (4 * i + 3) (4 * suc i + 3) (omega arith) in
-    rw (e0, e1, e2, e3)
-
-four_below : (a b c d : ℕ) (bytes : List ℕ) → ((k : ℕ) → get_or (a ∷ b ∷ c ∷ d ∷ bytes) k 0 < 256) → (k : ℕ) → get_or (a ∷ b ∷ c ∷ d ∷ []) k 0 < 256
-four_below a b c d bytes h zero = h 0
-four_below a b c d bytes h (suc zero) = h 1
-four_below a b c d bytes h (suc (suc zero)) = h 2
-four_below a b c d bytes h (suc (suc (suc zero))) = h 3
-four_below a b c d bytes h (suc (suc (suc (suc k)))) = omega arith
 
 pub length-words : (words : List ℕ) → length (flat_map word_bytes words) ≡ 4 * length words
 unfolding word_bytes

@@ -6,31 +6,19 @@ use Rattle.std.proofs.lemmas.Nat.{le_bytes_4, from_le_bytes-to_le_bytes_4}
 use Rattle.certificate.specs.Reading.{words_of}
 use Rattle.std.proofs.lemmas.Bool.Decides.{nat_tests}
 use Rattle.std.proofs.lemmas.List.Concat.{flat_map-cons}
+use Rattle.page_layout.proofs.WordLemmas.{word_again, four_below}
 use Rattle.page_layout.specs.Word.{no_row, row_of_word, word_of_row}
 use Rattle.certificate.specs.Spelling.{word, row, IsRowOf}
 
 abbrev pub IsBytes : List ℕ → Type 0
 IsBytes bytes = (k : ℕ) → get_or bytes k 0 < 256
 
-pub word_of_row-row_of_word : (w : ℕ) → word_of_row (row_of_word w) ≡ w
-word_of_row-row_of_word w = (elim (eqb w no_row) as (λ b. eqb w no_row ≡ b → word_of_row (cond b None (Some w)) ≡ w) [
-  | true ↦ λ e. grind (arith, nat_tests)
-  | false ↦ λ e. refl
-]) refl
-
 pub rows_spelled : (words : List ℕ) → flat_map row (map row_of_word words) ≡ flat_map word words
 rows_spelled [] = refl
 rows_spelled (w ∷ words) =
-    flat_map-cons row (row_of_word w) (map row_of_word words) ∙ (ap (λ (bs : List ℕ). row (row_of_word w) ++ bs) (rows_spelled words) ∙ (ap (λ n. word n ++ flat_map word words) (word_of_row-row_of_word w) ∙ sym (flat_map-cons word w words)))
+    flat_map-cons row (row_of_word w) (map row_of_word words) ∙ (ap (λ (bs : List ℕ). row (row_of_word w) ++ bs) (rows_spelled words) ∙ (ap (λ n. word n ++ flat_map word words) (word_again w) ∙ sym (flat_map-cons word w words)))
 
 -- ---- words both ways
-
-four_below : (a b c d : ℕ) (page : List ℕ) → IsBytes (a ∷ b ∷ c ∷ d ∷ page) → IsBytes (a ∷ b ∷ c ∷ d ∷ [])
-four_below a b c d page h zero = h 0
-four_below a b c d page h (suc zero) = h 1
-four_below a b c d page h (suc (suc zero)) = h 2
-four_below a b c d page h (suc (suc (suc zero))) = h 3
-four_below a b c d page h (suc (suc (suc (suc k)))) = omega arith
 
 pub words_spell : (n : ℕ) (bytes : List ℕ) → length bytes ≡ 4 * n → IsBytes bytes → flat_map word (words_of bytes) ≡ bytes
 unfolding words_of word

@@ -1,7 +1,6 @@
 -- Logs of an engine's operations.
-use Rattle.std.proofs.Common.{◌≡◌, ◌≢◌, inl, inr, ℕ, ◌+◌, ◌*◌, ◌/◌, ◌%◌, ◌<◌, Bool, true, not, List, [], ◌∷◌, ◌++◌, length, length-set, refl, ap, sym, ◌∙◌, subst, arith}
+use Rattle.std.proofs.Common.{◌≡◌, ◌≢◌, inl, inr, ℕ, ◌+◌, ◌*◌, ◌/◌, ◌%◌, ◌<◌, Bool, true, not, List, [], ◌∷◌, ◌++◌, refl, ap, sym, ◌∙◌, subst, arith}
 use Rattle.std.proofs.lemmas.Bool.{cases_eq}
-use Rattle.std.proofs.lemmas.List.{get_or-set_same, get_or-set_other}
 use Rattle.std.proofs.lemmas.Nat.{div-mul-add, mod-mul-add}
 use Rattle.page_layout.specs.declared.geometry.Geometry.{Geometry}
 use Rattle.page_layout.specs.Page.{Page}
@@ -10,9 +9,9 @@ use Rattle.page_layout.proofs.FlashLemmas.{Leads-append, Leads-one}
 use Rattle.bad_blocks.specs.declared.table.TableRow.{TableRow}
 use Rattle.bad_blocks.specs.Table.{is_good, is_good_at}
 use Rattle.allocation.specs.State.{State, pointer_at}
-use Rattle.promises.specs.Log.{block_of}
-use Rattle.promises.specs.Legal.{Account, account_at, no_account, noted, accounted, accounted_all, LegalFrom}
+use Rattle.promises.specs.Legal.{Account, account_at, noted, accounted, accounted_all, LegalFrom}
 use Rattle.promises.proofs.LogLemmas.{counts}
+use Rattle.promises.proofs.AccountLemmas.{length-accounted, accounted-same, accounted-other}
 use Rattle.promises.proofs.LegalLemmas.{accounts_join, legal_append}
 use Rattle.onfi_cycles.specs.declared.nand.Outcome.{Outcome}
 use Rattle.onfi_cycles.specs.Outcomes.{is_passed}
@@ -20,21 +19,6 @@ use Rattle.collection.specs.State.{Ram}
 use Rattle.collection.specs.Log.{IsAccounted, Follows, Went}
 use Rattle.collection.specs.Results.{IsStep}
 use Rattle.collection.proofs.Blocks.{IsMade}
-
--- ---- the account of one block more
-
-length-accounted : (pages : ℕ) (accounts : List Account) (op : Operation) → length (accounted pages accounts op) ≡ length accounts
-unfolding accounted
-length-accounted pages accounts op = length-set accounts (block_of pages op) (noted (account_at accounts (block_of pages op)) op)
-
-accounted-same : (pages : ℕ) (accounts : List Account) (op : Operation) (block : ℕ) → block_of pages op ≡ block → block < length accounts → account_at (accounted pages accounts op) block ≡ noted (account_at accounts block) op
-unfolding accounted
-accounted-same pages accounts op block is within =
-    rw is (get_or-set_same accounts block (noted (account_at accounts block) op) no_account within)
-
-accounted-other : (pages : ℕ) (accounts : List Account) (op : Operation) (block : ℕ) → block ≢ block_of pages op → account_at (accounted pages accounts op) block ≡ account_at accounts block
-unfolding accounted
-accounted-other pages accounts op block ne = get_or-set_other accounts (block_of pages op) block (noted (account_at accounts (block_of pages op)) op) no_account ne
 
 -- ---- one program
 
@@ -80,7 +64,7 @@ module _ (block row : ℕ) (p left : Page) (passed : Bool) (old new : State) (h 
       here = accounted-same old.geometry.pages accounts (Program row p passed left) block block_is (omega (arith, a.size, h.is_block))
 
       there : (b : ℕ) → b ≢ block → after b ≡ account_at accounts b
-      there b ne = accounted-other old.geometry.pages accounts (Program row p passed left) b (λ e. ne (e ∙ block_is))
+      there b ne = accounted-other old.geometry.pages accounts (Program row p passed left) b (λ e. ne (sym e ∙ block_is))
 
       barred : (b : ℕ) → b < old.geometry.blocks → (after b).barred ≡ not (is_good_at new.table b)
       barred b within = elim (cases_eq b block) [

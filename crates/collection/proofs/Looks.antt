@@ -19,7 +19,8 @@ use Rattle.page_layout.proofs.ArrayLemmas.{mark-page, body_page, sector_here, se
 use Rattle.mapping_cache.specs.Mapping.{MappingState, known}
 use Rattle.mapping_cache.proofs.CallerLemmas.{pending-unknown}
 use Rattle.translation_pages.specs.TranslationPage.{entry_at}
-use Rattle.collection.specs.Pages.{newest_row, entry_of}
+use Rattle.translation_pages.specs.Entry.{entry_of}
+use Rattle.collection.specs.Pages.{newest_row}
 use Rattle.collection.specs.Maps.{Maps}
 use Rattle.collection.specs.Looks.{IsPageOf, IsRead}
 use Rattle.collection.specs.declared.fault.WriteFault.{WriteFault}

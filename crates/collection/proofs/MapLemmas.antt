@@ -12,7 +12,8 @@ use Rattle.page_layout.specs.Live.{IsKeyOf}
 use Rattle.page_layout.proofs.KeyLemmas.{cases_key}
 use Rattle.mapping_cache.specs.Mapping.{MappingState, known, pending}
 use Rattle.translation_pages.specs.TranslationPage.{entry_at}
-use Rattle.collection.specs.Pages.{newest_row, entry_in, entry_of, place_of}
+use Rattle.translation_pages.specs.Entry.{entry_in, entry_of}
+use Rattle.collection.specs.Pages.{newest_row, place_of}
 use Rattle.page_layout.specs.Change.{Keeps, Writes}
 use Rattle.collection.specs.Maps.{Maps, IsPageFor}
 use Rattle.page_layout.proofs.ArrayLemmas.{slice_get-set_same, slice_get-set_other}
@@ -20,19 +21,19 @@ use Rattle.page_layout.proofs.ArrayLemmas.{slice_get-set_same, slice_get-set_oth
 -- an entry is the same where the newest page of its key is
 entry_kept : (g : Geometry) (old new : Image) (n : ℕ) → newest_row new (Translation (n / entries g)) ≡ newest_row old (Translation (n / entries g)) → ((q : ℕ) → newest_row old (Translation (n / entries g)) ≡ Some q → body_at new q ≡ body_at old q) → entry_of g new n ≡ entry_of g old n
 unfolding entry_of
-entry_kept g old new n same bodies = ap (λ o. entry_in new o (n % entries g)) same ∙ at (newest_row old (Translation (n / entries g))) refl
+entry_kept g old new n same bodies = ap (entry_in new (n % entries g)) same ∙ at (newest_row old (Translation (n / entries g))) refl
   where
-    at : (o : Option ℕ) → newest_row old (Translation (n / entries g)) ≡ o → entry_in new o (n % entries g) ≡ entry_in old o (n % entries g)
+    at : (o : Option ℕ) → newest_row old (Translation (n / entries g)) ≡ o → entry_in new (n % entries g) o ≡ entry_in old (n % entries g) o
     at None is = refl
     at (Some q) is = ap (λ b. entry_at b (n % entries g)) (bodies q is)
 
 pub entry_here : (g : Geometry) (image : Image) (n q : ℕ) → newest_row image (Translation (n / entries g)) ≡ Some q → entry_of g image n ≡ entry_at (body_at image q) (n % entries g)
 unfolding entry_of
-entry_here g image n q is = ap (λ o. entry_in image o (n % entries g)) is
+entry_here g image n q is = ap (entry_in image (n % entries g)) is
 
 pub entry_none : (g : Geometry) (image : Image) (n : ℕ) → newest_row image (Translation (n / entries g)) ≡ None → entry_of g image n ≡ None
 unfolding entry_of
-entry_none g image n is = ap (λ o. entry_in image o (n % entries g)) is
+entry_none g image n is = ap (entry_in image (n % entries g)) is
 
 pub none_not : (key : Key) → None ≢ Some key
 none_not key e = cc

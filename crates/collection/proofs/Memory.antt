@@ -1,6 +1,7 @@
 -- What an attempt to program makes of the memory, whatever the die does.
 use Rattle.std.proofs.Common.{◌≡◌, ◌≢◌, ℕ, ◌+◌, ◌*◌, ◌/◌, ◌<◌, ◌^◌, ◌||◌, not, Bool, true, false, length, Option, Some, refl, ap, sym, ◌∙◌, subst, arith}
 use Rattle.std.specs.Option.{IfSome}
+use Rattle.page_layout.proofs.GeometryLemmas.{row_within}
 use Rattle.page_layout.specs.declared.geometry.Geometry.{Geometry}
 use Rattle.page_layout.specs.Geometry.{translation_pages, table_pages, row_count}
 use Rattle.bad_blocks.specs.declared.table.TableRow.{TableRow}
@@ -63,9 +64,6 @@ made_goes stream block old new s t n m = record {
   directory = t.directory;
   mapping = t.mapping;
 }
-
-pub row_within : (g : Geometry) (block page : ℕ) → block < g.blocks → page < g.pages → block * g.pages + page < row_count g
-row_within g block page b p = grind arith
 
 pub taken_outside : (stream : Stream) (block row : ℕ) (r : Ram) (t : State) → IsRam r → IsTaken stream block row r.blocks t → IsOutside r row
 taken_outside stream block row r t s is =

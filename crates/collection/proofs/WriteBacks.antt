@@ -4,6 +4,7 @@ use Rattle.std.specs.Prelude.{slice_index}
 use Rattle.std.specs.Int.{w32, from_le_bytes}
 use Rattle.std.proofs.Math.Nat.{div-add-mod'}
 use Rattle.std.proofs.lemmas.List.{get_or-replicate}
+use Rattle.page_layout.proofs.GeometryLemmas.{some_entries}
 use Rattle.page_layout.specs.declared.geometry.Geometry.{Geometry}
 use Rattle.page_layout.specs.declared.record.Kind.TheVariants as kind
 use Rattle.page_layout.specs.declared.record.Key.TheVariants.{Sector, Translation}
@@ -19,7 +20,8 @@ use Rattle.budget.specs.declared.stream.Stream.TheVariants.{Meta}
 use Rattle.collection.specs.declared.fault.WriteFault.{WriteFault}
 use Rattle.collection.specs.declared.fault.WriteFault.TheVariants.{ReadOnly, SequenceSpent, Damaged, Bus}
 use Rattle.collection.specs.State.{Ram}
-use Rattle.collection.specs.Pages.{newest_row, entry_of}
+use Rattle.translation_pages.specs.Entry.{entry_of}
+use Rattle.collection.specs.Pages.{newest_row}
 use Rattle.collection.specs.Maps.{Maps}
 use Rattle.collection.specs.Looks.{IsLoaded, IsFilled, IsPadded, IsReadFault}
 use Rattle.collection.specs.Truth.{IsTrue}
@@ -40,9 +42,6 @@ entries_read g image t at row p is at_is read = record {
       let here : newest_row image (Translation (n / entries g)) ≡ Some at = ap (λ k. newest_row image (Translation k)) of_page ∙ (is ∙ at_is) in
       ap (λ b. entry_at b (n % entries g)) (sym (body_page image at p read)) ∙ sym (entry_here g image n at here);
 }
-
-some_entries : (g : Geometry) → 0 < entries g
-some_entries g = omega (arith, g.limits.data_size.least)
 
 entry_within : (g : Geometry) (n : ℕ) → 4 * (n % entries g) + 4 ≤ g.data_bytes
 entry_within g n = omega (arith, some_entries g)

@@ -13,7 +13,8 @@ use Rattle.page_layout.specs.Geometry.{entries}
 use Rattle.translation_pages.specs.TranslationPage.{entry_at}
 use Rattle.collection.specs.declared.fault.WriteFault.{WriteFault}
 use Rattle.collection.specs.declared.fault.WriteFault.TheVariants.{ReadOnly, SequenceSpent, Damaged, Bus}
-use Rattle.collection.specs.Pages.{newest_row, entry_of}
+use Rattle.translation_pages.specs.Entry.{entry_of}
+use Rattle.collection.specs.Pages.{newest_row}
 
 -- translation page t as it stands on the die
 pub record IsLoaded (t : ℕ) (body : List ℕ) (g : Geometry) (image : Image) : Type 0 where

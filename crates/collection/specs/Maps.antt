@@ -9,7 +9,8 @@ use Rattle.page_layout.specs.Live.{IsKeyOf}
 use Rattle.bad_blocks.specs.TablePage.{IsWellFormed}
 use Rattle.mapping_cache.specs.Mapping.{MappingState, known, pending}
 use Rattle.translation_pages.specs.TranslationPage.{entry_at}
-use Rattle.collection.specs.Pages.{newest_row, entry_of, place_of}
+use Rattle.translation_pages.specs.Entry.{entry_of}
+use Rattle.collection.specs.Pages.{newest_row, place_of}
 
 -- They are right for each key but this one: the directory's row and the mapping's are those of newest pages, and where the mapping has no
 -- row that its translation page lacks, the entry there is right.

@@ -18,6 +18,8 @@ mod steps;
 mod write;
 mod write_back;
 
+pub use room::LEAST_FREE;
+
 /// The data area and the spare area of one page.
 #[derive(Drop)]
 pub struct Buffer {

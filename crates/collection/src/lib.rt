@@ -9,5 +9,5 @@
 mod engine;
 mod fault;
 
-pub use engine::{Buffer, Engine};
+pub use engine::{Buffer, Engine, LEAST_FREE};
 pub use fault::WriteFault;

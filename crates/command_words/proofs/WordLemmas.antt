@@ -6,6 +6,7 @@ use Rattle.std.specs.Option.{option_map_or}
 use Rattle.std.specs.Str.{bytes_eq}
 use Rattle.std.proofs.lemmas.Slice.Eq.{bytes_eq-Decides}
 use Rattle.std.specs.Borrow.{Bor}
+use Rattle.std.proofs.lemmas.Bool.{or_parts}
 use Rattle.clap.specs.declared.parser.matches.Found.{Found}
 use Rattle.clap.specs.Matches.{first_value, subcommand_name_of}
 use Rattle.clap.specs.declared.parser.matches.ArgMatches.{ArgMatches}
@@ -91,10 +92,6 @@ no_more : (s : Shape) (w : Walk) → walk_fault s [] w [] ≡ []
 unfolding walk_fault
 no_more s w = refl
 
-neither : (a b : Bool) → (a || b) ≡ false → (a ≡ false) × (b ≡ false)
-neither true b e = (e, absurd (let no : true ≡ false = e in cc))
-neither false b e = (refl, e)
-
 plain_more : (a : Text) (words : List Text) → is_option a ≡ false → list_any is_option words ≡ false → list_any is_option (a ∷ words) ≡ false
 plain_more a words plain rest = ap (λ t. t || list_any is_option words) plain ∙ rest
 
@@ -171,7 +168,7 @@ walked_all : (size : Size) (name : Text) (before words : List Text) → list_any
     → fold (walked (rules_of size name) []) (after before) words ≡ after (before ++ words)
 walked_all size name before [] plain few = ap after (sym (append-nil before))
 walked_all size name before (word ∷ words) plain few =
-    let each = neither _ _ plain in
+    let each = or_parts _ _ plain in
     let more = one_more before word in
     ap (λ w. fold (walked (rules_of size name) []) w words) (walked_on size name before word each.0 (omega arith))
     ∙ walked_all size name (before ++ (word ∷ [])) words each.1 (omega arith) ∙ ap after (append_assoc before (word ∷ []) words)
@@ -180,7 +177,7 @@ passed_all : (size : Size) (name : Text) (before words rest : List Text) → lis
     → walk_fault (leaf size name) [] (after before) (words ++ rest) ≡ walk_fault (leaf size name) [] (after (before ++ words)) rest
 passed_all size name before [] rest plain few = ap (λ ws. walk_fault (leaf size name) [] (after ws) rest) (sym (append-nil before))
 passed_all size name before (word ∷ words) rest plain few =
-    let each = neither _ _ plain in
+    let each = or_parts _ _ plain in
     let more = one_more before word in
     passed_on (leaf size name) [] _ _ word (words ++ rest) (turned_on size name before word each.0 (omega arith)) (walked_on size name before word each.0 (omega arith))
     ∙ passed_all size name (before ++ (word ∷ [])) words rest each.1 (omega arith)
@@ -271,17 +268,17 @@ nothing_wrong k ks kinds some none = absurd (let no : k ∷ ks ≡ [] = sym some
 only_whole : (size : Size) (name : Text) (words : List Text) → list_any is_option words ≡ false → leaf_fault size name words ≡ [] → length words ≡ count size
 only_whole Three name (a ∷ b ∷ c ∷ []) plain e = refl
 only_whole Three name (a ∷ b ∷ c ∷ d ∷ rest) plain e =
-    let one = neither _ _ plain in
-    let two = neither _ _ one.1 in
-    let three = neither _ _ two.1 in
-    nothing_wrong _ _ _ (many_fail Three name (a ∷ b ∷ c ∷ []) d rest (plain_more a (b ∷ c ∷ []) one.0 (plain_more b (c ∷ []) two.0 (plain_more c [] three.0 refl))) (neither _ _ three.1).0 refl) e
+    let one = or_parts _ _ plain in
+    let two = or_parts _ _ one.1 in
+    let three = or_parts _ _ two.1 in
+    nothing_wrong _ _ _ (many_fail Three name (a ∷ b ∷ c ∷ []) d rest (plain_more a (b ∷ c ∷ []) one.0 (plain_more b (c ∷ []) two.0 (plain_more c [] three.0 refl))) (or_parts _ _ three.1).0 refl) e
 only_whole Four name (a ∷ b ∷ c ∷ d ∷ []) plain e = refl
 only_whole Four name (a ∷ b ∷ c ∷ d ∷ x ∷ rest) plain e =
-    let one = neither _ _ plain in
-    let two = neither _ _ one.1 in
-    let three = neither _ _ two.1 in
-    let four = neither _ _ three.1 in
-    nothing_wrong _ _ _ (many_fail Four name (a ∷ b ∷ c ∷ d ∷ []) x rest (plain_more a (b ∷ c ∷ d ∷ []) one.0 (plain_more b (c ∷ d ∷ []) two.0 (plain_more c (d ∷ []) three.0 (plain_more d [] four.0 refl)))) (neither _ _ four.1).0 refl) e
+    let one = or_parts _ _ plain in
+    let two = or_parts _ _ one.1 in
+    let three = or_parts _ _ two.1 in
+    let four = or_parts _ _ three.1 in
+    nothing_wrong _ _ _ (many_fail Four name (a ∷ b ∷ c ∷ d ∷ []) x rest (plain_more a (b ∷ c ∷ d ∷ []) one.0 (plain_more b (c ∷ d ∷ []) two.0 (plain_more c (d ∷ []) three.0 (plain_more d [] four.0 refl)))) (or_parts _ _ four.1).0 refl) e
 only_whole Three name [] plain e = nothing_wrong _ _ _ (few_fail Three name [] plain (omega arith)) e
 only_whole Three name (a ∷ []) plain e = nothing_wrong _ _ _ (few_fail Three name (a ∷ []) plain (omega arith)) e
 only_whole Three name (a ∷ b ∷ []) plain e = nothing_wrong _ _ _ (few_fail Three name (a ∷ b ∷ []) plain (omega arith)) e
@@ -461,15 +458,15 @@ only_commands program [] plain e = nothing_wrong _ _ _ (no_words program) e
 only_commands program (word ∷ rest) plain e = go (name_or_strange word)
   where
     go : IsName word ⊎ IsStrange word → AreWhole (word ∷ rest)
-    go (inr strange) = nothing_wrong _ _ _ (other_fault_is program word rest (neither _ _ plain).0 strange) e
+    go (inr strange) = nothing_wrong _ _ _ (other_fault_is program word rest (or_parts _ _ plain).0 strange) e
     go (inl name) =
         let taken : fault_of grammar (program ∷ name_of name.command ∷ rest) ≡ [] = ap (λ w. fault_of grammar (program ∷ w ∷ rest)) (sym name.is) ∙ e in
         record {
           command = name.command;
           more = rest;
           are = ap (λ w. w ∷ rest) name.is;
-          whole = only_whole (size_of name.command) (name_of name.command) rest (neither _ _ plain).1 (sym (command_fault program name.command rest) ∙ taken);
-          plain = (neither _ _ plain).1;
+          whole = only_whole (size_of name.command) (name_of name.command) rest (or_parts _ _ plain).1 (sym (command_fault program name.command rest) ∙ taken);
+          plain = (or_parts _ _ plain).1;
         }
 
 -- a command's name and its words are taken
@@ -614,7 +611,7 @@ texts_plain (w ∷ ws) = ap (λ b. is_option w.now || b) (texts_plain ws)
 -- an order's words are taken
 taken : (words : List Text) (program : Text) (command : CommandName) (more : List Text) → words ≡ program ∷ name_of command ∷ more → list_any is_option (name_of command ∷ more) ≡ false
     → length more ≡ count (size_of command) → fault_of grammar words ≡ []
-taken words program command more spelled plain whole = ap (fault_of grammar) spelled ∙ command_taken program command more (neither _ _ plain).1 whole
+taken words program command more spelled plain whole = ap (fault_of grammar) spelled ∙ command_taken program command more (or_parts _ _ plain).1 whole
 
 pub order_taken : (words : List Text) (asked : Order) → IsOrder words asked → fault_of grammar words ≡ []
 order_taken words (order.Sector s) is = taken words is.program Sector (s.geometry.now ∷ s.image.now ∷ s.number.now ∷ []) is.spelled is.plain refl

@@ -1,37 +1,19 @@
 -- What the accounts of a legal log bar.
 use Rattle.std.proofs.Common.{◌≡◌, ◌≢◌, ◌<◌, inl, inr, ◌==◌, ℕ, Bool, true, false, not, ◌&&◌, ◌||◌, List, [], ◌∷◌, refl, sym, ◌∙◌, ap, arith, length, map}
 use Rattle.std.specs.List.{range_with_len}
-use Rattle.std.proofs.lemmas.List.{get_or-set_same, get_or-set_other, length-set}
+use Rattle.std.proofs.Math.Bool.{or_assoc}
 use Rattle.std.proofs.lemmas.List.FromFn.{get_or-map-range_with_len, length-map-range_with_len}
 use Rattle.std.proofs.lemmas.Bool.Decides.{eqb_tells}
-use Rattle.page_layout.specs.Flash.{Operation, Program, Erase}
+use Rattle.std.proofs.lemmas.Bool.{or_from}
+use Rattle.page_layout.specs.Flash.{Operation}
 use Rattle.bad_blocks.specs.Table.{is_good_at}
 use Rattle.allocation.specs.State.{State, pointer_at}
 use Rattle.promises.specs.Log.{block_of, has_passed, failed_in}
 use Rattle.promises.specs.Legal.{Account, no_account, account_at, noted, accounted, accounted_all, IsDue, LegalFrom}
+use Rattle.promises.proofs.AccountLemmas.{due_good, length-accounted, length-accounted_all, accounted-same, accounted-other, noted-barred}
 use Rattle.collection.specs.Log.{IsAccounted, Follows}
 
 -- ---- one operation
-
-due_good : (pages : ℕ) (accounts : List Account) (op : Operation) → IsDue pages accounts op → (account_at accounts (block_of pages op)).barred ≡ false
-due_good pages accounts (Program row page passed left) h = h.good
-due_good pages accounts (Erase block passed left) h = h.good
-
-accounted-length : (pages : ℕ) (accounts : List Account) (op : Operation) → length (accounted pages accounts op) ≡ length accounts
-unfolding accounted
-accounted-length pages accounts op = length-set accounts (block_of pages op) (noted (account_at accounts (block_of pages op)) op)
-
-accounted-here : (pages : ℕ) (accounts : List Account) (op : Operation) (b : ℕ) → block_of pages op ≡ b → b < length accounts → account_at (accounted pages accounts op) b ≡ noted (account_at accounts b) op
-unfolding accounted
-accounted-here pages accounts op b is lt = rw is (get_or-set_same accounts b (noted (account_at accounts b) op) no_account lt)
-
-accounted-other : (pages : ℕ) (accounts : List Account) (op : Operation) (b : ℕ) → block_of pages op ≢ b → account_at (accounted pages accounts op) b ≡ account_at accounts b
-unfolding accounted
-accounted-other pages accounts op b ne = get_or-set_other accounts (block_of pages op) b (noted (account_at accounts (block_of pages op)) op) no_account (λ e. ne (sym e))
-
-noted-barred : (account : Account) (op : Operation) → (noted account op).barred ≡ not (has_passed op)
-noted-barred account (Program row page passed left) = refl
-noted-barred account (Erase block passed left) = refl
 
 -- whether the operation failed on the block
 abbrev failed_at : ℕ → Operation → ℕ → Bool
@@ -54,7 +36,7 @@ barred-step : (pages : ℕ) (accounts : List Account) (op : Operation) (b : ℕ)
 barred-step pages accounts op b due lt = elim (eqb_tells (block_of pages op) b) [
   | inl e ↦
       let was : (account_at accounts b).barred ≡ false = ap (λ n. (account_at accounts n).barred) (sym e.1) ∙ due_good pages accounts op due in
-      let now : (account_at (accounted pages accounts op) b).barred ≡ not (has_passed op) = ap (λ (a : Account). a.barred) (accounted-here pages accounts op b e.1 lt) ∙ noted-barred (account_at accounts b) op in
+      let now : (account_at (accounted pages accounts op) b).barred ≡ not (has_passed op) = ap (λ (a : Account). a.barred) (accounted-same pages accounts op b e.1 lt) ∙ noted-barred (account_at accounts b) op in
       here_by (account_at accounts b).barred (has_passed op) (block_of pages op == b) _ was e.0 now
   | inr e ↦
       ap (λ (a : Account). a.barred) (accounted-other pages accounts op b e.1)
@@ -63,25 +45,14 @@ barred-step pages accounts op b due lt = elim (eqb_tells (block_of pages op) b) 
 
 -- ---- a log
 
-all-length : (pages : ℕ) (accounts : List Account) (log : List Operation) → length (accounted_all pages accounts log) ≡ length accounts
-all-length pages accounts [] = refl
-all-length pages accounts (op ∷ log) = all-length pages (accounted pages accounts op) log ∙ accounted-length pages accounts op
-
-or_assoc : (a b c : Bool) → ((a || b) || c) ≡ (a || (b || c))
-or_assoc true b c = refl
-or_assoc false b c = refl
-
 -- after a legal log the blocks are barred that were barred before it and those that failed in it
 barred-all : (pages : ℕ) (accounts : List Account) (log : List Operation) (b : ℕ) → LegalFrom pages accounts log → b < length accounts
     → (account_at (accounted_all pages accounts log) b).barred ≡ ((account_at accounts b).barred || failed_in pages log b)
 barred-all pages accounts [] b legal lt = or_false (account_at accounts b).barred false refl
 barred-all pages accounts (op ∷ log) b legal lt =
-    barred-all pages (accounted pages accounts op) log b legal.1 (omega (arith, accounted-length pages accounts op, lt))
+    barred-all pages (accounted pages accounts op) log b legal.1 (omega (arith, length-accounted pages accounts op, lt))
     ∙ (ap (λ x. x || failed_in pages log b) (barred-step pages accounts op b legal.0 lt)
     ∙ or_assoc (account_at accounts b).barred (failed_at pages op b) (failed_in pages log b))
-
-or_both : (a b : Bool) → a ≡ false → b ≡ false → (a || b) ≡ false
-or_both a b e f = ap (λ x. x || b) e ∙ f
 
 -- a barred block doesn't fail in it, since nothing is done in it
 barred-never : (pages : ℕ) (accounts : List Account) (log : List Operation) (b : ℕ) → LegalFrom pages accounts log → (account_at accounts b).barred ≡ true → failed_in pages log b ≡ false
@@ -92,7 +63,7 @@ barred-never pages accounts (op ∷ log) b legal barred = elim (eqb_tells (block
       let no : ⊥ = cc in absurd no
   | inr e ↦
       let still : (account_at (accounted pages accounts op) b).barred ≡ true = ap (λ (a : Account). a.barred) (accounted-other pages accounts op b e.1) ∙ barred in
-      or_both (failed_at pages op b) (failed_in pages log b) (on_other (has_passed op) (block_of pages op == b) e.0) (barred-never pages (accounted pages accounts op) log b legal.1 still)
+      or_from (failed_at pages op b) (failed_in pages log b) (on_other (has_passed op) (block_of pages op == b) e.0) (barred-never pages (accounted pages accounts op) log b legal.1 still)
 ]
 
 -- ---- accounts that agree with the blocks in memory
@@ -125,7 +96,7 @@ module _ (pages : ℕ) (log : List Operation) (old new : State) (h : Follows pag
   bad_after =
       let size : length (accounts_by old) ≡ old.geometry.blocks = (agrees old).size in
       let after = h.accounted (accounts_by old) (agrees old) in
-      let here = after.barred b (omega (arith, after.size, all-length pages (accounts_by old) log, size, lt)) in
+      let here = after.barred b (omega (arith, after.size, length-accounted_all pages (accounts_by old) log, size, lt)) in
       sym here ∙ (barred-all pages (accounts_by old) log b legal (omega (arith, size, lt)) ∙ ap (λ x. x || failed_in pages log b) was)
 
   -- none of them fails that was bad before

@@ -3,7 +3,7 @@ use Rattle.std.proofs.Common.{◌≡◌, ℕ, ◌+◌, ◌/◌, ◌%◌, ◌<◌
 use Rattle.std.specs.Prelude.{nat_eq}
 use Rattle.std.specs.List.{list_any, range_with_len}
 use Rattle.std.specs.Map.{lookup}
-use Rattle.std.proofs.lemmas.Bool.{cases_Bool, eqb-true, eq-eqb, cond-true, cond-false}
+use Rattle.std.proofs.lemmas.Bool.{cases_Bool, eqb-true, eq-eqb, cond-true, cond-false, not-false}
 use Rattle.std.proofs.lemmas.Map.Views.{any-filter_same}
 use Rattle.std.proofs.lemmas.List.Folds.{Any-from_list_any, list_any-from_Any}
 use Rattle.std.proofs.lemmas.List.FromFn.{length-range_with_len, get_or-range_with_len}
@@ -13,52 +13,27 @@ use Rattle.page_layout.specs.declared.geometry.Geometry.{Geometry}
 use Rattle.page_layout.specs.declared.record.Key.{Key}
 use Rattle.page_layout.specs.declared.record.Key.TheVariants.{Sector, Translation, Table}
 use Rattle.page_layout.specs.Geometry.{entries, translation_pages, table_pages}
-use Rattle.page_layout.specs.Page as pages
 use Rattle.page_layout.specs.Page.{Page, Image, IsImage}
 use Rattle.page_layout.specs.Live.{IsKeyOf}
 use Rattle.page_layout.specs.Newest.{newest}
 use Rattle.page_layout.specs.Array.{marks}
 use Rattle.bad_blocks.specs.TablePage.{IsWellFormed}
-use Rattle.translation_pages.specs.TranslationPage.{entry_at}
+use Rattle.translation_pages.specs.Entry.{entry_of}
 use Rattle.certificate.specs.Claim.{Claim}
 use Rattle.mapping_cache.specs.declared.slot.Slot.{Slot}
 use Rattle.mapping_cache.specs.Mapping.{known, pending, known_by, pending_by, slot_of}
 use Rattle.allocation.specs.State.{pointer_at}
 use Rattle.allocation.specs.Begun.{begun}
 use Rattle.allocation.specs.Counts.{IsLiveExact}
-use Rattle.image_check.specs.Blocks as checked
-use Rattle.image_check.specs.Blocks.{table_body, is_good, pointer}
-use Rattle.image_check.specs.Stale as stale
+use Rattle.image_check.specs.Blocks.{is_good, pointer}
 use Rattle.image_check.specs.Stale.{is_stale, stale_sectors, same_row}
 use Rattle.image_check.specs.Agrees.{Agrees}
 use Rattle.image_check.proofs.StateLemmas.{pointer_most}
-use Rattle.collection.specs.Pages as engine
+use Rattle.image_check.proofs.TablesLemmas.{table_is}
 use Rattle.collection.specs.Pages.{newest_row, place_of}
 use Rattle.collection.specs.Truth.{IsTrue, AreFilled, HasTable}
 use Rattle.ftl_device.specs.Begin.{stale_entry, begun_mapping, begun_ram}
 use Rattle.ftl_device.proofs.BlockLemmas.{given, good_same, pointer_same, live_same, pointer_good, sound_below, erased_from}
-
--- ---- the words of the checker and of the engine
-
-body_same : (o : Option Page) → checked.body_of o ≡ pages.body_of o
-body_same None = refl
-body_same (Some p) = refl
-
-body_is : (image : Image) (row : ℕ) → checked.body_at image (Some row) ≡ pages.body_at image row
-unfolding pages.body_at
-body_is image row = body_same (slice_get image row)
-
-table_is : (image : Image) (u row : ℕ) → newest (marks image) (Table u) ≡ Some row → table_body image u ≡ pages.body_at image row
-unfolding table_body
-table_is image u row e = ap (checked.body_at image) e ∙ body_is image row
-
-entry_in_same : (image : Image) (o : Option ℕ) (i : ℕ) → stale.entry_in image i o ≡ engine.entry_in image o i
-entry_in_same image None i = refl
-entry_in_same image (Some row) i = ap (λ body. entry_at body i) (body_is image row)
-
-entry_same : (g : Geometry) (image : Image) (n : ℕ) → stale.entry_of g image n ≡ engine.entry_of g image n
-unfolding stale.entry_of engine.entry_of
-entry_same g image n = entry_in_same image (newest (marks image) (Translation (n / entries g))) (n % entries g)
 
 -- ---- stale sectors
 
@@ -68,13 +43,9 @@ rows_same None (Some b) e = absurd (let clash : false ≡ true = e in cc)
 rows_same (Some a) None e = absurd (let clash : false ≡ true = e in cc)
 rows_same (Some a) (Some b) e = ap Some (eqb-true a b e)
 
-twice_not : (b : Bool) → not b ≡ false → b ≡ true
-twice_not true e = refl
-twice_not false e = absurd (let clash : true ≡ false = e in cc)
-
-fresh : (g : Geometry) (image : Image) (n : ℕ) → is_stale g image n ≡ false → engine.entry_of g image n ≡ newest (marks image) (Sector n)
+fresh : (g : Geometry) (image : Image) (n : ℕ) → is_stale g image n ≡ false → entry_of g image n ≡ newest (marks image) (Sector n)
 unfolding is_stale
-fresh g image n e = sym (entry_same g image n) ∙ rows_same (stale.entry_of g image n) (newest (marks image) (Sector n)) (twice_not (same_row (stale.entry_of g image n) (newest (marks image) (Sector n))) e)
+fresh g image n e = rows_same (entry_of g image n) (newest (marks image) (Sector n)) (not-false (same_row (entry_of g image n) (newest (marks image) (Sector n))) e)
 
 in_range : (n size : ℕ) → n < size → list_any (nat_eq n) (range_with_len 0 size) ≡ true
 in_range n size lt =
@@ -220,7 +191,7 @@ module _ (g : Geometry) (capacity : ℕ) (image : Image) (c : Claim) (whole : Is
       let lt = stale_within g image n cached.among in
       cached.row_is ∙ get_or_from_slice_get c.sectors n (newest (marks image) (Sector n)) None (agrees.sectors.newest_is n lt)
 
-  entry : (n : ℕ) → n < g.sectors → pending (begun_mapping g c (stale_sectors g image)) n ≡ None → engine.entry_of g image n ≡ newest_row image (Sector n)
+  entry : (n : ℕ) → n < g.sectors → pending (begun_mapping g c (stale_sectors g image)) n ≡ None → entry_of g image n ≡ newest_row image (Sector n)
   entry n lt e = elim (cases_Bool (is_stale g image n)) [
     | inl old ↦ absurd (let clash : false ≡ true = sym (pending_none g c (stale_sectors g image) n e) ∙ stale_has g image n lt old in cc)
     | inr new ↦ fresh g image n new

@@ -13,7 +13,7 @@ use Rattle.page_layout.specs.Page.{Page, Image, IsImage}
 use Rattle.page_layout.specs.Sound.{record_of, is_erased_page}
 use Rattle.page_layout.specs.Live.{live}
 use Rattle.page_layout.specs.Array.{marks}
-use Rattle.page_layout.specs.Block.{block_pages, is_programmed, is_broken, has_gap, written}
+use Rattle.page_layout.specs.Block.{block_pages, is_programmed, is_broken, has_gap, written, past_last}
 use Rattle.page_layout.specs.Change.{IsErasedAt}
 use Rattle.page_layout.specs.Flash.{no_page}
 use Rattle.page_layout.proofs.CountLemmas.{bit, count_by-cons}
@@ -30,7 +30,8 @@ use Rattle.allocation.specs.State as blocks
 use Rattle.allocation.specs.State.{fill_at, pointer_at, live_at, no_fill}
 use Rattle.allocation.specs.Begun.{begun, class_from, row_from, fill_from}
 use Rattle.promises.specs.Log as logs
-use Rattle.promises.specs.Legal.{Account, no_account, account_at, past_last, accounts_of}
+use Rattle.promises.specs.Legal.{Account, no_account, account_at, accounts_of}
+use Rattle.promises.proofs.AccountLemmas.{account_of, length-accounts_of}
 use Rattle.image_check.specs.Blocks.{table_class, is_factory, is_grown, is_free, is_open, is_of_data, is_good, class, pointer}
 use Rattle.image_check.specs.Agrees.{Agrees}
 use Rattle.image_check.proofs.StateLemmas.{class_most, pointer_most}
@@ -242,27 +243,19 @@ past_written (p ∷ ps) e = elim (cases_Bool (is_erased_page p)) [
       cond-true (list_any is_programmed (p ∷ ps)) (past_last ps + 1) 0 any ∙ omega (arith, count_by-cons is_programmed p ps, past_written ps rest)
 ]
 
-account_is : (g : Geometry) (image : Image) (bad : ℕ → Bool) (b : ℕ) → b < g.blocks → account_at (accounts_of g image bad) b ≡ record { next = past_last (block_pages g image b); barred = bad b }
-unfolding accounts_of
-account_is g image bad b lt = get_or-map-range_with_len (λ k. let a : Account = record { next = past_last (block_pages g image k); barred = bad k } in a) 0 g.blocks b b no_account lt (omega arith)
-
-accounts_size : (g : Geometry) (image : Image) (bad : ℕ → Bool) → length (accounts_of g image bad) ≡ g.blocks
-unfolding accounts_of
-accounts_size g image bad = length-map-range_with_len (λ k. let a : Account = record { next = past_last (block_pages g image k); barred = bad k } in a) 0 g.blocks
-
 barred_same : (g : Geometry) (image : Image) (c : Claim) (b : ℕ) → b < g.blocks → IsGiven g image c b → (account_at (accounts_of g image (is_bad_in c)) b).barred ≡ not (is_good_at (begun g c.blocks).table b)
-barred_same g image c b lt here = ap (λ (a : Account). a.barred) (account_is g image (is_bad_in c) b lt) ∙ (bad_same g image c b here ∙ sym (ap not (good_same g image c b here)))
+barred_same g image c b lt here = ap (λ (a : Account). a.barred) (account_of g image (is_bad_in c) b lt) ∙ (bad_same g image c b here ∙ sym (ap not (good_same g image c b here)))
 
 next_same : (g : Geometry) (image : Image) (c : Claim) (b : ℕ) → b < g.blocks → IsGiven g image c b → is_good_at (begun g c.blocks).table b ≡ true → (account_at (accounts_of g image (is_bad_in c)) b).next ≡ pointer_at (begun g c.blocks) b
 next_same g image c b lt here good =
     let fine : is_good g image b ≡ true = sym (good_same g image c b here) ∙ good in
-    ap (λ (a : Account). a.next) (account_is g image (is_bad_in c) b lt)
+    ap (λ (a : Account). a.next) (account_of g image (is_bad_in c) b lt)
     ∙ (past_written (block_pages g image b) (good_pages g image b fine).1
     ∙ (sym (pointer_good g image b fine) ∙ sym (pointer_same g image c b here)))
 
 pub begun_accounts : (g : Geometry) (capacity : ℕ) (image : Image) (c : Claim) → Agrees g capacity image c → IsAccounted (accounts_of g image (is_bad_in c)) (begun g c.blocks)
 begun_accounts g capacity image c agrees = record {
-  size = accounts_size g image (is_bad_in c);
+  size = length-accounts_of g image (is_bad_in c);
   barred = λ b lt. barred_same g image c b lt (given g capacity image c b agrees lt);
   next = λ b lt good. next_same g image c b lt (given g capacity image c b agrees lt) good;
 }

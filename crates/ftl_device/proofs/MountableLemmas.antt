@@ -8,61 +8,35 @@ use Rattle.std.proofs.lemmas.List.{length-map}
 use Rattle.std.proofs.lemmas.List.Sums.{length-filter}
 use Rattle.page_layout.specs.declared.geometry.Geometry.{Geometry}
 use Rattle.page_layout.specs.declared.record.Key.TheVariants.{Sector, Translation, Table}
-use Rattle.page_layout.specs.Page as pages
-use Rattle.page_layout.specs.Page.{Page, Image}
+use Rattle.page_layout.specs.Page.{Image}
 use Rattle.page_layout.specs.Geometry.{entries, table_pages}
 use Rattle.page_layout.specs.Newest.{newest}
 use Rattle.page_layout.specs.Array.{marks}
 use Rattle.page_layout.proofs.CountLemmas.{bit, count_by-cons, count_by-append}
-use Rattle.translation_pages.specs.TranslationPage.{entry_at}
+use Rattle.translation_pages.specs.Entry.{entry_of}
 use Rattle.bad_blocks.specs.TablePage.{IsWellFormed}
 use Rattle.budget.proofs.CopyLemmas.{touched_pages}
 use Rattle.mapping_cache.specs.declared.slot.Slot.{Slot}
 use Rattle.mapping_cache.specs.Mapping.{MappingState, slot_of, moved_row, pending}
 use Rattle.mapping_cache.proofs.Entries.{by_test}
 use Rattle.mapping_cache.proofs.Steps.{pending-at}
-use Rattle.image_check.specs.Blocks as checked
-use Rattle.image_check.specs.Blocks.{table_body}
 use Rattle.image_check.specs.Agrees.{HasTables}
-use Rattle.image_check.specs.Stale as stale
 use Rattle.image_check.specs.Stale.{is_stale, stale_sectors, stale_count, same_row}
 use Rattle.image_check.specs.Mountable.{IsOrderly}
 use Rattle.image_check.proofs.StaleLemmas.{row_same}
+use Rattle.image_check.proofs.TablesLemmas.{table_is}
 use Rattle.image_check.proofs.MountableLemmas.{mountable}
 use Rattle.collection.specs.State.{Ram}
-use Rattle.collection.specs.Pages as engine
 use Rattle.collection.specs.Safe.{IsRam}
 use Rattle.collection.specs.Truth.{IsTrue, HasTable}
 use Rattle.collection.proofs.MapLemmas.{none_not}
 use Rattle.ftl_device.specs.Calls.{StaleLaw, RestartLaw}
 
--- ---- the words of the checker and of the engine
-
-body_same : (o : Option Page) → checked.body_of o ≡ pages.body_of o
-body_same None = refl
-body_same (Some p) = refl
-
-body_is : (image : Image) (row : ℕ) → checked.body_at image (Some row) ≡ pages.body_at image row
-unfolding pages.body_at
-body_is image row = body_same (slice_get image row)
-
-table_is : (image : Image) (u row : ℕ) → newest (marks image) (Table u) ≡ Some row → table_body image u ≡ pages.body_at image row
-unfolding table_body
-table_is image u row e = ap (checked.body_at image) e ∙ body_is image row
-
-entry_in_same : (image : Image) (o : Option ℕ) (i : ℕ) → stale.entry_in image i o ≡ engine.entry_in image o i
-entry_in_same image None i = refl
-entry_in_same image (Some row) i = ap (λ body. entry_at body i) (body_is image row)
-
-entry_same : (g : Geometry) (image : Image) (n : ℕ) → stale.entry_of g image n ≡ engine.entry_of g image n
-unfolding stale.entry_of engine.entry_of
-entry_same g image n = entry_in_same image (newest (marks image) (Translation (n / entries g))) (n % entries g)
-
 -- ---- stale sectors are cached or moved
 
-right_entry : (g : Geometry) (image : Image) (n : ℕ) → engine.entry_of g image n ≡ newest (marks image) (Sector n) → is_stale g image n ≡ false
+right_entry : (g : Geometry) (image : Image) (n : ℕ) → entry_of g image n ≡ newest (marks image) (Sector n) → is_stale g image n ≡ false
 unfolding is_stale
-right_entry g image n same = ap not (row_same (stale.entry_of g image n) (newest (marks image) (Sector n)) (entry_same g image n ∙ same))
+right_entry g image n same = ap not (row_same (entry_of g image n) (newest (marks image) (Sector n)) same)
 
 abbrev pub IsHeld : MappingState → ℕ → Type 0
 IsHeld m n = IsSome (slot_of m n) ⊎ IsSome (moved_row m n)

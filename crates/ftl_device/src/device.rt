@@ -12,13 +12,10 @@ ghost use Rattle.ftl_device.specs.Device.{IsDevice, IsAcceptedFor};
 
 use crate::begin::Known;
 use crate::fault::StartFault;
-use collection::Engine;
+use collection::{Engine, LEAST_FREE};
 use image_check::Accepted;
 use onfi_cycles::Nand;
 use std::alloc::Global;
-
-// With fewer free blocks than these a device only reads.
-pub(crate) const LEAST_FREE: u32 = 5;
 
 /// Sectors over a die: they are read and written, whatever fails on the die.
 ///

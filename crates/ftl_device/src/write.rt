@@ -15,10 +15,10 @@ ghost use Rattle.ftl_device.specs.Device.{IsDevice};
 ghost use Rattle.ftl_device.specs.Calls.{state_in, reply_of, stop_of, IsWell, Says, CallTells, standing_after, MayChange, MayNot, answer_of, IsMostRecent};
 ghost use Rattle.ftl_device.specs.Counts.{is_bad_by, IsShown};
 
-use crate::device::{Device, LEAST_FREE};
+use crate::device::Device;
 use crate::fault::{CallFault, DeviceFault};
 use crate::ready::{trim_ready, write_ready};
-use collection::WriteFault;
+use collection::{LEAST_FREE, WriteFault};
 use onfi_cycles::Nand;
 
 impl<N: Nand> Device<N> {

@@ -2,6 +2,7 @@
 use Rattle.std.proofs.Common.{◌≡◌, ◌≢◌, ℕ, zero, suc, ◌+◌, ◌-◌, ◌*◌, ◌<◌, ◌≤◌, Bool, true, false, cond, eqb, ◌||◌, ◌&&◌, max, List, [], ◌∷◌, ◌++◌, length, get_or, set, take, drop, length-set, length-take, Some, refl, sym, ap, ◌∙◌, arith, ◌⊎◌, inl, inr, slice_get, replicate}
 use Rattle.std.specs.Prelude.{not, count_by}
 use Rattle.std.specs.List.{list_any}
+use Rattle.std.proofs.Math.Bool.{or_assoc, or-false}
 use Rattle.std.proofs.lemmas.List.Sums.{fold-append}
 use Rattle.std.proofs.lemmas.Bool.{cases_order, eqb-true}
 use Rattle.std.proofs.Common.{All}
@@ -18,16 +19,9 @@ use Rattle.page_layout.proofs.CountLemmas.{count_by-append}
 use Rattle.image_check.specs.declared.look.Look.{Look}
 use Rattle.image_check.specs.Survey.{look_of, look_step, HasLooks}
 
-or_false : (b : Bool) → (b || false) ≡ b
-or_false true = refl
-or_false false = refl
-
-or_assoc : (a b c : Bool) → ((a || b) || c) ≡ (a || (b || c))
-or_assoc true b c = refl
-or_assoc false b c = refl
 
 any-append : {X : Type 0} (p : X → Bool) (xs : List X) (x : X) → list_any p (xs ++ x ∷ []) ≡ (list_any p xs || p x)
-any-append p [] x = or_false (p x)
+any-append p [] x = or-false (p x)
 any-append p (y ∷ xs) x = ap (λ b. p y || b) (any-append p xs x) ∙ sym (or_assoc (p y) (list_any p xs) (p x))
 
 -- the last page makes a gap where it isn't erased and an earlier one is

@@ -12,6 +12,7 @@ use Rattle.std.proofs.lemmas.Map.Made.{AllPairs-from_IsDistinct, IsDistinct-from
 use Rattle.std.proofs.lemmas.Bool.{cases_order, cases_lt, eqb-true}
 use Rattle.std.proofs.lemmas.List.Sorted.{Contains-permutation, IsPermutation-sym, All-permutation}
 use Rattle.std.proofs.lemmas.List.Elements.{All-append, All-nil, Contains-append_left, Contains-append_right, Contains-get_or}
+use Rattle.std.proofs.lemmas.List.{get_or_default}
 use Rattle.page_layout.specs.declared.geometry.Geometry.{Geometry}
 use Rattle.page_layout.specs.declared.record.Record.{Record}
 use Rattle.page_layout.specs.Geometry.{row_count}
@@ -25,11 +26,6 @@ use Rattle.image_check.specs.Pairs.{IsInOrder, AreInOrder, DifferBelow, IsLowest
 use Rattle.image_check.specs.Refused.{IsRepeated, IsFirstRepeated, IsWrong, Sequences}
 use Rattle.image_check.specs.declared.refusal.Refusal.TheVariants.{SequenceRepeated}
 use Rattle.certificate.specs.Claim.{Claim}
-
-get_or-any : {X : Type 0} (xs : List X) (i : ℕ) (d e : X) → i < length xs → get_or xs i d ≡ get_or xs i e
-get_or-any [] i d e l = absurd (omega arith)
-get_or-any (x ∷ xs) zero d e l = refl
-get_or-any (x ∷ xs) (suc i) d e l = get_or-any xs i d e (omega arith)
 
 contains_one : (row : ℕ) (r : Record) (o : Option Record) → o ≡ Some r → Contains (pair_of row o) (r.sequence, row)
 contains_one row r None e = absurd cc
@@ -102,7 +98,7 @@ pub record StandsAt (pairs : List (ℕ × ℕ)) (sequence row : ℕ) : Type 0 wh
 pub stands : (g : Geometry) (image : Image) (old new : List (ℕ × ℕ)) (row : ℕ) (r : Record) → length image ≡ row_count g → old ≡ pairs_below (marks image) (row_count g) → IsPermutation old new → get_or (marks image) row None ≡ Some r → StandsAt new r.sequence row
 stands g image old new row r whole is moved e =
     let found = Contains-permutation old new (r.sequence, row) moved (subst (λ ps. Contains ps (r.sequence, row)) (sym is) (has_pair (marks image) (row_count g) row r (in_rows g image row r whole e) e)) in
-    record { place = found.0; within = found.1; is = get_or-any new found.0 (0, 0) (r.sequence, row) found.1 ∙ found.2 }
+    record { place = found.0; within = found.1; is = get_or_default new found.0 (0, 0) (r.sequence, row) found.1 ∙ found.2 }
 
 -- of two sound pages that share a sequence the one of the higher row has a neighbour before it that shares it too
 pub shared_at : (g : Geometry) (image : Image) (old new : List (ℕ × ℕ)) (a b : ℕ) → length image ≡ row_count g → old ≡ pairs_below (marks image) (row_count g) → IsPermutation old new → AreInOrder new → IsRepeated (marks image) a b

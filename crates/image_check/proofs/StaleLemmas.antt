@@ -21,7 +21,8 @@ use Rattle.page_layout.specs.Flash.{Flash}
 use Rattle.page_layout.specs.Newest.{newest}
 use Rattle.page_layout.specs.Array.{marks}
 use Rattle.translation_pages.specs.TranslationPage.{entry_at}
-use Rattle.image_check.specs.Stale.{entry_in, entry_of, same_row, is_stale, stale_sectors}
+use Rattle.translation_pages.specs.Entry.{entry_in, entry_of}
+use Rattle.image_check.specs.Stale.{same_row, is_stale, stale_sectors}
 use Rattle.image_check.specs.Surveyed.{SurveysKeys}
 use Rattle.image_check.specs.Rising.{IsRisingBelow}
 use Rattle.image_check.proofs.PartLemmas.{surveyed_row}

@@ -2,7 +2,7 @@
 use Rattle.std.proofs.Common.{◌≡◌, ℕ, zero, suc, ◌+◌, ◌-◌, ◌*◌, ◌/◌, ◌%◌, ◌<◌, ◌≤◌, Bool, true, false, cond, eqb, ◌&&◌, ◌||◌, max, min, List, [], ◌∷◌, ◌++◌, length, length-append, get_or, Some, refl, sym, ap, subst, ◌∙◌, ◌⊎◌, inl, inr, arith, slice_get}
 use Rattle.std.specs.Prelude.{All, not, nat_le, nat_lt}
 use Rattle.std.specs.List.{list_all, list_any, range_with_len}
-use Rattle.std.proofs.lemmas.Bool.{cases_order, cases_lt, lt-ltb, eqb-true}
+use Rattle.std.proofs.lemmas.Bool.{cases_order, cases_lt, lt-ltb, eqb-true, and_parts, not-true, not-false}
 use Rattle.std.proofs.lemmas.Option.{slice_get-get_or, get_or_from_slice_get}
 use Rattle.std.proofs.lemmas.List.{take_all}
 use Rattle.std.proofs.Math.Nat.{mul-le-mul_right}
@@ -140,10 +140,6 @@ bool_same false false f g = refl
 all_from : (p : ℕ → Bool) (a n : ℕ) → ((c : ℕ) → a ≤ c → c < a + n → p c ≡ true) → list_all p (range_with_len a n) ≡ true
 all_from p a zero h = refl
 all_from p a (suc n) h = rw (h a (omega arith) (omega arith)) (all_from p (a + 1) n (λ c l m. h c (omega arith) (omega arith)))
-
-and_parts : (a b : Bool) → (a && b) ≡ true → (a ≡ true) × (b ≡ true)
-and_parts true b e = (refl, e)
-and_parts false b e = absurd cc
 
 all_at : (p : ℕ → Bool) (a n c : ℕ) → list_all p (range_with_len a n) ≡ true → a ≤ c → c < a + n → p c ≡ true
 all_at p a zero c h l m = absurd (omega arith)
@@ -393,17 +389,9 @@ meta_cond : (b : Bool) (m n : ℕ) → cond b m n ≡ cond (not b) n m
 meta_cond true m n = refl
 meta_cond false m n = refl
 
-not_true : (b : Bool) → not b ≡ true → b ≡ false
-not_true true e = absurd cc
-not_true false e = refl
-
-not_false : (b : Bool) → not b ≡ false → b ≡ true
-not_false true e = refl
-not_false false e = absurd cc
-
 pub meta_raised : (rows : List TableRow) (looks : List Look) (n : ℕ) (top t : ℕ) (class : Class) (look : Look) → IsTop rows looks n false top → IsRowAt rows n class → slice_get looks n ≡ Some look → is_partial_seen class look ≡ true → t ≡ cond look.of_data top (max top look.last) → IsTop rows looks (n + 1) false t
 meta_raised rows looks n top t class look h r at partial is =
-    tops_by rows looks n false top t class look (not look.of_data) h r at partial (not_true look.of_data) (λ e f. (let clash : true ≡ false = sym (not_false look.of_data e) ∙ f in cc)) (is ∙ meta_cond look.of_data top (max top look.last))
+    tops_by rows looks n false top t class look (not look.of_data) h r at partial (not-true look.of_data) (λ e f. (let clash : true ≡ false = sym (not-false look.of_data e) ∙ f in cc)) (is ∙ meta_cond look.of_data top (max top look.last))
 
 -- the greatest of the stream that is asked for
 pub top_for : (rows : List TableRow) (looks : List Look) (n data_top meta_top t : ℕ) (of_data : Bool) → IsTop rows looks n true data_top → IsTop rows looks n false meta_top → (of_data ≡ true → t ≡ data_top) → (of_data ≡ false → t ≡ meta_top) → IsTop rows looks n of_data t

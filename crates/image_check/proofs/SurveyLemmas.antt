@@ -1,7 +1,7 @@
 -- One page more in each part of the survey.
 use Rattle.std.proofs.Common.{◌≡◌, ◌≢◌, ℕ, zero, suc, ◌+◌, ◌<◌, ◌≤◌, Bool, true, false, List, [], ◌∷◌, ◌++◌, length, get_or, set, length-set, Option, Some, None, refl, sym, ap, subst, ◌∙◌, arith, inl, inr, slice_get, replicate, get_or-set_same, get_or-set_other}
 use Rattle.std.proofs.lemmas.Bool.{cases_order}
-use Rattle.std.proofs.lemmas.List.{length-replicate, get_or-replicate}
+use Rattle.std.proofs.lemmas.List.{length-replicate, get_or-replicate, get_or_default}
 use Rattle.std.proofs.lemmas.Option.{slice_get_within}
 use Rattle.page_layout.specs.declared.geometry.Geometry.{Geometry}
 use Rattle.page_layout.specs.declared.record.Record.{Record}
@@ -62,17 +62,12 @@ newest_outside g marks row items r h e outside = record {
       h.at key within ∙ sym (latest_other marks key row (sequence_at-other marks key row r e ne));
 }
 
-get_or-any : {X : Type 0} (xs : List X) (i : ℕ) (d e : X) → i < length xs → get_or xs i d ≡ get_or xs i e
-get_or-any [] i d e l = absurd (omega arith)
-get_or-any (x ∷ xs) zero d e l = refl
-get_or-any (x ∷ xs) (suc i) d e l = get_or-any xs i d e (omega arith)
-
 -- the key that the page is of
 newest_of_key : (g : Geometry) (marks : List (Option Record)) (row i : ℕ) (items : List Latest) (r : Record) (d : Latest) → HasNewest g marks row items → get_or marks row None ≡ Some r → IsKeyOf g (key_of r) → i ≡ index_of g (key_of r) → i < length items
     → get_or (set items i (step (get_or items i d) row (Some r.sequence))) (index_of g (key_of r)) Never ≡ latest_below marks (key_of r) (row + 1)
 newest_of_key g marks row i items r d h e within at in_items =
     let new : Latest = step (get_or items i d) row (Some r.sequence) in
-    let read : get_or items i d ≡ latest_below marks (key_of r) row = get_or-any items i d Never in_items ∙ (ap (λ j. get_or items j Never) at ∙ h.at (key_of r) within) in
+    let read : get_or items i d ≡ latest_below marks (key_of r) row = get_or_default items i d Never in_items ∙ (ap (λ j. get_or items j Never) at ∙ h.at (key_of r) within) in
     let first : get_or (set items i new) (index_of g (key_of r)) Never ≡ new = ap (λ j. get_or (set items i new) j Never) (sym at) ∙ get_or-set_same items i new Never in_items in
     let second : new ≡ step (latest_below marks (key_of r) row) row (Some r.sequence) = ap (λ l. step l row (Some r.sequence)) read in
     let third : step (latest_below marks (key_of r) row) row (Some r.sequence) ≡ latest_below marks (key_of r) (row + 1) = sym (latest_more marks (key_of r) row ∙ ap (step (latest_below marks (key_of r) row) row) (sequence_at-key marks row r e)) in
@@ -117,7 +112,7 @@ outside_found g marks row x h e outside = record { at = record { found = x; here
 pub newest_at : (g : Geometry) (marks : List (Option Record)) (rows i : ℕ) (items : List Latest) (key : Key) (d : Latest) → HasNewest g marks rows items → IsKeyOf g key → i ≡ index_of g key → get_or items i d ≡ latest_below marks key rows
 newest_at g marks rows i items key d h within at =
     let in_items : i < length items = omega (arith, index_within g key within, h.size, at) in
-    get_or-any items i d Never in_items ∙ (ap (λ j. get_or items j Never) at ∙ h.at key within)
+    get_or_default items i d Never in_items ∙ (ap (λ j. get_or items j Never) at ∙ h.at key within)
 
 -- ---- sequences
 

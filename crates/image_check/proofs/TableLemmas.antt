@@ -12,14 +12,13 @@ use Rattle.page_layout.specs.declared.newest.Latest.{Latest}
 use Rattle.page_layout.specs.declared.newest.Latest.TheVariants.{Never, Once, Tied}
 use Rattle.page_layout.specs.Geometry.{table_pages}
 use Rattle.page_layout.specs.Greatest.{step, place_of}
-use Rattle.page_layout.specs.Page.{Page, Image}
+use Rattle.page_layout.specs.Page.{Page, Image, body_at}
 use Rattle.page_layout.specs.Key.{key_of}
 use Rattle.page_layout.specs.Array.{marks}
 use Rattle.page_layout.specs.Sound.{record_of}
 use Rattle.page_layout.specs.Newest.{latest_below, sequence_at}
 use Rattle.page_layout.proofs.NewestLemmas.{sequence_at-none, sequence_at-other}
-use Rattle.page_layout.proofs.ArrayLemmas.{mark-page}
-use Rattle.image_check.specs.Blocks.{body_at, body_of}
+use Rattle.page_layout.proofs.ArrayLemmas.{mark-page, body_page}
 use Rattle.image_check.specs.Survey.{HasTableBytes}
 use Rattle.image_check.proofs.SurveyLemmas.{latest_more, latest_other, latest_start}
 
@@ -43,7 +42,7 @@ step_place (Tied a b t) row q (Some s) e =
 
 -- the page isn't of table page u
 stays_other : (g : Geometry) (image : Image) (row u q i : ℕ) (bytes : List ℕ) → HasTableBytes g image row bytes → sequence_at (marks image) (Table u) row ≡ None → u < table_pages g → i < g.data_bytes → place_of (latest_below (marks image) (Table u) (row + 1)) ≡ Some q
-    → get_or bytes (u * g.data_bytes + i) 0 ≡ get_or (body_at image (Some q)) i 0
+    → get_or bytes (u * g.data_bytes + i) 0 ≡ get_or (body_at image q) i 0
 stays_other g image row u q i bytes h none ku ki e = h.at u q i ku ki (ap place_of (sym (latest_other (marks image) (Table u) row none)) ∙ e)
 
 -- the page isn't sound, or it is of another kind or out of range
@@ -89,7 +88,7 @@ table_new g image row v bytes w p h kv none newest is_page copied size =
       at = λ u q i ku ki e. elim (cases_order u v) [
         | inl same ↦
             let q_row : row ≡ q = let both : Some row ≡ Some q = sym newest ∙ subst (λ (x : ℕ). place_of (latest_below (marks image) (Table x) (row + 1)) ≡ Some q) same e in cc in
-            let body : p.body ≡ body_at image (Some q) = ap body_of (sym is_page) ∙ ap (λ r. body_at image (Some r)) q_row in
+            let body : p.body ≡ body_at image q = sym (body_page image row p is_page) ∙ ap (body_at image) q_row in
             ap (λ (x : ℕ). get_or (put_mid a (a + g.data_bytes - a) bytes w) (x * g.data_bytes + i) 0) same ∙ inside bytes w a g.data_bytes i size fits ki ∙ ap (λ (x : List ℕ). get_or x i 0) (copied ∙ body)
         | inr (inl below) ↦
             let far : suc u * g.data_bytes ≤ a = mul-le-mul_right g.data_bytes below in

@@ -5,7 +5,7 @@ use Rattle.std.specs.Int.{w32, from_le_bytes, div_ceil}
 use Rattle.std.proofs.lemmas.Bool.{cases_order, cases_lt, lt-ltb, le-ltb}
 use Rattle.std.proofs.Common.{All, replicate, take, drop, length-take, length-drop}
 use Rattle.std.proofs.lemmas.Option.{slice_get-get_or, slice_get_past}
-use Rattle.std.proofs.lemmas.List.{places, length-replicate, get_or-replicate}
+use Rattle.std.proofs.lemmas.List.{places, length-replicate, get_or-replicate, get_or_default}
 use Rattle.bad_blocks.specs.Table.{IsCounted, no_table_row}
 use Rattle.std.proofs.Math.Nat.{mul-le-mul_right, div-mul-le_self, mul_comm}
 use Rattle.std.proofs.lemmas.Grind.{div_ceil_times}
@@ -16,8 +16,8 @@ use Rattle.page_layout.specs.declared.newest.Latest.TheVariants.{Never}
 use Rattle.page_layout.specs.Geometry.{entries, translation_pages, table_pages, row_count}
 use Rattle.page_layout.specs.Greatest.{place_of}
 use Rattle.page_layout.specs.Limits.{IsDataSize}
-use Rattle.page_layout.specs.Page.{Image}
-use Rattle.page_layout.specs.Newest.{latest_below}
+use Rattle.page_layout.specs.Page.{Image, body_at}
+use Rattle.page_layout.specs.Newest.{newest, latest_below}
 use Rattle.page_layout.specs.Array.{marks}
 use Rattle.page_layout.specs.Word.{word_at}
 use Rattle.page_layout.proofs.ArrayLemmas.{length-marks, latest-newest}
@@ -28,7 +28,7 @@ use Rattle.bad_blocks.specs.declared.table.page.TableFault.{TableFault}
 use Rattle.bad_blocks.specs.TablePage as table
 use Rattle.certificate.specs.Claim.{Claim}
 use Rattle.image_check.specs.declared.refusal.Refusal.TheVariants as refusals
-use Rattle.image_check.specs.Blocks.{body_at, table_body, word_of_block, IsBodyOf, IsTableOf}
+use Rattle.image_check.specs.Blocks.{body_in, table_body, word_of_block, IsBodyOf, IsTableOf}
 use Rattle.image_check.specs.Surveyed.{SurveysKeys, SurveysTables}
 use Rattle.image_check.specs.Agrees.{IsFormatted, HasTables}
 use Rattle.image_check.specs.Refused.{IsUnformatted, IsWrong, Tables}
@@ -47,18 +47,13 @@ some_of : (o : Option ℕ) → (o ≡ None → ⊥) → (row : ℕ) × (o ≡ So
 some_of None h = absurd (h refl)
 some_of (Some row) h = (row, refl)
 
-get_or-any : {X : Type 0} (xs : List X) (i : ℕ) (d e : X) → i < length xs → get_or xs i d ≡ get_or xs i e
-get_or-any [] i d e l = absurd (omega arith)
-get_or-any (x ∷ xs) zero d e l = refl
-get_or-any (x ∷ xs) (suc i) d e l = get_or-any xs i d e (omega arith)
-
 pub there_more : (g : Geometry) (items : List Latest) (n i : ℕ) (d : Latest) → AreThere g items n → i ≡ g.sectors + (translation_pages g + n) → i < length items → (place_of (get_or items i d) ≡ None → ⊥) → AreThere g items (n + 1)
 there_more g items n i d h at within some = record {
   each = λ u l. elim (cases_order u n) [
     | inl same ↦
         let here = some_of (place_of (get_or items i d)) some in
         let place : i ≡ g.sectors + (translation_pages g + u) = at ∙ ap (λ k. g.sectors + (translation_pages g + k)) (sym same) in
-        (here.0, ap place_of (ap (λ j. get_or items j Never) (sym place) ∙ get_or-any items i Never d within) ∙ here.1)
+        (here.0, ap place_of (ap (λ j. get_or items j Never) (sym place) ∙ get_or_default items i Never d within) ∙ here.1)
     | inr (inl below) ↦ h.each u below
     | inr (inr above) ↦ absurd (omega arith)
   ];
@@ -85,6 +80,11 @@ four a b c d e f g h p q r s = rw (p, q, r, s) refl
 word_same : (xs ys : List ℕ) (n j : ℕ) → ((i : ℕ) → i < n → slice_index xs i ≡ slice_index ys i) → j + 4 ≤ n → word_at xs j ≡ word_at ys j
 word_same xs ys n j h l = four _ _ _ _ _ _ _ _ (h j (omega arith)) (h (j + 1) (omega arith)) (h (j + 2) (omega arith)) (h (j + 3) (omega arith))
 
+-- the newest table page is the page of its row
+pub table_is : (image : Image) (u row : ℕ) → newest (marks image) (Table u) ≡ Some row → table_body image u ≡ body_at image row
+unfolding table_body
+table_is image u row e = ap (body_in image) e
+
 -- what the survey keeps of a table page is the page
 pub body_kept : (g : Geometry) (image : Image) (items : List Latest) (bytes : List ℕ) (u at size : ℕ) (body : List ℕ) → SurveysTables g image items bytes → IsFormatted image u → u < table_pages g → at ≡ u * g.data_bytes → size ≡ g.data_bytes → body ≡ slice_range bytes at (at + size) → at + size ≤ length bytes → IsBodyOf g image u body
 unfolding table_body
@@ -94,7 +94,7 @@ body_kept g image items bytes u at size body h formatted within place is_size is
       let latest : place_of (latest_below (marks image) (Table u) (row_count g)) ≡ Some formatted.row = ap (λ n. place_of (latest_below (marks image) (Table u) n)) rows ∙ (sym (latest-newest (marks image) (Table u)) ∙ formatted.newest_is) in
       let kept = h.kept.at u formatted.row i within (omega arith) latest in
       let read : slice_index body i ≡ get_or bytes (u * g.data_bytes + i) 0 = ap (λ b. slice_index b i) is ∙ read_in bytes at size i (u * g.data_bytes + i) (omega arith) (omega arith) in
-      read ∙ (kept ∙ ap (λ r. slice_index (body_at image r) i) (sym formatted.newest_is));
+      read ∙ (kept ∙ ap (λ r. slice_index (body_in image r) i) (sym formatted.newest_is));
 }
   where
     read_in : (xs : List ℕ) (at size i j : ℕ) → j ≡ at + i → i < size → slice_index (slice_range xs at (at + size)) i ≡ get_or xs j 0

@@ -4,7 +4,7 @@ use Rattle.std.specs.List.{list_all, list_any, range_with_len}
 use Rattle.page_layout.specs.declared.geometry.Geometry.{Geometry}
 use Rattle.page_layout.specs.declared.record.Key.TheVariants.{Table}
 use Rattle.page_layout.specs.Geometry.{entries}
-use Rattle.page_layout.specs.Page.{Page, Image}
+use Rattle.page_layout.specs.Page.{Page, Image, body_at}
 use Rattle.page_layout.specs.Sound.{is_erased_page}
 use Rattle.page_layout.specs.Block.{block_pages, is_programmed, is_broken, has_gap, written, top_wear, begins_data, last_sequence}
 use Rattle.page_layout.specs.Newest.{newest}
@@ -17,17 +17,14 @@ use Rattle.certificate.specs.declared.block_state.BlockState.{BlockState}
 
 -- ---- the newest table
 
-abbrev pub body_of : Option Page → List ℕ
-body_of None = []
-body_of (Some p) = p.body
-
-abbrev pub body_at : Image → Option ℕ → List ℕ
-body_at image None = []
-body_at image (Some row) = body_of (slice_get image row)
+-- the data area of the page at a place, or nothing where there is no page
+abbrev pub body_in : Image → Option ℕ → List ℕ
+body_in image None = []
+body_in image (Some row) = body_at image row
 
 -- the data area of newest table page u
 unfoldable pub table_body : Image → ℕ → List ℕ
-table_body image u = body_at image (newest (marks image) (Table u))
+table_body image u = body_in image (newest (marks image) (Table u))
 
 -- the word that the newest table has for a block
 unfoldable pub word_of_block : Geometry → Image → ℕ → ℕ

@@ -9,7 +9,7 @@ use Rattle.page_layout.specs.declared.newest.Latest.{Latest}
 use Rattle.page_layout.specs.declared.newest.Latest.TheVariants.{Never}
 use Rattle.page_layout.specs.Greatest.{place_of}
 use Rattle.page_layout.specs.Geometry.{translation_pages, table_pages, key_count}
-use Rattle.page_layout.specs.Page.{Page, Image}
+use Rattle.page_layout.specs.Page.{Page, Image, body_at}
 use Rattle.page_layout.specs.Sound.{is_erased_page}
 use Rattle.page_layout.specs.Key.{key_of}
 use Rattle.page_layout.specs.Newest.{latest_below, sequence_at}
@@ -17,7 +17,6 @@ use Rattle.page_layout.specs.Live.{IsKeyOf, live}
 use Rattle.page_layout.specs.Array.{marks}
 use Rattle.page_layout.specs.Block.{block_pages, is_broken, has_gap, written, wear_in, top_wear, has_data_kind, begins_data, sequence_in, last_sequence}
 use Rattle.image_check.specs.declared.look.Look.{Look}
-use Rattle.image_check.specs.Blocks.{body_at}
 
 -- ---- by key
 
@@ -107,7 +106,7 @@ pub record HasLooks (g : Geometry) (image : Image) (rows : ℕ) (items : List Lo
 -- the data areas of the table pages that are the newest so far, one behind the other
 pub record HasTableBytes (g : Geometry) (image : Image) (rows : ℕ) (bytes : List ℕ) : Type 0 where
   pub size : length bytes ≡ table_pages g * g.data_bytes
-  pub at : (u row i : ℕ) → u < table_pages g → i < g.data_bytes → place_of (latest_below (marks image) (Table u) rows) ≡ Some row → get_or bytes (u * g.data_bytes + i) 0 ≡ get_or (body_at image (Some row)) i 0
+  pub at : (u row i : ℕ) → u < table_pages g → i < g.data_bytes → place_of (latest_below (marks image) (Table u) rows) ≡ Some row → get_or bytes (u * g.data_bytes + i) 0 ≡ get_or (body_at image row) i 0
 
 -- ---- claims
 

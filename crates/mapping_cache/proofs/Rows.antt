@@ -9,6 +9,7 @@ use Rattle.std.proofs.Math.Nat.{mul-le-mul}
 use Rattle.std.proofs.lemmas.Map.{NonePasses, lookup-none, none_passes_from_lookup}
 use Rattle.std.proofs.lemmas.Map.Entries.{lookup-filter-keys}
 use Rattle.std.proofs.lemmas.Map.Keys.{IsDistinct-cons, IsDistinct-head, IsDistinct-tail}
+use Rattle.page_layout.proofs.GeometryLemmas.{some_entries}
 use Rattle.page_layout.specs.declared.geometry.Geometry.{Geometry}
 use Rattle.page_layout.specs.Geometry.{entries, row_count}
 use Rattle.page_layout.specs.Word.{IsRow}
@@ -171,9 +172,6 @@ row_has_word g row within r e =
     let below : r < row_count g = within r e in
     let most : g.blocks * g.pages ≤ 4096 * 256 = mul-le-mul g.limits.block_count.most g.limits.page_count.most in
     omega (arith, below, most)
-
-pub some_entries : (g : Geometry) → 0 < entries g
-some_entries g = let least = g.limits.data_size.least in omega arith
 
 -- ---- what a mapping offers for a page
 module _ (m : MappingState) (t : ℕ) (v : IsMapping m) where

@@ -12,6 +12,7 @@ use Rattle.page_layout.specs.Change.{IsUnsoundAt, Keeps, Writes}
 use Rattle.page_layout.specs.Flash.{Flash, Operation, Program, Steps, page_at}
 use Rattle.page_layout.proofs.ArrayLemmas.{mark-same}
 use Rattle.page_layout.proofs.FlashLemmas.{Leads-append, Leads-one, program_writes, program_below, program_keeps, program_next, program_other, program_sets}
+use Rattle.page_layout.proofs.GeometryLemmas.{row_within}
 use Rattle.bad_blocks.specs.declared.class.Class.TheVariants.{Grown}
 use Rattle.bad_blocks.specs.declared.table.TableRow.{TableRow}
 use Rattle.bad_blocks.specs.Marks.{is_marked}
@@ -19,6 +20,7 @@ use Rattle.bad_blocks.specs.Table.{no_table_row, wear_at, is_good, is_good_at, r
 use Rattle.bad_blocks.specs.TablePage.{table_bytes}
 use Rattle.bad_blocks.proofs.TableLemmas.{slice_get-set_same}
 use Rattle.promises.specs.Legal.{IsDue, Account, account_at, accounts_of, accounted_all, noted}
+use Rattle.promises.proofs.AccountLemmas.{length-accounts_of, length-accounted_all, accounted-same, accounted-other}
 use Rattle.promises.proofs.LogLemmas.{counts}
 use Rattle.promises.proofs.LegalLemmas.{accounts_join, legal_append}
 use Rattle.mount.specs.Formatted.{table_after, table_record, IsDone, HasTablePage}
@@ -27,9 +29,9 @@ use Rattle.onfi_cycles.specs.declared.nand.Outcome.{Outcome}
 use Rattle.onfi_cycles.specs.Outcomes.{is_passed}
 use Rattle.mount.proofs.SizeLemmas.{table_pages_fit}
 use Rattle.mount.proofs.GoodLemmas.{good_count-retired}
-use Rattle.mount.proofs.LogLemmas.{length-accounts_of, length-accounted_all, accounted-same, accounted-other, failed_in-passed, failed_in-other, failures-passed, failures-failed}
+use Rattle.mount.proofs.LogLemmas.{failed_in-passed, failed_in-other, failures-passed, failures-failed}
 use Rattle.mount.proofs.TableLemmas.{length-table_after, table_after-passed, table_after-failed}
-use Rattle.mount.proofs.BlockLemmas.{row_within, block_of_row, page_of_row}
+use Rattle.mount.proofs.BlockLemmas.{block_of_row, page_of_row}
 use Rattle.mount.proofs.FreshLemmas.{fresh_unsound, done_none}
 
 abbrev turn : ℕ → Account
@@ -109,7 +111,7 @@ turns_other g first old table block done next b log its left passed h l good ne 
     let accounts : List Account = accounts_of g first.image (is_marked g first.image) in
     let op : Operation = Program (row_of g block done) its passed left in
     ap (λ (xs : List Account). account_at xs b) (accounts_join g.pages accounts log (op ∷ []))
-    ∙ (accounted-other g.pages (accounted_all g.pages accounts log) op b (λ e. ne (e ∙ next_block g first old table block done next log h))
+    ∙ (accounted-other g.pages (accounted_all g.pages accounts log) op b (λ e. ne (sym e ∙ next_block g first old table block done next log h))
     ∙ (h.so_far.turns b l good ∙ ap turn (done-other block done b ne)))
 
 -- a row whose turn hasn't come

@@ -11,18 +11,12 @@ use Rattle.page_layout.specs.declared.geometry.Geometry.{Geometry}
 use Rattle.page_layout.specs.Geometry.{row_count}
 use Rattle.page_layout.specs.Page.{Page, Image}
 use Rattle.page_layout.specs.Sound.{record_of, is_erased_page}
-use Rattle.page_layout.specs.Block.{block_pages, is_programmed, is_broken, has_gap}
+use Rattle.page_layout.specs.Block.{block_pages, is_programmed, is_broken, has_gap, past_last}
 use Rattle.page_layout.specs.Flash.{no_page}
-use Rattle.promises.specs.Legal.{past_last}
 
 -- ---- rows of a block
 
 -- the rows of the blocks below another one lie below its rows
-pub row_within : (g : Geometry) (block page : ℕ) → block < g.blocks → page < g.pages → block * g.pages + page < row_count g
-row_within g block page lb lp =
-    let h : (block + 1) * g.pages ≤ g.blocks * g.pages = mul-le-mul (omega arith) (omega arith) in
-    omega (arith, h)
-
 pub block_of_row : (g : Geometry) (block page : ℕ) → page < g.pages → (block * g.pages + page) / g.pages ≡ block
 block_of_row g block page l = div-mul-add block g.pages page l
 

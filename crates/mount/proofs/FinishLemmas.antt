@@ -14,6 +14,7 @@ use Rattle.page_layout.specs.Newest.{newest}
 use Rattle.page_layout.specs.OneArray.{AreBelow}
 use Rattle.page_layout.specs.Array.{marks, zeros, content_at, sector_of, array_of}
 use Rattle.page_layout.specs.Flash.{Flash, Operation, no_page}
+use Rattle.page_layout.proofs.GeometryLemmas.{row_within}
 use Rattle.bad_blocks.specs.declared.table.TableRow.{TableRow}
 use Rattle.bad_blocks.specs.Marks.{is_marked}
 use Rattle.bad_blocks.specs.Table.{is_good_at, good_count}
@@ -21,7 +22,7 @@ use Rattle.mount.specs.Formatted.{good_after, is_good_after, table_after, shows_
 use Rattle.mount.specs.Log.{failures}
 use Rattle.mount.specs.Attempt.{done_in, IsUnderway}
 use Rattle.mount.proofs.LookLemmas.{erased_unsound}
-use Rattle.mount.proofs.BlockLemmas.{row_within, row_block, block_of_row, page_of_row, length-block_pages, get_or-block_pages, none_of_block, gap_free, unbroken}
+use Rattle.mount.proofs.BlockLemmas.{row_block, block_of_row, page_of_row, length-block_pages, get_or-block_pages, none_of_block, gap_free, unbroken}
 use Rattle.mount.proofs.TableLemmas.{IsClear, good_is_clear, good_after-table, good_count-table}
 use Rattle.mount.proofs.FreshLemmas.{fresh_erased}
 use Rattle.mount.proofs.AttemptLemmas.{done-same, done-other}

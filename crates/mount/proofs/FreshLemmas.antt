@@ -12,22 +12,24 @@ use Rattle.page_layout.specs.declared.record.Key.TheVariants.{Sector, Translatio
 use Rattle.page_layout.specs.Geometry.{row_count}
 use Rattle.page_layout.specs.Page.{Image, IsImage}
 use Rattle.page_layout.specs.Sound.{record_of, is_erased_page}
-use Rattle.page_layout.specs.Block.{block_pages, is_programmed}
+use Rattle.page_layout.specs.Block.{block_pages, is_programmed, past_last}
 use Rattle.page_layout.specs.Newest.{newest}
 use Rattle.page_layout.specs.OneArray.{AreBelow}
 use Rattle.page_layout.specs.Array.{marks, HasOneArray}
 use Rattle.page_layout.specs.Flash.{Flash, no_page}
 use Rattle.page_layout.proofs.ArrayLemmas.{unsound_at, length-marks}
 use Rattle.page_layout.proofs.NewestLemmas.{newest-record}
+use Rattle.page_layout.proofs.GeometryLemmas.{row_within}
 use Rattle.bad_blocks.specs.declared.table.TableRow.{TableRow}
 use Rattle.bad_blocks.specs.Marks.{is_marked}
 use Rattle.bad_blocks.specs.Table.{is_good_at, good_count}
 use Rattle.mount.specs.Fresh.{is_page_used, IsFresh}
-use Rattle.promises.specs.Legal.{Account, account_at, no_account, accounts_of, past_last}
+use Rattle.promises.specs.Legal.{Account, account_at, accounts_of}
+use Rattle.promises.proofs.AccountLemmas.{account_of}
 use Rattle.mount.specs.Formatted.{table_after, good_after}
 use Rattle.mount.specs.Attempt.{done_in, IsTrying}
 use Rattle.mount.proofs.LookLemmas.{erased_unsound}
-use Rattle.mount.proofs.BlockLemmas.{row_within, block_of_row, none_of_block, past_last-zero}
+use Rattle.mount.proofs.BlockLemmas.{block_of_row, none_of_block, past_last-zero}
 use Rattle.mount.proofs.TableLemmas.{IsClear, good_is_clear, good_count-table}
 
 -- ---- its pages
@@ -79,15 +81,13 @@ none_below image next none = record { below = λ row x at. (let bad : Some x ≡
 -- ---- its accounts
 
 pub account-unmarked : (g : Geometry) (image : Image) (b : ℕ) → IsFresh g image → b < g.blocks → is_marked g image b ≡ false → account_at (accounts_of g image (is_marked g image)) b ≡ record { next = 0; barred = false }
-unfolding accounts_of
 account-unmarked g image b fresh within unmarked =
-    let account : ℕ → Account = λ block. record { next = past_last (block_pages g image block); barred = is_marked g image block } in
     let erased : (k : ℕ) → k < g.pages → is_programmed (get_or image (b * g.pages + k) no_page) ≡ false =
     λ k l. not_from_true (is_erased_page (get_or image (b * g.pages + k) no_page))
     (fresh_erased g image (b * g.pages + k) fresh (row_within g b k within l) (ap (is_marked g image) (block_of_row g b k l) ∙ unmarked)) in
     let next : past_last (block_pages g image b) ≡ 0 = past_last-zero (block_pages g image b) (none_of_block g image b is_programmed erased) in
     let of_parts : ℕ → Bool → Account = λ n m. record { next = n; barred = m } in
-    get_or-map-range_with_len account 0 g.blocks b b no_account within (omega arith)
+    account_of g image (is_marked g image) b within
     ∙ (ap (λ n. of_parts n (is_marked g image b)) next ∙ ap (λ m. of_parts 0 m) unmarked)
 
 -- ---- the start

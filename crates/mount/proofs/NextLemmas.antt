@@ -2,6 +2,7 @@
 use Rattle.std.proofs.Common.{◌≡◌, ℕ, zero, suc, ◌+◌, ◌-◌, ◌^◌, ◌<◌, ◌≤◌, ◌⊎◌, inl, inr, All, List, [], ◌∷◌, length, get_or, max, Some, None, refl, sym, ap, subst, ◌∙◌, arith}
 use Rattle.std.proofs.lemmas.Bool.{cases_order, cases_lt}
 use Rattle.std.proofs.lemmas.List.Sorted.{All-permutation}
+use Rattle.std.proofs.lemmas.List.{get_or_default}
 use Rattle.page_layout.specs.declared.geometry.Geometry.{Geometry}
 use Rattle.page_layout.specs.declared.record.Record.{Record}
 use Rattle.page_layout.specs.declared.record.Key.TheVariants.{Table}
@@ -42,11 +43,6 @@ top_more pairs n top new sequence h at is = record {
     still (inl e) = inl e
     still (inr r) = inr (r.0, let l = r.1 in omega arith, r.2)
 
-get_or-any : {X : Type 0} (xs : List X) (i : ℕ) (d e : X) → i < length xs → get_or xs i d ≡ get_or xs i e
-get_or-any [] i d e l = absurd (omega arith)
-get_or-any (x ∷ xs) zero d e l = refl
-get_or-any (x ∷ xs) (suc i) d e l = get_or-any xs i d e (omega arith)
-
 -- the page of a pair
 pair_page : (g : Geometry) (image : Image) (pairs : List (ℕ × ℕ)) (k : ℕ) → SurveysPairs g image pairs → k < length pairs → (r : Record) × (get_or (marks image) (get_or pairs k (0, 0)).1 None ≡ Some r) × (r.sequence ≡ (get_or pairs k (0, 0)).0)
 pair_page g image pairs k h l =
@@ -55,7 +51,7 @@ pair_page g image pairs k h l =
 all_below : (pairs : List (ℕ × ℕ)) (top : ℕ) → IsTopOf pairs (length pairs) top → All (λ (p : ℕ × ℕ). p.0 < top + 1) pairs
 all_below pairs top h = λ k d l.
     let le = h.above k l in
-    let e : (get_or pairs k d).0 ≡ (get_or pairs k (0, 0)).0 = ap (λ (p : ℕ × ℕ). p.0) (get_or-any pairs k d (0, 0) l) in
+    let e : (get_or pairs k d).0 ≡ (get_or pairs k (0, 0)).0 = ap (λ (p : ℕ × ℕ). p.0) (get_or_default pairs k d (0, 0) l) in
     omega arith
 
 next_is : (g : Geometry) (image : Image) (pairs : List (ℕ × ℕ)) (top : ℕ) → SurveysPairs g image pairs → HasTables g image → IsTopOf pairs (length pairs) top → IsNextSequence (marks image) (top + 1)

@@ -13,6 +13,7 @@ use Rattle.page_layout.specs.Block.{block_pages, is_broken, has_gap}
 use Rattle.page_layout.specs.Newest.{newest}
 use Rattle.page_layout.specs.Array.{marks}
 use Rattle.page_layout.specs.Flash.{Flash, Operation, Program, Erase, Leads}
+use Rattle.page_layout.proofs.ArrayLemmas.{body_page}
 use Rattle.page_layout.proofs.FlashLemmas.{image-program}
 use Rattle.bad_blocks.specs.declared.table.TableRow.{TableRow}
 use Rattle.bad_blocks.specs.Marks.{is_marked}
@@ -20,11 +21,11 @@ use Rattle.bad_blocks.specs.Table.{IsCounted, no_table_row}
 use Rattle.bad_blocks.specs.TablePage.{code_of, word_or_padding, table_bytes, IsTablePage, IsWellFormed}
 use Rattle.bad_blocks.proofs.PageLemmas.{table_bytes_page, right_word}
 use Rattle.image_check.specs.Agrees.{HasTables}
-use Rattle.image_check.specs.Blocks.{body_of, body_at, table_body, table_class, class, is_good, is_grown, is_free, is_open, is_of_data, IsTableOf}
+use Rattle.image_check.specs.Blocks.{table_body, table_class, class, is_good, is_grown, is_free, is_open, is_of_data, IsTableOf}
 use Rattle.image_check.specs.Mountable.{IsOrderly}
 use Rattle.image_check.specs.Stale.{entry_of, is_stale, stale_sectors, stale_count}
 use Rattle.image_check.proofs.MountableLemmas.{mountable}
-use Rattle.image_check.proofs.TablesLemmas.{AreTaken, table_of, tables_hold}
+use Rattle.image_check.proofs.TablesLemmas.{AreTaken, table_is, table_of, tables_hold}
 use Rattle.promises.specs.Log.{erases_in, failed_in}
 use Rattle.mount.specs.Formatted.{class_after, table_after, is_good_after, HasTablePage, IsFormatted}
 use Rattle.mount.specs.Ready.{FormattedLaw}
@@ -48,8 +49,7 @@ table_counted : (g : Geometry) (image : Image) (log : List Operation) → All Is
 table_counted g image log = All-map IsCounted (row_after g image log) (range_with_len 0 g.blocks) (λ k d l. record { most = omega arith })
 
 body_is : (g : Geometry) (image : Image) (row u sequence : ℕ) (table : List TableRow) → HasTablePage g image row u sequence table → table_body image u ≡ table_bytes (entries g) table u
-unfolding table_body
-body_is g image row u sequence table page = ap (λ place. body_at image place) page.newest_is ∙ (ap body_of page.at ∙ page.body)
+body_is g image row u sequence table page = table_is image u row page.newest_is ∙ (body_page image row page.its page.at ∙ page.body)
 
 -- the table pages, word by word
 tables_taken : (g : Geometry) (old new : Flash) (good : ℕ) (f : IsFormatted g old new good) → AreTaken g new.image (table_pages g) (table_after g old.image f.log)

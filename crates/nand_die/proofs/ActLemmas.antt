@@ -2,7 +2,7 @@
 use Rattle.std.proofs.Common.{◌≡◌, ◌⊎◌, inl, inr, ℕ, zero, suc, ◌+◌, ◌*◌, ◌<◌, ◌≤◌, ◌==◌, Bool, true, false, not, ◌&&◌, List, [], ◌∷◌, ◌++◌, take, drop, length, refl, sym, ◌∙◌, ap, subst, arith, get_or, if◌then◌else◌, nat_lt, Ok, Err, length-drop, length-append, append_assoc, None, Some, Option}
 use Rattle.std.specs.Prelude.{is_some}
 use Rattle.std.proofs.lemmas.List.{get_or-set_same, length-map, length-take-le, length-replicate, get_or-take, get_or-drop, drop-drop}
-use Rattle.std.proofs.lemmas.Bool.{ltb-true, le-leb, cases_Bool}
+use Rattle.std.proofs.lemmas.Bool.{ltb-true, le-leb, cases_Bool, and_left}
 use Rattle.page_layout.specs.declared.geometry.Geometry.{Geometry}
 use Rattle.page_layout.specs.Geometry.{row_count, page_bytes}
 use Rattle.page_layout.specs.Page.{Page}
@@ -73,9 +73,6 @@ and_true : (a b : Bool) → (a && b) ≡ true → a ≡ true
 and_true true b e = refl
 and_true false b e = e
 
-and_false : (a b : Bool) → a ≡ false → (a && b) ≡ false
-and_false a b e = ap (λ x. x && b) e
-
 lt_cases : (n : ℕ) → ((nat_lt 0 n ≡ true) × (0 < n)) ⊎ (nat_lt 0 n ≡ false)
 lt_cases n = elim (cases_Bool (nat_lt 0 n)) [ inl e ↦ inl (e, ltb-true 0 n e) | inr e ↦ inr e ]
 
@@ -98,7 +95,7 @@ lawful_program d row page lt left =
       due = λ p. and_true may (not (is_some (fault_next d))) p;
       kept = λ p. ap (λ b. left_page f.geometry was may b page bytes) p;
       failed = λ p. subst (λ x. (x ≡ was) ⊎ (record_of x ≡ None)) (sym (ap (λ b. left_page f.geometry was may b page bytes) p)) (failed_page f.geometry was may page bytes left);
-      refused = λ r. ap (λ b. left_page f.geometry was may b page bytes) (and_false may (not (is_some (fault_next d))) r) ∙ ap (λ b. left_page f.geometry was b false page bytes) r;
+      refused = λ r. ap (λ b. left_page f.geometry was may b page bytes) (and_left may (not (is_some (fault_next d))) r) ∙ ap (λ b. left_page f.geometry was b false page bytes) r;
     }
 
 page_left_at : (f : Flash) (row : ℕ) (page : Page) (passed : Bool) (left : Page) → row < length f.image → left ≡ page_at (after f (Program row page passed left)) row
@@ -180,7 +177,7 @@ lawful_erase d block w lt left =
       failed = λ p k h. subst (λ b. (get_or (left_block g was may b bytes) k no_page ≡ page_at f (block * g.pages + k)) ⊎ (record_of (get_or (left_block g was may b bytes) k no_page) ≡ None)) (sym p)
           (subst (λ q. (get_or (left_block g was may false bytes) k no_page ≡ q) ⊎ (record_of (get_or (left_block g was may false bytes) k no_page) ≡ None)) (page_in_block f.image (block * g.pages) g.pages k h)
           (failed_block g was may bytes k left));
-      refused = λ r. ap (λ b. left_block g was may b bytes) (and_false may (not (is_some (fault_next d))) r) ∙ ap (λ b. left_block g was b false bytes) r;
+      refused = λ r. ap (λ b. left_block g was may b bytes) (and_left may (not (is_some (fault_next d))) r) ∙ ap (λ b. left_block g was b false bytes) r;
     }
 
 block_left_at : (f : Flash) (block : ℕ) (passed : Bool) (left : List Page) → length left ≡ f.geometry.pages → block * f.geometry.pages ≤ length f.image → left ≡ block_at (after f (Erase block passed left)) block

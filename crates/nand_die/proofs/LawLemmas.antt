@@ -1,7 +1,7 @@
 -- The laws of a die in memory.
 use Rattle.std.proofs.Common.{◌≡◌, ◌⊎◌, inl, inr, ℕ, Bool, true, false, not, ◌&&◌, List, refl, sym, ◌∙◌, ap, arith, Option, Some, None, [], ◌∷◌, length, ◌<◌}
 use Rattle.std.specs.Prelude.{slice_get, ◌↔◌, slice_set, is_some, IsSome}
-use Rattle.std.proofs.lemmas.Bool.{cases_order, true≢false, false≢true}
+use Rattle.std.proofs.lemmas.Bool.{cases_order, true≢false, false≢true, and_left}
 use Rattle.std.proofs.lemmas.List.{set-get_or}
 use Rattle.page_layout.specs.declared.geometry.Geometry.{Geometry}
 use Rattle.page_layout.specs.Page.{Page}
@@ -48,15 +48,12 @@ program_abuse_law d row page = (
       ∙ set-get_or d.state.flash.image row no_page,
 )
 
-and_false : (a b : Bool) → a ≡ false → (a && b) ≡ false
-and_false a b e = ap (λ x. x && b) e
-
 pub erase_abuse_law : EraseAbuseLaw
 unfolding after
 erase_abuse_law d block = (
   refl,
   λ illegal.
-      sym (refused_block d.state.flash.geometry d.state.flash.image block (may_erase d.state.flash block) (erase_passes d block) (left_by (fault_next d)) (and_false (may_erase d.state.flash block) (not (is_some (fault_next d))) illegal) illegal),
+      sym (refused_block d.state.flash.geometry d.state.flash.image block (may_erase d.state.flash block) (erase_passes d block) (left_by (fault_next d)) (and_left (may_erase d.state.flash block) (not (is_some (fault_next d))) illegal) illegal),
 )
 
 pub count_law : CountLaw

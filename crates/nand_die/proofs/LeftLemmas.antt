@@ -65,11 +65,3 @@ struck_block g ps qs block row legal passed left p l some le at written =
     = ap (λ b. left_block g old legal b left) p ∙ (ap (λ b. left_block g old b false left) l ∙ ap (λ b. if b then page_of g left ∷ drop 1 old else old) (lt-ltb 0 (length left) some)) in
     written ∙ (ap (λ r. slice_set ps r (page_of g left)) at ∙ (block_struck ps (block * g.pages) g.pages (page_of g left) (omega (arith, g.limits.page_count.least)) le
     ∙ ap (λ m. with_block g.pages block m ps) (sym is)))
-
-pub not_true : (b : Bool) → not b ≡ true → b ≡ false
-not_true false e = refl
-not_true true e = sym e
-
-pub not_false : (b : Bool) → not b ≡ false → b ≡ true
-not_false true e = refl
-not_false false e = sym e

@@ -7,11 +7,11 @@ use Rattle.page_layout.specs.declared.geometry.Geometry.{Geometry}
 use Rattle.page_layout.specs.Geometry.{row_count}
 use Rattle.page_layout.specs.Page.{Page, page}
 use Rattle.page_layout.specs.Sound.{is_erased_page}
-use Rattle.page_layout.specs.Block.{block_pages, is_programmed}
+use Rattle.page_layout.specs.Block.{block_pages, is_programmed, past_last}
 use Rattle.page_layout.specs.Flash.{no_page}
 use Rattle.onfi_cycles.specs.Cycles.{page_of}
 use Rattle.nand_die.proofs.PagesLemmas.{block_within}
-use Rattle.nand_die.specs.Made.{past_last, IsNextPage}
+use Rattle.nand_die.specs.Made.{IsNextPage}
 use Rattle.nand_die.specs.Laws.{NextPageLaw}
 
 if_true : (b : Bool) (x y : ℕ) → b ≡ true → (if b then x else y) ≡ x

@@ -1,5 +1,6 @@
 -- What a die in memory does, said of its value before and after.
 use Rattle.std.specs.Prelude.{List, Contains, ◌≡◌, ◌⊎◌, ◌↔◌, ℕ, ◌<◌, true, false, if◌then◌else◌, length, IsSome, None}
+use Rattle.page_layout.specs.Block.{past_last}
 use Rattle.page_layout.specs.Page.{Page}
 use Rattle.page_layout.specs.Counter.{counted}
 use Rattle.page_layout.specs.Flash.{may_program, may_erase}
@@ -8,7 +9,7 @@ use Rattle.onfi_cycles.specs.declared.nand.BusFault.{BusFault}
 use Rattle.page_layout.specs.declared.geometry.Geometry.{Geometry}
 use Rattle.nand_die.specs.declared.fault.Fault.{Fault}
 use Rattle.nand_die.specs.declared.fault.DieFault.{DieFault}
-use Rattle.nand_die.specs.Made.{AreNames, IsFirstMisnamed, is_named, past_last, IsNextPage}
+use Rattle.nand_die.specs.Made.{AreNames, IsFirstMisnamed, is_named, IsNextPage}
 use Rattle.nand_die.specs.Faults.{ArePagesLeft, HasFirstWrong}
 use Rattle.nand_die.specs.DieValue.{DieValue, fault_next, answered}
 

@@ -6,7 +6,7 @@ use Rattle.page_layout.specs.Geometry.{row_count, page_bytes}
 use Rattle.page_layout.specs.Page.{Page, Image, page}
 use Rattle.page_layout.specs.Raw.{raw_image}
 use Rattle.page_layout.specs.Sound.{is_erased_page}
-use Rattle.page_layout.specs.Block.{block_pages, is_programmed}
+use Rattle.page_layout.specs.Block.{block_pages, past_last}
 use Rattle.page_layout.specs.Change.{erased_page}
 use Rattle.page_layout.specs.Flash.{Flash, Turn, no_page}
 use Rattle.nand_die.specs.declared.fault.Mark.{Mark}
@@ -83,12 +83,7 @@ new_flash g marks = record { geometry = g; image = new_image g marks; turns = fi
 
 -- ---- a die that holds an image
 
--- one past the last page that is not erased, or 0 where all are
-unfoldable pub past_last : List Page → ℕ
-past_last [] = 0
-past_last (p ∷ ps) = if list_any is_programmed (p ∷ ps) then past_last ps + 1 else 0
-
--- the same said of the pages: those from there on are erased, and the one before is not
+-- one past the last page that isn't erased, said of the pages: those from there on are erased, and the one before is not
 pub record IsNextPage (ps : List Page) (next : ℕ) : Type 0 where
   pub most : next ≤ length ps
   pub erased : (k : ℕ) → next ≤ k → k < length ps → is_erased_page (get_or ps k no_page) ≡ true

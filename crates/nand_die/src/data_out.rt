@@ -1,9 +1,9 @@
 // What data out gives.
 ghost use Rattle.std.specs.Prelude.{◌≡◌, ◌<◌, ◌≤◌, ◌+◌, ◌*◌, ℕ, List, length, take, drop, get_or, IfOk, IfErr, IfSome, IfNone};
 ghost use Rattle.page_layout.specs.Geometry.{row_count, page_bytes};
-ghost use Rattle.page_layout.specs.Raw.{raw_image};
+ghost use Rattle.page_layout.specs.Raw.{raw_image, bytes_of_page};
 ghost use Rattle.page_layout.specs.Flash.{no_page};
-ghost use Rattle.onfi_cycles.specs.Cycles.{Phase, Moves, Ready, Refuses, output_due, data_out_due, bytes_for, bytes_out, bytes_of, status_of};
+ghost use Rattle.onfi_cycles.specs.Cycles.{Phase, Moves, Ready, Refuses, output_due, data_out_due, bytes_for, bytes_out, status_of};
 ghost use Rattle.nand_die.specs.declared.change.BlockTurn.{BlockTurn};
 ghost use Rattle.nand_die.specs.BusState.{output_of, phase_of, IsWithin, IsOutputWithin, IsProtocolFault};
 ghost use Rattle.nand_die.specs.Turns.{flash_of};
@@ -38,7 +38,7 @@ fn put_page(geometry: &Geometry, bytes: &[u8], row: u32, column: u32, to: &mut [
     requires row_in_range { row < row_count geometry.now }
     requires column_in_range { column ≤ page_bytes geometry.now }
     ensures some { IfSome result (λ next. (next ≡ column + length to.old) × (next ≤ page_bytes geometry.now) ×
-        (to.new ≡ take (length to.old) (drop column (bytes_of (get_or (raw_image geometry.now bytes.now) row no_page))))) }
+        (to.new ≡ take (length to.old) (drop column (bytes_of_page (get_or (raw_image geometry.now bytes.now) row no_page))))) }
     ensures none { IfNone result ((page_bytes geometry.now < column + length to.old) × (to.new ≡ to.old)) }
 {
     if to.len() > page_length(geometry) - column as usize {

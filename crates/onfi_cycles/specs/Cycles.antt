@@ -3,6 +3,7 @@ use Rattle.std.specs.Prelude.{◌≡◌, ◌≢◌, ℕ, Bool, true, false, ◌=
 use Rattle.page_layout.specs.declared.geometry.Geometry.{Geometry}
 use Rattle.page_layout.specs.Geometry.{row_count, page_bytes}
 use Rattle.page_layout.specs.Page.{Page, page}
+use Rattle.page_layout.specs.Raw.{bytes_of_page}
 use Rattle.page_layout.specs.Counter.{HasRisen}
 use Rattle.page_layout.specs.Flash.{Flash, Operation, Program, Erase, Steps, page_at, block_at}
 use Rattle.onfi_cycles.specs.declared.nand.BusFault.{BusFault}
@@ -161,10 +162,6 @@ data_in_due g (Confirming purpose row column) bytes = Refuses OutOfTurn
 data_in_due g (Loading row column register) bytes =
     if nat_le (column + length bytes) (page_bytes g) then Moves (Loading row (column + length bytes) (replaced register column bytes)) else Refuses ColumnRange
 
--- the bytes of a page in the order of its columns
-abbrev pub bytes_of : Page → List ℕ
-bytes_of p = p.body ++ p.spare
-
 -- data out, by what is put out: past its end it moves nothing, and the status never ends
 abbrev pub output_due : Geometry → Output → ℕ → Due
 output_due g NoOutput n = Refuses OutOfTurn
@@ -183,7 +180,7 @@ data_out_due g (Loading row column register) n = Refuses OutOfTurn
 -- what is put out
 abbrev pub bytes_for : DieState → Output → ℕ → List ℕ
 bytes_for d NoOutput n = []
-bytes_for d (PageOut row column) n = take n (drop column (bytes_of (page_at d.flash row)))
+bytes_for d (PageOut row column) n = take n (drop column (bytes_of_page (page_at d.flash row)))
 bytes_for d StatusOut n = replicate n d.status
 bytes_for d (IdentityOut bytes) n = take n bytes
 

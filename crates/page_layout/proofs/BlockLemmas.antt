@@ -84,7 +84,7 @@ none_written (x ∷ xs) blank =
     let here : bit (is_programmed x) ≡ 0 = ap (λ b. bit (not b)) (blank 0 x refl) in
     omega (arith, count_by-cons is_programmed x xs, here, none_written xs (λ k q at. blank (suc k) q at))
 
-none_programmed : (ps : List Page) → list_any is_programmed ps ≡ false → (k : ℕ) (q : Page) → slice_get ps k ≡ Some q → is_erased_page q ≡ true
+pub none_programmed : (ps : List Page) → list_any is_programmed ps ≡ false → (k : ℕ) (q : Page) → slice_get ps k ≡ Some q → is_erased_page q ≡ true
 none_programmed ps none k q at = elim (cases_Bool (is_erased_page q)) [
   | inl blank ↦ blank
   | inr filled ↦ absurd (let some : list_any is_programmed ps ≡ true = some_programmed ps k q at filled in cc)

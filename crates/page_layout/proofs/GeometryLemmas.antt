@@ -24,7 +24,13 @@ worth g v = most v (translation_pages g) g.pages (omega (arith, g.limits.page_co
 entry_page : (n all per : ℕ) → 0 < per → n < all → n / per < div_ceil all per
 entry_page n all per some within = let times = div_ceil_times all per some in (div-lt_iff_lt-mul {k = per} {x = n} {y = div_ceil all per} some).1 (omega (arith, times.0))
 
-some_entries : (g : Geometry) → 0 < entries g
+-- a page of a block has its row
+pub row_within : (g : Geometry) (block page : ℕ) → block < g.blocks → page < g.pages → block * g.pages + page < row_count g
+row_within g block page in_die in_block =
+    let before : suc block * g.pages ≤ g.blocks * g.pages = mul-le-mul_right g.pages in_die in
+    omega (arith, before)
+
+pub some_entries : (g : Geometry) → 0 < entries g
 some_entries g = omega (arith, g.limits.data_size.least)
 
 pub sector_entry : (g : Geometry) (n : ℕ) → n < g.sectors → n / entries g < translation_pages g

@@ -1,11 +1,34 @@
 -- Words in a page.
-use Rattle.std.proofs.Common.{◌≡◌, ◌≢◌, eqb, Option, Some, None, ℕ, ◌+◌, ◌-◌, ◌*◌, ◌^◌, ◌<◌, ◌≤◌, List, length, get_or, refl, sym, ap, ◌∙◌, arith, ◌⊎◌, inl, inr, add-zero}
+use Rattle.std.proofs.Common.{◌≡◌, ◌≢◌, eqb, Option, Some, None, ℕ, zero, suc, [], ◌∷◌, ◌+◌, ◌-◌, ◌*◌, ◌^◌, ◌<◌, ◌≤◌, List, length, get_or, refl, sym, ap, ◌∙◌, arith, ◌⊎◌, inl, inr, add-zero}
 use Rattle.std.specs.Int.{w32, to_le_bytes}
 use Rattle.std.proofs.lemmas.Nat.{from_le_bytes-to_le_bytes_4}
 use Rattle.std.proofs.lemmas.List.{places}
 use Rattle.std.proofs.lemmas.Bool.{cases_order, cases_eq, eq-eqb, ne_eqb, cond-true, cond-false}
 use borrow.Rule.Slice.PartMut.{put_mid}
 use Rattle.page_layout.specs.Word.{IsRow, no_row, row_of_word, word_of_row, word_at}
+
+-- ---- four bytes more in front
+
+get_or-shift : (a b c d : ℕ) (bytes : List ℕ) (j m : ℕ) → m ≡ suc (suc (suc (suc j))) → get_or (a ∷ b ∷ c ∷ d ∷ bytes) m 0 ≡ get_or bytes j 0
+get_or-shift a b c d bytes j m e = rw e
+
+pub word_at-shift : (a b c d : ℕ) (bytes : List ℕ) (i : ℕ) → word_at (a ∷ b ∷ c ∷ d ∷ bytes) (4 * suc i) ≡ word_at bytes (4 * i)
+word_at-shift a b c d bytes i =
+    let e0 = get_or-shift a b c d bytes (4 * i) (4 * suc i) (omega arith) in
+    let e1 = get_or-shift a b c d bytes (4 * i + 1) (4 * suc i + 1) (omega arith) in
+    let e2 = get_or-shift a b c d bytes (4 * i + 2) (4 * suc i + 2) (omega arith) in
+    let e3 = get_or-shift a b c d bytes (4 * i + 3) (4 * suc i + 3) (omega arith) in
+    rw (e0, e1, e2, e3)
+
+-- the first four of bytes are bytes
+pub four_below : (a b c d : ℕ) (bytes : List ℕ) → ((k : ℕ) → get_or (a ∷ b ∷ c ∷ d ∷ bytes) k 0 < 256) → (k : ℕ) → get_or (a ∷ b ∷ c ∷ d ∷ []) k 0 < 256
+four_below a b c d bytes h zero = h 0
+four_below a b c d bytes h (suc zero) = h 1
+four_below a b c d bytes h (suc (suc zero)) = h 2
+four_below a b c d bytes h (suc (suc (suc zero))) = h 3
+four_below a b c d bytes h (suc (suc (suc (suc k)))) = omega arith
+
+-- ---- a word that is put in place of another
 
 -- a byte outside the four that w replaces
 get_or-put_mid_outside : (page w : List ℕ) (a j : ℕ) → length w ≡ 4 → a + 4 ≤ length page → (j < a) ⊎ (a + 4 ≤ j) → get_or (put_mid a (a + 4 - a) page w) j 0 ≡ get_or page j 0

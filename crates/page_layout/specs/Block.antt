@@ -37,6 +37,11 @@ unfoldable pub has_gap : List Page → Bool
 has_gap [] = false
 has_gap (p ∷ ps) = if is_erased_page p then list_any is_programmed ps else has_gap ps
 
+-- one past the last page that isn't erased, or 0
+unfoldable pub past_last : List Page → ℕ
+past_last [] = 0
+past_last (p ∷ ps) = if list_any is_programmed (p ∷ ps) then past_last ps + 1 else 0
+
 -- how many pages aren't erased: of a block without a gap, the page from which on all are erased
 abbrev pub written : List Page → ℕ
 written ps = count_by is_programmed ps

@@ -6,15 +6,18 @@ use Rattle.std.proofs.lemmas.List.{get_or-set_same, get_or-set_other, length-set
 use Rattle.std.proofs.lemmas.List.FromFn.{get_or-map-range_with_len, length-map-range_with_len}
 use Rattle.std.proofs.lemmas.Option.{slice_get_within, get_or_from_slice_get, slice_get-get_or}
 use Rattle.std.proofs.lemmas.Nat.{div-add-mod'}
-use Rattle.std.proofs.lemmas.Bool.{cases_lt}
+use Rattle.std.proofs.lemmas.Bool.{cases_lt, cases_Bool, not-false, or_from, or_parts}
 use Rattle.std.proofs.lemmas.Bool.Decides.{eqb_tells}
 use Rattle.page_layout.specs.declared.geometry.Geometry.{Geometry}
 use Rattle.page_layout.specs.Page.{Page, Image}
 use Rattle.page_layout.specs.Sound.{is_erased_page}
-use Rattle.page_layout.specs.Block.{block_pages, is_programmed}
+use Rattle.page_layout.specs.Block.{block_pages, is_programmed, past_last}
+use Rattle.page_layout.specs.Change.{one_if}
 use Rattle.page_layout.specs.Flash.{Operation, Program, Erase, no_page}
-use Rattle.promises.specs.Log.{block_of, has_passed, erases_of, one_where, failed_in}
-use Rattle.promises.specs.Legal.{Account, no_account, account_at, past_last, accounts_of, noted, accounted, accounted_all, IsDue, LegalFrom, EmptyLaw, JoinLaw, AccountsLaw, OneMoreLaw, NoBadBlockLaw, NotTwiceLaw, OnErasedLaw, InOrderLaw}
+use Rattle.page_layout.proofs.BlockLemmas.{none_programmed}
+use Rattle.promises.specs.Log.{block_of, has_passed, erases_of, failed_in}
+use Rattle.promises.specs.Legal.{Account, no_account, account_at, accounts_of, noted, accounted, accounted_all, IsDue, LegalFrom, EmptyLaw, JoinLaw, AccountsLaw, OneMoreLaw, NoBadBlockLaw, NotTwiceLaw, OnErasedLaw, InOrderLaw}
+use Rattle.promises.proofs.AccountLemmas.{account_of, length-accounts_of, due_good, accounted-same, accounted-other, noted-barred}
 
 -- ---- lists of operations in a row
 
@@ -52,40 +55,7 @@ in_range accounts block good =
       | inr ge ↦ let e : true ≡ false = sym (ap (λ (a : Account). a.barred) (get_or_past accounts block no_account ge)) ∙ good in cc
     ]
 
-due_good : (pages : ℕ) (accounts : List Account) (op : Operation) → IsDue pages accounts op → (account_at accounts (block_of pages op)).barred ≡ false
-due_good pages accounts (Program row page passed left) h = h.good
-due_good pages accounts (Erase block passed left) h = h.good
-
-accounted-length : (pages : ℕ) (accounts : List Account) (op : Operation) → length (accounted pages accounts op) ≡ length accounts
-unfolding accounted
-accounted-length pages accounts op = length-set accounts (block_of pages op) (noted (account_at accounts (block_of pages op)) op)
-
-accounted_all-length : (pages : ℕ) (accounts : List Account) (log : List Operation) → length (accounted_all pages accounts log) ≡ length accounts
-accounted_all-length pages accounts [] = refl
-accounted_all-length pages accounts (op ∷ log) = accounted_all-length pages (accounted pages accounts op) log ∙ accounted-length pages accounts op
-
--- the account of the block that an operation named, and of any other
-accounted-here : (pages : ℕ) (accounts : List Account) (op : Operation) → block_of pages op < length accounts
-    → account_at (accounted pages accounts op) (block_of pages op) ≡ noted (account_at accounts (block_of pages op)) op
-unfolding accounted
-accounted-here pages accounts op lt = get_or-set_same accounts (block_of pages op) (noted (account_at accounts (block_of pages op)) op) no_account lt
-
-accounted-other : (pages : ℕ) (accounts : List Account) (op : Operation) (block : ℕ) → block_of pages op ≢ block → account_at (accounted pages accounts op) block ≡ account_at accounts block
-unfolding accounted
-accounted-other pages accounts op block ne = get_or-set_other accounts (block_of pages op) block (noted (account_at accounts (block_of pages op)) op) no_account (λ e. ne (sym e))
-
-noted-barred : (account : Account) (op : Operation) → (noted account op).barred ≡ not (has_passed op)
-noted-barred account (Program row page passed left) = refl
-noted-barred account (Erase block passed left) = refl
-
 -- ---- bad blocks
-
-not_false : (b : Bool) → not b ≡ false → b ≡ true
-not_false true h = refl
-not_false false h = cc
-
-or_none : (a b : Bool) → a ≡ false → b ≡ false → (a || b) ≡ false
-or_none a b e f = ap (λ x. x || b) e ∙ f
 
 no_failure : (passed same : Bool) → (passed ≡ true) ⊎ (same ≡ false) → (not passed && same) ≡ false
 no_failure passed same (inl e) = ap (λ x. not x && same) e
@@ -102,26 +72,16 @@ not_barred pages accounts (op ∷ log) block h good =
     elim (eqb_tells (block_of pages op) block) [
       | inl e ↦
           let noted_so : account_at (accounted pages accounts op) block ≡ noted (account_at accounts (block_of pages op)) op =
-          ap (λ n. account_at (accounted pages accounts op) n) (sym e.1) ∙ accounted-here pages accounts op (in_range accounts (block_of pages op) was) in
-          let passed : has_passed op ≡ true = not_false (has_passed op) (sym (ap (λ (a : Account). a.barred) noted_so ∙ noted-barred (account_at accounts (block_of pages op)) op) ∙ later.0) in
-          (ap (λ n. (account_at accounts n).barred) (sym e.1) ∙ was, or_none (not (has_passed op) && (block_of pages op == block)) (failed_in pages log block) (no_failure (has_passed op) (block_of pages op == block) (inl passed)) later.1)
+          ap (λ n. account_at (accounted pages accounts op) n) (sym e.1) ∙ accounted-same pages accounts op (block_of pages op) refl (in_range accounts (block_of pages op) was) in
+          let passed : has_passed op ≡ true = not-false (has_passed op) (sym (ap (λ (a : Account). a.barred) noted_so ∙ noted-barred (account_at accounts (block_of pages op)) op) ∙ later.0) in
+          (ap (λ n. (account_at accounts n).barred) (sym e.1) ∙ was, or_from (not (has_passed op) && (block_of pages op == block)) (failed_in pages log block) (no_failure (has_passed op) (block_of pages op == block) (inl passed)) later.1)
       | inr e ↦
           let same : account_at (accounted pages accounts op) block ≡ account_at accounts block = accounted-other pages accounts op block e.1 in
-          (sym (ap (λ (a : Account). a.barred) same) ∙ later.0, or_none (not (has_passed op) && (block_of pages op == block)) (failed_in pages log block) (no_failure (has_passed op) (block_of pages op == block) (inr e.0)) later.1)
+          (sym (ap (λ (a : Account). a.barred) same) ∙ later.0, or_from (not (has_passed op) && (block_of pages op == block)) (failed_in pages log block) (no_failure (has_passed op) (block_of pages op == block) (inr e.0)) later.1)
     ]
 
--- the accounts of an image
-first_account : (g : Geometry) (image : Image) (bad : ℕ → Bool) (block : ℕ) → block < g.blocks → account_at (accounts_of g image bad) block ≡ record { next = past_last (block_pages g image block); barred = bad block }
-unfolding accounts_of
-first_account g image bad block lt =
-    get_or-map-range_with_len (λ b. let a : Account = record { next = past_last (block_pages g image b); barred = bad b } in a) 0 g.blocks block block no_account lt (omega arith)
-
-accounts-length : (g : Geometry) (image : Image) (bad : ℕ → Bool) → length (accounts_of g image bad) ≡ g.blocks
-unfolding accounts_of
-accounts-length g image bad = length-map-range_with_len (λ b. let a : Account = record { next = past_last (block_pages g image b); barred = bad b } in a) 0 g.blocks
-
 first_block : (g : Geometry) (image : Image) (bad : ℕ → Bool) (block : ℕ) → (account_at (accounts_of g image bad) block).barred ≡ false → block < g.blocks
-first_block g image bad block good = subst (λ n. block < n) (accounts-length g image bad) (in_range (accounts_of g image bad) block good)
+first_block g image bad block good = subst (λ n. block < n) (length-accounts_of g image bad) (in_range (accounts_of g image bad) block good)
 
 pub no_bad_block : NoBadBlockLaw
 no_bad_block g image bad before after op h =
@@ -129,11 +89,11 @@ no_bad_block g image bad before after op h =
     let s = legal_split g.pages (accounts_of g image bad) before (op ∷ after) h in
     let r = not_barred g.pages (accounts_of g image bad) before block s.0 (due_good g.pages (accounted_all g.pages (accounts_of g image bad) before) op s.1.0) in
     let lt : block < g.blocks = first_block g image bad block r.0 in
-    or_none (bad block) (failed_in g.pages before block) (sym (ap (λ (a : Account). a.barred) (first_account g image bad block lt)) ∙ r.0) r.1
+    or_from (bad block) (failed_in g.pages before block) (sym (ap (λ (a : Account). a.barred) (account_of g image bad block lt)) ∙ r.0) r.1
 
 -- ---- next pages
 
-none_of : (n : ℕ) (b : Bool) → n + one_where b ≡ 0 → (n ≡ 0) × (b ≡ false)
+none_of : (n : ℕ) (b : Bool) → n + one_if b ≡ 0 → (n ≡ 0) × (b ≡ false)
 none_of n true h = absurd (omega arith)
 none_of n false h = (omega arith, refl)
 
@@ -145,7 +105,7 @@ next_after pages accounts row page left passed block due =
     elim (eqb_tells (row / pages) block) [
       | inl e ↦
           let here : account_at (accounted pages accounts op) block ≡ noted (account_at accounts (row / pages)) op =
-          ap (λ n. account_at (accounted pages accounts op) n) (sym e.1) ∙ accounted-here pages accounts op (in_range accounts (row / pages) due.good) in
+          ap (λ n. account_at (accounted pages accounts op) n) (sym e.1) ∙ accounted-same pages accounts op (row / pages) refl (in_range accounts (row / pages) due.good) in
           omega (arith, ap (λ (a : Account). a.next) here, ap (λ n. (account_at accounts n).next) e.1)
       | inr e ↦ omega (arith, ap (λ (a : Account). a.next) (accounted-other pages accounts op block e.1))
     ]
@@ -175,7 +135,7 @@ rises_between pages accounts between after row later p q left left' passed passe
     let block : ℕ = row / pages in
     let mid : List Account = accounted pages accounts first in
     let s = legal_split pages mid between (Program later q passed' left' ∷ after) h.1 in
-    let here = accounted-here pages accounts first (in_range accounts block h.0.good) in
+    let here = accounted-same pages accounts first block refl (in_range accounts block h.0.good) in
     let rises = next_rises pages mid between block s.0 none in
     let due = s.1.0 in
     let end : (account_at (accounted_all pages mid between) block).next ≡ later % pages = ap (λ n. (account_at (accounted_all pages mid between) n).next) (sym same) ∙ due.next in
@@ -197,44 +157,19 @@ not_twice g image bad before between after row p q left left' passed passed' h =
 
 -- ---- the pages of the image
 
-not_true : (b : Bool) → not b ≡ false → b ≡ true
-not_true b h = not_false b h
-
-either : (a b : Bool) → (a || b) ≡ false → (a ≡ false) × (b ≡ false)
-either false b h = (refl, h)
-either true b h = cc
-
--- no page is programmed
-none_programmed : (pages : List Page) (k : ℕ) (p : Page) → list_any is_programmed pages ≡ false → slice_get pages k ≡ Some p → is_erased_page p ≡ true
-none_programmed [] k p none at = cc
-none_programmed (x ∷ xs) zero p none at =
-    let e : x ≡ p = same_page x p at in
-    not_true (is_erased_page p) (ap (λ q. is_programmed q) (sym e) ∙ (either (is_programmed x) (list_any is_programmed xs) none).0)
-  where
-    same_page : (a b : Page) → Some a ≡ Some b → a ≡ b
-    same_page a b e = cc
-none_programmed (x ∷ xs) (suc k) p none at = none_programmed xs k p (either (is_programmed x) (list_any is_programmed xs) none).1 at
-
-any_or_none : (pages : List Page) → (list_any is_programmed pages ≡ true) ⊎ (list_any is_programmed pages ≡ false)
-any_or_none pages = by_test (list_any is_programmed pages) refl
-  where
-    by_test : (b : Bool) → list_any is_programmed pages ≡ b → (list_any is_programmed pages ≡ true) ⊎ (list_any is_programmed pages ≡ false)
-    by_test true e = inl e
-    by_test false e = inr e
-
 -- the pages from `past_last` on are erased
 past_erased : (pages : List Page) (k : ℕ) (p : Page) → past_last pages ≤ k → slice_get pages k ≡ Some p → is_erased_page p ≡ true
 unfolding past_last
 past_erased [] k p le at = cc
 past_erased (x ∷ xs) zero p le at =
-    elim (any_or_none (x ∷ xs)) [
+    elim (cases_Bool (list_any is_programmed (x ∷ xs))) [
       | inl some ↦ absurd (omega (arith, ap (λ b. if b then past_last xs + 1 else 0) some, le))
-      | inr none ↦ none_programmed (x ∷ xs) zero p none at
+      | inr none ↦ none_programmed (x ∷ xs) none zero p at
     ]
 past_erased (x ∷ xs) (suc k) p le at =
-    elim (any_or_none (x ∷ xs)) [
+    elim (cases_Bool (list_any is_programmed (x ∷ xs))) [
       | inl some ↦ past_erased xs k p (omega (arith, ap (λ b. if b then past_last xs + 1 else 0) some, le)) at
-      | inr none ↦ none_programmed (x ∷ xs) (suc k) p none at
+      | inr none ↦ none_programmed (x ∷ xs) none (suc k) p at
     ]
 
 -- a row among the pages of its block
@@ -261,7 +196,7 @@ on_erased g image bad before after row p left its passed h none at =
     let s = legal_split g.pages (accounts_of g image bad) before (Program row p passed left ∷ after) h in
     let due = s.1.0 in
     let r = not_barred g.pages (accounts_of g image bad) before block s.0 due.good in
-    let first = first_account g image bad block (first_block g image bad block r.0) in
+    let first = account_of g image bad block (first_block g image bad block r.0) in
     let rises = next_rises g.pages (accounts_of g image bad) before block s.0 none in
     let le : past_last pages ≤ k = omega (arith, ap (λ (a : Account). a.next) first, rises, due.next) in
     past_erased pages k its le (in_block g image row its at)

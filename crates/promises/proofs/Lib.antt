@@ -1,5 +1,6 @@
 pub mod StepLemmas
 pub mod LogLemmas
+pub mod AccountLemmas
 pub mod LegalLemmas
 pub mod RunLemmas
 pub mod StopLemmas

@@ -4,10 +4,11 @@ use Rattle.std.specs.Prelude.{slice_set}
 use Rattle.std.proofs.Math.Bool.{or_assoc}
 use Rattle.std.proofs.lemmas.List.{get_or-set_same, get_or-set_other, length-set}
 use Rattle.std.proofs.lemmas.Bool.Decides.{eqb_tells}
+use Rattle.page_layout.specs.Change.{one_if}
 use Rattle.page_layout.specs.Page.{Page}
 use Rattle.page_layout.specs.Counter.{counted}
 use Rattle.page_layout.specs.Flash.{Flash, Operation, Program, Erase, Turn, no_turn, turn_at, after, after_program, after_erase, may_program, may_erase, Leads}
-use Rattle.promises.specs.Log.{block_of, has_passed, programs_in, erases_in, programs_of, erases_of, one_where, failed_in, CountsLaw, BadJoinLaw, BadStaysLaw, LeadsJoinLaw, CompleteLaw}
+use Rattle.promises.specs.Log.{block_of, has_passed, programs_in, erases_in, programs_of, erases_of, failed_in, CountsLaw, BadJoinLaw, BadStaysLaw, LeadsJoinLaw, CompleteLaw}
 
 -- ---- counts
 
@@ -41,7 +42,7 @@ counts pages block xs ys = record {
 
 -- ---- bad blocks
 
-failed_in-append : (pages block : ℕ) (xs ys : List Operation) → failed_in pages (xs ++ ys) block ≡ (failed_in pages xs block || failed_in pages ys block)
+pub failed_in-append : (pages block : ℕ) (xs ys : List Operation) → failed_in pages (xs ++ ys) block ≡ (failed_in pages xs block || failed_in pages ys block)
 failed_in-append pages block [] ys = refl
 failed_in-append pages block (op ∷ xs) ys =
     let here = not (has_passed op) && (block_of pages op == block) in
@@ -146,7 +147,7 @@ erases_programmed s row page left passed block lt =
     ]
 
 -- one more, below the top
-one_more : (b : Bool) (n m k rest : ℕ) → m ≡ counted_where b n → n + (rest + one_where b) < 2 ^ 64 → (m + rest < 2 ^ 64 → k ≡ m + rest) → k ≡ n + (rest + one_where b)
+one_more : (b : Bool) (n m k rest : ℕ) → m ≡ counted_where b n → n + (rest + one_if b) < 2 ^ 64 → (m + rest < 2 ^ 64 → k ≡ m + rest) → k ≡ n + (rest + one_if b)
 unfolding counted_where
 one_more true n m k rest is lt more = let at : m ≡ n + 1 = omega (arith, is, lt) in omega (arith, more (omega (arith, at, lt)), at)
 one_more false n m k rest is lt more = let at : m ≡ n = is in omega (arith, more (omega (arith, at, lt)), at)

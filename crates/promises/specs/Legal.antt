@@ -4,7 +4,7 @@ use Rattle.std.specs.List.{list_any, range_with_len}
 use Rattle.page_layout.specs.declared.geometry.Geometry.{Geometry}
 use Rattle.page_layout.specs.Page.{Page, Image}
 use Rattle.page_layout.specs.Sound.{is_erased_page}
-use Rattle.page_layout.specs.Block.{block_pages, is_programmed}
+use Rattle.page_layout.specs.Block.{block_pages, past_last}
 use Rattle.page_layout.specs.Flash.{Operation, Program, Erase}
 use Rattle.promises.specs.Log.{block_of, bad_of, erases_of}
 
@@ -19,11 +19,6 @@ no_account = record { next = 0; barred = true }
 -- the account of a block; of a block that the die doesn't have nothing is due
 abbrev pub account_at : List Account → ℕ → Account
 account_at accounts block = get_or accounts block no_account
-
--- one past the last page that isn't erased, or 0
-unfoldable pub past_last : List Page → ℕ
-past_last [] = 0
-past_last (p ∷ pages) = if list_any is_programmed (p ∷ pages) then past_last pages + 1 else 0
 
 -- the accounts as an image shows them, with the blocks that are bad
 unfoldable pub accounts_of : Geometry → Image → (ℕ → Bool) → List Account

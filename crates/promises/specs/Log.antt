@@ -6,6 +6,7 @@ use Rattle.page_layout.specs.Geometry.{need}
 use Rattle.page_layout.specs.Page.{Image}
 use Rattle.page_layout.specs.Sound.{is_erased_page}
 use Rattle.page_layout.specs.Block.{block_pages}
+use Rattle.page_layout.specs.Change.{one_if}
 use Rattle.page_layout.specs.Count.{blocks_that}
 use Rattle.page_layout.specs.Flash.{Operation, Program, Erase, Flash, Leads, turn_at}
 
@@ -31,20 +32,16 @@ erases_in [] = 0
 erases_in (Program row page passed left ∷ log) = erases_in log
 erases_in (Erase block passed left ∷ log) = erases_in log + 1
 
--- one where the test passes
-abbrev pub one_where : Bool → ℕ
-one_where b = if b then 1 else 0
-
 -- the same of one block
 abbrev pub programs_of : ℕ → List Operation → ℕ → ℕ
 programs_of pages [] block = 0
-programs_of pages (Program row page passed left ∷ log) block = programs_of pages log block + one_where (row / pages == block)
+programs_of pages (Program row page passed left ∷ log) block = programs_of pages log block + one_if (row / pages == block)
 programs_of pages (Erase other passed left ∷ log) block = programs_of pages log block
 
 abbrev pub erases_of : List Operation → ℕ → ℕ
 erases_of [] block = 0
 erases_of (Program row page passed left ∷ log) block = erases_of log block
-erases_of (Erase other passed left ∷ log) block = erases_of log block + one_where (other == block)
+erases_of (Erase other passed left ∷ log) block = erases_of log block + one_if (other == block)
 
 -- ---- bad, good and free blocks
 

@@ -5,41 +5,23 @@ use Rattle.std.proofs.lemmas.Nat.{le_bytes_4, from_le_bytes-to_le_bytes_4}
 use Rattle.std.proofs.lemmas.List.{append_cancel_left}
 use Rattle.std.proofs.lemmas.Bool.Decides.{nat_tests}
 use Rattle.std.proofs.lemmas.Bool.{cases_eq, eqb-true, and_parts}
+use Rattle.page_layout.proofs.WordLemmas.{row_again, word_again, word_at-shift, four_below}
 use Rattle.page_layout.specs.Sound.{is_filled}
 use Rattle.translation_pages.specs.TranslationPage.{no_row, row_of_word, word_of_row, entry_at, entries_from, entries_of, translation_bytes, IsRow, OneSpellingLaw}
-
--- a row with a word is what its word stands for
-pub row_of_word-word_of_row : (row : Option ℕ) → IsRow row → row_of_word (word_of_row row) ≡ row
-row_of_word-word_of_row None h = refl
-row_of_word-word_of_row (Some r) h = let l = h r refl in grind (arith, nat_tests)
-
--- a word is what its row is written as
-pub word_of_row-row_of_word : (w : ℕ) → word_of_row (row_of_word w) ≡ w
-word_of_row-row_of_word w = (elim (eqb w no_row) as (λ b. eqb w no_row ≡ b → word_of_row (cond b None (Some w)) ≡ w) [
-  | true ↦ λ e. grind (arith, nat_tests)
-  | false ↦ λ e. refl
-]) refl
 
 word_fits : (row : Option ℕ) → IsRow row → word_of_row row < 2 ^ 32
 word_fits None h = omega arith
 word_fits (Some r) h = let l = h r refl in omega arith
 
 -- ---- one entry more in front
-get_or-shift : (a b c d : ℕ) (page : List ℕ) (j m : ℕ) → m ≡ suc (suc (suc (suc j))) → get_or (a ∷ b ∷ c ∷ d ∷ page) m 0 ≡ get_or page j 0
-get_or-shift a b c d page j m e = rw e
 
 entry_at-shift : (a b c d : ℕ) (page : List ℕ) (i : ℕ) → entry_at (a ∷ b ∷ c ∷ d ∷ page) (suc i) ≡ entry_at page i
 unfolding entry_at
-entry_at-shift a b c d page i =
-    let e0 = get_or-shift a b c d page (4 * i) (4 * suc i) (omega arith) in
-    let e1 = get_or-shift a b c d page (4 * i + 1) (4 * suc i + 1) (omega arith) in
-    let e2 = get_or-shift a b c d page (4 * i + 2) (4 * suc i + 2) (omega arith) in
-    let e3 = get_or-shift a b c d page (4 * i + 3) (4 * suc i + 3) (omega arith) in
-    rw (e0, e1, e2, e3)
+entry_at-shift a b c d page i = ap row_of_word (word_at-shift a b c d page i)
 
 entry_at-first : (row : Option ℕ) (page : List ℕ) → IsRow row → entry_at (to_le_bytes w32 (word_of_row row) ++ page) 0 ≡ row
 unfolding entry_at
-entry_at-first row page h = ap row_of_word (from_le_bytes-to_le_bytes_4 (word_of_row row) (word_fits row h)) ∙ row_of_word-word_of_row row h
+entry_at-first row page h = ap row_of_word (from_le_bytes-to_le_bytes_4 (word_of_row row) (word_fits row h)) ∙ row_again row h
 
 entries_from-shift : (a b c d : ℕ) (page : List ℕ) (i n : ℕ) → entries_from (a ∷ b ∷ c ∷ d ∷ page) (suc i) n ≡ entries_from page i n
 entries_from-shift a b c d page i zero = refl
@@ -93,18 +75,12 @@ entry_at-set_other (e ∷ es) (suc i) zero row ne = refl
 entry_at-set_other (e ∷ es) (suc i) (suc k) row ne = entry_at-shift _ _ _ _ (translation_bytes (set es i row)) k ∙ entry_at-set_other es i k row (λ same. ne (ap suc same)) ∙ sym (entry_at-shift _ _ _ _ (translation_bytes es) k)
 
 -- ---- what every page spells
-four_below : (a b c d : ℕ) (page : List ℕ) → ((k : ℕ) → get_or (a ∷ b ∷ c ∷ d ∷ page) k 0 < 256) → (k : ℕ) → get_or (a ∷ b ∷ c ∷ d ∷ []) k 0 < 256
-four_below a b c d page h zero = h 0
-four_below a b c d page h (suc zero) = h 1
-four_below a b c d page h (suc (suc zero)) = h 2
-four_below a b c d page h (suc (suc (suc zero))) = h 3
-four_below a b c d page h (suc (suc (suc (suc k)))) = omega arith
 
 first_word : (a b c d : ℕ) (page : List ℕ) → ((k : ℕ) → get_or (a ∷ b ∷ c ∷ d ∷ page) k 0 < 256) → to_le_bytes w32 (word_of_row (entry_at (a ∷ b ∷ c ∷ d ∷ page) 0)) ≡ a ∷ b ∷ c ∷ d ∷ []
 unfolding entry_at
 first_word a b c d page h =
     let four = a ∷ b ∷ c ∷ d ∷ [] in
-    ap (to_le_bytes w32) (word_of_row-row_of_word (from_le_bytes w32 four)) ∙ le_bytes_4 four _ refl (four_below a b c d page h) refl
+    ap (to_le_bytes w32) (word_again (from_le_bytes w32 four)) ∙ le_bytes_4 four _ refl (four_below a b c d page h) refl
 
 -- each page spells its entries
 pub translation_bytes-entries_of : (n : ℕ) (page : List ℕ) → length page ≡ 4 * n → ((k : ℕ) → get_or page k 0 < 256) → page ≡ translation_bytes (entries_of n page)

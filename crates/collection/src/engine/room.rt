@@ -10,8 +10,8 @@ use crate::fault::WriteFault;
 use onfi_cycles::Nand;
 
 /// The free blocks with which a call may begin to program: a call opens two, and one more for each of
-/// two failures; one is over.
-const FLOOR: u32 = 5;
+/// two failures; one is over. With fewer a device only reads.
+pub const LEAST_FREE: u32 = 5;
 
 impl<N: Nand> Engine<N> {
     /// Sees that there are free blocks enough for a call that programs. It collects no block yet, so
@@ -33,7 +33,7 @@ impl<N: Nand> Engine<N> {
         ensures too_few { self.old.fault ≡ None → free_count (ram self.old).blocks < 5 → result ≡ Err WriteFault.ReadOnly }
     {
         self.standing()?;
-        let answer = if self.blocks.free() < FLOOR {
+        let answer = if self.blocks.free() < LEAST_FREE {
             Err(WriteFault::ReadOnly)
         } else {
             Ok(())

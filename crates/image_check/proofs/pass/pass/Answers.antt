@@ -1,4 +1,5 @@
 use Rattle.std.proofs.Common.{arith, ◌∙◌}
+use Rattle.page_layout.specs.Page.{page}
 use Rattle.page_layout.proofs.GeometryLemmas.{some_rows}
 use Rattle.image_check.proofs.PassLemmas.{seen, claim_seen, sized_more, whole_of}
 use Rattle.image_check.proofs.pass.pass.Goals as goal
@@ -25,6 +26,6 @@ loop-row-preserved g c =
       programs_same = read.programs ∙ inv.programs_same;
       erases_same = read.erases ∙ inv.erases_same;
       kept = omega arith;
-      seen = λ honest start. seen c.args.geometry.now (g.S.PageSource.flash c.args.source.now) (g.S.PageSource.flash c.loop-row.source) c.loop-row.row c.loop-row.survey c.see-found.new.self _ (inv.seen honest start) (inv.same honest) (read.page (inv.as_honest ∙ honest)) inv.sized.geometry_is c.see-found.ensures.survey;
-      claims = λ honest start. claim_seen (g.S.PageSource.flash c.args.source.now) (g.S.PageSource.flash c.loop-row.source) c.loop-row.row c.args.certificate.now.sectors c.loop-row.passed c.note_claim.new.passed _ c.see-found.result (inv.claims honest start) (inv.same honest) (read.page (inv.as_honest ∙ honest)) c.see-found.ensures.found c.note_claim.ensures;
+      seen = λ honest start. seen c.args.geometry.now (g.S.PageSource.flash c.args.source.now) (g.S.PageSource.flash c.loop-row.source) c.loop-row.row c.loop-row.survey c.see-found.new.self (page c.read_page.new.body c.read_page.new.spare) (inv.seen honest start) (inv.same honest) (read.page (inv.as_honest ∙ honest)) inv.sized.geometry_is c.see-found.ensures.survey;
+      claims = λ honest start. claim_seen (g.S.PageSource.flash c.args.source.now) (g.S.PageSource.flash c.loop-row.source) c.loop-row.row c.args.certificate.now.sectors c.loop-row.passed c.note_claim.new.passed (page c.read_page.new.body c.read_page.new.spare) c.see-found.result (inv.claims honest start) (inv.same honest) (read.page (inv.as_honest ∙ honest)) c.see-found.ensures.found c.note_claim.ensures;
     }

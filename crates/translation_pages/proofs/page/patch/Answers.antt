@@ -1,11 +1,12 @@
 use Rattle.std.proofs.Common.{ap, ◌∙◌, rules}
 use Rattle.translation_pages.specs.TranslationPage.{row_of_word, entry_at}
-use Rattle.translation_pages.proofs.PageLemmas.{row_of_word-word_of_row, translation_bytes-patched}
+use Rattle.page_layout.proofs.WordLemmas.{row_again}
+use Rattle.translation_pages.proofs.PageLemmas.{translation_bytes-patched}
 use Rattle.translation_pages.proofs.page.patch.Goals as goal
 
 pub returns-clause-written : goal.returns-clause-written
 unfolding entry_at
-returns-clause-written c = ap row_of_word (c.write_word.ensures.written ∙ c.word_from.ensures) ∙ row_of_word-word_of_row c.args.row c.requires.row
+returns-clause-written c = ap row_of_word (c.write_word.ensures.written ∙ c.word_from.ensures) ∙ row_again c.args.row c.requires.row
 
 pub returns-clause-others : goal.returns-clause-others
 unfolding entry_at

@@ -1,7 +1,7 @@
 use Rattle.mapping_cache.specs.View.{mapping_state}
 use Rattle.mapping_cache.specs.Mapping.{per_page}
 use Rattle.mapping_cache.proofs.Clean.{clean_page}
-use Rattle.mapping_cache.proofs.Rows.{some_entries}
+use Rattle.page_layout.proofs.GeometryLemmas.{some_entries}
 use Rattle.mapping_cache.proofs.Steps.{IsMapping-cleaned, keys-cleaned, length-cleaned, known-cleaned, pending-cleaned, pending-cleaned_other}
 use Rattle.mapping_cache.proofs.mapping.Mapping.clean.Goals as goal
 
