@@ -8,6 +8,7 @@ pub struct BlockState {
     pub pointer: u16,
     /// How many pages are the newest of what they hold.
     pub live: u16,
-    /// How often the block was erased, as far as it is counted: at most 16777215.
+    /// How often the block was erased, as far as it is counted: as written, below 2^32; of a certificate that agrees with
+    /// its image at most 16777215.
     pub wear: u32,
 }

@@ -19,7 +19,6 @@ use Rattle.page_layout.proofs.CountLemmas.{count_by-append}
 use Rattle.image_check.specs.declared.look.Look.{Look}
 use Rattle.image_check.specs.Survey.{look_of, look_step, HasLooks}
 
-
 any-append : {X : Type 0} (p : X → Bool) (xs : List X) (x : X) → list_any p (xs ++ x ∷ []) ≡ (list_any p xs || p x)
 any-append p [] x = or-false (p x)
 any-append p (y ∷ xs) x = ap (λ b. p y || b) (any-append p xs x) ∙ sym (or_assoc (p y) (list_any p xs) (p x))

@@ -413,8 +413,8 @@ pub record AreStatesTo (rows : List TableRow) (looks : List Look) (counts : List
   pub size : length states ≡ n
   pub state : (b : ℕ) → b < n → IsStateAt rows looks counts b states
 
-pub state_made : (class : Class) (wear : ℕ) (row : TableRow) (look : Look) (top live : ℕ) → class ≡ row.class → wear ≡ row.wear → state_seen class wear look top live ≡ state_seen row.class row.wear look top live
-state_made class wear row look top live e f = ap (λ c. state_seen c wear look top live) e ∙ ap (λ w. state_seen row.class w look top live) f
+pub state_made : (new : BlockState) (class : Class) (wear : ℕ) (row : TableRow) (look : Look) (top live : ℕ) → new ≡ state_seen class wear look top live → class ≡ row.class → wear ≡ row.wear → new ≡ state_seen row.class row.wear look top live
+state_made new class wear row look top live made e f = made ∙ ap (λ c. state_seen c wear look top live) e ∙ ap (λ w. state_seen row.class w look top live) f
 
 pub states_start : (rows : List TableRow) (looks : List Look) (counts : List ℕ) → AreStatesTo rows looks counts 0 []
 states_start rows looks counts = record { size = refl; state = λ b l. absurd (omega arith) }

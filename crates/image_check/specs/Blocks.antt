@@ -4,7 +4,7 @@ use Rattle.std.specs.List.{list_all, list_any, range_with_len}
 use Rattle.page_layout.specs.declared.geometry.Geometry.{Geometry}
 use Rattle.page_layout.specs.declared.record.Key.TheVariants.{Table}
 use Rattle.page_layout.specs.Geometry.{entries}
-use Rattle.page_layout.specs.Page.{Page, Image, body_at}
+use Rattle.page_layout.specs.Page.{Image, body_at}
 use Rattle.page_layout.specs.Sound.{is_erased_page}
 use Rattle.page_layout.specs.Block.{block_pages, is_programmed, is_broken, has_gap, written, top_wear, begins_data, last_sequence}
 use Rattle.page_layout.specs.Newest.{newest}
@@ -91,7 +91,7 @@ class g image block =
 unfoldable pub pointer : Geometry → Image → ℕ → ℕ
 pointer g image block = if is_good g image block then written (block_pages g image block) else 0
 
--- the greatest of the newest table's count and the wear of the block's record_of pages
+-- the greatest of the newest table's count and the wear of the block's sound pages, at most 16777215
 unfoldable pub erase_count : Geometry → Image → ℕ → ℕ
 erase_count g image block = min (max (table_wear g image block) (top_wear (block_pages g image block))) 16777215
 

@@ -3,6 +3,7 @@ pub mod Blocks
 pub mod Stale
 pub mod Agrees
 pub mod Mountable
+pub mod Names
 pub mod Survey
 pub mod Pairs
 pub mod Surveyed

@@ -33,7 +33,7 @@ pub record HasNewest (g : Geometry) (marks : List (Option Record)) (rows : ℕ) 
 
 -- ---- numbers
 
--- a record_of page whose number is out of range
+-- a sound page whose number is out of range
 pub record IsOutOfRange (g : Geometry) (marks : List (Option Record)) (row : ℕ) : Type 0 where
   pub found : Record
   pub here : get_or marks row None ≡ Some found
@@ -51,7 +51,7 @@ HasOutside g marks rows (Some row) = IsFirstOutside g marks row
 
 -- ---- sequences
 
--- the sequence and the row of a record_of page
+-- the sequence and the row of a sound page
 abbrev pub pair_of : ℕ → Option Record → List (ℕ × ℕ)
 pair_of row None = []
 pair_of row (Some r) = (r.sequence, row) ∷ []

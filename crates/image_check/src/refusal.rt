@@ -64,6 +64,11 @@ impl Error for Refusal {}
 
 /// The refusal's name.
 impl fmt::Display for Refusal {
+    ghost use Rattle.std.specs.Prelude.{Some};
+    ghost use Rattle.image_check.specs.Names.{name_of};
+
+    ghost output = { λ refusal. Some (name_of refusal) };
+
     fn fmt<W: fmt::Write>(&self, f: &mut fmt::Formatter<W>) -> fmt::Result {
         f.write_str(match self {
             Refusal::GeometryDiffers => "GeometryDiffers",

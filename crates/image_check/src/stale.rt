@@ -77,10 +77,12 @@ fn read_translation<S: PageSource>(
 }
 
 /// Finds the stale sectors, rising: those whose entry in the newest translation page isn't the row of their newest page.
-/// `newest` is a survey's, and one read is made of each newest translation page.
+/// `newest` is a survey's, and one read is made of each newest translation page. `stale` has to be empty. `body` and
+/// `spare` are scratch of one data area and one spare area in bytes, and hold anything afterwards.
 ///
 /// # Errors
-/// `Source` where a page read failed, `OutOfMemory` where a growth was refused. (This project's rules.)
+/// `Source` where a page read failed, `OutOfMemory` where a growth was refused. `stale` then holds a beginning of the
+/// stale sectors. (This project's rules.)
 pub fn find_stale<S: PageSource>(
     source: &mut S,
     geometry: &Geometry,

@@ -1,17 +1,11 @@
 -- A log with one operation more.
-use Rattle.std.proofs.Common.{◌≡◌, ◌≢◌, ℕ, ◌+◌, ◌<◌, Bool, true, false, cond, List, [], ◌∷◌, ◌++◌, length, length-set, refl, ◌∙◌, ap, arith}
+use Rattle.std.proofs.Common.{◌≡◌, ◌≢◌, ℕ, ◌+◌, Bool, true, false, cond, List, [], ◌∷◌, ◌++◌, refl, ◌∙◌, ap, arith}
 use Rattle.std.specs.Prelude.{◌==◌, ◌||◌, ◌&&◌}
 use Rattle.std.proofs.lemmas.Bool.{ne_eqb, eq-eqb, and_left, and_right}
-use Rattle.std.proofs.lemmas.List.{get_or-set_same, get_or-set_other}
 use Rattle.std.proofs.lemmas.List.Sums.{sum_by-append}
-use Rattle.std.proofs.lemmas.List.FromFn.{length-map-range_with_len}
 use Rattle.std.proofs.Math.Bool.{or-false, or-true}
-use Rattle.page_layout.specs.declared.geometry.Geometry.{Geometry}
-use Rattle.page_layout.specs.Page.{Image}
-use Rattle.page_layout.specs.Block.{block_pages, past_last}
 use Rattle.page_layout.specs.Flash.{Operation}
 use Rattle.promises.specs.Log.{block_of, failed_in}
-use Rattle.promises.specs.Legal.{Account, account_at, no_account, accounts_of, noted, accounted, accounted_all}
 use Rattle.promises.proofs.LogLemmas.{failed_in-append}
 use Rattle.mount.specs.Log.{has_failed, failures}
 

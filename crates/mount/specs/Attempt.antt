@@ -1,5 +1,5 @@
 -- A die while its table pages are being written.
-use Rattle.std.specs.Prelude.{◌≡◌, [], ℕ, ◌+◌, ◌*◌, ◌/◌, ◌%◌, ◌<◌, ◌≤◌, ◌==◌, true, false, List, slice_get, Some, None, Result, Ok, Err, if◌then◌else◌}
+use Rattle.std.specs.Prelude.{◌≡◌, ◌⊎◌, [], ℕ, ◌+◌, ◌*◌, ◌/◌, ◌%◌, ◌<◌, ◌≤◌, ◌==◌, true, false, List, slice_get, Some, None, Result, Ok, Err, if◌then◌else◌}
 use Rattle.page_layout.specs.declared.geometry.Geometry.{Geometry}
 use Rattle.page_layout.specs.declared.record.Key.TheVariants.{Sector, Translation}
 use Rattle.page_layout.specs.Geometry.{entries, need, row_count, table_pages}
@@ -82,11 +82,12 @@ Writes g first now (Err OutOfMemory) = ⊥
 Writes g first now (Err WriteFailed) = IsWriteFailed g first now
 Writes g first now (Err (NotFresh row)) = ⊥
 
--- what it answers for any die
-abbrev pub AnswersWrite : Geometry → Result ℕ FormatFault → Type 0
-AnswersWrite g (Ok good) = (need g ≤ good) × (good ≤ g.blocks)
-AnswersWrite g (Err (TooFewGood good asked)) = (good < need g) × (asked ≡ need g)
-AnswersWrite g (Err Bus) = Unit {0}
-AnswersWrite g (Err OutOfMemory) = ⊥
-AnswersWrite g (Err WriteFailed) = Unit {0}
-AnswersWrite g (Err (NotFresh row)) = ⊥
+-- what it answers for any die, by the programs before and after
+abbrev pub AnswersWrite : Geometry → ℕ → ℕ → Result ℕ FormatFault → Type 0
+AnswersWrite g old_programs new_programs (Ok good) = (need g ≤ good) × (good ≤ g.blocks)
+AnswersWrite g old_programs new_programs (Err (TooFewGood good asked)) =
+    (good < need g) × (asked ≡ need g) × ((new_programs ≡ old_programs) ⊎ (good + 1 ≡ need g))
+AnswersWrite g old_programs new_programs (Err Bus) = Unit {0}
+AnswersWrite g old_programs new_programs (Err OutOfMemory) = ⊥
+AnswersWrite g old_programs new_programs (Err WriteFailed) = Unit {0}
+AnswersWrite g old_programs new_programs (Err (NotFresh row)) = ⊥

@@ -152,10 +152,12 @@ Formats g old new (Err OutOfMemory) = new ≡ old
 Formats g old new (Err WriteFailed) = IsWriteFailed g old new
 Formats g old new (Err (NotFresh row)) = IsNotFresh g old new row
 
--- what any die's format answers, honest or not: numbers in range, and no program before a refusal by the scan
+-- What any die's format answers, honest or not: numbers in range, and no program before a refusal by the scan. Too few good
+-- blocks are found by the scan, or after a program failed in the last block that could be spared.
 abbrev pub Answers : Geometry → ℕ → ℕ → Result ℕ FormatFault → Type 0
 Answers g old_programs new_programs (Ok good) = (need g ≤ good) × (good ≤ g.blocks)
-Answers g old_programs new_programs (Err (TooFewGood good asked)) = (good < need g) × (asked ≡ need g)
+Answers g old_programs new_programs (Err (TooFewGood good asked)) =
+    (good < need g) × (asked ≡ need g) × ((new_programs ≡ old_programs) ⊎ (good + 1 ≡ need g))
 Answers g old_programs new_programs (Err Bus) = Unit {0}
 Answers g old_programs new_programs (Err OutOfMemory) = new_programs ≡ old_programs
 Answers g old_programs new_programs (Err WriteFailed) = Unit {0}

@@ -25,10 +25,10 @@ const _: () = prove!(size_of::<Class>() == 1);
 /// the sequences going on. It never programs a marked block, and erases nothing.
 ///
 /// `TooFewGood` comes first: where fewer blocks are unmarked than the die needs, and then nothing
-/// was programmed, or where a failure leaves fewer. `NotFresh` names the lowest row that keeps the
-/// die from being fresh, and leaves it as it was. `WriteFailed` is the third failure. `OutOfMemory`
-/// leaves the die untouched. `Bus` comes only where a page read or a program failed, and then nothing
-/// is known of the die.
+/// was programmed, or where the first or second failure leaves fewer. `NotFresh` names the lowest row
+/// that keeps the die from being fresh, and leaves it as it was. `WriteFailed` is the third failure,
+/// whatever is left. `OutOfMemory` leaves the die untouched. `Bus` comes only where a page read or a
+/// program failed, and then nothing is known of the die.
 pub fn format<N: Nand>(alloc: Global, nand: &mut N, geometry: &Geometry) -> Result<u32, FormatFault>
     requires { (N.flash nand.old).geometry ≡ geometry.now }
     ensures formats { N.honest nand.old ≡ true → Formats geometry.now (N.flash nand.old) (N.flash nand.new) result }

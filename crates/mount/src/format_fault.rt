@@ -12,6 +12,7 @@ pub enum FormatFault {
     /// A page read or a program got no answer.
     #[error("Bus")]
     Bus,
+    /// A growth was refused. Nothing was done.
     #[error("OutOfMemory")]
     OutOfMemory,
     /// Three programs failed.

@@ -150,7 +150,7 @@ pub fn write_tables<N: Nand>(
     ensures writes { N.honest nand.old ≡ true →
         IsTrying geometry.now (N.flash nand.old) (N.flash nand.old) (unworn classes.old) 0 0 1 0 →
         Writes geometry.now (N.flash nand.old) (N.flash nand.new) result }
-    ensures answers { AnswersWrite geometry.now result }
+    ensures answers { AnswersWrite geometry.now (N.programs nand.old) (N.programs nand.new) result }
     ensures geometry { (N.flash nand.new).geometry ≡ (N.flash nand.old).geometry }
     ensures honest { N.honest nand.new ≡ N.honest nand.old }
     ensures reads { N.reads nand.new ≡ N.reads nand.old }

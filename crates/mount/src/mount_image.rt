@@ -47,7 +47,7 @@ fn put_directory(words: &mut Vec<u32>, geometry: &Geometry, shown: &Shown)
 /// Where no page read fails and no growth is refused, the answer is `Ok` just where some certificate agrees with the
 /// image at this capacity, which counts the entries of the cache, from 1 to 65536. Any other refusal says what keeps the
 /// image from having one. At most one read is made of each page, and one more of each newest translation page. All memory
-/// but the table and the states of the blocks is taken before the first page is read.
+/// but the live counts, the table and the states of the blocks is taken before the first page is read.
 ///
 /// # Errors
 /// `NumberRange`, `SequenceRepeated`, `NotFormatted` and `TableDamaged`, the first of this order that is so, at the lowest

@@ -1,5 +1,6 @@
-use Rattle.std.proofs.Common.{◌+◌, arith, sym, ◌∙◌, subst}
+use Rattle.std.proofs.Common.{◌+◌, List, arith, sym, subst}
 use Rattle.std.proofs.lemmas.Option.{slice_get-get_or}
+use Rattle.certificate.specs.declared.block_state.BlockState.{BlockState}
 use Rattle.image_check.proofs.StateLemmas.{AreStatesTo, row_at, wear_at, top_for, states_more, states_are, state_made, states_fit}
 use Rattle.image_check.proofs.states.block_states.Goals as goal
 
@@ -12,8 +13,8 @@ loop-block-preserved c =
     let wear = wear_at rows n row.row c.wear-wear.result row.at c.wear-wear.ensures.is in
     let at = slice_get-get_or looks n _ (omega arith) in
     let top = top_for rows looks _ _ _ c.of-top.result _ c.tops_of-tops.ensures.of_data c.tops_of-tops.ensures.of_meta c.of-top.ensures.of_data c.of-top.ensures.of_meta in
-    subst (λ xs. AreStatesTo rows looks c.args.counts.now (n + 1) xs) (sym c.in_ok-push.ensures.items)
-    (states_more rows looks c.args.counts.now n c.loop-block.states.items row.row _ c.of-top.result c.state_of.result c.loop-block.invariant row.at at top (c.state_of.ensures ∙ state_made c.class-class.result c.wear-wear.result row.row _ _ _ row.class_is wear))
+    subst (λ xs. AreStatesTo rows looks c.args.counts.now (n + 1) xs) (sym {A = List BlockState} c.in_ok-push.ensures.items)
+    (states_more rows looks c.args.counts.now n c.loop-block.states.items row.row _ c.of-top.result c.state_of.result c.loop-block.invariant row.at at top (state_made c.state_of.result c.class-class.result c.wear-wear.result row.row _ _ _ c.state_of.ensures row.class_is wear))
 
 pub returns-clause-states : goal.returns-clause-states
 returns-clause-states c = λ g image numbers looked table lives.

@@ -53,6 +53,7 @@ loop-failures-preserved g c =
           rw retire (tries-failed c.args.geometry.now _ _ table block c.write_in_block.new.sequence c.loop-failures._failures c.in_ok-write_in_block.field-0 (sym c.if-passed.ensures) tries other));
       whole = rw length-set i.whole;
       just = λ some. rw retire (omega (arith, fewer, c.in_ok-require_good.ensures.ok));
+      untouched = λ none. absurd (omega (arith, none));
       sequences = omega (arith, i.sequences, c.in_ok-write_in_block.ensures.sequences);
       same_geometry = search rules;
       as_honest = search rules;

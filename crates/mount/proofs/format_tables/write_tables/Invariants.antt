@@ -12,6 +12,7 @@ invariant-loop-failures g l =
           (other : ℕ) → IsTrying l.geometry (n.flash l.initial.nand) (n.flash l.nand) (unworn l.classes) other 0 l.sequence l._failures;
       whole : length l.classes ≡ l.geometry.blocks;
       just : 0 < l._failures → need l.geometry ≤ good_count (unworn l.classes) + 1;
+      untouched : l._failures ≡ 0 → n.programs l.nand ≡ n.programs l.initial.nand;
       sequences : l.sequence ≤ 1 + l._failures * table_pages l.geometry;
       same_geometry : (n.flash l.nand).geometry ≡ (n.flash l.initial.nand).geometry;
       as_honest : n.honest l.nand ≡ n.honest l.initial.nand;
