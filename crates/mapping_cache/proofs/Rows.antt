@@ -11,7 +11,7 @@ use Rattle.std.proofs.lemmas.Map.Entries.{lookup-filter-keys}
 use Rattle.std.proofs.lemmas.Map.Keys.{IsDistinct-cons, IsDistinct-head, IsDistinct-tail}
 use Rattle.page_layout.proofs.GeometryLemmas.{some_entries}
 use Rattle.page_layout.specs.declared.geometry.Geometry.{Geometry}
-use Rattle.page_layout.specs.Geometry.{entries, row_count}
+use Rattle.page_layout.specs.Geometry.{row_count}
 use Rattle.page_layout.specs.Word.{IsRow}
 use Rattle.mapping_cache.specs.declared.slot.Slot.{Slot}
 use Rattle.mapping_cache.specs.Mapping.{MappingState, IsMapping, per_page, slot_of, moved_row, pending_by, dirty_row, pending, dirty_from, moved_in, some_rows, lacking, AreRowsOf, AreLacking}

@@ -1,13 +1,12 @@
 -- Laws of the layout of a translation page.
-use Rattle.std.proofs.Common.{◌≡◌, ◌≢◌, ℕ, zero, suc, ◌+◌, ◌*◌, ◌^◌, ◌<◌, ◌≤◌, ◌∙◌, true, false, eqb, cond, List, [], ◌∷◌, ◌++◌, length, get_or, set, All, Option, Some, None, slice_get, refl, sym, ap, inl, inr, arith, length-set}
+use Rattle.std.proofs.Common.{◌≡◌, ◌≢◌, ℕ, zero, suc, ◌+◌, ◌*◌, ◌^◌, ◌<◌, ◌≤◌, ◌∙◌, true, eqb, List, [], ◌∷◌, ◌++◌, length, get_or, set, All, Option, Some, None, slice_get, refl, sym, ap, inl, inr, arith, length-set}
 use Rattle.std.specs.Int.{w32, to_le_bytes, from_le_bytes}
 use Rattle.std.proofs.lemmas.Nat.{le_bytes_4, from_le_bytes-to_le_bytes_4}
 use Rattle.std.proofs.lemmas.List.{append_cancel_left}
-use Rattle.std.proofs.lemmas.Bool.Decides.{nat_tests}
 use Rattle.std.proofs.lemmas.Bool.{cases_eq, eqb-true, and_parts}
 use Rattle.page_layout.proofs.WordLemmas.{row_again, word_again, word_at-shift, four_below}
 use Rattle.page_layout.specs.Sound.{is_filled}
-use Rattle.translation_pages.specs.TranslationPage.{no_row, row_of_word, word_of_row, entry_at, entries_from, entries_of, translation_bytes, IsRow, OneSpellingLaw}
+use Rattle.translation_pages.specs.TranslationPage.{row_of_word, word_of_row, entry_at, entries_from, entries_of, translation_bytes, IsRow, OneSpellingLaw}
 
 word_fits : (row : Option ℕ) → IsRow row → word_of_row row < 2 ^ 32
 word_fits None h = omega arith
