@@ -53,7 +53,7 @@ pub record IsKept (old : Ram) (before : Image) (new : Ram) (after : Image) : Typ
 abbrev pub last_record : Kind → ℕ → ℕ → Ram → Record
 last_record kind n row r = record { kind = kind; number = n; sequence = r.next - 1; wear = wear_at r.blocks.table (row / r.geometry.pages) }
 
--- the page is sound, with the kind and number of the last page that was programmed, and its sequence
+-- the page is the last one that was programmed: sound, of this kind and number, with the sequence before the next one
 pub record IsLastPage (kind : Kind) (n : ℕ) (new : Ram) (p : Page) : Type 0 where
   pub its : Record
   pub sound : record_of p ≡ Some its

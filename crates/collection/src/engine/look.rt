@@ -1,14 +1,14 @@
 //! Where the newest page of a sector is, and what it holds.
-ghost use Rattle.std.specs.Prelude.{◌≡◌, ◌≢◌, ℕ, ◌+◌, ◌*◌, ◌<◌, ◌≤◌, true, length, replicate, slice_get, Some, None, Ok, Err, IsSome, IfOk, IfErr, OnOk, OnErr, MatchResult};
+ghost use Rattle.std.specs.Prelude.{◌≡◌, ◌≢◌, ℕ, ◌+◌, ◌*◌, ◌/◌, ◌<◌, ◌≤◌, true, length, replicate, slice_get, Some, None, Ok, Err, IsSome, IfOk, IfErr, OnOk, OnErr, MatchResult};
 ghost use Rattle.std.specs.Option.{ForSome};
 ghost use Rattle.page_layout.specs.Page.{page};
 ghost use Rattle.page_layout.specs.Counter.{counted, HasRisen};
-ghost use Rattle.page_layout.specs.Geometry.{row_count};
+ghost use Rattle.page_layout.specs.Geometry.{row_count, entries};
 ghost use Rattle.page_layout.specs.declared.record.Key.TheVariants.{Sector};
 ghost use Rattle.mapping_cache.specs.Mapping.{known};
 ghost use Rattle.translation_pages.specs.TranslationPage.{entry_at};
 ghost use Rattle.collection.specs.Pages.{newest_row};
-ghost use Rattle.collection.specs.Safe.{IsSafe, IsBuffer, ram, image_in};
+ghost use Rattle.collection.specs.Safe.{IsSafe, IsBuffer, ram, image_in, page_in};
 ghost use Rattle.collection.specs.Truth.{IsTrue};
 ghost use Rattle.collection.specs.Looks.{IsPageOf, IsRead, GivesRow, GivesSector, IsReadFault};
 
@@ -122,8 +122,10 @@ impl<N: Nand> Engine<N> {
         ensures rose { result ≡ Err WriteFault.Bus → HasRisen (N.failed self.old.nand) (N.failed self.new.nand) }
         ensures row { IfOk result (λ row. ForSome row (λ r. r < row_count self.old.geometry)) }
         ensures hit { ForSome (known self.old.mapping sector) (λ row. (result ≡ Ok row) × (self.new ≡ self.old)) }
+        ensures unmapped { known self.old.mapping sector ≡ None → slice_get self.old.directory (sector / entries self.old.geometry) ≡ Some None →
+            (result ≡ Ok None) × (self.new ≡ self.old) }
         ensures checked { known self.old.mapping sector ≡ None →
-            IfOk result (GivesRow self.old.geometry self.old.directory sector (page self.new.scratch.body.items self.new.scratch.spare.items)) }
+            IfOk result (GivesRow self.old.geometry self.old.directory sector (page_in self.new.scratch)) }
         ensures same { N.honest self.old.nand ≡ true → result ≢ Err WriteFault.Bus → N.flash self.new.nand ≡ N.flash self.old.nand }
         ensures truth { N.honest self.old.nand ≡ true → IsTrue None (ram self.old) (image_in N.flash self.old) →
             MatchResult result
@@ -153,8 +155,9 @@ impl<N: Nand> Engine<N> {
         ensures faults { IfErr result IsReadFault }
         ensures rose { result ≡ Err WriteFault.Bus → HasRisen (N.failed self.old.nand) (N.failed self.new.nand) }
         ensures row { IfOk result (λ row. ForSome row (λ r. r < row_count self.old.geometry)) }
-        ensures checked { IfOk result (GivesRow self.old.geometry self.old.directory sector
-            (page self.new.scratch.body.items self.new.scratch.spare.items)) }
+        ensures unmapped { slice_get self.old.directory (sector / entries self.old.geometry) ≡ Some None →
+            (result ≡ Ok None) × (self.new ≡ self.old) }
+        ensures checked { IfOk result (GivesRow self.old.geometry self.old.directory sector (page_in self.new.scratch)) }
         ensures same { N.honest self.old.nand ≡ true → result ≢ Err WriteFault.Bus → N.flash self.new.nand ≡ N.flash self.old.nand }
         ensures truth { N.honest self.old.nand ≡ true → IsTrue None (ram self.old) (image_in N.flash self.old) →
             MatchResult result
@@ -202,6 +205,10 @@ impl<N: Nand> Engine<N> {
         ensures row { IfOk result (λ row. ForSome row (λ r. r < row_count self.old.geometry)) }
         ensures hit { IsSome (known self.old.mapping sector) → N.reads self.new.nand ≤ N.reads self.old.nand + 1 }
         ensures unwritten { known self.old.mapping sector ≡ Some None → (result ≡ Ok None) × (self.new ≡ self.old) }
+        ensures unmapped { known self.old.mapping sector ≡ None → slice_get self.old.directory (sector / entries self.old.geometry) ≡ Some None →
+            (result ≡ Ok None) × (self.new ≡ self.old) }
+        ensures looked_up { known self.old.mapping sector ≡ None →
+            IfOk result (GivesRow self.old.geometry self.old.directory sector (page_in self.new.scratch)) }
         ensures refused { OnErr result (out.new ≡ out.old) }
         ensures checked { OnOk result (GivesSector self.old.geometry sector
             (page self.new.page.body.items self.new.page.spare.items) out.new) }

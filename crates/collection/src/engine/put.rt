@@ -3,14 +3,14 @@ ghost use Rattle.std.specs.Prelude.{◌≡◌, ◌≢◌, ◌+◌, ◌/◌, ◌<
 ghost use Rattle.std.specs.Option.{ForSome};
 ghost use Rattle.page_layout.specs.Counter.{HasRisen};
 ghost use Rattle.page_layout.specs.Key.{key_from, key_of};
-ghost use Rattle.page_layout.specs.Page.{Image, page};
+ghost use Rattle.page_layout.specs.Page.{Image};
 ghost use Rattle.page_layout.specs.Geometry.{row_count};
 ghost use Rattle.page_layout.specs.Array.{array_of};
 ghost use Rattle.page_layout.specs.Live.{IsKeyOf};
 ghost use Rattle.budget.specs.Stream.{stream_of};
 ghost use Rattle.allocation.specs.View.{state};
 ghost use Rattle.collection.specs.Pages.{newest_row};
-ghost use Rattle.collection.specs.Safe.{IsSafe, IsOutside, ram, image_in};
+ghost use Rattle.collection.specs.Safe.{IsSafe, IsOutside, ram, image_in, page_in};
 ghost use Rattle.collection.specs.Maps.{IsPageFor};
 ghost use Rattle.collection.specs.Truth.{IsTrue};
 ghost use Rattle.collection.specs.Settle.{IsCachedKey};
@@ -63,7 +63,7 @@ impl<N: Nand> Engine<N> {
         ensures failed { N.failed self.old.nand ≤ N.failed self.new.nand }
         ensures rose { result ≡ Err WriteFault.Bus → HasRisen (N.failed self.old.nand) (N.failed self.new.nand) }
         ensures row { IfOk result (λ row. IfSome row (IsOutside (ram self.old))) }
-        ensures programmed { IfOk result (λ row. IfSome row (λ _. IsLastPage kind number (ram self.new) (page self.new.page.body.items self.new.page.spare.items))) }
+        ensures programmed { IfOk result (λ row. IfSome row (λ _. IsLastPage kind number (ram self.new) (page_in self.new.page))) }
         ensures cost { TryCosts (stream_of kind) (ram self.old) (ram self.new) result }
         ensures went { N.honest self.old.nand ≡ true → result ≢ Err WriteFault.Bus →
             Went (ram self.old) (N.flash self.old.nand) (ram self.new) (N.flash self.new.nand) }
@@ -125,7 +125,7 @@ impl<N: Nand> Engine<N> {
         ensures failed { N.failed self.old.nand ≤ N.failed self.new.nand }
         ensures rose { result ≡ Err WriteFault.Bus → HasRisen (N.failed self.old.nand) (N.failed self.new.nand) }
         ensures row { IfOk result (IsOutside (ram self.old)) }
-        ensures programmed { OnOk result (IsLastPage kind number (ram self.new) (page self.new.page.body.items self.new.page.spare.items)) }
+        ensures programmed { OnOk result (IsLastPage kind number (ram self.new) (page_in self.new.page)) }
         ensures cost { PutCosts (stream_of kind) (ram self.old) (ram self.new) result }
         ensures went { N.honest self.old.nand ≡ true → result ≢ Err WriteFault.Bus →
             Went (ram self.old) (N.flash self.old.nand) (ram self.new) (N.flash self.new.nand) }
@@ -205,7 +205,7 @@ impl<N: Nand> Engine<N> {
         ensures failed { N.failed self.old.nand ≤ N.failed self.new.nand }
         ensures rose { self.old.fault ≡ None → result ≡ Err WriteFault.Bus → HasRisen (N.failed self.old.nand) (N.failed self.new.nand) }
         ensures row { IfOk result (IsOutside (ram self.old)) }
-        ensures programmed { OnOk result (IsLastPage written.now.kind written.now.number (ram self.new) (page self.new.page.body.items self.new.page.spare.items)) }
+        ensures programmed { OnOk result (IsLastPage written.now.kind written.now.number (ram self.new) (page_in self.new.page)) }
         ensures cost { self.old.fault ≡ None → PutCosts stream (ram self.old) (ram self.new) result }
         ensures went { N.honest self.old.nand ≡ true → result ≢ Err WriteFault.Bus →
             Went (ram self.old) (N.flash self.old.nand) (ram self.new) (N.flash self.new.nand) }

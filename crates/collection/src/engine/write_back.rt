@@ -3,12 +3,11 @@ ghost use Rattle.std.specs.Prelude.{◌≡◌, ◌≢◌, ℕ, ◌+◌, ◌*◌,
 ghost use Rattle.std.specs.Option.{ForSome};
 ghost use Rattle.std.specs.Map.{keys_of};
 ghost use Rattle.page_layout.specs.Counter.{HasRisen};
-ghost use Rattle.page_layout.specs.Page.{page};
 ghost use Rattle.page_layout.specs.Geometry.{row_count, translation_pages};
 ghost use Rattle.page_layout.specs.declared.record.Key.TheVariants.{Translation};
 ghost use Rattle.mapping_cache.specs.Mapping.{per_page, cleaned};
 ghost use Rattle.collection.specs.Pages.{newest_row};
-ghost use Rattle.collection.specs.Safe.{IsSafe, ram, image_in};
+ghost use Rattle.collection.specs.Safe.{IsSafe, ram, image_in, page_in};
 ghost use Rattle.collection.specs.Truth.{IsTrue};
 ghost use Rattle.collection.specs.Cost.{WriteBackCosts};
 ghost use Rattle.collection.specs.Log.{Went};
@@ -38,7 +37,7 @@ impl<N: Nand> Engine<N> {
         ensures faults { IfErr result IsReadFault }
         ensures rose { result ≡ Err WriteFault.Bus → HasRisen (N.failed self.old.nand) (N.failed self.new.nand) }
         ensures same { N.honest self.old.nand ≡ true → result ≢ Err WriteFault.Bus → N.flash self.new.nand ≡ N.flash self.old.nand }
-        ensures checked { OnOk result (StartsFrom t row (page self.new.page.body.items self.new.page.spare.items)) }
+        ensures checked { OnOk result (StartsFrom t row (page_in self.new.page)) }
         ensures truth { N.honest self.old.nand ≡ true → newest_row (image_in N.flash self.old) (Translation t) ≡ row →
             MatchResult result
             (λ _. IsLoaded t self.new.page.body.items self.old.geometry (image_in N.flash self.old))
@@ -103,7 +102,7 @@ impl<N: Nand> Engine<N> {
         ensures padded { OnOk result (IsPadded self.old.geometry t self.new.page.body.items) }
         ensures checked { OnOk result ((row : Option ℕ) → slice_get self.old.directory t ≡ Some row →
             IsBroughtUp t row self.old.geometry self.old.mapping self.new.page.body.items) }
-        ensures programmed { OnOk result (IsLastPage Kind.Translation t (ram self.new) (page self.new.page.body.items self.new.page.spare.items)) }
+        ensures programmed { OnOk result (IsLastPage Kind.Translation t (ram self.new) (page_in self.new.page)) }
         ensures cost { WriteBackCosts (ram self.old) (ram self.new) result }
         ensures went { N.honest self.old.nand ≡ true → result ≢ Err WriteFault.Bus →
             Went (ram self.old) (N.flash self.old.nand) (ram self.new) (N.flash self.new.nand) }
@@ -160,7 +159,7 @@ impl<N: Nand> Engine<N> {
         ensures padded { OnOk result (IsPadded self.old.geometry t self.new.page.body.items) }
         ensures checked { OnOk result ((row : Option ℕ) → slice_get self.old.directory t ≡ Some row →
             IsBroughtUp t row self.old.geometry self.old.mapping self.new.page.body.items) }
-        ensures programmed { OnOk result (IsLastPage Kind.Translation t (ram self.new) (page self.new.page.body.items self.new.page.spare.items)) }
+        ensures programmed { OnOk result (IsLastPage Kind.Translation t (ram self.new) (page_in self.new.page)) }
         ensures cost { self.old.fault ≡ None → WriteBackCosts (ram self.old) (ram self.new) result }
         ensures went { N.honest self.old.nand ≡ true → result ≢ Err WriteFault.Bus →
             Went (ram self.old) (N.flash self.old.nand) (ram self.new) (N.flash self.new.nand) }
