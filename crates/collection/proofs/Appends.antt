@@ -23,4 +23,6 @@ pub appended : (r r' : Ram) (image image' : Image) (kind : Kind) (n row : ℕ) (
 appended r r' image image' kind n row body same lt p = record {
   truth = p.truth;
   array = array_written r.geometry n row _ body image image' lt same p.writes;
+  row = row;
+  writes = p.writes;
 }

@@ -36,14 +36,15 @@ module _ (stream : Stream) (old now new : Ram) (h : HasTried stream old now) whe
         next = omega (arith, h.next, p.next);
       }
 
-pub has_run_out : (stream : Stream) (old now new : Ram) → HasTried stream old now → FindsNoRow stream now new → HasRunOut stream old new
-has_run_out stream old now new h f =
+pub has_run_out : (stream : Stream) (old now new : Ram) → HasTried stream old now → now.next < 2 ^ 64 - 1 → FindsNoRow stream now new → HasRunOut stream old new
+has_run_out stream old now new h lt f =
     let none = none_counts now.blocks stream f.none in
     let out : HasRunOut stream old now = record {
       failures = h.failures;
       found = no_try stream h.failures (counts_of old.blocks) (counts_of now.blocks) h.tries none.0 none.1;
       none = f.none;
       next = h.next;
+      sequence = lt;
     } in
     subst (λ r. HasRunOut stream old r) (sym f.same) out
 
@@ -55,11 +56,11 @@ tries_none stream a b o t is = (let P : Option ℕ → Type 0 = λ v. TryCosts s
 pub tries_some : (stream : Stream) (a b : Ram) (row : ℕ) (o : Option ℕ) → TryCosts stream a b (Ok o) → o ≡ Some row → PassesTry stream a b
 tries_some stream a b row o t is = (let P : Option ℕ → Type 0 = λ v. TryCosts stream a b (Ok v) in subst P is t)
 
-pub costs_then : (stream : Stream) (a b c : Ram) (fault : WriteFault) → HasTried stream a b → TryCosts stream b c (Err fault) → PutCosts stream a c (Err fault)
-costs_then stream a b c ReadOnly h t = has_run_out stream a b c h t
-costs_then stream a b c SequenceSpent h t = absurd t
-costs_then stream a b c Damaged h t = t
-costs_then stream a b c Bus h t = tt
+pub costs_then : (stream : Stream) (a b c : Ram) (fault : WriteFault) → HasTried stream a b → b.next < 2 ^ 64 - 1 → TryCosts stream b c (Err fault) → PutCosts stream a c (Err fault)
+costs_then stream a b c ReadOnly h lt t = has_run_out stream a b c h lt t
+costs_then stream a b c SequenceSpent h lt t = absurd t
+costs_then stream a b c Damaged h lt t = t
+costs_then stream a b c Bus h lt t = tt
 
 pub has_spent : (stream : Stream) (a b : Ram) → HasTried stream a b → 2 ^ 64 - 1 ≤ b.next → b.next < 2 ^ 64 → HasSpent stream a b
 has_spent stream a b h low high = record { tried = h; last = omega arith }

@@ -61,7 +61,7 @@ module _ (fault : Option WriteFault) where
 
   pub costs_noted : (stream : Stream) (a b : Ram) (result : Result ℕ WriteFault) → PutCosts stream a b result → PutCosts stream a (record b { fault = fault }) result
   costs_noted stream a b (Ok row) h = record { failures = h.failures; put = h.put; next = h.next }
-  costs_noted stream a b (Err ReadOnly) h = record { failures = h.failures; found = h.found; none = h.none; next = h.next }
+  costs_noted stream a b (Err ReadOnly) h = record { failures = h.failures; found = h.found; none = h.none; next = h.next; sequence = h.sequence }
   costs_noted stream a b (Err SequenceSpent) h = record { tried = tried_noted stream a b h.tried; last = h.last }
   costs_noted stream a b (Err Damaged) h = h
   costs_noted stream a b (Err Bus) h = tt

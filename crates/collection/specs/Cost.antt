@@ -1,5 +1,5 @@
 -- What a page costs, whatever the die does: sequences, and blocks that fail or are opened.
-use Rattle.std.specs.Prelude.{◌≡◌, ℕ, ◌+◌, ◌-◌, ◌/◌, ◌^◌, min, Option, Some, None, Result, Ok, Err}
+use Rattle.std.specs.Prelude.{◌≡◌, ℕ, ◌+◌, ◌-◌, ◌/◌, ◌<◌, ◌^◌, min, Option, Some, None, Result, Ok, Err}
 use Rattle.budget.specs.declared.stream.Stream.{Stream}
 use Rattle.budget.specs.declared.stream.Stream.TheVariants.{Meta}
 use Rattle.budget.specs.Counts.{TakesOne, FailsOne}
@@ -61,12 +61,13 @@ pub record HasPut (stream : Stream) (old new : Ram) : Type 0 where
   pub put : StreamPut stream old.geometry.pages failures (counts_of old.blocks) (counts_of new.blocks)
   pub next : new.next ≡ old.next + failures + 1
 
--- no block is left: each that was free has failed, and the open one if there was one
+-- there is a sequence for the next try, but no block is left: each that was free has failed, and the open one if there was one
 pub record HasRunOut (stream : Stream) (old new : Ram) : Type 0 where
   pub failures : ℕ
   pub found : FindsNone stream failures (counts_of old.blocks) (counts_of new.blocks)
   pub none : HasNone new.blocks stream
   pub next : new.next ≡ old.next + failures
+  pub sequence : new.next < 2 ^ 64 - 1
 
 -- there is no sequence for the next try
 pub record HasSpent (stream : Stream) (old new : Ram) : Type 0 where

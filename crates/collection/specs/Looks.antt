@@ -1,8 +1,8 @@
 -- What look-ups and page buffers hold of an image.
-use Rattle.std.specs.Prelude.{◌≡◌, ◌⊎◌, ℕ, ◌+◌, ◌*◌, ◌/◌, ◌%◌, ◌<◌, ◌≤◌, List, Option, Some, None}
+use Rattle.std.specs.Prelude.{◌≡◌, ◌⊎◌, ℕ, ◌+◌, ◌*◌, ◌/◌, ◌%◌, ◌<◌, ◌≤◌, List, length, replicate, slice_get, Option, Some, None, unwrap_or}
 use Rattle.page_layout.specs.declared.geometry.Geometry.{Geometry}
 use Rattle.page_layout.specs.declared.record.Key.{Key}
-use Rattle.page_layout.specs.declared.record.Key.TheVariants.{Sector}
+use Rattle.page_layout.specs.declared.record.Key.TheVariants.{Sector, Translation}
 use Rattle.page_layout.specs.declared.record.Kind.TheVariants as kind
 use Rattle.page_layout.specs.declared.record.Record.{Record}
 use Rattle.page_layout.specs.Page.{Image, Page}
@@ -10,6 +10,7 @@ use Rattle.page_layout.specs.Sound.{record_of}
 use Rattle.page_layout.specs.Key.{key_of}
 use Rattle.page_layout.specs.Array.{zeros, sector_of}
 use Rattle.page_layout.specs.Geometry.{entries}
+use Rattle.mapping_cache.specs.Mapping.{MappingState, pending}
 use Rattle.translation_pages.specs.TranslationPage.{entry_at}
 use Rattle.collection.specs.declared.fault.WriteFault.{WriteFault}
 use Rattle.collection.specs.declared.fault.WriteFault.TheVariants.{ReadOnly, SequenceSpent, Damaged, Bus}
@@ -33,6 +34,27 @@ pub record IsFilled (t : ℕ) (body : List ℕ) (g : Geometry) (image : Image) :
 pub record IsPageOf (key : Key) (r : Record) (p : Page) : Type 0 where
   pub sound : record_of p ≡ Some r
   pub of_key : key_of r ≡ key
+
+-- the page is sound and of the sector's translation page, and this row is the sector's entry in it
+pub record HoldsEntry (g : Geometry) (n : ℕ) (p : Page) (row : Option ℕ) : Type 0 where
+  pub its : Record
+  pub checked : IsPageOf (Translation (n / entries g)) its p
+  pub entry : row ≡ entry_at p.body (n % entries g)
+
+-- there is no row, since the directory has no translation page of the sector, or the page holds it as the sector's entry
+abbrev pub GivesRow : Geometry → List (Option ℕ) → ℕ → Page → Option ℕ → Type 0
+GivesRow g directory n p row = ((slice_get directory (n / entries g) ≡ Some None) × (row ≡ None)) ⊎ HoldsEntry g n p row
+
+-- what a write-back changes: a sound page of translation page t where there is one in this row, else a page of FFh
+abbrev pub StartsFrom : ℕ → Option ℕ → Page → Type 0
+StartsFrom t None p = p.body ≡ replicate (length p.body) 255
+StartsFrom t (Some row) p = (its : Record) × IsPageOf (Translation t) its p
+
+-- each entry of a sector is the row that the mapping holds for translation page t, and else that of such a page
+pub record IsBroughtUp (t : ℕ) (row : Option ℕ) (g : Geometry) (m : MappingState) (body : List ℕ) : Type 0 where
+  pub before : Page
+  pub checked : StartsFrom t row before
+  pub rows : (i : ℕ) → i < entries g → t * entries g + i < g.sectors → entry_at body i ≡ unwrap_or (pending m (t * entries g + i)) (entry_at before.body i)
 
 -- the row of a sector's newest page, and the sector's bytes
 pub record IsRead (n : ℕ) (row : Option ℕ) (bytes : List ℕ) (g : Geometry) (image : Image) : Type 0 where

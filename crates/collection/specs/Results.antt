@@ -7,6 +7,7 @@ use Rattle.page_layout.specs.declared.record.Kind.TheVariants as kind
 use Rattle.page_layout.specs.declared.record.Key.{Key}
 use Rattle.page_layout.specs.declared.record.Key.TheVariants.{Translation}
 use Rattle.page_layout.specs.Page.{Page, Image, body_at}
+use Rattle.page_layout.specs.Sound.{record_of}
 use Rattle.page_layout.specs.Key.{key_of, key_from}
 use Rattle.page_layout.specs.OneArray.{AreBelow}
 use Rattle.page_layout.specs.Live.{IsKeyOf}
@@ -51,6 +52,14 @@ pub record IsKept (old : Ram) (before : Image) (new : Ram) (after : Image) : Typ
 -- the record of the last page that was programmed
 abbrev pub last_record : Kind → ℕ → ℕ → Ram → Record
 last_record kind n row r = record { kind = kind; number = n; sequence = r.next - 1; wear = wear_at r.blocks.table (row / r.geometry.pages) }
+
+-- the page is the last one that was programmed: sound, of this kind and number, with the sequence before the next one
+pub record IsLastPage (kind : Kind) (n : ℕ) (new : Ram) (p : Page) : Type 0 where
+  pub its : Record
+  pub sound : record_of p ≡ Some its
+  pub of_kind : its.kind ≡ kind
+  pub of_number : its.number ≡ n
+  pub last : its.sequence ≡ new.next - 1
 
 -- a page of the key stands in this row; the key's entry in memory is the caller's to set
 pub record IsPut (kind : Kind) (n row : ℕ) (body : List ℕ) (old : Ram) (before : Image) (new : Ram) (after : Image) : Type 0 where
@@ -97,10 +106,12 @@ abbrev pub Attempted : Kind → ℕ → List ℕ → Ram → Image → Ram → I
 Attempted kind n body old before new after None = IsKept old before new after
 Attempted kind n body old before new after (Some row) = IsPut kind n row body old before new after
 
--- the sector holds what was handed in
+-- the sector holds what was handed in, in a newest page of this kind
 pub record IsWritten (kind : Kind) (n : ℕ) (body : List ℕ) (old : Ram) (before : Image) (new : Ram) (after : Image) : Type 0 where
   pub truth : IsTrue None new after
   pub array : array_of old.geometry after ≡ slice_set (array_of old.geometry before) n (content_of_kind old.geometry kind body)
+  pub row : ℕ
+  pub writes : Writes old.geometry (last_record kind n row new) row body before after
 
 -- the array is as it was, and the newest translation page t has the row of each of its sectors, and none past the last sector
 pub record IsWrittenBack (t : ℕ) (old : Ram) (before : Image) (new : Ram) (after : Image) : Type 0 where

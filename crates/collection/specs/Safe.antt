@@ -2,7 +2,7 @@
 use Rattle.std.specs.Prelude.{◌≡◌, ℕ, ◌+◌, ◌/◌, ◌<◌, ◌^◌, ◌||◌, Bool, false, not, length, replicate, slice_get, Some, None}
 use Rattle.page_layout.specs.declared.geometry.Geometry.{Geometry}
 use Rattle.page_layout.specs.Geometry.{translation_pages, table_pages, row_count}
-use Rattle.page_layout.specs.Page.{Image}
+use Rattle.page_layout.specs.Page.{Image, Page, page}
 use Rattle.page_layout.specs.Flash.{Flash}
 use Rattle.bad_blocks.specs.Table.{is_good_at}
 use Rattle.mapping_cache.specs.Mapping.{IsMapping}
@@ -34,6 +34,10 @@ pub record IsRam (r : Ram) : Type 0 where
 pub record IsBuffer (g : Geometry) (b : Buffer) : Type 0 where
   pub body : length b.body.items ≡ g.data_bytes
   pub spare : length b.spare.items ≡ g.spare_bytes
+
+-- the page that a buffer holds
+abbrev pub page_in : Buffer → Page
+page_in b = page b.body.items b.spare.items
 
 pub record IsSafe {N : Type 0} (flash : N → Flash) (e : Engine N) : Type 0 where
   pub memory : IsRam (ram e)

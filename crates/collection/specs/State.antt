@@ -13,5 +13,5 @@ pub record Ram : Type 0 where
   pub blocks : State
   -- the sequence of the page that is programmed next
   pub next : ℕ
-  -- the fault that every call answers again
+  -- the fault that every call answers again that programs or makes room
   pub fault : Option WriteFault

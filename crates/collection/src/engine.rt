@@ -20,7 +20,7 @@ mod write_back;
 
 pub use room::LEAST_FREE;
 
-/// The data area and the spare area of one page.
+/// The data area and the spare area of one page. (This project.)
 #[derive(Drop)]
 pub struct Buffer {
     /// The data area.
@@ -32,8 +32,9 @@ pub struct Buffer {
 /// A die with what is known of it in memory: where the newest pages are, and what each block may be
 /// used for.
 ///
-/// Contracts see the memory as a `Ram`, and the die by its `Flash`. A call that was refused is
-/// answered by the same fault ever after.
+/// Contracts see the memory as a `Ram`, and the die by its `Flash`. Once a `put`, `write_back`,
+/// `make_room`, `write_sector` or `trim_sector` was refused, each of these answers the same fault ever
+/// after.
 ///
 /// Source: the DFTL paper, for the directory, the cached mapping table and the two streams; the rest
 /// is this project's.
@@ -51,7 +52,7 @@ pub struct Engine<N: Nand> {
     pub mapping: Mapping,
     /// The sequence of the page that is programmed next.
     pub next: u64,
-    /// The fault that every call answers again.
+    /// The fault that every call answers again that programs or makes room.
     pub fault: Option<WriteFault>,
     /// The page that is programmed next.
     pub page: Buffer,

@@ -48,8 +48,11 @@ impl<N: Nand> Engine<N> {
     /// are known, and the sequence of the page that is programmed next. The other parts were made
     /// with that geometry. No fault stands.
     ///
-    /// It asks nothing of the die. This call alone takes memory, for its page buffers and marks, and
-    /// fails for want of it alone; it then hands the die back.
+    /// It asks nothing of the die, and takes memory for its page buffers and marks.
+    ///
+    /// # Errors
+    ///
+    /// The die, as it was, and the refusal, where a growth was refused. (This project.)
     pub fn new(
         alloc: Global,
         nand: N,
@@ -93,7 +96,7 @@ impl<N: Nand> Engine<N> {
         }
     }
 
-    /// The die, as the last call left it.
+    /// The die, as the last call left it. (This project.)
     pub fn into_nand(self) -> N
         ensures { result ≡ self.nand }
     {

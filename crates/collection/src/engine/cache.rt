@@ -21,7 +21,9 @@ impl<N: Nand> Engine<N> {
     /// # Errors
     ///
     /// `OutOfMemory` where a growth was refused, which never is where the sector is cached. Nothing
-    /// has changed.
+    /// has changed, and no fault is noted; one that stands is not answered.
+    ///
+    /// Source: the cached mapping table of the DFTL paper; the moved sectors are this project's.
     pub fn cache_sector(&mut self, sector: u32, row: Option<u32>) -> Result<(), LoadFault>
         requires safe { IsSafe N.flash self.old }
         requires room { CanLoad self.old.mapping sector }

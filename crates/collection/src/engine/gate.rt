@@ -1,4 +1,4 @@
-//! The fault that stands: each call answers it again.
+//! The fault that stands: each call answers it again that programs or makes room.
 ghost use Rattle.std.specs.Prelude.{◌≡◌, Err, IsOk, MatchOption};
 ghost use Rattle.collection.specs.Results.{fault_after};
 

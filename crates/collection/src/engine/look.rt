@@ -1,16 +1,16 @@
 //! Where the newest page of a sector is, and what it holds.
-ghost use Rattle.std.specs.Prelude.{◌≡◌, ◌≢◌, ℕ, ◌+◌, ◌*◌, ◌<◌, ◌≤◌, true, length, replicate, slice_get, Some, None, Err, IfOk, IfErr, OnOk, OnErr, MatchResult};
+ghost use Rattle.std.specs.Prelude.{◌≡◌, ◌≢◌, ℕ, ◌+◌, ◌*◌, ◌/◌, ◌<◌, ◌≤◌, true, length, replicate, slice_get, Some, None, Ok, Err, IsSome, IfOk, IfErr, OnOk, OnErr, MatchResult};
 ghost use Rattle.std.specs.Option.{ForSome};
 ghost use Rattle.page_layout.specs.Page.{page};
 ghost use Rattle.page_layout.specs.Counter.{counted, HasRisen};
-ghost use Rattle.page_layout.specs.Geometry.{row_count};
+ghost use Rattle.page_layout.specs.Geometry.{row_count, entries};
 ghost use Rattle.page_layout.specs.declared.record.Key.TheVariants.{Sector};
 ghost use Rattle.mapping_cache.specs.Mapping.{known};
 ghost use Rattle.translation_pages.specs.TranslationPage.{entry_at};
 ghost use Rattle.collection.specs.Pages.{newest_row};
-ghost use Rattle.collection.specs.Safe.{IsSafe, IsBuffer, ram, image_in};
+ghost use Rattle.collection.specs.Safe.{IsSafe, IsBuffer, ram, image_in, page_in};
 ghost use Rattle.collection.specs.Truth.{IsTrue};
-ghost use Rattle.collection.specs.Looks.{IsPageOf, IsRead, GivesSector, IsReadFault};
+ghost use Rattle.collection.specs.Looks.{IsPageOf, IsRead, GivesRow, GivesSector, IsReadFault};
 
 use super::steps::read_sound;
 use super::{Buffer, Engine};
@@ -95,12 +95,18 @@ fn copy_sector(kind: Kind, body: &[u8], out: &mut [u8])
 impl<N: Nand> Engine<N> {
     /// The row of a sector's newest page, or `None` where the sector was never written. It is
     /// answered from memory where the cached or the moved sectors have it, and else after one page
-    /// read; memory stays as it is, the order of the cache too.
+    /// read at most; memory stays as it is, the order of the cache too.
+    ///
+    /// Whatever the die does, a row that memory doesn't have is the sector's entry in the page in the
+    /// scratch buffer, which is sound and of the sector's translation page.
     ///
     /// # Errors
     ///
-    /// `Bus` where the die gives no page, and `Damaged` where the translation page isn't sound or
-    /// names a row that the die doesn't have; an honest die never does the latter.
+    /// `Bus` where the die gives no page, and `Damaged` where the translation page isn't sound or not
+    /// of its key, or names a row that the die doesn't have; an honest die never gives such a page.
+    /// No fault is noted, and one that stands is not answered.
+    ///
+    /// Source: the address translation of the DFTL paper; that pages are checked is this project's.
     pub fn row_of_sector(&mut self, sector: u32) -> Result<Option<u32>, WriteFault>
         requires safe { IsSafe N.flash self.old }
         requires sector { sector < self.old.geometry.sectors }
@@ -115,6 +121,11 @@ impl<N: Nand> Engine<N> {
         ensures faults { IfErr result IsReadFault }
         ensures rose { result ≡ Err WriteFault.Bus → HasRisen (N.failed self.old.nand) (N.failed self.new.nand) }
         ensures row { IfOk result (λ row. ForSome row (λ r. r < row_count self.old.geometry)) }
+        ensures hit { ForSome (known self.old.mapping sector) (λ row. (result ≡ Ok row) × (self.new ≡ self.old)) }
+        ensures unmapped { known self.old.mapping sector ≡ None → slice_get self.old.directory (sector / entries self.old.geometry) ≡ Some None →
+            (result ≡ Ok None) × (self.new ≡ self.old) }
+        ensures checked { known self.old.mapping sector ≡ None →
+            IfOk result (GivesRow self.old.geometry self.old.directory sector (page_in self.new.scratch)) }
         ensures same { N.honest self.old.nand ≡ true → result ≢ Err WriteFault.Bus → N.flash self.new.nand ≡ N.flash self.old.nand }
         ensures truth { N.honest self.old.nand ≡ true → IsTrue None (ram self.old) (image_in N.flash self.old) →
             MatchResult result
@@ -144,6 +155,9 @@ impl<N: Nand> Engine<N> {
         ensures faults { IfErr result IsReadFault }
         ensures rose { result ≡ Err WriteFault.Bus → HasRisen (N.failed self.old.nand) (N.failed self.new.nand) }
         ensures row { IfOk result (λ row. ForSome row (λ r. r < row_count self.old.geometry)) }
+        ensures unmapped { slice_get self.old.directory (sector / entries self.old.geometry) ≡ Some None →
+            (result ≡ Ok None) × (self.new ≡ self.old) }
+        ensures checked { IfOk result (GivesRow self.old.geometry self.old.directory sector (page_in self.new.scratch)) }
         ensures same { N.honest self.old.nand ≡ true → result ≢ Err WriteFault.Bus → N.flash self.new.nand ≡ N.flash self.old.nand }
         ensures truth { N.honest self.old.nand ≡ true → IsTrue None (ram self.old) (image_in N.flash self.old) →
             MatchResult result
@@ -156,19 +170,15 @@ impl<N: Nand> Engine<N> {
         let Some(at) = found else {
             return Ok(None);
         };
-        read_of(
-            &mut self.nand,
-            &self.geometry,
-            Key::Translation(t),
-            at,
-            &mut self.scratch,
-        )?;
+        let key = Key::Translation(t);
+        read_of(&mut self.nand, &self.geometry, key, at, &mut self.scratch)?;
         checked_entry(&self.geometry, &self.scratch.body, sector % entries)
     }
 
     /// Reads a sector: `out`, of one data area, gets its bytes, or 00h bytes where it was never
     /// written or was trimmed. It answers the row of the sector's newest page, if there is one, and
-    /// makes at most two page reads; it programs and erases nothing, and memory stays as it is.
+    /// makes at most two page reads, and at most one where memory has the row; it programs and erases
+    /// nothing, and memory stays as it is.
     ///
     /// Whatever the die does, what it gives is zeros or the data area of the page in the page buffer,
     /// which is sound and of the sector.
@@ -176,7 +186,9 @@ impl<N: Nand> Engine<N> {
     /// # Errors
     ///
     /// `Bus` and `Damaged` as `row_of_sector`; `Damaged` also where the sector's page isn't sound or
-    /// not of the sector. `out` then stays.
+    /// not of the sector. `out` then stays; no fault is noted, and one that stands is not answered.
+    ///
+    /// Source: the read of the DFTL paper; that pages are checked, and trims, are this project's.
     pub fn read_sector(&mut self, sector: u32, out: &mut [u8]) -> Result<Option<u32>, WriteFault>
         requires safe { IsSafe N.flash self.old }
         requires sector { sector < self.old.geometry.sectors }
@@ -191,6 +203,12 @@ impl<N: Nand> Engine<N> {
         ensures faults { IfErr result IsReadFault }
         ensures rose { result ≡ Err WriteFault.Bus → HasRisen (N.failed self.old.nand) (N.failed self.new.nand) }
         ensures row { IfOk result (λ row. ForSome row (λ r. r < row_count self.old.geometry)) }
+        ensures hit { IsSome (known self.old.mapping sector) → N.reads self.new.nand ≤ N.reads self.old.nand + 1 }
+        ensures unwritten { known self.old.mapping sector ≡ Some None → (result ≡ Ok None) × (self.new ≡ self.old) }
+        ensures unmapped { known self.old.mapping sector ≡ None → slice_get self.old.directory (sector / entries self.old.geometry) ≡ Some None →
+            (result ≡ Ok None) × (self.new ≡ self.old) }
+        ensures looked_up { known self.old.mapping sector ≡ None →
+            IfOk result (GivesRow self.old.geometry self.old.directory sector (page_in self.new.scratch)) }
         ensures refused { OnErr result (out.new ≡ out.old) }
         ensures checked { OnOk result (GivesSector self.old.geometry sector
             (page self.new.page.body.items self.new.page.spare.items) out.new) }

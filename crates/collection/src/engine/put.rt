@@ -10,13 +10,13 @@ ghost use Rattle.page_layout.specs.Live.{IsKeyOf};
 ghost use Rattle.budget.specs.Stream.{stream_of};
 ghost use Rattle.allocation.specs.View.{state};
 ghost use Rattle.collection.specs.Pages.{newest_row};
-ghost use Rattle.collection.specs.Safe.{IsSafe, IsOutside, ram, image_in};
+ghost use Rattle.collection.specs.Safe.{IsSafe, IsOutside, ram, image_in, page_in};
 ghost use Rattle.collection.specs.Maps.{IsPageFor};
 ghost use Rattle.collection.specs.Truth.{IsTrue};
 ghost use Rattle.collection.specs.Settle.{IsCachedKey};
 ghost use Rattle.collection.specs.Cost.{moved_live, TryCosts, PutCosts};
 ghost use Rattle.collection.specs.Log.{Went};
-ghost use Rattle.collection.specs.Results.{MayPut, Attempted, Refused, GoesPut, IsPut, array_after, fault_after};
+ghost use Rattle.collection.specs.Results.{MayPut, Attempted, Refused, GoesPut, IsPut, IsLastPage, array_after, fault_after};
 
 use super::Engine;
 use super::steps::program_record;
@@ -63,6 +63,7 @@ impl<N: Nand> Engine<N> {
         ensures failed { N.failed self.old.nand ≤ N.failed self.new.nand }
         ensures rose { result ≡ Err WriteFault.Bus → HasRisen (N.failed self.old.nand) (N.failed self.new.nand) }
         ensures row { IfOk result (λ row. IfSome row (IsOutside (ram self.old))) }
+        ensures programmed { IfOk result (λ row. IfSome row (λ _. IsLastPage kind number (ram self.new) (page_in self.new.page))) }
         ensures cost { TryCosts (stream_of kind) (ram self.old) (ram self.new) result }
         ensures went { N.honest self.old.nand ≡ true → result ≢ Err WriteFault.Bus →
             Went (ram self.old) (N.flash self.old.nand) (ram self.new) (N.flash self.new.nand) }
@@ -124,6 +125,7 @@ impl<N: Nand> Engine<N> {
         ensures failed { N.failed self.old.nand ≤ N.failed self.new.nand }
         ensures rose { result ≡ Err WriteFault.Bus → HasRisen (N.failed self.old.nand) (N.failed self.new.nand) }
         ensures row { IfOk result (IsOutside (ram self.old)) }
+        ensures programmed { OnOk result (IsLastPage kind number (ram self.new) (page_in self.new.page)) }
         ensures cost { PutCosts (stream_of kind) (ram self.old) (ram self.new) result }
         ensures went { N.honest self.old.nand ≡ true → result ≢ Err WriteFault.Bus →
             Went (ram self.old) (N.flash self.old.nand) (ram self.new) (N.flash self.new.nand) }
@@ -174,7 +176,8 @@ impl<N: Nand> Engine<N> {
     ///
     /// # Errors
     ///
-    /// Each is answered again by every later call, which changes nothing.
+    /// Each stands: `put`, `write_back`, `make_room`, `write_sector` and `trim_sector` answer it again
+    /// from then on, and change nothing.
     ///
     /// - `ReadOnly` where the stream has no block open and none is free: each that was free has
     ///   failed in this call, and the open one if there was one. The array is as it was.
@@ -202,6 +205,7 @@ impl<N: Nand> Engine<N> {
         ensures failed { N.failed self.old.nand ≤ N.failed self.new.nand }
         ensures rose { self.old.fault ≡ None → result ≡ Err WriteFault.Bus → HasRisen (N.failed self.old.nand) (N.failed self.new.nand) }
         ensures row { IfOk result (IsOutside (ram self.old)) }
+        ensures programmed { OnOk result (IsLastPage written.now.kind written.now.number (ram self.new) (page_in self.new.page)) }
         ensures cost { self.old.fault ≡ None → PutCosts stream (ram self.old) (ram self.new) result }
         ensures went { N.honest self.old.nand ≡ true → result ≢ Err WriteFault.Bus →
             Went (ram self.old) (N.flash self.old.nand) (ram self.new) (N.flash self.new.nand) }

@@ -10,7 +10,7 @@ use crate::fault::WriteFault;
 use onfi_cycles::Nand;
 
 /// The free blocks with which a call may begin to program: a call opens two, and one more for each of
-/// two failures; one is over. With fewer a device only reads.
+/// two failures; one is over. With fewer a device only reads. (This project.)
 pub const LEAST_FREE: u32 = 5;
 
 impl<N: Nand> Engine<N> {
@@ -19,7 +19,8 @@ impl<N: Nand> Engine<N> {
     ///
     /// # Errors
     ///
-    /// Each is answered again by every later call, which changes nothing.
+    /// Each stands: `put`, `write_back`, `make_room`, `write_sector` and `trim_sector` answer it again
+    /// from then on, and change nothing.
     ///
     /// - `ReadOnly` where fewer than five blocks are free. The array is as it was.
     ///

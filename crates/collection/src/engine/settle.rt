@@ -1,5 +1,5 @@
 //! The memory follows a page that was put.
-ghost use Rattle.std.specs.Prelude.{◌≡◌, ◌≢◌, ◌≤◌, ◌<◌, true, Some, None, Ok, Err, IfOk, IsSome, MatchResult};
+ghost use Rattle.std.specs.Prelude.{◌≡◌, ◌≢◌, ◌≤◌, ◌<◌, true, Some, None, Ok, Err, IfOk, OnOk, IsSome, MatchResult};
 ghost use Rattle.std.specs.Option.{ForSome};
 ghost use Rattle.std.specs.Map.{keys_of};
 ghost use Rattle.page_layout.specs.Counter.{HasRisen};
@@ -9,12 +9,12 @@ ghost use Rattle.page_layout.specs.Live.{IsKeyOf};
 ghost use Rattle.page_layout.specs.declared.record.Key.TheVariants.{Sector};
 ghost use Rattle.mapping_cache.specs.Mapping.{IsEntryOf, CanMove, slot_of};
 ghost use Rattle.budget.specs.Stream.{stream_of};
-ghost use Rattle.collection.specs.Safe.{IsSafe, IsOutside, ram, image_in};
+ghost use Rattle.collection.specs.Safe.{IsSafe, IsOutside, ram, image_in, page_in};
 ghost use Rattle.collection.specs.Truth.{IsTrue};
 ghost use Rattle.collection.specs.Cost.{PutCosts, PageCosts};
 ghost use Rattle.collection.specs.Log.{Went};
 ghost use Rattle.collection.specs.Settle.{HasPlace, SetsRow, SetsMapping, Settles, HasNoMore};
-ghost use Rattle.collection.specs.Results.{MayPut, Goes, IsReplaced, IsWritten, Refused};
+ghost use Rattle.collection.specs.Results.{MayPut, Goes, IsReplaced, IsLastPage, IsWritten, Refused};
 
 use super::Engine;
 use crate::fault::WriteFault;
@@ -81,6 +81,7 @@ impl<N: Nand> Engine<N> {
         ensures mapping { MatchResult result
             (λ row. SetsMapping (key_from kind number) row self.old.mapping self.new.mapping)
             (λ _. self.new.mapping ≡ self.old.mapping) }
+        ensures programmed { OnOk result (IsLastPage kind number (ram self.new) (page_in self.new.page)) }
         ensures cost { PutCosts (stream_of kind) (ram self.old) (ram self.new) result }
         ensures went { N.honest self.old.nand ≡ true → result ≢ Err WriteFault.Bus →
             Went (ram self.old) (N.flash self.old.nand) (ram self.new) (N.flash self.new.nand) }
@@ -112,6 +113,7 @@ impl<N: Nand> Engine<N> {
         ensures rose { result ≡ Err WriteFault.Bus → HasRisen (N.failed self.old.nand) (N.failed self.new.nand) }
         ensures keys { keys_of self.new.mapping.cached ≡ keys_of self.old.mapping.cached }
         ensures no_more { HasNoMore self.old.mapping self.new.mapping }
+        ensures programmed { OnOk result (IsLastPage kind sector (ram self.new) (page_in self.new.page)) }
         ensures cost { PageCosts (stream_of kind) (ram self.old) (ram self.new) result }
         ensures went { N.honest self.old.nand ≡ true → result ≢ Err WriteFault.Bus →
             Went (ram self.old) (N.flash self.old.nand) (ram self.new) (N.flash self.new.nand) }

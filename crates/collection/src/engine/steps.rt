@@ -32,6 +32,7 @@ pub(crate) fn program_record<N: Nand>(
     ensures erases { N.erases nand.new ≡ N.erases nand.old }
     ensures failed { N.failed nand.old ≤ N.failed nand.new }
     ensures rose { OnErr result (HasRisen (N.failed nand.old) (N.failed nand.new)) }
+    ensures spare { record_of (page body.now spare.new) ≡ Some written.now }
     ensures step { N.honest nand.old ≡ true →
         IfOk result (λ outcome. IsStep row outcome (N.flash nand.old) (N.flash nand.new)) }
     ensures image { N.honest nand.old ≡ true → OnOk result (IsImage geometry.now (N.flash nand.new).image) }

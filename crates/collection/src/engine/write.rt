@@ -1,17 +1,17 @@
 //! A cached sector is written or trimmed.
-ghost use Rattle.std.specs.Prelude.{◌≡◌, ◌≢◌, ◌≤◌, ◌<◌, true, length, Some, None, Err, IsSome, MatchResult};
+ghost use Rattle.std.specs.Prelude.{◌≡◌, ◌≢◌, ◌≤◌, ◌<◌, true, length, Some, None, Err, IsSome, OnOk, MatchResult};
 ghost use Rattle.std.specs.Option.{ForSome};
 ghost use Rattle.std.specs.Map.{keys_of};
 ghost use Rattle.page_layout.specs.Counter.{HasRisen};
 ghost use Rattle.page_layout.specs.Array.{zeros};
 ghost use Rattle.mapping_cache.specs.Mapping.{slot_of};
 ghost use Rattle.budget.specs.declared.stream.Stream.TheVariants.{Data};
-ghost use Rattle.collection.specs.Safe.{IsSafe, ram, image_in};
+ghost use Rattle.collection.specs.Safe.{IsSafe, ram, image_in, page_in};
 ghost use Rattle.collection.specs.Truth.{IsTrue};
 ghost use Rattle.collection.specs.Cost.{PageCosts};
 ghost use Rattle.collection.specs.Log.{Went};
 ghost use Rattle.collection.specs.Settle.{HasNoMore};
-ghost use Rattle.collection.specs.Results.{IsWritten, Refused, Goes, fault_after};
+ghost use Rattle.collection.specs.Results.{IsLastPage, IsWritten, Refused, Goes, fault_after};
 
 use super::Engine;
 use super::look::clear;
@@ -46,6 +46,7 @@ impl<N: Nand> Engine<N> {
         ensures keys { keys_of self.new.mapping.cached ≡ keys_of self.old.mapping.cached }
         ensures no_more { HasNoMore self.old.mapping self.new.mapping }
         ensures page { self.old.fault ≡ None → self.new.page.body.items ≡ body.now }
+        ensures programmed { OnOk result (IsLastPage Kind.Sector sector (ram self.new) (page_in self.new.page)) }
         ensures cost { self.old.fault ≡ None → PageCosts Data (ram self.old) (ram self.new) result }
         ensures went { N.honest self.old.nand ≡ true → result ≢ Err WriteFault.Bus →
             Went (ram self.old) (N.flash self.old.nand) (ram self.new) (N.flash self.new.nand) }
@@ -85,6 +86,7 @@ impl<N: Nand> Engine<N> {
         ensures keys { keys_of self.new.mapping.cached ≡ keys_of self.old.mapping.cached }
         ensures no_more { HasNoMore self.old.mapping self.new.mapping }
         ensures page { self.old.fault ≡ None → self.new.page.body.items ≡ zeros self.old.geometry }
+        ensures programmed { OnOk result (IsLastPage Kind.Trim sector (ram self.new) (page_in self.new.page)) }
         ensures cost { self.old.fault ≡ None → PageCosts Data (ram self.old) (ram self.new) result }
         ensures went { N.honest self.old.nand ≡ true → result ≢ Err WriteFault.Bus →
             Went (ram self.old) (N.flash self.old.nand) (ram self.new) (N.flash self.new.nand) }

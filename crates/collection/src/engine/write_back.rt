@@ -1,5 +1,5 @@
 //! Translation pages are brought up to date.
-ghost use Rattle.std.specs.Prelude.{◌≡◌, ◌≢◌, ℕ, ◌+◌, ◌*◌, ◌/◌, ◌<◌, ◌≤◌, true, Some, None, Ok, Err, IfErr, OnOk, OnErr, MatchResult};
+ghost use Rattle.std.specs.Prelude.{◌≡◌, ◌≢◌, ℕ, ◌+◌, ◌*◌, ◌/◌, ◌<◌, ◌≤◌, true, slice_get, Option, Some, None, Ok, Err, IfErr, OnOk, OnErr, MatchResult};
 ghost use Rattle.std.specs.Option.{ForSome};
 ghost use Rattle.std.specs.Map.{keys_of};
 ghost use Rattle.page_layout.specs.Counter.{HasRisen};
@@ -7,13 +7,13 @@ ghost use Rattle.page_layout.specs.Geometry.{row_count, translation_pages};
 ghost use Rattle.page_layout.specs.declared.record.Key.TheVariants.{Translation};
 ghost use Rattle.mapping_cache.specs.Mapping.{per_page, cleaned};
 ghost use Rattle.collection.specs.Pages.{newest_row};
-ghost use Rattle.collection.specs.Safe.{IsSafe, ram, image_in};
+ghost use Rattle.collection.specs.Safe.{IsSafe, ram, image_in, page_in};
 ghost use Rattle.collection.specs.Truth.{IsTrue};
 ghost use Rattle.collection.specs.Cost.{WriteBackCosts};
 ghost use Rattle.collection.specs.Log.{Went};
-ghost use Rattle.collection.specs.Looks.{IsLoaded, IsFilled, IsPadded, IsReadFault};
+ghost use Rattle.collection.specs.Looks.{IsLoaded, IsFilled, IsPadded, StartsFrom, IsBroughtUp, IsReadFault};
 ghost use Rattle.collection.specs.Settle.{Cleans, HasNoMore};
-ghost use Rattle.collection.specs.Results.{IsWrittenBack, Refused, Goes, fault_after};
+ghost use Rattle.collection.specs.Results.{IsLastPage, IsWrittenBack, Refused, Goes, fault_after};
 
 use super::Engine;
 use super::entries::{clear_entries, fill_entries};
@@ -37,6 +37,7 @@ impl<N: Nand> Engine<N> {
         ensures faults { IfErr result IsReadFault }
         ensures rose { result ≡ Err WriteFault.Bus → HasRisen (N.failed self.old.nand) (N.failed self.new.nand) }
         ensures same { N.honest self.old.nand ≡ true → result ≢ Err WriteFault.Bus → N.flash self.new.nand ≡ N.flash self.old.nand }
+        ensures checked { OnOk result (StartsFrom t row (page_in self.new.page)) }
         ensures truth { N.honest self.old.nand ≡ true → newest_row (image_in N.flash self.old) (Translation t) ≡ row →
             MatchResult result
             (λ _. IsLoaded t self.new.page.body.items self.old.geometry (image_in N.flash self.old))
@@ -44,13 +45,8 @@ impl<N: Nand> Engine<N> {
     {
         match row {
             Some(at) => {
-                read_of(
-                    &mut self.nand,
-                    &self.geometry,
-                    Key::Translation(t),
-                    at,
-                    &mut self.page,
-                )?;
+                let key = Key::Translation(t);
+                read_of(&mut self.nand, &self.geometry, key, at, &mut self.page)?;
             }
             None => clear_entries(&mut self.page.body),
         }
@@ -74,6 +70,7 @@ impl<N: Nand> Engine<N> {
         ensures rose { result ≡ Err WriteFault.Bus → HasRisen (N.failed self.old.nand) (N.failed self.new.nand) }
         ensures same { N.honest self.old.nand ≡ true → result ≢ Err WriteFault.Bus → N.flash self.new.nand ≡ N.flash self.old.nand }
         ensures padded { OnOk result (IsPadded self.old.geometry t self.new.page.body.items) }
+        ensures checked { OnOk result (IsBroughtUp t row self.old.geometry self.old.mapping self.new.page.body.items) }
         ensures truth { N.honest self.old.nand ≡ true → IsTrue None (ram self.old) (image_in N.flash self.old) →
             newest_row (image_in N.flash self.old) (Translation t) ≡ row →
             MatchResult result
@@ -103,6 +100,9 @@ impl<N: Nand> Engine<N> {
         ensures no_more { HasNoMore self.old.mapping self.new.mapping }
         ensures mapping { OnErr result (self.new.mapping ≡ self.old.mapping) }
         ensures padded { OnOk result (IsPadded self.old.geometry t self.new.page.body.items) }
+        ensures checked { OnOk result ((row : Option ℕ) → slice_get self.old.directory t ≡ Some row →
+            IsBroughtUp t row self.old.geometry self.old.mapping self.new.page.body.items) }
+        ensures programmed { OnOk result (IsLastPage Kind.Translation t (ram self.new) (page_in self.new.page)) }
         ensures cost { WriteBackCosts (ram self.old) (ram self.new) result }
         ensures went { N.honest self.old.nand ≡ true → result ≢ Err WriteFault.Bus →
             Went (ram self.old) (N.flash self.old.nand) (ram self.new) (N.flash self.new.nand) }
@@ -122,11 +122,13 @@ impl<N: Nand> Engine<N> {
     /// written, with the row of each of its sectors that is cached dirty or moved. The directory then
     /// has its row, and it lacks none: its cached sectors are clean, and its moved ones are no longer
     /// moved. Entries past the last sector have no row. The array stays, and so do the sectors that
-    /// are cached, and their order.
+    /// are cached, and their order. Whatever the die does, the page that it changes is sound and of
+    /// translation page `t`.
     ///
     /// # Errors
     ///
-    /// Each is answered again by every later call, which changes nothing.
+    /// Each stands: `put`, `write_back`, `make_room`, `write_sector` and `trim_sector` answer it again
+    /// from then on, and change nothing.
     ///
     /// - `ReadOnly`, `SequenceSpent` as `put`; the page lacks what it lacked.
     /// - `Damaged` where the page as it stands isn't sound or not of its key; an honest die never
@@ -155,6 +157,9 @@ impl<N: Nand> Engine<N> {
         ensures no_more { HasNoMore self.old.mapping self.new.mapping }
         ensures mapping { OnErr result (self.new.mapping ≡ self.old.mapping) }
         ensures padded { OnOk result (IsPadded self.old.geometry t self.new.page.body.items) }
+        ensures checked { OnOk result ((row : Option ℕ) → slice_get self.old.directory t ≡ Some row →
+            IsBroughtUp t row self.old.geometry self.old.mapping self.new.page.body.items) }
+        ensures programmed { OnOk result (IsLastPage Kind.Translation t (ram self.new) (page_in self.new.page)) }
         ensures cost { self.old.fault ≡ None → WriteBackCosts (ram self.old) (ram self.new) result }
         ensures went { N.honest self.old.nand ≡ true → result ≢ Err WriteFault.Bus →
             Went (ram self.old) (N.flash self.old.nand) (ram self.new) (N.flash self.new.nand) }

@@ -1,4 +1,7 @@
-use Rattle.std.proofs.Common.{◌∙◌, ap, refl, subst}
+use Rattle.std.proofs.Common.{◌∙◌, ap, refl, sym, subst, arith}
+use Rattle.std.proofs.lemmas.List.{with_items_is}
+use Rattle.page_layout.specs.Page.{page}
+use Rattle.page_layout.specs.Sound.{record_of}
 use Rattle.page_layout.specs.Change.{Writes, ProgramMeans}
 use Rattle.onfi_cycles.specs.declared.nand.Outcome.TheVariants.{Passed, Failed}
 use Rattle.onfi_cycles.specs.Outcomes.{is_passed}
@@ -46,6 +49,15 @@ returns-in-Ok-Passed-clause-row g c =
     let t = state c.take_row.new.self in
     let is = taken_by r c.of.result c.in-Some.row c.split_row-block.result.0 t c.requires.safe.memory c.in-Some.ensures.some c.split_row-block.ensures.block_is in
     taken_outside c.of.result c.split_row-block.result.0 c.in-Some.row r t c.requires.safe.memory is
+
+pub returns-in-Ok-Passed-clause-programmed : goal.returns-in-Ok-Passed-clause-programmed
+returns-in-Ok-Passed-clause-programmed g c = rw (with_items_is c.args.self.now.page.spare c.program_record.new.spare (c.program_record.auto.spare ∙ c.deref_mut.ensures.len)) (record {
+  its = next_record c.args.kind c.args.number c.args.self.now.next c.wear.result;
+  sound = ap (λ b. record_of (page b c.program_record.new.spare)) (sym c.deref.ensures.value) ∙ c.program_record.ensures.spare;
+  of_kind = refl;
+  of_number = refl;
+  last = omega arith;
+})
 
 pub returns-in-Ok-Passed-clause-cost : goal.returns-in-Ok-Passed-clause-cost
 returns-in-Ok-Passed-clause-cost g c =

@@ -28,7 +28,7 @@ tries-init g c = record {
 pub returns-in_err-tried-clause-cost : goal.returns-in_err-tried-clause-cost
 returns-in_err-tried-clause-cost g c =
     let p = err_from_is_err_and c.from_residual.result c.from_residual.ensures.1 in
-    rw (p.1, p.2) (costs_then (stream_of c.args.kind) _ _ _ _ c.tries.invariant.tried c.in_err-tried.ensures.cost)
+    rw (p.1, p.2) (costs_then (stream_of c.args.kind) _ _ _ _ c.tries.invariant.tried (omega (arith, c.tries-test.true)) c.in_err-tried.ensures.cost)
 
 pub returns-in_err-tried-clause-went : goal.returns-in_err-tried-clause-went
 returns-in_err-tried-clause-went g c =
