@@ -22,7 +22,7 @@ pub enum StartFault<'a, N> {
 }
 
 impl<N> StartFault<'_, N> {
-    /// The fault's number.
+    /// The fault's number. (This project.)
     pub fn number(&self) -> u8
         ensures { result ≡ 1 }
     {
@@ -73,7 +73,7 @@ pub enum DeviceFault {
 }
 
 impl DeviceFault {
-    /// The fault's number, which replies carry.
+    /// The fault's number, which replies carry. (This project.)
     pub fn number(&self) -> u8
         ensures { result ≡ number_of self.now }
     {
