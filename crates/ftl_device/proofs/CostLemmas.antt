@@ -1,5 +1,5 @@
 -- What a call that is done programs, which sectors it leaves cached, and what the first checks answer.
-use Rattle.std.proofs.Common.{◌≡◌, ℕ, ◌+◌, ◌-◌, ◌<◌, ◌∙◌, true, false, Bool, eqb, List, [], ◌∷◌, map, take, Option, Some, None, IsSome, Result, Ok, Err, OnOk, refl, sym, ap, subst, arith}
+use Rattle.std.proofs.Common.{◌≡◌, ℕ, ◌+◌, ◌-◌, ◌<◌, ◌∙◌, true, false, Bool, eqb, List, [], ◌∷◌, take, Option, Some, None, IsSome, Result, Ok, Err, OnOk, refl, sym, ap, subst, arith}
 use Rattle.std.specs.Option.{option_map, option_map_or}
 use Rattle.std.specs.Map.{keys_of, lookup_entry, remove_entry}
 use Rattle.std.proofs.lemmas.Bool.{cond-true, cond-false}
@@ -16,15 +16,13 @@ use Rattle.mapping_cache.specs.Mapping.{MappingState, CanLoad, slot_of, used, lo
 use Rattle.mapping_cache.proofs.Entries.{by_test}
 use Rattle.collection.specs.declared.engine.Engine.{Engine}
 use Rattle.collection.specs.declared.fault.WriteFault.{WriteFault}
-use Rattle.collection.specs.declared.fault.WriteFault.TheVariants as engine_fault
 use Rattle.collection.specs.State.{Ram}
 use Rattle.collection.specs.Safe.{ram}
 use Rattle.collection.specs.Cost.{HasPut, WriteBackCosts}
 use Rattle.ftl_device.specs.declared.fault.CallFault.{CallFault}
-use Rattle.ftl_device.specs.declared.fault.CallFault.TheVariants as call
 use Rattle.ftl_device.specs.declared.fault.DeviceFault.{DeviceFault}
 use Rattle.ftl_device.specs.declared.fault.DeviceFault.TheVariants.{OutOfRange, ReadOnly, SequenceSpent, OutOfMemory, Damaged, BusFault}
-use Rattle.ftl_device.specs.Calls.{stop_of, MayNot, answer_of, HasMadePlace, HasPutBoth, HasCost, order_after}
+use Rattle.ftl_device.specs.Calls.{stop_of, MayNot, answer_of, HasMadePlace, HasCost, order_after}
 use Rattle.ftl_device.proofs.ReadyLemmas.{same_slots}
 use Rattle.ftl_device.proofs.CallLemmas.{done_too}
 

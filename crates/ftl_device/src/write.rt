@@ -1,5 +1,5 @@
 //! Sectors are written and trimmed.
-ghost use Rattle.std.specs.Prelude.{◌≡◌, ◌≢◌, ◌↔◌, ◌+◌, ◌-◌, ◌<◌, ◌≤◌, ◌^◌, true, false, length, Ok, Err, Some, None, IsOk, IfErr, IsSome, OnOk, MatchOption};
+ghost use Rattle.std.specs.Prelude.{◌≡◌, ◌≢◌, ◌↔◌, ◌+◌, ◌-◌, ◌<◌, ◌≤◌, ◌^◌, true, false, length, [], Ok, Err, Some, None, IsOk, IfErr, IsSome, OnOk, MatchOption};
 ghost use Rattle.std.specs.Option.{ForSome};
 ghost use Rattle.std.specs.Map.{keys_of};
 ghost use Rattle.page_layout.specs.Counter.{HasRisen};
@@ -151,8 +151,11 @@ impl<N: Nand> Device<N> {
         ensures rose { stop_of self.old.engine.fault ≡ None → result ≡ Err DeviceFault.BusFault →
             HasRisen (N.failed self.old.engine.nand) (N.failed self.new.engine.nand) }
         ensures cached { IsSome (slot_of self.old.engine.mapping sector) → result ≢ Err DeviceFault.OutOfMemory }
+
+        // What it programs, and which sectors it leaves cached, whatever the die does.
         ensures recent { OnOk result (IsMostRecent sector self.new.engine.mapping) }
         ensures keys { OnOk result (keys_of self.new.engine.mapping.cached ≡ order_after self.old.engine.mapping sector) }
+        ensures unmoved { self.old.engine.mapping.moved ≡ [] → self.new.engine.mapping.moved ≡ [] }
         ensures cost { OnOk result (HasCost sector (ram self.old.engine) (ram self.new.engine)) }
         ensures unwritten { result ≡ Err DeviceFault.OutOfMemory → HasMadePlace sector (ram self.old.engine) (ram self.new.engine) }
         ensures same_keys { result ≡ Err DeviceFault.OutOfMemory →
@@ -209,8 +212,11 @@ impl<N: Nand> Device<N> {
         ensures rose { stop_of self.old.engine.fault ≡ None → result ≡ Err DeviceFault.BusFault →
             HasRisen (N.failed self.old.engine.nand) (N.failed self.new.engine.nand) }
         ensures cached { IsSome (slot_of self.old.engine.mapping sector) → result ≢ Err DeviceFault.OutOfMemory }
+
+        // What it programs, and which sectors it leaves cached, whatever the die does.
         ensures recent { OnOk result (IsMostRecent sector self.new.engine.mapping) }
         ensures keys { OnOk result (keys_of self.new.engine.mapping.cached ≡ order_after self.old.engine.mapping sector) }
+        ensures unmoved { self.old.engine.mapping.moved ≡ [] → self.new.engine.mapping.moved ≡ [] }
         ensures cost { OnOk result (HasCost sector (ram self.old.engine) (ram self.new.engine)) }
         ensures unwritten { result ≡ Err DeviceFault.OutOfMemory → HasMadePlace sector (ram self.old.engine) (ram self.new.engine) }
         ensures same_keys { result ≡ Err DeviceFault.OutOfMemory →
