@@ -67,7 +67,7 @@ pub enum DeviceFault {
     /// A page that was read isn't sound, or not of its key, or names a row that the die doesn't have.
     #[error("Damaged")]
     Damaged,
-    /// The die answered no outcome. What it holds is then not known.
+    /// The die gave no page or no outcome. What it holds is then not known.
     #[error("BusFault")]
     BusFault,
 }

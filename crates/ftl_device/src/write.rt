@@ -88,6 +88,7 @@ impl<N: Nand> Device<N> {
             Err(CallFault::Engine(WriteFault::Bus)) => Err(DeviceFault::BusFault),
         }
     }
+
     /// Writes a sector: `body` is one data area. Done, the sector holds these bytes and all others
     /// hold what they held. One page of the sector is programmed, and before it one translation page,
     /// that of the least recently used sector, just where the sector isn't cached, the cache is full
