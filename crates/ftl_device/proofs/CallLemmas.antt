@@ -56,7 +56,7 @@ pub mountable_kept : {N : Type 0} (flash : N → Flash) (old new : Engine N) →
 mountable_kept flash old new same safe truth most = subst (λ (s : Flash). IsMountable old.geometry (old.mapping.capacity + old.geometry.pages) s.image) (sym same) (restart_law (ram old) (image_in flash old) safe truth most)
 
 -- what is so of a call that was done is so of the answer
-done_too : (P : Type 0) (answer : Result (Unit {0}) CallFault) (good : ℕ) (q : Ram) → OnOk answer P → OnOk (answer_of q good answer) P
+pub done_too : (P : Type 0) (answer : Result (Unit {0}) CallFault) (good : ℕ) (q : Ram) → OnOk answer P → OnOk (answer_of q good answer) P
 done_too P (Ok done) good q h = h
 done_too P (Err (call.Engine engine_fault.ReadOnly)) good q h = tt
 done_too P (Err (call.Engine engine_fault.SequenceSpent)) good q h = tt

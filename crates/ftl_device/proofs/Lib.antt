@@ -6,6 +6,7 @@ pub mod ReadLemmas
 pub mod StartLemmas
 pub mod ReadyLemmas
 pub mod CallLemmas
+pub mod CostLemmas
 pub mod MountableLemmas
 pub mod AccountLemmas
 pub mod CountLemmas

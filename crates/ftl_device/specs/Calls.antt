@@ -9,7 +9,8 @@ use Rattle.page_layout.specs.Array.{array_of}
 use Rattle.page_layout.specs.Flash.{Flash}
 use Rattle.bad_blocks.specs.Table.{good_count}
 use Rattle.allocation.specs.State.{free_count}
-use Rattle.mapping_cache.specs.Mapping.{MappingState, slot_of}
+use Rattle.budget.specs.declared.stream.Stream.TheVariants.{Data, Meta}
+use Rattle.mapping_cache.specs.Mapping.{MappingState, CanLoad, slot_of, loaded}
 use Rattle.image_check.specs.Stale.{is_stale}
 use Rattle.image_check.specs.Mountable.{IsMountable}
 use Rattle.promises.specs.Step as step
@@ -20,6 +21,7 @@ use Rattle.collection.specs.State.{Ram}
 use Rattle.collection.specs.Safe.{IsRam, ram, image_in}
 use Rattle.collection.specs.Pages.{newest_row}
 use Rattle.collection.specs.Truth.{IsTrue}
+use Rattle.collection.specs.Cost.{HasPut}
 use Rattle.collection.specs.Results.{IsSame}
 use Rattle.ftl_device.specs.declared.device.Device.{Device}
 use Rattle.ftl_device.specs.declared.fault.CallFault.{CallFault}
@@ -101,6 +103,30 @@ Says old new OutOfMemory = Unit {0}
 Says old new Damaged = stop_of new.fault ≡ Some Damaged
 Says old new BusFault = stop_of new.fault ≡ Some BusFault
 
+-- ---- what a call that is done programs, and which sectors it leaves cached
+
+-- a place for a sector's entry: nothing is programmed where no dirty entry has to leave for it, and else one translation page
+pub record HasMadePlace (n : ℕ) (old new : Ram) : Type 0 where
+  pub geometry : new.geometry ≡ old.geometry
+  pub free : CanLoad old.mapping n → (new.blocks ≡ old.blocks) × (new.next ≡ old.next)
+  pub taken : (CanLoad old.mapping n → ⊥) → HasPut Meta old new
+
+-- one translation page is programmed, and then one page of a sector
+pub record HasPutBoth (old new : Ram) : Type 0 where
+  pub mid : Ram
+  pub geometry : mid.geometry ≡ old.geometry
+  pub meta : HasPut Meta old mid
+  pub page : HasPut Data mid new
+
+-- WHAT A CALL COSTS: one page of the sector, and before it one translation page, just where a dirty entry has to leave for the sector's
+pub record HasCost (n : ℕ) (old new : Ram) : Type 0 where
+  pub free : CanLoad old.mapping n → HasPut Data old new
+  pub taken : (CanLoad old.mapping n → ⊥) → HasPutBoth old new
+
+-- plain LRU: the cached sectors after sector n was used, the most recently used first
+abbrev pub order_after : MappingState → ℕ → List ℕ
+order_after m n = keys_of (loaded m n None).cached
+
 -- ---- inside a call that changes a sector
 
 -- what the engine's memory tells of each answer
@@ -156,6 +182,7 @@ pub record MayChange (r : Ram) (ro : Bool) (n : ℕ) : Type 0 where
   pub going : r.fault ≡ None
   pub within : n < r.geometry.sectors
   pub writable : ro ≡ false
+  pub sequence : r.next < 2 ^ 64 - 1
 
 -- it may not since there is no such sector
 pub record IsBeyond (r : Ram) (n : ℕ) : Type 0 where

@@ -17,7 +17,9 @@ use image_check::Accepted;
 use onfi_cycles::Nand;
 use std::alloc::Global;
 
-/// Sectors over a die: they are read and written, whatever fails on the die.
+/// Sectors over a die: they are read and written, also where programs of the die fail. Once the die
+/// gave no page or no outcome, or a call that changes a sector found a page damaged, the device is
+/// stopped: every later call is refused by that fault.
 ///
 /// Source: the DFTL paper, for the mapping; the rest is this project's.
 #[derive(Drop)]
@@ -77,14 +79,14 @@ impl<N: Nand> Device<N> {
         }
     }
 
-    /// Whether it refuses to change a sector, until it is started anew.
+    /// Whether it refuses to change a sector, until it is started anew. (This project.)
     pub fn read_only(&self) -> bool
         ensures { result ≡ self.now.read_only }
     {
         self.read_only
     }
 
-    /// The die, given up by the device.
+    /// The die, given up by the device. (This project.)
     pub fn into_nand(self) -> N
         ensures { result ≡ self.engine.nand }
     {

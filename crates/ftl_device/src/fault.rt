@@ -22,7 +22,7 @@ pub enum StartFault<'a, N> {
 }
 
 impl<N> StartFault<'_, N> {
-    /// The fault's number.
+    /// The fault's number. (This project.)
     pub fn number(&self) -> u8
         ensures { result ≡ 1 }
     {
@@ -67,13 +67,13 @@ pub enum DeviceFault {
     /// A page that was read isn't sound, or not of its key, or names a row that the die doesn't have.
     #[error("Damaged")]
     Damaged,
-    /// The die answered no outcome. What it holds is then not known.
+    /// The die gave no page or no outcome. What it holds is then not known.
     #[error("BusFault")]
     BusFault,
 }
 
 impl DeviceFault {
-    /// The fault's number, which replies carry.
+    /// The fault's number, which replies carry. (This project.)
     pub fn number(&self) -> u8
         ensures { result ≡ number_of self.now }
     {

@@ -3,7 +3,7 @@ ghost use Rattle.ftl_device.specs.Calls.{StaleLaw, RestartLaw};
 ghost use Rattle.ftl_device.specs.Counts.{FreeNowLaw, GoodNowLaw, BadNowLaw, ShortLaw};
 
 /// An accepted certificate gives a memory that agrees with the image, the good and the free blocks
-/// that the image shows, and the accounts with which a log begins.
+/// that the image shows, and the accounts with which a log begins. (This project.)
 pub fn begin_laws()
     ensures truth { BeginLaw }
     ensures free { FreeLaw }
@@ -12,7 +12,8 @@ pub fn begin_laws()
 {}
 
 /// A sector that is stale in the image is cached, where none is moved, so caching it takes no memory;
-/// and what a device holds between two calls is an image that it may be started from again.
+/// and what a device holds between two calls is an image that it may be started from again. (This
+/// project.)
 pub fn restart_laws()
     ensures stale { StaleLaw }
     ensures restart { RestartLaw }
@@ -20,7 +21,7 @@ pub fn restart_laws()
 
 /// At every call: the good and the free blocks of a memory that agrees with the image are those that
 /// the image shows, a log leaves bad those that were bad and those that failed in it, and a shortage
-/// by the memory is one by the image and the log.
+/// by the memory is one by the image and the log. (This project.)
 pub fn count_laws()
     ensures free { FreeNowLaw }
     ensures good { GoodNowLaw }

@@ -14,7 +14,7 @@ ghost use Rattle.collection.specs.Log.{Went};
 ghost use Rattle.collection.specs.Settle.{HasNoMore};
 ghost use Rattle.collection.specs.Looks.{IsReadFault};
 ghost use Rattle.collection.specs.Results.{IsSame, Refused, fault_after};
-ghost use Rattle.ftl_device.specs.Calls.{Tells, IsFound, CallTells, standing_after, KeepsArray, HoldsSector, CallRefused, IsMostRecent};
+ghost use Rattle.ftl_device.specs.Calls.{Tells, IsFound, CallTells, standing_after, KeepsArray, HoldsSector, CallRefused, IsMostRecent, HasMadePlace, HasCost, order_after};
 
 use crate::fault::CallFault;
 use collection::{Engine, WriteFault};
@@ -34,6 +34,7 @@ fn make_place<N: Nand>(engine: &mut Engine<N>, sector: u32) -> Result<(), WriteF
     ensures place { OnOk result (CanLoad engine.new.mapping sector) }
     ensures keys { keys_of engine.new.mapping.cached ≡ keys_of engine.old.mapping.cached }
     ensures no_more { HasNoMore engine.old.mapping engine.new.mapping }
+    ensures cost { OnOk result (HasMadePlace sector (ram engine.old) (ram engine.new)) }
     ensures tells { Tells (ram engine.old) (ram engine.new) result }
     ensures went { N.honest engine.old.nand ≡ true → result ≢ Err WriteFault.Bus →
         Went (ram engine.old) (N.flash engine.old.nand) (ram engine.new) (N.flash engine.new.nand) }
@@ -95,6 +96,7 @@ fn prepare<N: Nand>(engine: &mut Engine<N>, sector: u32) -> Result<Option<u32>, 
     ensures row { IfOk result (λ row. ForSome row (λ r. r < row_count engine.old.geometry)) }
     ensures keys { keys_of engine.new.mapping.cached ≡ keys_of engine.old.mapping.cached }
     ensures no_more { HasNoMore engine.old.mapping engine.new.mapping }
+    ensures cost { OnOk result (HasMadePlace sector (ram engine.old) (ram engine.new)) }
     ensures tells { Tells (ram engine.old) (ram engine.new) result }
     ensures went { N.honest engine.old.nand ≡ true → result ≢ Err WriteFault.Bus →
         Went (ram engine.old) (N.flash engine.old.nand) (ram engine.new) (N.flash engine.new.nand) }
@@ -121,6 +123,10 @@ fn make_ready<N: Nand>(engine: &mut Engine<N>, sector: u32) -> Result<(), CallFa
     ensures rose { result ≡ Err (CallFault.Engine WriteFault.Bus) → HasRisen (N.failed engine.old.nand) (N.failed engine.new.nand) }
     ensures holds { OnOk result (IsSome (slot_of engine.new.mapping sector)) }
     ensures recent { OnOk result (IsMostRecent sector engine.new.mapping) }
+    ensures keys { OnOk result (keys_of engine.new.mapping.cached ≡ order_after engine.old.mapping sector) }
+    ensures cost { OnOk result (HasMadePlace sector (ram engine.old) (ram engine.new)) }
+    ensures unwritten { result ≡ Err CallFault.OutOfMemory → HasMadePlace sector (ram engine.old) (ram engine.new) }
+    ensures same_keys { result ≡ Err CallFault.OutOfMemory → keys_of engine.new.mapping.cached ≡ keys_of engine.old.mapping.cached }
     ensures cached { IsSome (slot_of engine.old.mapping sector) → result ≢ Err CallFault.OutOfMemory }
     ensures limits { HasLimitsOf engine.old.mapping engine.new.mapping }
     ensures unmoved { engine.old.mapping.moved ≡ [] → engine.new.mapping.moved ≡ [] }
@@ -154,6 +160,10 @@ pub(crate) fn write_ready<N: Nand>(
     ensures failed { N.failed engine.old.nand ≤ N.failed engine.new.nand }
     ensures rose { result ≡ Err (CallFault.Engine WriteFault.Bus) → HasRisen (N.failed engine.old.nand) (N.failed engine.new.nand) }
     ensures recent { OnOk result (IsMostRecent sector engine.new.mapping) }
+    ensures keys { OnOk result (keys_of engine.new.mapping.cached ≡ order_after engine.old.mapping sector) }
+    ensures cost { OnOk result (HasCost sector (ram engine.old) (ram engine.new)) }
+    ensures unwritten { result ≡ Err CallFault.OutOfMemory → HasMadePlace sector (ram engine.old) (ram engine.new) }
+    ensures same_keys { result ≡ Err CallFault.OutOfMemory → keys_of engine.new.mapping.cached ≡ keys_of engine.old.mapping.cached }
     ensures cached { IsSome (slot_of engine.old.mapping sector) → result ≢ Err CallFault.OutOfMemory }
     ensures limits { HasLimitsOf engine.old.mapping engine.new.mapping }
     ensures unmoved { engine.old.mapping.moved ≡ [] → engine.new.mapping.moved ≡ [] }
@@ -182,6 +192,10 @@ pub(crate) fn trim_ready<N: Nand>(engine: &mut Engine<N>, sector: u32) -> Result
     ensures failed { N.failed engine.old.nand ≤ N.failed engine.new.nand }
     ensures rose { result ≡ Err (CallFault.Engine WriteFault.Bus) → HasRisen (N.failed engine.old.nand) (N.failed engine.new.nand) }
     ensures recent { OnOk result (IsMostRecent sector engine.new.mapping) }
+    ensures keys { OnOk result (keys_of engine.new.mapping.cached ≡ order_after engine.old.mapping sector) }
+    ensures cost { OnOk result (HasCost sector (ram engine.old) (ram engine.new)) }
+    ensures unwritten { result ≡ Err CallFault.OutOfMemory → HasMadePlace sector (ram engine.old) (ram engine.new) }
+    ensures same_keys { result ≡ Err CallFault.OutOfMemory → keys_of engine.new.mapping.cached ≡ keys_of engine.old.mapping.cached }
     ensures cached { IsSome (slot_of engine.old.mapping sector) → result ≢ Err CallFault.OutOfMemory }
     ensures limits { HasLimitsOf engine.old.mapping engine.new.mapping }
     ensures unmoved { engine.old.mapping.moved ≡ [] → engine.new.mapping.moved ≡ [] }

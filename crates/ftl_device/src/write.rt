@@ -1,6 +1,7 @@
 //! Sectors are written and trimmed.
-ghost use Rattle.std.specs.Prelude.{◌≡◌, ◌≢◌, ◌↔◌, ◌+◌, ◌-◌, ◌<◌, ◌≤◌, ◌^◌, true, length, Ok, Err, Some, None, IsOk, IfErr, IsSome, OnOk, MatchOption};
+ghost use Rattle.std.specs.Prelude.{◌≡◌, ◌≢◌, ◌↔◌, ◌+◌, ◌-◌, ◌<◌, ◌≤◌, ◌^◌, true, false, length, [], Ok, Err, Some, None, IsOk, IfErr, IsSome, OnOk, MatchOption};
 ghost use Rattle.std.specs.Option.{ForSome};
+ghost use Rattle.std.specs.Map.{keys_of};
 ghost use Rattle.page_layout.specs.Counter.{HasRisen};
 ghost use Rattle.page_layout.specs.Geometry.{need};
 ghost use Rattle.bad_blocks.specs.Table.{good_count};
@@ -12,7 +13,7 @@ ghost use Rattle.image_check.specs.Mountable.{IsMountable};
 ghost use Rattle.collection.specs.Safe.{IsSafe, ram, image_in};
 ghost use Rattle.collection.specs.Log.{Went};
 ghost use Rattle.ftl_device.specs.Device.{IsDevice};
-ghost use Rattle.ftl_device.specs.Calls.{state_in, reply_of, stop_of, IsWell, Says, CallTells, standing_after, MayChange, MayNot, answer_of, IsMostRecent};
+ghost use Rattle.ftl_device.specs.Calls.{state_in, reply_of, stop_of, IsWell, Says, CallTells, standing_after, MayChange, MayNot, answer_of, IsMostRecent, HasMadePlace, HasCost, order_after};
 ghost use Rattle.ftl_device.specs.Counts.{is_bad_by, IsShown};
 
 use crate::device::Device;
@@ -87,31 +88,46 @@ impl<N: Nand> Device<N> {
             Err(CallFault::Engine(WriteFault::Bus)) => Err(DeviceFault::BusFault),
         }
     }
+
     /// Writes a sector: `body` is one data area. Done, the sector holds these bytes and all others
-    /// hold what they held. A page of the sector is programmed, and before it the translation page of
-    /// the least recently used sector where the cache is full and that one is dirty; a page whose
-    /// program fails is programmed again in another block, and the failed block is grown bad.
+    /// hold what they held. One page of the sector is programmed, and before it one translation page,
+    /// that of the least recently used sector, just where the sector isn't cached, the cache is full
+    /// and that one is dirty; a page whose program fails is programmed again in another block, and the
+    /// failed block is grown bad. The sector is then the most recently used; where the cache was full
+    /// without it, the least recently used one is no longer cached.
     ///
     /// A call that ends with fewer than five free blocks leaves the device read-only, whatever it
     /// answered.
     ///
     /// # Errors
     ///
-    /// The first of these that holds:
+    /// As the call begins, the first of these that holds; nothing has changed then:
     ///
-    /// - `Damaged`, `BusFault` where it was answered before: nothing changes, and the die isn't asked.
-    /// - `OutOfRange` where there is no such sector. Nothing has changed.
-    /// - `ReadOnly` where the device is read-only, or no block is left for a page; the array is as it
-    ///   was, and the device is read-only until it is started anew. `good` counts the good blocks as
-    ///   the call ends, `need` is the geometry's, and `failed` counts the blocks that failed in the call.
-    /// - `SequenceSpent` where the next sequence is 2^64 - 1, as the call begins or later in it. The
-    ///   array is as it was.
-    /// - `OutOfMemory` where a growth was refused, which never is where the sector is cached or is
-    ///   stale in the image. Nothing of the sector was programmed, and the array is as it was.
-    /// - `Damaged` where a translation page isn't sound or not of its key, or names a row that the die
+    /// - `Damaged`, `BusFault` where it was answered before. The die isn't asked.
+    /// - `OutOfRange` where there is no such sector.
+    /// - `ReadOnly` where the device is read-only.
+    /// - `SequenceSpent` where the next sequence is 2^64 - 1.
+    ///
+    /// Then each as it comes:
+    ///
+    /// - while a translation page is written back: `Damaged` or `BusFault` as it is read,
+    ///   `SequenceSpent`, `ReadOnly` or `BusFault` as it is programmed.
+    /// - while the row that the sector has so far is looked up: `Damaged` or `BusFault`.
+    /// - `OutOfMemory` where a growth was refused as the sector was to be cached, which never is where
+    ///   it is cached or is stale in the image. Nothing of the sector was programmed.
+    /// - while its page is programmed: `SequenceSpent`, `ReadOnly` or `BusFault`.
+    ///
+    /// What they mean, and what they leave:
+    ///
+    /// - `ReadOnly`: the device is read-only until it is started anew, or no block is left for a page,
+    ///   after which it is so. The array is as it was. `good` counts the good blocks as the call ends,
+    ///   `need` is the geometry's, and `failed` counts the blocks that failed in the call.
+    /// - `SequenceSpent`: the next page would have no sequence. The array is as it was.
+    /// - `OutOfMemory`: the array is as it was, and so is the order of the cached sectors.
+    /// - `Damaged`: a translation page isn't sound or not of its key, or names a row that the die
     ///   doesn't have, which never comes of an honest die. The device is stopped.
-    /// - `BusFault` where the die answered no page or no outcome, and its count of failures has risen
-    ///   or stands at 2^64 - 1. The device is stopped, and what the die holds isn't known.
+    /// - `BusFault`: the die answered no page or no outcome, and its count of failures has risen or
+    ///   stands at 2^64 - 1. The device is stopped, and what the die holds isn't known.
     ///
     /// Source: the DFTL paper, for the eviction; the rest is this project's.
     pub fn write(&mut self, sector: u32, body: &[u8]) -> Result<(), DeviceFault>
@@ -128,11 +144,23 @@ impl<N: Nand> Device<N> {
         ensures past { stop_of self.old.engine.fault ≡ None → (result ≡ Err DeviceFault.OutOfRange) ↔ (self.old.engine.geometry.sectors ≤ sector) }
         ensures untouched { result ≡ Err DeviceFault.OutOfRange → self.new ≡ self.old }
         ensures closed { self.old.read_only ≡ true → self.new ≡ self.old }
+        ensures read_only { stop_of self.old.engine.fault ≡ None → sector < self.old.engine.geometry.sectors → self.old.read_only ≡ true →
+            result ≡ Err (DeviceFault.ReadOnly (good_count (ram self.old.engine).blocks.table) (need self.old.engine.geometry) 0) }
+        ensures spent { stop_of self.old.engine.fault ≡ None → sector < self.old.engine.geometry.sectors → self.old.read_only ≡ false →
+            self.old.engine.next ≡ 2 ^ 64 - 1 → (result ≡ Err DeviceFault.SequenceSpent) × (self.new ≡ self.old) }
         ensures says { IfErr result (Says (ram self.old.engine) (ram self.new.engine)) }
         ensures rose { stop_of self.old.engine.fault ≡ None → result ≡ Err DeviceFault.BusFault →
             HasRisen (N.failed self.old.engine.nand) (N.failed self.new.engine.nand) }
         ensures cached { IsSome (slot_of self.old.engine.mapping sector) → result ≢ Err DeviceFault.OutOfMemory }
+
+        // What it programs, and which sectors it leaves cached, whatever the die does.
         ensures recent { OnOk result (IsMostRecent sector self.new.engine.mapping) }
+        ensures keys { OnOk result (keys_of self.new.engine.mapping.cached ≡ order_after self.old.engine.mapping sector) }
+        ensures unmoved { self.old.engine.mapping.moved ≡ [] → self.new.engine.mapping.moved ≡ [] }
+        ensures cost { OnOk result (HasCost sector (ram self.old.engine) (ram self.new.engine)) }
+        ensures unwritten { result ≡ Err DeviceFault.OutOfMemory → HasMadePlace sector (ram self.old.engine) (ram self.new.engine) }
+        ensures same_keys { result ≡ Err DeviceFault.OutOfMemory →
+            keys_of self.new.engine.mapping.cached ≡ keys_of self.old.engine.mapping.cached }
 
         // What is true of an honest die.
         ensures went { N.honest self.old.engine.nand ≡ true → result ≢ Err DeviceFault.BusFault →
@@ -177,11 +205,23 @@ impl<N: Nand> Device<N> {
         ensures past { stop_of self.old.engine.fault ≡ None → (result ≡ Err DeviceFault.OutOfRange) ↔ (self.old.engine.geometry.sectors ≤ sector) }
         ensures untouched { result ≡ Err DeviceFault.OutOfRange → self.new ≡ self.old }
         ensures closed { self.old.read_only ≡ true → self.new ≡ self.old }
+        ensures read_only { stop_of self.old.engine.fault ≡ None → sector < self.old.engine.geometry.sectors → self.old.read_only ≡ true →
+            result ≡ Err (DeviceFault.ReadOnly (good_count (ram self.old.engine).blocks.table) (need self.old.engine.geometry) 0) }
+        ensures spent { stop_of self.old.engine.fault ≡ None → sector < self.old.engine.geometry.sectors → self.old.read_only ≡ false →
+            self.old.engine.next ≡ 2 ^ 64 - 1 → (result ≡ Err DeviceFault.SequenceSpent) × (self.new ≡ self.old) }
         ensures says { IfErr result (Says (ram self.old.engine) (ram self.new.engine)) }
         ensures rose { stop_of self.old.engine.fault ≡ None → result ≡ Err DeviceFault.BusFault →
             HasRisen (N.failed self.old.engine.nand) (N.failed self.new.engine.nand) }
         ensures cached { IsSome (slot_of self.old.engine.mapping sector) → result ≢ Err DeviceFault.OutOfMemory }
+
+        // What it programs, and which sectors it leaves cached, whatever the die does.
         ensures recent { OnOk result (IsMostRecent sector self.new.engine.mapping) }
+        ensures keys { OnOk result (keys_of self.new.engine.mapping.cached ≡ order_after self.old.engine.mapping sector) }
+        ensures unmoved { self.old.engine.mapping.moved ≡ [] → self.new.engine.mapping.moved ≡ [] }
+        ensures cost { OnOk result (HasCost sector (ram self.old.engine) (ram self.new.engine)) }
+        ensures unwritten { result ≡ Err DeviceFault.OutOfMemory → HasMadePlace sector (ram self.old.engine) (ram self.new.engine) }
+        ensures same_keys { result ≡ Err DeviceFault.OutOfMemory →
+            keys_of self.new.engine.mapping.cached ≡ keys_of self.old.engine.mapping.cached }
 
         // What is true of an honest die.
         ensures went { N.honest self.old.engine.nand ≡ true → result ≢ Err DeviceFault.BusFault →

@@ -1,6 +1,7 @@
 use Rattle.std.proofs.Common.{◌∙◌, sym}
 use Rattle.collection.specs.Safe.{ram}
 use Rattle.ftl_device.proofs.ReadyLemmas.{least_page, place_made}
+use Rattle.ftl_device.proofs.CostLemmas.{place_there, place_taken}
 use Rattle.ftl_device.proofs.ready.make_place.Goals as goal
 
 pub write_back-requires-clause-page : goal.write_back-requires-clause-page
@@ -8,3 +9,9 @@ write_back-requires-clause-page g c = least_page (ram c.args.engine.now) c.in-So
 
 pub returns-in-Some-clause-place : goal.returns-in-Some-clause-place
 returns-in-Some-clause-place g c = place_made c.write_back.result (ram c.args.engine.now) (ram c.write_back.new.self) c.args.sector c.in-Some.least c.entries.result _ c.requires.safe.memory c.write_back.ensures.safe.memory (sym c.least_recent.ensures ∙ c.in-Some.is) c.entries.ensures c.write_back.ensures.keys c.write_back.ensures.cleans
+
+pub returns-then-can_load-clause-cost : goal.returns-then-can_load-clause-cost
+returns-then-can_load-clause-cost g c = place_there c.args.sector (ram c.args.engine.now) (c.can_load.ensures.0 c.if-can_load.true)
+
+pub returns-in-Some-clause-cost : goal.returns-in-Some-clause-cost
+returns-in-Some-clause-cost g c = place_taken c.write_back.result c.args.sector (ram c.args.engine.now) (ram c.write_back.new.self) (λ can. let no : ⊥ = cc (c.can_load.ensures.1 can) in no) c.write_back.ensures.goes.geometry (c.write_back.ensures.cost c.requires.going)

@@ -1,7 +1,9 @@
 use Rattle.std.proofs.Common.{◌∙◌}
 use Rattle.std.proofs.lemmas.Result.{err_from_is_err_and}
+use Rattle.collection.specs.Safe.{ram}
 use Rattle.collection.proofs.Logs.{went_then}
 use Rattle.ftl_device.proofs.ReadyLemmas.{ok_not_bus, engine_not_bus, recent_kept}
+use Rattle.ftl_device.proofs.CostLemmas.{cost_of}
 use Rattle.ftl_device.proofs.ready.write_ready.Goals as goal
 
 pub returns-in_err-write_sector-clause-went : goal.returns-in_err-write_sector-clause-went
@@ -14,3 +16,6 @@ returns-clause-went g c = λ honest ne. went_then _ _ _ _ _ _ c.make_ready.ensur
 
 pub returns-clause-recent : goal.returns-clause-recent
 returns-clause-recent g c = recent_kept c.args.sector c.make_ready.new.engine.mapping c.write_sector.new.self.mapping c.in_ok-write_sector.ensures.keys c.in_ok-make_ready.ensures.recent
+
+pub returns-clause-cost : goal.returns-clause-cost
+returns-clause-cost g c = cost_of c.args.sector (ram c.args.engine.now) (ram c.make_ready.new.engine) (ram c.write_sector.new.self) c.in_ok-make_ready.ensures.cost (c.in_ok-write_sector.ensures.cost c.in_ok-make_ready.ensures.fault)

@@ -1,8 +1,12 @@
+use Rattle.std.proofs.Common.{◌≡◌, ◌∙◌, Err, refl, sym, ap, subst}
+use Rattle.std.specs.Map.{keys_of}
 use Rattle.std.proofs.lemmas.Result.{err_from_is_err_and}
 use Rattle.collection.specs.Safe.{ram}
 use Rattle.ftl_device.proofs.CallLemmas.{well_ram, well_device, memory_only, mountable_after, recent_after}
 use Rattle.ftl_device.proofs.MountableLemmas.{stale_law, restart_law}
 use Rattle.ftl_device.proofs.ShownLemmas.{shown_refused, shown_after}
+use Rattle.ftl_device.specs.Calls.{HasMadePlace, HasCost, order_after}
+use Rattle.ftl_device.proofs.CostLemmas.{done_after, closed_is, spent_is, never_memory}
 use Rattle.ftl_device.proofs.device.Device.trim.Goals as goal
 
 pub returns-clause-well : goal.returns-clause-well
@@ -30,3 +34,30 @@ returns-in_err-may_change-clause-shown g c = λ honest w ne log.
 
 pub returns-clause-recent : goal.returns-clause-recent
 returns-clause-recent g c = recent_after c.trim_ready-answer.new.engine c.finish.new.self.engine c.args.sector c.trim_ready-answer.result c.finish.result c.good-good.result c.finish.ensures.engine c.finish.ensures.answer c.trim_ready-answer.ensures.recent
+
+pub returns-clause-keys : goal.returns-clause-keys
+returns-clause-keys g c = done_after (λ e. keys_of e.mapping.cached ≡ order_after c.args.self.now.engine.mapping c.args.sector) c.trim_ready-answer.new.engine c.finish.new.self.engine c.trim_ready-answer.result c.finish.result c.good-good.result c.finish.ensures.engine c.finish.ensures.answer c.trim_ready-answer.ensures.keys
+
+pub returns-clause-cost : goal.returns-clause-cost
+returns-clause-cost g c = done_after (λ e. HasCost c.args.sector (ram c.args.self.now.engine) (ram e)) c.trim_ready-answer.new.engine c.finish.new.self.engine c.trim_ready-answer.result c.finish.result c.good-good.result c.finish.ensures.engine c.finish.ensures.answer c.trim_ready-answer.ensures.cost
+
+pub returns-in_err-may_change-clause-read_only : goal.returns-in_err-may_change-clause-read_only
+returns-in_err-may_change-clause-read_only g c = λ going within shut.
+    let p = err_from_is_err_and c.from_residual.result c.from_residual.ensures.1 in
+    rw (p.1, p.2) (ap Err (closed_is (ram c.args.self.now.engine) c.args.self.now.read_only c.args.sector _ c.in_err-may_change.ensures.may_not going within shut))
+
+pub returns-in_err-may_change-clause-spent : goal.returns-in_err-may_change-clause-spent
+returns-in_err-may_change-clause-spent g c = λ going within writable last.
+    let p = err_from_is_err_and c.from_residual.result c.from_residual.ensures.1 in
+    rw (p.1, p.2) (ap Err (spent_is (ram c.args.self.now.engine) c.args.self.now.read_only c.args.sector _ c.in_err-may_change.ensures.may_not going within writable), refl)
+
+pub returns-clause-unwritten : goal.returns-clause-unwritten
+returns-clause-unwritten g c = λ e. subst (λ x. HasMadePlace c.args.sector (ram c.args.self.now.engine) (ram x)) (sym c.finish.ensures.engine) (c.trim_ready-answer.ensures.unwritten (memory_only c.trim_ready-answer.result c.finish.result c.good-good.result (ram c.finish.new.self.engine) c.finish.ensures.answer e))
+
+pub returns-clause-same_keys : goal.returns-clause-same_keys
+returns-clause-same_keys g c = λ e. ap (λ x. keys_of x.mapping.cached) c.finish.ensures.engine ∙ c.trim_ready-answer.ensures.same_keys (memory_only c.trim_ready-answer.result c.finish.result c.good-good.result (ram c.finish.new.self.engine) c.finish.ensures.answer e)
+
+pub returns-in_err-may_change-clause-unwritten : goal.returns-in_err-may_change-clause-unwritten
+returns-in_err-may_change-clause-unwritten g c =
+    let p = err_from_is_err_and c.from_residual.result c.from_residual.ensures.1 in
+    rw (p.1, p.2) (λ e. absurd (never_memory (ram c.args.self.now.engine) c.args.self.now.read_only c.args.sector _ c.in_err-may_change.ensures.may_not e))
