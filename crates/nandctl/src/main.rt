@@ -1,16 +1,16 @@
 //! `nandctl`: commands on raw images of one NAND die.
 #![tactic(auto)]
 
-ghost use Rattle.std.specs.Prelude.{◌≡◌, ◌≢◌, IfErr, IfOk, OnErr, Result, map, string_bytes};
-ghost use Rattle.std.specs.Io.KnownBytes.{Keeps};
+ghost use Rattle.std.specs.Prelude.{◌≡◌, ◌≢◌, IfErr, IfOk, OnErr, map, string_bytes};
 ghost use Rattle.std.specs.IoError.{error_kind};
 ghost use Rattle.std.specs.Process.{exit_status};
-ghost use Rattle.commands.specs.declared.text.CommandFault.{CommandFault};
-ghost use Rattle.commands.specs.Commands.{Obeys, Reports};
+ghost use Rattle.commands.specs.Commands.{Runs};
 ghost use Rattle.commands.specs.Files.{left, Leaves};
 ghost use Rattle.commands.specs.Text.{IsTold};
 
 mod system;
+#[cfg(test)]
+mod tests;
 
 use commands::{CommandFault, FileStore, run, tell};
 use std::alloc::{AllocError, Global};
@@ -55,7 +55,7 @@ fn run_words<F: FileStore, R: Read, W: Write, E: Write>(
     out: &mut W,
     err: &mut E,
 ) -> u8
-    ensures { (done : Result (Unit {0}) CommandFault) × Obeys (F.gives files.old) (map string_bytes kept.now) (left (F.stores files.old) (W.contents out.old)) (left (F.stores files.new) (W.contents out.new)) done × Reports done (E.contents err.old) (E.contents err.new) result }
+    ensures { Runs (F.gives files.old) (map string_bytes kept.now) (left (F.stores files.old) (W.contents out.old)) (left (F.stores files.new) (W.contents out.new)) (E.contents err.old) (E.contents err.new) result }
 {
     match word_slices(alloc, kept) {
         Ok(words) => run(alloc, words.as_slice(), files, input, out, err),
@@ -72,7 +72,7 @@ fn end<F: FileStore, R: Read, W: Write, E: Write>(
     out: &mut W,
     err: &mut E,
 ) -> ExitCode
-    ensures words { IfOk words.entry (λ kept. (done : Result (Unit {0}) CommandFault) × Obeys (F.gives files.old) (map string_bytes kept.items) (left (F.stores files.old) (W.contents out.old)) (left (F.stores files.new) (W.contents out.new)) done × Reports done (E.contents err.old) (E.contents err.new) (exit_status result)) }
+    ensures words { IfOk words.entry (λ kept. Runs (F.gives files.old) (map string_bytes kept.items) (left (F.stores files.old) (W.contents out.old)) (left (F.stores files.new) (W.contents out.new)) (E.contents err.old) (E.contents err.new) (exit_status result)) }
     ensures none { IfErr words.entry (λ fault. IsTold fault (E.contents err.old) (E.contents err.new) (exit_status result)) }
     ensures left { OnErr words.entry (Leaves (left (F.stores files.old) (W.contents out.old)) (left (F.stores files.new) (W.contents out.new))) }
 {
