@@ -1,7 +1,7 @@
 //! `nandctl`: commands on raw images of one NAND die.
 #![tactic(auto)]
 
-ghost use Rattle.std.specs.Prelude.{◌≡◌, ◌≢◌, IfErr, IfOk, OnErr, map, string_bytes};
+ghost use Rattle.std.specs.Prelude.{◌≡◌, ◌≢◌, IfErr, IfOk, OnErr, OnOk, Err, map, string_bytes};
 ghost use Rattle.std.specs.IoError.{error_kind};
 ghost use Rattle.std.specs.Process.{exit_status};
 ghost use Rattle.commands.specs.Commands.{Runs};
@@ -14,12 +14,12 @@ mod tests;
 
 use commands::{CommandFault, FileStore, run, tell};
 use std::alloc::{AllocError, Global};
-use std::env;
+use std::env::{self, Args};
 use std::io::{Error, ErrorKind, Read, Write};
 use std::process::ExitCode;
 use system::SystemFiles;
 
-// Words that are no text are no command.
+// Why there are no words.
 fn words_fault(error: Error) -> CommandFault<'static>
     ensures memory { error_kind error ≡ ErrorKind.OutOfMemory → result ≡ CommandFault.OutOfMemory }
     ensures other { error_kind error ≢ ErrorKind.OutOfMemory → result ≡ CommandFault.NoSuchCommand }
@@ -31,12 +31,16 @@ fn words_fault(error: Error) -> CommandFault<'static>
     }
 }
 
-// The words of the command line.
-fn words_of(rt: &HostRuntime) -> Result<Vec<String>, CommandFault<'static>> {
-    env::args(rt)
-        .map_err(words_fault)?
-        .collect(rt.alloc())
-        .map_err(|_| CommandFault::OutOfMemory)
+// The words of the command line, as they were found. Words that are no text are no command.
+fn words_in(alloc: Global, found: Result<Args, Error>) -> Result<Vec<String>, CommandFault<'static>>
+    ensures refused { OnOk found (IfErr result (λ fault. fault ≡ CommandFault.OutOfMemory)) }
+    ensures memory { IfErr found (λ error. error_kind error ≡ ErrorKind.OutOfMemory → result ≡ Err CommandFault.OutOfMemory) }
+    ensures other { IfErr found (λ error. error_kind error ≢ ErrorKind.OutOfMemory → result ≡ Err CommandFault.NoSuchCommand) }
+{
+    match found {
+        Ok(args) => args.collect(alloc).map_err(|_| CommandFault::OutOfMemory),
+        Err(error) => Err(words_fault(error)),
+    }
 }
 
 // The words as they are handed on.
@@ -88,7 +92,7 @@ fn main(rt: HostRuntime) -> ExitCode {
     let (mut input, mut out, mut err) = (rt.stdin(), rt.stdout(), rt.stderr());
     end(
         rt.alloc(),
-        words_of(&rt),
+        words_in(rt.alloc(), env::args(&rt)),
         &mut files,
         &mut input,
         &mut out,
