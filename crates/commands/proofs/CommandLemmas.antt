@@ -11,27 +11,27 @@ use Rattle.command_words.specs.declared.words.CertificateWords.{CertificateWords
 use Rattle.commands.specs.Check.{IsCheckFault}
 use Rattle.commands.specs.Mount.{DoesMount}
 use Rattle.commands.specs.Commands.{Does, Obeys}
-use Rattle.commands.specs.Files.{Left, Leaves}
+use Rattle.commands.specs.Files.{Gives, Left, Leaves}
 use Rattle.commands.specs.Inputs.{IsUnread}
 use Rattle.commands.specs.Sector.{DoesSector, IsAsked}
 use Rattle.commands.specs.Show.{DoesShow}
 use Rattle.command_words.specs.Words.{IsOrder}
 
 -- a file that was not read ends the command
-pub unread_does : (gives : List ℕ → List ℕ → Type 0) (words : ImageWords) (g : Geometry) (n : ℕ) (before after : Option (List ℕ)) (fault : CommandFault)
-    → IsAsked words g n → Keeps before after → IsUnread words.image.now fault → DoesSector gives words before after (Err fault)
-unread_does gives words g n before after (fault.Read path) asked keeps unread = (keeps, unread, (g, n, asked))
-unread_does gives words g n before after fault.OutOfMemory asked keeps unread = keeps
+pub unread_does : (gives : Gives) (words : ImageWords) (g : Geometry) (n : ℕ) (before after : Option (List ℕ)) (fault : CommandFault)
+    → IsAsked words g n → Keeps before after → IsUnread gives words.image.now fault → DoesSector gives words before after (Err fault)
+unread_does gives words g n before after (fault.Read path) asked keeps unread = (keeps, unread.0, unread.1, (g, n, asked))
+unread_does gives words g n before after fault.OutOfMemory asked keeps unread = (keeps, inl (g, n, asked, unread))
 unread_does gives words g n before after _ asked keeps unread = absurd unread
 
-pub unread_shows : (gives : List ℕ → List ℕ → Type 0) (words : ImageWords) (g : Geometry) (n : ℕ) (before after : Option (List ℕ)) (fault : CommandFault)
-    → IsAsked words g n → Keeps before after → IsUnread words.image.now fault → DoesShow gives words before after (Err fault)
-unread_shows gives words g n before after (fault.Read path) asked keeps unread = (keeps, unread, (g, n, asked))
-unread_shows gives words g n before after fault.OutOfMemory asked keeps unread = keeps
+pub unread_shows : (gives : Gives) (words : ImageWords) (g : Geometry) (n : ℕ) (before after : Option (List ℕ)) (fault : CommandFault)
+    → IsAsked words g n → Keeps before after → IsUnread gives words.image.now fault → DoesShow gives words before after (Err fault)
+unread_shows gives words g n before after (fault.Read path) asked keeps unread = (keeps, unread.0, unread.1, (g, n, asked))
+unread_shows gives words g n before after fault.OutOfMemory asked keeps unread = (keeps, (g, n, asked, unread))
 unread_shows gives words g n before after _ asked keeps unread = absurd unread
 
 -- words that are an order are never called no command
-check_is_command : (gives : List ℕ → List ℕ → Type 0) (words : CertificateWords) → IsCheckFault gives words fault.NoSuchCommand → ⊥
+check_is_command : (gives : Gives) (words : CertificateWords) → IsCheckFault gives words fault.NoSuchCommand → ⊥
 check_is_command gives words (inl unasked) = unasked
 check_is_command gives words (inr (inl unread)) = unread.3
 check_is_command gives words (inr (inr (inl unread))) = unread.5
@@ -39,7 +39,7 @@ check_is_command gives words (inr (inr (inr (inl broken)))) = broken.5
 check_is_command gives words (inr (inr (inr (inr (inl unheld))))) = unheld.7
 check_is_command gives words (inr (inr (inr (inr (inr unprinted))))) = unprinted.8
 
-mount_is_command : (gives : List ℕ → List ℕ → Type 0) (words : CertificateWords) (before after : Left) → DoesMount gives words before after (Err fault.NoSuchCommand) → ⊥
+mount_is_command : (gives : Gives) (words : CertificateWords) (before after : Left) → DoesMount gives words before after (Err fault.NoSuchCommand) → ⊥
 mount_is_command gives words before after (inl (leaves, inl unasked)) = unasked
 mount_is_command gives words before after (inl (leaves, inr (inl unread))) = unread.3
 mount_is_command gives words before after (inl (leaves, inr (inr unmounted))) = unmounted.5
@@ -47,13 +47,13 @@ mount_is_command gives words before after (inr (inl unstored)) = unstored.5
 mount_is_command gives words before after (inr (inr unprinted)) = unprinted.6
 
 -- for want of memory nothing is left
-mount_leaves : (gives : List ℕ → List ℕ → Type 0) (words : CertificateWords) (before after : Left) → DoesMount gives words before after (Err fault.OutOfMemory) → Leaves before after
+mount_leaves : (gives : Gives) (words : CertificateWords) (before after : Left) → DoesMount gives words before after (Err fault.OutOfMemory) → Leaves before after
 mount_leaves gives words before after (inl unstarted) = unstarted.0
 mount_leaves gives words before after (inr (inl unstored)) = (unstored.5, unstored.6)
 mount_leaves gives words before after (inr (inr unprinted)) = absurd unprinted.6
 
 -- what the order of the words came to, the words came to
-pub order_obeys : (gives : List ℕ → List ℕ → Type 0) (words : List (List ℕ)) (before after : Left) (result : Result (Unit {0}) CommandFault) (asked : Order)
+pub order_obeys : (gives : Gives) (words : List (List ℕ)) (before after : Left) (result : Result (Unit {0}) CommandFault) (asked : Order)
     → IsOrder words asked → Does gives asked before after result → Obeys gives words before after result
 order_obeys gives words before after (Ok done) asked is does = (asked, is, does)
 order_obeys gives words before after (Err fault.NoSuchCommand) (order.Sector w) is does = absurd does.0
@@ -61,9 +61,9 @@ order_obeys gives words before after (Err fault.NoSuchCommand) (order.Show w) is
 order_obeys gives words before after (Err fault.NoSuchCommand) (order.Format w) is does = absurd does
 order_obeys gives words before after (Err fault.NoSuchCommand) (order.Check w) is does = absurd (check_is_command gives w does.0.1)
 order_obeys gives words before after (Err fault.NoSuchCommand) (order.Mount w) is does = absurd (mount_is_command gives w before after does)
-order_obeys gives words before after (Err fault.OutOfMemory) (order.Sector w) is does = (does.1, does.0)
-order_obeys gives words before after (Err fault.OutOfMemory) (order.Show w) is does = (does.1, does.0)
-order_obeys gives words before after (Err fault.OutOfMemory) (order.Format w) is does = does
+order_obeys gives words before after (Err fault.OutOfMemory) (order.Sector w) is does = (does.1, does.0.0)
+order_obeys gives words before after (Err fault.OutOfMemory) (order.Show w) is does = (does.1, does.0.0)
+order_obeys gives words before after (Err fault.OutOfMemory) (order.Format w) is does = does.0
 order_obeys gives words before after (Err fault.OutOfMemory) (order.Check w) is does = (does.1, does.0.0)
 order_obeys gives words before after (Err fault.OutOfMemory) (order.Mount w) is does = mount_leaves gives w before after does
 order_obeys gives words before after (Err _) asked is does = (asked, is, does)

@@ -14,7 +14,7 @@ use Rattle.mount.specs.Formatted.{Formats, IsFormatted}
 use Rattle.commands.specs.declared.text.CommandFault.{CommandFault}
 use Rattle.commands.specs.declared.text.CommandFault.TheVariants as fault
 use Rattle.command_words.specs.declared.words.FileWords.{FileWords}
-use Rattle.commands.specs.Files.{Left, Leaves, IsUnstored}
+use Rattle.commands.specs.Files.{Gives, Left, Leaves, IsUnstored}
 use Rattle.commands.specs.Inputs.{IsUnread}
 use Rattle.commands.specs.Format.{DoesFormat, HasFormatted, HasInput, IsFormattedImage, IsGeometry, IsRefused, IsUnformatted}
 
@@ -51,14 +51,14 @@ unformatted g before refused old new whole loaded formats answered = refused_ima
 -- ---- the command
 
 -- a file that was not read ends it
-pub unread_formats : (gives : List ℕ → List ℕ → Type 0) (words : FileWords) (g : Geometry) (before after : Left) (fault : CommandFault)
-    → IsGeometry words g → Leaves before after → IsUnread words.input.now fault → DoesFormat gives words before after (Err fault)
-unread_formats gives words g before after (fault.Read path) asked leaves unread = (leaves, unread, (g, asked))
-unread_formats gives words g before after fault.OutOfMemory asked leaves unread = leaves
+pub unread_formats : (gives : Gives) (words : FileWords) (g : Geometry) (before after : Left) (fault : CommandFault)
+    → IsGeometry words g → Leaves before after → IsUnread gives words.input.now fault → DoesFormat gives words before after (Err fault)
+unread_formats gives words g before after (fault.Read path) asked leaves unread = (leaves, unread.0, unread.1, (g, asked))
+unread_formats gives words g before after fault.OutOfMemory asked leaves unread = (leaves, inl (g, asked, unread))
 unread_formats gives words g before after _ asked leaves unread = absurd unread
 
 -- so does an image that was not formatted
-pub refused_formats : (gives : List ℕ → List ℕ → Type 0) (words : FileWords) (g : Geometry) (bytes : List ℕ) (before after : Left) (fault : CommandFault)
+pub refused_formats : (gives : Gives) (words : FileWords) (g : Geometry) (bytes : List ℕ) (before after : Left) (fault : CommandFault)
     → HasInput gives words g bytes → Leaves before after → IsUnformatted g bytes fault → DoesFormat gives words before after (Err fault)
 refused_formats gives words g bytes before after fault.WrongLength input leaves un = (leaves, (g, bytes, input, un))
 refused_formats gives words g bytes before after (fault.Die broken) input leaves un = (leaves, (g, bytes, input, un))
@@ -70,7 +70,7 @@ kept_whole : (n : ℕ) (xs ys : List ℕ) → length xs ≡ n → take n (xs ++ 
 kept_whole n xs ys e = ap (λ k. take k (xs ++ drop (length xs) ys)) (sym e) ∙ take-append_seam xs (drop (length xs) ys)
 
 -- the vector's bytes are those of the slice that was formatted
-pub has_formatted : (gives : List ℕ → List ℕ → Type 0) (words : FileWords) (g : Geometry) (loaded before after stored : List ℕ) (good n : ℕ)
+pub has_formatted : (gives : Gives) (words : FileWords) (g : Geometry) (loaded before after stored : List ℕ) (good n : ℕ)
     → HasInput gives words g loaded → before ≡ loaded → stored ≡ take n (after ++ drop (length after) loaded) → length after ≡ n → IsFormattedImage g before after good → HasFormatted gives words stored good
 has_formatted gives words g loaded before after stored good n input same taken whole formatted = let kept = taken ∙ kept_whole n after loaded whole in record {
   geometry = g;
@@ -80,8 +80,8 @@ has_formatted gives words g loaded before after stored good n input same taken w
 }
 
 -- and one that was not stored, before anything was printed
-pub unstored_formats : (gives : List ℕ → List ℕ → Type 0) (words : FileWords) (bytes : List ℕ) (good : ℕ) (before after : Left) (fault : CommandFault)
+pub unstored_formats : (gives : Gives) (words : FileWords) (bytes : List ℕ) (good : ℕ) (before after : Left) (fault : CommandFault)
     → HasFormatted gives words bytes good → Keeps before.out after.out → IsUnstored words.output.now bytes before.stores after.stores fault → DoesFormat gives words before after (Err fault)
 unstored_formats gives words bytes good before after (fault.Write path) has keeps un = (bytes, good, has, inl (un.0, un.1, keeps))
-unstored_formats gives words bytes good before after fault.OutOfMemory has keeps un = (un, keeps)
+unstored_formats gives words bytes good before after fault.OutOfMemory has keeps un = ((un, keeps), inr (bytes, good, has))
 unstored_formats gives words bytes good before after _ has keeps un = absurd un

@@ -15,6 +15,7 @@ use Rattle.command_words.specs.declared.numbers.GeometryNumbers.{GeometryNumbers
 use Rattle.commands.specs.declared.text.CommandFault.{CommandFault}
 use Rattle.commands.specs.declared.text.CommandFault.TheVariants as fault
 use Rattle.command_words.specs.declared.words.CertificateWords.{CertificateWords}
+use Rattle.commands.specs.Files.{Gives}
 use Rattle.commands.specs.Inputs.{IsUnread}
 use Rattle.command_words.specs.Numbers.{SpellsGeometry, number_of}
 
@@ -40,11 +41,11 @@ IsUnasked words fault.Capacity =
     × HasNumbers numbers.data_bytes numbers.spare_bytes numbers.pages numbers.blocks numbers.sectors g × ((capacity ≡ 0) ⊎ (65536 < capacity))
 IsUnasked words _ = ⊥
 
--- and both files were read; `gives` tells what a path's file may hold
-pub record HasFiles (gives : List ℕ → List ℕ → Type 0) (words : CertificateWords) (g : Geometry) (capacity : ℕ) (bytes written : List ℕ) : Type 0 where
+-- and both files were read; `gives` tells what a load of a path may answer
+pub record HasFiles (gives : Gives) (words : CertificateWords) (g : Geometry) (capacity : ℕ) (bytes written : List ℕ) : Type 0 where
   pub asked : IsAsked words g capacity
-  pub image : gives words.image.now bytes
-  pub certificate : gives words.certificate.now written
+  pub image : gives words.image.now (Ok bytes)
+  pub certificate : gives words.certificate.now (Ok written)
 
 -- the bytes are those of this claim
 pub record IsSpelled (c : Claim) (written : List ℕ) : Type 0 where
@@ -83,17 +84,17 @@ IsKept _ before after = Keeps before after
 
 -- Why the command ended before it was done. Each case says that none before it in the order held: the words, the image's
 -- file, the certificate's file, the certificate's bytes, the image's length and the checker, and at last the printing.
-abbrev pub IsCheckFault : (List ℕ → List ℕ → Type 0) → CertificateWords → CommandFault → Type 0
+abbrev pub IsCheckFault : Gives → CertificateWords → CommandFault → Type 0
 IsCheckFault gives words stop =
     IsUnasked words stop
-    ⊎ ((g : Geometry) × (capacity : ℕ) × IsAsked words g capacity × IsUnread words.image.now stop)
-    ⊎ ((g : Geometry) × (capacity : ℕ) × (bytes : List ℕ) × IsAsked words g capacity × gives words.image.now bytes × IsUnread words.certificate.now stop)
+    ⊎ ((g : Geometry) × (capacity : ℕ) × IsAsked words g capacity × IsUnread gives words.image.now stop)
+    ⊎ ((g : Geometry) × (capacity : ℕ) × (bytes : List ℕ) × IsAsked words g capacity × gives words.image.now (Ok bytes) × IsUnread gives words.certificate.now stop)
     ⊎ ((g : Geometry) × (capacity : ℕ) × (bytes written : List ℕ) × HasFiles gives words g capacity bytes written × IsNoCertificate written stop)
     ⊎ ((g : Geometry) × (capacity : ℕ) × (bytes written : List ℕ) × (c : Claim) × HasFiles gives words g capacity bytes written × IsSpelled c written × IsUnheld g capacity bytes c stop)
     ⊎ ((g : Geometry) × (capacity : ℕ) × (bytes written : List ℕ) × (c : Claim) × HasFiles gives words g capacity bytes written × IsSpelled c written × IsHeld g capacity bytes c × IsUnprinted stop)
 
 -- What the command came to, with the bytes of standard output before and after.
-abbrev pub DoesCheck : (List ℕ → List ℕ → Type 0) → CertificateWords → Option (List ℕ) → Option (List ℕ) → Result (Unit {0}) CommandFault → Type 0
+abbrev pub DoesCheck : Gives → CertificateWords → Option (List ℕ) → Option (List ℕ) → Result (Unit {0}) CommandFault → Type 0
 DoesCheck gives words before after (Ok done) =
     (g : Geometry) × (capacity : ℕ) × (bytes written : List ℕ) × (c : Claim) × HasFiles gives words g capacity bytes written × IsSpelled c written × IsHeld g capacity bytes c
     × Appends before after (codes "accepted" ++ (10 ∷ []))

@@ -1,7 +1,7 @@
 -- What a run of the program comes to.
 use Rattle.std.specs.Prelude.{◌≡◌, ℕ, List, Option, Result, Ok, Err}
 use Rattle.std.specs.Io.KnownBytes.{Keeps}
-use Rattle.commands.specs.Files.{Left, Leaves}
+use Rattle.commands.specs.Files.{Gives, Left, Leaves}
 use Rattle.commands.specs.declared.text.CommandFault.{CommandFault}
 use Rattle.commands.specs.declared.text.CommandFault.TheVariants.{NoSuchCommand, OutOfMemory}
 use Rattle.command_words.specs.declared.words.Order.{Order}
@@ -15,7 +15,7 @@ use Rattle.commands.specs.Format.{DoesFormat}
 use Rattle.commands.specs.Text.{IsTold}
 
 -- what an order came to
-abbrev pub Does : (List ℕ → List ℕ → Type 0) → Order → Left → Left → Result (Unit {0}) CommandFault → Type 0
+abbrev pub Does : Gives → Order → Left → Left → Result (Unit {0}) CommandFault → Type 0
 Does gives (order.Sector words) before after result = DoesSector gives words before.out after.out result × (after.stores ≡ before.stores)
 Does gives (order.Show words) before after result = DoesShow gives words before.out after.out result × (after.stores ≡ before.stores)
 Does gives (order.Format words) before after result = DoesFormat gives words before after result
@@ -23,12 +23,12 @@ Does gives (order.Check words) before after result = DoesCheck gives words befor
 Does gives (order.Mount words) before after result = DoesMount gives words before after result
 
 -- the words are an order, and it came to this
-abbrev pub DoesOrder : (List ℕ → List ℕ → Type 0) → List (List ℕ) → Left → Left → Result (Unit {0}) CommandFault → Type 0
+abbrev pub DoesOrder : Gives → List (List ℕ) → Left → Left → Result (Unit {0}) CommandFault → Type 0
 DoesOrder gives words before after result = (order : Order) × IsOrder words order × Does gives order before after result
 
 -- What the words came to, with the stores and the bytes of standard output before and after. Words that are no order leave
 -- them as they were.
-abbrev pub Obeys : (List ℕ → List ℕ → Type 0) → List (List ℕ) → Left → Left → Result (Unit {0}) CommandFault → Type 0
+abbrev pub Obeys : Gives → List (List ℕ) → Left → Left → Result (Unit {0}) CommandFault → Type 0
 Obeys gives words before after (Err NoSuchCommand) = Leaves before after × ((order : Order) → ¬ IsOrder words order)
 Obeys gives words before after (Err OutOfMemory) = Leaves before after
 Obeys gives words before after result = DoesOrder gives words before after result
@@ -37,3 +37,7 @@ Obeys gives words before after result = DoesOrder gives words before after resul
 abbrev pub Reports : Result (Unit {0}) CommandFault → Option (List ℕ) → Option (List ℕ) → ℕ → Type 0
 Reports (Ok done) before after status = (status ≡ 0) × Keeps before after
 Reports (Err fault) before after status = IsTold fault before after status
+
+-- what the words came to and what was told of it: the stores and standard output, and standard error, each before and after, and the status
+abbrev pub Runs : Gives → List (List ℕ) → Left → Left → Option (List ℕ) → Option (List ℕ) → ℕ → Type 0
+Runs gives words before after told telling status = (done : Result (Unit {0}) CommandFault) × Obeys gives words before after done × Reports done told telling status

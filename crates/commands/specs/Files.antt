@@ -7,6 +7,10 @@ use Rattle.commands.specs.declared.files.FileFault.TheVariants as file
 use Rattle.commands.specs.declared.text.CommandFault.{CommandFault}
 use Rattle.commands.specs.declared.text.CommandFault.TheVariants as fault
 
+-- what a load of a path may answer
+abbrev pub Gives : Type 1
+Gives = List ℕ → Result (List ℕ) FileFault → Type 0
+
 -- a file that was handed over to be written, whole, and whether it was
 pub record Stored : Type 0 where
   pub path : List ℕ

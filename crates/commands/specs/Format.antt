@@ -13,11 +13,12 @@ use Rattle.mount.specs.declared.format_fault.FormatFault.{FormatFault}
 use Rattle.mount.specs.declared.format_fault.FormatFault.TheVariants as refuse
 use Rattle.mount.specs.Formatted.{Formats, IsFormatted}
 use Rattle.command_words.specs.declared.numbers.GeometryNumbers.{GeometryNumbers}
+use Rattle.commands.specs.declared.files.FileFault.TheVariants as file
 use Rattle.commands.specs.declared.text.CommandFault.{CommandFault}
 use Rattle.commands.specs.declared.text.CommandFault.TheVariants as fault
 use Rattle.command_words.specs.declared.words.FileWords.{FileWords}
 use Rattle.command_words.specs.Numbers.{SpellsGeometry}
-use Rattle.commands.specs.Files.{Left, Leaves, with_store, written, unwritten}
+use Rattle.commands.specs.Files.{Gives, Left, Leaves, with_store, written, unwritten}
 
 -- ---- an image in place
 
@@ -51,17 +52,17 @@ pub record IsGeometry (words : FileWords) (g : Geometry) : Type 0 where
   pub spelled : SpellsGeometry words.geometry.now numbers
   pub valid : HasNumbers numbers.data_bytes numbers.spare_bytes numbers.pages numbers.blocks numbers.sectors g
 
--- and the file IN holds these bytes; `gives` tells what a path's file may hold
-pub record HasInput (gives : List ℕ → List ℕ → Type 0) (words : FileWords) (g : Geometry) (bytes : List ℕ) : Type 0 where
+-- and the file IN holds these bytes; `gives` tells what a load of a path may answer
+pub record HasInput (gives : Gives) (words : FileWords) (g : Geometry) (bytes : List ℕ) : Type 0 where
   pub asked : IsGeometry words g
-  pub given : gives words.input.now bytes
+  pub given : gives words.input.now (Ok bytes)
 
 -- the line
 abbrev pub good_line : ℕ → List ℕ
 good_line good = codes "good " ++ (decimal good ++ (10 ∷ []))
 
 -- the image of the file IN, formatted
-pub record HasFormatted (gives : List ℕ → List ℕ → Type 0) (words : FileWords) (after : List ℕ) (good : ℕ) : Type 0 where
+pub record HasFormatted (gives : Gives) (words : FileWords) (after : List ℕ) (good : ℕ) : Type 0 where
   pub geometry : Geometry
   pub before : List ℕ
   pub input : HasInput gives words geometry before
@@ -75,14 +76,14 @@ IsUnwritten words bytes before after path =
 
 -- What the command came to, with the stores and the bytes of standard output before and after. Each fault says that nothing
 -- before it in the order failed: the geometry, the file, its length, the die, its format, the store under OUT, and then the line.
-abbrev pub DoesFormat : (List ℕ → List ℕ → Type 0) → FileWords → Left → Left → Result (Unit {0}) CommandFault → Type 0
+abbrev pub DoesFormat : Gives → FileWords → Left → Left → Result (Unit {0}) CommandFault → Type 0
 DoesFormat gives words before after (Ok done) = (bytes : List ℕ) × (good : ℕ) × HasFormatted gives words bytes good
     × (after.stores ≡ with_store before.stores (written words.output.now bytes)) × Appends before.out after.out (good_line good)
 DoesFormat gives words before after (Err (fault.BadNumber word)) = Leaves before after
     × (word.now ≡ words.geometry.now) × ((numbers : GeometryNumbers) → ¬ SpellsGeometry words.geometry.now numbers)
 DoesFormat gives words before after (Err (fault.Geometry broken)) = Leaves before after × ((numbers : GeometryNumbers) × SpellsGeometry words.geometry.now numbers
     × IsFirstFault numbers.data_bytes numbers.spare_bytes numbers.pages numbers.blocks numbers.sectors broken)
-DoesFormat gives words before after (Err (fault.Read path)) = Leaves before after × (path.now ≡ words.input.now) × ((g : Geometry) × IsGeometry words g)
+DoesFormat gives words before after (Err (fault.Read path)) = Leaves before after × (path.now ≡ words.input.now) × gives words.input.now (Err file.Failed) × ((g : Geometry) × IsGeometry words g)
 DoesFormat gives words before after (Err fault.WrongLength) = Leaves before after
     × ((g : Geometry) × (bytes : List ℕ) × HasInput gives words g bytes × IsUnformatted g bytes fault.WrongLength)
 DoesFormat gives words before after (Err (fault.Die broken)) = Leaves before after
@@ -91,4 +92,6 @@ DoesFormat gives words before after (Err (fault.Format refused)) = Leaves before
     × ((g : Geometry) × (bytes : List ℕ) × HasInput gives words g bytes × IsUnformatted g bytes (fault.Format refused))
 DoesFormat gives words before after (Err (fault.Write path)) = (bytes : List ℕ) × (good : ℕ) × HasFormatted gives words bytes good × IsUnwritten words bytes before after path.now
 DoesFormat gives words before after (Err fault.OutOfMemory) = Leaves before after
+    × (((g : Geometry) × IsGeometry words g × gives words.input.now (Err file.OutOfMemory))
+    ⊎ ((bytes : List ℕ) × (good : ℕ) × HasFormatted gives words bytes good))
 DoesFormat gives words before after (Err _) = ⊥

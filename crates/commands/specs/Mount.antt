@@ -15,7 +15,7 @@ use Rattle.commands.specs.declared.text.CommandFault.{CommandFault}
 use Rattle.commands.specs.declared.text.CommandFault.TheVariants as fault
 use Rattle.command_words.specs.declared.words.CertificateWords.{CertificateWords}
 use Rattle.commands.specs.Check.{IsAsked, IsUnasked, IsUnprinted, IsWhole}
-use Rattle.commands.specs.Files.{IsUnstored, Left, Leaves, Stored, with_store, written}
+use Rattle.commands.specs.Files.{Gives, IsUnstored, Left, Leaves, Stored, with_store, written}
 use Rattle.commands.specs.Inputs.{IsUnread}
 
 -- the bytes are an image, and this is its certificate
@@ -53,9 +53,9 @@ abbrev pub mounted_line : ℕ → ℕ → ℕ → List ℕ
 mounted_line next good stale = codes "mounted next " ++ (decimal next ++ (codes " good " ++ (decimal good ++ (codes " stale " ++ (decimal stale ++ (10 ∷ []))))))
 
 -- the words are numbers, the image's file was read, and it has this certificate
-pub record HasCertificate (gives : List ℕ → List ℕ → Type 0) (words : CertificateWords) (g : Geometry) (capacity : ℕ) (bytes : List ℕ) (c : Claim) : Type 0 where
+pub record HasCertificate (gives : Gives) (words : CertificateWords) (g : Geometry) (capacity : ℕ) (bytes : List ℕ) (c : Claim) : Type 0 where
   pub asked : IsAsked words g capacity
-  pub image : gives words.image.now bytes
+  pub image : gives words.image.now (Ok bytes)
   pub certified : IsCertified g capacity bytes c
 
 -- the certificate was handed over to be written, and it was
@@ -64,16 +64,16 @@ stored_as words c = written words.certificate.now (certificate_bytes c)
 
 -- Why the command ended before there was a certificate to store. Each case says that none before it in the order held: the
 -- words, the image's file, and the image.
-abbrev pub IsUncertified : (List ℕ → List ℕ → Type 0) → CertificateWords → CommandFault → Type 0
+abbrev pub IsUncertified : Gives → CertificateWords → CommandFault → Type 0
 IsUncertified gives words stop =
     IsUnasked words stop
-    ⊎ ((g : Geometry) × (capacity : ℕ) × IsAsked words g capacity × IsUnread words.image.now stop)
-    ⊎ ((g : Geometry) × (capacity : ℕ) × (bytes : List ℕ) × IsAsked words g capacity × gives words.image.now bytes × IsUnmounted g capacity bytes stop)
+    ⊎ ((g : Geometry) × (capacity : ℕ) × IsAsked words g capacity × IsUnread gives words.image.now stop)
+    ⊎ ((g : Geometry) × (capacity : ℕ) × (bytes : List ℕ) × IsAsked words g capacity × gives words.image.now (Ok bytes) × IsUnmounted g capacity bytes stop)
 
 -- What the command came to, with the stores and the bytes of standard output before and after. Where there is no
 -- certificate nothing is stored and nothing printed; where it was not stored nothing is printed; where the line was not
 -- printed the certificate is stored.
-abbrev pub DoesMount : (List ℕ → List ℕ → Type 0) → CertificateWords → Left → Left → Result (Unit {0}) CommandFault → Type 0
+abbrev pub DoesMount : Gives → CertificateWords → Left → Left → Result (Unit {0}) CommandFault → Type 0
 DoesMount gives words before after (Ok done) =
     (g : Geometry) × (capacity : ℕ) × (bytes : List ℕ) × (c : Claim) × HasCertificate gives words g capacity bytes c
     × (after.stores ≡ with_store before.stores (stored_as words c))

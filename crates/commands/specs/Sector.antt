@@ -14,10 +14,12 @@ use Rattle.image_check.specs.Sector.{IsAmbiguous, SharesSequence}
 use Rattle.command_words.specs.declared.numbers.GeometryNumbers.{GeometryNumbers}
 use Rattle.commands.specs.declared.sector.PrintFault.{PrintFault}
 use Rattle.commands.specs.declared.sector.PrintFault.TheVariants as print
+use Rattle.commands.specs.declared.files.FileFault.TheVariants as file
 use Rattle.commands.specs.declared.text.CommandFault.{CommandFault}
 use Rattle.commands.specs.declared.text.CommandFault.TheVariants as fault
 use Rattle.command_words.specs.declared.words.ImageWords.{ImageWords}
 use Rattle.command_words.specs.Numbers.{SpellsGeometry, number_of}
+use Rattle.commands.specs.Files.{Gives}
 
 -- the image has the sector, and no two of its pages share its greatest sequence
 pub record IsReadable (g : Geometry) (image : Image) (n : ℕ) : Type 0 where
@@ -55,15 +57,15 @@ pub record IsAsked (words : ImageWords) (g : Geometry) (n : ℕ) : Type 0 where
   pub sector : number_of words.number.now ≡ Some n
   pub valid : HasNumbers numbers.data_bytes numbers.spare_bytes numbers.pages numbers.blocks numbers.sectors g
 
--- and the file holds an image of it; `gives` tells what a path's file may hold
-pub record HasImage (gives : List ℕ → List ℕ → Type 0) (words : ImageWords) (g : Geometry) (n : ℕ) (bytes : List ℕ) : Type 0 where
+-- and the file holds an image of it; `gives` tells what a load of a path may answer
+pub record HasImage (gives : Gives) (words : ImageWords) (g : Geometry) (n : ℕ) (bytes : List ℕ) : Type 0 where
   pub asked : IsAsked words g n
-  pub given : gives words.image.now bytes
+  pub given : gives words.image.now (Ok bytes)
   pub whole : length bytes ≡ row_count g * page_bytes g
 
 -- What the command came to, with the bytes of standard output before and after. Each fault says that nothing before it in
 -- the order failed: the numbers by their words, the geometry, the file, its length, and then the sector's own faults.
-abbrev pub DoesSector : (List ℕ → List ℕ → Type 0) → ImageWords → Option (List ℕ) → Option (List ℕ) → Result (Unit {0}) CommandFault → Type 0
+abbrev pub DoesSector : Gives → ImageWords → Option (List ℕ) → Option (List ℕ) → Result (Unit {0}) CommandFault → Type 0
 DoesSector gives words before after (Ok done) = (g : Geometry) × (n : ℕ) × (bytes : List ℕ) × HasImage gives words g n bytes
     × IsReadable g (raw_image g bytes) n × Appends before after (sector_line g (raw_image g bytes) n)
 DoesSector gives words before after (Err (fault.BadNumber word)) = Keeps before after
@@ -72,12 +74,14 @@ DoesSector gives words before after (Err (fault.BadNumber word)) = Keeps before 
 DoesSector gives words before after (Err (fault.Geometry broken)) = Keeps before after
     × ((numbers : GeometryNumbers) × (n : ℕ) × SpellsGeometry words.geometry.now numbers × (number_of words.number.now ≡ Some n)
     × IsFirstFault numbers.data_bytes numbers.spare_bytes numbers.pages numbers.blocks numbers.sectors broken)
-DoesSector gives words before after (Err (fault.Read path)) = Keeps before after × (path.now ≡ words.image.now) × ((g : Geometry) × (n : ℕ) × IsAsked words g n)
+DoesSector gives words before after (Err (fault.Read path)) = Keeps before after × (path.now ≡ words.image.now) × gives words.image.now (Err file.Failed) × ((g : Geometry) × (n : ℕ) × IsAsked words g n)
 DoesSector gives words before after (Err fault.WrongLength) = Keeps before after
-    × ((g : Geometry) × (n : ℕ) × (bytes : List ℕ) × IsAsked words g n × gives words.image.now bytes × (length bytes ≢ row_count g * page_bytes g))
+    × ((g : Geometry) × (n : ℕ) × (bytes : List ℕ) × IsAsked words g n × gives words.image.now (Ok bytes) × (length bytes ≢ row_count g * page_bytes g))
 DoesSector gives words before after (Err (fault.Sector refused)) = Keeps before after
     × ((g : Geometry) × (n : ℕ) × (bytes : List ℕ) × HasImage gives words g n bytes × IsUnreadable g (raw_image g bytes) n refused)
 DoesSector gives words before after (Err (fault.Write path)) = (path.now ≡ codes "-")
     × ((g : Geometry) × (n : ℕ) × (bytes : List ℕ) × HasImage gives words g n bytes × IsReadable g (raw_image g bytes) n)
 DoesSector gives words before after (Err fault.OutOfMemory) = Keeps before after
+    × (((g : Geometry) × (n : ℕ) × IsAsked words g n × gives words.image.now (Err file.OutOfMemory))
+    ⊎ ((g : Geometry) × (n : ℕ) × (bytes : List ℕ) × HasImage gives words g n bytes × IsReadable g (raw_image g bytes) n))
 DoesSector gives words before after (Err _) = ⊥

@@ -16,10 +16,12 @@ use Rattle.commands.specs.declared.show.Shown.{Shown}
 use Rattle.commands.specs.declared.show.Shown.TheVariants.{Sound, Erased, Unsound}
 use Rattle.commands.specs.declared.show.ShowFault.{ShowFault}
 use Rattle.commands.specs.declared.show.ShowFault.TheVariants as show
+use Rattle.commands.specs.declared.files.FileFault.TheVariants as file
 use Rattle.commands.specs.declared.text.CommandFault.{CommandFault}
 use Rattle.commands.specs.declared.text.CommandFault.TheVariants as fault
 use Rattle.command_words.specs.declared.words.ImageWords.{ImageWords}
 use Rattle.command_words.specs.Numbers.{SpellsGeometry, number_of}
+use Rattle.commands.specs.Files.{Gives}
 use Rattle.commands.specs.Sector.{IsAsked, HasImage}
 
 -- its record where it has one, else whether it is erased
@@ -55,7 +57,7 @@ IsShowFault g row show.Write = row < row_count g
 
 -- What the command came to, with the bytes of standard output before and after. Each fault says that nothing before it in
 -- the order failed: the numbers by their words, the geometry, the file, its length, and then the row.
-abbrev pub DoesShow : (List ℕ → List ℕ → Type 0) → ImageWords → Option (List ℕ) → Option (List ℕ) → Result (Unit {0}) CommandFault → Type 0
+abbrev pub DoesShow : Gives → ImageWords → Option (List ℕ) → Option (List ℕ) → Result (Unit {0}) CommandFault → Type 0
 DoesShow gives words before after (Ok done) = (g : Geometry) × (row : ℕ) × (bytes : List ℕ) × HasImage gives words g row bytes
     × (row < row_count g) × Shows (raw_image g bytes) row before after
 DoesShow gives words before after (Err (fault.BadNumber word)) = Keeps before after
@@ -64,12 +66,13 @@ DoesShow gives words before after (Err (fault.BadNumber word)) = Keeps before af
 DoesShow gives words before after (Err (fault.Geometry broken)) = Keeps before after
     × ((numbers : GeometryNumbers) × (row : ℕ) × SpellsGeometry words.geometry.now numbers × (number_of words.number.now ≡ Some row)
     × IsFirstFault numbers.data_bytes numbers.spare_bytes numbers.pages numbers.blocks numbers.sectors broken)
-DoesShow gives words before after (Err (fault.Read path)) = Keeps before after × (path.now ≡ words.image.now) × ((g : Geometry) × (row : ℕ) × IsAsked words g row)
+DoesShow gives words before after (Err (fault.Read path)) = Keeps before after × (path.now ≡ words.image.now) × gives words.image.now (Err file.Failed) × ((g : Geometry) × (row : ℕ) × IsAsked words g row)
 DoesShow gives words before after (Err fault.WrongLength) = Keeps before after
-    × ((g : Geometry) × (row : ℕ) × (bytes : List ℕ) × IsAsked words g row × gives words.image.now bytes × (length bytes ≢ row_count g * page_bytes g))
+    × ((g : Geometry) × (row : ℕ) × (bytes : List ℕ) × IsAsked words g row × gives words.image.now (Ok bytes) × (length bytes ≢ row_count g * page_bytes g))
 DoesShow gives words before after (Err fault.RowRange) = Keeps before after
     × ((g : Geometry) × (row : ℕ) × (bytes : List ℕ) × HasImage gives words g row bytes × (row_count g ≤ row))
 DoesShow gives words before after (Err (fault.Write path)) = (path.now ≡ codes "-")
     × ((g : Geometry) × (row : ℕ) × (bytes : List ℕ) × HasImage gives words g row bytes × (row < row_count g))
 DoesShow gives words before after (Err fault.OutOfMemory) = Keeps before after
+    × ((g : Geometry) × (row : ℕ) × IsAsked words g row × gives words.image.now (Err file.OutOfMemory))
 DoesShow gives words before after (Err _) = ⊥

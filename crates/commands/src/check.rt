@@ -63,6 +63,16 @@ fn print_accepted<'a, W: Write>(out: &mut W) -> Result<(), CommandFault<'a>>
 
 /// The command `check`: prints that the certificate CERT, for a cache of C entries, agrees with the
 /// raw image IMAGE, of the geometry GEOM.
+///
+/// # Errors
+///
+/// The first of this order: `BadNumber` where GEOM or C writes no numbers, `Geometry` where GEOM's are no geometry, `Capacity`
+/// where C is not from 1 to 65536, `Read` where IMAGE and then CERT cannot be read, or `OutOfMemory` where it was refused memory,
+/// `Certificate` where CERT's bytes are no certificate, `WrongLength` where IMAGE has not as many bytes as the geometry says,
+/// `Check` with the refusal of `image_check::check`, `Write` of `-` where `out` failed. Nothing is stored, and nothing was
+/// written to `out` unless it is what failed: then a part of the line may stand there.
+///
+/// (This project's.)
 pub fn check_command<'a, F: FileStore, W: Write>(
     alloc: Global,
     words: CertificateWords<'a>,

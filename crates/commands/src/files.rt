@@ -7,19 +7,20 @@ pub enum FileFault {
     /// The file could not be read or written. Of one that was being written nothing is promised.
     #[error("a file could not be read or written")]
     Failed,
-    /// A growth was refused, before any byte was written.
+    /// A growth was refused: of a file that was read, or before any byte was written.
     #[error("out of memory")]
     OutOfMemory,
 }
 
 /// The files that the words name, by their paths as written: those of the system, or some in memory. (This project's.)
 pub trait FileStore {
-    ghost use Rattle.std.specs.Prelude.{◌≡◌, List, ℕ, Option, IfOk};
+    ghost use Rattle.std.specs.Prelude.{◌≡◌, List, ℕ, Option, Result, Ok, Err, IfOk, IfErr};
+    ghost use Rattle.commands.specs.declared.files.FileFault.{FileFault};
     ghost use Rattle.commands.specs.Files.{Stored, stores_after};
 
-    /// What a load of a path may give. Of the system's files nothing is known, so there it is
-    /// anything.
-    ghost gives: { Self → List ℕ → List ℕ → Type 0 };
+    /// What a load of a path may answer: the file's bytes, or a fault. Of the system's files nothing is
+    /// known, so there it is anything.
+    ghost gives: { Self → List ℕ → Result (List ℕ) FileFault → Type 0 };
 
     /// The files that it was asked to store so far, in order. Of the system's files it isn't known.
     ghost stores: { Self → Option (List Stored) };
@@ -28,17 +29,20 @@ pub trait FileStore {
     ///
     /// # Errors
     ///
-    /// `Failed` where the file cannot be read, `OutOfMemory` where a growth was refused.
+    /// `Failed` where the file cannot be read, `OutOfMemory` where a growth was refused. Every file is as
+    /// it was.
     fn load(&mut self, path: &str) -> Result<Vec<u8>, FileFault>
-        ensures bytes { IfOk result (λ found. gives self.old path.now found.items) }
-        ensures same { (at found : List ℕ) → gives self.new at found → gives self.old at found }
+        ensures bytes { IfOk result (λ found. gives self.old path.now (Ok found.items)) }
+        ensures fault { IfErr result (λ fault. gives self.old path.now (Err fault)) }
+        ensures same { (at : List ℕ) (answer : Result (List ℕ) FileFault) → gives self.new at answer → gives self.old at answer }
         ensures stores { stores self.new ≡ stores self.old };
 
-    /// Writes a file, whole. Of a file whose writing failed nothing is promised.
+    /// Writes a file, whole.
     ///
     /// # Errors
     ///
-    /// `Failed` where the file cannot be written, `OutOfMemory` where a growth was refused.
+    /// `Failed` where the file cannot be written, and then nothing is promised of it. `OutOfMemory` where
+    /// a growth was refused before any byte was written.
     fn store(&mut self, path: &str, bytes: &[u8]) -> Result<(), FileFault>
         ensures { stores self.new ≡ stores_after (stores self.old) path.now bytes.now result };
 }

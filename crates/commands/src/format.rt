@@ -61,7 +61,17 @@ pub fn format_image<'a>(
 }
 
 /// The command `format`: formats the raw image IN of a fresh die of the geometry GEOM, stores it under OUT, and then prints how many
-/// good blocks it has. A refusal stores and prints nothing.
+/// good blocks it has.
+///
+/// # Errors
+///
+/// The first of this order: `BadNumber` where GEOM writes no numbers, `Geometry` where they are no geometry, `Read` where IN
+/// cannot be read, or `OutOfMemory` where it was refused memory, `WrongLength`, `Die` or `Format` as `format_image` answers them:
+/// after these nothing was stored and nothing printed. `Write` of OUT where it cannot be stored, or `OutOfMemory` where that was
+/// refused memory before any byte was written: nothing was printed. `Write` of `-` where `out` failed: OUT is stored, and a part
+/// of the line may stand in `out`.
+///
+/// (This project's.)
 pub fn format_command<'a, F: FileStore, W: Write>(
     alloc: Global,
     words: FileWords<'a>,

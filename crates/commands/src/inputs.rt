@@ -1,7 +1,8 @@
 //! What the commands take from their words and files.
-ghost use Rattle.std.specs.Prelude.{◌≡◌, ℕ, List, Some, None, IfOk, IfErr};
+ghost use Rattle.std.specs.Prelude.{◌≡◌, ℕ, List, Result, Some, None, IfOk, IfErr};
 ghost use Rattle.page_layout.specs.Faults.{HasNumbers};
 ghost use Rattle.command_words.specs.declared.numbers.GeometryNumbers.{GeometryNumbers};
+ghost use Rattle.commands.specs.declared.files.FileFault.{FileFault};
 ghost use Rattle.commands.specs.Check.{IsAsked, IsUnasked};
 ghost use Rattle.commands.specs.Inputs.{IsBadGeometry, IsBadNumber, IsUnread};
 ghost use Rattle.command_words.specs.Numbers.{SpellsGeometry, number_of};
@@ -99,9 +100,9 @@ pub fn cache_asked<'a>(words: &CertificateWords<'a>) -> Result<CacheAsked, Comma
 ///
 /// `Read` where the file cannot be read, `OutOfMemory` where a growth was refused.
 pub fn load<'a, F: FileStore>(files: &mut F, path: &'a str) -> Result<Vec<u8>, CommandFault<'a>>
-    ensures ok { IfOk result (λ bytes. F.gives files.old path.now bytes.items) }
-    ensures fault { IfErr result (IsUnread path.now) }
-    ensures same { (at found : List ℕ) → F.gives files.new at found → F.gives files.old at found }
+    ensures ok { IfOk result (λ bytes. F.gives files.old path.now (Ok bytes.items)) }
+    ensures fault { IfErr result (IsUnread (F.gives files.old) path.now) }
+    ensures same { (at : List ℕ) (answer : Result (List ℕ) FileFault) → F.gives files.new at answer → F.gives files.old at answer }
     ensures stores { F.stores files.new ≡ F.stores files.old }
 {
     match files.load(path) {

@@ -107,6 +107,17 @@ fn print_mounted<'a, W: Write>(mounted: &Mounted, out: &mut W) -> Result<(), Com
 /// The command `mount`: stores the certificate of the raw image IMAGE, of the geometry GEOM and for
 /// a cache of C entries, as CERT, and then prints its next sequence, its good blocks and how many
 /// sectors are stale.
+///
+/// # Errors
+///
+/// The first of this order: `BadNumber` where GEOM or C writes no numbers, `Geometry` where GEOM's are no geometry, `Capacity`
+/// where C is not from 1 to 65536, `Read` where IMAGE cannot be read, or `OutOfMemory` where it was refused memory, `WrongLength`
+/// where it has not as many bytes as the geometry says, `Mount` with the refusal of `mount::mount`, or with `OutOfMemory` where
+/// the stale sectors wanted memory, `Certificate` with `OutOfMemory` where its bytes did: after these nothing was stored and
+/// nothing printed. `Write` of CERT where it cannot be stored, or `OutOfMemory` where that was refused memory before any byte was
+/// written: nothing was printed. `Write` of `-` where `out` failed: CERT is stored, and a part of the line may stand in `out`.
+///
+/// (This project's.)
 pub fn mount_command<'a, F: FileStore, W: Write>(
     alloc: Global,
     words: CertificateWords<'a>,

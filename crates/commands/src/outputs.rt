@@ -5,11 +5,12 @@ ghost use Rattle.commands.specs.Files.{IsUnstored, with_store, written};
 use crate::files::{FileFault, FileStore};
 use crate::text::CommandFault;
 
-/// Writes a file, whole. Of a file whose writing failed nothing is promised.
+/// Writes a file, whole.
 ///
 /// # Errors
 ///
-/// `Write` where the file cannot be written, `OutOfMemory` where a growth was refused.
+/// `Write` where the file cannot be written, and then nothing is promised of it. `OutOfMemory` where a
+/// growth was refused before any byte was written.
 pub fn store<'a, F: FileStore>(
     files: &mut F,
     path: &'a str,

@@ -1,7 +1,5 @@
 //! The program's commands.
-ghost use Rattle.std.specs.Prelude.{Result};
-ghost use Rattle.commands.specs.declared.text.CommandFault.{CommandFault};
-ghost use Rattle.commands.specs.Commands.{Does, Obeys, Reports};
+ghost use Rattle.commands.specs.Commands.{Does, Obeys, Runs};
 ghost use Rattle.commands.specs.Files.{left};
 ghost use Rattle.command_words.specs.Words.{texts};
 
@@ -69,7 +67,7 @@ pub fn run<F: FileStore, R: Read, W: Write, E: Write>(
     out: &mut W,
     err: &mut E,
 ) -> u8
-    ensures { (done : Result (Unit {0}) CommandFault) × Obeys (F.gives files.old) (texts words.now) (left (F.stores files.old) (W.contents out.old)) (left (F.stores files.new) (W.contents out.new)) done × Reports done (E.contents err.old) (E.contents err.new) result }
+    ensures { Runs (F.gives files.old) (texts words.now) (left (F.stores files.old) (W.contents out.old)) (left (F.stores files.new) (W.contents out.new)) (E.contents err.old) (E.contents err.new) result }
 {
     match obey(alloc, words, files, out) {
         Ok(()) => DONE,

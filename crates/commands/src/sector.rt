@@ -103,6 +103,15 @@ pub fn print_sector<W: Write>(
 }
 
 /// The command `sector`: prints sector N of the raw image IMAGE, of the geometry GEOM.
+///
+/// # Errors
+///
+/// The first of this order: `BadNumber` where GEOM or N writes no numbers, `Geometry` where GEOM's are no geometry, `Read` where
+/// IMAGE cannot be read, `WrongLength` where it has not as many bytes as the geometry says, `Sector` with the fault of
+/// `print_sector`, `Write` of `-` where `out` failed. `OutOfMemory` where a growth was refused. Nothing is stored, and nothing
+/// was written to `out` unless it is what failed: then a part of the line may stand there.
+///
+/// (This project's.)
 pub fn sector_command<'a, F: FileStore, W: Write>(
     alloc: Global,
     words: ImageWords<'a>,

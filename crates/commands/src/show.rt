@@ -89,6 +89,8 @@ fn look_at(geometry: &Geometry, body: &[u8], spare: &[u8]) -> Shown
 ///
 /// `RowRange` exactly where the row is at or past the rows of the die, and then nothing was written.
 /// `Write` where the writer failed: a part of the line may have been written.
+///
+/// (The line is this project's.)
 pub fn print_page<W: Write>(image: &ImageSlice, row: u32, out: &mut W) -> Result<(), ShowFault>
     ensures ok { OnOk result (Shows image.now.flash.image row (W.contents out.old) (W.contents out.new)) }
     ensures in_range { OnOk result (row < row_count image.now.flash.geometry) }
@@ -109,6 +111,15 @@ pub fn print_page<W: Write>(image: &ImageSlice, row: u32, out: &mut W) -> Result
 
 /// The command `show`: prints what the page of row ROW of the raw image IMAGE, of the geometry GEOM,
 /// shows of itself.
+///
+/// # Errors
+///
+/// The first of this order: `BadNumber` where GEOM or ROW writes no numbers, `Geometry` where GEOM's are no geometry, `Read`
+/// where IMAGE cannot be read, `OutOfMemory` where it was refused memory, `WrongLength` where it has not as many bytes as the
+/// geometry says, `RowRange` where the row is at or past the rows of the die, `Write` of `-` where `out` failed. Nothing is
+/// stored, and nothing was written to `out` unless it is what failed: then a part of the line may stand there.
+///
+/// (This project's.)
 pub fn show_command<'a, F: FileStore, W: Write>(
     words: ImageWords<'a>,
     files: &mut F,

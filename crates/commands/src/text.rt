@@ -1,5 +1,7 @@
 //! What the program says when a command ends before it is done: one line, and the exit status.
-ghost use Rattle.commands.specs.Text.{IsTold};
+ghost use Rattle.std.specs.Prelude.{◌≡◌, ◌∷◌, [], ◌++◌, IfOk, OnOk, OnErr};
+ghost use Rattle.std.specs.Io.KnownBytes.{Appends};
+ghost use Rattle.commands.specs.Text.{IsTold, line_of, status_of};
 
 use certificate::CertFault;
 use image_check::{Refusal, SectorFault};
@@ -7,7 +9,7 @@ use mount::FormatFault;
 use nand_die::DieFault;
 use page_layout::geometry::GeometryFault;
 use std::fmt;
-use std::io::Write;
+use std::io::{self, Write};
 
 /// The exit status of a command that was done.
 pub const DONE: u8 = 0;
@@ -258,13 +260,28 @@ impl fmt::Display for Words<Refusal> {
     }
 }
 
+// Writes the fault's line, with a line feed, and answers its exit status.
+fn write_line<E: Write>(fault: &CommandFault<'_>, err: &mut E) -> io::Result<u8>
+    ensures status { IfOk result (λ status. status ≡ status_of fault.now) }
+    ensures line { OnOk result (Appends (E.contents err.old) (E.contents err.new) (line_of fault.now ++ (10 ∷ []))) }
+{
+    writeln!(err, "{fault}")?;
+    Ok(fault.status())
+}
+
+// The exit status of a line that was written, else the one of output that failed.
+fn status_told(told: io::Result<u8>) -> u8
+    ensures written { IfOk told (λ status. result ≡ status) }
+    ensures unwritten { OnErr told (result ≡ 3) }
+{
+    told.unwrap_or(IO)
+}
+
 /// Writes the fault's line to `err`, with a line feed, and answers its exit status, or 3 where the
-/// line could not be written, of which a part may then stand there.
+/// line could not be written, of which a part may then stand there. (The lines and the statuses are
+/// this project's.)
 pub fn tell<E: Write>(fault: &CommandFault<'_>, err: &mut E) -> u8
     ensures { IsTold fault.now (E.contents err.old) (E.contents err.new) result }
 {
-    match writeln!(err, "{fault}") {
-        Ok(()) => fault.status(),
-        Err(_) => IO,
-    }
+    status_told(write_line(fault, err))
 }

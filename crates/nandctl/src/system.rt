@@ -1,6 +1,7 @@
 //! The files of the system.
-ghost use Rattle.std.specs.Prelude.{◌≡◌, ◌≢◌, ℕ, List};
+ghost use Rattle.std.specs.Prelude.{◌≡◌, ◌≢◌, IfErr};
 ghost use Rattle.std.specs.IoError.{error_kind};
+ghost use Rattle.commands.specs.Files.{stores_after};
 
 use commands::{FileFault, FileStore};
 use std::fs;
@@ -14,11 +15,13 @@ pub struct SystemFiles<'a, R> {
 }
 
 impl<'a, R: Files + AllocGlobal> SystemFiles<'a, R> {
+    /// The files that the program's handle `rt` reaches. Nothing is opened. (This project's.)
     pub fn new(rt: &'a R) -> SystemFiles<'a, R> {
         SystemFiles { rt }
     }
 }
 
+// Why a file was not read. A file is read into memory, so that there may be too little of it.
 fn fault_of(error: Error) -> FileFault
     ensures memory { error_kind error ≡ ErrorKind.OutOfMemory → result ≡ FileFault.OutOfMemory }
     ensures other { error_kind error ≢ ErrorKind.OutOfMemory → result ≡ FileFault.Failed }
@@ -41,7 +44,11 @@ impl<R: Files + AllocGlobal> FileStore for SystemFiles<'_, R> {
         fs::read(self.rt, path).map_err(fault_of)
     }
 
-    fn store(&mut self, path: &str, bytes: &[u8]) -> Result<(), FileFault> {
-        fs::write(self.rt, path, bytes).map_err(fault_of)
+    // Writing asks for no memory, and a fault of the system may come after the file was cut short: so a failure is `Failed`.
+    fn store(&mut self, path: &str, bytes: &[u8]) -> Result<(), FileFault>
+        ensures stores { None ≡ stores_after None path.now bytes.now result }
+        ensures failed { IfErr result (λ fault. fault ≡ FileFault.Failed) }
+    {
+        fs::write(self.rt, path, bytes).map_err(|_| FileFault::Failed)
     }
 }

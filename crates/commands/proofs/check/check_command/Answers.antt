@@ -1,6 +1,6 @@
-use Rattle.std.proofs.Common.{inl, inr, rules, subst, ℕ, List}
+use Rattle.std.proofs.Common.{Ok, inl, inr, rules, subst, ℕ, List}
 use Rattle.commands.specs.Check.{HasFiles, IsHeld, IsNoCertificate, IsSpelled, IsUnheld}
-use Rattle.commands.proofs.CheckLemmas.{prints, stops}
+use Rattle.commands.proofs.CheckLemmas.{prints, stops, unread_before}
 use Rattle.commands.proofs.check.check_command.Goals as goal
 
 pub returns-in_err-bytes-clause-does : goal.returns-in_err-bytes-clause-does
@@ -13,7 +13,7 @@ pub returns-in_err-written-clause-does : goal.returns-in_err-written-clause-does
 returns-in_err-written-clause-does g c =
     let asked = c.in_ok-asked.asked in
     stops (g.F.FileStore.gives c.args.files.now) c.args.words _ _ c.from_residual-in_err-written.result c.in_err-written.field-0.0 (search rules) (search rules)
-    (inr (inr (inl (asked.geometry, asked.capacity, c.in_ok-bytes.bytes.items, c.in_ok-asked.ensures.ok, c.in_ok-bytes.ensures.ok, c.in_err-written.ensures.fault))))
+    (inr (inr (inl (asked.geometry, asked.capacity, c.in_ok-bytes.bytes.items, c.in_ok-asked.ensures.ok, c.in_ok-bytes.ensures.ok, unread_before _ _ _ _ c.in_ok-bytes.ensures.same c.in_err-written.ensures.fault))))
 
 pub returns-in_err-certificate-clause-does : goal.returns-in_err-certificate-clause-does
 returns-in_err-certificate-clause-does g c =
@@ -22,7 +22,7 @@ returns-in_err-certificate-clause-does g c =
     let bytes = c.in_ok-bytes.bytes.items in
     let written = c.in_ok-written.written.items in
     let files : HasFiles gives c.args.words asked.geometry asked.capacity bytes written =
-    record { asked = c.in_ok-asked.ensures.ok; image = c.in_ok-bytes.ensures.ok; certificate = c.in_ok-bytes.ensures.same c.args.words.certificate.now written c.in_ok-written.ensures.ok } in
+    record { asked = c.in_ok-asked.ensures.ok; image = c.in_ok-bytes.ensures.ok; certificate = c.in_ok-bytes.ensures.same c.args.words.certificate.now (Ok written) c.in_ok-written.ensures.ok } in
     let P : List ℕ → Type 0 = λ w. IsNoCertificate w c.in_err-certificate.field-0.0 in
     stops gives c.args.words _ _ c.from_residual-in_err-certificate.result c.in_err-certificate.field-0.0 (search rules) (search rules)
     (inr (inr (inr (inl (asked.geometry, asked.capacity, bytes, written, files, subst P c.deref.ensures.value c.in_err-certificate.ensures.fault)))))
@@ -35,7 +35,7 @@ returns-in_err-hold-clause-does g c =
     let written = c.in_ok-written.written.items in
     let claim = c.in_ok-certificate.certificate in
     let files : HasFiles gives c.args.words asked.geometry asked.capacity bytes written =
-    record { asked = c.in_ok-asked.ensures.ok; image = c.in_ok-bytes.ensures.ok; certificate = c.in_ok-bytes.ensures.same c.args.words.certificate.now written c.in_ok-written.ensures.ok } in
+    record { asked = c.in_ok-asked.ensures.ok; image = c.in_ok-bytes.ensures.ok; certificate = c.in_ok-bytes.ensures.same c.args.words.certificate.now (Ok written) c.in_ok-written.ensures.ok } in
     let Q : List ℕ → Type 0 = λ w. IsSpelled claim w in
     let P : List ℕ → Type 0 = λ b. IsUnheld asked.geometry asked.capacity b claim c.in_err-hold.field-0.0 in
     stops gives c.args.words _ _ c.from_residual-in_err-hold.result c.in_err-hold.field-0.0 (search rules) (search rules)
@@ -49,7 +49,7 @@ returns-clause-does g c =
     let written = c.in_ok-written.written.items in
     let claim = c.in_ok-certificate.certificate in
     let files : HasFiles gives c.args.words asked.geometry asked.capacity bytes written =
-    record { asked = c.in_ok-asked.ensures.ok; image = c.in_ok-bytes.ensures.ok; certificate = c.in_ok-bytes.ensures.same c.args.words.certificate.now written c.in_ok-written.ensures.ok } in
+    record { asked = c.in_ok-asked.ensures.ok; image = c.in_ok-bytes.ensures.ok; certificate = c.in_ok-bytes.ensures.same c.args.words.certificate.now (Ok written) c.in_ok-written.ensures.ok } in
     let Q : List ℕ → Type 0 = λ w. IsSpelled claim w in
     let P : List ℕ → Type 0 = λ b. IsHeld asked.geometry asked.capacity b claim in
     prints gives c.args.words asked.geometry asked.capacity bytes written claim _ _ c.print_accepted.result files

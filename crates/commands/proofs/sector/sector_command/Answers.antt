@@ -1,4 +1,4 @@
-use Rattle.std.proofs.Common.{true, false, ◌≡◌, Err, Result, refl, rules, subst, sym, ap, ◌∙◌, length}
+use Rattle.std.proofs.Common.{true, false, ◌≡◌, inr, Err, Result, refl, rules, subst, sym, ap, ◌∙◌, length}
 use Rattle.commands.specs.declared.text.CommandFault.{CommandFault}
 use Rattle.commands.specs.declared.sector.PrintFault.{PrintFault}
 use Rattle.commands.specs.Sector.{DoesSector, HasImage, IsAsked, IsPrintFault, IsUnprinted}
@@ -61,3 +61,16 @@ returns-in-Err-Write-clause-does g c =
     } in
     let Q : PrintFault → Type 0 = λ f. IsPrintFault c.in-Ok.image.flash.geometry c.in-Ok.image.flash.image c.in_ok-sector.sector f in
     (refl, (geometry, c.in_ok-sector.sector, bytes, image, readable_in c.in-Ok.image.flash geometry c.deref.result.now bytes c.in_ok-sector.sector c.in-Ok.ensures.image c.deref.ensures.value (subst Q c.in-Err-Write.field-0-is c.in-Err-Write.ensures.fault)))
+
+pub returns-clause-does : goal.returns-clause-does
+returns-clause-does g c =
+    let geometry = c.in_ok-geometry.geometry in
+    let bytes = c.in_ok-bytes.bytes.items in
+    let image : HasImage (g.F.FileStore.gives c.args.files.now) c.args.words geometry c.in_ok-sector.sector bytes = record {
+      asked = record { numbers = c.in_ok-numbers.numbers; geometry = c.in_ok-numbers.ensures.ok; sector = c.in_ok-sector.ensures.ok; valid = c.in_ok-geometry.ensures.ok };
+      given = c.in_ok-bytes.ensures.ok;
+      whole = ap length (sym c.deref.ensures.value) ∙ c.in-Ok.ensures.accepted.0 refl;
+    } in
+    let P : PrintFault → Type 0 = λ f. IsUnprinted f (g.W.Write.contents c.args.out.now) (g.W.Write.contents c.print_sector.new.out) in
+    let Q : PrintFault → Type 0 = λ f. IsPrintFault c.in-Ok.image.flash.geometry c.in-Ok.image.flash.image c.in_ok-sector.sector f in
+    (subst P c.in-Err-OutOfMemory.field-0-is c.in-Err-OutOfMemory.ensures.unprinted, inr (geometry, c.in_ok-sector.sector, bytes, image, readable_in c.in-Ok.image.flash geometry c.deref.result.now bytes c.in_ok-sector.sector c.in-Ok.ensures.image c.deref.ensures.value (subst Q c.in-Err-OutOfMemory.field-0-is c.in-Err-OutOfMemory.ensures.fault)))
