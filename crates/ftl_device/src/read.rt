@@ -1,5 +1,5 @@
 //! Sectors are read.
-ghost use Rattle.std.specs.Prelude.{◌≡◌, ◌≢◌, ◌+◌, ◌<◌, ◌≤◌, [], true, length, None, Some, Err, IfOk, IfErr, OnOk, OnErr};
+ghost use Rattle.std.specs.Prelude.{◌≡◌, ◌≢◌, ◌+◌, ◌<◌, ◌≤◌, [], true, length, None, Some, Err, IsSome, IfOk, IfErr, OnOk, OnErr};
 ghost use Rattle.std.specs.Option.{ForSome};
 ghost use Rattle.page_layout.specs.Page.{Image, page};
 ghost use Rattle.page_layout.specs.Counter.{HasRisen};
@@ -7,7 +7,7 @@ ghost use Rattle.page_layout.specs.Geometry.{row_count};
 ghost use Rattle.page_layout.specs.declared.record.Key.TheVariants.{Sector};
 ghost use Rattle.promises.specs.Step.{ArrayStep, Read};
 ghost use Rattle.image_check.specs.Mountable.{IsMountable};
-ghost use Rattle.mapping_cache.specs.Mapping.{HasLimitsOf};
+ghost use Rattle.mapping_cache.specs.Mapping.{HasLimitsOf, known};
 ghost use Rattle.collection.specs.Safe.{ram, image_in};
 ghost use Rattle.collection.specs.Truth.{IsTrue};
 ghost use Rattle.collection.specs.Pages.{newest_row};
@@ -59,7 +59,8 @@ impl<N: Nand> Device<N> {
     }
 
     /// Reads a sector: `out`, of one data area, gets its bytes, or 00h bytes where it was never
-    /// written or was trimmed. It programs and erases nothing, and makes at most two page reads.
+    /// written or was trimmed. It programs and erases nothing, and makes at most two page reads, and
+    /// at most one where the sector's row is in memory.
     ///
     /// A cached sector becomes the most recently used. Another is cached where the cache isn't full or
     /// its least recently used entry is clean, and memory is there; else it is read all the same.
@@ -93,6 +94,7 @@ impl<N: Nand> Device<N> {
         ensures read_only { self.new.read_only ≡ self.old.read_only }
         ensures honest { N.honest self.new.engine.nand ≡ N.honest self.old.engine.nand }
         ensures reads { N.reads self.new.engine.nand ≤ N.reads self.old.engine.nand + 2 }
+        ensures hit { IsSome (known self.old.engine.mapping sector) → N.reads self.new.engine.nand ≤ N.reads self.old.engine.nand + 1 }
         ensures programs { N.programs self.new.engine.nand ≡ N.programs self.old.engine.nand }
         ensures erases { N.erases self.new.engine.nand ≡ N.erases self.old.engine.nand }
         ensures failed { N.failed self.old.engine.nand ≤ N.failed self.new.engine.nand }
