@@ -1,7 +1,7 @@
 -- A RUN OF A DEVICE: commands that it is told one after another, what it answered to each, and what its die held after each.
-use Rattle.std.specs.Prelude.{◌≡◌, ◌≢◌, ℕ, ◌+◌, ◌<◌, ◌≤◌, Bool, true, List, [], ◌∷◌, ◌++◌, length, map, replicate, Option, Some, IsSome, Result, Err, IfErr}
-use Rattle.std.specs.Option.{option_map}
-use Rattle.std.specs.List.{AllByRecursion}
+use Rattle.std.specs.Prelude.{◌≡◌, ◌≢◌, ℕ, ◌+◌, ◌<◌, ◌≤◌, Bool, true, List, [], ◌∷◌, ◌++◌, length, map, replicate, Option, Some, IsSome, Result, Err, IfErr, OnErr}
+use Rattle.std.specs.Option.{option_map, ForSome}
+use Rattle.std.specs.List.{AllByRecursion, AllZip}
 use Rattle.page_layout.specs.declared.geometry.Geometry.{Geometry}
 use Rattle.page_layout.specs.Flash.{Flash, Operation}
 use Rattle.certificate.specs.Claim.{Claim}
@@ -18,7 +18,7 @@ use Rattle.collection.specs.Safe.{ram, image_in}
 use Rattle.collection.specs.Log.{Follows, Went}
 use Rattle.ftl_device.specs.declared.device.Device.{Device}
 use Rattle.ftl_device.specs.declared.fault.DeviceFault.{DeviceFault}
-use Rattle.ftl_device.specs.declared.fault.DeviceFault.TheVariants.{OutOfMemory, BusFault}
+use Rattle.ftl_device.specs.declared.fault.DeviceFault.TheVariants.{OutOfRange, ReadOnly, SequenceSpent, OutOfMemory, Damaged, BusFault}
 use Rattle.ftl_device.specs.declared.run.Command.{Command}
 use Rattle.ftl_device.specs.declared.run.Command.TheVariants.{Read, Write, Trim}
 use Rattle.ftl_device.specs.declared.run.Call.{Call}
@@ -81,6 +81,39 @@ AreKnown calls = AllByRecursion IsKnown calls
 abbrev pub AreAnswered : List Call → Type 0
 AreAnswered calls = AllByRecursion (λ (c : Call). IsSome c.reply) calls
 
+-- the fault stops the device: the die's after any command, damage after one that changes a sector
+abbrev pub Stops : Command → DeviceFault → Type 0
+Stops command OutOfRange = ⊥
+Stops command (ReadOnly good wanted failed) = ⊥
+Stops command SequenceSpent = ⊥
+Stops command OutOfMemory = ⊥
+Stops (Read sector) Damaged = ⊥
+Stops (Write sector body) Damaged = Unit {0}
+Stops (Trim sector) Damaged = Unit {0}
+Stops command BusFault = Unit {0}
+
+-- each call was answered this fault
+abbrev pub AreRefused : DeviceFault → List Call → Type 0
+AreRefused fault calls = AllByRecursion (λ (c : Call). c.reply ≡ Some (Err fault)) calls
+
+-- after a call that stopped the device each is answered its fault
+abbrev pub StaysStopped : List Call → Type 0
+StaysStopped [] = Unit {0}
+StaysStopped (call ∷ calls) = ((fault : DeviceFault) → call.reply ≡ Some (Err fault) → Stops call.command fault → AreRefused fault calls) × StaysStopped calls
+
+-- only a read that is done changes its bytes
+abbrev pub KeepsBytes : Command → Result (Unit {0}) DeviceFault → List ℕ → List ℕ → Type 0
+KeepsBytes (Read sector) result old new = OnErr result (new ≡ old)
+KeepsBytes (Write sector body) result old new = new ≡ old
+KeepsBytes (Trim sector) result old new = new ≡ old
+
+-- a call before and after it was told
+abbrev pub HasKept : Call → Call → Type 0
+HasKept old new = ForSome new.reply (λ result. KeepsBytes new.command result old.bytes.items new.bytes.items)
+
+abbrev pub HaveKept : List Call → List Call → Type 0
+HaveKept old new = AllZip HasKept old new
+
 -- ---- the run
 
 -- a device between two commands
@@ -94,8 +127,9 @@ pub record First : Type 0 where
   pub bad : ℕ → Bool
   pub next : ℕ
 
--- What is so of each event, where `before` is the log up to it. A refusal shows a shortage or a sequence that is spent, by the image and
--- the one log; a sector that was stale in the image took no memory; and afterwards the image has a certificate.
+-- What is so of each event, where `before` is the log up to it. `ReadOnly` has fewer than five free blocks and its counts, and
+-- `SequenceSpent` the last sequence, by the image and the one log; a sector that was stale in the image took no memory; and afterwards the
+-- image has a certificate.
 pub record IsFair (first : First) (old : runs.Device) (before : List Operation) (event : Event) (call : Call) : Type 0 where
   pub shown : (fault : DeviceFault) → call.reply ≡ Some (Err fault) → IsShown first.geometry first.bad first.next (before ++ event.piece) event.piece event.left.flash.image fault
   pub stale : is_stale first.geometry old.flash.image (sector_of call.command) ≡ true → call.reply ≢ Some (Err OutOfMemory)

@@ -20,8 +20,9 @@ pub fn restart_laws()
 {}
 
 /// At every call: the good and the free blocks of a memory that agrees with the image are those that
-/// the image shows, a log leaves bad those that were bad and those that failed in it, and a shortage
-/// by the memory is one by the image and the log. (This project.)
+/// the image shows, a log leaves bad those that were bad and those that failed in it, and where the
+/// memory has fewer than five free blocks, the image and the log have too, with the same counts. (This
+/// project.)
 pub fn count_laws()
     ensures free { FreeNowLaw }
     ensures good { GoodNowLaw }

@@ -1,10 +1,13 @@
 //! Commands, told to a device one after another.
-ghost use Rattle.std.specs.Prelude.{◌≡◌, ◌≢◌, ◌≤◌, true, map, None, Some, Err, IsSome, IfOk, IfErr, OnOk, OnErr};
+ghost use Rattle.std.specs.Prelude.{◌≡◌, ◌≢◌, ◌≤◌, ◌⊎◌, true, map, None, Some, Err, IsSome, IfOk, IfErr, OnOk, OnErr};
+ghost use Rattle.std.specs.Option.{ForSome};
+ghost use Rattle.page_layout.specs.Counter.{HasRisen};
 ghost use Rattle.mapping_cache.specs.Mapping.{HasLimitsOf};
 ghost use Rattle.certificate.specs.Claim.{sizes_of};
 ghost use Rattle.ftl_device.specs.Device.{IsDevice, IsAcceptedFor};
-ghost use Rattle.ftl_device.specs.Calls.{IsWell};
-ghost use Rattle.ftl_device.specs.Run.{room_for, told, HasRoom, AreWhole, AreKnown, AreAnswered, Happened, Ran, RanFrom};
+ghost use Rattle.ftl_device.specs.Calls.{stop_of, IsWell};
+ghost use Rattle.ftl_device.specs.Run.{room_for, told, HasRoom, AreWhole, AreKnown, AreAnswered};
+ghost use Rattle.ftl_device.specs.Run.{Stops, AreRefused, StaysStopped, KeepsBytes, HaveKept, Happened, Ran, RanFrom};
 
 use crate::device::Device;
 use crate::fault::{DeviceFault, StartFault};
@@ -13,7 +16,7 @@ use onfi_cycles::Nand;
 use page_layout::geometry::Geometry;
 use std::alloc::{AllocError, Global};
 
-/// What a device is told.
+/// What a device is told. (This project.)
 #[derive(Clone, Copy)]
 pub enum Command<'a> {
     /// Read a sector.
@@ -24,7 +27,7 @@ pub enum Command<'a> {
     Trim { sector: u32 },
 }
 
-/// A command, and what the device answered to it.
+/// A command, and what the device answered to it. (This project.)
 #[derive(Drop)]
 pub struct Call<'a> {
     /// What the device is told.
@@ -64,7 +67,7 @@ impl<'a> Call<'a> {
 }
 
 impl<N: Nand> Device<N> {
-    // Tells the device one command; a read gives its bytes.
+    // Tells the device one command; a read that is done gives its bytes, and no other changes them.
     fn tell(&mut self, command: Command<'_>, bytes: &mut [u8]) -> Result<(), DeviceFault>
         requires device { IsDevice N.flash self.old }
         requires room { HasRoom self.old.engine.geometry command bytes.old }
@@ -73,6 +76,12 @@ impl<N: Nand> Device<N> {
         ensures limits { HasLimitsOf self.old.engine.mapping self.new.engine.mapping }
         ensures honest { N.honest self.new.engine.nand ≡ N.honest self.old.engine.nand }
         ensures room { HasRoom self.old.engine.geometry command.entry bytes.new }
+        ensures failed { N.failed self.old.engine.nand ≤ N.failed self.new.engine.nand }
+        ensures kept { KeepsBytes command.entry result bytes.old bytes.new }
+        ensures stopped { ForSome (stop_of self.old.engine.fault) (λ fault. (result ≡ Err fault) × (self.new ≡ self.old)) }
+        ensures stops { IfErr result (λ fault. Stops command.entry fault → stop_of self.new.engine.fault ≡ Some fault) }
+        ensures rose { stop_of self.old.engine.fault ≡ None → result ≡ Err DeviceFault.BusFault →
+            HasRisen (N.failed self.old.engine.nand) (N.failed self.new.engine.nand) }
         ensures well { N.honest self.old.engine.nand ≡ true → IsWell N.flash self.old → result ≢ Err DeviceFault.BusFault →
             IsWell N.flash self.new }
         ensures happened { N.honest self.old.engine.nand ≡ true → IsWell N.flash self.old → result ≢ Err DeviceFault.BusFault →
@@ -86,12 +95,15 @@ impl<N: Nand> Device<N> {
     }
 
     /// Tells the device a list of commands, one after another, and puts its answer to each. A read
-    /// that is done has the sector's bytes; the commands stay as they are. It takes no memory of its
-    /// own, and a device that was stopped answers its fault to all that is left.
+    /// that is done has the sector's bytes; all other bytes and the commands stay as they are. It
+    /// takes no memory of its own. A device that was stopped answers its fault to all that is left:
+    /// `BusFault` stops it, and `Damaged` after a write or trim.
     ///
-    /// Where the die is honest and gave every outcome, the answers are a run of the array that the
-    /// die's image holds as it begins: each answer is the array's, the image holds the array after
-    /// each, the log of it all is legal, and each refusal shows a shortage by the image and that log.
+    /// Where the die is honest, `BusFault` is answered only where its count of failures rose in the
+    /// run or stands at 2^64 - 1. Where it gave every outcome, so that no answer is `BusFault`, the
+    /// answers are a run of the array that the die's image holds as it begins: each answer is the
+    /// array's, the image holds the array after each, the log of it all is legal, none is `Damaged`,
+    /// and each `ReadOnly` has fewer than five free blocks and its counts by the image and that log.
     ///
     /// (This project.)
     pub fn run(&mut self, calls: &mut [Call<'_>])
@@ -104,8 +116,16 @@ impl<N: Nand> Device<N> {
         ensures whole { AreWhole self.old.engine.geometry calls.new }
         ensures commands { map told calls.new ≡ map told calls.old }
         ensures answered { AreAnswered calls.new }
+        ensures kept { HaveKept calls.old calls.new }
+        ensures failed { N.failed self.old.engine.nand ≤ N.failed self.new.engine.nand }
+
+        // A device that was stopped, before the run or in it, stays so.
+        ensures stopped { ForSome (stop_of self.old.engine.fault) (λ fault. AreRefused fault calls.new × (self.new ≡ self.old)) }
+        ensures stays { StaysStopped calls.new }
 
         // What is true of an honest die.
+        ensures rose { N.honest self.old.engine.nand ≡ true → IsWell N.flash self.old →
+            AreKnown calls.new ⊎ HasRisen (N.failed self.old.engine.nand) (N.failed self.new.engine.nand) }
         ensures well { N.honest self.old.engine.nand ≡ true → IsWell N.flash self.old → AreKnown calls.new → IsWell N.flash self.new }
         ensures ran { N.honest self.old.engine.nand ≡ true → IsWell N.flash self.old → AreKnown calls.new →
             Ran N.flash self.old calls.new self.new }
@@ -118,10 +138,12 @@ impl<N: Nand> Device<N> {
     /// Starts a device over a die whose image a checker accepted, and tells it a list of commands, as
     /// `start` and `run` do.
     ///
-    /// Where the die is honest and gave every outcome, and the certificate was accepted for its image,
-    /// the answers are a run of the array that this image holds; the log of it all is legal for this
-    /// image and the certificate's bad blocks, and each refusal shows a shortage by the image and that
-    /// log. `read_only` is the run's as it ends.
+    /// Where the die is honest and the certificate was accepted for its image, `BusFault` is answered
+    /// only where the die's count of failures rose or stands at 2^64 - 1. Where no answer is
+    /// `BusFault`, the answers are a run of the array that this image holds; the log of it all is legal
+    /// for this image and the certificate's bad blocks, none is `Damaged`, and each `ReadOnly` has
+    /// fewer than five free blocks and its counts by the image and that log. `read_only` is the run's
+    /// as it ends.
     ///
     /// # Errors
     ///
@@ -138,8 +160,13 @@ impl<N: Nand> Device<N> {
         ensures device { IfOk result (IsDevice N.flash) }
         ensures commands { map told calls.new ≡ map told calls.old }
         ensures answered { OnOk result (AreAnswered calls.new) }
+        ensures kept { OnOk result (HaveKept calls.old calls.new) }
+        ensures failed { IfOk result (λ d. N.failed nand ≤ N.failed d.engine.nand) }
+        ensures stays { OnOk result (StaysStopped calls.new) }
 
         // What is true of an honest die.
+        ensures rose { IfOk result (λ d. N.honest nand ≡ true → IsAcceptedFor (N.flash nand) accepted.entry →
+            AreKnown calls.new ⊎ HasRisen (N.failed nand) (N.failed d.engine.nand)) }
         ensures well { IfOk result (λ d. N.honest nand ≡ true → IsAcceptedFor (N.flash nand) accepted.entry → AreKnown calls.new →
             IsWell N.flash d) }
         ensures ran { IfOk result (λ d. N.honest nand ≡ true → IsAcceptedFor (N.flash nand) accepted.entry → AreKnown calls.new →

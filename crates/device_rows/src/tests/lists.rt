@@ -1,12 +1,15 @@
 // Lists of commands, told from an accepted certificate on.
-ghost use Rattle.std.specs.Prelude.{◌≡◌, IfOk};
-ghost use Rattle.certificate.specs.Claim.{sizes_of};
-ghost use Rattle.ftl_device.specs.Run.{IsWhole, AreWhole};
+ghost use Rattle.std.specs.Prelude.{◌≡◌, ◌⊎◌, IfOk, OnOk};
+ghost use Rattle.page_layout.specs.Counter.{HasRisen};
+ghost use Rattle.onfi_cycles.specs.Driver.{flash_by};
+ghost use Rattle.ftl_device.specs.Run.{IsWhole, AreWhole, AreKnown, RanFrom};
 
-use super::bench::{checked, formatted_die, mounted, small};
+use super::bench::{formatted_die, mounted, small};
+use certificate::Certificate;
 use ftl_device::{Call, Command, Device, DeviceFault};
-use image_check::Accepted;
-use onfi_cycles::Nand;
+use image_check::check;
+use nand_die::Die;
+use onfi_cycles::{Driver, Nand};
 use page_layout::geometry::Geometry;
 use std::alloc::Global;
 use std::process::Abort;
@@ -112,40 +115,45 @@ fn hold_writable<N: Nand>(rt: &impl Abort, device: &Device<N>) {
     assert!(rt; !device.read_only());
 }
 
-// Tells a list to a device on a die that was accepted.
-fn tell_accepted<N: Nand + Drop>(
-    rt: &impl Abort,
+// Tells a list to a device on a die in memory, where its certificate is accepted. With no premise on
+// the die, since it is honest, the answers are a run of what it holds.
+fn run_on_die(
     alloc: Global,
-    nand: N,
-    accepted: Accepted<'_>,
+    mut driver: Driver<Die>,
+    geometry: &Geometry,
+    certificate: &Certificate,
     calls: &mut [Call<'_>],
-) -> Result<(), Fail>
-    requires same { sizes_of (N.flash nand).geometry ≡ accepted.claim.sizes }
-    requires whole { AreWhole (N.flash nand).geometry calls.old }
+) -> Result<Device<Driver<Die>>, Fail>
+    requires same { driver.geometry ≡ geometry.now }
+    requires whole { AreWhole geometry.now calls.old }
+    ensures rose { IfOk result (λ d. AreKnown calls.new ⊎ HasRisen driver.failures d.engine.nand.failures) }
+    ensures ran { IfOk result (λ d. AreKnown calls.new → RanFrom (flash_by (λ die. die.state)) (flash_by (λ die. die.state) driver)
+        certificate.now calls.new d) }
 {
-    match Device::run_accepted(alloc, nand, accepted, calls) {
-        Ok(device) => {
-            hold_writable(rt, &device);
-            Ok(())
-        }
+    let accepted = check(alloc, &mut driver, geometry, 4, certificate)?;
+    match Device::run_accepted(alloc, driver, accepted, calls) {
+        Ok(device) => Ok(device),
         Err(_) => Err("no memory")?,
     }
 }
 
-// Tells a list to a device on a die that is mounted and checked.
-fn tell<N: Nand + Drop>(
+// Tells a list to a device on a die in memory that is mounted, and gives the die up: it counts no
+// failures of the device, so that no answer is its fault.
+fn tell(
     rt: &impl Abort,
     alloc: Global,
-    mut nand: N,
+    mut driver: Driver<Die>,
     geometry: &Geometry,
     calls: &mut [Call<'_>],
-) -> Result<(), Fail>
-    requires same { (N.flash nand).geometry ≡ geometry.now }
+) -> Result<Die, Fail>
+    requires same { driver.geometry ≡ geometry.now }
     requires whole { AreWhole geometry.now calls.old }
+    ensures known { OnOk result (AreKnown calls.new) }
 {
-    let certificate = mounted(alloc, &mut nand, geometry, 4)?;
-    let accepted = checked(alloc, &mut nand, geometry, 4, &certificate)?;
-    tell_accepted(rt, alloc, nand, accepted, calls)
+    let certificate = mounted(alloc, &mut driver, geometry, 4)?;
+    let device = run_on_die(alloc, driver, geometry, &certificate, calls)?;
+    hold_writable(rt, &device);
+    Ok(device.into_nand().into_bus())
 }
 
 // A command has its answer and its bytes.
