@@ -127,7 +127,7 @@ pub record IsRunning {N : Type 0} (flash : N → Flash) (honest : N → Bool) (f
   pub stopped : ForSome (stop_of old.engine.fault) (λ fault. AreRefused fault (take done calls) × (now ≡ old))
   pub halted : AreHalted (stop_of now.engine.fault) (take done calls)
   pub stays : StaysStopped (take done calls)
-  pub rose : honest old.engine.nand ≡ true → IsWell flash old → (IsWell flash now × AreKnown (take done calls)) ⊎ HasRisen (failed old.engine.nand) (failed now.engine.nand)
+  pub rose : stop_of old.engine.fault ≡ None → ((stop_of now.engine.fault ≢ Some BusFault) × AreKnown (take done calls)) ⊎ HasRisen (failed old.engine.nand) (failed now.engine.nand)
   pub ran : honest old.engine.nand ≡ true → IsWell flash old → AreKnown (take done calls) → IsWell flash now × Ran flash old (take done calls) now
 
 pub running_none : {N : Type 0} (flash : N → Flash) (honest : N → Bool) (failed : N → ℕ) (old : Device N) (calls : List Call) → IsDevice flash old → AreWhole old.engine.geometry calls → IsRunning flash honest failed old old calls calls 0
@@ -145,7 +145,7 @@ running_none flash honest failed old calls device whole = record {
   stopped = λ fault is. (tt, refl);
   halted = tt;
   stays = tt;
-  rose = λ is_honest well. inl (well, tt);
+  rose = λ going. inl ((λ e. let no : ⊥ = cc in no), tt);
   ran = λ is_honest well known. (well, ran_none flash old);
 }
 
@@ -158,7 +158,8 @@ module _ {N : Type 0} (flash : N → Flash) (honest : N → Bool) (failed : N �
     (happened : honest now.engine.nand ≡ true → IsWell flash now → result ≢ Err BusFault → Happened flash now after.command bytes result new)
     (kept : KeepsBytes after.command result call.bytes.items bytes) (failed_is : failed now.engine.nand ≤ failed new.engine.nand)
     (stopped : ForSome (stop_of now.engine.fault) (λ fault. (result ≡ Err fault) × (new ≡ now))) (stops : IfErr result (λ fault. Stops after.command fault → stop_of new.engine.fault ≡ Some fault))
-    (rose : stop_of now.engine.fault ≡ None → result ≡ Err BusFault → HasRisen (failed now.engine.nand) (failed new.engine.nand)) where
+    (rose : stop_of now.engine.fault ≡ None → result ≡ Err BusFault → HasRisen (failed now.engine.nand) (failed new.engine.nand))
+    (standing : ForSome (stop_of new.engine.fault) (λ fault. result ≡ Err fault)) where
   its_take : take (done + 1) (set calls done after) ≡ take done calls ++ after ∷ []
   its_take = take_more_set calls done after below
 
@@ -197,18 +198,25 @@ module _ {N : Type 0} (flash : N → Flash) (honest : N → Bool) (failed : N �
   stays_on = stays_more (stop_of now.engine.fault) (take done calls) after (λ fault is. replied ∙ ap Some (stopped fault is).0) running.halted running.stays
 
   RoseBy : List Call → Type 0
-  RoseBy cs = (IsWell flash new × AreKnown cs) ⊎ HasRisen (failed old.engine.nand) (failed new.engine.nand)
+  RoseBy cs = ((stop_of new.engine.fault ≢ Some BusFault) × AreKnown cs) ⊎ HasRisen (failed old.engine.nand) (failed new.engine.nand)
 
-  rose_by : honest now.engine.nand ≡ true → IsWell flash now → AreKnown (take done calls) → (result ≡ Err BusFault) ⊎ (result ≢ Err BusFault) → RoseBy (take done calls ++ after ∷ [])
-  unfolding RoseBy
-  rose_by still now_well known (inl bus) = inr (risen_over (failed old.engine.nand) (failed now.engine.nand) (failed new.engine.nand) running.failed_is (rose now_well.going bus))
-  rose_by still now_well known (inr ne) =
-      inl (wells still now_well ne, all_more IsKnown (take done calls) after known (λ e. ne (sym (its_result (Err BusFault) e))))
+  was_going : stop_of now.engine.fault ≢ Some BusFault → result ≡ Err BusFault → (o : Option DeviceFault) → stop_of now.engine.fault ≡ o → o ≡ None
+  was_going ne bus None is = refl
+  was_going ne bus (Some fault) is =
+      let same : fault ≡ BusFault = (let both : Err fault ≡ Err BusFault = sym (stopped fault is).0 ∙ bus in cc) in
+      absurd (ne (is ∙ ap Some same))
 
-  rose_on : honest now.engine.nand ≡ true → (IsWell flash now × AreKnown (take done calls)) ⊎ HasRisen (failed old.engine.nand) (failed now.engine.nand) → RoseBy (take done calls ++ after ∷ [])
+  rose_by : stop_of now.engine.fault ≢ Some BusFault → AreKnown (take done calls) → (result ≡ Err BusFault) ⊎ (result ≢ Err BusFault) → RoseBy (take done calls ++ after ∷ [])
   unfolding RoseBy
-  rose_on still (inl known) = rose_by still known.0 known.1 (bus_or result)
-  rose_on still (inr risen) = inr (risen_on (failed old.engine.nand) (failed now.engine.nand) (failed new.engine.nand) running.failed_is failed_is risen)
+  rose_by going known (inl bus) =
+      inr (risen_over (failed old.engine.nand) (failed now.engine.nand) (failed new.engine.nand) running.failed_is (rose (was_going going bus (stop_of now.engine.fault) refl) bus))
+  rose_by going known (inr ne) =
+      inl ((λ e. ne (standing BusFault e)), all_more IsKnown (take done calls) after known (λ e. ne (sym (its_result (Err BusFault) e))))
+
+  rose_on : ((stop_of now.engine.fault ≢ Some BusFault) × AreKnown (take done calls)) ⊎ HasRisen (failed old.engine.nand) (failed now.engine.nand) → RoseBy (take done calls ++ after ∷ [])
+  unfolding RoseBy
+  rose_on (inl known) = rose_by known.0 known.1 (bus_or result)
+  rose_on (inr risen) = inr (risen_on (failed old.engine.nand) (failed now.engine.nand) (failed new.engine.nand) running.failed_is failed_is risen)
 
   pub running_more : IsRunning flash honest failed old new before (set calls done after) (done + 1)
   unfolding RoseBy
@@ -225,7 +233,7 @@ module _ {N : Type 0} (flash : N → Flash) (honest : N → Bool) (failed : N �
     stopped = subst (λ (cs : List Call). ForSome (stop_of old.engine.fault) (λ fault. AreRefused fault cs × (new ≡ old))) (sym its_take) stopped_on;
     halted = subst (AreHalted (stop_of new.engine.fault)) (sym its_take) halted_on;
     stays = subst StaysStopped (sym its_take) stays_on;
-    rose = λ is_honest well. subst RoseBy (sym its_take) (rose_on (running.honest_is ∙ is_honest) (running.rose is_honest well));
+    rose = λ going. subst RoseBy (sym its_take) (rose_on (running.rose going));
     ran = λ is_honest well known. subst (λ (cs : List Call). IsWell flash new × Ran flash old cs new) (sym its_take) (ran_on is_honest well (subst AreKnown its_take known));
   }
 
@@ -234,7 +242,7 @@ pub record HasTold {N : Type 0} (flash : N → Flash) (honest : N → Bool) (fai
   pub answered : AreAnswered calls
   pub stopped : ForSome (stop_of old.engine.fault) (λ fault. AreRefused fault calls × (now ≡ old))
   pub stays : StaysStopped calls
-  pub rose : honest old.engine.nand ≡ true → IsWell flash old → AreKnown calls ⊎ HasRisen (failed old.engine.nand) (failed now.engine.nand)
+  pub rose : stop_of old.engine.fault ≡ None → AreKnown calls ⊎ HasRisen (failed old.engine.nand) (failed now.engine.nand)
   pub ran : honest old.engine.nand ≡ true → IsWell flash old → AreKnown calls → IsWell flash now × Ran flash old calls now
 
 known_or : {A B C : Type 0} → (A × B) ⊎ C → B ⊎ C
@@ -247,7 +255,7 @@ module _ {N : Type 0} (flash : N → Flash) (honest : N → Bool) (failed : N �
     answered = running.answered;
     stopped = running.stopped;
     stays = running.stays;
-    rose = λ is_honest well. known_or (running.rose is_honest well);
+    rose = λ going. known_or (running.rose going);
     ran = running.ran;
   })
 

@@ -1,5 +1,6 @@
 -- A sector is made ready: the place that its entry finds.
 use Rattle.std.proofs.Common.{◌≡◌, ◌≢◌, ℕ, zero, suc, ◌-◌, ◌/◌, ◌<◌, ◌∙◌, true, false, eqb, List, [], ◌∷◌, length, map, slice_get, Option, Some, None, IsSome, Result, Ok, Err, OnOk, refl, sym, ap, subst}
+use Rattle.std.specs.Prelude.{slice_set}
 use Rattle.std.specs.List.{IsDistinct}
 use Rattle.std.specs.Option.{ForSome, option_map, option_map_or}
 use Rattle.std.specs.Map.{keys_of, lookup, lookup_entry, remove_entry}
@@ -8,6 +9,10 @@ use Rattle.std.proofs.lemmas.Map.{lookup-none}
 use Rattle.std.proofs.lemmas.Map.Keys.{IsDistinct-head, IsDistinct-tail}
 use Rattle.std.proofs.lemmas.List.{length-map}
 use Rattle.std.proofs.lemmas.Option.{slice_get-map}
+use Rattle.page_layout.specs.declared.geometry.Geometry.{Geometry}
+use Rattle.page_layout.specs.declared.record.Kind.{Kind}
+use Rattle.page_layout.specs.Page.{Image}
+use Rattle.page_layout.specs.Array.{array_of, content_of_kind}
 use Rattle.page_layout.specs.Geometry.{entries, translation_pages}
 use Rattle.page_layout.proofs.GeometryLemmas.{sector_entry}
 use Rattle.mapping_cache.specs.declared.slot.Slot.{Slot}
@@ -20,9 +25,10 @@ use Rattle.collection.specs.declared.fault.WriteFault.TheVariants.{Bus}
 use Rattle.collection.specs.State.{Ram}
 use Rattle.collection.specs.Safe.{IsRam}
 use Rattle.collection.specs.Settle.{Cleans}
+use Rattle.collection.specs.Results.{IsWritten}
 use Rattle.ftl_device.specs.declared.fault.CallFault.{CallFault}
 use Rattle.ftl_device.specs.declared.fault.CallFault.TheVariants.{Engine}
-use Rattle.ftl_device.specs.Calls.{IsMostRecent}
+use Rattle.ftl_device.specs.Calls.{IsMostRecent, KeepsArray, HoldsSector}
 
 -- ---- an entry by its place
 
@@ -135,3 +141,13 @@ most_recent m new n row same = subst (IsMostRecent n) (sym same) (loaded_first m
 
 pub recent_kept : (n : ℕ) (old new : MappingState) → keys_of new.cached ≡ keys_of old.cached → IsMostRecent n old → IsMostRecent n new
 recent_kept n old new keys first = ap (λ ks. slice_get ks 0) keys ∙ first
+
+-- ---- a sector that was made ready and written
+
+pub written_ready : (g : Geometry) (n : ℕ) (kind : Kind) (body : List ℕ) (mid new : Ram) (before between after : Image) → mid.geometry ≡ g → KeepsArray g before mid between → IsWritten kind n body mid between new after
+    → HoldsSector g n (content_of_kind g kind body) before new after
+written_ready g n kind body mid new before between after same kept written = record {
+  truth = written.truth;
+  array = ap (λ h. array_of h after) (sym same) ∙ (written.array
+      ∙ (ap (λ h. slice_set (array_of h between) n (content_of_kind h kind body)) same ∙ ap (λ xs. slice_set xs n (content_of_kind g kind body)) kept.array));
+}

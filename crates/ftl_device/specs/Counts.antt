@@ -27,7 +27,7 @@ free_by r image = logs.free_count r.geometry (is_bad_by r) [] image
 abbrev pub good_by : Ram → ℕ
 good_by r = logs.good_count r.geometry (is_bad_by r) []
 
--- A SHORTAGE AS THE IMAGE AND THE LOG SHOW IT. After the call fewer than five blocks are free in the image; `good` is the number of good
+-- TOO FEW FREE BLOCKS, AS THE IMAGE AND THE LOG SHOW THEM. After the call fewer than five blocks are free in the image; `good` is the number of good
 -- blocks then, `wanted` the geometry's, `failed` the number of blocks that failed in the call. `bad` are the blocks that were bad before
 -- the log, `log` leads up to the end of the call, and `call` is its last part, that the call added.
 pub record IsShortIn (g : Geometry) (bad : ℕ → Bool) (log call : List Operation) (image : Image) (good wanted failed : ℕ) : Type 0 where
@@ -59,7 +59,7 @@ GoodNowLaw = (r : Ram) → IsRam r → good_count r.blocks.table ≡ good_by r
 abbrev pub BadNowLaw : Type 0
 BadNowLaw = (old new : Ram) (log : List Operation) (b : ℕ) → old.blocks.geometry ≡ old.geometry → Follows old.geometry.pages log old.blocks new.blocks → b < old.geometry.blocks → is_bad_by new b ≡ bad_of old.geometry.pages (is_bad_by old) log b
 
--- a shortage by the memory is one by the image and the log of the call
+-- too few free blocks by the memory are too few by the image and the log of the call
 abbrev pub ShortLaw : Type 0
 ShortLaw = (old new : Ram) (log : List Operation) (image : Image) (good wanted failed : ℕ) → IsRam old → IsRam new → new.geometry ≡ old.geometry → Follows old.geometry.pages log old.blocks new.blocks → IsTrue None new image
     → IsShortOf old new good wanted failed → IsShortIn old.geometry (is_bad_by old) log log image good wanted failed

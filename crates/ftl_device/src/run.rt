@@ -80,6 +80,7 @@ impl<N: Nand> Device<N> {
         ensures kept { KeepsBytes command.entry result bytes.old bytes.new }
         ensures stopped { ForSome (stop_of self.old.engine.fault) (λ fault. (result ≡ Err fault) × (self.new ≡ self.old)) }
         ensures stops { IfErr result (λ fault. Stops command.entry fault → stop_of self.new.engine.fault ≡ Some fault) }
+        ensures standing { ForSome (stop_of self.new.engine.fault) (λ fault. result ≡ Err fault) }
         ensures rose { stop_of self.old.engine.fault ≡ None → result ≡ Err DeviceFault.BusFault →
             HasRisen (N.failed self.old.engine.nand) (N.failed self.new.engine.nand) }
         ensures well { N.honest self.old.engine.nand ≡ true → IsWell N.flash self.old → result ≢ Err DeviceFault.BusFault →
@@ -99,10 +100,11 @@ impl<N: Nand> Device<N> {
     /// takes no memory of its own. A device that was stopped answers its fault to all that is left:
     /// `BusFault` stops it, and `Damaged` after a write or trim.
     ///
-    /// Where the die is honest, `BusFault` is answered only where its count of failures rose in the
-    /// run or stands at 2^64 - 1. Where it gave every outcome, so that no answer is `BusFault`, the
-    /// answers are a run of the array that the die's image holds as it begins: each answer is the
-    /// array's, the image holds the array after each, the log of it all is legal, none is `Damaged`,
+    /// To a device that wasn't stopped, `BusFault` is answered only where the die's count of failures
+    /// rose in the run or stands at 2^64 - 1. Where the die is honest and gave every outcome, so that
+    /// no answer is `BusFault`, the answers are a run of the array that the die's image holds as it
+    /// begins: each answer is the array's, the image holds the array after each, the log of it all is
+    /// legal, none is `Damaged`,
     /// and each `ReadOnly` has fewer than five free blocks and its counts by the image and that log.
     ///
     /// (This project.)
@@ -122,10 +124,10 @@ impl<N: Nand> Device<N> {
         // A device that was stopped, before the run or in it, stays so.
         ensures stopped { ForSome (stop_of self.old.engine.fault) (λ fault. AreRefused fault calls.new × (self.new ≡ self.old)) }
         ensures stays { StaysStopped calls.new }
+        ensures rose { stop_of self.old.engine.fault ≡ None →
+            AreKnown calls.new ⊎ HasRisen (N.failed self.old.engine.nand) (N.failed self.new.engine.nand) }
 
         // What is true of an honest die.
-        ensures rose { N.honest self.old.engine.nand ≡ true → IsWell N.flash self.old →
-            AreKnown calls.new ⊎ HasRisen (N.failed self.old.engine.nand) (N.failed self.new.engine.nand) }
         ensures well { N.honest self.old.engine.nand ≡ true → IsWell N.flash self.old → AreKnown calls.new → IsWell N.flash self.new }
         ensures ran { N.honest self.old.engine.nand ≡ true → IsWell N.flash self.old → AreKnown calls.new →
             Ran N.flash self.old calls.new self.new }
@@ -138,11 +140,11 @@ impl<N: Nand> Device<N> {
     /// Starts a device over a die whose image a checker accepted, and tells it a list of commands, as
     /// `start` and `run` do.
     ///
-    /// Where the die is honest and the certificate was accepted for its image, `BusFault` is answered
-    /// only where the die's count of failures rose or stands at 2^64 - 1. Where no answer is
-    /// `BusFault`, the answers are a run of the array that this image holds; the log of it all is legal
-    /// for this image and the certificate's bad blocks, none is `Damaged`, and each `ReadOnly` has
-    /// fewer than five free blocks and its counts by the image and that log. `read_only` is the run's
+    /// `BusFault` is answered only where the die's count of failures rose or stands at 2^64 - 1. Where
+    /// no answer is `BusFault`, the die is honest and the certificate was accepted for its image, the
+    /// answers are a run of the array that this image holds; the log of it all is legal for this image
+    /// and the certificate's bad blocks, none is `Damaged`, and each `ReadOnly` has fewer than five
+    /// free blocks and its counts by the image and that log. `read_only` is the run's
     /// as it ends.
     ///
     /// # Errors
@@ -163,10 +165,9 @@ impl<N: Nand> Device<N> {
         ensures kept { OnOk result (HaveKept calls.old calls.new) }
         ensures failed { IfOk result (λ d. N.failed nand ≤ N.failed d.engine.nand) }
         ensures stays { OnOk result (StaysStopped calls.new) }
+        ensures rose { IfOk result (λ d. AreKnown calls.new ⊎ HasRisen (N.failed nand) (N.failed d.engine.nand)) }
 
         // What is true of an honest die.
-        ensures rose { IfOk result (λ d. N.honest nand ≡ true → IsAcceptedFor (N.flash nand) accepted.entry →
-            AreKnown calls.new ⊎ HasRisen (N.failed nand) (N.failed d.engine.nand)) }
         ensures well { IfOk result (λ d. N.honest nand ≡ true → IsAcceptedFor (N.flash nand) accepted.entry → AreKnown calls.new →
             IsWell N.flash d) }
         ensures ran { IfOk result (λ d. N.honest nand ≡ true → IsAcceptedFor (N.flash nand) accepted.entry → AreKnown calls.new →

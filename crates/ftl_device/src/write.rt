@@ -151,6 +151,7 @@ impl<N: Nand> Device<N> {
         ensures says { IfErr result (Says (ram self.old.engine) (ram self.new.engine)) }
         ensures rose { stop_of self.old.engine.fault ≡ None → result ≡ Err DeviceFault.BusFault →
             HasRisen (N.failed self.old.engine.nand) (N.failed self.new.engine.nand) }
+        ensures standing { ForSome (stop_of self.new.engine.fault) (λ fault. result ≡ Err fault) }
         ensures cached { IsSome (slot_of self.old.engine.mapping sector) → result ≢ Err DeviceFault.OutOfMemory }
 
         // What it programs, and which sectors it leaves cached, whatever the die does.
@@ -212,6 +213,7 @@ impl<N: Nand> Device<N> {
         ensures says { IfErr result (Says (ram self.old.engine) (ram self.new.engine)) }
         ensures rose { stop_of self.old.engine.fault ≡ None → result ≡ Err DeviceFault.BusFault →
             HasRisen (N.failed self.old.engine.nand) (N.failed self.new.engine.nand) }
+        ensures standing { ForSome (stop_of self.new.engine.fault) (λ fault. result ≡ Err fault) }
         ensures cached { IsSome (slot_of self.old.engine.mapping sector) → result ≢ Err DeviceFault.OutOfMemory }
 
         // What it programs, and which sectors it leaves cached, whatever the die does.

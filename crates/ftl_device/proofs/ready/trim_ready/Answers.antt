@@ -1,8 +1,10 @@
 use Rattle.std.proofs.Common.{◌∙◌}
 use Rattle.std.proofs.lemmas.Result.{err_from_is_err_and}
+use Rattle.page_layout.specs.declared.record.Kind.TheVariants.{Trim}
+use Rattle.page_layout.specs.Array.{zeros}
 use Rattle.collection.specs.Safe.{ram}
 use Rattle.collection.proofs.Logs.{went_then}
-use Rattle.ftl_device.proofs.ReadyLemmas.{ok_not_bus, engine_not_bus, recent_kept}
+use Rattle.ftl_device.proofs.ReadyLemmas.{ok_not_bus, engine_not_bus, recent_kept, written_ready}
 use Rattle.ftl_device.proofs.CostLemmas.{cost_of}
 use Rattle.ftl_device.proofs.ready.trim_ready.Goals as goal
 
@@ -19,3 +21,9 @@ returns-clause-recent g c = recent_kept c.args.sector c.make_ready.new.engine.ma
 
 pub returns-clause-cost : goal.returns-clause-cost
 returns-clause-cost g c = cost_of c.args.sector (ram c.args.engine.now) (ram c.make_ready.new.engine) (ram c.trim_sector.new.self) c.in_ok-make_ready.ensures.cost (c.in_ok-trim_sector.ensures.cost c.in_ok-make_ready.ensures.fault)
+
+pub returns-clause-truth : goal.returns-clause-truth
+returns-clause-truth g c = λ honest well.
+    let kept = c.in_ok-make_ready.ensures.truth honest well in
+    written_ready c.args.engine.now.geometry c.args.sector Trim (zeros c.make_ready.new.engine.geometry) (ram c.make_ready.new.engine) (ram c.trim_sector.new.self) _ _ _ c.make_ready.ensures.geometry kept
+    (c.in_ok-trim_sector.ensures.truth (c.make_ready.ensures.honest ∙ honest) c.in_ok-make_ready.ensures.fault kept.truth)

@@ -19,7 +19,7 @@ loop-call-preserved g c =
     running_more g.N.PageSource.flash g.N.PageSource.honest g.N.PageSource.failed c.args.self.now c.loop-call.self c.tell.new.self c.args.calls.now c.loop-call.calls c.loop-call.call-index
     item after c.tell.result c.requires.device c.loop-call.invariant (slice_get-get_or c.loop-call.calls c.loop-call.call-index c.call-item.result below) below refl refl
     c.tell.ensures.device c.tell.ensures.geometry c.tell.ensures.limits c.tell.ensures.honest c.tell.new.bytes (with_items_is item.bytes c.tell.new.bytes long) c.tell.ensures.room c.tell.ensures.well c.tell.ensures.happened
-    (subst (λ bs. KeepsBytes item.command c.tell.result bs c.tell.new.bytes) c.deref_mut.ensures.value c.tell.ensures.kept) c.tell.ensures.failed c.tell.ensures.stopped c.tell.ensures.stops c.tell.ensures.rose
+    (subst (λ bs. KeepsBytes item.command c.tell.result bs c.tell.new.bytes) c.deref_mut.ensures.value c.tell.ensures.kept) c.tell.ensures.failed c.tell.ensures.stopped c.tell.ensures.stops c.tell.ensures.rose c.tell.ensures.standing
 
 pub returns-clause-kept : goal.returns-clause-kept
 returns-clause-kept g c = all_kept g.N.PageSource.flash g.N.PageSource.honest g.N.PageSource.failed c.args.self.now c.loop-call.self c.args.calls.now c.loop-call.calls c.loop-call.call-index (omega (arith, c.loop-call-test.false)) c.loop-call.invariant
