@@ -104,8 +104,8 @@ impl<N: Nand> Device<N> {
     /// rose in the run or stands at 2^64 - 1. Where the die is honest and gave every outcome, so that
     /// no answer is `BusFault`, the answers are a run of the array that the die's image holds as it
     /// begins: each answer is the array's, the image holds the array after each, the log of it all is
-    /// legal, none is `Damaged`,
-    /// and each `ReadOnly` has fewer than five free blocks and its counts by the image and that log.
+    /// legal, none is `Damaged`, and each `ReadOnly` has fewer than five free blocks and its counts by
+    /// the image and that log.
     ///
     /// (This project.)
     pub fn run(&mut self, calls: &mut [Call<'_>])
@@ -144,8 +144,7 @@ impl<N: Nand> Device<N> {
     /// no answer is `BusFault`, the die is honest and the certificate was accepted for its image, the
     /// answers are a run of the array that this image holds; the log of it all is legal for this image
     /// and the certificate's bad blocks, none is `Damaged`, and each `ReadOnly` has fewer than five
-    /// free blocks and its counts by the image and that log. `read_only` is the run's
-    /// as it ends.
+    /// free blocks and its counts by the image and that log. `read_only` is the run's as it ends.
     ///
     /// # Errors
     ///
