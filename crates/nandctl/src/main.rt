@@ -59,7 +59,8 @@ fn run_words<F: FileStore, R: Read, W: Write, E: Write>(
     out: &mut W,
     err: &mut E,
 ) -> u8
-    ensures { Runs (F.gives files.old) (map string_bytes kept.now) (left (F.stores files.old) (W.contents out.old)) (left (F.stores files.new) (W.contents out.new)) (E.contents err.old) (E.contents err.new) result }
+    ensures { Runs (F.gives files.old) (map string_bytes kept.now) (left (F.stores files.old) (W.contents out.old))
+        (left (F.stores files.new) (W.contents out.new)) (E.contents err.old) (E.contents err.new) result }
 {
     match word_slices(alloc, kept) {
         Ok(words) => run(alloc, words.as_slice(), files, input, out, err),
@@ -76,7 +77,9 @@ fn end<F: FileStore, R: Read, W: Write, E: Write>(
     out: &mut W,
     err: &mut E,
 ) -> ExitCode
-    ensures words { IfOk words.entry (λ kept. Runs (F.gives files.old) (map string_bytes kept.items) (left (F.stores files.old) (W.contents out.old)) (left (F.stores files.new) (W.contents out.new)) (E.contents err.old) (E.contents err.new) (exit_status result)) }
+    ensures words { IfOk words.entry (λ kept. Runs (F.gives files.old) (map string_bytes kept.items)
+        (left (F.stores files.old) (W.contents out.old)) (left (F.stores files.new) (W.contents out.new))
+        (E.contents err.old) (E.contents err.new) (exit_status result)) }
     ensures none { IfErr words.entry (λ fault. IsTold fault (E.contents err.old) (E.contents err.new) (exit_status result)) }
     ensures left { OnErr words.entry (Leaves (left (F.stores files.old) (W.contents out.old)) (left (F.stores files.new) (W.contents out.new))) }
 {
