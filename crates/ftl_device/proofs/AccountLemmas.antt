@@ -1,5 +1,5 @@
 -- What the accounts of a legal log bar.
-use Rattle.std.proofs.Common.{◌≡◌, ◌≢◌, ◌<◌, inl, inr, ◌==◌, ℕ, Bool, true, false, not, ◌&&◌, ◌||◌, List, [], ◌∷◌, refl, sym, ◌∙◌, ap, arith, length, map}
+use Rattle.std.proofs.Common.{◌≡◌, ◌<◌, inl, inr, ◌==◌, ℕ, Bool, true, false, not, ◌&&◌, ◌||◌, List, [], ◌∷◌, refl, sym, ◌∙◌, ap, arith, length, map}
 use Rattle.std.specs.List.{range_with_len}
 use Rattle.std.proofs.Math.Bool.{or_assoc}
 use Rattle.std.proofs.lemmas.List.FromFn.{get_or-map-range_with_len, length-map-range_with_len}
@@ -9,7 +9,7 @@ use Rattle.page_layout.specs.Flash.{Operation}
 use Rattle.bad_blocks.specs.Table.{is_good_at}
 use Rattle.allocation.specs.State.{State, pointer_at}
 use Rattle.promises.specs.Log.{block_of, has_passed, failed_in}
-use Rattle.promises.specs.Legal.{Account, no_account, account_at, noted, accounted, accounted_all, IsDue, LegalFrom}
+use Rattle.promises.specs.Legal.{Account, no_account, account_at, accounted, accounted_all, IsDue, LegalFrom}
 use Rattle.promises.proofs.AccountLemmas.{due_good, length-accounted, length-accounted_all, accounted-same, accounted-other, noted-barred}
 use Rattle.collection.specs.Log.{IsAccounted, Follows}
 

@@ -1,5 +1,5 @@
 -- An agreeing certificate begins a true memory.
-use Rattle.std.proofs.Common.{◌≡◌, ℕ, ◌+◌, ◌/◌, ◌%◌, ◌<◌, Bool, true, false, not, ◌||◌, List, [], ◌∷◌, map, get_or, reverse, filter, Option, Some, None, refl, sym, ap, subst, ◌∙◌, inl, inr, arith, slice_get}
+use Rattle.std.proofs.Common.{◌≡◌, ℕ, ◌+◌, ◌<◌, Bool, true, false, ◌||◌, List, [], ◌∷◌, map, get_or, reverse, filter, Option, Some, None, refl, sym, ap, subst, ◌∙◌, inl, inr, arith, slice_get}
 use Rattle.std.specs.Prelude.{nat_eq}
 use Rattle.std.specs.List.{list_any, range_with_len}
 use Rattle.std.specs.Map.{lookup}
@@ -13,7 +13,7 @@ use Rattle.page_layout.specs.declared.geometry.Geometry.{Geometry}
 use Rattle.page_layout.specs.declared.record.Key.{Key}
 use Rattle.page_layout.specs.declared.record.Key.TheVariants.{Sector, Translation, Table}
 use Rattle.page_layout.specs.Geometry.{entries, translation_pages, table_pages}
-use Rattle.page_layout.specs.Page.{Page, Image, IsImage}
+use Rattle.page_layout.specs.Page.{Image, IsImage}
 use Rattle.page_layout.specs.Live.{IsKeyOf}
 use Rattle.page_layout.specs.Newest.{newest}
 use Rattle.page_layout.specs.Array.{marks}

@@ -6,7 +6,6 @@ use Rattle.std.proofs.Math.Nat.{mul-le-mul_right}
 use Rattle.std.proofs.lemmas.Bool.{cases_Bool, ne_eqb, cond-true, cond-false}
 use Rattle.std.proofs.lemmas.List.{get_or-map}
 use Rattle.std.proofs.lemmas.List.Folds.{list_any-from_Any}
-use Rattle.std.proofs.lemmas.List.FromFn.{get_or-map-range_with_len, length-map-range_with_len}
 use Rattle.std.proofs.lemmas.Option.{slice_get-get_or, slice_get_within, get_or_from_slice_get}
 use Rattle.page_layout.specs.declared.geometry.Geometry.{Geometry}
 use Rattle.page_layout.specs.Page.{Page, Image, IsImage}
@@ -30,7 +29,7 @@ use Rattle.allocation.specs.State as blocks
 use Rattle.allocation.specs.State.{fill_at, pointer_at, live_at, no_fill}
 use Rattle.allocation.specs.Begun.{begun, class_from, row_from, fill_from}
 use Rattle.promises.specs.Log as logs
-use Rattle.promises.specs.Legal.{Account, no_account, account_at, accounts_of}
+use Rattle.promises.specs.Legal.{Account, account_at, accounts_of}
 use Rattle.promises.proofs.AccountLemmas.{account_of, length-accounts_of}
 use Rattle.image_check.specs.Blocks.{table_class, is_factory, is_grown, is_free, is_open, is_of_data, is_good, class, pointer}
 use Rattle.image_check.specs.Agrees.{Agrees}

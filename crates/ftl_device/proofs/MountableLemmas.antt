@@ -1,5 +1,5 @@
 -- What an engine knows of an image makes it mountable.
-use Rattle.std.proofs.Common.{◌≡◌, inl, inr, ℕ, ◌+◌, ◌/◌, ◌%◌, ◌<◌, ◌≤◌, ◌∙◌, Bool, true, false, not, eqb, List, [], ◌∷◌, ◌++◌, ◌⊎◌, slice_get, length-append, Option, Some, None, IsSome, refl, sym, ap, subst, arith}
+use Rattle.std.proofs.Common.{◌≡◌, inl, inr, ℕ, ◌+◌, ◌/◌, ◌<◌, ◌≤◌, ◌∙◌, Bool, true, false, not, eqb, List, [], ◌∷◌, ◌++◌, ◌⊎◌, length-append, Option, Some, None, IsSome, refl, sym, ap, subst, arith}
 use Rattle.std.specs.Prelude.{count_by}
 use Rattle.std.specs.Map.{keys_of, lookup}
 use Rattle.std.specs.List.{range_with_len}
@@ -7,7 +7,7 @@ use Rattle.std.proofs.lemmas.Bool.{eqb-true, eq-eqb, cond-false}
 use Rattle.std.proofs.lemmas.List.{length-map}
 use Rattle.std.proofs.lemmas.List.Sums.{length-filter}
 use Rattle.page_layout.specs.declared.geometry.Geometry.{Geometry}
-use Rattle.page_layout.specs.declared.record.Key.TheVariants.{Sector, Translation, Table}
+use Rattle.page_layout.specs.declared.record.Key.TheVariants.{Sector}
 use Rattle.page_layout.specs.Page.{Image}
 use Rattle.page_layout.specs.Geometry.{entries, table_pages}
 use Rattle.page_layout.specs.Newest.{newest}
@@ -21,7 +21,7 @@ use Rattle.mapping_cache.specs.Mapping.{MappingState, slot_of, moved_row, pendin
 use Rattle.mapping_cache.proofs.Entries.{by_test}
 use Rattle.mapping_cache.proofs.Steps.{pending-at}
 use Rattle.image_check.specs.Agrees.{HasTables}
-use Rattle.image_check.specs.Stale.{is_stale, stale_sectors, stale_count, same_row}
+use Rattle.image_check.specs.Stale.{is_stale, stale_sectors, stale_count}
 use Rattle.image_check.specs.Mountable.{IsOrderly}
 use Rattle.image_check.proofs.StaleLemmas.{row_same}
 use Rattle.image_check.proofs.TablesLemmas.{table_is}
