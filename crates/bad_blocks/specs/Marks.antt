@@ -1,13 +1,10 @@
 -- The factory's marks: a defective block has a spare byte 00h in its first or its last page.
-use Rattle.std.specs.Prelude.{ℕ, ◌+◌, ◌-◌, ◌*◌, ◌==◌, ◌||◌, Bool, List, map, get_or}
-use Rattle.std.specs.List.{list_any, range_with_len}
+use Rattle.std.specs.Prelude.{ℕ, ◌+◌, ◌-◌, ◌*◌, ◌||◌, Bool, List, map, get_or}
+use Rattle.std.specs.List.{range_with_len}
 use Rattle.page_layout.specs.declared.geometry.Geometry.{Geometry}
 use Rattle.page_layout.specs.Page.{Image}
+use Rattle.page_layout.specs.Bytes.{has_zero}
 use Rattle.page_layout.specs.Flash.{no_page}
-
--- whether a byte is 00h
-abbrev pub has_zero : List ℕ → Bool
-has_zero bytes = list_any (λ byte. byte == 0) bytes
 
 -- whether a spare byte of the row's page is 00h
 abbrev pub has_mark : Image → ℕ → Bool

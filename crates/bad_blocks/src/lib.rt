@@ -8,6 +8,6 @@ mod scan;
 mod table;
 
 pub use class::Class;
-pub use scan::{ScanFault, factory_scan, has_zero};
+pub use scan::{ScanFault, factory_scan};
 pub use table::page::{TableFault, read_table_page, write_table_page, write_unworn_page};
 pub use table::{MOST_WEAR, Table, TableRow};

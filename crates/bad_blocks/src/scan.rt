@@ -2,9 +2,10 @@
 ghost use Rattle.std.specs.Prelude.{◌≡◌, ◌<◌, ◌≤◌, ◌+◌, ◌*◌, ◌^◌, true, length, vec_len, IfOk, IsErrOf, OnOk, OnErr};
 ghost use Rattle.page_layout.specs.Counter.{counted, HasRisen};
 ghost use Rattle.page_layout.specs.Geometry.{row_count};
-ghost use Rattle.bad_blocks.specs.Marks.{has_zero, has_mark, is_marked, factory_marks};
+ghost use Rattle.bad_blocks.specs.Marks.{has_mark, is_marked, factory_marks};
 
 use page_layout::geometry::Geometry;
+use page_layout::lanes::has_zero;
 use page_layout::source::{PageSource, SourceFault};
 use std::alloc::{AllocError, Global};
 use thiserror::Error;
@@ -38,13 +39,6 @@ impl From<AllocError> for ScanFault {
     fn from(_fault: AllocError) -> ScanFault {
         ScanFault::OutOfMemory
     }
-}
-
-/// Whether a byte is 00h, as a spare byte of a mark is.
-pub fn has_zero(bytes: &[u8]) -> bool
-    ensures { result ≡ has_zero bytes.now }
-{
-    bytes.iter().any(|byte| *byte == 0)
 }
 
 fn has_mark<S: PageSource>(

@@ -2,5 +2,6 @@
 
 mod certificates;
 mod images;
+mod one_pass_rows;
 mod recovery_rows;
 mod translation;

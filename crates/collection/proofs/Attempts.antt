@@ -1,5 +1,5 @@
 -- One attempt to program a page, by its outcome.
-use Rattle.std.proofs.Common.{◌≡◌, ◌≢◌, ℕ, ◌+◌, ◌-◌, ◌/◌, ◌<◌, ◌^◌, true, List, slice_get, Option, Some, None, refl, ap, sym, ◌∙◌, subst, arith}
+use Rattle.std.proofs.Common.{◌≡◌, ◌≢◌, ℕ, ◌+◌, ◌-◌, ◌/◌, ◌<◌, ◌^◌, true, List, length, slice_get, Option, Some, None, refl, ap, sym, ◌∙◌, subst, arith, get_or-set_same}
 use Rattle.std.specs.Option.{ForSome}
 use Rattle.page_layout.specs.declared.geometry.Geometry.{Geometry}
 use Rattle.page_layout.specs.declared.record.Record.{Record}
@@ -11,7 +11,9 @@ use Rattle.page_layout.specs.Live.{IsKeyOf}
 use Rattle.page_layout.specs.Flash.{Flash}
 use Rattle.page_layout.specs.Change.{Keeps, Writes}
 use Rattle.page_layout.proofs.FlashLemmas.{program_other}
-use Rattle.bad_blocks.specs.Table.{is_good_at, wear_at}
+use Rattle.bad_blocks.specs.Table.{is_good_at, wear_at, retired, no_table_row}
+use Rattle.bad_blocks.specs.declared.table.TableRow.{TableRow}
+use Rattle.bad_blocks.specs.declared.class.Class.TheVariants.{Grown}
 use Rattle.budget.specs.declared.stream.Stream.{Stream}
 use Rattle.budget.specs.Counts.{TakesOne, FailsOne}
 use Rattle.allocation.specs.State.{State, free_count}
@@ -26,7 +28,8 @@ use Rattle.collection.specs.Cost.{moved_live, FailsTry, PassesTry}
 use Rattle.collection.specs.Log.{Went}
 use Rattle.collection.specs.Results.{CanProgram, IsStep, MayPut, IsKept, IsPut, GoesPut, last_record}
 use Rattle.collection.proofs.Blocks.{IsMade, IsTaken, taken_at, block_of_taken, taken_table, taken_pointer, failed_bad, made_taken, made_failed, made_passed, moved_pointer, counts_failed, counts_passed}
-use Rattle.collection.proofs.Memory.{Ticks, made_ram, made_goes}
+use Rattle.collection.proofs.Memory.{Ticks, made_ram, made_goes, table_kept, table_failed}
+use Rattle.collection.proofs.Wears.{wear_retired, moved_table}
 use Rattle.collection.proofs.Truths.{can_program, row_in_block, true_failed, true_passed}
 use Rattle.collection.proofs.Logs.{went_one}
 
@@ -48,10 +51,6 @@ in_block r o s within = λ q e. rw s.blocks_of (row_in_block r.geometry q (withi
 pub step_others : (row : ℕ) (outcome : Outcome) (before after : Flash) → IsStep row outcome before after → (q : ℕ) → q ≢ row → slice_get after.image q ≡ slice_get before.image q
 step_others row outcome before after step q ne = program_other before after row q step.its step.left (is_passed outcome) step.step ne
 
-moved_table : (o : Option ℕ) (block : ℕ) (s : State) → (moved_live o block s).table ≡ s.table
-moved_table None block s = refl
-moved_table (Some row) block s = refl
-
 module _ (stream : Stream) (block row : ℕ) (r : Ram) (t : State) (s : IsRam r) (is : IsTaken stream block row r.blocks t) where
   is_block_of : block < r.geometry.blocks
   is_block_of = rw (← s.blocks_of) is.next.within
@@ -72,19 +71,19 @@ module _ (stream : Stream) (block row : ℕ) (r : Ram) (t : State) (s : IsRam r)
     asked_ram e next = made_ram block r r' s ticks (made_asked e) next
 
     pub asked_goes : r'.blocks ≡ t → GoesPut r r'
-    asked_goes e = made_goes stream block r r' s ticks is.next (made_asked e)
+    asked_goes e = made_goes stream block r r' s ticks is.next (made_asked e) (table_kept r.blocks r'.blocks (ap (λ (x : State). x.table) (e ∙ is.left) ∙ taken_table stream r.blocks block))
 
     pub failed_ram : r'.blocks ≡ without block t → r.next + 1 < 2 ^ 64 → IsRam r'
     failed_ram e next = made_ram block r r' s ticks (made_retired e) next
 
     pub failed_goes : r'.blocks ≡ without block t → GoesPut r r'
-    failed_goes e = made_goes stream block r r' s ticks is.next (made_retired e)
+    failed_goes e = made_goes stream block r r' s ticks is.next (made_retired e) (rw (e ∙ ap (without block) is.left) (table_failed r.blocks (without block (taken stream block r.blocks)) (counts_failed (free_count r.blocks) stream block r.blocks s.blocks is.next).good))
 
     pub passed_ram : (o : Option ℕ) → r'.blocks ≡ moved_live o block t → ForSome o (λ q. q < row_count r.geometry) → r.next + 1 < 2 ^ 64 → IsRam r'
     passed_ram o e within next = made_ram block r r' s ticks (made_moved o e within) next
 
     pub passed_goes : (o : Option ℕ) → r'.blocks ≡ moved_live o block t → ForSome o (λ q. q < row_count r.geometry) → GoesPut r r'
-    passed_goes o e within = made_goes stream block r r' s ticks is.next (made_moved o e within)
+    passed_goes o e within = made_goes stream block r r' s ticks is.next (made_moved o e within) (table_kept r.blocks r'.blocks (ap (λ (x : State). x.table) (e ∙ ap (moved_live o block) is.left) ∙ (moved_table o block (taken stream block r.blocks) ∙ taken_table stream r.blocks block)))
 
     -- ---- what it costs
 
@@ -113,6 +112,7 @@ module _ (stream : Stream) (block row : ℕ) (r : Ram) (t : State) (s : IsRam r)
         made = made_retired e;
         good = rw (e ∙ ap (without block) is.left) (failed_bad (free_count r.blocks) stream block r.blocks s.blocks is.next);
         pointer = rw (e ∙ ap (without block) is.left) (taken_pointer stream r.blocks block (omega (arith, s.blocks.fills_whole, is.next.within)));
+        wear = rw (e ∙ ap (without block) is.left) (wear_retired (taken stream block r.blocks).table block block (omega (arith, ap length (taken_table stream r.blocks block), s.blocks.table_whole, is.next.within)) ∙ ap (λ x. wear_at x block) (taken_table stream r.blocks block));
       }) is.row_is ticks.next
 
       pub passed_went : (o : Option ℕ) → r'.blocks ≡ moved_live o block t → ForSome o (λ q. q < row_count r.geometry) → IsStep row Passed before after → Went r before r' after
@@ -123,6 +123,7 @@ module _ (stream : Stream) (block row : ℕ) (r : Ram) (t : State) (s : IsRam r)
         made = made_moved o e within;
         good = rw (e ∙ ap (moved_live o block) is.left) (ap (λ x. is_good_at x block) (moved_table o block (taken stream block r.blocks) ∙ taken_table stream r.blocks block) ∙ is.next.good);
         pointer = rw (e ∙ ap (moved_live o block) is.left) (moved_pointer (free_count r.blocks) stream block r.blocks o s.blocks is.next (in_block r o s within));
+        wear = rw (e ∙ ap (moved_live o block) is.left) (ap (λ x. wear_at x block) (moved_table o block (taken stream block r.blocks) ∙ taken_table stream r.blocks block));
       }) is.row_is ticks.next
 
   -- ---- what is true of the image
@@ -147,6 +148,6 @@ module _ (stream : Stream) (block row : ℕ) (r : Ram) (t : State) (s : IsRam r)
           let its : wear_at r'.blocks.table (row / r'.geometry.pages) ≡ wear = ap (λ x. wear_at x (row / r'.geometry.pages)) table_is ∙ (ap (wear_at t.table) block_is ∙ sym wear_is) in
           let same : last_record kind n row r' ≡ rec = ap (λ q. next_record kind n q (wear_at r'.blocks.table (row / r'.geometry.pages))) sequence ∙ ap (next_record kind n r.next) its in
           record {
-            truth = true_passed stream block row rec body o r r' old new s ticks is.next is.row_is whole others (e ∙ ap (moved_live o block) is.left) m.truth refl of_key within m.old_row_is m.page_for w;
+            truth = true_passed stream block row rec body o r r' old new s ticks is.next is.row_is whole others (e ∙ ap (moved_live o block) is.left) m.truth refl (wear_is ∙ (ap (λ x. wear_at x.table block) is.left ∙ ap (λ x. wear_at x block) (taken_table stream r.blocks block))) of_key within m.old_row_is m.page_for w;
             writes = (let P : Record → Type 0 = λ x. Writes r.geometry x row body old new in subst P (sym same) w);
           }

@@ -72,7 +72,7 @@ risen_over a b c le (inl lt) = inl (omega arith)
 risen_over a b c le (inr top) = inr top
 
 -- a fault of one call is another's
-abbrev err_as : (A : Type 0) → WriteFault → Result A WriteFault
+abbrev pub err_as : (A : Type 0) → WriteFault → Result A WriteFault
 err_as A f = Err f
 
 pub not_bus : {A B : Type 0} (f : WriteFault) → err_as A f ≢ err_as A Bus → err_as B f ≢ err_as B Bus

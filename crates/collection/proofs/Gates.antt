@@ -30,19 +30,19 @@ module _ (fault : Option WriteFault) where
   with_fault r = record r { fault = fault }
 
   pub ram_noted : (r : Ram) → IsRam r → IsRam (record r { fault = fault })
-  ram_noted r s = record { directory = s.directory; directory_rows = s.directory_rows; mapping = s.mapping; mapping_of = s.mapping_of; blocks = s.blocks; blocks_of = s.blocks_of; next = s.next }
+  ram_noted r s = record { directory = s.directory; directory_rows = s.directory_rows; mapping = s.mapping; mapping_of = s.mapping_of; blocks = s.blocks; blocks_of = s.blocks_of; next = s.next; marks = s.marks; unpinned = s.unpinned }
 
   pub true_noted : (but : Option Key) (r : Ram) (image : Image) → IsTrue but r image → IsTrue but (record r { fault = fault }) image
-  true_noted but r image w = record { whole = w.whole; one = w.one; below = w.below; filled = w.filled; live = w.live; tables = w.tables; maps = w.maps }
+  true_noted but r image w = record { whole = w.whole; one = w.one; below = w.below; filled = w.filled; live = w.live; worn = w.worn; tables = w.tables; maps = w.maps }
 
   pub goes_noted : (a b : Ram) → Goes a b → Goes a (record b { fault = fault })
   goes_noted a b x = record { geometry = x.geometry; next = x.next; shut = x.shut }
 
   pub goes_put_noted : (a b : Ram) → GoesPut a b → GoesPut a (record b { fault = fault })
-  goes_put_noted a b x = record { goes = goes_noted a b x.goes; directory = x.directory; mapping = x.mapping }
+  goes_put_noted a b x = record { goes = goes_noted a b x.goes; table = x.table; directory = x.directory; mapping = x.mapping; pin = x.pin }
 
   pub went_noted : (a b : Ram) (x y : Flash) → Went a x b y → Went a x (record b { fault = fault }) y
-  went_noted a b x y w = record { log = w.log; leads = w.leads; follows = w.follows; next = w.next }
+  went_noted a b x y w = record { log = w.log; leads = w.leads; follows = w.follows; next = w.next; wears = w.wears }
 
   pub same_noted : (a b : Ram) (x y : Image) → IsSame a x b y → IsSame a x (record b { fault = fault }) y
   same_noted a b x y k = record { truth = true_noted None b y k.truth; array = k.array; leaves = k.leaves }

@@ -1,8 +1,20 @@
 pub mod MapLemmas
 pub mod Programs
+pub mod Erases
+pub mod Finds
+pub mod Dues
+pub mod Copies
+pub mod Lowest
+pub mod Steps
+pub mod Follows
+pub mod Ledgers
+pub mod Rooms
+pub mod Noted
+pub mod Rescues
 pub mod Blocks
 pub mod Memory
 pub mod Lives
+pub mod Wears
 pub mod Truths
 pub mod Logs
 pub mod Costs
@@ -13,3 +25,4 @@ pub mod Looks
 pub mod WriteBacks
 pub mod Settles
 pub mod Appends
+pub mod Tables

@@ -1,5 +1,5 @@
 -- Logs of an engine's operations.
-use Rattle.std.proofs.Common.{◌≡◌, ◌≢◌, inl, inr, ℕ, ◌+◌, ◌*◌, ◌/◌, ◌%◌, ◌<◌, Bool, true, not, List, [], ◌∷◌, ◌++◌, refl, ap, sym, ◌∙◌, subst, arith}
+use Rattle.std.proofs.Common.{◌≡◌, ◌≢◌, inl, inr, ℕ, ◌+◌, ◌*◌, ◌/◌, ◌%◌, ◌<◌, min, Bool, true, not, List, [], ◌∷◌, ◌++◌, refl, ap, sym, ◌∙◌, subst, arith}
 use Rattle.std.proofs.lemmas.Bool.{cases_eq}
 use Rattle.std.proofs.lemmas.Nat.{div-mul-add, mod-mul-add}
 use Rattle.page_layout.specs.declared.geometry.Geometry.{Geometry}
@@ -7,8 +7,9 @@ use Rattle.page_layout.specs.Page.{Page}
 use Rattle.page_layout.specs.Flash.{Flash, Operation, Program}
 use Rattle.page_layout.proofs.FlashLemmas.{Leads-append, Leads-one}
 use Rattle.bad_blocks.specs.declared.table.TableRow.{TableRow}
-use Rattle.bad_blocks.specs.Table.{is_good, is_good_at}
+use Rattle.bad_blocks.specs.Table.{is_good, is_good_at, wear_at, most_wear}
 use Rattle.allocation.specs.State.{State, pointer_at}
+use Rattle.promises.specs.Log.{passed_erases_of}
 use Rattle.promises.specs.Legal.{Account, account_at, noted, accounted, accounted_all, LegalFrom}
 use Rattle.promises.proofs.LogLemmas.{counts}
 use Rattle.promises.proofs.AccountLemmas.{length-accounted, accounted-same, accounted-other}
@@ -30,6 +31,7 @@ pub record HasFollowed (block : ℕ) (passed : Bool) (old new : State) : Type 0 
   pub made : IsMade block old new
   pub good : is_good_at new.table block ≡ passed
   pub pointer : pointer_at new block ≡ pointer_at old block + 1
+  pub wear : wear_at new.table block ≡ wear_at old.table block
 
 module _ (block row : ℕ) (p left : Page) (passed : Bool) (old new : State) (h : HasFollowed block passed old new) (row_is : row ≡ block * old.geometry.pages + pointer_at old block) where
   op : Operation
@@ -84,7 +86,7 @@ module _ (block row : ℕ) (p left : Page) (passed : Bool) (old new : State) (h 
 -- ---- logs
 
 pub went_same : (r : Ram) (s : Flash) → Went r s r s
-went_same r s = record { log = []; leads = refl; follows = record { legal = λ accounts a. tt; accounted = λ accounts a. a }; next = omega arith }
+went_same r s = record { log = []; leads = refl; follows = record { legal = λ accounts a. tt; accounted = λ accounts a. a }; next = omega arith; wears = record { worn = λ b most. omega arith } }
 
 pub went_one : (old new : Ram) (before after : Flash) (block row : ℕ) (outcome : Outcome) → IsStep row outcome before after → old.blocks.geometry ≡ old.geometry → HasFollowed block (is_passed outcome) old.blocks new.blocks → row ≡ block * old.blocks.geometry.pages + pointer_at old.blocks block → new.next ≡ old.next + 1 → Went old before new after
 went_one old new before after block row outcome step same h row_is next = record {
@@ -92,6 +94,10 @@ went_one old new before after block row outcome step same h row_is next = record
   leads = Leads-one before after (Program row step.its (is_passed outcome) step.left) step.step;
   follows = (let P : Geometry → Type 0 = λ g. Follows g.pages (Program row step.its (is_passed outcome) step.left ∷ []) old.blocks new.blocks in subst P same (program_follows block row step.its step.left (is_passed outcome) old.blocks new.blocks h row_is));
   next = next;
+  wears = record { worn = λ b most. elim (cases_eq b block) [
+    | inl at ↦ (let e : wear_at new.blocks.table b ≡ wear_at old.blocks.table b = ap (wear_at new.blocks.table) at ∙ (h.wear ∙ ap (wear_at old.blocks.table) (sym at)) in omega arith)
+    | inr ne ↦ (let e : wear_at new.blocks.table b ≡ wear_at old.blocks.table b = ap (λ (x : TableRow). x.wear) (h.made.others b ne).row in omega arith)
+  ] };
 }
 
 pub went_then : (a b c : Ram) (x y z : Flash) → b.geometry ≡ a.geometry → Went a x b y → Went b y c z → Went a x c z
@@ -105,4 +111,8 @@ went_then a b c x y z same v w =
         accounted = λ accounts s. rw (accounts_join a.geometry.pages accounts v.log w.log) (follows.accounted (accounted_all a.geometry.pages accounts v.log) (v.follows.accounted accounts s));
       };
       next = omega (arith, v.next, w.next, (counts a.geometry.pages 0 v.log w.log).programs);
+      wears = record { worn = λ k most.
+          let first : wear_at b.blocks.table k ≡ min (wear_at a.blocks.table k + passed_erases_of v.log k) most_wear = v.wears.worn k most in
+          let second : wear_at c.blocks.table k ≡ min (wear_at b.blocks.table k + passed_erases_of w.log k) most_wear = w.wears.worn k (omega arith) in
+          omega (arith, (counts a.geometry.pages k v.log w.log).passed_erases_at) };
     }

@@ -5,16 +5,16 @@ use Rattle.page_layout.proofs.GeometryLemmas.{row_within}
 use Rattle.page_layout.specs.declared.geometry.Geometry.{Geometry}
 use Rattle.page_layout.specs.Geometry.{translation_pages, table_pages, row_count}
 use Rattle.bad_blocks.specs.declared.table.TableRow.{TableRow}
-use Rattle.bad_blocks.specs.Table.{is_good, is_good_at}
+use Rattle.bad_blocks.specs.Table.{is_good, is_good_at, good_count}
 use Rattle.budget.specs.declared.stream.Stream.{Stream}
 use Rattle.allocation.specs.State as blocks
 use Rattle.allocation.specs.State.{State, pointer_at, is_closed, free_count}
 use Rattle.allocation.specs.Step.{IsNextBlock}
 use Rattle.allocation.specs.Laws.{IsLeftButLive}
 use Rattle.allocation.proofs.OtherLemmas.{next_not_closed}
-use Rattle.collection.specs.State.{Ram}
+use Rattle.collection.specs.State.{Ram, Pin}
 use Rattle.collection.specs.Safe.{IsRam, IsOutside, is_shut}
-use Rattle.collection.specs.Results.{Goes, GoesPut}
+use Rattle.collection.specs.Results.{Goes, GoesPut, KeepsTable}
 use Rattle.collection.proofs.Blocks.{IsMade, IsTaken, block_of_taken, left_then}
 
 -- what no attempt changes, and the next sequence
@@ -23,6 +23,7 @@ pub record Ticks (old new : Ram) : Type 0 where
   pub directory : new.directory ≡ old.directory
   pub mapping : new.mapping ≡ old.mapping
   pub next : new.next ≡ old.next + 1
+  pub pin : new.pin ≡ old.pin
 
 -- ---- bad and closed blocks
 
@@ -41,6 +42,20 @@ apart_from_next s stream block b safe next is same =
     let f : is_shut s block ≡ false = next_not_shut s stream block safe next in
     let no : true ≡ false = sym e ∙ f in cc
 
+-- ---- the table
+
+pub table_kept : (a b : State) → b.table ≡ a.table → KeepsTable a b
+table_kept a b same = record { fewer = (let e : good_count b.table ≡ good_count a.table = ap good_count same in omega arith); same = λ as_many. same }
+
+pub table_failed : (a b : State) → good_count a.table ≡ good_count b.table + 1 → KeepsTable a b
+table_failed a b one = record { fewer = omega arith; same = λ as_many. absurd (omega arith) }
+
+pub table_then : (a b c : State) → KeepsTable a b → KeepsTable b c → KeepsTable a c
+table_then a b c x y = record {
+  fewer = omega (arith, x.fewer, y.fewer);
+  same = λ as_many. y.same (omega (arith, x.fewer, y.fewer)) ∙ x.same (omega (arith, x.fewer, y.fewer));
+}
+
 -- ---- an attempt
 
 pub made_ram : (block : ℕ) (old new : Ram) → IsRam old → Ticks old new → IsMade block old.blocks new.blocks → old.next + 1 < 2 ^ 64 → IsRam new
@@ -52,10 +67,13 @@ made_ram block old new s t m next = record {
   blocks = m.safe;
   blocks_of = m.geometry ∙ (s.blocks_of ∙ sym t.geometry);
   next = omega (arith, t.next);
+  marks = ap (λ (p : Pin). length p.marks) t.pin ∙ (s.marks ∙ ap translation_pages (sym t.geometry));
+  unpinned = ap (λ (p : Pin). p.block) t.pin ∙ s.unpinned;
 }
 
-pub made_goes : (stream : Stream) (block : ℕ) (old new : Ram) → IsRam old → Ticks old new → IsNextBlock old.blocks stream block → IsMade block old.blocks new.blocks → GoesPut old new
-made_goes stream block old new s t n m = record {
+pub made_goes : (stream : Stream) (block : ℕ) (old new : Ram) → IsRam old → Ticks old new → IsNextBlock old.blocks stream block → IsMade block old.blocks new.blocks → KeepsTable old.blocks new.blocks → GoesPut old new
+made_goes stream block old new s t n m k = record {
+  table = k;
   goes = record {
     geometry = t.geometry;
     next = omega (arith, t.next);
@@ -63,6 +81,7 @@ made_goes stream block old new s t n m = record {
   };
   directory = t.directory;
   mapping = t.mapping;
+  pin = t.pin;
 }
 
 pub taken_outside : (stream : Stream) (block row : ℕ) (r : Ram) (t : State) → IsRam r → IsTaken stream block row r.blocks t → IsOutside r row
@@ -89,10 +108,10 @@ goes_then a b c x y = record {
 }
 
 pub put_same : (r : Ram) → GoesPut r r
-put_same r = record { goes = goes_same r; directory = refl; mapping = refl }
+put_same r = record { goes = goes_same r; table = table_kept r.blocks r.blocks refl; directory = refl; mapping = refl; pin = refl }
 
 pub put_then : (a b c : Ram) → GoesPut a b → GoesPut b c → GoesPut a c
-put_then a b c x y = record { goes = goes_then a b c x.goes y.goes; directory = y.directory ∙ x.directory; mapping = y.mapping ∙ x.mapping }
+put_then a b c x y = record { goes = goes_then a b c x.goes y.goes; table = table_then a.blocks b.blocks c.blocks x.table y.table; directory = y.directory ∙ x.directory; mapping = y.mapping ∙ x.mapping; pin = y.pin ∙ x.pin }
 
 -- a row of the later call is outside of what was bad or closed before the earlier one
 pub shut_row : (a b : Ram) (k : ℕ) → Goes a b → k < a.geometry.blocks → is_shut b.blocks k ≡ false → is_shut a.blocks k ≡ false

@@ -42,6 +42,7 @@ settled_true r r' image key row s w of_key here t = record {
   below = (let x = w.below in rw t.next x);
   filled = (let x = w.filled in rw t.blocks x);
   live = (let x = w.live in rw t.blocks x);
+  worn = (let x = w.worn in rw t.blocks x);
   tables = (let x = w.tables in rw t.geometry x);
   maps = (let e : Maps None r.geometry image r'.directory r'.mapping = maps_by r.geometry image r.directory r'.directory r.mapping r'.mapping key row s.directory w.maps of_key here t.directory t.mapping in rw t.geometry e);
 }
@@ -94,6 +95,8 @@ settled_ram r r' key row s of_key lt t =
       blocks = (let x = s.blocks in rw t.blocks x);
       blocks_of = (let x = s.blocks_of in rw (t.blocks, t.geometry) x);
       next = (let x = s.next in rw t.next x);
+      marks = (let x = s.marks in rw (t.pin, t.geometry) x);
+      unpinned = (let x = s.unpinned in rw t.pin x);
     }
 
 pub settled_goes : (a b c : Ram) (key : Key) (row : ℕ) → Goes a b → Settles key row b c → Goes a c
@@ -116,6 +119,7 @@ settled_went a b c key row before after after' w t same = record {
   leads = (let x = w.leads in rw same x);
   follows = (let x = w.follows in rw t.blocks x);
   next = t.next ∙ w.next;
+  wears = (let x = w.wears in rw t.blocks x);
 }
 
 -- a put, and the memory that followed it

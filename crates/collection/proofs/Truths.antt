@@ -21,7 +21,7 @@ use Rattle.page_layout.proofs.ArrayLemmas.{length-marks, mark-same}
 use Rattle.page_layout.proofs.StepLemmas.{below_more}
 use Rattle.page_layout.proofs.KeyLemmas.{cases_key}
 use Rattle.page_layout.proofs.ErasedLemmas.{erased_at_unsound}
-use Rattle.bad_blocks.specs.Table.{is_good, is_good_at}
+use Rattle.bad_blocks.specs.Table.{is_good, is_good_at, wear_at}
 use Rattle.bad_blocks.specs.TablePage.{IsWellFormed}
 use Rattle.allocation.specs.State.{State, pointer_at, live_at}
 use Rattle.collection.specs.State.{Ram}
@@ -34,7 +34,8 @@ use Rattle.budget.specs.declared.stream.Stream.{Stream}
 use Rattle.allocation.specs.State.{free_count}
 use Rattle.allocation.specs.Step.{IsNextBlock, taken, without}
 use Rattle.collection.specs.Cost.{moved_live}
-use Rattle.collection.proofs.Blocks.{IsMade, failed_bad, made_failed, made_passed, moved_pointer}
+use Rattle.collection.proofs.Blocks.{IsMade, taken_geometry, failed_bad, made_failed, made_passed, moved_pointer}
+use Rattle.collection.proofs.Wears.{worn_kept, worn_put, failed_wear, passed_wear}
 use Rattle.collection.proofs.Lives.{live_failed, live_passed}
 use Rattle.collection.proofs.Memory.{Ticks}
 use Rattle.collection.proofs.MapLemmas.{maps_stays, maps_put}
@@ -77,10 +78,10 @@ can_program but r image block row rec s w is_block good room at sequence of_key 
 
 -- ---- pages that stay
 
-sound_same : (old new : Image) (q : ℕ) → slice_get new q ≡ slice_get old q → IsSome (get_or (marks old) q None) → IsSome (get_or (marks new) q None)
+pub sound_same : (old new : Image) (q : ℕ) → slice_get new q ≡ slice_get old q → IsSome (get_or (marks old) q None) → IsSome (get_or (marks new) q None)
 sound_same old new q same is = (let P : Option Record → Type 0 = IsSome in subst P (sym (mark-same new old q same)) is)
 
-erased_same : (old new : Image) (q : ℕ) → slice_get new q ≡ slice_get old q → IsErasedAt old q → IsErasedAt new q
+pub erased_same : (old new : Image) (q : ℕ) → slice_get new q ≡ slice_get old q → IsErasedAt old q → IsErasedAt new q
 erased_same old new q same is = record { its = is.its; at = same ∙ is.at; is = is.is }
 
 -- a row is of one block
@@ -180,14 +181,15 @@ module _ (but : Option Key) (stream : Stream) (block row : ℕ) (r r' : Ram) (ol
         one = rw t.geometry k.one;
         below = below_more (marks new) r.next r'.next (omega (arith, t.next)) (k.below r.next w.below);
         filled = rw is (filled_failed block row r.blocks (without block (taken stream block r.blocks)) old new (a_try _ made) (failed_bad (free_count r.blocks) stream block r.blocks s.blocks n) w.filled);
+        worn = rw is (worn_kept r.blocks (without block (taken stream block r.blocks)) old new (taken_geometry stream r.blocks block) (failed_wear stream block r.blocks s.blocks n) k.records w.worn);
         live = rw is (live_failed stream block r.blocks old new in_fills kept w.live);
         tables = (let e : (u : ℕ) → u < table_pages r.geometry → HasTable r.geometry new u = λ u lt. tables_kept r.geometry old new u k (w.tables u lt) in rw t.geometry e);
         maps = (let e : Maps but r.geometry new r.directory r.mapping = maps_stays but r.geometry old new r.directory r.mapping k w.maps in rw (t.geometry, t.directory, t.mapping) e);
       }
 
 module _ (stream : Stream) (block row : ℕ) (rec : Record) (body : List ℕ) (o : Option ℕ) (r r' : Ram) (old new : Image) (s : IsRam r) (t : Ticks r r') (n : IsNextBlock r.blocks stream block) (at : row ≡ block * r.blocks.geometry.pages + pointer_at r.blocks block) (whole : IsImage r.geometry new) (others : (q : ℕ) → q ≢ row → slice_get new q ≡ slice_get old q) where
-  pub true_passed : r'.blocks ≡ moved_live o block (taken stream block r.blocks) → IsTrue None r old → rec.sequence ≡ r.next → IsKeyOf r.geometry (key_of rec) → ForSome o (λ q. q < row_count r.geometry) → o ≡ newest_row old (key_of rec) → IsPageFor r.geometry old r.mapping body (key_of rec) → Writes r.geometry rec row body old new → IsTrue (Some (key_of rec)) r' new
-  true_passed is w sequence of_key old_in old_is fits p =
+  pub true_passed : r'.blocks ≡ moved_live o block (taken stream block r.blocks) → IsTrue None r old → rec.sequence ≡ r.next → rec.wear ≡ wear_at r.blocks.table block → IsKeyOf r.geometry (key_of rec) → ForSome o (λ q. q < row_count r.geometry) → o ≡ newest_row old (key_of rec) → IsPageFor r.geometry old r.mapping body (key_of rec) → Writes r.geometry rec row body old new → IsTrue (Some (key_of rec)) r' new
+  true_passed is w sequence wear of_key old_in old_is fits p =
       let g : Geometry = r.geometry in
       let same : r.blocks.geometry ≡ r.geometry = s.blocks_of in
       let written : Writes r.blocks.geometry rec row body old new = (let P : Geometry → Type 0 = λ x. Writes x rec row body old new in subst P (sym same) p) in
@@ -204,6 +206,7 @@ module _ (stream : Stream) (block row : ℕ) (rec : Record) (body : List ℕ) (o
         one = rw t.geometry p.one;
         below = below_more (marks new) (rec.sequence + 1) r'.next (omega (arith, t.next, sequence)) p.below;
         filled = rw is (filled_passed block row r.blocks (moved_live o block (taken stream block r.blocks)) old new (record { is_block = n.within; was_good = n.good; room = n.room; row_is = at; made = made; pointers = s.blocks.pointers; others = others }) pointer here w.filled);
+        worn = rw is (worn_put r.blocks (moved_live o block (taken stream block r.blocks)) row rec old new made.geometry (passed_wear o stream block r.blocks) (wear ∙ ap (wear_at r.blocks.table) (sym block_is)) p.record_here p.records w.worn);
         live = rw is (live_passed stream block row r.blocks rec body o old new lt block_is (λ q e. (let x = in_block q e in let y = s.blocks.fills_whole in (let z : q / r.blocks.geometry.pages < length r.blocks.fills = omega arith in z))) counted small old_is written w.live made.geometry);
         tables = (let e : (u : ℕ) → u < table_pages r.geometry → HasTable r.geometry new u = λ u lt. tables_put r.geometry rec row body old new u p (λ key. (let P : Key → Type 0 = λ k. IsPageFor r.geometry old r.mapping body k in subst P key fits)) (w.tables u lt) in rw t.geometry e);
         maps = (let e : Maps (Some (key_of rec)) r.geometry new r.directory r.mapping = maps_put r.geometry rec row body old new r.directory r.mapping p fits w.maps in rw (t.geometry, t.directory, t.mapping) e);

@@ -147,6 +147,7 @@ module _ (r r2 : Ram) (m3 : MappingState) (x x2 : Image) (t row : ℕ) (body : L
     below = p.truth.below;
     filled = p.truth.filled;
     live = p.truth.live;
+    worn = p.truth.worn;
     tables = p.truth.tables;
     maps = maps_clean r2.geometry x2 r2.directory r2.mapping m3 t p.truth.maps (λ n lt of_page. entry_now n (rw (← g_is) lt) (rw (← g_is) of_page)) cleans.knows cleans.others;
   }

@@ -5,7 +5,12 @@ pub mod Safe
 pub mod Maps
 pub mod Looks
 pub mod Truth
+pub mod Tables
 pub mod Cost
 pub mod Log
 pub mod Results
 pub mod Settle
+pub mod Live
+pub mod Collect
+pub mod Whole
+pub mod Room

@@ -1,9 +1,9 @@
 -- What went on at the die: a log of operations, and the blocks by its account.
-use Rattle.std.specs.Prelude.{◌≡◌, ℕ, ◌+◌, ◌<◌, not, true, List, length}
+use Rattle.std.specs.Prelude.{◌≡◌, ℕ, ◌+◌, ◌<◌, ◌≤◌, min, not, true, List, length}
 use Rattle.page_layout.specs.Flash.{Flash, Operation, Leads}
-use Rattle.bad_blocks.specs.Table.{is_good_at}
+use Rattle.bad_blocks.specs.Table.{is_good_at, wear_at, most_wear}
 use Rattle.allocation.specs.State.{State, pointer_at}
-use Rattle.promises.specs.Log.{programs_in}
+use Rattle.promises.specs.Log.{programs_in, passed_erases_of}
 use Rattle.promises.specs.Legal.{Account, account_at, accounted_all, LegalFrom}
 use Rattle.collection.specs.State.{Ram}
 
@@ -18,9 +18,15 @@ pub record Follows (pages : ℕ) (log : List Operation) (old new : State) : Type
   pub legal : (accounts : List Account) → IsAccounted accounts old → LegalFrom pages accounts log
   pub accounted : (accounts : List Account) → IsAccounted accounts old → IsAccounted (accounted_all pages accounts log) new
 
--- There is such a log from the one state of the die to the other, and each program in it took the next sequence.
+-- each block was erased as often more as erases of it passed in the log, up to the greatest count that is told
+pub record Wears (log : List Operation) (old new : State) : Type 0 where
+  pub worn : (b : ℕ) → wear_at old.table b ≤ most_wear → wear_at new.table b ≡ min (wear_at old.table b + passed_erases_of log b) most_wear
+
+-- There is such a log from the one state of the die to the other; each program in it took the next sequence, and each erase that passed is
+-- counted.
 pub record Went (old : Ram) (before : Flash) (new : Ram) (after : Flash) : Type 0 where
   pub log : List Operation
   pub leads : Leads before log after
   pub follows : Follows old.geometry.pages log old.blocks new.blocks
   pub next : new.next ≡ old.next + programs_in log
+  pub wears : Wears log old.blocks new.blocks

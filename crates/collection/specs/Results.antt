@@ -1,5 +1,5 @@
 -- What the answers of the engine's functions say.
-use Rattle.std.specs.Prelude.{◌≡◌, ◌⊎◌, ℕ, ◌-◌, ◌/◌, ◌<◌, ◌≤◌, true, false, List, slice_set, Option, Some, None, Result, Ok, Err}
+use Rattle.std.specs.Prelude.{◌≡◌, ◌≢◌, ◌⊎◌, ℕ, ◌-◌, ◌/◌, ◌<◌, ◌≤◌, true, false, List, slice_set, Option, Some, None, Result, Ok, Err}
 use Rattle.page_layout.specs.declared.geometry.Geometry.{Geometry}
 use Rattle.page_layout.specs.declared.record.Record.{Record}
 use Rattle.page_layout.specs.declared.record.Kind.{Kind}
@@ -16,7 +16,9 @@ use Rattle.page_layout.specs.Flash.{Flash, Program, Steps}
 use Rattle.page_layout.specs.Change.{IsUnsoundAt, Keeps, Writes}
 use Rattle.onfi_cycles.specs.declared.nand.Outcome.{Outcome}
 use Rattle.onfi_cycles.specs.Outcomes.{is_passed}
-use Rattle.bad_blocks.specs.Table.{wear_at}
+use Rattle.bad_blocks.specs.Table.{wear_at, good_count}
+use Rattle.bad_blocks.specs.declared.table.TableRow.{TableRow}
+use Rattle.allocation.specs.State.{State}
 use Rattle.allocation.specs.Laws.{IsLeftButLive}
 use Rattle.collection.specs.declared.fault.WriteFault.{WriteFault}
 use Rattle.collection.specs.declared.fault.WriteFault.TheVariants.{ReadOnly, SequenceSpent, Damaged, Bus}
@@ -25,6 +27,7 @@ use Rattle.collection.specs.Pages.{newest_row}
 use Rattle.collection.specs.Maps.{IsPageFor}
 use Rattle.collection.specs.Looks.{IsFilled}
 use Rattle.collection.specs.Truth.{IsTrue}
+use Rattle.collection.specs.Tables.{SpellsTable}
 use Rattle.collection.specs.Safe.{is_shut}
 
 -- ---- one program
@@ -120,6 +123,12 @@ pub record IsWrittenBack (t : ℕ) (old : Ram) (before : Image) (new : Ram) (aft
   pub newest_is : newest_row after (Translation t) ≡ Some row
   pub filled : IsFilled t (body_at after row) old.geometry after
 
+-- the array is as it was, the newest table page u spells the table that was, and each other one spells what it spelled
+pub record IsTabled (u : ℕ) (old : Ram) (before : Image) (new : Ram) (after : Image) : Type 0 where
+  pub same : IsSame old before new after
+  pub now : SpellsTable old.geometry old.blocks.table after u
+  pub others : (v : ℕ) (rows : List TableRow) → v ≢ u → SpellsTable old.geometry rows before v → SpellsTable old.geometry rows after v
+
 -- ---- what every call leaves alone, whatever the die does
 
 -- bad and closed blocks are as they were, but for the count of their live pages
@@ -128,11 +137,18 @@ pub record Goes (old new : Ram) : Type 0 where
   pub next : old.next ≤ new.next
   pub shut : (b : ℕ) → b < old.geometry.blocks → is_shut old.blocks b ≡ true → IsLeftButLive old.blocks new.blocks b
 
+-- where no more blocks are bad, the table is as it was
+pub record KeepsTable (old new : State) : Type 0 where
+  pub fewer : good_count new.table ≤ good_count old.table
+  pub same : good_count new.table ≡ good_count old.table → new.table ≡ old.table
+
 -- and what a put leaves alone besides
 pub record GoesPut (old new : Ram) : Type 0 where
   pub goes : Goes old new
+  pub table : KeepsTable old.blocks new.blocks
   pub directory : new.directory ≡ old.directory
   pub mapping : new.mapping ≡ old.mapping
+  pub pin : new.pin ≡ old.pin
 
 -- ---- the fault that stands
 

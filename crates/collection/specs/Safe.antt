@@ -1,5 +1,5 @@
 -- What holds of an engine whatever its die does.
-use Rattle.std.specs.Prelude.{◌≡◌, ℕ, ◌+◌, ◌/◌, ◌<◌, ◌^◌, ◌||◌, Bool, false, not, length, replicate, slice_get, Some, None}
+use Rattle.std.specs.Prelude.{◌≡◌, ℕ, ◌+◌, ◌/◌, ◌<◌, ◌^◌, ◌||◌, Bool, false, not, [], length, replicate, slice_get, Some, None}
 use Rattle.page_layout.specs.declared.geometry.Geometry.{Geometry}
 use Rattle.page_layout.specs.Geometry.{translation_pages, table_pages, row_count}
 use Rattle.page_layout.specs.Page.{Image, Page, page}
@@ -15,7 +15,7 @@ use Rattle.collection.specs.State.{Ram}
 
 -- the engine's memory
 abbrev pub ram : {N : Type 0} → Engine N → Ram
-ram e = record { geometry = e.geometry; directory = e.directory; mapping = e.mapping; blocks = state e.blocks; next = e.next; fault = e.fault }
+ram e = record { geometry = e.geometry; directory = e.directory; mapping = e.mapping; blocks = state e.blocks; next = e.next; fault = e.fault; pin = record { block = e.pinned; marks = e.marks.items } }
 
 -- the image on the engine's die
 abbrev pub image_in : {N : Type 0} → (N → Flash) → Engine N → Image
@@ -29,6 +29,13 @@ pub record IsRam (r : Ram) : Type 0 where
   pub blocks : blocks.IsSafe (free_count r.blocks) r.blocks
   pub blocks_of : r.blocks.geometry ≡ r.geometry
   pub next : r.next < 2 ^ 64
+  pub marks : length r.pin.marks ≡ translation_pages r.geometry
+  pub unpinned : r.pin.block ≡ None
+
+-- No sector is on the moved list, and no translation page is marked. It is so between calls, unless a fault stands.
+pub record IsIdle (r : Ram) : Type 0 where
+  pub moved : r.mapping.moved ≡ []
+  pub unmarked : r.pin.marks ≡ replicate (translation_pages r.geometry) false
 
 -- a page buffer of the die's sizes
 pub record IsBuffer (g : Geometry) (b : Buffer) : Type 0 where
@@ -44,7 +51,6 @@ pub record IsSafe {N : Type 0} (flash : N → Flash) (e : Engine N) : Type 0 whe
   pub geometry : (flash e.nand).geometry ≡ e.geometry
   pub page : IsBuffer e.geometry e.page
   pub scratch : IsBuffer e.geometry e.scratch
-  pub idle : (e.pinned ≡ None) × (e.marks.items ≡ replicate (translation_pages e.geometry) false)
 
 -- whether a block is bad or closed: none of its pages is programmed before it is erased
 abbrev pub is_shut : State → ℕ → Bool

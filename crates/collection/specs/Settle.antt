@@ -5,7 +5,7 @@ use Rattle.page_layout.specs.declared.geometry.Geometry.{Geometry}
 use Rattle.page_layout.specs.declared.record.Key.{Key}
 use Rattle.page_layout.specs.declared.record.Key.TheVariants.{Sector, Translation, Table}
 use Rattle.page_layout.specs.Geometry.{translation_pages}
-use Rattle.mapping_cache.specs.Mapping.{MappingState, IsMapping, HasLimitsOf, CanMove, known, pending, slot_of}
+use Rattle.mapping_cache.specs.Mapping.{MappingState, IsMapping, HasLimitsOf, CanMove, per_page, moved_in, known, pending, slot_of}
 use Rattle.collection.specs.State.{Ram}
 
 -- a page of a sector is put where the sector is cached
@@ -30,6 +30,7 @@ pub record SetsRow (n : ℕ) (row : Option ℕ) (old new : MappingState) : Type 
   pub keys : keys_of new.cached ≡ keys_of old.cached
   pub moved : length new.moved ≤ length old.moved + 1
   pub unmoved : IsSome (slot_of old n) → new.moved ≡ old.moved
+  pub moved_others : (t : ℕ) → t ≢ n / per_page old → moved_in (per_page old) t new.moved ≡ moved_in (per_page old) t old.moved
   pub valid : IsMapping new
 
 abbrev pub SetsMapping : Key → ℕ → MappingState → MappingState → Type 0
@@ -49,6 +50,7 @@ pub record Settles (key : Key) (row : ℕ) (old new : Ram) : Type 0 where
   pub mapping : SetsMapping key row old.mapping new.mapping
   pub blocks : new.blocks ≡ old.blocks
   pub next : new.next ≡ old.next
+  pub pin : new.pin ≡ old.pin
   pub fault : new.fault ≡ old.fault
 
 -- the mapping holds no row for translation page t, and knows no other row than it did

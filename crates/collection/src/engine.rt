@@ -8,17 +8,22 @@ use translation_pages::Directory;
 
 mod begin;
 mod cache;
+mod collect;
 mod entries;
 mod gate;
+mod live;
 mod look;
 mod put;
+mod rescue;
 mod room;
 mod settle;
+mod step;
 mod steps;
+mod table;
 mod write;
 mod write_back;
 
-pub use room::LEAST_FREE;
+pub use room::{LEAST_FREE, RESERVE};
 
 /// The data area and the spare area of one page. (This project.)
 #[derive(Drop)]

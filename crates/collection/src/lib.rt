@@ -9,5 +9,5 @@
 mod engine;
 mod fault;
 
-pub use engine::{Buffer, Engine, LEAST_FREE};
+pub use engine::{Buffer, Engine, LEAST_FREE, RESERVE};
 pub use fault::WriteFault;

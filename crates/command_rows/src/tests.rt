@@ -6,5 +6,6 @@ mod images;
 mod mount_rows;
 mod runs;
 mod sector_rows;
+mod serve_rows;
 mod show_rows;
 mod word_rows;

@@ -13,7 +13,7 @@ use Rattle.clap.specs.declared.parser.matches.ArgMatches.{ArgMatches}
 use Rattle.clap.proofs.WalkLemmas.{first_value-rows}
 use Rattle.clap.specs.Lexer.{long_of, short_of}
 use Rattle.clap.specs.Walk.{first_of, rows_of, rows_after, Held, Names, Row, Rule, Text, Waiting, Walk, idle, value, trailing, after_step, arg_by_index, long_or_other, plain_word, short_or_plain, subcommand_met, subcommand_or_other, to_positional, walk, walked, word_met, finished, nothing_held, settled, walk_from}
-use Rattle.clap.specs.Simple.{Shape, built, built_leaf, entered, names_of, inherited, subcommand_of, subcommand_rows_of}
+use Rattle.clap.specs.Simple.{Shape, is_simple, built, built_leaf, entered, names_of, inherited, subcommand_of, subcommand_rows_of}
 use Rattle.clap.specs.Faults.{bundle_fault, check_fault, defaults_fault, entered_fault, fault_of, flag_word_fault, is_simple_and_free, level_fault, other_fault, settle_fault, step_fault, turn_fault, word_fault, walk_fault}
 use Rattle.clap.specs.Kinds.{Kinds, or_else}
 use Rattle.clap.specs.Values.{reading_of}
@@ -25,12 +25,16 @@ use Rattle.clap.proofs.OnLiterals.{clap_on_literals}
 use Rattle.command_words.specs.declared.words.Order.{Order}
 use Rattle.command_words.specs.declared.words.Order.TheVariants as order
 use Rattle.command_words.specs.declared.words.Places.{Places}
-use Rattle.command_words.specs.Words.{AreFound, CommandName, Sector, Show, Format, Check, Mount, Size, Three, Four, HasAll, IsNamed, IsOrder, certificate_words, file_words, grammar, image_words, is_option, name_of, order_words, places, size_of, texts, words_wanted}
+use Rattle.command_words.specs.Words.{AreFound, CommandName, Sector, Show, Format, Check, Mount, Serve, Size, Three, Four, Five, HasAll, IsNamed, IsOrder, certificate_words, file_words, grammar, image_words, is_option, name_of, order_words, places, serve_by, serve_words, size_of, texts, words_wanted}
 
 -- the grammar is one of which `clap` tells what it makes of all words
 pub simple_grammar : is_simple_and_free grammar ≡ true
 unfolding clap_on_literals
 simple_grammar = refl
+
+pub plain_grammar : is_simple grammar ≡ true
+unfolding clap_on_literals
+plain_grammar = refl
 
 -- ---- a word that does not begin with `-` is no flag
 
@@ -95,11 +99,12 @@ no_more s w = refl
 plain_more : (a : Text) (words : List Text) → is_option a ≡ false → list_any is_option words ≡ false → list_any is_option (a ∷ words) ≡ false
 plain_more a words plain rest = ap (λ t. t || list_any is_option words) plain ∙ rest
 
--- ---- a command of three words or of four
+-- ---- a command of three words, of four or of five
 
 abbrev count : Size → ℕ
 count Three = 3
 count Four = 4
+count Five = 5
 
 abbrev leaf : Size → Text → Shape
 leaf size name = built_leaf (inherited grammar.top (words_wanted name size).top)
@@ -117,7 +122,8 @@ held [] = nothing_held
 held (a ∷ []) = record { rows = []; pending = Some (codes "first", a ∷ []); skip = 0 }
 held (a ∷ b ∷ []) = record { rows = given (codes "first") a ∷ []; pending = Some (codes "second", b ∷ []); skip = 0 }
 held (a ∷ b ∷ c ∷ []) = record { rows = given (codes "first") a ∷ given (codes "second") b ∷ []; pending = Some (codes "third", c ∷ []); skip = 0 }
-held (a ∷ b ∷ c ∷ d ∷ _) = record { rows = given (codes "first") a ∷ given (codes "second") b ∷ given (codes "third") c ∷ []; pending = Some (codes "fourth", d ∷ []); skip = 0 }
+held (a ∷ b ∷ c ∷ d ∷ []) = record { rows = given (codes "first") a ∷ given (codes "second") b ∷ given (codes "third") c ∷ []; pending = Some (codes "fourth", d ∷ []); skip = 0 }
+held (a ∷ b ∷ c ∷ d ∷ e ∷ _) = record { rows = given (codes "first") a ∷ given (codes "second") b ∷ given (codes "third") c ∷ given (codes "fourth") d ∷ []; pending = Some (codes "fifth", e ∷ []); skip = 0 }
 
 -- after these words, with nothing waiting
 abbrev after : List Text → Walk
@@ -135,6 +141,12 @@ stepped Four name (a ∷ []) word lt = refl
 stepped Four name (a ∷ b ∷ []) word lt = refl
 stepped Four name (a ∷ b ∷ c ∷ []) word lt = refl
 stepped Four name (a ∷ b ∷ c ∷ d ∷ more) word lt = absurd (omega arith)
+stepped Five name [] word lt = refl
+stepped Five name (a ∷ []) word lt = refl
+stepped Five name (a ∷ b ∷ []) word lt = refl
+stepped Five name (a ∷ b ∷ c ∷ []) word lt = refl
+stepped Five name (a ∷ b ∷ c ∷ d ∷ []) word lt = refl
+stepped Five name (a ∷ b ∷ c ∷ d ∷ e ∷ more) word lt = absurd (omega arith)
 
 -- no step fails before the last word
 step_passes : (size : Size) (name : Text) (before : List Text) → length before < count size → step_fault (leaf size name) (length before + 1) (held before) value ≡ []
@@ -148,6 +160,12 @@ step_passes Four name (a ∷ []) lt = refl
 step_passes Four name (a ∷ b ∷ []) lt = refl
 step_passes Four name (a ∷ b ∷ c ∷ []) lt = refl
 step_passes Four name (a ∷ b ∷ c ∷ d ∷ more) lt = absurd (omega arith)
+step_passes Five name [] lt = refl
+step_passes Five name (a ∷ []) lt = refl
+step_passes Five name (a ∷ b ∷ []) lt = refl
+step_passes Five name (a ∷ b ∷ c ∷ []) lt = refl
+step_passes Five name (a ∷ b ∷ c ∷ d ∷ []) lt = refl
+step_passes Five name (a ∷ b ∷ c ∷ d ∷ e ∷ more) lt = absurd (omega arith)
 
 -- one word more goes to its place
 walked_on : (size : Size) (name : Text) (before : List Text) (word : Text) → is_option word ≡ false → length before < count size
@@ -196,6 +214,7 @@ leaf_is : (size : Size) (name : Text) (words : List Text)
     → leaf_fault size name words ≡ at_end size name (walk (rules_of size name) [] nothing_held words).held (walk_fault (leaf size name) [] (walk_from nothing_held) words)
 leaf_is Three name words = refl
 leaf_is Four name words = refl
+leaf_is Five name words = refl
 
 few_end : (size : Size) (name : Text) (words : List Text) → length words < count size → at_end size name (held words) [] ≡ MissingRequiredArgument ∷ []
 unfolding clap_on_literals
@@ -208,6 +227,12 @@ few_end Four name (a ∷ []) lt = refl
 few_end Four name (a ∷ b ∷ []) lt = refl
 few_end Four name (a ∷ b ∷ c ∷ []) lt = refl
 few_end Four name (a ∷ b ∷ c ∷ d ∷ more) lt = absurd (omega arith)
+few_end Five name [] lt = refl
+few_end Five name (a ∷ []) lt = refl
+few_end Five name (a ∷ b ∷ []) lt = refl
+few_end Five name (a ∷ b ∷ c ∷ []) lt = refl
+few_end Five name (a ∷ b ∷ c ∷ d ∷ []) lt = refl
+few_end Five name (a ∷ b ∷ c ∷ d ∷ e ∷ more) lt = absurd (omega arith)
 
 whole_end : (size : Size) (name : Text) (words : List Text) → length words ≡ count size → at_end size name (held words) [] ≡ []
 unfolding clap_on_literals
@@ -222,6 +247,13 @@ whole_end Four name (a ∷ b ∷ []) e = absurd (omega arith)
 whole_end Four name (a ∷ b ∷ c ∷ []) e = absurd (omega arith)
 whole_end Four name (a ∷ b ∷ c ∷ d ∷ []) e = refl
 whole_end Four name (a ∷ b ∷ c ∷ d ∷ x ∷ more) e = absurd (omega arith)
+whole_end Five name [] h = absurd (omega arith)
+whole_end Five name (a ∷ []) h = absurd (omega arith)
+whole_end Five name (a ∷ b ∷ []) h = absurd (omega arith)
+whole_end Five name (a ∷ b ∷ c ∷ []) h = absurd (omega arith)
+whole_end Five name (a ∷ b ∷ c ∷ d ∷ []) h = absurd (omega arith)
+whole_end Five name (a ∷ b ∷ c ∷ d ∷ e ∷ []) h = refl
+whole_end Five name (a ∷ b ∷ c ∷ d ∷ e ∷ x ∷ more) h = absurd (omega arith)
 
 -- after them there is no place for another
 next_fails : (size : Size) (name : Text) (words : List Text) → length words ≡ count size → step_fault (leaf size name) (length words + 1) (held words) value ≡ UnknownArgument ∷ []
@@ -237,6 +269,13 @@ next_fails Four name (a ∷ b ∷ []) e = absurd (omega arith)
 next_fails Four name (a ∷ b ∷ c ∷ []) e = absurd (omega arith)
 next_fails Four name (a ∷ b ∷ c ∷ d ∷ []) e = refl
 next_fails Four name (a ∷ b ∷ c ∷ d ∷ x ∷ more) e = absurd (omega arith)
+next_fails Five name [] h = absurd (omega arith)
+next_fails Five name (a ∷ []) h = absurd (omega arith)
+next_fails Five name (a ∷ b ∷ []) h = absurd (omega arith)
+next_fails Five name (a ∷ b ∷ c ∷ []) h = absurd (omega arith)
+next_fails Five name (a ∷ b ∷ c ∷ d ∷ []) h = absurd (omega arith)
+next_fails Five name (a ∷ b ∷ c ∷ d ∷ e ∷ []) h = refl
+next_fails Five name (a ∷ b ∷ c ∷ d ∷ e ∷ x ∷ more) h = absurd (omega arith)
 
 -- words that are not too many end as what is held of them
 ends : (size : Size) (name : Text) (words : List Text) → list_any is_option words ≡ false → length words ≤ count size → leaf_fault size name words ≡ at_end size name (held words) []
@@ -286,6 +325,19 @@ only_whole Four name [] plain e = nothing_wrong _ _ _ (few_fail Four name [] pla
 only_whole Four name (a ∷ []) plain e = nothing_wrong _ _ _ (few_fail Four name (a ∷ []) plain (omega arith)) e
 only_whole Four name (a ∷ b ∷ []) plain e = nothing_wrong _ _ _ (few_fail Four name (a ∷ b ∷ []) plain (omega arith)) e
 only_whole Four name (a ∷ b ∷ c ∷ []) plain e = nothing_wrong _ _ _ (few_fail Four name (a ∷ b ∷ c ∷ []) plain (omega arith)) e
+only_whole Five name (a ∷ b ∷ c ∷ d ∷ f ∷ []) plain e = refl
+only_whole Five name (a ∷ b ∷ c ∷ d ∷ f ∷ x ∷ rest) plain e =
+    let one = or_parts _ _ plain in
+    let two = or_parts _ _ one.1 in
+    let three = or_parts _ _ two.1 in
+    let four = or_parts _ _ three.1 in
+    let five = or_parts _ _ four.1 in
+    nothing_wrong _ _ _ (many_fail Five name (a ∷ b ∷ c ∷ d ∷ f ∷ []) x rest (plain_more a (b ∷ c ∷ d ∷ f ∷ []) one.0 (plain_more b (c ∷ d ∷ f ∷ []) two.0 (plain_more c (d ∷ f ∷ []) three.0 (plain_more d (f ∷ []) four.0 (plain_more f [] five.0 refl))))) (or_parts _ _ five.1).0 refl) e
+only_whole Five name [] plain e = nothing_wrong _ _ _ (few_fail Five name [] plain (omega arith)) e
+only_whole Five name (a ∷ []) plain e = nothing_wrong _ _ _ (few_fail Five name (a ∷ []) plain (omega arith)) e
+only_whole Five name (a ∷ b ∷ []) plain e = nothing_wrong _ _ _ (few_fail Five name (a ∷ b ∷ []) plain (omega arith)) e
+only_whole Five name (a ∷ b ∷ c ∷ []) plain e = nothing_wrong _ _ _ (few_fail Five name (a ∷ b ∷ c ∷ []) plain (omega arith)) e
+only_whole Five name (a ∷ b ∷ c ∷ d ∷ []) plain e = nothing_wrong _ _ _ (few_fail Five name (a ∷ b ∷ c ∷ d ∷ []) plain (omega arith)) e
 
 -- the rows of a command's words
 abbrev pub rows_given : List Text → List Text → List Row
@@ -305,6 +357,13 @@ all_found Four name (a ∷ b ∷ []) e = absurd (omega arith)
 all_found Four name (a ∷ b ∷ c ∷ []) e = absurd (omega arith)
 all_found Four name (a ∷ b ∷ c ∷ d ∷ []) e = refl
 all_found Four name (a ∷ b ∷ c ∷ d ∷ x ∷ more) e = absurd (omega arith)
+all_found Five name [] h = absurd (omega arith)
+all_found Five name (a ∷ []) h = absurd (omega arith)
+all_found Five name (a ∷ b ∷ []) h = absurd (omega arith)
+all_found Five name (a ∷ b ∷ c ∷ []) h = absurd (omega arith)
+all_found Five name (a ∷ b ∷ c ∷ d ∷ []) h = absurd (omega arith)
+all_found Five name (a ∷ b ∷ c ∷ d ∷ e ∷ []) h = refl
+all_found Five name (a ∷ b ∷ c ∷ d ∷ e ∷ x ∷ more) h = absurd (omega arith)
 
 -- they give each place its word
 has_all : (size : Size) (words : List Text) → length words ≡ count size → HasAll (places size) words (rows_given (places size) words)
@@ -319,6 +378,13 @@ has_all Four (a ∷ b ∷ []) e = absurd (omega arith)
 has_all Four (a ∷ b ∷ c ∷ []) e = absurd (omega arith)
 has_all Four (a ∷ b ∷ c ∷ d ∷ []) e = (refl, (refl, (refl, (refl, tt))))
 has_all Four (a ∷ b ∷ c ∷ d ∷ x ∷ more) e = absurd (omega arith)
+has_all Five [] h = absurd (omega arith)
+has_all Five (a ∷ []) h = absurd (omega arith)
+has_all Five (a ∷ b ∷ []) h = absurd (omega arith)
+has_all Five (a ∷ b ∷ c ∷ []) h = absurd (omega arith)
+has_all Five (a ∷ b ∷ c ∷ d ∷ []) h = absurd (omega arith)
+has_all Five (a ∷ b ∷ c ∷ d ∷ e ∷ []) h = (refl, (refl, (refl, (refl, (refl, tt)))))
+has_all Five (a ∷ b ∷ c ∷ d ∷ e ∷ x ∷ more) h = absurd (omega arith)
 
 -- what the words are found as
 whole_rows : (size : Size) (name : Text) (words : List Text) → list_any is_option words ≡ false → length words ≡ count size
@@ -373,6 +439,7 @@ known Show = record { stops = refl; passes = refl; ends = λ rest. refl; enters 
 known Format = record { stops = refl; passes = refl; ends = λ rest. refl; enters = λ rest. refl }
 known Check = record { stops = refl; passes = refl; ends = λ rest. refl; enters = λ rest. refl }
 known Mount = record { stops = refl; passes = refl; ends = λ rest. refl; enters = λ rest. refl }
+known Serve = record { stops = refl; passes = refl; ends = λ rest. refl; enters = λ rest. refl }
 
 or_nothing : (kinds : Kinds) → or_else kinds [] ≡ kinds
 or_nothing [] = refl
@@ -409,30 +476,32 @@ is_name : (word : Text) (command : CommandName) → bytes_eq (name_of command) w
 is_name word command same = record { command = command; is = sym ((bytes_eq-Decides (name_of command) word).0 same) }
 
 name_or_strange : (word : Text) → IsName word ⊎ IsStrange word
-name_or_strange word = go (same Sector) (same Show) (same Format) (same Check) (same Mount) refl refl refl refl refl
+name_or_strange word = go (same Sector) (same Show) (same Format) (same Check) (same Mount) (same Serve) refl refl refl refl refl refl
   where
     same : CommandName → Bool
     same command = bytes_eq (name_of command) word
 
     strange : bytes_eq (name_of Sector) word ≡ false → bytes_eq (name_of Show) word ≡ false → bytes_eq (name_of Format) word ≡ false → bytes_eq (name_of Check) word ≡ false
-        → bytes_eq (name_of Mount) word ≡ false → IsStrange word
-    strange a b c d e Sector = a
-    strange a b c d e Show = b
-    strange a b c d e Format = c
-    strange a b c d e Check = d
-    strange a b c d e Mount = e
+        → bytes_eq (name_of Mount) word ≡ false → bytes_eq (name_of Serve) word ≡ false → IsStrange word
+    strange a b c d e f Sector = a
+    strange a b c d e f Show = b
+    strange a b c d e f Format = c
+    strange a b c d e f Check = d
+    strange a b c d e f Mount = e
+    strange a b c d e f Serve = f
 
-    go : (a b c d e : Bool) → bytes_eq (name_of Sector) word ≡ a → bytes_eq (name_of Show) word ≡ b → bytes_eq (name_of Format) word ≡ c → bytes_eq (name_of Check) word ≡ d
-        → bytes_eq (name_of Mount) word ≡ e → IsName word ⊎ IsStrange word
-    go true b c d e is1 is2 is3 is4 is5 = inl (is_name word Sector is1)
-    go false true c d e is1 is2 is3 is4 is5 = inl (is_name word Show is2)
-    go false false true d e is1 is2 is3 is4 is5 = inl (is_name word Format is3)
-    go false false false true e is1 is2 is3 is4 is5 = inl (is_name word Check is4)
-    go false false false false true is1 is2 is3 is4 is5 = inl (is_name word Mount is5)
-    go false false false false false is1 is2 is3 is4 is5 = inr (strange is1 is2 is3 is4 is5)
+    go : (a b c d e f : Bool) → bytes_eq (name_of Sector) word ≡ a → bytes_eq (name_of Show) word ≡ b → bytes_eq (name_of Format) word ≡ c → bytes_eq (name_of Check) word ≡ d
+        → bytes_eq (name_of Mount) word ≡ e → bytes_eq (name_of Serve) word ≡ f → IsName word ⊎ IsStrange word
+    go true b c d e f is1 is2 is3 is4 is5 is6 = inl (is_name word Sector is1)
+    go false true c d e f is1 is2 is3 is4 is5 is6 = inl (is_name word Show is2)
+    go false false true d e f is1 is2 is3 is4 is5 is6 = inl (is_name word Format is3)
+    go false false false true e f is1 is2 is3 is4 is5 is6 = inl (is_name word Check is4)
+    go false false false false true f is1 is2 is3 is4 is5 is6 = inl (is_name word Mount is5)
+    go false false false false false true is1 is2 is3 is4 is5 is6 = inl (is_name word Serve is6)
+    go false false false false false false is1 is2 is3 is4 is5 is6 = inr (strange is1 is2 is3 is4 is5 is6)
 
 unnamed : (word : Text) → IsStrange word → subcommand_met names idle word ≡ None
-unnamed word is = rw (is Sector) (rw (is Show) (rw (is Format) (rw (is Check) (rw (is Mount) refl))))
+unnamed word is = rw (is Sector) (rw (is Show) (rw (is Format) (rw (is Check) (rw (is Mount) (rw (is Serve) refl)))))
 
 stray : step_fault top 1 nothing_held value ≡ UnknownArgument ∷ InvalidSubcommand ∷ []
 unfolding clap_on_literals
@@ -521,6 +590,7 @@ pub record IsOrderNamed (name : Text) (words : Places) (found : Option Order) : 
   pub format : name ≡ codes "format" → found ≡ Some (order.Format (file_words words))
   pub check : name ≡ codes "check" → found ≡ option_map (λ given. order.Check given) (certificate_words words)
   pub mount : name ≡ codes "mount" → found ≡ option_map (λ given. order.Mount given) (certificate_words words)
+  pub serve : name ≡ codes "serve" → found ≡ option_map (λ given. order.Serve given) (serve_words words)
 
 abbrev Spells : Text → List Text → Option Order → Type 0
 Spells name words found = IsSomeAnd found (λ order. order_words order ≡ name ∷ words)
@@ -555,6 +625,34 @@ four_are rows found (a ∷ b ∷ c ∷ d ∷ []) are has = go found.fourth (sym 
         cc
 four_are rows found (a ∷ b ∷ c ∷ d ∷ x ∷ more) are has = absurd has.1.1.1.1
 
+-- and of five
+record AreFive (found : Places) (words : List Text) : Type 0 where
+  pub last : Bor Text
+  pub but_last : Bor Text
+  pub fourth : found.fourth ≡ Some but_last
+  pub fifth : found.fifth ≡ Some last
+  pub are : words ≡ found.first.now ∷ found.second.now ∷ found.third.now ∷ but_last.now ∷ last.now ∷ []
+
+five_are : (rows : List Row) (found : Places) (words : List Text) → AreFound rows found → HasAll (places Five) words rows → AreFive found words
+five_are rows found [] are has = absurd has
+five_are rows found (a ∷ []) are has = absurd has.1
+five_are rows found (a ∷ b ∷ []) are has = absurd has.1.1
+five_are rows found (a ∷ b ∷ c ∷ []) are has = absurd has.1.1.1
+five_are rows found (a ∷ b ∷ c ∷ d ∷ []) are has = absurd has.1.1.1.1
+five_are rows found (a ∷ b ∷ c ∷ d ∷ e ∷ []) are has = go found.fourth found.fifth refl refl (sym has.1.1.1.0 ∙ are.fourth) (sym has.1.1.1.1.0 ∙ are.fifth)
+  where
+    go : (p q : Option (Bor Text)) → found.fourth ≡ p → found.fifth ≡ q → Some d ≡ option_map (λ word. word.now) p → Some e ≡ option_map (λ word. word.now) q → AreFive found (a ∷ b ∷ c ∷ d ∷ e ∷ [])
+    go None q is1 is2 h k = absurd (let no : Some d ≡ None = h in cc)
+    go (Some p) None is1 is2 h k = absurd (let no : Some e ≡ None = k in cc)
+    go (Some p) (Some q) is1 is2 h k =
+        let first : Some a ≡ Some found.first.now = sym has.0 ∙ are.first in
+        let second : Some b ≡ Some found.second.now = sym has.1.0 ∙ are.second in
+        let third : Some c ≡ Some found.third.now = sym has.1.1.0 ∙ are.third in
+        let fourth : Some d ≡ Some p.now = h in
+        let fifth : Some e ≡ Some q.now = k in
+        record { last = q; but_last = p; fourth = is1; fifth = is2; are = (cc) }
+five_are rows found (a ∷ b ∷ c ∷ d ∷ e ∷ x ∷ more) are has = absurd has.1.1.1.1.1
+
 spells_three : (name : Text) (words : List Text) (found : Option Order) (asked : Order) → found ≡ Some asked → order_words asked ≡ name ∷ words → Spells name words found
 spells_three name words found asked some is = let P : Option Order → Type 0 = λ o. Spells name words o in subst P (sym some) is
 
@@ -578,6 +676,10 @@ named_spells Mount words rows found asked are has is = go found.fourth (is.mount
         → IsSomeAnd fourth (λ word. words ≡ found.first.now ∷ found.second.now ∷ found.third.now ∷ word.now ∷ []) → Spells (codes "mount") words asked
     go None e h = absurd h
     go (Some word) e h = spells_three (codes "mount") words asked _ e (ap (λ ws. codes "mount" ∷ ws) (sym h))
+named_spells Serve words rows found asked are has is =
+    let five = five_are rows found words are has in
+    let asks : asked ≡ option_map (λ given. order.Serve given) (serve_by found (Some five.but_last) (Some five.last)) = is.serve refl ∙ (ap (λ o. option_map (λ given. order.Serve given) (serve_by found o found.fifth)) five.fourth ∙ ap (λ o. option_map (λ given. order.Serve given) (serve_by found (Some five.but_last) o)) five.fifth) in
+    spells_three (codes "serve") words asked _ asks (ap (λ ws. codes "serve" ∷ ws) (sym five.are))
 
 -- a command's words are not missing
 abbrev IsMissing : List Row → Type 0
@@ -593,6 +695,10 @@ has_three Four [] rows has = absurd has
 has_three Four (a ∷ []) rows has = absurd has.1
 has_three Four (a ∷ b ∷ []) rows has = absurd has.1.1
 has_three Four (a ∷ b ∷ c ∷ more) rows has = (a, b, c, has.0, has.1.0, has.1.1.0)
+has_three Five [] rows has = absurd has
+has_three Five (a ∷ []) rows has = absurd has.1
+has_three Five (a ∷ b ∷ []) rows has = absurd has.1.1
+has_three Five (a ∷ b ∷ c ∷ more) rows has = (a, b, c, has.0, has.1.0, has.1.1.0)
 
 some_none : (o : Option Text) (a : Text) → o ≡ Some a → o ≡ None → ⊥
 some_none o a some none = let no : Some a ≡ None = sym some ∙ none in cc
@@ -619,6 +725,7 @@ order_taken words (order.Show s) is = taken words is.program Show (s.geometry.no
 order_taken words (order.Format s) is = taken words is.program Format (s.geometry.now ∷ s.input.now ∷ s.output.now ∷ []) is.spelled is.plain refl
 order_taken words (order.Check s) is = taken words is.program Check (s.geometry.now ∷ s.capacity.now ∷ s.image.now ∷ s.certificate.now ∷ []) is.spelled is.plain refl
 order_taken words (order.Mount s) is = taken words is.program Mount (s.geometry.now ∷ s.capacity.now ∷ s.image.now ∷ s.certificate.now ∷ []) is.spelled is.plain refl
+order_taken words (order.Serve s) is = taken words is.program Serve (s.geometry.now ∷ s.capacity.now ∷ s.image.now ∷ s.certificate.now ∷ s.output.now ∷ []) is.spelled is.plain refl
 
 -- what `order_of` tells of the matches
 abbrev pub Orders : Option (Text × List Row) → Option Order → Type 0

@@ -11,6 +11,7 @@ use Rattle.command_words.specs.declared.words.Places.{Places}
 use Rattle.command_words.specs.declared.words.ImageWords.{ImageWords}
 use Rattle.command_words.specs.declared.words.FileWords.{FileWords}
 use Rattle.command_words.specs.declared.words.CertificateWords.{CertificateWords}
+use Rattle.command_words.specs.declared.words.ServeWords.{ServeWords}
 
 -- the word begins with `-`
 abbrev pub is_option : List ℕ → Bool
@@ -28,6 +29,7 @@ order_words (order.Show words) = codes "show" ∷ words.geometry.now ∷ words.i
 order_words (order.Format words) = codes "format" ∷ words.geometry.now ∷ words.input.now ∷ words.output.now ∷ []
 order_words (order.Check words) = codes "check" ∷ words.geometry.now ∷ words.capacity.now ∷ words.image.now ∷ words.certificate.now ∷ []
 order_words (order.Mount words) = codes "mount" ∷ words.geometry.now ∷ words.capacity.now ∷ words.image.now ∷ words.certificate.now ∷ []
+order_words (order.Serve words) = codes "serve" ∷ words.geometry.now ∷ words.capacity.now ∷ words.image.now ∷ words.certificate.now ∷ words.output.now ∷ []
 
 -- the program's name and the order's words, none of which begins with `-`
 pub record IsOrder (words : List (List ℕ)) (order : Order) : Type 0 where
@@ -44,6 +46,7 @@ pub data CommandName : Type 0 where
   Format : CommandName
   Check : CommandName
   Mount : CommandName
+  Serve : CommandName
 
 abbrev pub name_of : CommandName → List ℕ
 name_of Sector = codes "sector"
@@ -51,11 +54,13 @@ name_of Show = codes "show"
 name_of Format = codes "format"
 name_of Check = codes "check"
 name_of Mount = codes "mount"
+name_of Serve = codes "serve"
 
 -- how many words a command wants
 pub data Size : Type 0 where
   Three : Size
   Four : Size
+  Five : Size
 
 abbrev pub size_of : CommandName → Size
 size_of Sector = Three
@@ -63,11 +68,13 @@ size_of Show = Three
 size_of Format = Three
 size_of Check = Four
 size_of Mount = Four
+size_of Serve = Five
 
 -- the names of their places
 abbrev pub places : Size → List (List ℕ)
 places Three = codes "first" ∷ codes "second" ∷ codes "third" ∷ []
 places Four = codes "first" ∷ codes "second" ∷ codes "third" ∷ codes "fourth" ∷ []
+places Five = codes "first" ∷ codes "second" ∷ codes "third" ∷ codes "fourth" ∷ codes "fifth" ∷ []
 
 -- the matches give each of the places its word
 abbrev pub HasAll : List (List ℕ) → List (List ℕ) → List Row → Type 0
@@ -75,12 +82,13 @@ HasAll [] [] rows = Unit {0}
 HasAll (id ∷ ids) (word ∷ words) rows = (first_of id rows ≡ Some word) × HasAll ids words rows
 HasAll _ _ rows = ⊥
 
--- these are the words that the matches give the four places, of which the last may have none
+-- these are the words that the matches give the five places, of which the last two may have none
 pub record AreFound (rows : List Row) (found : Places) : Type 0 where
   pub first : first_of (codes "first") rows ≡ Some found.first.now
   pub second : first_of (codes "second") rows ≡ Some found.second.now
   pub third : first_of (codes "third") rows ≡ Some found.third.now
   pub fourth : first_of (codes "fourth") rows ≡ option_map (λ word. word.now) found.fourth
+  pub fifth : first_of (codes "fifth") rows ≡ option_map (λ word. word.now) found.fifth
 
 -- what the words of the places are for, by the command that wants them
 abbrev pub image_words : Places → ImageWords
@@ -91,6 +99,14 @@ file_words p = record { geometry = p.first; input = p.second; output = p.third }
 
 abbrev pub certificate_words : Places → Option CertificateWords
 certificate_words p = option_map (λ fourth. record { geometry = p.first; capacity = p.second; image = p.third; certificate = fourth }) p.fourth
+
+abbrev pub serve_by : Places → Option (Bor (List ℕ)) → Option (Bor (List ℕ)) → Option ServeWords
+serve_by p None fifth = None
+serve_by p (Some fourth) None = None
+serve_by p (Some fourth) (Some fifth) = Some (record { geometry = p.first; capacity = p.second; image = p.third; certificate = fourth; output = fifth })
+
+abbrev pub serve_words : Places → Option ServeWords
+serve_words p = serve_by p p.fourth p.fifth
 
 -- the matches are those of the command of this name
 abbrev pub IsNamed : List ℕ → (List Row → Type 0) → Option (List ℕ × List Row) → Type 0
@@ -109,9 +125,14 @@ three_words name = with_rule (with_rule (with_rule (new_app name) (place (codes 
 abbrev pub four_words : List ℕ → App
 four_words name = with_rule (three_words name) (place (codes "fourth"))
 
+-- a command of five words
+abbrev pub five_words : List ℕ → App
+five_words name = with_rule (four_words name) (place (codes "fifth"))
+
 abbrev pub words_wanted : List ℕ → Size → App
 words_wanted name Three = three_words name
 words_wanted name Four = four_words name
+words_wanted name Five = five_words name
 
 abbrev pub with_command : App → CommandName → App
 with_command app command = with_subcommand app (words_wanted (name_of command) (size_of command)).top
@@ -120,5 +141,8 @@ with_command app command = with_subcommand app (words_wanted (name_of command) (
 abbrev pub no_help : App → App
 no_help app = on_top (λ s. record s { disable_help_flag = true; disable_help_subcommand = true; subcommand_required = true }) app
 
+abbrev pub file_grammar : App
+file_grammar = with_command (with_command (with_command (with_command (with_command (no_help (new_app (codes "nandctl"))) Sector) Show) Format) Check) Mount
+
 abbrev pub grammar : App
-grammar = with_command (with_command (with_command (with_command (with_command (no_help (new_app (codes "nandctl"))) Sector) Show) Format) Check) Mount
+grammar = with_command file_grammar Serve

@@ -6,4 +6,4 @@ mod numbers;
 mod words;
 
 pub use numbers::{GeometryNumbers, geometry_numbers, number};
-pub use words::{CertificateWords, FileWords, ImageWords, Order, WordsFault, parse};
+pub use words::{CertificateWords, FileWords, ImageWords, Order, ServeWords, WordsFault, parse};

@@ -4,7 +4,7 @@ ghost use Rattle.std.specs.List.{list_any};
 ghost use Rattle.clap.specs.declared.builder.command.Command.{out-Command};
 ghost use Rattle.clap.specs.Words.{app_of, first_of, found_of, rows_of, fault_of, rule_of, subcommand_of, subcommand_rows_of, with_subcommand};
 ghost use Rattle.command_words.specs.declared.words.Order.{Order};
-ghost use Rattle.command_words.specs.Words.{AreFound, CommandName, HasAll, IsNamed, IsOrder, certificate_words, file_words, image_words, name_of, order_words, places, size_of, texts};
+ghost use Rattle.command_words.specs.Words.{AreFound, CommandName, HasAll, IsNamed, IsOrder, certificate_words, file_words, image_words, name_of, order_words, places, serve_words, size_of, texts};
 
 use clap::error::ErrorKind;
 use clap::{Arg, ArgAction, ArgMatches, Command};
@@ -35,6 +35,16 @@ pub struct CertificateWords<'a> {
     pub certificate: &'a str,
 }
 
+/// The words of `serve GEOM C IMAGE CERT OUT`.
+#[derive(Clone, Copy)]
+pub struct ServeWords<'a> {
+    pub geometry: &'a str,
+    pub capacity: &'a str,
+    pub image: &'a str,
+    pub certificate: &'a str,
+    pub output: &'a str,
+}
+
 /// What the words ask for, each word as written.
 #[derive(Clone, Copy)]
 pub enum Order<'a> {
@@ -48,6 +58,8 @@ pub enum Order<'a> {
     Check(CertificateWords<'a>),
     /// Makes the certificate of a raw image.
     Mount(CertificateWords<'a>),
+    /// Serves requests over a raw image.
+    Serve(ServeWords<'a>),
 }
 
 /// Why the words give no order.
@@ -97,6 +109,14 @@ fn four_words<'a>(alloc: Global, name: &'a str) -> Result<Command<'a>, AllocErro
     three_words(alloc, name)?.arg(place(alloc, "fourth"))
 }
 
+// A command of five words.
+fn five_words<'a>(alloc: Global, name: &'a str) -> Result<Command<'a>, AllocError>
+    ensures app { IfOk result (λ command. app_of command ≡ Rattle.command_words.specs.Words.five_words name.now) }
+    ensures local { IfOk result (λ command. (out-Command command).has_globals ≡ false) }
+{
+    four_words(alloc, name)?.arg(place(alloc, "fifth"))
+}
+
 // The program with one more command, of three words.
 fn with_three<'a>(
     alloc: Global,
@@ -119,9 +139,20 @@ fn with_four<'a>(
     program.subcommand(four_words(alloc, name)?)
 }
 
-// The commands that the program has. There are no options and no help.
-fn grammar<'a>(alloc: Global) -> Result<Command<'a>, AllocError>
-    ensures { IfOk result (λ command. app_of command ≡ Rattle.command_words.specs.Words.grammar) }
+// The program with one more command, of five words.
+fn with_five<'a>(
+    alloc: Global,
+    program: Command<'a>,
+    name: &'a str,
+) -> Result<Command<'a>, AllocError>
+    ensures { IfOk result (λ made. app_of made ≡ with_subcommand (app_of program.entry) (Rattle.command_words.specs.Words.five_words name.now).top) }
+{
+    program.subcommand(five_words(alloc, name)?)
+}
+
+// The commands that read and write files alone. There are no options and no help.
+fn file_grammar<'a>(alloc: Global) -> Result<Command<'a>, AllocError>
+    ensures { IfOk result (λ command. app_of command ≡ Rattle.command_words.specs.Words.file_grammar) }
 {
     let program = Command::new(alloc, "nandctl")
         .disable_help_flag(true)
@@ -134,6 +165,13 @@ fn grammar<'a>(alloc: Global) -> Result<Command<'a>, AllocError>
     with_four(alloc, program, "mount")
 }
 
+// The commands that the program has: these, and the server.
+fn grammar<'a>(alloc: Global) -> Result<Command<'a>, AllocError>
+    ensures { IfOk result (λ command. app_of command ≡ Rattle.command_words.specs.Words.grammar) }
+{
+    with_five(alloc, file_grammar(alloc)?, "serve")
+}
+
 fn is_option(word: &str) -> bool
     ensures { result ≡ Rattle.command_words.specs.Words.is_option word.now }
 {
@@ -143,18 +181,19 @@ fn is_option(word: &str) -> bool
     }
 }
 
-// The words of a command by their places: three, or four.
+// The words of a command by their places: three, four or five.
 #[derive(Clone, Copy)]
 struct Places<'a> {
     first: &'a str,
     second: &'a str,
     third: &'a str,
     fourth: Option<&'a str>,
+    fifth: Option<&'a str>,
 }
 
 impl<'a> Places<'a> {
     ghost use Rattle.std.specs.Prelude.{◌≡◌};
-    ghost use Rattle.command_words.specs.Words.{certificate_words, file_words, image_words};
+    ghost use Rattle.command_words.specs.Words.{certificate_words, file_words, image_words, serve_words};
 
     // A geometry, an image and a number.
     fn of_image(&self) -> ImageWords<'a>
@@ -189,6 +228,19 @@ impl<'a> Places<'a> {
             certificate: self.fourth?,
         })
     }
+
+    // The same and a file to be written, where there are five words.
+    fn of_serve(&self) -> Option<ServeWords<'a>>
+        ensures { result ≡ serve_words self.now }
+    {
+        Some(ServeWords {
+            geometry: self.first,
+            capacity: self.second,
+            image: self.third,
+            certificate: self.fourth?,
+            output: self.fifth?,
+        })
+    }
 }
 
 // The words of a command that was found.
@@ -201,6 +253,7 @@ fn words_found<'a>(found: &ArgMatches<'a>) -> Option<Places<'a>>
         second: found.get_str("second")?,
         third: found.get_str("third")?,
         fourth: found.get_str("fourth"),
+        fifth: found.get_str("fifth"),
     })
 }
 
@@ -211,6 +264,7 @@ fn order_named<'a>(name: &str, words: &Places<'a>) -> Option<Order<'a>>
     ensures format { name.now ≡ codes "format" → result ≡ Some (Order.Format (file_words words.now)) }
     ensures check { name.now ≡ codes "check" → result ≡ option_map (λ given. Order.Check given) (certificate_words words.now) }
     ensures mount { name.now ≡ codes "mount" → result ≡ option_map (λ given. Order.Mount given) (certificate_words words.now) }
+    ensures serve { name.now ≡ codes "serve" → result ≡ option_map (λ given. Order.Serve given) (serve_words words.now) }
 {
     match name {
         "sector" => Some(Order::Sector(words.of_image())),
@@ -218,6 +272,7 @@ fn order_named<'a>(name: &str, words: &Places<'a>) -> Option<Order<'a>>
         "format" => Some(Order::Format(words.of_files())),
         "check" => Some(Order::Check(words.of_certificate()?)),
         "mount" => Some(Order::Mount(words.of_certificate()?)),
+        "serve" => Some(Order::Serve(words.of_serve()?)),
         _ => None,
     }
 }

@@ -1,5 +1,5 @@
 -- From what a step of `check` came to, to what the command came to.
-use Rattle.std.proofs.Common.{◌≡◌, ℕ, ◌∷◌, [], ◌++◌, codes, List, Option, Result, Ok, Err, OnOk, IfErr, ◌⊎◌, inl, inr, subst, sym, arith}
+use Rattle.std.proofs.Common.{◌≡◌, ℕ, ◌∷◌, [], ◌++◌, codes, List, Option, Some, None, IfSome, Result, Ok, Err, OnOk, IfErr, ◌⊎◌, inl, inr, subst, sym, arith}
 use Rattle.std.specs.Io.KnownBytes.{Appends, Keeps}
 use Rattle.page_layout.specs.declared.geometry.Geometry.{Geometry}
 use Rattle.page_layout.specs.Counter.{HasRisen}
@@ -9,6 +9,8 @@ use Rattle.certificate.specs.Claim.{Claim}
 use Rattle.image_check.specs.declared.refusal.Refusal.{Refusal}
 use Rattle.image_check.specs.declared.refusal.Refusal.TheVariants as refusals
 use Rattle.image_check.specs.Refused.{IsFirstWrong, IsRefusal}
+use Rattle.image_check.specs.Streamed.{IsStreamRefusal}
+use Rattle.image_check.specs.Accepted.{Acceptance, IsAcceptance}
 use Rattle.commands.specs.declared.files.FileFault.{FileFault}
 use Rattle.commands.specs.declared.files.FileFault.TheVariants as file
 use Rattle.commands.specs.declared.text.CommandFault.{CommandFault}
@@ -16,19 +18,12 @@ use Rattle.commands.specs.declared.text.CommandFault.TheVariants as fault
 use Rattle.command_words.specs.declared.words.CertificateWords.{CertificateWords}
 use Rattle.commands.specs.Files.{Gives}
 use Rattle.commands.specs.Inputs.{IsUnread}
-use Rattle.commands.specs.Check.{DoesCheck, HasFiles, IsCheckFault, IsHeld, IsKept, IsSpelled, IsUnprinted}
+use Rattle.commands.specs.Check.{DoesCheck, HasFiles, IsCheckFault, IsHeld, IsKept, IsSpelled, IsToldAs, IsUnheld, IsUnprinted, IsWhole}
 
 -- a count of failures that stays at none did not rise
 pub unrisen : HasRisen 0 0 → ⊥
 unrisen (inl less) = omega arith
 unrisen (inr most) = omega arith
-
--- an image in memory can be read, so a refusal names what is wrong, or want of memory
-pub refused_in : (flash : Flash) (g : Geometry) (bytes : List ℕ) (capacity : ℕ) (c : Claim) (refusal : Refusal) → flash ≡ still g (raw_image g bytes)
-    → (refusal ≡ refusals.Source → HasRisen 0 0) → IsRefusal g capacity flash.image c refusal → (refusal ≡ refusals.OutOfMemory) ⊎ IsFirstWrong g capacity (raw_image g bytes) c refusal
-refused_in flash g bytes capacity c refusal is rose (inl (inl source)) = absurd (unrisen (rose source))
-refused_in flash g bytes capacity c refusal is rose (inl (inr memory)) = inl memory
-refused_in flash g bytes capacity c refusal is rose (inr wrong) = let P : Flash → Type 0 = λ f. IsFirstWrong g capacity f.image c refusal in inr (subst P is wrong)
 
 -- what a later load may answer an earlier one might have
 pub unread_before : (old new : Gives) (text : List ℕ) (stop : CommandFault) → ((at : List ℕ) (answer : Result (List ℕ) FileFault) → new at answer → old at answer)
@@ -49,12 +44,39 @@ stops gives words before after result stop is keeps because =
     subst P (sym is) (kept stop before after keeps, because)
 
 -- the printing, after all that came before it
-pub prints : (gives : Gives) (words : CertificateWords) (g : Geometry) (capacity : ℕ) (bytes written : List ℕ) (c : Claim) (before after : Option (List ℕ)) (result : Result (Unit {0}) CommandFault)
-    → HasFiles gives words g capacity bytes written → IsSpelled c written → IsHeld g capacity bytes c
+pub prints : (gives : Gives) (words : CertificateWords) (g : Geometry) (capacity : ℕ) (known : Option (List ℕ)) (written : List ℕ) (c : Claim) (before after : Option (List ℕ)) (result : Result (Unit {0}) CommandFault)
+    → HasFiles gives words g capacity known written → IsSpelled c written → IfSome known (λ bytes. IsHeld g capacity bytes c)
     → OnOk result (Appends before after (codes "accepted" ++ (10 ∷ []))) → IfErr result IsUnprinted → DoesCheck gives words before after result
-prints gives words g capacity bytes written c before after (Ok done) files spelled held ok failed = (g, capacity, bytes, written, c, files, spelled, held, ok)
-prints gives words g capacity bytes written c before after (Err stop) files spelled held ok failed = (unkept stop failed, inr (inr (inr (inr (inr (g, capacity, bytes, written, c, files, spelled, held, failed))))))
+prints gives words g capacity known written c before after (Ok done) files spelled held ok failed = (g, capacity, known, written, c, files, spelled, held, ok)
+prints gives words g capacity known written c before after (Err stop) files spelled held ok failed = (unkept stop failed, inr (inr (inr (inr (inr (g, capacity, known, written, c, files, spelled, held, failed))))))
   where
     unkept : (stop : CommandFault) → IsUnprinted stop → IsKept stop before after
     unkept (fault.Write path) is = tt
     unkept _ is = absurd is
+
+-- why a stream was refused
+pub unheld_of : (g : Geometry) (capacity : ℕ) (path : List ℕ) (known : Option (List ℕ)) (c : Claim) (refusal : Refusal) → (refusal ≡ refusals.Source → ⊥) → (refusal ≡ refusals.WrongLength → ⊥)
+    → IfSome known (λ bytes. IsStreamRefusal g capacity bytes c refusal) → (refusal ≡ refusals.OutOfMemory) ⊎ IfSome known (λ bytes. IsFirstWrong g capacity (raw_image g bytes) c refusal)
+unheld_of g capacity path None c refusal sourced long h = inr tt
+unheld_of g capacity path (Some bytes) c refusal sourced long (inl (inl source)) = absurd (sourced source)
+unheld_of g capacity path (Some bytes) c refusal sourced long (inl (inr memory)) = inl memory
+unheld_of g capacity path (Some bytes) c refusal sourced long (inr (inl wrong)) = absurd (long wrong.0)
+unheld_of g capacity path (Some bytes) c refusal sourced long (inr (inr wrong)) = inr wrong
+
+pub unwhole_of : (g : Geometry) (capacity : ℕ) (known : Option (List ℕ)) (c : Claim) → IfSome known (λ bytes. IsStreamRefusal g capacity bytes c refusals.WrongLength) → IfSome known (λ bytes. ¬ IsWhole g bytes)
+unwhole_of g capacity None c h = tt
+unwhole_of g capacity (Some bytes) c (inl (inl source)) = absurd (let clash : refusals.WrongLength ≡ refusals.Source = source in cc)
+unwhole_of g capacity (Some bytes) c (inl (inr memory)) = absurd (let clash : refusals.WrongLength ≡ refusals.OutOfMemory = memory in cc)
+unwhole_of g capacity (Some bytes) c (inr (inl wrong)) = wrong.1
+unwhole_of g capacity (Some bytes) c (inr (inr wrong)) = absurd (let clash : None ≡ Some wrong.part = wrong.wrong.part_is in cc)
+
+pub held_of : (g : Geometry) (capacity : ℕ) (known : Option (List ℕ)) (c : Claim) (a : Acceptance) → IfSome known (λ bytes. IsWhole g bytes) → IfSome known (λ bytes. IsAcceptance g capacity (raw_image g bytes) c a) → IfSome known (λ bytes. IsHeld g capacity bytes c)
+held_of g capacity None c a whole h = tt
+held_of g capacity (Some bytes) c a whole h = record { whole = whole; agrees = h.agrees }
+
+pub told_unheld : (g : Geometry) (capacity : ℕ) (path : List ℕ) (known : Option (List ℕ)) (c : Claim) (r : Refusal) (stop : CommandFault) → IsToldAs r path stop → IfSome known (λ bytes. IsStreamRefusal g capacity bytes c r) → IsUnheld g capacity path known c stop
+told_unheld g capacity path known c r fault.WrongLength told h = unwhole_of g capacity known c (subst (λ (x : Refusal). IfSome known (λ bytes. IsStreamRefusal g capacity bytes c x)) told h)
+told_unheld g capacity path known c r (fault.Read at) told h = told.1
+told_unheld g capacity path known c r (fault.Check other) told h =
+    subst (λ (x : Refusal). (x ≡ refusals.OutOfMemory) ⊎ IfSome known (λ bytes. IsFirstWrong g capacity (raw_image g bytes) c x)) (sym told.0) (unheld_of g capacity path known c r told.2 told.1 h)
+told_unheld g capacity path known c r _ told h = absurd told

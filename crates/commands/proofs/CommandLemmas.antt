@@ -8,8 +8,10 @@ use Rattle.command_words.specs.declared.words.Order.{Order}
 use Rattle.command_words.specs.declared.words.Order.TheVariants as order
 use Rattle.command_words.specs.declared.words.ImageWords.{ImageWords}
 use Rattle.command_words.specs.declared.words.CertificateWords.{CertificateWords}
+use Rattle.command_words.specs.declared.words.ServeWords.{ServeWords}
 use Rattle.commands.specs.Check.{IsCheckFault}
 use Rattle.commands.specs.Mount.{DoesMount}
+use Rattle.commands.specs.Serve.{DoesServe, IsUnstarted}
 use Rattle.commands.specs.Commands.{Does, Obeys}
 use Rattle.commands.specs.Files.{Gives, Left, Leaves}
 use Rattle.commands.specs.Inputs.{IsUnread}
@@ -52,18 +54,31 @@ mount_leaves gives words before after (inl unstarted) = unstarted.0
 mount_leaves gives words before after (inr (inl unstored)) = (unstored.5, unstored.6)
 mount_leaves gives words before after (inr (inr unprinted)) = absurd unprinted.6
 
+serve_is_command : (gives : Gives) (words : ServeWords) (unread left : Option (List ℕ)) (before after : Left) → DoesServe gives words unread left before after (Err fault.NoSuchCommand) → ⊥
+serve_is_command gives words unread left before after (inl none) = unstarted none.because
+  where
+    unstarted : IsUnstarted gives words fault.NoSuchCommand → ⊥
+    unstarted (inl unasked) = unasked
+    unstarted (inr (inl unread)) = unread.3
+    unstarted (inr (inr (inl unread))) = unread.5
+    unstarted (inr (inr (inr (inl broken)))) = broken.5
+    unstarted (inr (inr (inr (inr unserved)))) = unserved.5
+serve_is_command gives words unread left before after (inr ran) = ran.ends
+
 -- what the order of the words came to, the words came to
-pub order_obeys : (gives : Gives) (words : List (List ℕ)) (before after : Left) (result : Result (Unit {0}) CommandFault) (asked : Order)
-    → IsOrder words asked → Does gives asked before after result → Obeys gives words before after result
-order_obeys gives words before after (Ok done) asked is does = (asked, is, does)
-order_obeys gives words before after (Err fault.NoSuchCommand) (order.Sector w) is does = absurd does.0
-order_obeys gives words before after (Err fault.NoSuchCommand) (order.Show w) is does = absurd does.0
-order_obeys gives words before after (Err fault.NoSuchCommand) (order.Format w) is does = absurd does
-order_obeys gives words before after (Err fault.NoSuchCommand) (order.Check w) is does = absurd (check_is_command gives w does.0.1)
-order_obeys gives words before after (Err fault.NoSuchCommand) (order.Mount w) is does = absurd (mount_is_command gives w before after does)
-order_obeys gives words before after (Err fault.OutOfMemory) (order.Sector w) is does = (does.1, does.0.0)
-order_obeys gives words before after (Err fault.OutOfMemory) (order.Show w) is does = (does.1, does.0.0)
-order_obeys gives words before after (Err fault.OutOfMemory) (order.Format w) is does = does.0
-order_obeys gives words before after (Err fault.OutOfMemory) (order.Check w) is does = (does.1, does.0.0)
-order_obeys gives words before after (Err fault.OutOfMemory) (order.Mount w) is does = mount_leaves gives w before after does
-order_obeys gives words before after (Err _) asked is does = (asked, is, does)
+pub order_obeys : (gives : Gives) (words : List (List ℕ)) (unread left : Option (List ℕ)) (before after : Left) (result : Result (Unit {0}) CommandFault) (asked : Order)
+    → IsOrder words asked → Does gives asked unread left before after result → Obeys gives words unread left before after result
+order_obeys gives words unread left before after (Ok done) asked is does = (asked, is, does)
+order_obeys gives words unread left before after (Err fault.NoSuchCommand) (order.Sector w) is does = absurd does.0
+order_obeys gives words unread left before after (Err fault.NoSuchCommand) (order.Show w) is does = absurd does.0
+order_obeys gives words unread left before after (Err fault.NoSuchCommand) (order.Format w) is does = absurd does
+order_obeys gives words unread left before after (Err fault.NoSuchCommand) (order.Check w) is does = absurd (check_is_command gives w does.0.1)
+order_obeys gives words unread left before after (Err fault.NoSuchCommand) (order.Mount w) is does = absurd (mount_is_command gives w before after does)
+order_obeys gives words unread left before after (Err fault.NoSuchCommand) (order.Serve w) is does = absurd (serve_is_command gives w unread left before after does)
+order_obeys gives words unread left before after (Err fault.OutOfMemory) (order.Sector w) is does = inl (does.1, does.0.0)
+order_obeys gives words unread left before after (Err fault.OutOfMemory) (order.Show w) is does = inl (does.1, does.0.0)
+order_obeys gives words unread left before after (Err fault.OutOfMemory) (order.Format w) is does = inl does.0
+order_obeys gives words unread left before after (Err fault.OutOfMemory) (order.Check w) is does = inl (does.1, does.0.0)
+order_obeys gives words unread left before after (Err fault.OutOfMemory) (order.Mount w) is does = inl (mount_leaves gives w before after does)
+order_obeys gives words unread left before after (Err fault.OutOfMemory) (order.Serve w) is does = inr (order.Serve w, is, does)
+order_obeys gives words unread left before after (Err _) asked is does = (asked, is, does)

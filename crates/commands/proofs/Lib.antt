@@ -3,3 +3,4 @@ pub mod CheckLemmas
 pub mod MountLemmas
 pub mod CommandLemmas
 pub mod FormatLemmas
+pub mod ServeLemmas

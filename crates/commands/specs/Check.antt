@@ -1,5 +1,5 @@
 -- The command `check`: what its words, its files and the checker come to.
-use Rattle.std.specs.Prelude.{◌≡◌, ◌⊎◌, ◌<◌, ◌≤◌, ◌*◌, ℕ, List, [], ◌∷◌, ◌++◌, length, codes, Option, None, Some, Result, Ok, Err}
+use Rattle.std.specs.Prelude.{◌≡◌, ◌≢◌, ◌⊎◌, ◌<◌, ◌≤◌, ◌*◌, ℕ, List, [], ◌∷◌, ◌++◌, length, codes, Option, None, Some, IfSome, Result, Ok, Err}
 use Rattle.std.specs.Io.KnownBytes.{Appends, Keeps}
 use Rattle.page_layout.specs.declared.geometry.Geometry.{Geometry}
 use Rattle.page_layout.specs.Geometry.{row_count, page_bytes}
@@ -10,6 +10,7 @@ use Rattle.certificate.specs.Spelling.{Fits, certificate_bytes}
 use Rattle.certificate.specs.Faults as certificate
 use Rattle.image_check.specs.Agrees.{Agrees}
 use Rattle.image_check.specs.Refused.{IsFirstWrong}
+use Rattle.image_check.specs.declared.refusal.Refusal.{Refusal}
 use Rattle.image_check.specs.declared.refusal.Refusal.TheVariants as refusals
 use Rattle.command_words.specs.declared.numbers.GeometryNumbers.{GeometryNumbers}
 use Rattle.commands.specs.declared.text.CommandFault.{CommandFault}
@@ -41,10 +42,14 @@ IsUnasked words fault.Capacity =
     × HasNumbers numbers.data_bytes numbers.spare_bytes numbers.pages numbers.blocks numbers.sectors g × ((capacity ≡ 0) ⊎ (65536 < capacity))
 IsUnasked words _ = ⊥
 
--- and both files were read; `gives` tells what a load of a path may answer
-pub record HasFiles (gives : Gives) (words : CertificateWords) (g : Geometry) (capacity : ℕ) (bytes written : List ℕ) : Type 0 where
+-- bytes that a reader tells are those of the file; `gives` tells what a load of a path may answer
+abbrev pub IsOpened : Gives → List ℕ → Option (List ℕ) → Type 0
+IsOpened gives path known = IfSome known (λ bytes. gives path (Ok bytes))
+
+-- and the image's file was opened, and the certificate's read
+pub record HasFiles (gives : Gives) (words : CertificateWords) (g : Geometry) (capacity : ℕ) (known : Option (List ℕ)) (written : List ℕ) : Type 0 where
   pub asked : IsAsked words g capacity
-  pub image : gives words.image.now (Ok bytes)
+  pub image : IsOpened gives words.image.now known
   pub certificate : gives words.certificate.now (Ok written)
 
 -- the bytes are those of this claim
@@ -61,11 +66,20 @@ IsNoCertificate written _ = ⊥
 abbrev pub IsWhole : Geometry → List ℕ → Type 0
 IsWhole g bytes = length bytes ≡ row_count g * page_bytes g
 
--- why the certificate was not found to agree with the bytes of an image
-abbrev pub IsUnheld : Geometry → ℕ → List ℕ → Claim → CommandFault → Type 0
-IsUnheld g capacity bytes c fault.WrongLength = ¬ IsWhole g bytes
-IsUnheld g capacity bytes c (fault.Check refusal) = IsWhole g bytes × ((refusal ≡ refusals.OutOfMemory) ⊎ IsFirstWrong g capacity (raw_image g bytes) c refusal)
-IsUnheld g capacity bytes c _ = ⊥
+-- how a refusal of the image of this path is told: its length and its reads of the file, all else of the check
+abbrev pub IsToldAs : Refusal → List ℕ → CommandFault → Type 0
+IsToldAs r path fault.WrongLength = r ≡ refusals.WrongLength
+IsToldAs r path (fault.Read at) = (r ≡ refusals.Source) × (at.now ≡ path)
+IsToldAs r path (fault.Check other) = (other ≡ r) × (r ≢ refusals.WrongLength) × (r ≢ refusals.Source)
+IsToldAs r path _ = ⊥
+
+-- why the certificate was not found to agree with an image, of whose file the path and the known bytes are these
+abbrev pub IsUnheld : Geometry → ℕ → List ℕ → Option (List ℕ) → Claim → CommandFault → Type 0
+IsUnheld g capacity path known c fault.WrongLength = IfSome known (λ bytes. ¬ IsWhole g bytes)
+IsUnheld g capacity path known c (fault.Read at) = at.now ≡ path
+IsUnheld g capacity path known c (fault.Check refusal) =
+    (refusal ≡ refusals.OutOfMemory) ⊎ IfSome known (λ bytes. IsFirstWrong g capacity (raw_image g bytes) c refusal)
+IsUnheld g capacity path known c _ = ⊥
 
 -- the image is whole, and the certificate agrees with it
 pub record IsHeld (g : Geometry) (capacity : ℕ) (bytes : List ℕ) (c : Claim) : Type 0 where
@@ -88,14 +102,14 @@ abbrev pub IsCheckFault : Gives → CertificateWords → CommandFault → Type 0
 IsCheckFault gives words stop =
     IsUnasked words stop
     ⊎ ((g : Geometry) × (capacity : ℕ) × IsAsked words g capacity × IsUnread gives words.image.now stop)
-    ⊎ ((g : Geometry) × (capacity : ℕ) × (bytes : List ℕ) × IsAsked words g capacity × gives words.image.now (Ok bytes) × IsUnread gives words.certificate.now stop)
-    ⊎ ((g : Geometry) × (capacity : ℕ) × (bytes written : List ℕ) × HasFiles gives words g capacity bytes written × IsNoCertificate written stop)
-    ⊎ ((g : Geometry) × (capacity : ℕ) × (bytes written : List ℕ) × (c : Claim) × HasFiles gives words g capacity bytes written × IsSpelled c written × IsUnheld g capacity bytes c stop)
-    ⊎ ((g : Geometry) × (capacity : ℕ) × (bytes written : List ℕ) × (c : Claim) × HasFiles gives words g capacity bytes written × IsSpelled c written × IsHeld g capacity bytes c × IsUnprinted stop)
+    ⊎ ((g : Geometry) × (capacity : ℕ) × (known : Option (List ℕ)) × IsAsked words g capacity × IsOpened gives words.image.now known × IsUnread gives words.certificate.now stop)
+    ⊎ ((g : Geometry) × (capacity : ℕ) × (known : Option (List ℕ)) × (written : List ℕ) × HasFiles gives words g capacity known written × IsNoCertificate written stop)
+    ⊎ ((g : Geometry) × (capacity : ℕ) × (known : Option (List ℕ)) × (written : List ℕ) × (c : Claim) × HasFiles gives words g capacity known written × IsSpelled c written × IsUnheld g capacity words.image.now known c stop)
+    ⊎ ((g : Geometry) × (capacity : ℕ) × (known : Option (List ℕ)) × (written : List ℕ) × (c : Claim) × HasFiles gives words g capacity known written × IsSpelled c written × IfSome known (λ bytes. IsHeld g capacity bytes c) × IsUnprinted stop)
 
 -- What the command came to, with the bytes of standard output before and after.
 abbrev pub DoesCheck : Gives → CertificateWords → Option (List ℕ) → Option (List ℕ) → Result (Unit {0}) CommandFault → Type 0
 DoesCheck gives words before after (Ok done) =
-    (g : Geometry) × (capacity : ℕ) × (bytes written : List ℕ) × (c : Claim) × HasFiles gives words g capacity bytes written × IsSpelled c written × IsHeld g capacity bytes c
+    (g : Geometry) × (capacity : ℕ) × (known : Option (List ℕ)) × (written : List ℕ) × (c : Claim) × HasFiles gives words g capacity known written × IsSpelled c written × IfSome known (λ bytes. IsHeld g capacity bytes c)
     × Appends before after (codes "accepted" ++ (10 ∷ []))
 DoesCheck gives words before after (Err stop) = IsKept stop before after × IsCheckFault gives words stop

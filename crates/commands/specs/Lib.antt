@@ -7,3 +7,4 @@ pub mod Inputs
 pub mod Check
 pub mod Mount
 pub mod Commands
+pub mod Serve

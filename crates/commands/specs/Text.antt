@@ -14,8 +14,11 @@ use Rattle.mount.specs.declared.format_fault.FormatFault.{FormatFault}
 use Rattle.mount.specs.declared.format_fault.FormatFault.TheVariants as format
 use Rattle.nand_die.specs.declared.fault.DieFault.{DieFault}
 use Rattle.nand_die.specs.declared.fault.DieFault.TheVariants as die
+use Rattle.request_stream.specs.declared.reply.ServeFault.TheVariants as server
+use Rattle.commands.specs.declared.text.ServeStop.{ServeStop}
+use Rattle.commands.specs.declared.text.ServeStop.TheVariants as stop
 use Rattle.commands.specs.declared.text.CommandFault.{CommandFault}
-use Rattle.commands.specs.declared.text.CommandFault.TheVariants.{NoSuchCommand, BadNumber, Geometry, Capacity, WrongLength, RowRange, OutOfMemory, Sector, Die, Format, Certificate, Check, Mount, Read, Write}
+use Rattle.commands.specs.declared.text.CommandFault.TheVariants.{NoSuchCommand, BadNumber, Geometry, Capacity, WrongLength, RowRange, OutOfMemory, Sector, Die, Format, Certificate, Check, Mount, Start, Serve, ServeUnstored, Read, Write}
 
 -- the number and the name of a limit that is broken
 abbrev pub geometry_words : GeometryFault → List ℕ
@@ -74,8 +77,22 @@ refusal_words refusal.NotFormatted = codes "13 NotFormatted"
 refusal_words (refusal.TableDamaged page) = codes "14 TableDamaged page " ++ decimal page
 refusal_words refusal.Source = codes "15 Source"
 refusal_words refusal.OutOfMemory = codes "16 OutOfMemory"
+refusal_words refusal.WrongLength = codes "17 WrongLength"
 
--- the line, without its line feed
+-- the line of what stopped a server
+abbrev pub stop_words : ServeStop → List ℕ
+stop_words stop.BadFrame = codes "refused serve 7 BadFrame"
+stop_words (stop.Fault server.Read) = codes "fault read -"
+stop_words (stop.Fault server.Write) = codes "fault write -"
+stop_words (stop.Fault server.OutOfMemory) = codes "refused serve 3 OutOfMemory"
+
+abbrev pub stop_status : ServeStop → ℕ
+stop_status stop.BadFrame = 1
+stop_status (stop.Fault server.Read) = 3
+stop_status (stop.Fault server.Write) = 3
+stop_status (stop.Fault server.OutOfMemory) = 1
+
+-- the line, without its line feed; of two things that failed two lines
 abbrev pub line_of : CommandFault → List ℕ
 line_of NoSuchCommand = codes "usage: no such command"
 line_of (BadNumber word) = codes "usage: bad number " ++ word.now
@@ -90,6 +107,9 @@ line_of (Format fault) = codes "refused format " ++ format_words fault
 line_of (Certificate fault) = codes "refused certificate " ++ certificate_words fault
 line_of (Check refused) = codes "refused check " ++ refusal_words refused
 line_of (Mount refused) = codes "refused mount " ++ refusal_words refused
+line_of Start = codes "refused start 1 OutOfMemory"
+line_of (Serve stopped) = stop_words stopped
+line_of (ServeUnstored stopped path) = stop_words stopped ++ (10 ∷ (codes "fault write " ++ path.now))
 line_of (Read path) = codes "fault read " ++ path.now
 line_of (Write path) = codes "fault write " ++ path.now
 
@@ -108,6 +128,9 @@ status_of (Format fault) = 1
 status_of (Certificate fault) = 1
 status_of (Check refused) = 1
 status_of (Mount refused) = 1
+status_of Start = 1
+status_of (Serve stopped) = stop_status stopped
+status_of (ServeUnstored stopped path) = 3
 status_of (Read path) = 3
 status_of (Write path) = 3
 

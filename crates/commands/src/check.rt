@@ -1,20 +1,20 @@
 //! The command `check GEOM C IMAGE CERT`.
-ghost use Rattle.std.specs.Prelude.{◌≡◌, OnOk, IfOk, IfErr, ◌∷◌, [], ◌++◌, codes};
+ghost use Rattle.std.specs.Prelude.{◌≡◌, OnOk, IfOk, IfErr, IfSome, ◌∷◌, [], ◌++◌, codes};
 ghost use Rattle.std.specs.Io.KnownBytes.{Appends};
-ghost use Rattle.commands.specs.Check.{DoesCheck, IsHeld, IsNoCertificate, IsSpelled, IsUnheld, IsUnprinted};
+ghost use Rattle.commands.specs.Check.{DoesCheck, IsHeld, IsNoCertificate, IsSpelled, IsToldAs, IsUnheld, IsUnprinted};
 
 use crate::files::FileStore;
 use crate::inputs::{CacheAsked, cache_asked, load};
+use crate::readers::open;
 use crate::text::CommandFault;
 use certificate::{Certificate, read_certificate};
 use command_words::CertificateWords;
-use image_check::check;
-use page_layout::source::ImageSlice;
+use image_check::{Refusal, check_stream};
 use std::alloc::Global;
-use std::io::Write;
+use std::io::{Read, Write};
 
 // The certificate that a file's bytes spell.
-fn certificate_in<'a>(alloc: Global, written: &[u8]) -> Result<Certificate, CommandFault<'a>>
+pub(crate) fn certificate_in<'a>(alloc: Global, written: &[u8]) -> Result<Certificate, CommandFault<'a>>
     ensures ok { IfOk result (λ certificate. IsSpelled certificate written.now) }
     ensures fault { IfErr result (IsNoCertificate written.now) }
 {
@@ -24,29 +24,37 @@ fn certificate_in<'a>(alloc: Global, written: &[u8]) -> Result<Certificate, Comm
     }
 }
 
-// Holds a certificate against the bytes of an image.
-fn hold<'a>(
+// How the program tells that the image of this path was refused: its length and its reads are told of the file.
+fn told(refusal: Refusal, path: &str) -> CommandFault<'_>
+    ensures { IsToldAs refusal path.now result }
+{
+    match refusal {
+        Refusal::WrongLength => CommandFault::WrongLength,
+        Refusal::Source => CommandFault::Read(path),
+        _ => CommandFault::Check(refusal),
+    }
+}
+
+// Holds a certificate against the image that a file's reader gives.
+fn hold<'a, R: Read>(
     alloc: Global,
     asked: &CacheAsked,
-    bytes: &[u8],
+    path: &'a str,
+    image: &mut R,
     certificate: &Certificate,
 ) -> Result<(), CommandFault<'a>>
-    ensures ok { OnOk result (IsHeld asked.now.geometry asked.now.capacity bytes.now certificate.now) }
-    ensures fault { IfErr result (IsUnheld asked.now.geometry asked.now.capacity bytes.now certificate.now) }
+    ensures ok { OnOk result (IfSome (R.remaining image.old) (λ bytes. IsHeld asked.now.geometry asked.now.capacity bytes certificate.now)) }
+    ensures fault { IfErr result (IsUnheld asked.now.geometry asked.now.capacity path.now (R.remaining image.old) certificate.now) }
 {
-    let mut image = match ImageSlice::new(&asked.geometry, bytes) {
-        Ok(image) => image,
-        Err(_) => return Err(CommandFault::WrongLength),
-    };
-    match check(
+    match check_stream(
         alloc,
-        &mut image,
+        image,
         &asked.geometry,
         asked.capacity,
         certificate,
     ) {
         Ok(_) => Ok(()),
-        Err(refusal) => Err(CommandFault::Check(refusal)),
+        Err(refusal) => Err(told(refusal, path)),
     }
 }
 
@@ -67,9 +75,10 @@ fn print_accepted<'a, W: Write>(out: &mut W) -> Result<(), CommandFault<'a>>
 /// # Errors
 ///
 /// The first of this order: `BadNumber` where GEOM or C writes no numbers, `Geometry` where GEOM's are no geometry, `Capacity`
-/// where C is not from 1 to 65536, `Read` where IMAGE and then CERT cannot be read, or `OutOfMemory` where it was refused memory,
-/// `Certificate` where CERT's bytes are no certificate, `WrongLength` where IMAGE has not as many bytes as the geometry says,
-/// `Check` with the refusal of `image_check::check`, `Write` of `-` where `out` failed. Nothing is stored, and nothing was
+/// where C is not from 1 to 65536, `Read` where IMAGE cannot be opened and then CERT cannot be read, or `OutOfMemory` where it was
+/// refused memory, `Certificate` where CERT's bytes are no certificate, `Check` with `GeometryDiffers` where it is not of GEOM and C,
+/// `Read` where a read of IMAGE fails and `WrongLength` where it has not as many bytes as the geometry says, each when it happens,
+/// `Check` with the other refusals of `image_check::check_stream`, `Write` of `-` where `out` failed. Nothing is stored, and nothing was
 /// written to `out` unless it is what failed: then a part of the line may stand there.
 ///
 /// (This project's.)
@@ -83,9 +92,9 @@ pub fn check_command<'a, F: FileStore, W: Write>(
     ensures stores { F.stores files.new ≡ F.stores files.old }
 {
     let asked = cache_asked(&words)?;
-    let bytes = load(files, words.image)?;
+    let mut image = open(files, words.image)?;
     let written = load(files, words.certificate)?;
     let certificate = certificate_in(alloc, &written)?;
-    hold(alloc, &asked, &bytes, &certificate)?;
+    hold(alloc, &asked, words.image, &mut image, &certificate)?;
     print_accepted(out)
 }

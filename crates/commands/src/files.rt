@@ -1,4 +1,5 @@
 //! Where a command's files come from, and where they are stored.
+use std::io::Read;
 use thiserror::Error;
 
 /// Why a file was not read or written. (This project's.)
@@ -14,12 +15,15 @@ pub enum FileFault {
 
 /// The files that the words name, by their paths as written: those of the system, or some in memory. (This project's.)
 pub trait FileStore {
-    ghost use Rattle.std.specs.Prelude.{◌≡◌, List, ℕ, Option, Result, Ok, Err, IfOk, IfErr};
+    ghost use Rattle.std.specs.Prelude.{◌≡◌, List, ℕ, Option, Result, Ok, Err, IfOk, IfErr, IfSome};
     ghost use Rattle.commands.specs.declared.files.FileFault.{FileFault};
     ghost use Rattle.commands.specs.Files.{Stored, stores_after};
 
-    /// What a load of a path may answer: the file's bytes, or a fault. Of the system's files nothing is
-    /// known, so there it is anything.
+    /// What reads a file piece by piece.
+    type Reader: Read + Drop;
+
+    /// What a load of a path may answer, and what its reader may give: the file's bytes, or a fault. Of the
+    /// system's files nothing is known, so there it is anything.
     ghost gives: { Self → List ℕ → Result (List ℕ) FileFault → Type 0 };
 
     /// The files that it was asked to store so far, in order. Of the system's files it isn't known.
@@ -33,6 +37,18 @@ pub trait FileStore {
     /// it was.
     fn load(&mut self, path: &str) -> Result<Vec<u8>, FileFault>
         ensures bytes { IfOk result (λ found. gives self.old path.now (Ok found.items)) }
+        ensures fault { IfErr result (λ fault. gives self.old path.now (Err fault)) }
+        ensures same { (at : List ℕ) (answer : Result (List ℕ) FileFault) → gives self.new at answer → gives self.old at answer }
+        ensures stores { stores self.new ≡ stores self.old };
+
+    /// A reader of a file, from its first byte on. Where it tells its bytes they are the file's.
+    ///
+    /// # Errors
+    ///
+    /// `Failed` where the file cannot be read, `OutOfMemory` where a growth was refused. Every file is as
+    /// it was.
+    fn open(&mut self, path: &str) -> Result<Self::Reader, FileFault>
+        ensures bytes { IfOk result (λ reader. IfSome (Self.Reader.remaining reader) (λ bytes. gives self.old path.now (Ok bytes))) }
         ensures fault { IfErr result (λ fault. gives self.old path.now (Err fault)) }
         ensures same { (at : List ℕ) (answer : Result (List ℕ) FileFault) → gives self.new at answer → gives self.old at answer }
         ensures stores { stores self.new ≡ stores self.old };

@@ -17,7 +17,7 @@ use std::alloc::Global;
 use std::io::Write;
 
 // A die in memory behind a driver. It always takes Reset.
-fn driver_of(die: Die, geometry: Geometry) -> Driver<Die>
+pub(crate) fn driver_of(die: Die, geometry: Geometry) -> Driver<Die>
     requires { die.state.flash.geometry ≡ geometry }
     ensures geometry { result.geometry ≡ geometry }
     ensures flash { seen result.geometry result.bus.state.flash ≡ die.state.flash }

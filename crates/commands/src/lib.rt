@@ -10,11 +10,13 @@ mod inputs;
 mod mount_image;
 mod outputs;
 mod program;
+mod readers;
 mod sector;
+mod serve;
 mod show;
 mod text;
 
 pub use files::{FileFault, FileStore};
 pub use program::run;
 pub use sector::{PrintFault, print_sector};
-pub use text::{CommandFault, tell};
+pub use text::{CommandFault, ServeStop, tell};

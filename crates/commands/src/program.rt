@@ -8,6 +8,7 @@ use crate::files::FileStore;
 use crate::format::format_command;
 use crate::mount_image::mount_command;
 use crate::sector::sector_command;
+use crate::serve::serve_command;
 use crate::show::show_command;
 use crate::text::{CommandFault, DONE, tell};
 use command_words::{Order, WordsFault, parse};
@@ -15,13 +16,14 @@ use std::alloc::Global;
 use std::io::{Read, Write};
 
 // Does what an order asks.
-fn carry_out<'a, F: FileStore, W: Write>(
+fn carry_out<'a, F: FileStore, R: Read, W: Write>(
     alloc: Global,
     order: Order<'a>,
     files: &mut F,
+    input: &mut R,
     out: &mut W,
 ) -> Result<(), CommandFault<'a>>
-    ensures { Does (F.gives files.old) order.entry (left (F.stores files.old) (W.contents out.old)) (left (F.stores files.new) (W.contents out.new)) result }
+    ensures { Does (F.gives files.old) order.entry (R.remaining input.old) (R.remaining input.new) (left (F.stores files.old) (W.contents out.old)) (left (F.stores files.new) (W.contents out.new)) result }
 {
     match order {
         Order::Sector(words) => sector_command(alloc, words, files, out),
@@ -29,20 +31,22 @@ fn carry_out<'a, F: FileStore, W: Write>(
         Order::Format(words) => format_command(alloc, words, files, out),
         Order::Check(words) => check_command(alloc, words, files, out),
         Order::Mount(words) => mount_command(alloc, words, files, out),
+        Order::Serve(words) => serve_command(alloc, words, files, input, out),
     }
 }
 
 // Does what the words ask, where they ask for something.
-fn obey<'a, F: FileStore, W: Write>(
+fn obey<'a, F: FileStore, R: Read, W: Write>(
     alloc: Global,
     words: &'a [&'a str],
     files: &mut F,
+    input: &mut R,
     out: &mut W,
 ) -> Result<(), CommandFault<'a>>
-    ensures { Obeys (F.gives files.old) (texts words.now) (left (F.stores files.old) (W.contents out.old)) (left (F.stores files.new) (W.contents out.new)) result }
+    ensures { Obeys (F.gives files.old) (texts words.now) (R.remaining input.old) (R.remaining input.new) (left (F.stores files.old) (W.contents out.old)) (left (F.stores files.new) (W.contents out.new)) result }
 {
     match parse(alloc, words) {
-        Ok(order) => carry_out(alloc, order, files, out),
+        Ok(order) => carry_out(alloc, order, files, input, out),
         Err(WordsFault::NoSuchCommand) => Err(CommandFault::NoSuchCommand),
         Err(WordsFault::OutOfMemory) => Err(CommandFault::OutOfMemory),
     }
@@ -50,8 +54,8 @@ fn obey<'a, F: FileStore, W: Write>(
 
 /// Does what the words say, and answers the exit status: 0 done, 1 refused, 2 usage, 3 input or
 /// output. `words` begins with the program's name. Results go to `out`; of a command that was not
-/// done one line goes to `err`, and nothing to `out` unless it is `out` that failed. No command so
-/// far reads `input`.
+/// done one line goes to `err`, and nothing to `out` unless it is `out` that failed. `serve` alone reads
+/// `input`, and writes its replies to `out`, also where it is stopped.
 ///
 /// Where several faults hold, the first of this order is told: words that are no command, numbers by
 /// the order of the words, the geometry, the cache's capacity, the files by the order of the words,
@@ -63,13 +67,13 @@ pub fn run<F: FileStore, R: Read, W: Write, E: Write>(
     alloc: Global,
     words: &[&str],
     files: &mut F,
-    _input: &mut R,
+    input: &mut R,
     out: &mut W,
     err: &mut E,
 ) -> u8
-    ensures { Runs (F.gives files.old) (texts words.now) (left (F.stores files.old) (W.contents out.old)) (left (F.stores files.new) (W.contents out.new)) (E.contents err.old) (E.contents err.new) result }
+    ensures { Runs (F.gives files.old) (texts words.now) (R.remaining input.old) (R.remaining input.new) (left (F.stores files.old) (W.contents out.old)) (left (F.stores files.new) (W.contents out.new)) (E.contents err.old) (E.contents err.new) result }
 {
-    match obey(alloc, words, files, out) {
+    match obey(alloc, words, files, input, out) {
         Ok(()) => DONE,
         Err(fault) => tell(&fault, err),
     }

@@ -8,6 +8,7 @@ use image_check::{Refusal, SectorFault};
 use mount::FormatFault;
 use nand_die::DieFault;
 use page_layout::geometry::GeometryFault;
+use request_stream::ServeFault;
 use std::fmt;
 use std::io::{self, Write};
 
@@ -20,6 +21,15 @@ const USAGE: u8 = 2;
 
 /// The exit status where input or output failed.
 pub const IO: u8 = 3;
+
+/// What stopped a server before its stream of requests ended. (This project's.)
+#[derive(Clone, Copy, Debug, PartialEq, Eq)]
+pub enum ServeStop {
+    /// A header was bad.
+    BadFrame,
+    /// The server's fault.
+    Fault(ServeFault),
+}
 
 /// Why a command ended before it was done. (This project's.)
 #[derive(Clone, Copy, Debug, PartialEq, Eq)]
@@ -50,6 +60,12 @@ pub enum CommandFault<'a> {
     Check(Refusal),
     /// The image was not mounted.
     Mount(Refusal),
+    /// A growth was refused while the device was started.
+    Start,
+    /// The server was stopped.
+    Serve(ServeStop),
+    /// The server was stopped, and then the file of this path could not be written.
+    ServeUnstored(ServeStop, &'a str),
     /// The file of this path could not be read.
     Read(&'a str),
     /// The file of this path, or standard output where it is `-`, could not be written.
@@ -77,8 +93,15 @@ impl CommandFault<'_> {
             | CommandFault::Format(_)
             | CommandFault::Certificate(_)
             | CommandFault::Check(_)
-            | CommandFault::Mount(_) => REFUSED,
-            CommandFault::Read(_) | CommandFault::Write(_) => IO,
+            | CommandFault::Mount(_)
+            | CommandFault::Start
+            | CommandFault::Serve(
+                ServeStop::BadFrame | ServeStop::Fault(ServeFault::OutOfMemory),
+            ) => REFUSED,
+            CommandFault::Serve(ServeStop::Fault(ServeFault::Read | ServeFault::Write))
+            | CommandFault::ServeUnstored(..)
+            | CommandFault::Read(_)
+            | CommandFault::Write(_) => IO,
         }
     }
 }
@@ -126,6 +149,15 @@ impl fmt::Display for CommandFault<'_> {
                 let words = Words(*refusal);
                 write!(f, "refused mount {words}")
             }
+            CommandFault::Start => f.write_str("refused start 1 OutOfMemory"),
+            CommandFault::Serve(stop) => {
+                let words = Words(*stop);
+                write!(f, "{words}")
+            }
+            CommandFault::ServeUnstored(stop, path) => {
+                let words = Words(*stop);
+                write!(f, "{words}\nfault write {path}")
+            }
             CommandFault::Read(path) => write!(f, "fault read {path}"),
             CommandFault::Write(path) => write!(f, "fault write {path}"),
         }
@@ -135,6 +167,22 @@ impl fmt::Display for CommandFault<'_> {
 // A fault as its number, its name and its fields.
 #[derive(Clone, Copy)]
 struct Words<T>(T);
+
+impl fmt::Display for Words<ServeStop> {
+    ghost use Rattle.std.specs.Prelude.{Some};
+    ghost use Rattle.commands.specs.Text.{stop_words};
+
+    ghost output = { λ words. Some (stop_words words.0) };
+
+    fn fmt<W: fmt::Write>(&self, f: &mut fmt::Formatter<W>) -> fmt::Result {
+        f.write_str(match self.0 {
+            ServeStop::BadFrame => "refused serve 7 BadFrame",
+            ServeStop::Fault(ServeFault::Read) => "fault read -",
+            ServeStop::Fault(ServeFault::Write) => "fault write -",
+            ServeStop::Fault(ServeFault::OutOfMemory) => "refused serve 3 OutOfMemory",
+        })
+    }
+}
 
 impl fmt::Display for Words<GeometryFault> {
     ghost use Rattle.std.specs.Prelude.{Some};
@@ -256,6 +304,7 @@ impl fmt::Display for Words<Refusal> {
             Refusal::TableDamaged { page } => write!(f, "14 TableDamaged page {page}"),
             Refusal::Source => f.write_str("15 Source"),
             Refusal::OutOfMemory => f.write_str("16 OutOfMemory"),
+            Refusal::WrongLength => f.write_str("17 WrongLength"),
         }
     }
 }

@@ -3,7 +3,9 @@
 mod bench;
 mod calls;
 mod cases;
+mod collect;
 mod faults;
+mod flush;
 mod lists;
 mod memory;
 mod pages;

@@ -21,17 +21,16 @@ use Rattle.collection.specs.Log.{IsAccounted}
 use Rattle.ftl_device.specs.declared.device.Device.{Device}
 use Rattle.ftl_device.specs.declared.fault.DeviceFault.{DeviceFault}
 use Rattle.ftl_device.specs.declared.fault.DeviceFault.TheVariants.{OutOfRange, ReadOnly, SequenceSpent, OutOfMemory, Damaged, BusFault}
-use Rattle.ftl_device.specs.declared.run.Call.{Call}
 use Rattle.ftl_device.specs.Begin.{begun_ram, is_bad_in, free_in, is_scarce}
 use Rattle.ftl_device.specs.Device.{IsAcceptedFor}
 use Rattle.ftl_device.specs.Calls.{stop_of, IsWell}
 use Rattle.ftl_device.specs.Counts.{is_bad_by, IsShortIn, IsShown}
-use Rattle.ftl_device.specs.Run.{die_in, First, first_of, AreFair, HasRun, Ran, accepted_device, RanFrom}
+use Rattle.ftl_device.specs.Run.{Exchange, die_in, First, first_of, AreFair, HasRun, Ran, accepted_device, RanFrom}
 use Rattle.ftl_device.proofs.BlockLemmas.{given, good_same, bad_same, count_same}
 
 -- a device as it was started knows its image
 pub started_well : {N : Type 0} (flash : N → Flash) (d : Device N) (g : Geometry) (c : Claim) (stale : List ℕ) → ram d.engine ≡ begun_ram g c stale → IsTrue None (ram d.engine) (image_in flash d.engine) → IsWell flash d
-started_well flash d g c stale is truth = record { going = ap (λ (r : Ram). stop_of r.fault) is; truth = truth; unmoved = ap (λ (r : Ram). r.mapping.moved) is }
+started_well flash d g c stale is truth = record { going = ap (λ (r : Ram). stop_of r.fault) is; truth = truth }
 
 -- ---- the same bad blocks
 
@@ -64,7 +63,7 @@ module _ (g : Geometry) (p q : ℕ → Bool) (same : (b : ℕ) → b < g.blocks 
   shown_as next log call image Damaged shown = shown
   shown_as next log call image BusFault shown = shown
 
-  fair_as : (capacity next : ℕ) (old : runs.Device) (before : List Operation) (events : List Event) (calls : List Call) → AreFair (first_by g p capacity next) old before events calls → AreFair (first_by g q capacity next) old before events calls
+  fair_as : (capacity next : ℕ) (old : runs.Device) (before : List Operation) (events : List Event) (calls : List Exchange) → AreFair (first_by g p capacity next) old before events calls → AreFair (first_by g q capacity next) old before events calls
   fair_as capacity next old before [] [] fair = tt
   fair_as capacity next old before [] (c ∷ calls) fair = fair
   fair_as capacity next old before (e ∷ events) [] fair = fair
@@ -86,12 +85,12 @@ bad_begun g capacity image c stale agrees b lt =
     ap not (good_same g image c b here) ∙ sym (bad_same g image c b here)
 
 -- what a run from a memory says, with the accounts that its log began with
-record RanWith {N : Type 0} (flash : N → Flash) (r : Ram) (old : runs.Device) (accounts : List Account) (calls : List Call) (new : Device N) : Type 0 where
+record RanWith {N : Type 0} (flash : N → Flash) (r : Ram) (old : runs.Device) (accounts : List Account) (calls : List Exchange) (new : Device N) : Type 0 where
   pub run : HasRun (first_of r) old (die_in flash new) calls
   pub legal : LegalFrom r.geometry.pages accounts (log_of run.events)
   pub next : new.engine.next ≡ r.next + programs_in (log_of run.events)
 
-pub ran_accepted : {N : Type 0} (flash : N → Flash) (s : Flash) (a : Acceptance) (d new : Device N) (calls : List Call) → flash d.engine.nand ≡ s → ram d.engine ≡ begun_ram s.geometry a.claim a.stale → IsAcceptedFor s a → d.read_only ≡ is_scarce (free_in s.geometry a.claim s.image)
+pub ran_accepted : {N : Type 0} (flash : N → Flash) (s : Flash) (a : Acceptance) (d new : Device N) (calls : List Exchange) → flash d.engine.nand ≡ s → ram d.engine ≡ begun_ram s.geometry a.claim a.stale → IsAcceptedFor s a → d.read_only ≡ is_scarce (free_in s.geometry a.claim s.image)
     → IsAccounted (accounts_of s.geometry s.image (is_bad_in a.claim)) (ram d.engine).blocks → Ran flash d calls new → RanFrom flash s a.claim calls new
 ran_accepted {N} flash s a d new calls die is accepted scarce accounts ran =
     let c = a.claim in

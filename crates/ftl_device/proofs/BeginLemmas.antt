@@ -31,8 +31,9 @@ use Rattle.image_check.specs.Agrees.{Agrees}
 use Rattle.image_check.proofs.StateLemmas.{pointer_most}
 use Rattle.image_check.proofs.TablesLemmas.{table_is}
 use Rattle.collection.specs.Pages.{newest_row, place_of}
-use Rattle.collection.specs.Truth.{IsTrue, AreFilled, HasTable}
+use Rattle.collection.specs.Truth.{IsTrue, AreFilled, AreWorn, HasTable}
 use Rattle.ftl_device.specs.Begin.{stale_entry, begun_mapping, begun_ram}
+use Rattle.ftl_device.proofs.WearLemmas.{begun_wear_most, told_begun}
 use Rattle.ftl_device.proofs.BlockLemmas.{given, good_same, pointer_same, live_same, pointer_good, sound_below, erased_from}
 
 -- ---- stale sectors
@@ -171,6 +172,12 @@ module _ (g : Geometry) (capacity : ℕ) (image : Image) (c : Claim) (whole : Is
   live_exact : IsLiveExact (begun g c.blocks) (marks image)
   live_exact b lt = live_same g image c b (given g capacity image c b agrees lt)
 
+  worn : AreWorn image (begun g c.blocks)
+  worn = record {
+    most = λ b. begun_wear_most g c.blocks b;
+    told = λ row x at. told_begun g capacity image c row x whole agrees at;
+  }
+
   tables : (u : ℕ) → u < table_pages g → HasTable g image u
   tables u lt =
       let newest_table = agrees.tables.formatted u lt in
@@ -204,6 +211,7 @@ module _ (g : Geometry) (capacity : ℕ) (image : Image) (c : Claim) (whole : Is
     below = agrees.next;
     filled = filled;
     live = live_exact;
+    worn = worn;
     tables = tables;
     maps = record {
       directory_is = λ key at within other place. directory key at within place;

@@ -81,7 +81,7 @@ low_class false false false true true = refl
 low_class false false false true false = refl
 low_class false false false false e = refl
 
-good_class : (g : Geometry) (image : Image) (b : ℕ) → nat_lt (class g image b) 4 ≡ is_good g image b
+pub good_class : (g : Geometry) (image : Image) (b : ℕ) → nat_lt (class g image b) 4 ≡ is_good g image b
 unfolding class is_good
 good_class g image b = low_class (is_factory g image b) (is_grown g image b) (is_free g image b) (is_open g image b) (is_of_data g image b)
 

@@ -28,11 +28,11 @@ well_ram (Err (call.Engine engine_fault.Damaged)) result good n bytes g before a
 well_ram (Err (call.Engine engine_fault.Bus)) result good n bytes g before after r q fault is ne h = absurd (ne is)
 well_ram (Err call.OutOfMemory) result good n bytes g before after r q fault is ne h = (ap stop_of fault, h.truth)
 
-pub well_device : {N : Type 0} (flash : N → Flash) (d : Device N) (e : Engine N) → d.engine ≡ e → (stop_of e.fault ≡ None) × IsTrue None (ram e) (image_in flash e) → e.mapping.moved ≡ [] → IsWell flash d
-well_device {N} flash d e same known unmoved =
-    let P : Engine N → Type 0 = λ x. (stop_of x.fault ≡ None) × IsTrue None (ram x) (image_in flash x) × (x.mapping.moved ≡ []) in
-    let all : P d.engine = subst P (sym same) (known.0, known.1, unmoved) in
-    record { going = all.0; truth = all.1; unmoved = all.2 }
+pub well_device : {N : Type 0} (flash : N → Flash) (d : Device N) (e : Engine N) → d.engine ≡ e → (stop_of e.fault ≡ None) × IsTrue None (ram e) (image_in flash e) → IsWell flash d
+well_device {N} flash d e same known =
+    let P : Engine N → Type 0 = λ x. (stop_of x.fault ≡ None) × IsTrue None (ram x) (image_in flash x) in
+    let all : P d.engine = subst P (sym same) known in
+    record { going = all.0; truth = all.1 }
 
 -- a growth was refused while the sector was made ready
 pub memory_only : (answer : Result (Unit {0}) CallFault) (result : Result (Unit {0}) DeviceFault) (good : ℕ) (q : Ram) → result ≡ answer_of q good answer → result ≡ Err OutOfMemory → answer ≡ Err call.OutOfMemory

@@ -22,7 +22,7 @@ use Rattle.collection.specs.Cost.{HasPut, WriteBackCosts}
 use Rattle.ftl_device.specs.declared.fault.CallFault.{CallFault}
 use Rattle.ftl_device.specs.declared.fault.DeviceFault.{DeviceFault}
 use Rattle.ftl_device.specs.declared.fault.DeviceFault.TheVariants.{OutOfRange, ReadOnly, SequenceSpent, OutOfMemory, Damaged, BusFault}
-use Rattle.ftl_device.specs.Calls.{stop_of, MayNot, answer_of, HasMadePlace, HasCost, order_after}
+use Rattle.ftl_device.specs.Calls.{stop_of, MayNot, IsBeyond, answer_of, HasMadeRoom, HasMadePlace, IsReady, HasPutSector, HasCost, order_after}
 use Rattle.ftl_device.proofs.ReadyLemmas.{same_slots}
 use Rattle.ftl_device.proofs.CallLemmas.{done_too}
 
@@ -123,18 +123,22 @@ place_then n old mid new geometry blocks next p = record {
   taken = λ no. put_to Meta old mid new blocks next (p.taken no);
 }
 
-pub place_found : (result : Result (Option ℕ) WriteFault) (n : ℕ) (old first mid new : Ram) (fault : Option WriteFault) → first ≡ old → new ≡ record mid { fault = fault } → HasMadePlace n first mid → OnOk result (HasMadePlace n old new)
-place_found (Ok row) n old first mid new fault same is p =
-    let its : HasMadePlace n old mid = subst (λ (r : Ram). HasMadePlace n r mid) same p in
-    place_then n old mid new (ap (λ (r : Ram). r.geometry) is) (ap (λ (r : Ram). r.blocks) is) (ap (λ (r : Ram). r.next) is) its
-place_found (Err f) n old first mid new fault same is p = tt
+pub ready_then : (n : ℕ) (old mid new : Ram) → new.geometry ≡ mid.geometry → new.blocks ≡ mid.blocks → new.next ≡ mid.next → IsReady n old mid → IsReady n old new
+ready_then n old mid new geometry blocks next p = record { mid = p.mid; room = p.room; place = place_then n p.mid mid new geometry blocks next p.place }
+
+pub ready_found : (result : Result (Option ℕ) WriteFault) (n : ℕ) (old first mid new : Ram) (fault : Option WriteFault) → HasMadeRoom old first → new ≡ record mid { fault = fault } → HasMadePlace n first mid → OnOk result (IsReady n old new)
+ready_found (Ok row) n old first mid new fault room is p = record { mid = first; room = room; place = place_then n first mid new (ap (λ (r : Ram). r.geometry) is) (ap (λ (r : Ram). r.blocks) is) (ap (λ (r : Ram). r.next) is) p }
+ready_found (Err f) n old first mid new fault room is p = tt
 
 -- a page of the sector comes after
-pub cost_of : (n : ℕ) (old mid new : Ram) → HasMadePlace n old mid → HasPut Data mid new → HasCost n old new
-cost_of n old mid new p page = record {
+put_of : (n : ℕ) (old mid new : Ram) → HasMadePlace n old mid → HasPut Data mid new → HasPutSector n old new
+put_of n old mid new p page = record {
   free = λ can. put_from Data old mid new p.geometry (p.free can).0 (p.free can).1 page;
   taken = λ no. record { mid = mid; geometry = p.geometry; meta = p.taken no; page = page };
 }
+
+pub cost_of : (n : ℕ) (old mid new : Ram) → IsReady n old mid → HasPut Data mid new → HasCost n old new
+cost_of n old mid new p page = record { mid = p.mid; room = p.room; put = put_of n p.mid mid new p.place page }
 
 -- ---- what the device answers
 
@@ -169,3 +173,10 @@ device_err fault = Err fault
 
 pub never_memory : (r : Ram) (ro : Bool) (n : ℕ) (fault : DeviceFault) → MayNot r ro n fault → device_err fault ≡ device_err OutOfMemory → ⊥
 never_memory r ro n fault m e = (let same : fault ≡ OutOfMemory = cc in subst (MayNot r ro n) same m)
+
+-- and a sector in range is in range
+past_is : (r : Ram) (ro : Bool) (n : ℕ) (fault : DeviceFault) → n < r.geometry.sectors → fault ≡ OutOfRange → MayNot r ro n fault → ⊥
+past_is r ro n fault within same m = (let beyond : IsBeyond r n = subst (MayNot r ro n) same m in omega (arith, beyond.past, within))
+
+pub never_past : (r : Ram) (ro : Bool) (n : ℕ) (fault : DeviceFault) → n < r.geometry.sectors → MayNot r ro n fault → device_err fault ≡ device_err OutOfRange → ⊥
+never_past r ro n fault within m e = past_is r ro n fault within (cc) m

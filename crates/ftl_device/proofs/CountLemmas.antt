@@ -20,8 +20,6 @@ use Rattle.allocation.specs.State.{State, IsSafe, free_count, pointer_at}
 use Rattle.allocation.proofs.TallyLemmas.{good_by_number}
 use Rattle.promises.specs.Log as logs
 use Rattle.promises.specs.Log.{programs_in, bad_of, failed_in, failed_count}
-use Rattle.promises.specs.Step as step
-use Rattle.promises.specs.Step.{WriteStep}
 use Rattle.image_check.proofs.LookLemmas.{block_page, block_short}
 use Rattle.collection.specs.State.{Ram}
 use Rattle.collection.specs.Safe.{IsRam}
@@ -29,7 +27,7 @@ use Rattle.collection.specs.Truth.{IsTrue, AreFilled}
 use Rattle.collection.specs.Log.{Follows}
 use Rattle.ftl_device.specs.declared.fault.DeviceFault.{DeviceFault}
 use Rattle.ftl_device.specs.declared.fault.DeviceFault.TheVariants.{OutOfRange, ReadOnly, SequenceSpent, OutOfMemory, Damaged, BusFault}
-use Rattle.ftl_device.specs.Calls.{IsShortOf, Says, reply_of}
+use Rattle.ftl_device.specs.Calls.{IsShortOf, Says}
 use Rattle.ftl_device.specs.Counts.{is_bad_by, IsShortIn, IsShown, FreeNowLaw, GoodNowLaw, BadNowLaw, ShortLaw}
 use Rattle.ftl_device.proofs.BlockLemmas.{count_same, page_there}
 use Rattle.ftl_device.proofs.AccountLemmas.{bad_after, failed_good}
@@ -139,6 +137,16 @@ failed_counted old new log safe safe' same follows =
     split_bits (is_good_at old.blocks.table b) (is_good_at new.blocks.table b) (failed_in old.geometry.pages log b) (bad_after old.geometry.pages log old.blocks new.blocks follows b lt) (failed_good old.geometry.pages log old.blocks new.blocks follows b lt)) in
     sym old_is ∙ (sum ∙ ap (λ k. k + failed_count old.geometry log) new_is)
 
+-- a call was not answered `Damaged`
+abbrev pub NoDamage : Result (Unit {0}) DeviceFault → Type 0
+NoDamage (Ok done) = Unit {0}
+NoDamage (Err OutOfRange) = Unit {0}
+NoDamage (Err (ReadOnly good wanted failed)) = Unit {0}
+NoDamage (Err SequenceSpent) = Unit {0}
+NoDamage (Err OutOfMemory) = Unit {0}
+NoDamage (Err Damaged) = ⊥
+NoDamage (Err BusFault) = Unit {0}
+
 -- the blocks that are bad by a log are those of the memory after it
 module _ (g : Geometry) (bad : ℕ → Bool) (log : List Operation) (new : Ram) (image : Image) (same : new.geometry ≡ g) (bads : (b : ℕ) → b < g.blocks → is_bad_by new b ≡ bad_of g.pages bad log b) where
   or_none : (x : Bool) → (x || false) ≡ x
@@ -167,16 +175,16 @@ module _ (g : Geometry) (bad : ℕ → Bool) (log : List Operation) (new : Ram) 
         failed_is = omega (arith, short.failed_is, short.good_is, fails);
       }
 
-  -- so is each refusal of a write or a trim
-  pub shown_in : (old : Ram) (call : List Operation) (next : ℕ) (result : Result (Unit {0}) DeviceFault) (n : ℕ) (bytes : List ℕ) (s t : step.State) → IsRam old → IsRam new → old.geometry ≡ g → Follows g.pages call old.blocks new.blocks → IsTrue None new image → new.next ≡ next + programs_in log
-      → IfErr result (Says old new) → WriteStep g s n bytes (reply_of result) t → result ≢ Err BusFault → IfErr result (IsShown g bad next log call image)
-  shown_in old call next (Ok done) n bytes s t safe safe' was follows w spent says step ne = tt
-  shown_in old call next (Err OutOfRange) n bytes s t safe safe' was follows w spent says step ne = tt
-  shown_in old call next (Err (ReadOnly good wanted failed)) n bytes s t safe safe' was follows w spent says step ne = short_in old call good wanted failed safe safe' was follows w says
-  shown_in old call next (Err SequenceSpent) n bytes s t safe safe' was follows w spent says step ne = sym spent ∙ says
-  shown_in old call next (Err OutOfMemory) n bytes s t safe safe' was follows w spent says step ne = tt
-  shown_in old call next (Err Damaged) n bytes s t safe safe' was follows w spent says step ne = step
-  shown_in old call next (Err BusFault) n bytes s t safe safe' was follows w spent says step ne = ne refl
+  -- so is each refusal of a call that changes sectors
+  pub shown_in : (old : Ram) (call : List Operation) (next : ℕ) (result : Result (Unit {0}) DeviceFault) → IsRam old → IsRam new → old.geometry ≡ g → Follows g.pages call old.blocks new.blocks → IsTrue None new image → new.next ≡ next + programs_in log
+      → IfErr result (Says old new) → NoDamage result → result ≢ Err BusFault → IfErr result (IsShown g bad next log call image)
+  shown_in old call next (Ok done) safe safe' was follows w spent says sound ne = tt
+  shown_in old call next (Err OutOfRange) safe safe' was follows w spent says sound ne = tt
+  shown_in old call next (Err (ReadOnly good wanted failed)) safe safe' was follows w spent says sound ne = short_in old call good wanted failed safe safe' was follows w says
+  shown_in old call next (Err SequenceSpent) safe safe' was follows w spent says sound ne = sym spent ∙ says
+  shown_in old call next (Err OutOfMemory) safe safe' was follows w spent says sound ne = tt
+  shown_in old call next (Err Damaged) safe safe' was follows w spent says sound ne = sound
+  shown_in old call next (Err BusFault) safe safe' was follows w spent says sound ne = ne refl
 
 pub short_law : ShortLaw
 short_law old new log image good wanted failed safe safe' same follows w short =

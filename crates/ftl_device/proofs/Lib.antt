@@ -1,4 +1,5 @@
 pub mod BlockLemmas
+pub mod WearLemmas
 pub mod BeginLemmas
 pub mod GeometryLemmas
 pub mod LoadLemmas
@@ -11,6 +12,12 @@ pub mod MountableLemmas
 pub mod AccountLemmas
 pub mod CountLemmas
 pub mod ShownLemmas
+pub mod FlushLemmas
+pub mod FlushLoops
+pub mod FlushCalls
+pub mod ShortageLemmas
 pub mod RunLemmas
+pub mod ToldLemmas
 pub mod LoopLemmas
 pub mod AcceptedLemmas
+mod RoomLemmas

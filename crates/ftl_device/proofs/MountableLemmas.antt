@@ -34,7 +34,7 @@ use Rattle.ftl_device.specs.Calls.{StaleLaw, RestartLaw}
 
 -- ---- stale sectors are cached or moved
 
-right_entry : (g : Geometry) (image : Image) (n : ℕ) → entry_of g image n ≡ newest (marks image) (Sector n) → is_stale g image n ≡ false
+pub right_entry : (g : Geometry) (image : Image) (n : ℕ) → entry_of g image n ≡ newest (marks image) (Sector n) → is_stale g image n ≡ false
 unfolding is_stale
 right_entry g image n same = ap not (row_same (entry_of g image n) (newest (marks image) (Sector n)) same)
 
@@ -98,7 +98,7 @@ few_stale r image s w =
 
 -- ---- a certificate is to be had
 
-tables_are : (g : Geometry) (image : Image) → ((u : ℕ) → u < table_pages g → HasTable g image u) → HasTables g image
+pub tables_are : (g : Geometry) (image : Image) → ((u : ℕ) → u < table_pages g → HasTable g image u) → HasTables g image
 tables_are g image has = record {
   formatted = λ u lt. (let t = has u lt in record { row = t.row; newest_is = t.newest_is });
   formed = λ u lt. (let t = has u lt in subst (IsWellFormed (entries g) g.blocks u) (sym (table_is image u t.row t.newest_is)) t.formed);

@@ -47,6 +47,9 @@ loaded_unmoved : (m : MappingState) (n : ℕ) (row : Option ℕ) (o : Option Slo
 loaded_unmoved m n row (Some s) none = none
 loaded_unmoved m n row None none = ap (without n) none
 
+pub loaded_moves_none : (m : MappingState) (n : ℕ) (row : Option ℕ) → m.moved ≡ [] → (loaded m n row).moved ≡ []
+loaded_moves_none m n row none = loaded_unmoved m n row (slot_of m n) none
+
 pub unmoved : (n : ℕ) (m m' : MappingState) → LooksUp n m m' → m.moved ≡ [] → m'.moved ≡ []
 unmoved n m m' l none = at (slot_of m n) refl
   where

@@ -1,7 +1,6 @@
 -- A run goes on by one call.
 use Rattle.std.proofs.Common.{◌≡◌, ◌≢◌, ℕ, ◌+◌, ◌<◌, Bool, true, List, [], ◌∷◌, ◌++◌, map, Option, Some, Result, Ok, Err, refl, sym, ap, subst, ◌∙◌, arith, append_assoc}
 use Rattle.std.specs.Prelude.{IfErr}
-use Rattle.std.specs.Option.{option_map}
 use Rattle.std.proofs.lemmas.List.{map-append, append-nil}
 use Rattle.page_layout.specs.declared.geometry.Geometry.{Geometry}
 use Rattle.page_layout.specs.Page.{Image}
@@ -11,7 +10,7 @@ use Rattle.allocation.specs.State.{State}
 use Rattle.mapping_cache.specs.Mapping.{HasLimitsOf}
 use Rattle.image_check.specs.Stale.{is_stale}
 use Rattle.promises.specs.Step as step
-use Rattle.promises.specs.Step.{Reply, ArrayStep, WriteStep, ReadStep}
+use Rattle.promises.specs.Step.{Reply, ArrayStep, WriteStep, ReadStep, QuietStep}
 use Rattle.promises.specs.Log.{programs_in, bad_of}
 use Rattle.promises.specs.Legal.{accounted_all}
 use Rattle.promises.specs.Run as runs
@@ -25,14 +24,11 @@ use Rattle.collection.specs.Log.{IsAccounted, Follows, Went}
 use Rattle.ftl_device.specs.declared.device.Device.{Device}
 use Rattle.ftl_device.specs.declared.fault.DeviceFault.{DeviceFault}
 use Rattle.ftl_device.specs.declared.fault.DeviceFault.TheVariants.{OutOfRange, ReadOnly, SequenceSpent, OutOfMemory, Damaged, BusFault}
-use Rattle.ftl_device.specs.declared.run.Command.{Command}
-use Rattle.ftl_device.specs.declared.run.Command.TheVariants.{Read}
-use Rattle.ftl_device.specs.declared.run.Call.{Call}
 use Rattle.ftl_device.specs.Calls.{IsWell, Says, state_in, reply_of, read_reply_of}
 use Rattle.ftl_device.specs.Counts.{is_bad_by, IsShown}
 use Rattle.ftl_device.specs.Read.{LeavesRead, IsReadRefusal}
-use Rattle.ftl_device.specs.Run.{command_of, sector_of, answer_to, told, answered, die_in, First, first_of, IsFair, AreFair, HasRun, Ran, Happened}
-use Rattle.ftl_device.proofs.CountLemmas.{shown_in, bad_now_law}
+use Rattle.ftl_device.specs.Run.{answer_to, reply_in, Exchange, needs_no_memory, die_in, First, first_of, IsFair, AreFair, HasRun, Ran, Happened}
+use Rattle.ftl_device.proofs.CountLemmas.{NoDamage, shown_in, bad_now_law}
 use Rattle.ftl_device.proofs.CallLemmas.{mountable_after}
 
 -- ---- one call
@@ -57,7 +53,7 @@ read_geometry n (Err Damaged) old new leaves = ap (λ (x : Ram). x.geometry) lea
 read_geometry n (Err BusFault) old new leaves = ap (λ (x : Ram). x.geometry) leaves
 
 -- no operation was asked for
-went_none : (old new : Ram) (s t : Flash) → new ≡ record old { mapping = new.mapping } → t ≡ s → Went old s new t
+pub went_none : (old new : Ram) (s t : Flash) → new ≡ record old { mapping = new.mapping } → t ≡ s → Went old s new t
 went_none old new s t same kept = record {
   log = [];
   leads = kept;
@@ -78,8 +74,27 @@ no_memory : (result : Result (Unit {0}) DeviceFault) → IfErr result IsReadRefu
 no_memory (Ok done) of_read e = (let no : ⊥ = cc in no)
 no_memory (Err fault) of_read e = (let same : fault ≡ OutOfMemory = cc in subst IsReadRefusal same of_read)
 
+-- a step isn't answered `Damaged`
+pub write_sound : (g : Geometry) (s t : step.State) (n : ℕ) (bytes : List ℕ) (result : Result (Unit {0}) DeviceFault) → WriteStep g s n bytes (reply_of result) t → NoDamage result
+write_sound g s t n bytes (Ok done) is = tt
+write_sound g s t n bytes (Err OutOfRange) is = tt
+write_sound g s t n bytes (Err (ReadOnly good wanted failed)) is = tt
+write_sound g s t n bytes (Err SequenceSpent) is = tt
+write_sound g s t n bytes (Err OutOfMemory) is = tt
+write_sound g s t n bytes (Err Damaged) is = is
+write_sound g s t n bytes (Err BusFault) is = tt
+
+pub quiet_sound : (s t : step.State) (result : Result (Unit {0}) DeviceFault) → QuietStep s (reply_of result) t → NoDamage result
+quiet_sound s t (Ok done) is = tt
+quiet_sound s t (Err OutOfRange) is = tt
+quiet_sound s t (Err (ReadOnly good wanted failed)) is = tt
+quiet_sound s t (Err SequenceSpent) is = tt
+quiet_sound s t (Err OutOfMemory) is = tt
+quiet_sound s t (Err Damaged) is = is
+quiet_sound s t (Err BusFault) is = tt
+
 module _ {N : Type 0} (flash : N → Flash) (old new : Device N) (result : Result (Unit {0}) DeviceFault) (ne : result ≢ Err BusFault) where
-  pub read_happened : (n : ℕ) (bytes : List ℕ) → ReadStep old.engine.geometry (state_in flash old) n (read_reply_of bytes result) (state_in flash new) → flash new.engine.nand ≡ flash old.engine.nand → LeavesRead n result (ram old.engine) (ram new.engine) → IfErr result IsReadRefusal → Happened flash old (Read n) bytes result new
+  pub read_happened : (n : ℕ) (bytes : List ℕ) → ReadStep old.engine.geometry (state_in flash old) n (read_reply_of bytes result) (state_in flash new) → flash new.engine.nand ≡ flash old.engine.nand → LeavesRead n result (ram old.engine) (ram new.engine) → IfErr result IsReadRefusal → Happened flash old (record { command = step.Read n; result = result; bytes = bytes }) new
   unfolding went_none
   read_happened n bytes is kept leaves of_read = record {
     step = is;
@@ -88,18 +103,19 @@ module _ {N : Type 0} (flash : N → Flash) (old new : Device N) (result : Resul
     shown = λ bad next log bads spent. read_shown old.engine.geometry bad next log [] (image_in flash new.engine) n bytes (state_in flash old) (state_in flash new) result of_read is ne;
   }
 
-  module _ (safe : IsRam (ram old.engine)) (safe' : IsRam (ram new.engine)) (sized : new.engine.geometry ≡ old.engine.geometry) (well : IsWell flash new) (w : Went (ram old.engine) (flash old.engine.nand) (ram new.engine) (flash new.engine.nand)) (says : IfErr result (Says (ram old.engine) (ram new.engine))) (n : ℕ) (stale : is_stale old.engine.geometry (image_in flash old.engine) n ≡ true → result ≢ Err OutOfMemory) where
-    shows : (bytes : List ℕ) → WriteStep old.engine.geometry (state_in flash old) n bytes (reply_of result) (state_in flash new) → (bad : ℕ → Bool) (next : ℕ) (log : List Operation) → ((b : ℕ) → b < old.engine.geometry.blocks → is_bad_by (ram new.engine) b ≡ bad_of old.engine.geometry.pages bad log b) → new.engine.next ≡ next + programs_in log
+  module _ (safe : IsRam (ram old.engine)) (safe' : IsRam (ram new.engine)) (sized : new.engine.geometry ≡ old.engine.geometry) (well : IsWell flash new) (w : Went (ram old.engine) (flash old.engine.nand) (ram new.engine) (flash new.engine.nand)) (says : IfErr result (Says (ram old.engine) (ram new.engine))) where
+    shows : NoDamage result → (bad : ℕ → Bool) (next : ℕ) (log : List Operation) → ((b : ℕ) → b < old.engine.geometry.blocks → is_bad_by (ram new.engine) b ≡ bad_of old.engine.geometry.pages bad log b) → new.engine.next ≡ next + programs_in log
         → IfErr result (IsShown old.engine.geometry bad next log w.log (image_in flash new.engine))
-    shows bytes is bad next log bads spent =
-        shown_in old.engine.geometry bad log (ram new.engine) (image_in flash new.engine) sized bads (ram old.engine) w.log next result n bytes (state_in flash old) (state_in flash new) safe safe' refl w.follows well.truth spent says is ne
+    shows is bad next log bads spent =
+        shown_in old.engine.geometry bad log (ram new.engine) (image_in flash new.engine) sized bads (ram old.engine) w.log next result safe safe' refl w.follows well.truth spent says is ne
 
-    pub write_happened : (command : Command) (given bytes : List ℕ) → sector_of command ≡ n → WriteStep old.engine.geometry (state_in flash old) n bytes (reply_of result) (state_in flash new) → ArrayStep old.engine.geometry (state_in flash old) (command_of command) (answer_to command given result) (state_in flash new) → Happened flash old command given result new
-    write_happened command given bytes at is whole = record {
+    -- a call that may change sectors
+    pub changed : (command : step.Command) (bytes : List ℕ) → NoDamage result → (needs_no_memory old.engine.geometry (image_in flash old.engine) command ≡ true → result ≢ Err OutOfMemory) → ArrayStep old.engine.geometry (state_in flash old) command (answer_to command bytes result) (state_in flash new) → Happened flash old (record { command = command; result = result; bytes = bytes }) new
+    changed command bytes is stale whole = record {
       step = whole;
       went = w;
-      stale = subst (λ k. is_stale old.engine.geometry (image_in flash old.engine) k ≡ true → result ≢ Err OutOfMemory) (sym at) stale;
-      shown = shows bytes is;
+      stale = stale;
+      shown = shows is;
     }
 
 -- ---- one more event
@@ -110,23 +126,23 @@ follows_then pages xs ys a b c before after = record {
   accounted = λ accounts s. rw (accounts_join pages accounts xs ys) (after.accounted (accounted_all pages accounts xs) (before.accounted accounts s));
 }
 
-fair_more : (first : First) (old mid : runs.Device) (before total : List Operation) (events : List Event) (calls : List Call) (event : Event) (call : Call) → AreFair first old before events calls → mid ≡ last_of old events → total ≡ before ++ log_of events → IsFair first mid total event call → AreFair first old before (events ++ event ∷ []) (calls ++ call ∷ [])
-fair_more first old mid before total [] [] event call fair here all is =
-    let P : runs.Device → List Operation → Type 0 = λ d l. IsFair first d l event call in
+fair_more : (first : First) (old mid : runs.Device) (before total : List Operation) (events : List Event) (xs : List Exchange) (event : Event) (x : Exchange) → AreFair first old before events xs → mid ≡ last_of old events → total ≡ before ++ log_of events → IsFair first mid total event x → AreFair first old before (events ++ event ∷ []) (xs ++ x ∷ [])
+fair_more first old mid before total [] [] event x fair here all is =
+    let P : runs.Device → List Operation → Type 0 = λ d l. IsFair first d l event x in
     (subst (λ d. P d before) here (subst (P mid) (all ∙ append-nil before) is), tt)
-fair_more first old mid before total [] (c ∷ calls) event call fair here all is = absurd fair
-fair_more first old mid before total (e ∷ events) [] event call fair here all is = absurd fair
-fair_more first old mid before total (e ∷ events) (c ∷ calls) event call fair here all is =
-    (fair.0, fair_more first e.left mid (before ++ e.piece) total events calls event call fair.1 here (all ∙ sym (append_assoc before e.piece (log_of events))) is)
+fair_more first old mid before total [] (y ∷ xs) event x fair here all is = absurd fair
+fair_more first old mid before total (e ∷ events) [] event x fair here all is = absurd fair
+fair_more first old mid before total (e ∷ events) (y ∷ xs) event x fair here all is =
+    (fair.0, fair_more first e.left mid (before ++ e.piece) total events xs event x fair.1 here (all ∙ sym (append_assoc before e.piece (log_of events))) is)
 
 -- with the last image, the last device and the last log
-module _ {N : Type 0} (flash : N → Flash) (old mid new : Device N) (done : List Call) (call : Call) (result : Result (Unit {0}) DeviceFault) (replied : call.reply ≡ Some result)
+module _ {N : Type 0} (flash : N → Flash) (old mid new : Device N) (done : List Exchange) (x : Exchange)
     (sized : mid.engine.geometry ≡ old.engine.geometry) (sized' : new.engine.geometry ≡ mid.engine.geometry)
     (die : (flash mid.engine.nand).geometry ≡ mid.engine.geometry) (die' : (flash new.engine.nand).geometry ≡ new.engine.geometry)
     (limits : HasLimitsOf old.engine.mapping new.engine.mapping) (safe : IsRam (ram old.engine)) (safe' : IsRam (ram new.engine)) (well : IsWell flash new)
-    (ran : Ran flash old done mid) (h : Happened flash mid call.command call.bytes.items result new) where
+    (ran : Ran flash old done mid) (h : Happened flash mid x new) where
   event : Event
-  event = record { command = told call; reply = answer_to call.command call.bytes.items result; piece = h.went.log; left = die_in flash new }
+  event = record { command = x.command; reply = reply_in x; piece = h.went.log; left = die_in flash new }
 
   follows : Follows old.engine.geometry.pages (log_of ran.run.events ++ h.went.log) (ram old.engine).blocks (ram new.engine).blocks
   follows = follows_then old.engine.geometry.pages (log_of ran.run.events) h.went.log (ram old.engine).blocks (ram mid.engine).blocks (ram new.engine).blocks ran.follows
@@ -143,53 +159,42 @@ module _ {N : Type 0} (flash : N → Flash) (old mid new : Device N) (done : Lis
   happens = record {
     leads = h.went.leads;
     step =
-        let P : Geometry → step.State → step.State → Type 0 = λ g s t. ArrayStep g s (told call) (answer_to call.command call.bytes.items result) t in
+        let P : Geometry → step.State → step.State → Type 0 = λ g s t. ArrayStep g s x.command (reply_in x) t in
         subst (λ g. P g (state_of (die_in flash mid)) (state_of (die_in flash new))) (sym die)
         (subst (λ s. P mid.engine.geometry s (state_of (die_in flash new))) (sym (state_is mid die))
         (subst (P mid.engine.geometry (state_in flash mid)) (sym (state_is new (die'))) h.step));
   }
 
-  same_result : (fault : DeviceFault) → call.reply ≡ Some (Err fault) → result ≡ Err fault
-  same_result fault e = (let both : Some result ≡ Some (Err fault) = sym replied ∙ e in cc)
-
-  fair : IsFair (first_of (ram old.engine)) (die_in flash mid) (log_of ran.run.events) event call
+  fair : IsFair (first_of (ram old.engine)) (die_in flash mid) (log_of ran.run.events) event x
   unfolding event
   fair = record {
     shown = λ fault e.
         let bads : (b : ℕ) → b < old.engine.geometry.blocks → is_bad_by (ram new.engine) b ≡ bad_of old.engine.geometry.pages (is_bad_by (ram old.engine)) (log_of ran.run.events ++ h.went.log) b =
         λ b lt. bad_now_law (ram old.engine) (ram new.engine) (log_of ran.run.events ++ h.went.log) b safe.blocks_of follows lt in
         let Q : Geometry → Type 0 = λ g. ((b : ℕ) → b < g.blocks → is_bad_by (ram new.engine) b ≡ bad_of g.pages (is_bad_by (ram old.engine)) (log_of ran.run.events ++ h.went.log) b)
-        → IfErr result (IsShown g (is_bad_by (ram old.engine)) old.engine.next (log_of ran.run.events ++ h.went.log) h.went.log (image_in flash new.engine)) in
+        → IfErr x.result (IsShown g (is_bad_by (ram old.engine)) old.engine.next (log_of ran.run.events ++ h.went.log) h.went.log (image_in flash new.engine)) in
         let shows : Q mid.engine.geometry = λ there. h.shown (is_bad_by (ram old.engine)) old.engine.next (log_of ran.run.events ++ h.went.log) there next in
         let here = subst Q sized shows bads in
-        subst (λ r. IfErr r (IsShown old.engine.geometry (is_bad_by (ram old.engine)) old.engine.next (log_of ran.run.events ++ h.went.log) h.went.log (image_in flash new.engine))) (same_result fault e) here;
-    stale = λ old_entry e. h.stale (subst (λ (g : Geometry). is_stale g (image_in flash mid.engine) (sector_of call.command) ≡ true) (sym sized) old_entry) (same_result OutOfMemory e);
+        subst (λ r. IfErr r (IsShown old.engine.geometry (is_bad_by (ram old.engine)) old.engine.next (log_of ran.run.events ++ h.went.log) h.went.log (image_in flash new.engine))) e here;
+    stale = λ old_entry e. h.stale (subst (λ (g : Geometry). needs_no_memory g (image_in flash mid.engine) x.command ≡ true) (sym sized) old_entry) e;
     mountable = λ most. mountable_after flash old.engine new new.engine refl (sized' ∙ sized) limits safe' well most;
   }
 
-  run_more : HasRun (first_of (ram old.engine)) (die_in flash old) (die_in flash new) (done ++ call ∷ [])
+  run_more : HasRun (first_of (ram old.engine)) (die_in flash old) (die_in flash new) (done ++ x ∷ [])
   unfolding event
   run_more = record {
     events = ran.run.events ++ event ∷ [];
-    commands = map-append (λ (e : Event). e.command) ran.run.events (event ∷ []) ∙ (ap (λ l. l ++ told call ∷ []) ran.run.commands ∙ sym (map-append told done (call ∷ [])));
-    replies =
-        let reply : Event → Reply = λ e. e.reply in
-        let some : Reply → Option Reply = λ r. Some r in
-        let its : answered call ≡ Some (answer_to call.command call.bytes.items result) = ap (option_map (answer_to call.command call.bytes.items)) replied in
-        ap (map some) (map-append reply ran.run.events (event ∷ []))
-        ∙ (map-append some (replies_of ran.run.events) (event.reply ∷ [])
-        ∙ (ap (λ l. l ++ Some event.reply ∷ []) ran.run.replies
-        ∙ (ap (λ o. map answered done ++ o ∷ []) (sym its)
-        ∙ sym (map-append answered done (call ∷ [])))));
+    commands = map-append (λ (e : Event). e.command) ran.run.events (event ∷ []) ∙ (ap (λ l. l ++ x.command ∷ []) ran.run.commands ∙ sym (map-append (λ (y : Exchange). y.command) done (x ∷ [])));
+    replies = map-append (λ (e : Event). e.reply) ran.run.events (event ∷ []) ∙ (ap (λ l. l ++ reply_in x ∷ []) ran.run.replies ∙ sym (map-append reply_in done (x ∷ [])));
     run = one_more_event (die_in flash old) (die_in flash mid) ran.run.events event ran.run.run happens;
-    fair = fair_more (first_of (ram old.engine)) (die_in flash old) (die_in flash mid) [] (log_of ran.run.events) ran.run.events done event call ran.run.fair (last (die_in flash old) (die_in flash mid) ran.run.events ran.run.run) refl fair;
+    fair = fair_more (first_of (ram old.engine)) (die_in flash old) (die_in flash mid) [] (log_of ran.run.events) ran.run.events done event x ran.run.fair (last (die_in flash old) (die_in flash mid) ran.run.events ran.run.run) refl fair;
   }
 
   log_is : log_of ran.run.events ++ h.went.log ≡ log_of (ran.run.events ++ event ∷ [])
   unfolding event
   log_is = sym (logs ran.run.events (event ∷ []) ∙ ap (λ l. log_of ran.run.events ++ l) (append-nil h.went.log))
 
-  pub ran_more : Ran flash old (done ++ call ∷ []) new
+  pub ran_more : Ran flash old (done ++ x ∷ []) new
   unfolding run_more
   ran_more = record {
     run = run_more;

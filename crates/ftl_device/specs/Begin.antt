@@ -1,5 +1,6 @@
 -- A device as an accepted certificate begins it.
-use Rattle.std.specs.Prelude.{◌≡◌, ℕ, not, nat_lt, Bool, true, List, [], map, reverse, get_or, None}
+use Rattle.std.specs.Prelude.{◌≡◌, ℕ, not, nat_lt, Bool, true, false, List, [], map, reverse, get_or, replicate, None}
+use Rattle.page_layout.specs.Geometry.{translation_pages}
 use Rattle.page_layout.specs.declared.geometry.Geometry.{Geometry}
 use Rattle.page_layout.specs.Page.{Image, IsImage}
 use Rattle.bad_blocks.specs.Table.{good_count}
@@ -31,7 +32,7 @@ begun_mapping g c stale = record { geometry = g; capacity = c.capacity; cached =
 
 -- the memory of an engine that nothing was asked of yet
 abbrev pub begun_ram : Geometry → Claim → List ℕ → Ram
-begun_ram g c stale = record { geometry = g; directory = c.directory; mapping = begun_mapping g c stale; blocks = begun g c.blocks; next = c.next; fault = None }
+begun_ram g c stale = record { geometry = g; directory = c.directory; mapping = begun_mapping g c stale; blocks = begun g c.blocks; next = c.next; fault = None; pin = record { block = None; marks = replicate (translation_pages g) false } }
 
 -- ---- what it says of the image
 

@@ -7,8 +7,8 @@ use Rattle.page_layout.specs.Page.{Image}
 use Rattle.page_layout.specs.Geometry.{need}
 use Rattle.page_layout.specs.Array.{array_of}
 use Rattle.page_layout.specs.Flash.{Flash}
-use Rattle.bad_blocks.specs.Table.{good_count}
-use Rattle.allocation.specs.State.{free_count}
+use Rattle.bad_blocks.specs.Table.{good_count, is_good_at}
+use Rattle.allocation.specs.State.{free_count, live_at}
 use Rattle.budget.specs.declared.stream.Stream.TheVariants.{Data, Meta}
 use Rattle.mapping_cache.specs.Mapping.{MappingState, CanLoad, slot_of, loaded}
 use Rattle.image_check.specs.Stale.{is_stale}
@@ -18,11 +18,11 @@ use Rattle.promises.specs.Step.{State, Reply}
 use Rattle.collection.specs.declared.fault.WriteFault.{WriteFault}
 use Rattle.collection.specs.declared.fault.WriteFault.TheVariants as engine_fault
 use Rattle.collection.specs.State.{Ram}
-use Rattle.collection.specs.Safe.{IsRam, ram, image_in}
+use Rattle.collection.specs.Safe.{IsRam, IsIdle, ram, image_in}
 use Rattle.collection.specs.Pages.{newest_row}
 use Rattle.collection.specs.Truth.{IsTrue}
 use Rattle.collection.specs.Cost.{HasPut}
-use Rattle.collection.specs.Results.{IsSame}
+use Rattle.collection.specs.Collect.{GoesOn, KeepsKeys, HasRoom, IsAiling, HasAiling, HasNoneAiling}
 use Rattle.ftl_device.specs.declared.device.Device.{Device}
 use Rattle.ftl_device.specs.declared.fault.CallFault.{CallFault}
 use Rattle.ftl_device.specs.declared.fault.CallFault.TheVariants as call
@@ -78,11 +78,10 @@ stop_of (Some engine_fault.Bus) = Some BusFault
 
 -- ---- what is true of the image between two calls, where the die is honest
 
--- the device isn't stopped, what it knows of the image is so, and no sector is moved
+-- the device isn't stopped, and what it knows of the image is so
 pub record IsWell {N : Type 0} (flash : N → Flash) (d : Device N) : Type 0 where
   pub going : stop_of d.engine.fault ≡ None
   pub truth : IsTrue None (ram d.engine) (image_in flash d.engine)
-  pub unmoved : d.engine.mapping.moved ≡ []
 
 -- ---- when a call is refused
 
@@ -111,6 +110,20 @@ pub record HasMadePlace (n : ℕ) (old new : Ram) : Type 0 where
   pub free : CanLoad old.mapping n → (new.blocks ≡ old.blocks) × (new.next ≡ old.next)
   pub taken : (CanLoad old.mapping n → ⊥) → HasPut Meta old new
 
+-- Room was made: blocks were collected until five are free, and nine unless none is worth it. The cached sectors stay, and their order; bad
+-- blocks stay as they are.
+pub record HasMadeRoom (old new : Ram) : Type 0 where
+  pub goes : GoesOn old new
+  pub keys : KeepsKeys old.mapping new.mapping
+  pub room : HasRoom new
+  pub idle : IsIdle new
+
+-- room was made, and then a place for a sector's entry
+pub record IsReady (n : ℕ) (old new : Ram) : Type 0 where
+  pub mid : Ram
+  pub room : HasMadeRoom old mid
+  pub place : HasMadePlace n mid new
+
 -- one translation page is programmed, and then one page of a sector
 pub record HasPutBoth (old new : Ram) : Type 0 where
   pub mid : Ram
@@ -118,10 +131,16 @@ pub record HasPutBoth (old new : Ram) : Type 0 where
   pub meta : HasPut Meta old mid
   pub page : HasPut Data mid new
 
--- WHAT A CALL COSTS: one page of the sector, and before it one translation page, just where a dirty entry has to leave for the sector's
-pub record HasCost (n : ℕ) (old new : Ram) : Type 0 where
+-- one page of the sector, and before it one translation page, just where a dirty entry has to leave for the sector's
+pub record HasPutSector (n : ℕ) (old new : Ram) : Type 0 where
   pub free : CanLoad old.mapping n → HasPut Data old new
   pub taken : (CanLoad old.mapping n → ⊥) → HasPutBoth old new
+
+-- WHAT A CALL COSTS: what making room does, and then that
+pub record HasCost (n : ℕ) (old new : Ram) : Type 0 where
+  pub mid : Ram
+  pub room : HasMadeRoom old mid
+  pub put : HasPutSector n mid new
 
 -- plain LRU: the cached sectors after sector n was used, the most recently used first
 abbrev pub order_after : MappingState → ℕ → List ℕ
@@ -137,15 +156,15 @@ Tells old new (Err engine_fault.SequenceSpent) = new.next ≡ 2 ^ 64 - 1
 Tells old new (Err engine_fault.Damaged) = Unit {0}
 Tells old new (Err engine_fault.Bus) = Unit {0}
 
--- the array is as it was, and the row is that of the sector's newest page
-pub record IsFound (n : ℕ) (row : Option ℕ) (old : Ram) (before : Image) (new : Ram) (after : Image) : Type 0 where
-  pub same : IsSame old before new after
-  pub row_is : row ≡ newest_row after (Sector n)
-
 -- the array is as it was, and what the memory knows of the image is so
 pub record KeepsArray (g : Geometry) (before : Image) (new : Ram) (after : Image) : Type 0 where
   pub truth : IsTrue None new after
   pub array : array_of g after ≡ array_of g before
+
+-- and the row is that of the sector's newest page
+pub record IsFound (n : ℕ) (row : Option ℕ) (g : Geometry) (before : Image) (new : Ram) (after : Image) : Type 0 where
+  pub keeps : KeepsArray g before new after
+  pub row_is : row ≡ newest_row after (Sector n)
 
 -- the same of a call that may want memory too
 abbrev pub CallTells : {A : Type 0} → Ram → Ram → Result A CallFault → Type 0
@@ -224,6 +243,17 @@ answer_of r good (Err (Engine engine_fault.SequenceSpent)) = Err SequenceSpent
 answer_of r good (Err (Engine engine_fault.Damaged)) = Err Damaged
 answer_of r good (Err (Engine engine_fault.Bus)) = Err BusFault
 answer_of r good (Err call.OutOfMemory) = Err OutOfMemory
+
+-- ---- a turn
+
+-- no bad block has more newest pages than before; where one had some and no block failed meanwhile, such a one has fewer
+pub record HasRescued (old new : Ram) : Type 0 where
+  pub bad : (b : ℕ) → b < old.geometry.blocks → is_good_at old.blocks.table b ≡ false → live_at new.blocks b ≤ live_at old.blocks b
+  pub fewer : good_count new.blocks.table ≡ good_count old.blocks.table → HasAiling old.blocks → (block : ℕ) × IsAiling old.blocks block × (live_at new.blocks block < live_at old.blocks block)
+
+-- no bad block had one: nothing has changed
+abbrev pub HasRested : Ram → Ram → Type 0
+HasRested old new = HasNoneAiling old.blocks → new ≡ old
 
 -- ---- laws
 

@@ -1,22 +1,23 @@
 -- What holds of a device.
-use Rattle.std.specs.Prelude.{◌≡◌, ◌-◌, ◌^◌, true, Some}
+use Rattle.std.specs.Prelude.{◌≡◌, ◌-◌, ◌^◌, true, Some, None}
 use Rattle.page_layout.specs.Page.{IsImage}
 use Rattle.page_layout.specs.Flash.{Flash}
 use Rattle.allocation.specs.State.{free_count}
 use Rattle.allocation.specs.View.{state}
 use Rattle.image_check.specs.Accepted.{Acceptance, IsAcceptance}
 use Rattle.collection.specs.declared.fault.WriteFault.TheVariants.{ReadOnly, SequenceSpent}
-use Rattle.collection.specs.Safe.{IsSafe}
+use Rattle.collection.specs.Safe.{IsSafe, IsIdle, ram}
 use Rattle.ftl_device.specs.declared.device.Device.{Device}
 use Rattle.ftl_device.specs.Begin.{is_scarce}
 
 -- Whatever its die does: it is read-only just where fewer than five blocks are free, and a fault that doesn't stop it is one that it
--- answers by itself.
+-- answers by itself. Where none stands, no sector is moved and no translation page is marked.
 pub record IsDevice {N : Type 0} (flash : N → Flash) (d : Device N) : Type 0 where
   pub engine : IsSafe flash d.engine
   pub read_only : d.read_only ≡ is_scarce (free_count (state d.engine.blocks))
   pub refuses : d.engine.fault ≡ Some ReadOnly → d.read_only ≡ true
   pub spent : d.engine.fault ≡ Some SequenceSpent → d.engine.next ≡ 2 ^ 64 - 1
+  pub idle : d.engine.fault ≡ None → IsIdle (ram d.engine)
 
 -- the certificate was accepted for the image on this die
 pub record IsAcceptedFor (s : Flash) (a : Acceptance) : Type 0 where

@@ -92,4 +92,11 @@ impl<N: Nand> Device<N> {
     {
         self.engine.into_nand()
     }
+
+    /// Gives the device up for its engine. (This project.)
+    pub fn into_engine(self) -> Engine<N>
+        ensures { result ≡ self.engine }
+    {
+        self.engine
+    }
 }

@@ -1,6 +1,8 @@
 ghost use Rattle.ftl_device.specs.Begin.{BeginLaw, FreeLaw, GoodLaw, AccountsLaw};
 ghost use Rattle.ftl_device.specs.Calls.{StaleLaw, RestartLaw};
 ghost use Rattle.ftl_device.specs.Counts.{FreeNowLaw, GoodNowLaw, BadNowLaw, ShortLaw};
+ghost use Rattle.ftl_device.specs.Shortage.{LeavesFiveLaw, TablesLeaveLaw};
+ghost use Rattle.ftl_device.specs.Flush.{FreshLaw, AnywhereLaw, ShownBadLaw, ShownWearLaw};
 
 /// An accepted certificate gives a memory that agrees with the image, the good and the free blocks
 /// that the image shows, and the accounts with which a log begins. (This project.)
@@ -28,4 +30,22 @@ pub fn count_laws()
     ensures good { GoodNowLaw }
     ensures bad { BadNowLaw }
     ensures short { ShortLaw }
+{}
+
+/// What an image is worth where no sector waits for its translation page and each newest table page
+/// spells the table in memory: no entry is stale, it has a certificate at every capacity, it shows
+/// just the blocks as bad that the memory counts as bad, and their erase counts. (This project.)
+pub fn flushed_laws()
+    ensures fresh { FreshLaw }
+    ensures anywhere { AnywhereLaw }
+    ensures bad { ShownBadLaw }
+    ensures wear { ShownWearLaw }
+{}
+
+/// What a call that begins with nine free blocks leaves: five, unless three blocks fail in it; and the
+/// table pages that a flush writes five, unless two fail meanwhile, and four, unless three do. (This
+/// project.)
+pub fn shortage_laws()
+    ensures five { LeavesFiveLaw }
+    ensures tables { TablesLeaveLaw }
 {}

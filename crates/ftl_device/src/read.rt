@@ -1,5 +1,5 @@
 //! Sectors are read.
-ghost use Rattle.std.specs.Prelude.{◌≡◌, ◌≢◌, ◌+◌, ◌<◌, ◌≤◌, [], true, length, None, Some, Err, IsSome, IfOk, IfErr, OnOk, OnErr};
+ghost use Rattle.std.specs.Prelude.{◌≡◌, ◌≢◌, ◌+◌, ◌<◌, ◌≤◌, true, length, None, Some, Err, IsSome, IfOk, IfErr, OnOk, OnErr};
 ghost use Rattle.std.specs.Option.{ForSome};
 ghost use Rattle.page_layout.specs.Page.{Image, page};
 ghost use Rattle.page_layout.specs.Counter.{HasRisen};
@@ -32,7 +32,6 @@ impl<N: Nand> Device<N> {
         ensures same { self.new ≡ record self.old { engine = record self.old.engine { mapping = self.new.engine.mapping } } }
         ensures looks_up { LooksUp sector self.old.engine.mapping self.new.engine.mapping }
         ensures limits { HasLimitsOf self.old.engine.mapping self.new.engine.mapping }
-        ensures unmoved { self.old.engine.mapping.moved ≡ [] → self.new.engine.mapping.moved ≡ [] }
         ensures truth { (image : Image) → IsTrue None (ram self.old.engine) image → row ≡ newest_row image (Sector sector) →
             IsTrue None (ram self.new.engine) image }
     {

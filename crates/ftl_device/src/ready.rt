@@ -1,5 +1,5 @@
 //! A sector is made ready: its entry is cached before anything of it is programmed.
-ghost use Rattle.std.specs.Prelude.{◌≡◌, ◌≢◌, ◌<◌, ◌≤◌, true, length, [], Some, None, Ok, Err, IfOk, IfErr, IsSome, OnOk, OnErr, MatchResult};
+ghost use Rattle.std.specs.Prelude.{◌≡◌, ◌≢◌, ◌<◌, ◌≤◌, true, length, Some, None, Ok, Err, IfOk, IfErr, IsSome, OnOk, OnErr, MatchResult};
 ghost use Rattle.std.specs.Option.{ForSome};
 ghost use Rattle.std.specs.Map.{keys_of};
 ghost use Rattle.page_layout.specs.Counter.{HasRisen};
@@ -8,17 +8,44 @@ ghost use Rattle.page_layout.specs.declared.record.Key.TheVariants.{Sector};
 ghost use Rattle.page_layout.specs.Array.{zeros};
 ghost use Rattle.mapping_cache.specs.Mapping.{CanLoad, HasLimitsOf, slot_of};
 ghost use Rattle.collection.specs.Pages.{newest_row};
-ghost use Rattle.collection.specs.Safe.{IsSafe, ram, image_in};
+ghost use Rattle.collection.specs.Safe.{IsSafe, IsIdle, ram, image_in};
 ghost use Rattle.collection.specs.Truth.{IsTrue};
 ghost use Rattle.collection.specs.Log.{Went};
 ghost use Rattle.collection.specs.Settle.{HasNoMore};
 ghost use Rattle.collection.specs.Looks.{IsReadFault};
 ghost use Rattle.collection.specs.Results.{IsSame, Refused, fault_after};
-ghost use Rattle.ftl_device.specs.Calls.{Tells, IsFound, CallTells, standing_after, KeepsArray, HoldsSector, CallRefused, IsMostRecent, HasMadePlace, HasCost, order_after};
+ghost use Rattle.collection.specs.Collect.{KeepsKeys, IsRearranged, RoomRefused};
+ghost use Rattle.ftl_device.specs.Calls.{Tells, IsFound, CallTells, standing_after, KeepsArray, HoldsSector, CallRefused, IsMostRecent, HasMadeRoom, HasMadePlace, IsReady, HasCost, order_after};
+ghost use Rattle.ftl_device.specs.Flush.{KeepsClean};
 
 use crate::fault::CallFault;
 use collection::{Engine, WriteFault};
 use onfi_cycles::Nand;
+
+// Sees that there are free blocks enough for a call that programs.
+pub(crate) fn make_room<N: Nand>(engine: &mut Engine<N>, flushing: bool) -> Result<(), WriteFault>
+    requires safe { IsSafe N.flash engine.old }
+    requires going { engine.old.fault ≡ None }
+    requires idle { IsIdle (ram engine.old) }
+    ensures safe { IsSafe N.flash engine.new }
+    ensures fault { engine.new.fault ≡ fault_after None result }
+    ensures geometry { engine.new.geometry ≡ engine.old.geometry }
+    ensures honest { N.honest engine.new.nand ≡ N.honest engine.old.nand }
+    ensures failed { N.failed engine.old.nand ≤ N.failed engine.new.nand }
+    ensures rose { result ≡ Err WriteFault.Bus → HasRisen (N.failed engine.old.nand) (N.failed engine.new.nand) }
+    ensures made { OnOk result (HasMadeRoom (ram engine.old) (ram engine.new)) }
+    ensures keys { KeepsKeys engine.old.mapping engine.new.mapping }
+    ensures cleans { flushing ≡ true → OnOk result (KeepsClean engine.old.geometry engine.old.mapping engine.new.mapping) }
+    ensures tells { Tells (ram engine.old) (ram engine.new) result }
+    ensures went { N.honest engine.old.nand ≡ true → result ≢ Err WriteFault.Bus →
+        Went (ram engine.old) (N.flash engine.old.nand) (ram engine.new) (N.flash engine.new.nand) }
+    ensures truth { N.honest engine.old.nand ≡ true → IsTrue None (ram engine.old) (image_in N.flash engine.old) →
+        MatchResult result
+        (λ _. IsRearranged (ram engine.old) (image_in N.flash engine.old) (ram engine.new) (image_in N.flash engine.new))
+        (RoomRefused (ram engine.old) (image_in N.flash engine.old) (ram engine.new) (image_in N.flash engine.new)) }
+{
+    engine.make_room(flushing)
+}
 
 // Writes back the translation page of the least recently used sector, where caching this one would
 // drop an entry that its page lacks.
@@ -33,6 +60,7 @@ fn make_place<N: Nand>(engine: &mut Engine<N>, sector: u32) -> Result<(), WriteF
     ensures rose { result ≡ Err WriteFault.Bus → HasRisen (N.failed engine.old.nand) (N.failed engine.new.nand) }
     ensures place { OnOk result (CanLoad engine.new.mapping sector) }
     ensures keys { keys_of engine.new.mapping.cached ≡ keys_of engine.old.mapping.cached }
+    ensures pin { (ram engine.new).pin ≡ (ram engine.old).pin }
     ensures no_more { HasNoMore engine.old.mapping engine.new.mapping }
     ensures cost { OnOk result (HasMadePlace sector (ram engine.old) (ram engine.new)) }
     ensures tells { Tells (ram engine.old) (ram engine.new) result }
@@ -85,6 +113,7 @@ fn find_row<N: Nand>(engine: &mut Engine<N>, sector: u32) -> Result<Option<u32>,
 fn prepare<N: Nand>(engine: &mut Engine<N>, sector: u32) -> Result<Option<u32>, WriteFault>
     requires safe { IsSafe N.flash engine.old }
     requires going { engine.old.fault ≡ None }
+    requires idle { IsIdle (ram engine.old) }
     requires sector { sector < engine.old.geometry.sectors }
     ensures safe { IsSafe N.flash engine.new }
     ensures fault { engine.new.fault ≡ fault_after None result }
@@ -95,17 +124,18 @@ fn prepare<N: Nand>(engine: &mut Engine<N>, sector: u32) -> Result<Option<u32>, 
     ensures place { OnOk result (CanLoad engine.new.mapping sector) }
     ensures row { IfOk result (λ row. ForSome row (λ r. r < row_count engine.old.geometry)) }
     ensures keys { keys_of engine.new.mapping.cached ≡ keys_of engine.old.mapping.cached }
-    ensures no_more { HasNoMore engine.old.mapping engine.new.mapping }
-    ensures cost { OnOk result (HasMadePlace sector (ram engine.old) (ram engine.new)) }
+    ensures limits { HasLimitsOf engine.old.mapping engine.new.mapping }
+    ensures idle { OnOk result (IsIdle (ram engine.new)) }
+    ensures cost { OnOk result (IsReady sector (ram engine.old) (ram engine.new)) }
     ensures tells { Tells (ram engine.old) (ram engine.new) result }
     ensures went { N.honest engine.old.nand ≡ true → result ≢ Err WriteFault.Bus →
         Went (ram engine.old) (N.flash engine.old.nand) (ram engine.new) (N.flash engine.new.nand) }
     ensures truth { N.honest engine.old.nand ≡ true → IsTrue None (ram engine.old) (image_in N.flash engine.old) →
         MatchResult result
-        (λ row. IsFound sector row (ram engine.old) (image_in N.flash engine.old) (ram engine.new) (image_in N.flash engine.new))
-        (Refused (ram engine.old) (image_in N.flash engine.old) (ram engine.new) (image_in N.flash engine.new)) }
+        (λ row. IsFound sector row engine.old.geometry (image_in N.flash engine.old) (ram engine.new) (image_in N.flash engine.new))
+        (λ fault. CallRefused engine.old.geometry (image_in N.flash engine.old) (ram engine.new) (image_in N.flash engine.new) (CallFault.Engine fault)) }
 {
-    engine.make_room()?;
+    make_room(engine, false)?;
     make_place(engine, sector)?;
     find_row(engine, sector)
 }
@@ -114,6 +144,7 @@ fn prepare<N: Nand>(engine: &mut Engine<N>, sector: u32) -> Result<Option<u32>, 
 fn make_ready<N: Nand>(engine: &mut Engine<N>, sector: u32) -> Result<(), CallFault>
     requires safe { IsSafe N.flash engine.old }
     requires going { engine.old.fault ≡ None }
+    requires idle { IsIdle (ram engine.old) }
     requires sector { sector < engine.old.geometry.sectors }
     ensures safe { IsSafe N.flash engine.new }
     ensures fault { engine.new.fault ≡ standing_after result }
@@ -124,12 +155,12 @@ fn make_ready<N: Nand>(engine: &mut Engine<N>, sector: u32) -> Result<(), CallFa
     ensures holds { OnOk result (IsSome (slot_of engine.new.mapping sector)) }
     ensures recent { OnOk result (IsMostRecent sector engine.new.mapping) }
     ensures keys { OnOk result (keys_of engine.new.mapping.cached ≡ order_after engine.old.mapping sector) }
-    ensures cost { OnOk result (HasMadePlace sector (ram engine.old) (ram engine.new)) }
-    ensures unwritten { result ≡ Err CallFault.OutOfMemory → HasMadePlace sector (ram engine.old) (ram engine.new) }
+    ensures cost { OnOk result (IsReady sector (ram engine.old) (ram engine.new)) }
+    ensures unwritten { result ≡ Err CallFault.OutOfMemory → IsReady sector (ram engine.old) (ram engine.new) }
     ensures same_keys { result ≡ Err CallFault.OutOfMemory → keys_of engine.new.mapping.cached ≡ keys_of engine.old.mapping.cached }
     ensures cached { IsSome (slot_of engine.old.mapping sector) → result ≢ Err CallFault.OutOfMemory }
     ensures limits { HasLimitsOf engine.old.mapping engine.new.mapping }
-    ensures unmoved { engine.old.mapping.moved ≡ [] → engine.new.mapping.moved ≡ [] }
+    ensures idle { engine.new.fault ≡ None → IsIdle (ram engine.new) }
     ensures tells { CallTells (ram engine.old) (ram engine.new) result }
     ensures went { N.honest engine.old.nand ≡ true → result ≢ Err (CallFault.Engine WriteFault.Bus) →
         Went (ram engine.old) (N.flash engine.old.nand) (ram engine.new) (N.flash engine.new.nand) }
@@ -151,6 +182,7 @@ pub(crate) fn write_ready<N: Nand>(
 ) -> Result<(), CallFault>
     requires safe { IsSafe N.flash engine.old }
     requires going { engine.old.fault ≡ None }
+    requires idle { IsIdle (ram engine.old) }
     requires sector { sector < engine.old.geometry.sectors }
     requires body { length body.now ≡ engine.old.geometry.data_bytes }
     ensures safe { IsSafe N.flash engine.new }
@@ -162,11 +194,11 @@ pub(crate) fn write_ready<N: Nand>(
     ensures recent { OnOk result (IsMostRecent sector engine.new.mapping) }
     ensures keys { OnOk result (keys_of engine.new.mapping.cached ≡ order_after engine.old.mapping sector) }
     ensures cost { OnOk result (HasCost sector (ram engine.old) (ram engine.new)) }
-    ensures unwritten { result ≡ Err CallFault.OutOfMemory → HasMadePlace sector (ram engine.old) (ram engine.new) }
+    ensures unwritten { result ≡ Err CallFault.OutOfMemory → IsReady sector (ram engine.old) (ram engine.new) }
     ensures same_keys { result ≡ Err CallFault.OutOfMemory → keys_of engine.new.mapping.cached ≡ keys_of engine.old.mapping.cached }
     ensures cached { IsSome (slot_of engine.old.mapping sector) → result ≢ Err CallFault.OutOfMemory }
     ensures limits { HasLimitsOf engine.old.mapping engine.new.mapping }
-    ensures unmoved { engine.old.mapping.moved ≡ [] → engine.new.mapping.moved ≡ [] }
+    ensures idle { engine.new.fault ≡ None → IsIdle (ram engine.new) }
     ensures tells { CallTells (ram engine.old) (ram engine.new) result }
     ensures went { N.honest engine.old.nand ≡ true → result ≢ Err (CallFault.Engine WriteFault.Bus) →
         Went (ram engine.old) (N.flash engine.old.nand) (ram engine.new) (N.flash engine.new.nand) }
@@ -184,6 +216,7 @@ pub(crate) fn write_ready<N: Nand>(
 pub(crate) fn trim_ready<N: Nand>(engine: &mut Engine<N>, sector: u32) -> Result<(), CallFault>
     requires safe { IsSafe N.flash engine.old }
     requires going { engine.old.fault ≡ None }
+    requires idle { IsIdle (ram engine.old) }
     requires sector { sector < engine.old.geometry.sectors }
     ensures safe { IsSafe N.flash engine.new }
     ensures fault { engine.new.fault ≡ standing_after result }
@@ -194,11 +227,11 @@ pub(crate) fn trim_ready<N: Nand>(engine: &mut Engine<N>, sector: u32) -> Result
     ensures recent { OnOk result (IsMostRecent sector engine.new.mapping) }
     ensures keys { OnOk result (keys_of engine.new.mapping.cached ≡ order_after engine.old.mapping sector) }
     ensures cost { OnOk result (HasCost sector (ram engine.old) (ram engine.new)) }
-    ensures unwritten { result ≡ Err CallFault.OutOfMemory → HasMadePlace sector (ram engine.old) (ram engine.new) }
+    ensures unwritten { result ≡ Err CallFault.OutOfMemory → IsReady sector (ram engine.old) (ram engine.new) }
     ensures same_keys { result ≡ Err CallFault.OutOfMemory → keys_of engine.new.mapping.cached ≡ keys_of engine.old.mapping.cached }
     ensures cached { IsSome (slot_of engine.old.mapping sector) → result ≢ Err CallFault.OutOfMemory }
     ensures limits { HasLimitsOf engine.old.mapping engine.new.mapping }
-    ensures unmoved { engine.old.mapping.moved ≡ [] → engine.new.mapping.moved ≡ [] }
+    ensures idle { engine.new.fault ≡ None → IsIdle (ram engine.new) }
     ensures tells { CallTells (ram engine.old) (ram engine.new) result }
     ensures went { N.honest engine.old.nand ≡ true → result ≢ Err (CallFault.Engine WriteFault.Bus) →
         Went (ram engine.old) (N.flash engine.old.nand) (ram engine.new) (N.flash engine.new.nand) }

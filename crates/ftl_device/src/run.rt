@@ -1,13 +1,13 @@
 //! Commands, told to a device one after another.
-ghost use Rattle.std.specs.Prelude.{◌≡◌, ◌≢◌, ◌≤◌, ◌⊎◌, true, map, None, Some, Err, IsSome, IfOk, IfErr, OnOk, OnErr};
+ghost use Rattle.std.specs.Prelude.{◌≡◌, ◌≢◌, ◌≤◌, ◌⊎◌, true, map, None, Some, Err, IfOk, IfErr, OnOk, OnErr};
 ghost use Rattle.std.specs.Option.{ForSome};
 ghost use Rattle.page_layout.specs.Counter.{HasRisen};
 ghost use Rattle.mapping_cache.specs.Mapping.{HasLimitsOf};
 ghost use Rattle.certificate.specs.Claim.{sizes_of};
 ghost use Rattle.ftl_device.specs.Device.{IsDevice, IsAcceptedFor};
 ghost use Rattle.ftl_device.specs.Calls.{stop_of, IsWell};
-ghost use Rattle.ftl_device.specs.Run.{room_for, told, HasRoom, AreWhole, AreKnown, AreAnswered};
-ghost use Rattle.ftl_device.specs.Run.{Stops, AreRefused, StaysStopped, KeepsBytes, HaveKept, Happened, Ran, RanFrom};
+ghost use Rattle.ftl_device.specs.Run.{command_of, room_for, told, exchanges_of, HasRoom, AreWhole, AreKnown, AreAnswered};
+ghost use Rattle.ftl_device.specs.Run.{Stops, StaysStopped, KeepsBytes, HaveKept, Happened, WasTold, RanFrom};
 
 use crate::device::Device;
 use crate::fault::{DeviceFault, StartFault};
@@ -25,6 +25,10 @@ pub enum Command<'a> {
     Write { sector: u32, body: &'a [u8] },
     /// Trim a sector, which then reads as 00h bytes.
     Trim { sector: u32 },
+    /// Write to flash what is known in memory alone.
+    Flush,
+    /// An idle moment.
+    Turn,
 }
 
 /// A command, and what the device answered to it. (This project.)
@@ -56,7 +60,9 @@ impl<'a> Call<'a> {
     {
         let bytes = match command {
             Command::Read { .. } => vec![in alloc; 0; geometry.data_bytes()]?,
-            Command::Write { .. } | Command::Trim { .. } => Vec::new(alloc),
+            Command::Write { .. } | Command::Trim { .. } | Command::Flush | Command::Turn => {
+                Vec::new(alloc)
+            }
         };
         Ok(Call {
             command,
@@ -67,8 +73,14 @@ impl<'a> Call<'a> {
 }
 
 impl<N: Nand> Device<N> {
-    // Tells the device one command; a read that is done gives its bytes, and no other changes them.
-    fn tell(&mut self, command: Command<'_>, bytes: &mut [u8]) -> Result<(), DeviceFault>
+    /// Tells the device one command: a read that is done gives its bytes, and no other command changes
+    /// them. It does what `read`, `write`, `trim`, `flush` and `turn` do, and says of each what a list
+    /// of commands needs.
+    ///
+    /// # Errors
+    ///
+    /// Those of the command. (This project.)
+    pub fn tell(&mut self, command: Command<'_>, bytes: &mut [u8]) -> Result<(), DeviceFault>
         requires device { IsDevice N.flash self.old }
         requires room { HasRoom self.old.engine.geometry command bytes.old }
         ensures device { IsDevice N.flash self.new }
@@ -77,21 +89,23 @@ impl<N: Nand> Device<N> {
         ensures honest { N.honest self.new.engine.nand ≡ N.honest self.old.engine.nand }
         ensures room { HasRoom self.old.engine.geometry command.entry bytes.new }
         ensures failed { N.failed self.old.engine.nand ≤ N.failed self.new.engine.nand }
-        ensures kept { KeepsBytes command.entry result bytes.old bytes.new }
+        ensures kept { KeepsBytes (command_of command.entry) result bytes.old bytes.new }
         ensures stopped { ForSome (stop_of self.old.engine.fault) (λ fault. (result ≡ Err fault) × (self.new ≡ self.old)) }
-        ensures stops { IfErr result (λ fault. Stops command.entry fault → stop_of self.new.engine.fault ≡ Some fault) }
+        ensures stops { IfErr result (λ fault. Stops (command_of command.entry) fault → stop_of self.new.engine.fault ≡ Some fault) }
         ensures standing { ForSome (stop_of self.new.engine.fault) (λ fault. result ≡ Err fault) }
         ensures rose { stop_of self.old.engine.fault ≡ None → result ≡ Err DeviceFault.BusFault →
             HasRisen (N.failed self.old.engine.nand) (N.failed self.new.engine.nand) }
         ensures well { N.honest self.old.engine.nand ≡ true → IsWell N.flash self.old → result ≢ Err DeviceFault.BusFault →
             IsWell N.flash self.new }
         ensures happened { N.honest self.old.engine.nand ≡ true → IsWell N.flash self.old → result ≢ Err DeviceFault.BusFault →
-            Happened N.flash self.old command.entry bytes.new result self.new }
+            Happened N.flash self.old (record { command = command_of command.entry; result = result; bytes = bytes.new }) self.new }
     {
         match command {
             Command::Read { sector } => self.read(sector, bytes),
             Command::Write { sector, body } => self.write(sector, body),
             Command::Trim { sector } => self.trim(sector),
+            Command::Flush => self.flush(),
+            Command::Turn => self.turn(),
         }
     }
 
@@ -111,26 +125,11 @@ impl<N: Nand> Device<N> {
     pub fn run(&mut self, calls: &mut [Call<'_>])
         requires device { IsDevice N.flash self.old }
         requires whole { AreWhole self.old.engine.geometry calls.old }
-        ensures device { IsDevice N.flash self.new }
-        ensures geometry { self.new.engine.geometry ≡ self.old.engine.geometry }
-        ensures limits { HasLimitsOf self.old.engine.mapping self.new.engine.mapping }
-        ensures honest { N.honest self.new.engine.nand ≡ N.honest self.old.engine.nand }
+        ensures told { WasTold N.flash N.honest N.failed self.old (exchanges_of calls.new) self.new }
         ensures whole { AreWhole self.old.engine.geometry calls.new }
         ensures commands { map told calls.new ≡ map told calls.old }
         ensures answered { AreAnswered calls.new }
         ensures kept { HaveKept calls.old calls.new }
-        ensures failed { N.failed self.old.engine.nand ≤ N.failed self.new.engine.nand }
-
-        // A device that was stopped, before the run or in it, stays so.
-        ensures stopped { ForSome (stop_of self.old.engine.fault) (λ fault. AreRefused fault calls.new × (self.new ≡ self.old)) }
-        ensures stays { StaysStopped calls.new }
-        ensures rose { stop_of self.old.engine.fault ≡ None →
-            AreKnown calls.new ⊎ HasRisen (N.failed self.old.engine.nand) (N.failed self.new.engine.nand) }
-
-        // What is true of an honest die.
-        ensures well { N.honest self.old.engine.nand ≡ true → IsWell N.flash self.old → AreKnown calls.new → IsWell N.flash self.new }
-        ensures ran { N.honest self.old.engine.nand ≡ true → IsWell N.flash self.old → AreKnown calls.new →
-            Ran N.flash self.old calls.new self.new }
     {
         for call in calls.iter_mut() {
             call.reply = Some(self.tell(call.command, &mut call.bytes));
@@ -163,14 +162,14 @@ impl<N: Nand> Device<N> {
         ensures answered { OnOk result (AreAnswered calls.new) }
         ensures kept { OnOk result (HaveKept calls.old calls.new) }
         ensures failed { IfOk result (λ d. N.failed nand ≤ N.failed d.engine.nand) }
-        ensures stays { OnOk result (StaysStopped calls.new) }
-        ensures rose { IfOk result (λ d. AreKnown calls.new ⊎ HasRisen (N.failed nand) (N.failed d.engine.nand)) }
+        ensures stays { OnOk result (StaysStopped (exchanges_of calls.new)) }
+        ensures rose { IfOk result (λ d. AreKnown (exchanges_of calls.new) ⊎ HasRisen (N.failed nand) (N.failed d.engine.nand)) }
 
         // What is true of an honest die.
-        ensures well { IfOk result (λ d. N.honest nand ≡ true → IsAcceptedFor (N.flash nand) accepted.entry → AreKnown calls.new →
+        ensures well { IfOk result (λ d. N.honest nand ≡ true → IsAcceptedFor (N.flash nand) accepted.entry → AreKnown (exchanges_of calls.new) →
             IsWell N.flash d) }
-        ensures ran { IfOk result (λ d. N.honest nand ≡ true → IsAcceptedFor (N.flash nand) accepted.entry → AreKnown calls.new →
-            RanFrom N.flash (N.flash nand) accepted.entry.claim calls.new d) }
+        ensures ran { IfOk result (λ d. N.honest nand ≡ true → IsAcceptedFor (N.flash nand) accepted.entry → AreKnown (exchanges_of calls.new) →
+            RanFrom N.flash (N.flash nand) accepted.entry.claim (exchanges_of calls.new) d) }
         ensures fault { IfErr result (λ fault. fault ≡ StartFault.OutOfMemory nand accepted.entry) }
         ensures untold { OnErr result (calls.new ≡ calls.old) }
     {

@@ -1,5 +1,5 @@
 //! Sectors are written and trimmed.
-ghost use Rattle.std.specs.Prelude.{◌≡◌, ◌≢◌, ◌↔◌, ◌+◌, ◌-◌, ◌<◌, ◌≤◌, ◌^◌, true, false, length, [], Ok, Err, Some, None, IsOk, IfErr, IsSome, OnOk, MatchOption};
+ghost use Rattle.std.specs.Prelude.{◌≡◌, ◌≢◌, ◌↔◌, ◌+◌, ◌-◌, ◌<◌, ◌≤◌, ◌^◌, true, false, length, Ok, Err, Some, None, IsOk, IfErr, IsSome, OnOk, MatchOption};
 ghost use Rattle.std.specs.Option.{ForSome};
 ghost use Rattle.std.specs.Map.{keys_of};
 ghost use Rattle.page_layout.specs.Counter.{HasRisen};
@@ -10,10 +10,10 @@ ghost use Rattle.allocation.specs.State.{free_count};
 ghost use Rattle.promises.specs.Step.{ArrayStep, Write, Trim};
 ghost use Rattle.image_check.specs.Stale.{is_stale};
 ghost use Rattle.image_check.specs.Mountable.{IsMountable};
-ghost use Rattle.collection.specs.Safe.{IsSafe, ram, image_in};
+ghost use Rattle.collection.specs.Safe.{IsSafe, IsIdle, ram, image_in};
 ghost use Rattle.collection.specs.Log.{Went};
 ghost use Rattle.ftl_device.specs.Device.{IsDevice};
-ghost use Rattle.ftl_device.specs.Calls.{state_in, reply_of, stop_of, IsWell, Says, CallTells, standing_after, MayChange, MayNot, answer_of, IsMostRecent, HasMadePlace, HasCost, order_after};
+ghost use Rattle.ftl_device.specs.Calls.{state_in, reply_of, stop_of, IsWell, Says, CallTells, standing_after, MayChange, MayNot, answer_of, IsMostRecent, IsReady, HasCost, order_after};
 ghost use Rattle.ftl_device.specs.Counts.{is_bad_by, IsShown};
 
 use crate::device::Device;
@@ -35,7 +35,7 @@ impl<N: Nand> Device<N> {
     }
 
     // The answer of a device with too few free blocks, where that many were good as the call began.
-    fn short_of(&self, good: u32) -> DeviceFault
+    pub(crate) fn short_of(&self, good: u32) -> DeviceFault
         requires fewer { good_count (ram self.now.engine).blocks.table ≤ good }
         ensures { result ≡ DeviceFault.ReadOnly (good_count (ram self.now.engine).blocks.table)
             (need self.now.engine.geometry) (good - good_count (ram self.now.engine).blocks.table) }
@@ -49,7 +49,7 @@ impl<N: Nand> Device<N> {
     }
 
     // Whether a call may change a sector.
-    fn may_change(&self, sector: u32) -> Result<(), DeviceFault>
+    pub(crate) fn may_change(&self, sector: u32) -> Result<(), DeviceFault>
         requires device { IsDevice N.flash self.now }
         ensures may { OnOk result (MayChange (ram self.now.engine) self.now.read_only sector) }
         ensures may_not { IfErr result (MayNot (ram self.now.engine) self.now.read_only sector) }
@@ -68,11 +68,16 @@ impl<N: Nand> Device<N> {
     }
 
     // Ends a call that may have programmed: with too few free blocks the device is read-only.
-    fn finish(&mut self, good: u32, answer: Result<(), CallFault>) -> Result<(), DeviceFault>
+    pub(crate) fn finish(
+        &mut self,
+        good: u32,
+        answer: Result<(), CallFault>,
+    ) -> Result<(), DeviceFault>
         requires safe { IsSafe N.flash self.old.engine }
         requires fault { self.old.engine.fault ≡ standing_after answer }
         requires scarce { answer ≡ Err (CallFault.Engine WriteFault.ReadOnly) → free_count (ram self.old.engine).blocks < 5 }
         requires fewer { answer ≡ Err (CallFault.Engine WriteFault.ReadOnly) → good_count (ram self.old.engine).blocks.table ≤ good }
+        requires idle { self.old.engine.fault ≡ None → IsIdle (ram self.old.engine) }
         requires spent { answer ≡ Err (CallFault.Engine WriteFault.SequenceSpent) → self.old.engine.next ≡ 2 ^ 64 - 1 }
         ensures engine { self.new.engine ≡ self.old.engine }
         ensures device { IsDevice N.flash self.new }
@@ -157,9 +162,8 @@ impl<N: Nand> Device<N> {
         // What it programs, and which sectors it leaves cached, whatever the die does.
         ensures recent { OnOk result (IsMostRecent sector self.new.engine.mapping) }
         ensures keys { OnOk result (keys_of self.new.engine.mapping.cached ≡ order_after self.old.engine.mapping sector) }
-        ensures unmoved { self.old.engine.mapping.moved ≡ [] → self.new.engine.mapping.moved ≡ [] }
         ensures cost { OnOk result (HasCost sector (ram self.old.engine) (ram self.new.engine)) }
-        ensures unwritten { result ≡ Err DeviceFault.OutOfMemory → HasMadePlace sector (ram self.old.engine) (ram self.new.engine) }
+        ensures unwritten { result ≡ Err DeviceFault.OutOfMemory → IsReady sector (ram self.old.engine) (ram self.new.engine) }
         ensures same_keys { result ≡ Err DeviceFault.OutOfMemory →
             keys_of self.new.engine.mapping.cached ≡ keys_of self.old.engine.mapping.cached }
 
@@ -219,9 +223,8 @@ impl<N: Nand> Device<N> {
         // What it programs, and which sectors it leaves cached, whatever the die does.
         ensures recent { OnOk result (IsMostRecent sector self.new.engine.mapping) }
         ensures keys { OnOk result (keys_of self.new.engine.mapping.cached ≡ order_after self.old.engine.mapping sector) }
-        ensures unmoved { self.old.engine.mapping.moved ≡ [] → self.new.engine.mapping.moved ≡ [] }
         ensures cost { OnOk result (HasCost sector (ram self.old.engine) (ram self.new.engine)) }
-        ensures unwritten { result ≡ Err DeviceFault.OutOfMemory → HasMadePlace sector (ram self.old.engine) (ram self.new.engine) }
+        ensures unwritten { result ≡ Err DeviceFault.OutOfMemory → IsReady sector (ram self.old.engine) (ram self.new.engine) }
         ensures same_keys { result ≡ Err DeviceFault.OutOfMemory →
             keys_of self.new.engine.mapping.cached ≡ keys_of self.old.engine.mapping.cached }
 

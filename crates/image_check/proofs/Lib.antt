@@ -3,7 +3,6 @@ pub mod SurveyLemmas
 pub mod LookLemmas
 pub mod TableLemmas
 pub mod PartLemmas
-pub mod PassLemmas
 pub mod CountingLemmas
 pub mod SequenceLemmas
 pub mod MountableLemmas
@@ -14,3 +13,8 @@ pub mod StateLemmas
 pub mod StaleLemmas
 pub mod ChainLemmas
 pub mod JudgeLemmas
+pub mod OnceLemmas
+pub mod NotedLemmas
+pub mod PassLemmas
+pub mod StreamLemmas
+pub mod SeenLemmas

@@ -58,7 +58,7 @@ filter_one : (p : ℕ → Bool) (n : ℕ) (b : Bool) → p n ≡ b → filter p 
 filter_one p n b e = ap (λ t. cond t (n ∷ []) []) e
 
 -- filters by tests that agree on the range
-filter_same : (p q : ℕ → Bool) (a n : ℕ) → ((k : ℕ) → a ≤ k → k < a + n → p k ≡ q k) → filter p (range_with_len a n) ≡ filter q (range_with_len a n)
+pub filter_same : (p q : ℕ → Bool) (a n : ℕ) → ((k : ℕ) → a ≤ k → k < a + n → p k ≡ q k) → filter p (range_with_len a n) ≡ filter q (range_with_len a n)
 filter_same p q a zero h = refl
 filter_same p q a (suc n) h =
     let here = h a (omega arith) (omega arith) in

@@ -12,4 +12,7 @@ pub mod Aspects
 pub mod States
 pub mod Rising
 pub mod Accepted
+pub mod Noted
 pub mod Room
+pub mod Passed
+pub mod Streamed

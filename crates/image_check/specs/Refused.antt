@@ -149,8 +149,9 @@ Says g capacity image c refusals.NextSequence = Unit {0}
 Says g capacity image c (refusals.TooStale stale most) = (stale ≡ stale_count g image) × (most ≡ capacity)
 Says g capacity image c refusals.Source = Unit {0}
 Says g capacity image c refusals.OutOfMemory = Unit {0}
+Says g capacity image c refusals.WrongLength = Unit {0}
 
--- the part that a refusal names. Want of memory and a page read that failed name none
+-- the part that a refusal names. Want of memory, a page read that failed and an image of another length name none
 abbrev pub part_of : Refusal → Option Part
 part_of refusals.GeometryDiffers = Some Asked
 part_of (refusals.NumberRange row) = Some Numbers
@@ -168,6 +169,7 @@ part_of refusals.NextSequence = Some Next
 part_of (refusals.TooStale stale most) = Some Fresh
 part_of refusals.Source = None
 part_of refusals.OutOfMemory = None
+part_of refusals.WrongLength = None
 
 -- the refusal names this part, the part fails, and it does so as the refusal says
 pub record IsWrong (g : Geometry) (capacity : ℕ) (image : Image) (c : Claim) (part : Part) (r : Refusal) : Type 0 where
@@ -181,7 +183,7 @@ pub record IsFirstWrong (g : Geometry) (capacity : ℕ) (image : Image) (c : Cla
   pub wrong : IsWrong g capacity image c part r
   pub before : HoldsBefore g capacity image c part
 
--- what a judge of a survey may refuse for: neither a certificate that was not asked for, nor a page read that failed
+-- what a judge of a survey may refuse for: the parts of the image and of the certificate, and nothing that stops a check
 abbrev pub IsJudgement : Refusal → Type 0
 IsJudgement refusals.GeometryDiffers = ⊥
 IsJudgement (refusals.NumberRange row) = Unit {0}
@@ -198,7 +200,8 @@ IsJudgement (refusals.WearWrong b) = Unit {0}
 IsJudgement refusals.NextSequence = Unit {0}
 IsJudgement (refusals.TooStale stale most) = Unit {0}
 IsJudgement refusals.Source = ⊥
-IsJudgement refusals.OutOfMemory = Unit {0}
+IsJudgement refusals.OutOfMemory = ⊥
+IsJudgement refusals.WrongLength = ⊥
 
 -- what the pages of an image may be refused for, whatever a certificate says of them
 abbrev pub IsOfImage : Refusal → Type 0
@@ -218,6 +221,7 @@ IsOfImage refusals.NextSequence = ⊥
 IsOfImage (refusals.TooStale stale most) = ⊥
 IsOfImage refusals.Source = ⊥
 IsOfImage refusals.OutOfMemory = Unit {0}
+IsOfImage refusals.WrongLength = ⊥
 
 -- a growth was refused
 abbrev pub IsMemory : Refusal → Type 0

@@ -1,13 +1,12 @@
 -- The memory of a check.
-use Rattle.std.specs.Prelude.{◌≡◌, [], length}
+use Rattle.std.specs.Prelude.{◌≡◌, ◌≤◌, ℕ, [], length, slice_index, vec_capacity}
 use Rattle.page_layout.specs.declared.geometry.Geometry.{Geometry}
-use Rattle.image_check.specs.declared.checker.Room.{Room}
-use Rattle.image_check.specs.Surveyed.{IsSized}
+use Rattle.image_check.specs.declared.desk.Desk.{Desk}
 
--- nothing seen yet, and room for all of it
-pub record IsRoom (g : Geometry) (room : Room) : Type 0 where
-  pub survey : IsSized g 0 room.survey
-  pub passed : length room.passed.items ≡ g.sectors
-  pub body : length room.body.items ≡ g.data_bytes
-  pub spare : length room.spare.items ≡ g.spare_bytes
-  pub stale : room.stale.items ≡ []
+-- nothing written yet, and room for all of it
+pub record IsDesk (g : Geometry) (desk : Desk) : Type 0 where
+  pub table : length desk.table ≡ g.blocks
+  pub counts : length desk.counts.items ≡ g.blocks
+  pub zeros : (b : ℕ) → slice_index desk.counts.items b ≡ 0
+  pub states : desk.states.items ≡ []
+  pub room : g.blocks ≤ vec_capacity desk.states

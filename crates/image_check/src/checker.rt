@@ -1,29 +1,21 @@
 //! The exact checker: does this image hold one array of sectors, as this certificate says?
-ghost use Rattle.std.specs.Prelude.{◌≡◌, ◌≢◌, ◌⊎◌, ◌≤◌, ◌<◌, ◌+◌, ◌↔◌, true, ℕ, List, Option, IsTrue, Err, length, OnOk, IfOk, IfErr};
-ghost use Rattle.page_layout.specs.declared.record.Record.{Record};
+ghost use Rattle.std.specs.Prelude.{◌≡◌, ◌≢◌, ◌≤◌, ◌+◌, ◌↔◌, true, IsTrue, Err, length, OnOk, OnErr, IfOk, IfErr};
 ghost use Rattle.page_layout.specs.Counter.{HasRisen};
-ghost use Rattle.page_layout.specs.Page.{Image, IsImage};
-ghost use Rattle.page_layout.specs.Geometry.{row_count, translation_pages, table_pages};
+ghost use Rattle.page_layout.specs.Page.{IsImage};
+ghost use Rattle.page_layout.specs.Geometry.{row_count};
 ghost use Rattle.certificate.specs.Claim.{sizes_of};
 ghost use Rattle.image_check.specs.Accepted.{IsAcceptance};
 ghost use Rattle.image_check.specs.Agrees.{IsAsked, IsCertificateOf};
-ghost use Rattle.image_check.specs.Refused.{HoldBetween, FailsFrom, IsStop, IsRefusal};
-ghost use Rattle.image_check.specs.Rising.{IsRisingBelow};
-ghost use Rattle.image_check.specs.Room.{IsRoom};
-ghost use Rattle.image_check.specs.Stale.{stale_sectors};
-ghost use Rattle.image_check.specs.Survey.{HasPassed};
-ghost use Rattle.image_check.specs.Surveyed.{IsSurvey};
+ghost use Rattle.image_check.specs.Passed.{IsPass, IsSamePass, Shows};
+ghost use Rattle.image_check.specs.Refused.{IsRefusal};
 
 use crate::accepted::Accepted;
-use crate::judge::judge;
-use crate::pass::pass;
+use crate::pass::Pass;
 use crate::refusal::Refusal;
-use crate::stale::find_stale;
-use crate::survey::Survey;
 use certificate::Certificate;
 use page_layout::geometry::Geometry;
-use page_layout::source::PageSource;
-use std::alloc::{AllocError, Global};
+use page_layout::source::{PageSource, SourceFault};
+use std::alloc::Global;
 
 fn has_same_sizes(a: &Geometry, b: &Geometry) -> bool
     ensures { IsTrue result ↔ (sizes_of a.now ≡ sizes_of b.now) }
@@ -35,87 +27,44 @@ fn has_same_sizes(a: &Geometry, b: &Geometry) -> bool
         && a.sectors() == b.sectors()
 }
 
-// Whether the certificate is of the geometry and the capacity that are asked for.
-fn is_asked(geometry: &Geometry, capacity: u32, certificate: &Certificate) -> bool
+/// Whether the certificate is of the geometry and the capacity that are asked for.
+pub(crate) fn is_asked(geometry: &Geometry, capacity: u32, certificate: &Certificate) -> bool
     ensures asked { IsTrue result ↔ IsAsked geometry.now capacity certificate.now }
     ensures sized { result ≡ true → IsCertificateOf geometry.now certificate.now }
 {
     has_same_sizes(&certificate.geometry(), geometry) && certificate.capacity() == capacity
 }
 
-// What a check keeps of the pages, and the buffers that they are read into.
-#[derive(Drop)]
-struct Room {
-    survey: Survey,
-    // of each sector whether the row that the certificate has for it holds a sound page of it
-    passed: Vec<bool>,
-    body: Vec<u8>,
-    spare: Vec<u8>,
-    stale: Vec<u32>,
-}
-
-impl Room {
-    fn new(alloc: Global, geometry: &Geometry) -> Result<Room, AllocError>
-        ensures sized { IfOk result (IsRoom geometry.now) }
-        ensures survey { IfOk result (λ room. (image : Image) → IsSurvey geometry.now image 0 room.survey) }
-        ensures claims { IfOk result (λ room. (marks : List (Option Record)) (claims : List (Option ℕ)) → HasPassed marks 0 claims room.passed.items) }
-    {
-        Ok(Room {
-            survey: Survey::new(alloc, geometry)?,
-            passed: vec![in alloc; false; geometry.sectors() as usize]?,
-            body: vec![in alloc; 0; geometry.data_bytes()]?,
-            spare: vec![in alloc; 0; geometry.spare_bytes()]?,
-            stale: Vec::with_capacity(alloc, geometry.sectors() as usize)?,
-        })
-    }
-}
-
-// Shows the room all pages, judges all parts but the first and the last, and finds the stale sectors.
-fn examine<S: PageSource>(
-    alloc: Global,
+// Hands each page of a source to a pass, in row order.
+fn show_pages<S: PageSource>(
     source: &mut S,
     geometry: &Geometry,
-    certificate: &Certificate,
-    room: &mut Room,
-) -> Result<(), Refusal>
+    pass: &mut Pass<'_>,
+    body: &mut [u8],
+    spare: &mut [u8],
+) -> Result<(), SourceFault>
     requires same_geometry { (S.flash source.old).geometry ≡ geometry.now }
-    requires certificate { IsCertificateOf geometry.now certificate.now }
-    requires room { IsRoom geometry.now room.old }
-    requires survey { (image : Image) → IsSurvey geometry.now image 0 room.old.survey }
-    requires claims { (marks : List (Option Record)) (claims : List (Option ℕ)) → HasPassed marks 0 claims room.old.passed.items }
-    ensures ok { OnOk result (S.honest source.old ≡ true → (capacity : ℕ) → HoldBetween geometry.now capacity (S.flash source.old).image certificate.now 1 11) }
-    ensures stale { OnOk result (S.honest source.old ≡ true → room.new.stale.items ≡ stale_sectors geometry.now (S.flash source.old).image) }
-    ensures whole { OnOk result (S.honest source.old ≡ true → IsImage geometry.now (S.flash source.old).image) }
-    ensures rising { OnOk result (IsRisingBelow geometry.now.sectors room.new.stale.items) }
-    ensures err { IfErr result (λ refusal. S.honest source.old ≡ true → (capacity : ℕ) → IsStop refusal ⊎ FailsFrom geometry.now capacity (S.flash source.old).image certificate.now 1 refusal) }
-    ensures same { result ≢ Err Refusal.Source → S.honest source.old ≡ true → S.flash source.new ≡ S.flash source.old }
-    ensures read { result ≢ Err Refusal.GeometryDiffers }
+    requires pass { IsPass 0 pass.old }
+    requires pass_geometry { pass.old.survey.geometry ≡ geometry.now }
+    requires body_whole { length body.old ≡ geometry.now.data_bytes }
+    requires spare_whole { length spare.old ≡ geometry.now.spare_bytes }
+    ensures pass { OnOk result (IsPass (row_count geometry.now) pass.new) }
+    ensures same_pass { OnOk result (IsSamePass pass.old pass.new) }
+    ensures shows { OnOk result (S.honest source.old ≡ true → Shows (S.flash source.old).image 0 pass.old → Shows (S.flash source.old).image (row_count geometry.now) pass.new) }
+    ensures same { OnOk result (S.honest source.old ≡ true → S.flash source.new ≡ S.flash source.old) }
+    ensures whole { OnOk result (S.honest source.old ≡ true → IsImage geometry.now (S.flash source.new).image) }
     ensures geometry { (S.flash source.new).geometry ≡ (S.flash source.old).geometry }
     ensures honest { S.honest source.new ≡ S.honest source.old }
-    ensures reads { S.reads source.new ≤ S.reads source.old + (row_count geometry.now + translation_pages geometry.now) }
+    ensures reads { S.reads source.new ≤ S.reads source.old + row_count geometry.now }
     ensures programs { S.programs source.new ≡ S.programs source.old }
     ensures erases { S.erases source.new ≡ S.erases source.old }
     ensures failed { S.failed source.old ≤ S.failed source.new }
-    ensures rose { result ≡ Err Refusal.Source → HasRisen (S.failed source.old) (S.failed source.new) }
+    ensures rose { OnErr result (HasRisen (S.failed source.old) (S.failed source.new)) }
 {
-    pass(
-        source,
-        geometry,
-        certificate,
-        &mut room.survey,
-        &mut room.passed,
-        &mut room.body,
-        &mut room.spare,
-    )?;
-    judge(alloc, &mut room.survey, certificate, &room.passed)?;
-    find_stale(
-        source,
-        geometry,
-        &room.survey.newest,
-        &mut room.body,
-        &mut room.spare,
-        &mut room.stale,
-    )?;
+    for row in 0..geometry.rows() {
+        source.read_page(row, body, spare)?;
+        pass.page(row, body, spare);
+    }
     Ok(())
 }
 
@@ -125,11 +74,11 @@ fn examine<S: PageSource>(
 /// Where no page read fails and no growth is refused, the answer is `Ok` just where the certificate agrees with the
 /// image, and then has the stale sectors, rising. Any other answer names the first part that fails, and the lowest row,
 /// sector, page or block at which it does. `GeometryDiffers` is answered before any page is read or memory asked for.
-/// At most one read is made of each page, and one more of each newest translation page.
+/// All memory is taken before the first page, and each page is read once, in row order.
 ///
 /// # Errors
 /// `Source` where a page read failed, `OutOfMemory` where a growth was refused, and the refusals of `Refusal` but these
-/// where a part fails. (This project's rules.)
+/// and `WrongLength` where a part fails. (This project's rules.)
 pub fn check<'a, S: PageSource>(
     alloc: Global,
     source: &mut S,
@@ -146,10 +95,11 @@ pub fn check<'a, S: PageSource>(
     // Whatever the source does.
     ensures asked { (result ≡ Err Refusal.GeometryDiffers) ↔ (¬ IsAsked geometry.now capacity certificate.now) }
     ensures unread { result ≡ Err Refusal.GeometryDiffers → source.new ≡ source.old }
+    ensures memory { result ≡ Err Refusal.OutOfMemory → source.new ≡ source.old }
     ensures accepted { IfOk result (λ accepted. (accepted.claim ≡ certificate.now) × IsAsked geometry.now capacity certificate.now) }
     ensures geometry { (S.flash source.new).geometry ≡ (S.flash source.old).geometry }
     ensures honest { S.honest source.new ≡ S.honest source.old }
-    ensures reads { S.reads source.new ≤ S.reads source.old + (row_count geometry.now + (translation_pages geometry.now + table_pages geometry.now)) }
+    ensures reads { S.reads source.new ≤ S.reads source.old + row_count geometry.now }
     ensures programs { S.programs source.new ≡ S.programs source.old }
     ensures erases { S.erases source.new ≡ S.erases source.old }
     ensures failed { S.failed source.old ≤ S.failed source.new }
@@ -158,11 +108,9 @@ pub fn check<'a, S: PageSource>(
     if !is_asked(geometry, capacity, certificate) {
         return Err(Refusal::GeometryDiffers);
     }
-    let mut room = Room::new(alloc, geometry)?;
-    examine(alloc, source, geometry, certificate, &mut room)?;
-    if room.stale.len() > capacity as usize {
-        let stale = room.stale.len() as u32;
-        return Err(Refusal::TooStale { stale, capacity });
-    }
-    Ok(Accepted::new(certificate, room.stale))
+    let mut pass = Pass::new(alloc, geometry, certificate)?;
+    let mut body = vec![in alloc; 0; geometry.data_bytes()]?;
+    let mut spare = vec![in alloc; 0; geometry.spare_bytes()]?;
+    show_pages(source, geometry, &mut pass, &mut body, &mut spare)?;
+    pass.finish()
 }

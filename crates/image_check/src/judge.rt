@@ -9,33 +9,23 @@ ghost use Rattle.certificate.specs.Claim.{Claim};
 ghost use Rattle.certificate.specs.Spelling.{FitsBlock};
 ghost use Rattle.image_check.specs.Agrees.{IsCertificateOf};
 ghost use Rattle.image_check.specs.Blocks.{AreStates, IsTableOf};
+ghost use Rattle.image_check.specs.Room.{IsDesk};
 ghost use Rattle.image_check.specs.Survey.{HasPassed, pairs_below};
 ghost use Rattle.image_check.specs.Surveyed.{IsSized, Surveys, SurveysKeys};
 ghost use Rattle.image_check.specs.Refused.{HoldBetween, FailsFrom, IsMemory, IsJudgement, IsOfImage};
 
 use crate::blocks::{Aspect, check_blocks};
-use crate::live::live_counts;
+use crate::desk::Desk;
+use crate::live::count_live;
 use crate::parts::{check_claims, check_directory, check_next, check_numbers, check_sectors};
 use crate::refusal::Refusal;
 use crate::sequences::check_sequences;
 use crate::states::block_states;
 use crate::survey::Survey;
 use crate::tables::check_tables;
-use bad_blocks::{Class, Table, TableRow};
+use bad_blocks::Table;
 use certificate::{BlockState, Certificate};
-use std::alloc::{AllocError, Global};
-
-/// A table of as many blocks as the geometry has, for the newest table pages to be read into.
-pub(crate) fn blank_table(alloc: Global, blocks: u32) -> Result<Table, AllocError>
-    ensures { IfOk result (λ table. length table ≡ blocks) }
-{
-    let row = TableRow {
-        class: Class::Good,
-        wear: 0,
-    };
-    let rows = vec![in alloc; row; blocks as usize]?;
-    Table::new(alloc, &rows)
-}
+use std::alloc::Global;
 
 /// What the records of all pages and the newest table pages have to be, whatever a certificate says.
 pub(crate) fn judge_image(survey: &mut Survey, table: &mut Table) -> Result<(), Refusal>
@@ -46,6 +36,7 @@ pub(crate) fn judge_image(survey: &mut Survey, table: &mut Table) -> Result<(), 
     ensures rows { OnOk result ((image : Image) → Surveys survey.old.geometry image survey.old → IsTableOf survey.old.geometry image table.new) }
     ensures err { IfErr result (λ refusal. (capacity : ℕ) (image : Image) (claim : Claim) → Surveys survey.old.geometry image survey.old → FailsFrom survey.old.geometry capacity image claim 1 refusal) }
     ensures kind { IfErr result IsOfImage }
+    ensures named { IfErr result IsJudgement }
     ensures size { length table.new ≡ length table.old }
     ensures permutation { IsPermutation survey.old.pairs.items survey.new.pairs.items }
     ensures others { survey.new ≡ record survey.old { pairs = survey.new.pairs } }
@@ -87,9 +78,29 @@ fn judge_blocks(states: &[BlockState], certificate: &Certificate) -> Result<(), 
     Ok(())
 }
 
+// The state of each block, onto the desk, once what an image has to be whatever a certificate says of it was looked at.
+fn describe(survey: &mut Survey, desk: &mut Desk) -> Result<(), Refusal>
+    requires sized { IsSized survey.old.geometry (row_count survey.old.geometry) survey.old }
+    requires desk { IsDesk survey.old.geometry desk.old }
+    ensures ok { OnOk result ((capacity : ℕ) (image : Image) (claim : Claim) → Surveys survey.old.geometry image survey.old → HoldBetween survey.old.geometry capacity image claim 1 4) }
+    ensures states { OnOk result ((image : Image) → Surveys survey.old.geometry image survey.old → AreStates survey.old.geometry image desk.new.states.items) }
+    ensures size { OnOk result (length desk.new.states.items ≡ survey.old.geometry.blocks) }
+    ensures fits { OnOk result (All FitsBlock desk.new.states.items) }
+    ensures err { IfErr result (λ refusal. (capacity : ℕ) (image : Image) (claim : Claim) → Surveys survey.old.geometry image survey.old → FailsFrom survey.old.geometry capacity image claim 1 refusal) }
+    ensures kind { IfErr result IsOfImage }
+    ensures named { IfErr result IsJudgement }
+    ensures permutation { IsPermutation survey.old.pairs.items survey.new.pairs.items }
+    ensures others { survey.new ≡ record survey.old { pairs = survey.new.pairs } }
+{
+    judge_image(survey, &mut desk.table)?;
+    count_live(&survey.geometry, &survey.newest, &mut desk.counts);
+    block_states(&survey.looks, &desk.table, &desk.counts, &mut desk.states);
+    Ok(())
+}
+
 /// The state of each block of a die whose pages a survey has seen, once what an image has to be whatever a certificate
 /// says of it was looked at: every number is in range, no two sound pages share a sequence, and each table page has a
-/// newest page, which is well formed. Sorts the survey's pairs, and leaves the rest of it.
+/// newest page, which is well formed. Takes its memory first, sorts the survey's pairs, and leaves the rest of it.
 ///
 /// # Errors
 /// `NumberRange`, `SequenceRepeated`, `NotFormatted` and `TableDamaged`, the first of this order that is so, at the lowest
@@ -105,31 +116,29 @@ pub fn describe_blocks(alloc: Global, survey: &mut Survey) -> Result<Vec<BlockSt
     ensures permutation { IsPermutation survey.old.pairs.items survey.new.pairs.items }
     ensures others { survey.new ≡ record survey.old { pairs = survey.new.pairs } }
 {
-    let mut table = blank_table(alloc, survey.geometry.blocks())?;
-    judge_image(survey, &mut table)?;
-    let counts = live_counts(alloc, &survey.geometry, &survey.newest)?;
-    let states = block_states(alloc, &survey.looks, &table, &counts)?;
-    Ok(states)
+    let mut desk = Desk::new(alloc, &survey.geometry)?;
+    describe(survey, &mut desk)?;
+    Ok(desk.states)
 }
 
 /// Looks at the parts from the second to the last but one in order, and names the first that fails.
 pub(crate) fn judge(
-    alloc: Global,
     survey: &mut Survey,
     certificate: &Certificate,
     passed: &[bool],
+    desk: &mut Desk,
 ) -> Result<(), Refusal>
     requires sized { IsSized survey.old.geometry (row_count survey.old.geometry) survey.old }
     requires certificate { IsCertificateOf survey.old.geometry certificate.now }
     requires passed { length passed.now ≡ survey.old.geometry.sectors }
+    requires desk { IsDesk survey.old.geometry desk.old }
     ensures ok { OnOk result ((capacity : ℕ) (image : Image) → Surveys survey.old.geometry image survey.old → HasPassed (marks image) (row_count survey.old.geometry) certificate.now.sectors passed.now → HoldBetween survey.old.geometry capacity image certificate.now 1 11) }
-    ensures err { IfErr result (λ refusal. (capacity : ℕ) (image : Image) → Surveys survey.old.geometry image survey.old → HasPassed (marks image) (row_count survey.old.geometry) certificate.now.sectors passed.now → IsMemory refusal ⊎ FailsFrom survey.old.geometry capacity image certificate.now 1 refusal) }
+    ensures err { IfErr result (λ refusal. (capacity : ℕ) (image : Image) → Surveys survey.old.geometry image survey.old → HasPassed (marks image) (row_count survey.old.geometry) certificate.now.sectors passed.now → FailsFrom survey.old.geometry capacity image certificate.now 1 refusal) }
     ensures named { IfErr result IsJudgement }
-    ensures others { survey.new ≡ record survey.old { pairs = survey.new.pairs } }
 {
-    let states = describe_blocks(alloc, survey)?;
+    describe(survey, desk)?;
     judge_rows(survey, certificate, passed)?;
-    judge_blocks(&states, certificate)?;
+    judge_blocks(&desk.states, certificate)?;
     check_next(&survey.pairs, certificate)?;
     Ok(())
 }

@@ -5,10 +5,13 @@
 mod accepted;
 mod blocks;
 mod checker;
+mod desk;
 mod judge;
+mod kept;
 pub mod laws;
 mod live;
 mod look;
+mod noted;
 mod notes;
 mod parts;
 mod pass;
@@ -17,6 +20,7 @@ mod scan;
 mod sequences;
 mod stale;
 mod states;
+mod stream;
 mod survey;
 mod tables;
 
@@ -26,4 +30,5 @@ pub use judge::describe_blocks;
 pub use refusal::Refusal;
 pub use scan::{SectorFault, sector, sector_in};
 pub use stale::find_stale;
+pub use stream::check_stream;
 pub use survey::Survey;

@@ -1,5 +1,5 @@
 //! How many keys have their newest page in each block.
-ghost use Rattle.std.specs.Prelude.{◌≡◌, ℕ, ◌+◌, ◌<◌, ◌^◌, length, count_by, slice_index, IfOk};
+ghost use Rattle.std.specs.Prelude.{◌≡◌, ℕ, ◌+◌, ◌<◌, ◌^◌, length, count_by, slice_index};
 ghost use Rattle.page_layout.specs.Greatest.{place_of};
 ghost use Rattle.page_layout.specs.Geometry.{key_count};
 ghost use Rattle.page_layout.specs.Page.{Image};
@@ -9,7 +9,6 @@ ghost use Rattle.page_layout.specs.Live.{is_in_block};
 
 use page_layout::geometry::Geometry;
 use page_layout::newest::Latest;
-use std::alloc::{AllocError, Global};
 
 // Counts, for each block, the newest pages in it.
 fn count_rows(newest: &[Latest], pages: u32, counts: &mut [u32])
@@ -28,17 +27,12 @@ fn count_rows(newest: &[Latest], pages: u32, counts: &mut [u32])
     }
 }
 
-/// How many keys have their newest page in each block.
-pub(crate) fn live_counts(
-    alloc: Global,
-    geometry: &Geometry,
-    newest: &[Latest],
-) -> Result<Vec<u32>, AllocError>
-    requires { length newest.now ≡ key_count geometry.now }
-    ensures size { IfOk result (λ counts. length counts.items ≡ geometry.now.blocks) }
-    ensures counts { IfOk result (λ counts. (image : Image) → SurveysKeys geometry.now image newest.now → AreLiveCounts geometry.now image counts.items) }
+/// Counts, for each block, how many keys have their newest page in it.
+pub(crate) fn count_live(geometry: &Geometry, newest: &[Latest], counts: &mut [u32])
+    requires newest { length newest.now ≡ key_count geometry.now }
+    requires size { length counts.old ≡ geometry.now.blocks }
+    requires zeros { (b : ℕ) → slice_index counts.old b ≡ 0 }
+    ensures { (image : Image) → SurveysKeys geometry.now image newest.now → AreLiveCounts geometry.now image counts.new }
 {
-    let mut counts = vec![in alloc; 0; geometry.blocks() as usize]?;
-    count_rows(newest, geometry.pages(), &mut counts);
-    Ok(counts)
+    count_rows(newest, geometry.pages(), counts);
 }

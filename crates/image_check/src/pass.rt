@@ -1,51 +1,112 @@
-//! One pass over the pages of a source.
-ghost use Rattle.std.specs.Prelude.{◌≡◌, ◌≤◌, ◌<◌, ◌+◌, true, length, OnOk, OnErr};
-ghost use Rattle.page_layout.specs.Array.{marks};
-ghost use Rattle.page_layout.specs.Counter.{HasRisen};
+//! One pass over the pages of an image, and what it comes to.
+ghost use Rattle.std.specs.Prelude.{◌≡◌, ℕ, ◌+◌, ◌<◌, length, slice_get, Some, IfOk, IfErr};
 ghost use Rattle.page_layout.specs.Geometry.{row_count};
-ghost use Rattle.page_layout.specs.Page.{IsImage};
-ghost use Rattle.image_check.specs.Survey.{HasPassed};
-ghost use Rattle.image_check.specs.Surveyed.{IsSized, IsSurvey};
+ghost use Rattle.page_layout.specs.Page.{Image, page};
+ghost use Rattle.image_check.specs.Accepted.{IsAcceptance};
+ghost use Rattle.image_check.specs.Agrees.{IsAsked, IsCertificateOf};
+ghost use Rattle.image_check.specs.Passed.{IsPass, IsSamePass, Shows};
+ghost use Rattle.image_check.specs.Refused.{IsFirstWrong, IsJudgement};
 
+use crate::accepted::Accepted;
+use crate::desk::Desk;
+use crate::judge::judge;
+use crate::kept::Noted;
+use crate::noted::{note_absent, note_entries};
 use crate::notes::note_claim;
+use crate::refusal::Refusal;
 use crate::survey::Survey;
 use certificate::Certificate;
 use page_layout::geometry::Geometry;
-use page_layout::source::{PageSource, SourceFault};
+use std::alloc::{AllocError, Global};
 
-// Shows the survey each page in row order, and notes which claims of the certificate pass.
-#[tactic(auto, using(crate::proofs::PassLemmas::seen, crate::proofs::PassLemmas::claim_seen))]
-pub(crate) fn pass<S: PageSource>(
-    source: &mut S,
-    geometry: &Geometry,
-    certificate: &Certificate,
-    survey: &mut Survey,
-    passed: &mut [bool],
-    body: &mut [u8],
-    spare: &mut [u8],
-) -> Result<(), SourceFault>
-    requires same_geometry { (S.flash source.old).geometry ≡ geometry.now }
-    requires sized { IsSized geometry.now 0 survey.old }
-    requires passed_whole { length passed.old ≡ length certificate.now.sectors }
-    requires body_whole { length body.old ≡ geometry.now.data_bytes }
-    requires spare_whole { length spare.old ≡ geometry.now.spare_bytes }
-    ensures sized { OnOk result (IsSized geometry.now (row_count geometry.now) survey.new) }
-    ensures survey { OnOk result (S.honest source.old ≡ true → IsSurvey geometry.now (S.flash source.old).image 0 survey.old → IsSurvey geometry.now (S.flash source.old).image (row_count geometry.now) survey.new) }
-    ensures claims { OnOk result (S.honest source.old ≡ true → HasPassed (marks (S.flash source.old).image) 0 certificate.now.sectors passed.old → HasPassed (marks (S.flash source.old).image) (row_count geometry.now) certificate.now.sectors passed.new) }
-    ensures same { OnOk result (S.honest source.old ≡ true → S.flash source.new ≡ S.flash source.old) }
-    ensures whole { OnOk result (S.honest source.old ≡ true → IsImage geometry.now (S.flash source.new).image) }
-    ensures geometry { (S.flash source.new).geometry ≡ (S.flash source.old).geometry }
-    ensures honest { S.honest source.new ≡ S.honest source.old }
-    ensures reads { S.reads source.new ≤ S.reads source.old + row_count geometry.now }
-    ensures programs { S.programs source.new ≡ S.programs source.old }
-    ensures erases { S.erases source.new ≡ S.erases source.old }
-    ensures failed { S.failed source.old ≤ S.failed source.new }
-    ensures rose { OnErr result (HasRisen (S.failed source.old) (S.failed source.new)) }
-{
-    for row in 0..geometry.rows() {
-        source.read_page(row, body, spare)?;
-        let found = survey.see(row, body, spare);
-        note_claim(certificate, passed, row, found);
+/// A pass over the pages of an image, which is handed each page once, in row order, and holds a certificate against them.
+#[derive(Drop)]
+pub(crate) struct Pass<'a> {
+    pub(crate) certificate: &'a Certificate,
+    pub(crate) survey: Survey,
+    // of each sector whether the row that the certificate has for it holds a sound page of it
+    pub(crate) passed: Vec<bool>,
+    pub(crate) noted: Noted,
+    pub(crate) desk: Desk,
+}
+
+impl<'a> Pass<'a> {
+    /// No page yet. All the memory of the pass is taken here. `AllocError` where there is none.
+    pub(crate) fn new(
+        alloc: Global,
+        geometry: &Geometry,
+        certificate: &'a Certificate,
+    ) -> Result<Pass<'a>, AllocError>
+        requires asked { IsAsked geometry.now certificate.now.capacity certificate.now }
+        requires certificate { IsCertificateOf geometry.now certificate.now }
+        ensures pass { IfOk result (IsPass 0) }
+        ensures shows { IfOk result (λ pass. (image : Image) → Shows image 0 pass) }
+        ensures geometry { IfOk result (λ pass. pass.survey.geometry ≡ geometry.now) }
+        ensures claim { IfOk result (λ pass. pass.certificate.now ≡ certificate.now) }
+    {
+        let survey = Survey::new(alloc, geometry)?;
+        let passed = vec![in alloc; false; geometry.sectors() as usize]?;
+        let mut noted = Noted::new(alloc, certificate.capacity())?;
+        let desk = Desk::new(alloc, geometry)?;
+        note_absent(geometry, certificate, &mut noted);
+        Ok(Pass {
+            certificate,
+            survey,
+            passed,
+            noted,
+            desk,
+        })
     }
-    Ok(())
+
+    /// The next page passes.
+    pub(crate) fn page(&mut self, row: u32, body: &[u8], spare: &[u8])
+        requires pass { IsPass row self.old }
+        requires row_in { row < row_count self.old.survey.geometry }
+        requires body_whole { length body.now ≡ self.old.survey.geometry.data_bytes }
+        requires spare_whole { length spare.now ≡ self.old.survey.geometry.spare_bytes }
+        ensures pass { IsPass (row + 1) self.new }
+        ensures shows { (image : Image) → Shows image row self.old → slice_get image row ≡ Some (page body.now spare.now) → Shows image (row + 1) self.new }
+        ensures same { IsSamePass self.old self.new }
+    {
+        let geometry = self.survey.geometry;
+        let found = self.survey.see(row, body, spare);
+        note_claim(self.certificate, &mut self.passed, row, found);
+        note_entries(
+            &geometry,
+            self.certificate,
+            row,
+            found,
+            body,
+            &mut self.noted,
+        );
+    }
+
+    /// What the pages come to, all of which have passed: the parts of the agreement in order, the stale sectors last.
+    ///
+    /// # Errors
+    /// The first part that fails, at its lowest place.
+    pub(crate) fn finish(self) -> Result<Accepted<'a>, Refusal>
+        requires { IsPass (row_count self.survey.geometry) self }
+        ensures ok { IfOk result (λ accepted. (image : Image) → length image ≡ row_count self.entry.survey.geometry → Shows image (row_count self.entry.survey.geometry) self.entry → IsAcceptance self.entry.survey.geometry self.entry.certificate.now.capacity image self.entry.certificate.now accepted) }
+        ensures err { IfErr result (λ refusal. (image : Image) → length image ≡ row_count self.entry.survey.geometry → Shows image (row_count self.entry.survey.geometry) self.entry → IsFirstWrong self.entry.survey.geometry self.entry.certificate.now.capacity image self.entry.certificate.now refusal) }
+        ensures named { IfErr result IsJudgement }
+        ensures claim { IfOk result (λ accepted. accepted.claim ≡ self.entry.certificate.now) }
+    {
+        let Pass {
+            certificate,
+            mut survey,
+            passed,
+            noted,
+            mut desk,
+        } = self;
+        judge(&mut survey, certificate, &passed, &mut desk)?;
+        let capacity = certificate.capacity();
+        let stale = noted.count;
+        if stale > capacity {
+            return Err(Refusal::TooStale { stale, capacity });
+        }
+        let mut sectors = noted.kept;
+        sectors.sort_unstable();
+        Ok(Accepted::new(certificate, sectors))
+    }
 }

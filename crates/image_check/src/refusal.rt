@@ -42,6 +42,8 @@ pub enum Refusal {
     Source,
     /// A growth was refused. It is answered when it happens.
     OutOfMemory,
+    /// A reader's bytes ended before the image's last page, or a byte follows it. It is answered when it happens.
+    WrongLength,
 }
 
 impl From<AllocError> for Refusal {
@@ -87,6 +89,7 @@ impl fmt::Display for Refusal {
             Refusal::TableDamaged { .. } => "TableDamaged",
             Refusal::Source => "Source",
             Refusal::OutOfMemory => "OutOfMemory",
+            Refusal::WrongLength => "WrongLength",
         })
     }
 }

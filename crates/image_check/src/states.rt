@@ -1,5 +1,5 @@
 //! The state of each block, by what its pages showed and what the table says of it.
-ghost use Rattle.std.specs.Prelude.{◌≡◌, true, false, ℕ, ◌<◌, ◌^◌, max, if◌then◌else◌, All, length, IfOk};
+ghost use Rattle.std.specs.Prelude.{◌≡◌, true, false, ℕ, ◌<◌, ◌≤◌, ◌^◌, max, if◌then◌else◌, [], All, length, vec_capacity};
 ghost use Rattle.page_layout.specs.declared.geometry.Geometry.{Geometry};
 ghost use Rattle.page_layout.specs.Geometry.{row_count};
 ghost use Rattle.page_layout.specs.Page.{Image};
@@ -13,7 +13,6 @@ ghost use Rattle.image_check.specs.Survey.{HasLooks, AreLiveCounts};
 use crate::look::Look;
 use bad_blocks::{Class, Table};
 use certificate::BlockState;
-use std::alloc::{AllocError, Global};
 
 const MOST_WEAR: u32 = 16_777_215;
 
@@ -115,28 +114,29 @@ fn tops_of(looks: &[Look], table: &Table) -> Tops
     tops
 }
 
-/// The states of all blocks, of which `counts` holds how many newest pages lie in each.
+/// Puts the states of all blocks, of which `counts` holds how many newest pages lie in each, into `states`, which is empty
+/// and has room for them.
 pub(crate) fn block_states(
-    alloc: Global,
     looks: &[Look],
     table: &Table,
     counts: &[u32],
-) -> Result<Vec<BlockState>, AllocError>
+    states: &mut Vec<BlockState>,
+)
     requires few { length looks.now < 2 ^ 32 }
     requires size { length table.now ≡ length looks.now }
     requires counts { length counts.now ≡ length looks.now }
-    ensures size { IfOk result (λ states. length states.items ≡ length looks.now) }
-    ensures fits { IfOk result (λ states. All FitsBlock states.items) }
-    ensures states { IfOk result (λ states. (g : Geometry) (image : Image) → AreInRange g (marks image) → HasLooks g image (row_count g) looks.now → IsTableOf g image table.now → AreLiveCounts g image counts.now → AreStates g image states.items) }
+    requires empty { states.old.items ≡ [] }
+    requires room { length looks.now ≤ vec_capacity states.old }
+    ensures size { length states.new.items ≡ length looks.now }
+    ensures fits { All FitsBlock states.new.items }
+    ensures states { (g : Geometry) (image : Image) → AreInRange g (marks image) → HasLooks g image (row_count g) looks.now → IsTableOf g image table.now → AreLiveCounts g image counts.now → AreStates g image states.new.items }
 {
     let tops = tops_of(looks, table);
-    let mut states = Vec::with_capacity(alloc, looks.len())?;
     for block in 0..looks.len() as u32 {
         let look = looks[block as usize];
         let class = table.class(block);
         let wear = table.wear(block);
         let top = tops.of(look.of_data);
-        states.push(state_of(class, wear, look, top, counts[block as usize]))?;
+        states.push_reserved(state_of(class, wear, look, top, counts[block as usize]));
     }
-    Ok(states)
 }

@@ -47,6 +47,7 @@ shows g capacity image c (refusals.BlockState b) part kind is said = absurd kind
 shows g capacity image c (refusals.LiveWrong b) part kind is said = absurd kind
 shows g capacity image c (refusals.WearWrong b) part kind is said = absurd kind
 shows g capacity image c refusals.Source part kind is said = absurd kind
+shows g capacity image c refusals.WrongLength part kind is said = absurd kind
 
 -- a certificate that says nothing
 abbrev pub no_claim : Geometry → Claim
@@ -92,6 +93,7 @@ of_mounting (refusals.BadSetWrong b) kind = absurd kind
 of_mounting (refusals.BlockState b) kind = absurd kind
 of_mounting (refusals.LiveWrong b) kind = absurd kind
 of_mounting (refusals.WearWrong b) kind = absurd kind
+of_mounting refusals.WrongLength kind = absurd kind
 
 pub stop_of_mounting : (r : Refusal) → IsStop r → IsOfMounting r
 stop_of_mounting r (inl source) = subst IsOfMounting (sym source) tt

@@ -2,7 +2,7 @@
 use Rattle.std.specs.Prelude.{Bool, not, is_some, if◌then◌else◌}
 use Rattle.page_layout.specs.Page.{Page}
 use Rattle.page_layout.specs.Sound.{record_of, is_erased_page}
-use Rattle.bad_blocks.specs.Marks.{has_zero}
+use Rattle.page_layout.specs.Bytes.{has_zero}
 use Rattle.mount.specs.declared.format_survey.Look.{Look}
 
 abbrev pub look_of : Page → Look

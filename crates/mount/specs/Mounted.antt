@@ -52,6 +52,7 @@ Shows g capacity image (refusals.LiveWrong b) = ⊥
 Shows g capacity image (refusals.WearWrong b) = ⊥
 Shows g capacity image refusals.Source = ⊥
 Shows g capacity image refusals.OutOfMemory = ⊥
+Shows g capacity image refusals.WrongLength = ⊥
 
 -- no certificate agrees with the image, and the refusal says why
 pub record IsUnmountable (g : Geometry) (capacity : ℕ) (image : Image) (r : Refusal) : Type 0 where
@@ -80,3 +81,4 @@ IsOfMounting (refusals.BadSetWrong b) = ⊥
 IsOfMounting (refusals.BlockState b) = ⊥
 IsOfMounting (refusals.LiveWrong b) = ⊥
 IsOfMounting (refusals.WearWrong b) = ⊥
+IsOfMounting refusals.WrongLength = ⊥

@@ -11,8 +11,9 @@ ghost use Rattle.mount.specs.Formatted.{class_after, table_after};
 ghost use Rattle.mount.specs.Look.{look_of, is_look_used};
 
 use crate::format_fault::FormatFault;
-use bad_blocks::{Class, has_zero};
+use bad_blocks::Class;
 use page_layout::geometry::Geometry;
+use page_layout::lanes::has_zero;
 use page_layout::record::{is_erased, read_record};
 use page_layout::source::{PageSource, SourceFault};
 

@@ -2,10 +2,11 @@
 use Rattle.std.proofs.Common.{◌≡◌, ◌⊎◌, inl, inr, ℕ, zero, suc, ◌+◌, ◌*◌, ◌<◌, ◌≤◌, ◌==◌, Bool, true, false, not, ◌&&◌, List, [], ◌∷◌, ◌++◌, take, drop, length, refl, sym, ◌∙◌, ap, subst, arith, get_or, if◌then◌else◌, nat_lt, Ok, Err, length-drop, length-append, append_assoc, None, Some, Option}
 use Rattle.std.specs.Prelude.{is_some}
 use Rattle.std.proofs.lemmas.List.{get_or-set_same, length-map, length-take-le, length-replicate, get_or-take, get_or-drop, drop-drop}
+use Rattle.std.proofs.lemmas.Option.{slice_get-get_or}
 use Rattle.std.proofs.lemmas.Bool.{ltb-true, le-leb, cases_Bool, and_left}
 use Rattle.page_layout.specs.declared.geometry.Geometry.{Geometry}
 use Rattle.page_layout.specs.Geometry.{row_count, page_bytes}
-use Rattle.page_layout.specs.Page.{Page}
+use Rattle.page_layout.specs.Page.{Page, IsPage}
 use Rattle.page_layout.specs.Raw.{IsRaw}
 use Rattle.page_layout.specs.Sound.{record_of}
 use Rattle.page_layout.specs.Change.{erased_page}
@@ -83,15 +84,21 @@ failed_page g old true page left u = elim (lt_cases (length left)) [
   | inr e ↦ inl (ap (λ b. if b then page_of g left else old) e)
 ]
 
-lawful_program : (d : DieValue) (row : ℕ) (page : Page) → row < length d.state.flash.image → IsPageLeft d.state.flash.geometry (left_by (fault_next d))
+-- a page of a die that is whole
+page_sized : (f : Flash) (g : Geometry) (row : ℕ) → IsWhole f → f.geometry ≡ g → row < row_count g → IsPage g (page_at f row)
+page_sized f g row w same lt = subst (λ h. IsPage h (page_at f row)) same
+    (w.image_whole.pages row (page_at f row) (slice_get-get_or f.image row no_page (subst (λ n. row < n) (sym w.image_whole.rows) (subst (λ h. row < row_count h) (sym same) lt))))
+
+lawful_program : (d : DieValue) (row : ℕ) (page : Page) → row < length d.state.flash.image → IsPage d.state.flash.geometry (program_left d row page) → IsPageLeft d.state.flash.geometry (left_by (fault_next d))
     → IsLawfulProgram d.state.flash row page (program_passes d row) (program_left d row page)
-lawful_program d row page lt left =
+lawful_program d row page lt sized left =
     let f : Flash = d.state.flash in
     let may : Bool = may_program f row in
     let was : Page = page_at f row in
     let bytes : List ℕ = left_by (fault_next d) in
     record {
       in_range = lt;
+      sized = sized;
       due = λ p. and_true may (not (is_some (fault_next d))) p;
       kept = λ p. ap (λ b. left_page f.geometry was may b page bytes) p;
       failed = λ p. subst (λ x. (x ≡ was) ⊎ (record_of x ≡ None)) (sym (ap (λ b. left_page f.geometry was may b page bytes) p)) (failed_page f.geometry was may page bytes left);
@@ -111,11 +118,12 @@ acts_programs d e row page x is lt w v same fair =
     let inside : row < length f.image = subst (λ n. row < n) (sym w.image_whole.rows) lt in
     let flash : e.state.flash ≡ after f (Program row page P L) = ap (λ (u : DieValue). u.state.flash) is in
     let left : L ≡ page_at e.state.flash row = page_left_at f row page P L inside ∙ ap (λ g. page_at g row) (sym flash) in
+    let sized : IsPage f.geometry L = subst (IsPage f.geometry) (sym left) (page_sized e.state.flash f.geometry row v same lt) in
     record {
       does = is;
       follows = record {
         passed = P;
-        step = subst (λ l. Steps f (Program row page P l) e.state.flash) left (record { lawful = lawful_program d row page inside fair; left = flash });
+        step = subst (λ l. Steps f (Program row page P l) e.state.flash) left (record { lawful = lawful_program d row page inside sized fair; left = flash });
         phase = ap (λ (u : DieValue). u.state.phase) is;
         status = ap (λ (u : DieValue). u.state.status) is;
       };
@@ -161,8 +169,9 @@ page_in_block : (ps : List Page) (a b k : ℕ) → k < b → get_or (take b (dro
 page_in_block ps a b k lt = get_or-take b (drop a ps) k no_page lt ∙ get_or-drop a ps k no_page
 
 lawful_erase : (d : DieValue) (block : ℕ) → IsWhole d.state.flash → block < d.state.flash.geometry.blocks → IsPageLeft d.state.flash.geometry (left_by (fault_next d))
+    → ((k : ℕ) → k < d.state.flash.geometry.pages → IsPage d.state.flash.geometry (get_or (erase_left d block) k no_page))
     → IsLawfulErase d.state.flash block (erase_passes d block) (erase_left d block)
-lawful_erase d block w lt left =
+lawful_erase d block w lt left sized =
     let f : Flash = d.state.flash in
     let g : Geometry = f.geometry in
     let may : Bool = may_erase f block in
@@ -173,6 +182,7 @@ lawful_erase d block w lt left =
       in_image = subst (λ n. block * g.pages + g.pages ≤ n) (sym w.image_whole.rows) (block_within g block lt);
       due = λ p. and_true may (not (is_some (fault_next d))) p;
       size = length_left g was may (erase_passes d block) bytes (length_block g f.image block lt w.image_whole.rows) (omega (arith, g.limits.page_count.least));
+      sized = sized;
       erased = λ p. ap (λ b. left_block g was may b bytes) p;
       failed = λ p k h. subst (λ b. (get_or (left_block g was may b bytes) k no_page ≡ page_at f (block * g.pages + k)) ⊎ (record_of (get_or (left_block g was may b bytes) k no_page) ≡ None)) (sym p)
           (subst (λ q. (get_or (left_block g was may false bytes) k no_page ≡ q) ⊎ (record_of (get_or (left_block g was may false bytes) k no_page) ≡ None)) (page_in_block f.image (block * g.pages) g.pages k h)
@@ -190,10 +200,17 @@ acts_erases d e block x is lt w v same fair =
     let f : Flash = d.state.flash in
     let P : Bool = erase_passes d block in
     let L : List Page = erase_left d block in
-    let law : IsLawfulErase f block P L = lawful_erase d block w lt fair in
+    let size : length L ≡ f.geometry.pages = length_left f.geometry (block_at f block) (may_erase f block) P (left_by (fault_next d)) (length_block f.geometry f.image block lt w.image_whole.rows) (omega (arith, f.geometry.limits.page_count.least)) in
     let flash : e.state.flash ≡ after f (Erase block P L) = ap (λ (u : DieValue). u.state.flash) is in
-    let le : block * f.geometry.pages ≤ length f.image = omega (arith, law.in_image) in
-    let left : L ≡ block_at e.state.flash block = block_left_at f block P L law.size le ∙ ap (λ g. block_at g block) (sym flash) in
+    let within : block * f.geometry.pages + f.geometry.pages ≤ row_count f.geometry = block_within f.geometry block lt in
+    let le : block * f.geometry.pages ≤ length f.image = omega (arith, within, w.image_whole.rows) in
+    let left : L ≡ block_at e.state.flash block = block_left_at f block P L size le ∙ ap (λ g. block_at g block) (sym flash) in
+    let pages : e.state.flash.geometry.pages ≡ f.geometry.pages = ap (λ (g : Geometry). g.pages) same in
+    let sized : (k : ℕ) → k < f.geometry.pages → IsPage f.geometry (get_or L k no_page) = λ k small.
+    let at : get_or L k no_page ≡ page_at e.state.flash (block * f.geometry.pages + k) =
+    ap (λ xs. get_or xs k no_page) left ∙ (ap (λ n. get_or (take n (drop (block * n) e.state.flash.image)) k no_page) pages ∙ page_in_block e.state.flash.image (block * f.geometry.pages) f.geometry.pages k small) in
+    subst (IsPage f.geometry) (sym at) (page_sized e.state.flash f.geometry (block * f.geometry.pages + k) v same (omega (arith, small, within))) in
+    let law : IsLawfulErase f block P L = lawful_erase d block w lt fair sized in
     record {
       does = is;
       follows = record {
@@ -208,95 +225,95 @@ acts_erases d e block x is lt w v same fair =
     }
 
 -- the value after a program or an erase
-abbrev pub done : DieValue → Flash → Bool → ℕ → DieValue
-done d flash passed asked = record { state = record { flash = flash; phase = Ready NoOutput; status = status_of passed }; faults = d.faults; asked = asked }
+abbrev pub done : DieValue → Flash → Bool → ℕ → ℕ → DieValue
+done d flash passed asked changes = record { state = record { flash = flash; phase = Ready NoOutput; status = status_of passed }; faults = d.faults; asked = asked; changes = changes }
 
-done_as : (d : DieValue) (f g : Flash) (p q : Bool) (a b : ℕ) → f ≡ g → p ≡ q → a ≡ b → done d f p a ≡ done d g q b
-done_as d f g p q a b e1 e2 e3 = ap (λ u. done d u p a) e1 ∙ (ap (λ u. done d g u a) e2 ∙ ap (λ u. done d g q u) e3)
+done_as : (d : DieValue) (f g : Flash) (p q : Bool) (a b m n : ℕ) → f ≡ g → p ≡ q → a ≡ b → m ≡ n → done d f p a m ≡ done d g q b n
+done_as d f g p q a b m n e1 e2 e3 e4 = ap (λ u. done d u p a m) e1 ∙ (ap (λ u. done d g u a m) e2 ∙ (ap (λ u. done d g q u m) e3 ∙ ap (λ u. done d g q b u) e4))
 
-programs_as : (d : DieValue) (flash : Flash) (row : ℕ) (page : Page) (legal passed comes : Bool) (left : List ℕ) (asked : ℕ)
+programs_as : (d : DieValue) (flash : Flash) (row : ℕ) (page : Page) (legal passed comes : Bool) (left : List ℕ) (asked changes : ℕ)
     → legal ≡ may_program d.state.flash row → passed ≡ (legal && not comes) → comes ≡ is_some (fault_next d) → left ≡ left_by (fault_next d)
-    → flash ≡ after d.state.flash (Program row page passed (left_page d.state.flash.geometry (page_at d.state.flash row) legal passed page left)) → asked ≡ counted d.asked
-    → done d flash passed asked ≡ answered (Programs row page) d
-programs_as d flash row page legal passed comes left asked is_legal is_passed is_struck is_left is_flash is_asked =
+    → flash ≡ after d.state.flash (Program row page passed (left_page d.state.flash.geometry (page_at d.state.flash row) legal passed page left)) → asked ≡ counted d.asked → changes ≡ counted d.changes
+    → done d flash passed asked changes ≡ answered (Programs row page) d
+programs_as d flash row page legal passed comes left asked changes is_legal is_passed is_struck is_left is_flash is_asked is_changes =
     let f : Flash = d.state.flash in
     let was : Page = page_at f row in
     let may : Bool = may_program f row in
     let p : passed ≡ program_passes d row = is_passed ∙ (ap (λ b. b && not comes) is_legal ∙ ap (λ b. may && not b) is_struck) in
     let l : left_page f.geometry was legal passed page left ≡ program_left d row page
     = ap (λ b. left_page f.geometry was b passed page left) is_legal ∙ (ap (λ b. left_page f.geometry was may b page left) p ∙ ap (λ xs. left_page f.geometry was may (program_passes d row) page xs) is_left) in
-    done_as d _ _ _ _ _ _ (is_flash ∙ (ap (λ b. after f (Program row page b (left_page f.geometry was legal passed page left))) p ∙ ap (λ m. after f (Program row page (program_passes d row) m)) l)) p is_asked
+    done_as d _ _ _ _ _ _ _ _ (is_flash ∙ (ap (λ b. after f (Program row page b (left_page f.geometry was legal passed page left))) p ∙ ap (λ m. after f (Program row page (program_passes d row) m)) l)) p is_asked is_changes
 
-erases_as : (d : DieValue) (flash : Flash) (block : ℕ) (legal passed comes : Bool) (left : List ℕ) (asked : ℕ)
+erases_as : (d : DieValue) (flash : Flash) (block : ℕ) (legal passed comes : Bool) (left : List ℕ) (asked changes : ℕ)
     → legal ≡ may_erase d.state.flash block → passed ≡ (legal && not comes) → comes ≡ is_some (fault_next d) → left ≡ left_by (fault_next d)
-    → flash ≡ after d.state.flash (Erase block passed (left_block d.state.flash.geometry (block_at d.state.flash block) legal passed left)) → asked ≡ counted d.asked
-    → done d flash passed asked ≡ answered (Erases block) d
-erases_as d flash block legal passed comes left asked is_legal is_passed is_struck is_left is_flash is_asked =
+    → flash ≡ after d.state.flash (Erase block passed (left_block d.state.flash.geometry (block_at d.state.flash block) legal passed left)) → asked ≡ counted d.asked → changes ≡ counted d.changes
+    → done d flash passed asked changes ≡ answered (Erases block) d
+erases_as d flash block legal passed comes left asked changes is_legal is_passed is_struck is_left is_flash is_asked is_changes =
     let f : Flash = d.state.flash in
     let was : List Page = block_at f block in
     let may : Bool = may_erase f block in
     let p : passed ≡ erase_passes d block = is_passed ∙ (ap (λ b. b && not comes) is_legal ∙ ap (λ b. may && not b) is_struck) in
     let l : left_block f.geometry was legal passed left ≡ erase_left d block
     = ap (λ b. left_block f.geometry was b passed left) is_legal ∙ (ap (λ b. left_block f.geometry was may b left) p ∙ ap (λ xs. left_block f.geometry was may (erase_passes d block) xs) is_left) in
-    done_as d _ _ _ _ _ _ (is_flash ∙ (ap (λ b. after f (Erase block b (left_block f.geometry was legal passed left))) p ∙ ap (λ m. after f (Erase block (erase_passes d block) m)) l)) p is_asked
+    done_as d _ _ _ _ _ _ _ _ (is_flash ∙ (ap (λ b. after f (Erase block b (left_block f.geometry was legal passed left))) p ∙ ap (λ m. after f (Erase block (erase_passes d block) m)) l)) p is_asked is_changes
 
 -- a program of the fields
-pub program_acts : {A : Type 0} → (i : Inside) (xs ys bytes : List ℕ) (ts turns : List BlockTurn) (fs : List Fault) (row : ℕ) (legal passed comes : Bool) (left : List ℕ) (abuse asked : ℕ) (x : A)
+pub program_acts : {A : Type 0} → (i : Inside) (xs ys bytes : List ℕ) (ts turns : List BlockTurn) (fs : List Fault) (row : ℕ) (legal passed comes : Bool) (left : List ℕ) (abuse asked changes : ℕ) (x : A)
     → AreFields i.geometry i.bytes.items i.register.items i.turns.items i.bus_state i.faults.items → row < row_count i.geometry
     → xs ≡ i.bytes.items → ts ≡ i.turns.items → ys ≡ i.register.items → fs ≡ i.faults.items
     → comes ≡ is_some (fault_at fs (i.counts.asked + 1)) → left ≡ left_by (fault_at fs (i.counts.asked + 1))
     → legal ≡ may_program (flash_of i.geometry xs ts i.counts.abuse) row → passed ≡ (legal && not comes)
     → flash_of i.geometry bytes turns (if legal then i.counts.abuse else counted i.counts.abuse)
     ≡ after (flash_of i.geometry xs ts i.counts.abuse) (Program row (page_of i.geometry ys) passed (left_page i.geometry (page_at (flash_of i.geometry xs ts i.counts.abuse) row) legal passed (page_of i.geometry ys) left))
-    → abuse ≡ (if legal then i.counts.abuse else counted i.counts.abuse) → asked ≡ counted i.counts.asked
+    → abuse ≡ (if legal then i.counts.abuse else counted i.counts.abuse) → asked ≡ counted i.counts.asked → changes ≡ counted i.counts.changes
     → IsRaw i.geometry bytes → length turns ≡ length ts
-    → Acts (Programs row (page_of i.geometry i.register.items)) (the_view i) (done (the_view i) (flash_of i.geometry bytes turns abuse) passed asked) (Ok x)
-program_acts i xs ys bytes ts turns fs row legal passed comes left abuse asked x fit lt e1 e2 e3 e4 is_comes is_left is_legal is_passed is_flash is_abuse is_asked raw lt' =
+    → Acts (Programs row (page_of i.geometry i.register.items)) (the_view i) (done (the_view i) (flash_of i.geometry bytes turns abuse) passed asked changes) (Ok x)
+program_acts i xs ys bytes ts turns fs row legal passed comes left abuse asked changes x fit lt e1 e2 e3 e4 is_comes is_left is_legal is_passed is_flash is_abuse is_asked is_changes raw lt' =
     let g = i.geometry in
     let n : ℕ = i.counts.abuse in
     let d : DieValue = the_view i in
     let K : List ℕ → List BlockTurn → List ℕ → Flash
     = λ zs us ws. after (flash_of g zs us n) (Program row (page_of g ws) passed (left_page g (page_at (flash_of g zs us n) row) legal passed (page_of g ws) left)) in
     acts_programs d _ row (page_of g i.register.items) x
-    (programs_as d (flash_of g bytes turns abuse) row (page_of g i.register.items) legal passed comes left asked
+    (programs_as d (flash_of g bytes turns abuse) row (page_of g i.register.items) legal passed comes left asked changes
     (is_legal ∙ (ap (λ zs. may_program (flash_of g zs ts n) row) e1 ∙ ap (λ us. may_program (flash_of g i.bytes.items us n) row) e2)) is_passed
     (is_comes ∙ ap (λ gs. is_some (fault_at gs (i.counts.asked + 1))) e4) (is_left ∙ ap (λ gs. left_by (fault_at gs (i.counts.asked + 1))) e4)
-    (ap (flash_of g bytes turns) is_abuse ∙ (is_flash ∙ (ap (λ zs. K zs ts ys) e1 ∙ (ap (λ us. K i.bytes.items us ys) e2 ∙ ap (λ ws. K i.bytes.items i.turns.items ws) e3)))) is_asked)
+    (ap (flash_of g bytes turns) is_abuse ∙ (is_flash ∙ (ap (λ zs. K zs ts ys) e1 ∙ (ap (λ us. K i.bytes.items us ys) e2 ∙ ap (λ ws. K i.bytes.items i.turns.items ws) e3)))) is_asked is_changes)
     lt (whole_of g i.bytes.items i.turns.items n fit.raw fit.blocks)
     (whole_of g bytes turns abuse raw (lt' ∙ (ap length e2 ∙ fit.blocks))) refl (left_at g i.faults.items (i.counts.asked + 1) fit.left)
 
 -- an erase of the fields
-pub erase_acts : {A : Type 0} → (i : Inside) (xs bytes : List ℕ) (ts turns : List BlockTurn) (fs : List Fault) (block : ℕ) (legal passed comes : Bool) (left : List ℕ) (abuse asked : ℕ) (x : A)
+pub erase_acts : {A : Type 0} → (i : Inside) (xs bytes : List ℕ) (ts turns : List BlockTurn) (fs : List Fault) (block : ℕ) (legal passed comes : Bool) (left : List ℕ) (abuse asked changes : ℕ) (x : A)
     → AreFields i.geometry i.bytes.items i.register.items i.turns.items i.bus_state i.faults.items → block < i.geometry.blocks
     → xs ≡ i.bytes.items → ts ≡ i.turns.items → fs ≡ i.faults.items
     → comes ≡ is_some (fault_at fs (i.counts.asked + 1)) → left ≡ left_by (fault_at fs (i.counts.asked + 1))
     → legal ≡ may_erase (flash_of i.geometry xs ts i.counts.abuse) block → passed ≡ (legal && not comes)
     → flash_of i.geometry bytes turns (if legal then i.counts.abuse else counted i.counts.abuse)
     ≡ after (flash_of i.geometry xs ts i.counts.abuse) (Erase block passed (left_block i.geometry (block_at (flash_of i.geometry xs ts i.counts.abuse) block) legal passed left))
-    → abuse ≡ (if legal then i.counts.abuse else counted i.counts.abuse) → asked ≡ counted i.counts.asked
+    → abuse ≡ (if legal then i.counts.abuse else counted i.counts.abuse) → asked ≡ counted i.counts.asked → changes ≡ counted i.counts.changes
     → IsRaw i.geometry bytes → length turns ≡ length ts
-    → Acts (Erases block) (the_view i) (done (the_view i) (flash_of i.geometry bytes turns abuse) passed asked) (Ok x)
-erase_acts i xs bytes ts turns fs block legal passed comes left abuse asked x fit lt e1 e2 e4 is_comes is_left is_legal is_passed is_flash is_abuse is_asked raw lt' =
+    → Acts (Erases block) (the_view i) (done (the_view i) (flash_of i.geometry bytes turns abuse) passed asked changes) (Ok x)
+erase_acts i xs bytes ts turns fs block legal passed comes left abuse asked changes x fit lt e1 e2 e4 is_comes is_left is_legal is_passed is_flash is_abuse is_asked is_changes raw lt' =
     let g = i.geometry in
     let n : ℕ = i.counts.abuse in
     let d : DieValue = the_view i in
     let K : List ℕ → List BlockTurn → Flash
     = λ zs us. after (flash_of g zs us n) (Erase block passed (left_block g (block_at (flash_of g zs us n) block) legal passed left)) in
     acts_erases d _ block x
-    (erases_as d (flash_of g bytes turns abuse) block legal passed comes left asked
+    (erases_as d (flash_of g bytes turns abuse) block legal passed comes left asked changes
     (is_legal ∙ (ap (λ zs. may_erase (flash_of g zs ts n) block) e1 ∙ ap (λ us. may_erase (flash_of g i.bytes.items us n) block) e2)) is_passed
     (is_comes ∙ ap (λ gs. is_some (fault_at gs (i.counts.asked + 1))) e4) (is_left ∙ ap (λ gs. left_by (fault_at gs (i.counts.asked + 1))) e4)
-    (ap (flash_of g bytes turns) is_abuse ∙ (is_flash ∙ (ap (λ zs. K zs ts) e1 ∙ ap (λ us. K i.bytes.items us) e2))) is_asked)
+    (ap (flash_of g bytes turns) is_abuse ∙ (is_flash ∙ (ap (λ zs. K zs ts) e1 ∙ ap (λ us. K i.bytes.items us) e2))) is_asked is_changes)
     lt (whole_of g i.bytes.items i.turns.items n fit.raw fit.blocks)
     (whole_of g bytes turns abuse raw (lt' ∙ (ap length e2 ∙ fit.blocks))) refl (left_at g i.faults.items (i.counts.asked + 1) fit.left)
 
 -- the same where the fields are held in others
-pub acts_closed : {A : Type 0} → (due : Due) (i : Inside) (bytes bytes' : List ℕ) (turns turns' : List BlockTurn) (abuse asked : ℕ) (passed : Bool) (x : A) → bytes' ≡ bytes → turns' ≡ turns
-    → Acts due (the_view i) (done (the_view i) (flash_of i.geometry bytes turns abuse) passed asked) (Ok x)
-    → Acts due (the_view i) (done (the_view i) (flash_of i.geometry bytes' turns' abuse) passed asked) (Ok x)
-acts_closed due i bytes bytes' turns turns' abuse asked passed x e f h =
-    subst (λ us. Acts due (the_view i) (done (the_view i) (flash_of i.geometry bytes' us abuse) passed asked) (Ok x)) (sym f)
-    (subst (λ zs. Acts due (the_view i) (done (the_view i) (flash_of i.geometry zs turns abuse) passed asked) (Ok x)) (sym e) h)
+pub acts_closed : {A : Type 0} → (due : Due) (i : Inside) (bytes bytes' : List ℕ) (turns turns' : List BlockTurn) (abuse asked changes : ℕ) (passed : Bool) (x : A) → bytes' ≡ bytes → turns' ≡ turns
+    → Acts due (the_view i) (done (the_view i) (flash_of i.geometry bytes turns abuse) passed asked changes) (Ok x)
+    → Acts due (the_view i) (done (the_view i) (flash_of i.geometry bytes' turns' abuse) passed asked changes) (Ok x)
+acts_closed due i bytes bytes' turns turns' abuse asked changes passed x e f h =
+    subst (λ us. Acts due (the_view i) (done (the_view i) (flash_of i.geometry bytes' us abuse) passed asked changes) (Ok x)) (sym f)
+    (subst (λ zs. Acts due (the_view i) (done (the_view i) (flash_of i.geometry zs turns abuse) passed asked changes) (Ok x)) (sym e) h)
 
 -- the fields are whole
 pub fields_whole : (i : Inside) → AreFields i.geometry i.bytes.items i.register.items i.turns.items i.bus_state i.faults.items → IsWhole (flash_of i.geometry i.bytes.items i.turns.items i.counts.abuse)

@@ -57,10 +57,10 @@ erase_abuse_law d block = (
 )
 
 pub count_law : CountLaw
-count_law d = (λ row page. refl, λ block. refl)
+count_law d = (λ row page. (refl, refl), λ block. (refl, refl))
 
 pub quiet_law : QuietLaw
-quiet_law d = (λ phase. (refl, refl), (refl, refl), λ fault. (refl, refl))
+quiet_law d = (λ phase. (refl, refl, refl), (refl, refl, refl), λ fault. (refl, refl, refl))
 
 pub named_law : NamedLaw
 named_law names block = (contains_named names block, named_contains names block)

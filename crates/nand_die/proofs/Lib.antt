@@ -5,3 +5,4 @@ pub mod NextLemmas
 pub mod MakeLemmas
 pub mod ActLemmas
 pub mod LawLemmas
+pub mod StopLemmas

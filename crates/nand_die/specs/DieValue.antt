@@ -15,15 +15,16 @@ use Rattle.nand_die.specs.BusState.{IsWithin, IsProtocolFault}
 use Rattle.nand_die.specs.Faults.{fault_at, left_by, ArePagesLeft}
 use Rattle.nand_die.specs.Turns.{left_page, left_block}
 
--- what its bus shows, the faults that are set on it, and how many programs and erases were asked for since
+-- what its bus shows, the faults that are set on it, how many programs and erases were asked for since, and how many in all
 pub record DieValue : Type 0 where
   pub state : DieState
   pub faults : List Fault
   pub asked : ℕ
+  pub changes : ℕ
 
 -- a die that was not yet reset, with no faults set
 abbrev pub before_reset : Flash → DieValue
-before_reset flash = record { state = record { flash = flash; phase = Unreset; status = 0xE0 }; faults = []; asked = 0 }
+before_reset flash = record { state = record { flash = flash; phase = Unreset; status = 0xE0 }; faults = []; asked = 0; changes = 0 }
 
 -- the fault that strikes the next program or erase, where one does
 abbrev pub fault_next : DieValue → Option Fault
@@ -51,11 +52,12 @@ changed d flash passed = record {
   state = record { flash = flash; phase = Ready NoOutput; status = status_of passed };
   faults = d.faults;
   asked = counted d.asked;
+  changes = counted d.changes;
 }
 
 -- the die with this bus state, its faults as they were
 abbrev pub in_state : DieState → DieValue → DieValue
-in_state state d = record { state = state; faults = d.faults; asked = d.asked }
+in_state state d = record { state = state; faults = d.faults; asked = d.asked; changes = d.changes }
 
 -- the die after what was due
 abbrev pub answered : Due → DieValue → DieValue

@@ -38,18 +38,18 @@ EraseAbuseLaw = (d : DieValue) (block : ℕ) →
     ((answered (Erases block) d).state.flash.abuse ≡ (if may_erase d.state.flash block then d.state.flash.abuse else counted d.state.flash.abuse))
     × (may_erase d.state.flash block ≡ false → (answered (Erases block) d).state.flash.image ≡ d.state.flash.image)
 
--- Each program and each erase uses up one number of the faults' count, and the list stays.
+-- Each program and each erase uses up one number of the faults' count, and is counted as a change.
 abbrev pub CountLaw : Type 0
 CountLaw = (d : DieValue) →
-    ((row : ℕ) (page : Page) → (answered (Programs row page) d).asked ≡ counted d.asked)
-    × ((block : ℕ) → (answered (Erases block) d).asked ≡ counted d.asked)
+    ((row : ℕ) (page : Page) → ((answered (Programs row page) d).asked ≡ counted d.asked) × ((answered (Programs row page) d).changes ≡ counted d.changes))
+    × ((block : ℕ) → ((answered (Erases block) d).asked ≡ counted d.asked) × ((answered (Erases block) d).changes ≡ counted d.changes))
 
--- No other cycle touches the flash, the faults or their count.
+-- No other cycle touches the flash, the faults or the counts.
 abbrev pub QuietLaw : Type 0
 QuietLaw = (d : DieValue) →
-    ((phase : Phase) → ((answered (Moves phase) d).state.flash ≡ d.state.flash) × ((answered (Moves phase) d).asked ≡ d.asked))
-    × (((answered Resets d).state.flash ≡ d.state.flash) × ((answered Resets d).asked ≡ d.asked))
-    × ((fault : BusFault) → ((answered (Refuses fault) d).state.flash ≡ d.state.flash) × ((answered (Refuses fault) d).asked ≡ d.asked))
+    ((phase : Phase) → ((answered (Moves phase) d).state.flash ≡ d.state.flash) × ((answered (Moves phase) d).asked ≡ d.asked) × ((answered (Moves phase) d).changes ≡ d.changes))
+    × (((answered Resets d).state.flash ≡ d.state.flash) × ((answered Resets d).asked ≡ d.asked) × ((answered Resets d).changes ≡ d.changes))
+    × ((fault : BusFault) → ((answered (Refuses fault) d).state.flash ≡ d.state.flash) × ((answered (Refuses fault) d).asked ≡ d.asked) × ((answered (Refuses fault) d).changes ≡ d.changes))
 
 -- ---- what a die is made of
 

@@ -4,3 +4,5 @@ pub mod Turns
 pub mod Made
 pub mod DieValue
 pub mod Laws
+pub mod Buses
+pub mod Stopping

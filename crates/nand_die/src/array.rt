@@ -1,7 +1,7 @@
 // The pages of a die, one after another in an array of bytes.
 ghost use Rattle.std.specs.Prelude.{◌≡◌, ◌<◌, ◌*◌, List, length, slice_set, take, drop, replicate, get_or};
 ghost use Rattle.page_layout.specs.Geometry.{row_count, page_bytes};
-ghost use Rattle.page_layout.specs.Raw.{raw_image};
+ghost use Rattle.page_layout.specs.Raw.{raw_image, IsRaw};
 ghost use Rattle.page_layout.specs.Change.{erased_page};
 ghost use Rattle.page_layout.specs.Flash.{no_page, with_block};
 ghost use Rattle.onfi_cycles.specs.Cycles.{page_of};
@@ -33,6 +33,17 @@ pub fn write_page(bytes: &mut [u8], geometry: &Geometry, row: u32, page: &[u8])
     let size = page_length(geometry);
     let start = row as usize * size;
     bytes[start..start + size].copy_from_slice(page);
+}
+
+// Leaves a page in its place, torn.
+pub fn tear_page(bytes: &mut [u8], geometry: &Geometry, row: u32, page: &[u8])
+    requires in_range { row < row_count geometry.now }
+    requires whole { length bytes.old ≡ row_count geometry.now * page_bytes geometry.now }
+    requires page { length page.now ≡ page_bytes geometry.now }
+    ensures raw { IsRaw geometry.now bytes.new }
+    ensures image { raw_image geometry.now bytes.new ≡ slice_set (raw_image geometry.now bytes.old) row (page_of geometry.now page.now) }
+{
+    write_page(bytes, geometry, row, page);
 }
 
 // A page, lent.

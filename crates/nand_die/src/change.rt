@@ -1,5 +1,5 @@
 // What a program or an erase does to the pages and to the turns of the blocks.
-ghost use Rattle.std.specs.Prelude.{◌≡◌, ◌<◌, ◌-◌, ◌^◌, ◌+◌, ◌*◌, ◌/◌, ◌%◌, ℕ, true, not, ◌&&◌, ◌==◌, length, take, drop, slice_set, get_or, if◌then◌else◌};
+ghost use Rattle.std.specs.Prelude.{◌≡◌, ◌<◌, ◌-◌, ◌^◌, ◌+◌, ◌*◌, ◌/◌, ◌%◌, ℕ, List, true, not, ◌&&◌, ◌==◌, length, take, drop, slice_set, get_or, if◌then◌else◌};
 ghost use Rattle.page_layout.specs.Geometry.{row_count, page_bytes};
 ghost use Rattle.page_layout.specs.Raw.{raw_image, IsRaw};
 ghost use Rattle.page_layout.specs.Counter.{counted};
@@ -32,6 +32,16 @@ fn is_due(turn: BlockTurn, page: u32) -> bool
     ensures { result ≡ (not turn.barred && (turn.next == page)) }
 {
     !turn.barred && turn.next == page
+}
+
+// Whether the turn of its block allows a program of a row.
+pub fn program_is_due(turns: &[BlockTurn], geometry: &Geometry, row: u32) -> bool
+    requires in_range { row < row_count geometry.now }
+    requires blocks { length turns.now ≡ geometry.now.blocks }
+    ensures { (bytes : List ℕ) (abuse : ℕ) → result ≡ may_program (flash_of geometry.now bytes turns.now abuse) row }
+{
+    let block = row / geometry.pages();
+    is_due(turns[block as usize], row % geometry.pages())
 }
 
 fn change_of(legal: bool, struck: bool) -> Change

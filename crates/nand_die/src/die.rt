@@ -7,9 +7,9 @@ ghost use Rattle.page_layout.specs.Flash.{IsWhole};
 ghost use Rattle.onfi_cycles.specs.Cycles.{Programs, Erases, Refuses, Loading, Command, Address, DataIn, DataOut, CycleStep, page_of, command_due, address_due, data_in_due, data_out_due, bytes_out};
 ghost use Rattle.nand_die.specs.BusState.{IsProtocolFault};
 
-use crate::array::{image_length, page_length};
+use crate::array::{image_length, page_length, tear_page};
 use crate::bus_state::{AddressStep, BusState, CommandStep, OutputSource};
-use crate::change::{BlockTurn, Change, erase_into, program_into};
+use crate::change::{BlockTurn, Change, erase_into, program_into, program_is_due};
 use crate::cycle_step::{address_step, command_step, data_place};
 use crate::data_out::put_out_at;
 use crate::fault::{DieFault, Fault, Mark};
@@ -20,17 +20,19 @@ use page_layout::geometry::Geometry;
 use std::alloc::Global;
 use std::marker::Model;
 
-// How many programs and erases were illegal, and were asked for since the faults were set.
+// How many programs and erases were illegal, were asked for since the faults were set, and were asked for in all.
 #[derive(Clone, Copy)]
 pub struct ChangeCounts {
     pub abuse: u64,
     pub asked: u64,
+    pub changes: u64,
 }
 
 // The counts after a program or an erase.
 fn counts_after(counts: ChangeCounts, change: Change) -> ChangeCounts
     ensures abuse { result.abuse ≡ (if change.legal then counts.abuse else counted counts.abuse) }
     ensures asked { result.asked ≡ counted counts.asked }
+    ensures changes { result.changes ≡ counted counts.changes }
 {
     ChangeCounts {
         abuse: if change.legal {
@@ -39,6 +41,7 @@ fn counts_after(counts: ChangeCounts, change: Change) -> ChangeCounts
             counts.abuse.saturating_add(1)
         },
         asked: counts.asked.saturating_add(1),
+        changes: counts.changes.saturating_add(1),
     }
 }
 
@@ -73,6 +76,7 @@ impl Model for Die {
       state = record { flash = flash_of d.geometry d.bytes.items d.turns.items d.counts.abuse; phase = phase_of d.register.items d.bus_state; status = status_of d.passed };
       faults = d.faults.items;
       asked = d.counts.asked;
+      changes = d.counts.changes;
     } };
 
     ghost invariant = { λ d. AreFields d.geometry d.bytes.items d.register.items d.turns.items d.bus_state d.faults.items };
@@ -80,6 +84,7 @@ impl Model for Die {
 
 impl Die {
     ghost use Rattle.nand_die.specs.DieValue.{DieValue, Acts, before_reset};
+    ghost use Rattle.nand_die.specs.Stopping.{quit, is_change, torn_image, with_image};
     ghost use Rattle.nand_die.specs.Faults.{ArePagesLeft, HasFirstWrong};
     ghost use Rattle.nand_die.specs.Turns.{flash_of};
     ghost use Rattle.nand_die.specs.Made.{AreNames, marked_blocks, new_flash, loaded_flash, RefusesMarks, RefusesImage};
@@ -104,7 +109,11 @@ impl Die {
             bus_state: BusState::Unreset,
             passed: true,
             faults: Vec::new(alloc),
-            counts: ChangeCounts { abuse: 0, asked: 0 },
+            counts: ChangeCounts {
+                abuse: 0,
+                asked: 0,
+                changes: 0,
+            },
         }
     }
 
@@ -164,6 +173,13 @@ impl Die {
         self.counts.abuse
     }
 
+    /// The programs and erases so far, illegal ones too. The count stays at 2^64 - 1 once there.
+    pub fn changes(&self) -> u64
+        ensures { result ≡ self.now.changes }
+    {
+        self.counts.changes
+    }
+
     /// Writes the raw image out: the pages in row order, each its data area and then its spare area.
     /// `out` has as many bytes as they have. The time is linear in the image.
     pub fn image_into(&self, out: &mut [u8])
@@ -186,7 +202,7 @@ impl Die {
     /// - `WrongLength` where it is neither empty nor as long as a page.
     /// - Else `SoundFaultPage` where the page has a sound record.
     pub fn set_faults(&mut self, faults: Vec<Fault>) -> Result<(), DieFault>
-        ensures ok { OnOk result (self.new ≡ record { state = self.old.state; faults = faults.items; asked = 0 }) }
+        ensures ok { OnOk result (self.new ≡ record { state = self.old.state; faults = faults.items; asked = 0; changes = self.old.changes }) }
         ensures left { OnOk result (ArePagesLeft self.old.state.flash.geometry faults.items) }
         ensures err { IfErr result (HasFirstWrong self.old.state.flash.geometry faults.items) }
         ensures kept { OnErr result (self.new ≡ self.old) }
@@ -195,6 +211,61 @@ impl Die {
         self.faults = faults;
         self.counts.asked = 0;
         Ok(())
+    }
+
+    // The geometry that it was made with.
+    pub(crate) fn geometry(&self) -> Geometry
+        ensures { result ≡ self.now.state.flash.geometry }
+    {
+        self.geometry
+    }
+
+    // Gives up the unfinished command, and does nothing else.
+    pub(crate) fn give_up(&mut self)
+        ensures { self.new ≡ quit self.old }
+    {
+        self.bus_state = self.bus_state.given_up();
+    }
+
+    // Whether a command does a program or an erase.
+    #[tactic(auto, unfolding(onfi_cycles::specs::Cycles::command_due))]
+    pub(crate) fn confirms(&self, code: u8) -> bool
+        ensures { result ≡ is_change (command_due self.now.state.flash.geometry self.now.state.phase code) }
+    {
+        match command_step(&self.geometry, self.bus_state, code) {
+            CommandStep::Programs { row: _ } => true,
+            CommandStep::Erases { block: _ } => true,
+            CommandStep::Moves(_) => false,
+            CommandStep::Resets => false,
+            CommandStep::Refuses(_) => false,
+        }
+    }
+
+    // Leaves a page where the program or the erase that a command does would change one, if it is legal.
+    pub(crate) fn tear(&mut self, code: u8, page: &[u8])
+        requires { length page.now ≡ page_bytes self.old.state.flash.geometry }
+        ensures { self.new ≡ with_image (torn_image (command_due self.old.state.flash.geometry self.old.state.phase code) self.old.state.flash (page_of self.old.state.flash.geometry page.now)) self.old }
+    {
+        match command_step(&self.geometry, self.bus_state, code) {
+            CommandStep::Programs { row } => {
+                if program_is_due(&self.turns, &self.geometry, row) {
+                    tear_page(&mut self.bytes, &self.geometry, row, page);
+                }
+            }
+            CommandStep::Erases { block } => {
+                if !self.turns[block as usize].barred {
+                    tear_page(
+                        &mut self.bytes,
+                        &self.geometry,
+                        self.geometry.row(block, 0),
+                        page,
+                    );
+                }
+            }
+            CommandStep::Moves(_) => {}
+            CommandStep::Resets => {}
+            CommandStep::Refuses(_) => {}
+        }
     }
 
     // Gives up the unfinished command.
@@ -325,6 +396,8 @@ impl Bus for Die {
     ghost die = { λ d. d.state };
 
     ghost honest = { λ _. true };
+
+    ghost calm = { λ _. true };
 
     ghost failed = { λ _. 0 };
 

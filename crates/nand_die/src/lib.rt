@@ -2,6 +2,7 @@
 //!
 //! - `Die`: an image, the turn of each block, and the cycles of a bus that is always honest.
 //! - `Mark`: factory marks of a new die. `Fault`: programs and erases that are to fail. `DieFault`: what is refused.
+//! - `CycleFuse`, `Garble`: buses for tests, which break down for a while and which turn bits of one byte that is put out.
 //! - `laws`: when a program or an erase fails, what counts as abuse, and what dies are made of, proved.
 //!
 //! The commands are those of ONFI 1.0; the rules of turns, the marks and the faults are this project's.
@@ -9,6 +10,7 @@
 
 mod array;
 mod bus_state;
+mod buses;
 mod change;
 mod cycle_step;
 mod data_out;
@@ -16,7 +18,10 @@ mod die;
 mod fault;
 pub mod laws;
 mod make;
+mod stopping;
 mod strike;
 
+pub use buses::{CycleFuse, Garble};
 pub use die::Die;
 pub use fault::{DieFault, Fault, Mark};
+pub use stopping::{Stop, StoppingDie};

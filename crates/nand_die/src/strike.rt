@@ -1,5 +1,8 @@
 // Which fault strikes next, and which faults may be set.
-ghost use Rattle.std.specs.Prelude.{◌≡◌, ◌==◌, ◌+◌, is_some, IfOk, IfErr};
+ghost use Rattle.std.specs.Prelude.{◌≡◌, ◌≢◌, ◌⊎◌, ◌==◌, ◌+◌, length, None, IsSome, is_some, IfOk, IfErr};
+ghost use Rattle.page_layout.specs.Geometry.{page_bytes};
+ghost use Rattle.page_layout.specs.Sound.{record_of};
+ghost use Rattle.onfi_cycles.specs.Cycles.{page_of};
 ghost use Rattle.nand_die.specs.Faults.{fault_at, left_by, IsPageLeft, ArePagesLeft, IsWrongPageLeft, HasFirstWrong};
 
 use crate::array::page_length;
@@ -59,4 +62,20 @@ pub fn check_faults(geometry: &Geometry, faults: &[Fault]) -> Result<(), DieFaul
         check_left(geometry, fault.page_left.as_slice())?;
     }
     Ok(())
+}
+
+// Whether a torn page may be left.
+pub fn check_torn(geometry: &Geometry, left: &[u8]) -> Result<(), DieFault>
+    ensures ok { IfOk result (λ _. (length left.now ≡ page_bytes geometry.now) × (record_of (page_of geometry.now left.now) ≡ None)) }
+    ensures err { IfErr result (λ fault. ((fault ≡ DieFault.WrongLength) × (length left.now ≢ page_bytes geometry.now))
+        ⊎ ((fault ≡ DieFault.SoundFaultPage) × (length left.now ≡ page_bytes geometry.now) × IsSome (record_of (page_of geometry.now left.now)))) }
+{
+    if left.len() != page_length(geometry) {
+        return Err(DieFault::WrongLength);
+    }
+    let (body, spare) = left.split_at(geometry.data_bytes());
+    match read_record(geometry, body, spare) {
+        Some(_record) => Err(DieFault::SoundFaultPage),
+        None => Ok(()),
+    }
 }

@@ -5,8 +5,11 @@ ghost use Rattle.commands.specs.Files.{stores_after};
 
 use commands::{FileFault, FileStore};
 use std::fs;
-use std::io::{Error, ErrorKind};
+use std::io::{BufReader, Error, ErrorKind};
 use std::rt::Files;
+
+// The bytes that a file's reader asks the system for at once.
+const READ_AHEAD: usize = 65536;
 
 /// The system's files, by their paths.
 #[derive(Drop)]
@@ -36,12 +39,19 @@ fn fault_of(error: Error) -> FileFault
 impl<R: Files + AllocGlobal> FileStore for SystemFiles<'_, R> {
     ghost use Rattle.std.specs.Prelude.{None};
 
+    type Reader = BufReader<R::File>;
+
     ghost gives = { λ _ _ _. Unit {0} };
 
     ghost stores = { λ _. None };
 
     fn load(&mut self, path: &str) -> Result<Vec<u8>, FileFault> {
         fs::read(self.rt, path).map_err(fault_of)
+    }
+
+    fn open(&mut self, path: &str) -> Result<BufReader<R::File>, FileFault> {
+        let file = fs::open(self.rt, path).map_err(fault_of)?;
+        BufReader::with_capacity(self.rt.alloc(), READ_AHEAD, file).map_err(fault_of)
     }
 
     // Writing asks for no memory, and a fault of the system may come after the file was cut short: so a failure is `Failed`.

@@ -192,7 +192,7 @@ pub confirms_erase : (s : Geometry) (row : ℕ) → command_due s (Confirming Fo
 unfolding command_due
 confirms_erase s row = refl
 
-status_leads : (s : Geometry) (out : Output) → LeadTo s (Ready out) (Command 0x70 ∷ DataOut 1 ∷ []) (Ready StatusOut)
+pub status_leads : (s : Geometry) (out : Output) → LeadTo s (Ready out) (Command 0x70 ∷ DataOut 1 ∷ []) (Ready StatusOut)
 unfolding command_due data_out_due
 status_leads s out = (Ready StatusOut, refl, refl, (Ready StatusOut, refl, refl, refl))
 
@@ -220,7 +220,7 @@ confirm_due (Programs row p) c = tt
 confirm_due (Erases block) c = tt
 confirm_due (Refuses fault) c = absurd c
 
-confirm_ready : (due : Due) (a b : DieState) → IsConfirm due → Does due a b → b.phase ≡ Ready NoOutput
+pub confirm_ready : (due : Due) (a b : DieState) → IsConfirm due → Does due a b → b.phase ≡ Ready NoOutput
 confirm_ready (Moves phase) a b c d = absurd c
 confirm_ready Resets a b c d = absurd c
 confirm_ready (Programs row p) a b c d = d.phase
@@ -297,7 +297,7 @@ operated op cycles a mid b f g byte passed r taken step status to read is =
 
 -- ---- programs
 
-lead_at : (a : DieState) (out : Output) (xs : List Cycle) (q : Phase) → a.phase ≡ Ready out → LeadTo a.flash.geometry (Ready out) xs q → LeadTo a.flash.geometry a.phase xs q
+pub lead_at : (a : DieState) (out : Output) (xs : List Cycle) (q : Phase) → a.phase ≡ Ready out → LeadTo a.flash.geometry (Ready out) xs q → LeadTo a.flash.geometry a.phase xs q
 lead_at a out xs q at lead = subst (λ p. LeadTo a.flash.geometry p xs q) (sym at) lead
 
 program_ends : (a b : DieState) (row : ℕ) (body spare : List ℕ) → IsReady a.phase → row < row_count a.flash.geometry → length body ≡ a.flash.geometry.data_bytes → length spare ≡ a.flash.geometry.spare_bytes
@@ -331,13 +331,13 @@ program_broke a b f g row body spare fault at lt m p fails counts =
 -- ---- erases
 
 -- page 0 of a block
-first_row : (s : Geometry) (block : ℕ) → block < s.blocks → block * s.pages < row_count s
+pub first_row : (s : Geometry) (block : ℕ) → block < s.blocks → block * s.pages < row_count s
 first_row s block lt = mul-lt-mul_of_pos_right lt (some_pages s)
 
 block_again : (s : Geometry) (block : ℕ) → block * s.pages / s.pages ≡ block
 block_again s block = ap (λ n. n / s.pages) (sym (add-zero (block * s.pages))) ∙ div-mul-add block s.pages 0 (some_pages s)
 
-erase_due : (s : Geometry) (block : ℕ) → command_due s (Confirming ForErase (block * s.pages) 0) 0xD0 ≡ Erases block
+pub erase_due : (s : Geometry) (block : ℕ) → command_due s (Confirming ForErase (block * s.pages) 0) 0xD0 ≡ Erases block
 erase_due s block = confirms_erase s (block * s.pages) ∙ ap (λ n. Erases n) (block_again s block)
 
 erase_ends : (a b : DieState) (block : ℕ) (s : Geometry) → IsReady a.phase → a.flash.geometry ≡ s → block < s.blocks → Taken a (erase_cycles s block) b → Confirmed (Erases block) a b
@@ -366,7 +366,7 @@ erase_broke a b f g block s fault at same lt fails counts =
 
 -- ---- reads
 
-whole_read : (s : Geometry) (out : Output) (row m n : ℕ) → row < row_count s → m ≡ s.data_bytes → n ≡ s.spare_bytes → LeadTo s (Ready out) (read_cycles row m n) (Ready (PageOut row (0 + m + n)))
+pub whole_read : (s : Geometry) (out : Output) (row m n : ℕ) → row < row_count s → m ≡ s.data_bytes → n ≡ s.spare_bytes → LeadTo s (Ready out) (read_cycles row m n) (Ready (PageOut row (0 + m + n)))
 unfolding read_cycles
 whole_read s out row m n lt is_m is_n =
     lead_then s (Ready out) (Confirming ForRead row 0) (Ready (PageOut row (0 + m + n))) (Command 0x00 ∷ page_address row) (fetch_cycles m n) (read_leads s out row lt) (fetch_leads s row m n is_m is_n)

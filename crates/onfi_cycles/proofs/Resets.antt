@@ -1,9 +1,11 @@
 -- Reset, and the flash behind a driver.
-use Rattle.std.proofs.Common.{◌≡◌, refl, sym, ap, subst}
+use Rattle.std.proofs.Common.{◌≡◌, refl, sym, ap, subst, Option}
 use Rattle.page_layout.specs.declared.geometry.Geometry.{Geometry}
 use Rattle.page_layout.specs.Flash.{Flash}
 use Rattle.onfi_cycles.specs.Cycles.{DieState, Phase, Ready, NoOutput, Resets, command_due, Does, FailsBy}
 use Rattle.onfi_cycles.specs.Driver.{seen}
+use Rattle.page_layout.specs.Recording.{Recording}
+use Rattle.onfi_cycles.specs.Recorded.{Notes}
 use Rattle.onfi_cycles.specs.declared.nand.BusFault.{BusFault}
 use Rattle.onfi_cycles.specs.declared.nand.BusFault.TheVariants.{Device}
 use Rattle.onfi_cycles.proofs.Leads.{due_fails}
@@ -21,3 +23,7 @@ reset_fails a b fault h = (due_fails Resets a b fault tt (subst (λ x. FailsBy x
 
 pub seen_is : (g : Geometry) (s : Flash) → s.geometry ≡ g → seen g s ≡ s
 seen_is g s e = ap (λ h. seen h s) (sym e)
+
+-- Reset leaves the record
+pub reset_noted : (a b : DieState) (told told' : Option Recording) → Notes (command_due a.flash.geometry a.phase 0xFF) told b told' → told' ≡ told
+reset_noted a b told told' n = subst (λ d. Notes d told b told') (resets a.flash.geometry a.phase) n

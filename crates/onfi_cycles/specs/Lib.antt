@@ -1,5 +1,7 @@
 pub mod Outcomes
 pub mod Cycles
 pub mod Spelling
+pub mod Sent
+pub mod Recorded
 pub mod Driver
 pub mod Laws

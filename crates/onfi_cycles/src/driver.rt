@@ -1,11 +1,13 @@
 //! A die behind a bus.
-ghost use Rattle.std.specs.Prelude.{◌≡◌, ◌<◌, ◌≤◌, true, [], ◌∷◌, length, slice_get, Some, IfOk, IfErr, OnOk, OnErr, MatchResult};
+ghost use Rattle.std.specs.Prelude.{◌≡◌, ◌<◌, ◌≤◌, true, [], ◌∷◌, ◌++◌, length, slice_get, Some, IfOk, IfErr, OnOk, OnErr, MatchResult};
 ghost use Rattle.page_layout.specs.Geometry.{row_count};
 ghost use Rattle.page_layout.specs.Page.{page, IsImage};
 ghost use Rattle.page_layout.specs.Counter.{counted, HasRisen};
+ghost use Rattle.page_layout.specs.Recording.{Records};
 ghost use Rattle.page_layout.specs.Flash.{Program, Erase, Steps, page_at, block_at, IsWhole};
 ghost use Rattle.onfi_cycles.specs.Cycles.{CycleStep, Command, IsCounted};
 ghost use Rattle.onfi_cycles.specs.Spelling.{Taken, Spells, SpellsRead, program_cycles, erase_cycles, read_cycles, done, refused};
+ghost use Rattle.onfi_cycles.specs.Sent.{Operates, SendsRead};
 ghost use Rattle.onfi_cycles.specs.Outcomes.{is_passed, number_of};
 ghost use Rattle.onfi_cycles.specs.Driver.{flash_by};
 
@@ -44,12 +46,15 @@ impl<B: Bus> Driver<B> {
     pub fn new(bus: B, geometry: Geometry) -> Result<Driver<B>, (B, BusFault)>
         requires geometry { B.honest bus ≡ true → (B.die bus).flash.geometry ≡ geometry }
 
-        // Reset was sent, and nothing else.
+        // Reset was sent, and nothing else: to any bus, and to an honest one as a step of the protocol.
+        ensures sent { MatchResult result (λ driver. B.called bus (Command 0xFF) done [] driver.bus) (λ e. B.called bus (Command 0xFF) (refused e.1) [] e.0) }
         ensures reset { B.honest bus ≡ true → MatchResult result
             (λ driver. CycleStep (B.die bus) (Command 0xFF) done (B.die driver.bus))
             (λ e. CycleStep (B.die bus) (Command 0xFF) (refused e.1) (B.die e.0)) }
         ensures geometry { IfOk result (λ driver. driver.geometry ≡ geometry) }
         ensures flash { IfOk result (λ driver. B.honest bus ≡ true → flash_by B.die driver ≡ (B.die bus).flash) }
+
+        ensures recorded { IfOk result (λ driver. B.honest bus ≡ true → B.recorded driver.bus ≡ B.recorded bus) }
 
         // All counts begin at 0.
         ensures reads { IfOk result (λ driver. driver.reads ≡ 0) }
@@ -59,6 +64,7 @@ impl<B: Bus> Driver<B> {
 
         // The bus is the one handed in, and fails only where its count of failures rose.
         ensures honest { MatchResult result (λ driver. B.honest driver.bus ≡ B.honest bus) (λ e. B.honest e.0 ≡ B.honest bus) }
+        ensures calm { MatchResult result (λ driver. B.calm driver.bus ≡ B.calm bus) (λ e. B.calm e.0 ≡ B.calm bus) }
         ensures failed { MatchResult result (λ driver. B.failed bus ≤ B.failed driver.bus) (λ e. B.failed bus ≤ B.failed e.0) }
         ensures device { IfErr result (λ e. B.honest bus ≡ true → e.1 ≡ BusFault.Device) }
         ensures cause { IfErr result (λ e. B.honest bus ≡ true → HasRisen (B.failed bus) (B.failed e.0)) }
@@ -111,6 +117,10 @@ impl<B: Bus> PageSource for Driver<B> {
 
     ghost failed = { λ d. d.failures };
 
+    ghost calm = { λ d. B.calm d.bus };
+
+    ghost recorded = { λ d. B.recorded d.bus };
+
     /// Reads a page: 00h, five address cycles with column 0, 30h, then `body` and `spare` out. A fault of the bus is answered by
     /// its number, 1 to 6; of an honest bus it is 6, the device's. After it the buffers hold anything. (ONFI 1.0, Read; the
     /// numbers are this project's.)
@@ -123,15 +133,18 @@ impl<B: Bus> PageSource for Driver<B> {
         ensures page { OnOk result (B.honest self.old.bus ≡ true → slice_get (B.die self.old.bus).flash.image row ≡ Some (page body.new spare.new)) }
         ensures same { OnOk result (B.honest self.old.bus ≡ true → flash_by B.die self.new ≡ flash_by B.die self.old) }
         ensures whole { OnOk result (B.honest self.old.bus ≡ true → IsImage self.new.geometry (B.die self.new.bus).flash.image) }
+        ensures recorded { OnOk result (B.honest self.old.bus ≡ true → B.recorded self.new.bus ≡ B.recorded self.old.bus) }
         ensures geometry { self.new.geometry ≡ self.old.geometry }
         ensures honest { B.honest self.new.bus ≡ B.honest self.old.bus }
+        ensures calm { B.calm self.new.bus ≡ B.calm self.old.bus }
         ensures reads { self.new.reads ≡ counted self.old.reads }
         ensures programs { self.new.programs ≡ self.old.programs }
         ensures erases { self.new.erases ≡ self.old.erases }
         ensures failed { self.old.failures ≤ self.new.failures }
         ensures rose { OnErr result (HasRisen self.old.failures self.new.failures) }
 
-        // The cycles, and each fault counted once.
+        // The cycles sent to any bus, and what was put out; over an honest one they are steps of the protocol. Each fault is counted once.
+        ensures sends { SendsRead B.called self.old.bus (read_cycles row self.old.geometry.data_bytes self.old.geometry.spare_bytes) (body.new ++ spare.new) result self.new.bus }
         ensures spells { B.honest self.old.bus ≡ true →
             SpellsRead (B.die self.old.bus) (read_cycles row self.old.geometry.data_bytes self.old.geometry.spare_bytes) result (B.die self.new.bus) }
         ensures kept { OnOk result (self.new.failures ≡ self.old.failures) }
@@ -170,16 +183,21 @@ impl<B: Bus> Nand for Driver<B> {
         // What every die promises.
         ensures step { IfOk result (λ outcome. B.honest self.old.bus ≡ true →
             Steps (flash_by B.die self.old) (Program row (page body.now spare.now) (is_passed outcome) (page_at (flash_by B.die self.new) row)) (flash_by B.die self.new)) }
+        ensures recorded { IfOk result (λ outcome. B.honest self.old.bus ≡ true →
+            Records (B.recorded self.old.bus) (Program row (page body.now spare.now) (is_passed outcome) (page_at (flash_by B.die self.new) row) ∷ []) (B.recorded self.new.bus)) }
         ensures whole { OnOk result (B.honest self.old.bus ≡ true → IsWhole (flash_by B.die self.new)) }
         ensures geometry { self.new.geometry ≡ self.old.geometry }
         ensures honest { B.honest self.new.bus ≡ B.honest self.old.bus }
+        ensures calm { B.calm self.new.bus ≡ B.calm self.old.bus }
         ensures reads { self.new.reads ≡ self.old.reads }
         ensures programs { self.new.programs ≡ counted self.old.programs }
         ensures erases { self.new.erases ≡ self.old.erases }
         ensures failed { self.old.failures ≤ self.new.failures }
         ensures rose { OnErr result (HasRisen self.old.failures self.new.failures) }
 
-        // The cycles, and each fault counted once.
+        // The cycles sent to any bus, and its status byte, which alone decides the answer; over an honest one they are steps of the
+        // protocol. Each fault is counted once.
+        ensures sends { Operates B.called self.old.bus (program_cycles row body.now spare.now) result self.new.bus }
         ensures spells { B.honest self.old.bus ≡ true → Spells (B.die self.old.bus) (program_cycles row body.now spare.now) result (B.die self.new.bus) }
         ensures kept { OnOk result (self.new.failures ≡ self.old.failures) }
         ensures counts { OnErr result (self.new.failures ≡ counted self.old.failures) }
@@ -207,16 +225,21 @@ impl<B: Bus> Nand for Driver<B> {
         // What every die promises.
         ensures step { IfOk result (λ outcome. B.honest self.old.bus ≡ true →
             Steps (flash_by B.die self.old) (Erase block (is_passed outcome) (block_at (flash_by B.die self.new) block)) (flash_by B.die self.new)) }
+        ensures recorded { IfOk result (λ outcome. B.honest self.old.bus ≡ true →
+            Records (B.recorded self.old.bus) (Erase block (is_passed outcome) (block_at (flash_by B.die self.new) block) ∷ []) (B.recorded self.new.bus)) }
         ensures whole { OnOk result (B.honest self.old.bus ≡ true → IsWhole (flash_by B.die self.new)) }
         ensures geometry { self.new.geometry ≡ self.old.geometry }
         ensures honest { B.honest self.new.bus ≡ B.honest self.old.bus }
+        ensures calm { B.calm self.new.bus ≡ B.calm self.old.bus }
         ensures reads { self.new.reads ≡ self.old.reads }
         ensures programs { self.new.programs ≡ self.old.programs }
         ensures erases { self.new.erases ≡ counted self.old.erases }
         ensures failed { self.old.failures ≤ self.new.failures }
         ensures rose { OnErr result (HasRisen self.old.failures self.new.failures) }
 
-        // The cycles, and each fault counted once.
+        // The cycles sent to any bus, and its status byte, which alone decides the answer; over an honest one they are steps of the
+        // protocol. Each fault is counted once.
+        ensures sends { Operates B.called self.old.bus (erase_cycles self.old.geometry block) result self.new.bus }
         ensures spells { B.honest self.old.bus ≡ true → Spells (B.die self.old.bus) (erase_cycles self.old.geometry block) result (B.die self.new.bus) }
         ensures kept { OnOk result (self.new.failures ≡ self.old.failures) }
         ensures counts { OnErr result (self.new.failures ≡ counted self.old.failures) }

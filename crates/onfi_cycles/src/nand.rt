@@ -66,7 +66,8 @@ impl BusFault {
 /// the page or block holds what the outcome says, all other pages stay, the block's count of programs or erases rises, and
 /// `abuse` rises just where the operation was not allowed. (This project.)
 pub trait Nand: PageSource {
-    ghost use Rattle.std.specs.Prelude.{◌≡◌, ◌<◌, ◌≤◌, ℕ, true, length, IfOk, OnOk, OnErr};
+    ghost use Rattle.std.specs.Prelude.{◌≡◌, ◌<◌, ◌≤◌, ℕ, true, [], ◌∷◌, length, IfOk, OnOk, OnErr};
+    ghost use Rattle.page_layout.specs.Recording.{Records};
     ghost use Rattle.page_layout.specs.Geometry.{row_count};
     ghost use Rattle.page_layout.specs.Page.{page};
     ghost use Rattle.page_layout.specs.Counter.{counted, HasRisen};
@@ -81,9 +82,12 @@ pub trait Nand: PageSource {
         requires spare_whole { length spare.now ≡ (Self.flash self.old).geometry.spare_bytes }
         ensures step { IfOk result (λ outcome. Self.honest self.old ≡ true →
             Steps (Self.flash self.old) (Program row (page body.now spare.now) (is_passed outcome) (page_at (Self.flash self.new) row)) (Self.flash self.new)) }
+        ensures recorded { IfOk result (λ outcome. Self.honest self.old ≡ true →
+            Records (Self.recorded self.old) (Program row (page body.now spare.now) (is_passed outcome) (page_at (Self.flash self.new) row) ∷ []) (Self.recorded self.new)) }
         ensures whole { OnOk result (Self.honest self.old ≡ true → IsWhole (Self.flash self.new)) }
         ensures geometry { (Self.flash self.new).geometry ≡ (Self.flash self.old).geometry }
         ensures honest { Self.honest self.new ≡ Self.honest self.old }
+        ensures calm { Self.calm self.new ≡ Self.calm self.old }
         ensures reads { Self.reads self.new ≡ Self.reads self.old }
         ensures programs { Self.programs self.new ≡ counted (Self.programs self.old) }
         ensures erases { Self.erases self.new ≡ Self.erases self.old }
@@ -95,9 +99,12 @@ pub trait Nand: PageSource {
         requires block_in { block < (Self.flash self.old).geometry.blocks }
         ensures step { IfOk result (λ outcome. Self.honest self.old ≡ true →
             Steps (Self.flash self.old) (Erase block (is_passed outcome) (block_at (Self.flash self.new) block)) (Self.flash self.new)) }
+        ensures recorded { IfOk result (λ outcome. Self.honest self.old ≡ true →
+            Records (Self.recorded self.old) (Erase block (is_passed outcome) (block_at (Self.flash self.new) block) ∷ []) (Self.recorded self.new)) }
         ensures whole { OnOk result (Self.honest self.old ≡ true → IsWhole (Self.flash self.new)) }
         ensures geometry { (Self.flash self.new).geometry ≡ (Self.flash self.old).geometry }
         ensures honest { Self.honest self.new ≡ Self.honest self.old }
+        ensures calm { Self.calm self.new ≡ Self.calm self.old }
         ensures reads { Self.reads self.new ≡ Self.reads self.old }
         ensures programs { Self.programs self.new ≡ Self.programs self.old }
         ensures erases { Self.erases self.new ≡ counted (Self.erases self.old) }

@@ -170,7 +170,7 @@ with_block-other pages block row left image size fits (inr ge) =
     ∙ (get_or-drop (a + pages) image (row - length (take a image) - length left) no_page ∙ ap (λ i. get_or image i no_page) back))
 
 -- a row of the block
-with_block-inside : (pages block k : ℕ) (left : List Page) (image : Image) → length left ≡ pages → block * pages + pages ≤ length image → k < pages → get_or (with_block pages block left image) (block * pages + k) no_page ≡ get_or left k no_page
+pub with_block-inside : (pages block k : ℕ) (left : List Page) (image : Image) → length left ≡ pages → block * pages + pages ≤ length image → k < pages → get_or (with_block pages block left image) (block * pages + k) no_page ≡ get_or left k no_page
 with_block-inside pages block k left image size fits lt =
     let a : ℕ = block * pages in
     let la : length (take a image) ≡ a = omega (arith, length-take a image, fits) in
@@ -194,7 +194,7 @@ outside pages block row some ne = elim (cases_lt row (block * pages)) [
   ]
 ]
 
-inside : (pages block row : ℕ) → 0 < pages → row / pages ≡ block → (k : ℕ) × (k < pages) × (row ≡ block * pages + k)
+pub inside : (pages block row : ℕ) → 0 < pages → row / pages ≡ block → (k : ℕ) × (k < pages) × (row ≡ block * pages + k)
 inside pages block row some is =
     let low : row / pages * pages ≤ row = div-mul-le_self row pages in
     let high : row < row / pages * pages + pages = lt-div-mul-add some in

@@ -5,6 +5,7 @@ pub mod GreatestLemmas
 pub mod KeyLemmas
 pub mod NewestLemmas
 pub mod RecordLemmas
+pub mod LaneLemmas
 pub mod LiveLemmas
 pub mod ArrayLemmas
 pub mod RawLemmas
@@ -13,3 +14,4 @@ pub mod StepLemmas
 pub mod FlashLemmas
 pub mod ErasedLemmas
 pub mod WordLemmas
+pub mod RecordingLemmas

@@ -3,7 +3,7 @@
 -- two erases, and a bad or failed block is left alone.
 use Rattle.std.specs.Prelude.{◌≡◌, ◌⊎◌, ℕ, Bool, true, false, not, ◌&&◌, ◌||◌, ◌==◌, ◌+◌, ◌*◌, ◌/◌, ◌%◌, ◌<◌, ◌≤◌, List, [], ◌∷◌, ◌++◌, length, take, drop, replicate, slice_set, get_or, None, if◌then◌else◌}
 use Rattle.page_layout.specs.declared.geometry.Geometry.{Geometry}
-use Rattle.page_layout.specs.Page.{Page, Image, IsImage, page}
+use Rattle.page_layout.specs.Page.{Page, Image, IsImage, IsPage, page}
 use Rattle.page_layout.specs.Sound.{record_of}
 use Rattle.page_layout.specs.Change.{erased_page}
 use Rattle.page_layout.specs.Counter.{counted}
@@ -94,22 +94,24 @@ after s (Erase block passed left) = record {
   abuse = if may_erase s block then s.abuse else counted s.abuse;
 }
 
--- A program that passed left what was handed in. One that failed left the page as it was, or no sound record.
+-- A program left a page of the die. One that passed left what was handed in; one that failed left the page as it was, or no sound record.
 -- One that was not due has failed and left the page as it was.
 pub record IsLawfulProgram (s : Flash) (row : ℕ) (page : Page) (passed : Bool) (left : Page) : Type 0 where
   pub in_range : row < length s.image
+  pub sized : IsPage s.geometry left
   pub due : passed ≡ true → may_program s row ≡ true
   pub kept : passed ≡ true → left ≡ page
   pub failed : passed ≡ false → (left ≡ page_at s row) ⊎ (record_of left ≡ None)
   pub refused : may_program s row ≡ false → left ≡ page_at s row
 
--- An erase that passed left erased pages. After one that failed each page is as it was or has no sound record.
+-- An erase left pages of the die, and erased ones where it passed. After one that failed each page is as it was or has no sound record.
 -- One that was not due has failed and left the pages as they were.
 pub record IsLawfulErase (s : Flash) (block : ℕ) (passed : Bool) (left : List Page) : Type 0 where
   pub in_range : block < length s.turns
   pub in_image : block * s.geometry.pages + s.geometry.pages ≤ length s.image
   pub due : passed ≡ true → may_erase s block ≡ true
   pub size : length left ≡ s.geometry.pages
+  pub sized : (k : ℕ) → k < s.geometry.pages → IsPage s.geometry (get_or left k no_page)
   pub erased : passed ≡ true → left ≡ replicate s.geometry.pages (erased_page s.geometry)
   pub failed : passed ≡ false → (k : ℕ) → k < s.geometry.pages → (get_or left k no_page ≡ page_at s (block * s.geometry.pages + k)) ⊎ (record_of (get_or left k no_page) ≡ None)
   pub refused : may_erase s block ≡ false → left ≡ block_at s block

@@ -7,6 +7,7 @@ pub mod Faults
 -- pages, images and raw images
 pub mod Page
 pub mod Raw
+pub mod Bytes
 -- the record of a page, and its key
 pub mod Sound
 pub mod Key
@@ -22,6 +23,7 @@ pub mod Block
 pub mod Counter
 pub mod Change
 pub mod Flash
+pub mod Recording
 -- what the definitions come to
 pub mod Count
 pub mod Laws

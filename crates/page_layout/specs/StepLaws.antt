@@ -8,7 +8,7 @@ use Rattle.page_layout.specs.Key.{key_of}
 use Rattle.page_layout.specs.OneArray.{AreBelow}
 use Rattle.page_layout.specs.Live.{IsKeyOf}
 use Rattle.page_layout.specs.Array.{marks, HasOneArray}
-use Rattle.page_layout.specs.Flash.{Flash, Operation, Program, Erase, turn_at, may_program, may_erase, after_program, after_erase, Steps, Leads}
+use Rattle.page_layout.specs.Flash.{Flash, Operation, Program, Erase, turn_at, may_program, may_erase, after_program, after_erase, Steps, Leads, IsWhole}
 use Rattle.page_layout.specs.Counter.{counted}
 use Rattle.page_layout.specs.Change.{IsUnsoundAt, IsErasedAt, FailsAt, LosesIn, ErasesIn, HoldsNone, Keeps, Writes, ProgramMeans}
 
@@ -104,3 +104,7 @@ LogsLaw = (a b c : Flash) (xs ys : List Operation) → Leads a xs b → Leads b 
 -- no log changes the geometry
 abbrev pub GeometryStaysLaw : Type 0
 GeometryStaysLaw = (a b : Flash) (xs : List Operation) → Leads a xs b → b.geometry ≡ a.geometry
+
+-- a log leads from a die as a whole to one: so each image between is one of the die
+abbrev pub WholeStaysLaw : Type 0
+WholeStaysLaw = (a b : Flash) (xs : List Operation) → Leads a xs b → IsWhole a → IsWhole b

@@ -4,7 +4,8 @@
 ghost use Rattle.page_layout.specs.Count.{SmallBlockLaw};
 ghost use Rattle.page_layout.specs.Laws.{WorthLaw, SectorEntryLaw, BlockEntryLaw, TableFitsLaw, SoundLaw, ErasedLaw, ErasedUnsoundLaw, NewestLaw, ScanLaw, HasNewestLaw, SectorLaw, ArrayLaw, KeysLaw, NoOtherKeyLaw, LiveSumLaw, RawBytesLaw, RawImageLaw, RawAgainLaw, GapLaw, PointerLaw, TopWearLaw, RowAgainLaw, WordAgainLaw};
 ghost use Rattle.page_layout.specs.ChangeLaws.{ProgramLaw, FailureLaw, EraseLaw, NoneLiveLaw, KeepsNothingLaw, KeepsTwiceLaw, KeepsThenWritesLaw, WritesThenKeepsLaw, ArrayKeptLaw, ArrayWrittenLaw, ArrayUnwrittenLaw};
-ghost use Rattle.page_layout.specs.StepLaws.{PassedStepLaw, FailedStepLaw, OutcomeStepLaw, FailsStepLaw, OtherRowsLaw, NextSequenceLaw, EraseStepLaw, LosesStepLaw, ClearedStepLaw, EraseBelowLaw, ProgramTurnLaw, FairProgramLaw, EraseTurnLaw, FairEraseLaw, RefusedProgramLaw, RefusedEraseLaw, ErasedRowLaw, ErasedBlockLaw, LogsLaw, GeometryStaysLaw};
+ghost use Rattle.page_layout.specs.StepLaws.{PassedStepLaw, FailedStepLaw, OutcomeStepLaw, FailsStepLaw, OtherRowsLaw, NextSequenceLaw, EraseStepLaw, LosesStepLaw, ClearedStepLaw, EraseBelowLaw, ProgramTurnLaw, FairProgramLaw, EraseTurnLaw, FairEraseLaw, RefusedProgramLaw, RefusedEraseLaw, ErasedRowLaw, ErasedBlockLaw, LogsLaw, GeometryStaysLaw, WholeStaysLaw};
+ghost use Rattle.page_layout.specs.Recording.{RecordStaysLaw, RecordsJoinLaw, RanOnLaw};
 
 /// What the derived numbers of a geometry are for.
 pub fn geometry_laws()
@@ -93,6 +94,14 @@ pub fn step_laws()
     ensures erased_block { ErasedBlockLaw }
     ensures logs { LogsLaw }
     ensures geometry_stays { GeometryStaysLaw }
+    ensures whole_stays { WholeStaysLaw }
+{}
+
+/// What a record of a die says of it.
+pub fn record_told_laws()
+    ensures stays { RecordStaysLaw }
+    ensures join { RecordsJoinLaw }
+    ensures ran_on { RanOnLaw }
 {}
 
 /// What an operation makes of the turn of its block and of the count of abuse, by whether it was due.

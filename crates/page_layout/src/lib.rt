@@ -4,6 +4,7 @@
 //! - `geometry`: the five numbers of a die, their limits, and what follows from them.
 //! - `record`: the record in a page's spare area and the seal that makes the page sound.
 //! - `newest`: what a scan knows of the newest page of a key.
+//! - `lanes`: bytes looked at in lanes, 32 at a time.
 //! - `source`: pages read one by one, from a die or from a raw image in memory.
 //! - `word`: rows as words of four bytes, as translation pages and certificates have them.
 //! - `laws`: what the definitions in `specs/` come to, proved.
@@ -12,6 +13,7 @@
 #![tactic(auto)]
 
 pub mod geometry;
+pub mod lanes;
 pub mod laws;
 pub mod newest;
 pub mod record;

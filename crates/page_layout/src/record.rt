@@ -23,6 +23,7 @@ ghost use Rattle.page_layout.specs.Newest.{sequence_of};
 ghost use Rattle.page_layout.specs.Sound.{kind_from, code_of, is_filled, has_form_1, has_seal_1, spelled, record_of, head_of, is_erased_page, Fits};
 
 use crate::geometry::Geometry;
+use crate::lanes::is_filled;
 use byteorder::{ByteOrder, LittleEndian};
 use sha2::{Digest, Sha256};
 
@@ -107,14 +108,6 @@ pub enum Key {
     Translation(u32),
     /// The table page of this number.
     Table(u32),
-}
-
-// Whether all bytes are FFh.
-#[tactic(auto, unfolding(crate::specs::Sound::is_filled))]
-fn is_filled(bytes: &[u8]) -> bool
-    ensures { result ≡ is_filled bytes.now }
-{
-    bytes.iter().all(|byte| *byte == FILL)
 }
 
 /// Whether a page is as an erase leaves it: all bytes of its data area and of its spare area, of

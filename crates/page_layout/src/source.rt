@@ -27,8 +27,9 @@ pub enum ImageFault {
 /// image and leaves it as it is. A source stays honest or not for good. Of another source nothing is
 /// known but how often it was read, and that each fault raises its count of faults.
 pub trait PageSource {
-    ghost use Rattle.std.specs.Prelude.{◌≡◌, ◌<◌, ◌≤◌, ℕ, Bool, true, length, slice_get, OnOk, OnErr, Some};
+    ghost use Rattle.std.specs.Prelude.{◌≡◌, ◌<◌, ◌≤◌, ℕ, Bool, true, false, length, slice_get, OnOk, OnErr, Option, Some, None};
     ghost use Rattle.page_layout.specs.Page.{page, IsImage};
+    ghost use Rattle.page_layout.specs.Recording.{Recording};
     ghost use Rattle.page_layout.specs.Flash.{Flash};
     ghost use Rattle.page_layout.specs.Counter.{counted, HasRisen};
 
@@ -52,6 +53,12 @@ pub trait PageSource {
     /// The faults so far.
     ghost failed: { Self → ℕ };
 
+    /// Whether nothing can make it fail: no fault comes of it, and none has. It stays so or not for good.
+    ghost calm: { Self → Bool } = { λ _. false };
+
+    /// The record that it tells of its programs and erases, or none. None claims nothing.
+    ghost recorded: { Self → Option Recording } = { λ _. None };
+
     /// Reads the page of a row: its data area into `body` and its spare area into `spare`, whose
     /// lengths are those of the geometry. It programs and erases nothing.
     ///
@@ -66,8 +73,10 @@ pub trait PageSource {
         ensures page { OnOk result (honest self.old ≡ true → slice_get (flash self.old).image row ≡ Some (page body.new spare.new)) }
         ensures same { OnOk result (honest self.old ≡ true → flash self.new ≡ flash self.old) }
         ensures whole { OnOk result (honest self.old ≡ true → IsImage (flash self.new).geometry (flash self.new).image) }
+        ensures recorded { OnOk result (honest self.old ≡ true → recorded self.new ≡ recorded self.old) }
         ensures geometry { (flash self.new).geometry ≡ (flash self.old).geometry }
         ensures honest { honest self.new ≡ honest self.old }
+        ensures calm { calm self.new ≡ calm self.old }
         ensures reads { reads self.new ≡ counted (reads self.old) }
         ensures programs { programs self.new ≡ programs self.old }
         ensures erases { erases self.new ≡ erases self.old }

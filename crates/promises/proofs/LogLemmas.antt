@@ -8,7 +8,7 @@ use Rattle.page_layout.specs.Change.{one_if}
 use Rattle.page_layout.specs.Page.{Page}
 use Rattle.page_layout.specs.Counter.{counted}
 use Rattle.page_layout.specs.Flash.{Flash, Operation, Program, Erase, Turn, no_turn, turn_at, after, after_program, after_erase, may_program, may_erase, Leads}
-use Rattle.promises.specs.Log.{block_of, has_passed, programs_in, erases_in, programs_of, erases_of, failed_in, CountsLaw, BadJoinLaw, BadStaysLaw, LeadsJoinLaw, CompleteLaw}
+use Rattle.promises.specs.Log.{block_of, has_passed, programs_in, erases_in, programs_of, erases_of, passed_erases_of, failed_in, CountsLaw, BadJoinLaw, BadStaysLaw, LeadsJoinLaw, CompleteLaw}
 
 -- ---- counts
 
@@ -32,12 +32,18 @@ erases_of-append block [] ys = omega arith
 erases_of-append block (Program row page passed left ∷ xs) ys = erases_of-append block xs ys
 erases_of-append block (Erase other passed left ∷ xs) ys = let e = erases_of-append block xs ys in omega (arith, e)
 
+pub passed_erases_of-append : (block : ℕ) (xs ys : List Operation) → passed_erases_of (xs ++ ys) block ≡ passed_erases_of xs block + passed_erases_of ys block
+passed_erases_of-append block [] ys = omega arith
+passed_erases_of-append block (Program row page passed left ∷ xs) ys = passed_erases_of-append block xs ys
+passed_erases_of-append block (Erase other passed left ∷ xs) ys = let e = passed_erases_of-append block xs ys in omega (arith, e)
+
 pub counts : CountsLaw
 counts pages block xs ys = record {
   programs = programs_in-append xs ys;
   erases = erases_in-append xs ys;
   programs_at = programs_of-append pages block xs ys;
   erases_at = erases_of-append block xs ys;
+  passed_erases_at = passed_erases_of-append block xs ys;
 }
 
 -- ---- bad blocks

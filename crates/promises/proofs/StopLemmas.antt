@@ -1,8 +1,13 @@
 -- Images that a stop may leave.
-use Rattle.std.proofs.Common.{◌≡◌, ◌⊎◌, inl, inr, ℕ, List, [], ◌∷◌, ◌++◌, refl, sym, ◌∙◌, ap, subst}
-use Rattle.page_layout.specs.Page.{Image}
-use Rattle.page_layout.specs.Flash.{Flash, Operation, Program, Erase, after}
-use Rattle.promises.specs.Stop.{image_after, image_after_all, Tears, LeftBy, StopsIn, NoOperationLaw, TornInOneLaw, BetweenLaw, StopsJoinLaw, ImageLaw}
+use Rattle.std.proofs.Common.{◌≡◌, ◌⊎◌, inl, inr, ℕ, List, [], ◌∷◌, ◌++◌, refl, sym, ◌∙◌, ap, subst, Option, Some, None}
+use Rattle.std.proofs.lemmas.List.{append-nil}
+use Rattle.page_layout.specs.declared.geometry.Geometry.{Geometry}
+use Rattle.page_layout.specs.Page.{Image, IsImage}
+use Rattle.page_layout.proofs.FlashLemmas.{Leads-append, geometry-Leads}
+use Rattle.page_layout.proofs.RecordingLemmas.{records_join}
+use Rattle.page_layout.specs.Flash.{Flash, Operation, Program, Erase, Steps, Leads, after}
+use Rattle.page_layout.specs.Recording.{Recording, Records, image_after, image_after_all}
+use Rattle.promises.specs.Stop.{Tears, LeftBy, StopsIn, MayLeave, LeavesOnly, NoOperationLaw, TornInOneLaw, BetweenLaw, StopsJoinLaw, ImageLaw}
 use Rattle.promises.proofs.LogLemmas.{after_all, leads_after, after-geometry}
 
 -- nothing was torn yet
@@ -86,3 +91,54 @@ all-image s (op ∷ log) pages same =
 
 pub image_law : ImageLaw
 image_law old new log h = ap (λ (s : Flash). s.image) (leads_after old new log h) ∙ all-image old log old.geometry.pages refl
+
+-- ---- calls and their stops
+
+records_none : (told : Option Recording) → Records told [] told
+records_none None = inr refl
+records_none (Some r) = inr (ap (λ l. Some (record { image = r.image; log = l })) (sym (append-nil r.log)))
+
+-- a call that does nothing
+pub leaves_nothing : (die : Flash) (told : Option Recording) (is_so : Image → Type 0) → is_so die.image → LeavesOnly die die told told is_so
+leaves_nothing die told is_so so = record {
+  log = [];
+  leads = refl;
+  records = records_none told;
+  left = λ image may. subst is_so (sym may.by) so;
+}
+
+image_one : (old new : Flash) (op : Operation) → Steps old op new → new.image ≡ image_after old.geometry.pages old.image op
+image_one old new op steps = ap (λ (s : Flash). s.image) steps.left ∙ after-image old op
+
+-- one operation: what was before it, what it may leave torn, and what it left
+pub leaves_one : (old new : Flash) (op : Operation) (told told' : Option Recording) (is_so : Image → Type 0) → Steps old op new → Records told (op ∷ []) told'
+    → ((image : Image) → IsImage old.geometry image → Tears old.geometry.pages op old.image image → is_so image) → is_so new.image → LeavesOnly old new told told' is_so
+leaves_one old new op told told' is_so steps records torn so = record {
+  log = op ∷ [];
+  leads = (new, steps, refl);
+  records = records;
+  left = λ image may. elim may.by [
+    | inl tears ↦ torn image may.whole tears
+    | inr last ↦ subst is_so (image_one old new op steps ∙ sym last) so
+  ];
+}
+
+same_geometry : (a b : Flash) (log : List Operation) → Leads a log b → b.geometry ≡ a.geometry
+same_geometry a b log h = geometry-Leads a b log h
+
+-- one call after another
+pub leaves_join : (a b c : Flash) (ra rb rc : Option Recording) (is_so : Image → Type 0) → LeavesOnly a b ra rb is_so → LeavesOnly b c rb rc is_so → LeavesOnly a c ra rc is_so
+leaves_join a b c ra rb rc is_so x y = record {
+  log = x.log ++ y.log;
+  leads = Leads-append a b c x.log y.log x.leads y.leads;
+  records = records_join ra rb rc x.log y.log x.records y.records;
+  left = λ image may. elim (split_stops a.geometry.pages a.image image x.log y.log may.by) [
+    | inl first ↦ x.left image (record { whole = may.whole; by = first })
+    | inr later ↦
+        let same = same_geometry a b x.log x.leads in
+        y.left image (record {
+          whole = subst (λ g. IsImage g image) (sym same) may.whole;
+          by = subst (λ i. LeftBy b.geometry.pages i y.log image) (sym (image_law a b x.log x.leads)) (subst (λ (g : Geometry). LeftBy g.pages (image_after_all a.geometry.pages a.image x.log) y.log image) (sym same) later);
+        })
+  ];
+}

@@ -43,6 +43,12 @@ erases_of [] block = 0
 erases_of (Program row page passed left ∷ log) block = erases_of log block
 erases_of (Erase other passed left ∷ log) block = erases_of log block + one_if (other == block)
 
+-- the erases of one block that passed
+abbrev pub passed_erases_of : List Operation → ℕ → ℕ
+passed_erases_of [] block = 0
+passed_erases_of (Program row page passed left ∷ log) block = passed_erases_of log block
+passed_erases_of (Erase other passed left ∷ log) block = passed_erases_of log block + one_if (passed && (other == block))
+
 -- ---- bad, good and free blocks
 
 -- an operation on the block failed
@@ -85,6 +91,7 @@ pub record CountsJoin (pages block : ℕ) (xs ys : List Operation) : Type 0 wher
   pub erases : erases_in (xs ++ ys) ≡ erases_in xs + erases_in ys
   pub programs_at : programs_of pages (xs ++ ys) block ≡ programs_of pages xs block + programs_of pages ys block
   pub erases_at : erases_of (xs ++ ys) block ≡ erases_of xs block + erases_of ys block
+  pub passed_erases_at : passed_erases_of (xs ++ ys) block ≡ passed_erases_of xs block + passed_erases_of ys block
 
 abbrev pub CountsLaw : Type 0
 CountsLaw = (pages block : ℕ) (xs ys : List Operation) → CountsJoin pages block xs ys

@@ -1,18 +1,10 @@
 -- The images that a stop in the middle of operations may leave.
-use Rattle.std.specs.Prelude.{◌≡◌, ◌⊎◌, ◌↔◌, ℕ, List, [], ◌∷◌, ◌++◌, slice_set}
+use Rattle.std.specs.Prelude.{◌≡◌, ◌⊎◌, ◌↔◌, ℕ, List, [], ◌∷◌, ◌++◌, Option}
 use Rattle.page_layout.specs.declared.geometry.Geometry.{Geometry}
 use Rattle.page_layout.specs.Page.{Image, IsImage}
 use Rattle.page_layout.specs.Change.{FailsAt, LosesIn}
-use Rattle.page_layout.specs.Flash.{Flash, Operation, Program, Erase, Leads, with_block}
-
--- the image after an operation
-unfoldable pub image_after : ℕ → Image → Operation → Image
-image_after pages image (Program row page passed left) = slice_set image row left
-image_after pages image (Erase block passed left) = with_block pages block left image
-
-abbrev pub image_after_all : ℕ → Image → List Operation → Image
-image_after_all pages image [] = image
-image_after_all pages image (op ∷ log) = image_after_all pages (image_after pages image op) log
+use Rattle.page_layout.specs.Flash.{Flash, Operation, Program, Erase, Leads}
+use Rattle.page_layout.specs.Recording.{Recording, Records, image_after, image_after_all}
 
 -- Stopped before an operation or in it. A program: the image is as before, or its page alone has changed and has no sound record. An
 -- erase: each page of its block is as before or has no sound record.
@@ -59,3 +51,13 @@ StopsJoinLaw = (pages : ℕ) (image left : Image) (xs ys : List Operation) → L
 -- the die's image after its log is the image after its operations
 abbrev pub ImageLaw : Type 0
 ImageLaw = (old new : Flash) (log : List Operation) → Leads old log new → new.image ≡ image_after_all old.geometry.pages old.image log
+
+-- ---- calls and their stops: `StopLemmas` joins them
+
+-- A CALL, AND WHATEVER A STOP IN IT MAY LEAVE. A log leads the die from one state to the other, the record that is told has gained just
+-- that log, and each image that a stop in it may leave is so.
+pub record LeavesOnly (old new : Flash) (told told' : Option Recording) (is_so : Image → Type 0) : Type 0 where
+  pub log : List Operation
+  pub leads : Leads old log new
+  pub records : Records told log told'
+  pub left : (image : Image) → MayLeave old.geometry old.image log image → is_so image

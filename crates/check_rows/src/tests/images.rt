@@ -9,14 +9,14 @@ use std::process::Abort;
 use std::test::Fail;
 
 // A sound page: its row, its record's kind, number and sequence, and the byte that fills its data area.
-type Page = (u32, Kind, u32, u64, u8);
+pub(super) type Page = (u32, Kind, u32, u64, u8);
 
 // What a certificate says of a block: its number, class, write pointer, live pages and erase count.
-type Said = (u32, u8, u8, u8, u8);
+pub(super) type Said = (u32, u8, u8, u8, u8);
 
 // What a certificate says, its numbers with the least byte first. Blocks that are not named are free and were never erased,
 // and sectors that are not have no row.
-struct Claim {
+pub(super) struct Claim {
     capacity: u8,
     next: [u8; 8],
     blocks: &'static [Said],
@@ -68,6 +68,18 @@ const FREE_BUT_LIVE: Said = (2, 0, 0, 1, 0);
 const CLOSED_BUT_ERASED: Said = (3, 3, 0, 0, 0);
 
 const FREE_BUT_WORN: Said = (1, 0, 0, 0, 1);
+
+// The certificate of the formatted die, for a cache of 4 entries.
+pub(super) const FORMATTED_CLAIM: Claim = Claim {
+    capacity: 4,
+    next: [3, 0, 0, 0, 0, 0, 0, 0],
+    blocks: &[META],
+    directory: FORMATTED,
+    sectors: &[],
+};
+
+// The pages of the formatted die.
+pub(super) const FORMATTED_PAGES: [Page; 2] = [TABLE_0, TABLE_1];
 
 const CASES: [Case; 26] = [
     Case {
@@ -475,7 +487,7 @@ fn push_row(
 }
 
 // The image of a die that is erased but for these pages.
-fn image_of(alloc: Global, geometry: &Geometry, pages: &[Page]) -> Result<Vec<u8>, AllocError> {
+pub(super) fn image_of(alloc: Global, geometry: &Geometry, pages: &[Page]) -> Result<Vec<u8>, AllocError> {
     let mut bytes = Vec::new(alloc);
     for row in 0..256 {
         push_row(&mut bytes, geometry, pages, row)?;
@@ -541,7 +553,7 @@ fn sectors_of(alloc: Global, sectors: &[(u32, u8)]) -> Result<Vec<u8>, AllocErro
     Ok(bytes)
 }
 
-fn certificate_of(alloc: Global, claim: &Claim) -> Result<Certificate, Fail> {
+pub(super) fn certificate_of(alloc: Global, claim: &Claim) -> Result<Certificate, Fail> {
     let mut bytes = Vec::new(alloc);
     bytes.extend_from_slice(&HEAD)?;
     bytes.extend_from_slice(&[claim.capacity, 0, 0, 0])?;

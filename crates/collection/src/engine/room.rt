@@ -1,9 +1,16 @@
 //! Free blocks are what a call needs before it programs.
-ghost use Rattle.std.specs.Prelude.{◌≡◌, ◌≢◌, ◌<◌, ◌≤◌, Ok, Err, None, ◌↔◌, IsOk};
+ghost use Rattle.std.specs.Prelude.{◌≡◌, ◌≢◌, ℕ, ◌<◌, ◌≤◌, true, Err, None, OnOk, IfErr, MatchResult, MatchOption};
 ghost use Rattle.std.specs.Option.{ForSome};
+ghost use Rattle.page_layout.specs.Counter.{HasRisen};
+ghost use Rattle.budget.specs.Account.{IsFunded};
 ghost use Rattle.allocation.specs.State.{free_count};
-ghost use Rattle.collection.specs.Safe.{IsSafe, ram};
+ghost use Rattle.allocation.specs.Counts.{counts_of};
+ghost use Rattle.collection.specs.Safe.{IsSafe, IsIdle, ram, image_in};
+ghost use Rattle.collection.specs.Truth as truth;
+ghost use Rattle.collection.specs.Log.{Went};
 ghost use Rattle.collection.specs.Results.{fault_after};
+ghost use Rattle.collection.specs.Collect.{KeepsKeys, Refreshes, GoesOn, HasRoom, RoomTells, IsRearranged, RoomRefused, RoomCounts};
+ghost use Rattle.collection.specs.Room.{IsMade, IsWorth};
 
 use super::Engine;
 use crate::fault::WriteFault;
@@ -13,32 +20,121 @@ use onfi_cycles::Nand;
 /// two failures; one is over. With fewer a device only reads. (This project.)
 pub const LEAST_FREE: u32 = 5;
 
+/// The free blocks up to which room is made: the least that a call may begin with, two that it opens,
+/// and one for each of two failures. (This project.)
+pub const RESERVE: u32 = 9;
+
 impl<N: Nand> Engine<N> {
-    /// Sees that there are free blocks enough for a call that programs. It collects no block yet, so
-    /// it asks nothing of the die.
+    // The block that is collected next to make room: where fewer than nine are free, the next victim,
+    // if it has few live pages.
+    fn next_worth(&self) -> Option<u32>
+        requires safe { IsSafe N.flash self.now }
+        ensures { MatchOption result (IsMade (ram self.now)) (IsWorth (ram self.now)) }
+    {
+        if self.blocks.free() >= RESERVE {
+            return None;
+        }
+        let victim = self.blocks.victim();
+        match victim {
+            Some(block) if self.blocks.live(block) <= self.geometry.vmax() => Some(block),
+            _ => None,
+        }
+    }
+
+    // Whether there are free blocks enough.
+    fn enough(&self) -> Result<(), WriteFault>
+        requires safe { IsSafe N.flash self.now }
+        ensures ok { OnOk result (5 ≤ free_count (ram self.now).blocks) }
+        ensures err { IfErr result (λ fault. (fault ≡ WriteFault.ReadOnly) × (free_count (ram self.now).blocks < 5)) }
+    {
+        if self.blocks.free() < LEAST_FREE {
+            return Err(WriteFault::ReadOnly);
+        }
+        Ok(())
+    }
+
+    // Collects until nine blocks are free or none is worth it, whatever fault stands.
+    fn regain(&mut self, flushing: bool) -> Result<(), WriteFault>
+        requires safe { IsSafe N.flash self.old }
+        requires idle { IsIdle (ram self.old) }
+        ensures safe { IsSafe N.flash self.new }
+        ensures fault { self.new.fault ≡ self.old.fault }
+        ensures idle { OnOk result (IsIdle (ram self.new)) }
+        ensures goes { GoesOn (ram self.old) (ram self.new) }
+        ensures honest { N.honest self.new.nand ≡ N.honest self.old.nand }
+        ensures failed { N.failed self.old.nand ≤ N.failed self.new.nand }
+        ensures rose { result ≡ Err WriteFault.Bus → HasRisen (N.failed self.old.nand) (N.failed self.new.nand) }
+        ensures keys { KeepsKeys self.old.mapping self.new.mapping }
+        ensures refreshes { flushing ≡ true → Refreshes (ram self.old) (ram self.new) }
+        ensures room { OnOk result (HasRoom (ram self.new)) }
+        ensures tells { IfErr result (RoomTells (ram self.new)) }
+        ensures went { N.honest self.old.nand ≡ true → result ≢ Err WriteFault.Bus →
+            Went (ram self.old) (N.flash self.old.nand) (ram self.new) (N.flash self.new.nand) }
+        ensures truth { N.honest self.old.nand ≡ true → truth.IsTrue None (ram self.old) (image_in N.flash self.old) →
+            MatchResult result
+            (λ _. IsRearranged (ram self.old) (image_in N.flash self.old) (ram self.new) (image_in N.flash self.new))
+            (RoomRefused (ram self.old) (image_in N.flash self.old) (ram self.new) (image_in N.flash self.new)) }
+        ensures count { N.honest self.old.nand ≡ true → truth.IsTrue None (ram self.old) (image_in N.flash self.old) →
+            (failures : ℕ) → IsFunded self.old.geometry.pages failures (counts_of (ram self.old).blocks) →
+            RoomCounts failures (ram self.old) (ram self.new) result }
+    {
+        'rounds: loop {
+            let worth = self.next_worth();
+            let Some(block) = worth else {
+                return self.enough();
+            };
+            self.collect_block(block, flushing)?;
+        }
+    }
+
+    /// Sees that there are free blocks enough for a call that programs: while fewer than nine are free
+    /// and the closed block of fewest live pages has at most `Geometry::vmax`, it is collected, in a
+    /// flush as `collect` does there. Afterwards at least five blocks are free.
+    ///
+    /// The array stays, and so do the sectors that are cached, and their order; bad blocks stay as they
+    /// are, and get no page. No sector is moved afterwards; while flushing, a translation page that
+    /// lacked no row lacks none.
+    ///
+    /// With five free blocks as a call begins, nine are free afterwards unless fewer than
+    /// `Geometry::need` are good.
     ///
     /// # Errors
     ///
-    /// Each stands: `put`, `write_back`, `make_room`, `write_sector` and `trim_sector` answer it again
-    /// from then on, and change nothing.
+    /// Each stands: `put`, `write_back`, `collect`, `make_room`, `rescue_one`, `write_sector` and
+    /// `trim_sector` answer it again from then on, and change nothing.
     ///
-    /// - `ReadOnly` where fewer than five blocks are free. The array is as it was.
+    /// - `ReadOnly` where fewer than five blocks are free. With five as the call began, fewer than
+    ///   `Geometry::need` blocks are good then, or three have failed in the call. The array is as it was.
+    /// - `SequenceSpent`, `Damaged` and `Bus` as `collect`.
     ///
-    /// No other comes, unless it stood before. It takes no memory. (This project.)
-    pub fn make_room(&mut self) -> Result<(), WriteFault>
+    /// It takes no memory. (This project.)
+    pub fn make_room(&mut self, flushing: bool) -> Result<(), WriteFault>
         requires safe { IsSafe N.flash self.old }
+        requires idle { self.old.fault ≡ None → IsIdle (ram self.old) }
         ensures safe { IsSafe N.flash self.new }
         ensures standing { ForSome self.old.fault (λ fault. (result ≡ Err fault) × (self.new ≡ self.old)) }
-        ensures same { self.new ≡ record self.old { fault = fault_after self.old.fault result } }
-        ensures room { self.old.fault ≡ None → IsOk result ↔ (5 ≤ free_count (ram self.old).blocks) }
-        ensures too_few { self.old.fault ≡ None → free_count (ram self.old).blocks < 5 → result ≡ Err WriteFault.ReadOnly }
+        ensures fault { self.new.fault ≡ fault_after self.old.fault result }
+        ensures idle { OnOk result (IsIdle (ram self.new)) }
+        ensures goes { GoesOn (ram self.old) (ram self.new) }
+        ensures honest { N.honest self.new.nand ≡ N.honest self.old.nand }
+        ensures failed { N.failed self.old.nand ≤ N.failed self.new.nand }
+        ensures rose { self.old.fault ≡ None → result ≡ Err WriteFault.Bus → HasRisen (N.failed self.old.nand) (N.failed self.new.nand) }
+        ensures keys { KeepsKeys self.old.mapping self.new.mapping }
+        ensures refreshes { flushing ≡ true → Refreshes (ram self.old) (ram self.new) }
+        ensures room { OnOk result (HasRoom (ram self.new)) }
+        ensures tells { self.old.fault ≡ None → IfErr result (RoomTells (ram self.new)) }
+        ensures went { N.honest self.old.nand ≡ true → result ≢ Err WriteFault.Bus →
+            Went (ram self.old) (N.flash self.old.nand) (ram self.new) (N.flash self.new.nand) }
+        ensures truth { N.honest self.old.nand ≡ true → self.old.fault ≡ None → truth.IsTrue None (ram self.old) (image_in N.flash self.old) →
+            MatchResult result
+            (λ _. IsRearranged (ram self.old) (image_in N.flash self.old) (ram self.new) (image_in N.flash self.new))
+            (RoomRefused (ram self.old) (image_in N.flash self.old) (ram self.new) (image_in N.flash self.new)) }
+        ensures count { N.honest self.old.nand ≡ true → self.old.fault ≡ None → truth.IsTrue None (ram self.old) (image_in N.flash self.old) →
+            (failures : ℕ) → IsFunded self.old.geometry.pages failures (counts_of (ram self.old).blocks) →
+            RoomCounts failures (ram self.old) (ram self.new) result }
     {
         self.standing()?;
-        let answer = if self.blocks.free() < LEAST_FREE {
-            Err(WriteFault::ReadOnly)
-        } else {
-            Ok(())
-        };
+        let answer = self.regain(flushing);
         self.noted(answer)
     }
 }

@@ -14,7 +14,7 @@ ghost use Rattle.collection.specs.Truth.{IsTrue};
 ghost use Rattle.collection.specs.Cost.{PutCosts, PageCosts};
 ghost use Rattle.collection.specs.Log.{Went};
 ghost use Rattle.collection.specs.Settle.{HasPlace, SetsRow, SetsMapping, Settles, HasNoMore};
-ghost use Rattle.collection.specs.Results.{MayPut, Goes, IsReplaced, IsLastPage, IsWritten, Refused};
+ghost use Rattle.collection.specs.Results.{MayPut, Goes, KeepsTable, IsReplaced, IsLastPage, IsWritten, Refused};
 
 use super::Engine;
 use crate::fault::WriteFault;
@@ -75,9 +75,11 @@ impl<N: Nand> Engine<N> {
         ensures honest { N.honest self.new.nand ≡ N.honest self.old.nand }
         ensures reads { N.reads self.new.nand ≡ N.reads self.old.nand }
         ensures erases { N.erases self.new.nand ≡ N.erases self.old.nand }
+        ensures pin { (ram self.new).pin ≡ (ram self.old).pin }
         ensures failed { N.failed self.old.nand ≤ N.failed self.new.nand }
         ensures rose { result ≡ Err WriteFault.Bus → HasRisen (N.failed self.old.nand) (N.failed self.new.nand) }
         ensures row { IfOk result (IsOutside (ram self.old)) }
+        ensures table { KeepsTable (ram self.old).blocks (ram self.new).blocks }
         ensures mapping { MatchResult result
             (λ row. SetsMapping (key_from kind number) row self.old.mapping self.new.mapping)
             (λ _. self.new.mapping ≡ self.old.mapping) }
@@ -109,6 +111,7 @@ impl<N: Nand> Engine<N> {
         ensures honest { N.honest self.new.nand ≡ N.honest self.old.nand }
         ensures reads { N.reads self.new.nand ≡ N.reads self.old.nand }
         ensures erases { N.erases self.new.nand ≡ N.erases self.old.nand }
+        ensures pin { (ram self.new).pin ≡ (ram self.old).pin }
         ensures failed { N.failed self.old.nand ≤ N.failed self.new.nand }
         ensures rose { result ≡ Err WriteFault.Bus → HasRisen (N.failed self.old.nand) (N.failed self.new.nand) }
         ensures keys { keys_of self.new.mapping.cached ≡ keys_of self.old.mapping.cached }

@@ -41,6 +41,7 @@ impl<N: Nand> Engine<N> {
         ensures honest { N.honest self.new.nand ≡ N.honest self.old.nand }
         ensures reads { N.reads self.new.nand ≡ N.reads self.old.nand }
         ensures erases { N.erases self.new.nand ≡ N.erases self.old.nand }
+        ensures pin { (ram self.new).pin ≡ (ram self.old).pin }
         ensures failed { N.failed self.old.nand ≤ N.failed self.new.nand }
         ensures rose { self.old.fault ≡ None → result ≡ Err WriteFault.Bus → HasRisen (N.failed self.old.nand) (N.failed self.new.nand) }
         ensures keys { keys_of self.new.mapping.cached ≡ keys_of self.old.mapping.cached }
@@ -81,6 +82,7 @@ impl<N: Nand> Engine<N> {
         ensures honest { N.honest self.new.nand ≡ N.honest self.old.nand }
         ensures reads { N.reads self.new.nand ≡ N.reads self.old.nand }
         ensures erases { N.erases self.new.nand ≡ N.erases self.old.nand }
+        ensures pin { (ram self.new).pin ≡ (ram self.old).pin }
         ensures failed { N.failed self.old.nand ≤ N.failed self.new.nand }
         ensures rose { self.old.fault ≡ None → result ≡ Err WriteFault.Bus → HasRisen (N.failed self.old.nand) (N.failed self.new.nand) }
         ensures keys { keys_of self.new.mapping.cached ≡ keys_of self.old.mapping.cached }

@@ -83,7 +83,7 @@ impl<N: Nand> Engine<N> {
     }
 
     // Writes translation page `t` anew, whatever fault stands.
-    fn write_page_back(&mut self, t: u32) -> Result<(), WriteFault>
+    pub(crate) fn write_page_back(&mut self, t: u32) -> Result<(), WriteFault>
         requires safe { IsSafe N.flash self.old }
         requires page { t < translation_pages self.old.geometry }
         ensures safe { IsSafe N.flash self.new }
@@ -92,6 +92,7 @@ impl<N: Nand> Engine<N> {
         ensures honest { N.honest self.new.nand ≡ N.honest self.old.nand }
         ensures reads { N.reads self.new.nand ≤ N.reads self.old.nand + 1 }
         ensures erases { N.erases self.new.nand ≡ N.erases self.old.nand }
+        ensures pin { (ram self.new).pin ≡ (ram self.old).pin }
         ensures failed { N.failed self.old.nand ≤ N.failed self.new.nand }
         ensures rose { result ≡ Err WriteFault.Bus → HasRisen (N.failed self.old.nand) (N.failed self.new.nand) }
         ensures cleaned { OnOk result (self.new.mapping ≡ cleaned self.old.mapping t) }
@@ -149,6 +150,7 @@ impl<N: Nand> Engine<N> {
         ensures honest { N.honest self.new.nand ≡ N.honest self.old.nand }
         ensures reads { N.reads self.new.nand ≤ N.reads self.old.nand + 1 }
         ensures erases { N.erases self.new.nand ≡ N.erases self.old.nand }
+        ensures pin { (ram self.new).pin ≡ (ram self.old).pin }
         ensures failed { N.failed self.old.nand ≤ N.failed self.new.nand }
         ensures rose { self.old.fault ≡ None → result ≡ Err WriteFault.Bus → HasRisen (N.failed self.old.nand) (N.failed self.new.nand) }
         ensures cleaned { OnOk result (self.new.mapping ≡ cleaned self.old.mapping t) }

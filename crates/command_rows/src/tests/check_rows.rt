@@ -227,7 +227,7 @@ const FIRST: [Step; 9] = [
 // A certificate for a cache of 5 entries, so that a checker that were asked would refuse it.
 const OTHER: Claimed = (5, 3, &[META], &[]);
 
-const FIRST_FAULTS: [Case; 4] = [
+const FIRST_FAULTS: [Case; 5] = [
     Case {
         name: "an image that is too short and an empty certificate",
         files: &[
@@ -245,10 +245,18 @@ const FIRST_FAULTS: [Case; 4] = [
         steps: &[Step::Run(CHECK, 1, "refused certificate 2 Short\n")],
     },
     Case {
-        name: "an image that is too short",
+        name: "an image that is too short and a certificate for another capacity",
         files: &[
             ("image.bin", Made::Erased(95)),
             ("cert.bin", Made::Cut(OTHER, 472)),
+        ],
+        steps: &[Step::Run(CHECK, 1, "refused check 1 GeometryDiffers\n")],
+    },
+    Case {
+        name: "an image that is too short",
+        files: &[
+            ("image.bin", Made::Erased(95)),
+            ("cert.bin", Made::Certificate((4, 3, &[META], &[]))),
         ],
         steps: &[Step::Run(CHECK, 1, "refused image 1 WrongLength\n")],
     },

@@ -3,7 +3,7 @@ ghost use Rattle.std.specs.Prelude.{◌≡◌, IfOk, string_bytes};
 
 use commands::{FileFault, FileStore};
 use std::alloc::{AllocError, Global};
-use std::io::{self, ErrorKind, Write};
+use std::io::{self, Cursor, ErrorKind, Read, Write};
 use std::test::Fail;
 
 /// A file in memory, as it was before the first run.
@@ -81,6 +81,8 @@ impl MemoryFiles {
 impl FileStore for MemoryFiles {
     ghost use Rattle.std.specs.Prelude.{Some, map, string_bytes};
 
+    type Reader = Cursor<Vec<u8>>;
+
     ghost gives = { λ _ _ _. Unit {0} };
 
     ghost stores = { λ m. Some (map (λ s. record { path = string_bytes s.path; bytes = s.bytes.items; done = s.done }) m.stored.items) };
@@ -93,6 +95,10 @@ impl FileStore for MemoryFiles {
             Some(bytes) => Vec::from_slice(self.alloc, bytes).map_err(|_| FileFault::OutOfMemory),
             None => Err(FileFault::Failed),
         }
+    }
+
+    fn open(&mut self, path: &str) -> Result<Cursor<Vec<u8>>, FileFault> {
+        self.load(path).map(Cursor::new)
     }
 
     fn store(&mut self, path: &str, bytes: &[u8]) -> Result<(), FileFault> {
@@ -118,5 +124,31 @@ impl Write for Closed {
 
     fn flush(&mut self) -> io::Result<()> {
         Ok(())
+    }
+}
+
+/// Standard input that gives these bytes, and then ends or fails.
+#[derive(Drop)]
+pub struct Requests {
+    left: &'static [u8],
+    fails: bool,
+}
+
+impl Requests {
+    pub fn of(left: &'static [u8], fails: bool) -> Requests {
+        Requests { left, fails }
+    }
+}
+
+impl Read for Requests {
+    fn read(&mut self, buf: &mut [u8]) -> io::Result<usize> {
+        if self.left.is_empty() && self.fails {
+            return Err(io::Error::from(ErrorKind::Interrupted));
+        }
+        let n = buf.len().min(self.left.len());
+        let (now, later) = self.left.split_at(n);
+        buf[..n].copy_from_slice(now);
+        self.left = later;
+        Ok(n)
     }
 }

@@ -1,5 +1,5 @@
 //! Runs of the program over files in memory, and what they have to answer: cases, each a list of steps over files of its own.
-use super::files::{Closed, MemoryFiles};
+use super::files::{Closed, MemoryFiles, Requests};
 use super::images::{Made, bytes_of};
 use commands::run;
 use std::alloc::{AllocError, Global};
@@ -31,6 +31,12 @@ pub enum Step {
     HoldsPart(&'static str, usize, usize, &'static [u8]),
     /// From now on no load finds memory.
     RefuseMemory,
+    /// Runs a command line over these requests: its status, the replies on standard output, and what it says on standard error.
+    Serve(&'static str, &'static [u8], u8, &'static [u8], &'static str),
+    /// The same where standard input fails after these requests.
+    ServeCut(&'static str, &'static [u8], u8, &'static [u8], &'static str),
+    /// The same where standard output is closed.
+    ServeClosed(&'static str, &'static [u8], u8, &'static str),
 }
 
 /// A name, the files by their paths, and what is done over them.
@@ -214,7 +220,76 @@ fn take(rt: &impl Abort, files: &mut MemoryFiles, step: &Step) -> Result<(), Fai
             expect_part(rt, files, path, *from, *to, bytes)?;
         }
         Step::RefuseMemory => files.refuses = true,
+        Step::Serve(line, input, status, out, err) => {
+            expect_served(
+                rt,
+                files,
+                line,
+                &mut Requests::of(input, false),
+                *status,
+                out,
+                err,
+            )?;
+        }
+        Step::ServeCut(line, input, status, out, err) => {
+            expect_served(
+                rt,
+                files,
+                line,
+                &mut Requests::of(input, true),
+                *status,
+                out,
+                err,
+            )?;
+        }
+        Step::ServeClosed(line, input, status, err) => {
+            expect_served_closed(rt, files, line, input, *status, err)?;
+        }
     }
+    Ok(())
+}
+
+// Runs a command line over requests.
+fn expect_served(
+    rt: &impl Abort,
+    files: &mut MemoryFiles,
+    line: &str,
+    input: &mut Requests,
+    status: u8,
+    out: &[u8],
+    err: &str,
+) -> Result<(), AllocError> {
+    let words = words_of(files.alloc, line)?;
+    let mut answered: Vec<u8> = Vec::new(files.alloc);
+    let mut told: Vec<u8> = Vec::new(files.alloc);
+    let found = run(files.alloc, &words, files, input, &mut answered, &mut told);
+    hold(rt, &(files.case, line), &told.as_slice(), &err.as_bytes());
+    hold(rt, &(files.case, line), &answered.as_slice(), &out);
+    hold(rt, &(files.case, line), &found, &status);
+    Ok(())
+}
+
+fn expect_served_closed(
+    rt: &impl Abort,
+    files: &mut MemoryFiles,
+    line: &str,
+    input: &'static [u8],
+    status: u8,
+    err: &str,
+) -> Result<(), AllocError> {
+    let words = words_of(files.alloc, line)?;
+    let mut told: Vec<u8> = Vec::new(files.alloc);
+    let mut requests = Requests::of(input, false);
+    let found = run(
+        files.alloc,
+        &words,
+        files,
+        &mut requests,
+        &mut Closed,
+        &mut told,
+    );
+    hold(rt, &(files.case, line), &told.as_slice(), &err.as_bytes());
+    hold(rt, &(files.case, line), &found, &status);
     Ok(())
 }
 

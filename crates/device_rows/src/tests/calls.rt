@@ -5,18 +5,20 @@ use ftl_device::{Device, DeviceFault};
 use onfi_cycles::Nand;
 use std::process::Abort;
 
-// A write of a sector with 64 bytes of one, a read that gives such, or a trim.
+// A write of a sector with 64 bytes of one, a read that gives such, a trim, or a flush.
 #[derive(Clone, Copy, Debug)]
 pub enum Call {
     Write(u32, u8),
     Read(u32, u8),
     Trim(u32),
+    Flush,
 }
 
 impl Call {
     pub fn sector(self) -> u32 {
         match self {
             Call::Write(sector, _) | Call::Read(sector, _) | Call::Trim(sector) => sector,
+            Call::Flush => 0,
         }
     }
 
@@ -24,7 +26,7 @@ impl Call {
     pub fn byte(self) -> u8 {
         match self {
             Call::Write(_, byte) | Call::Read(_, byte) => byte,
-            Call::Trim(_) => 0,
+            Call::Trim(_) | Call::Flush => 0,
         }
     }
 }
@@ -95,6 +97,14 @@ fn trim<N: Nand>(device: &mut Device<N>, sector: u32) -> Result<(), DeviceFault>
     device.trim(sector)
 }
 
+// Flushes.
+fn flush<N: Nand>(device: &mut Device<N>) -> Result<(), DeviceFault>
+    requires { IsDevice N.flash device.old }
+    ensures { IsDevice N.flash device.new }
+{
+    device.flush()
+}
+
 // Makes a call.
 pub fn make<N: Nand>(
     rt: &impl Abort,
@@ -109,6 +119,7 @@ pub fn make<N: Nand>(
         Call::Write(sector, byte) => write(rt, device, sector, byte),
         Call::Read(sector, byte) => read(rt, device, name, sector, byte),
         Call::Trim(sector) => trim(device, sector),
+        Call::Flush => flush(device),
     }
 }
 

@@ -2,7 +2,7 @@
 ghost use Rattle.std.specs.Prelude.{◌≡◌, ◌⊎◌, IfOk, OnOk};
 ghost use Rattle.page_layout.specs.Counter.{HasRisen};
 ghost use Rattle.onfi_cycles.specs.Driver.{flash_by};
-ghost use Rattle.ftl_device.specs.Run.{IsWhole, AreWhole, AreKnown, RanFrom};
+ghost use Rattle.ftl_device.specs.Run.{IsWhole, AreWhole, AreKnown, RanFrom, exchanges_of};
 
 use super::bench::{formatted_die, mounted, small};
 use certificate::Certificate;
@@ -44,6 +44,8 @@ fn call_of(
     match command {
         Command::Read { sector } => Ok(Call::new(alloc, geometry, Command::Read { sector })?),
         Command::Trim { sector } => Ok(Call::new(alloc, geometry, Command::Trim { sector })?),
+        Command::Flush => Ok(Call::new(alloc, geometry, Command::Flush)?),
+        Command::Turn => Ok(Call::new(alloc, geometry, Command::Turn)?),
         Command::Write { sector, body } => {
             assert!(rt; geometry.data_bytes() == body.len());
             Ok(Call::new(alloc, geometry, Command::Write { sector, body })?)
@@ -126,9 +128,9 @@ fn run_on_die(
 ) -> Result<Device<Driver<Die>>, Fail>
     requires same { driver.geometry ≡ geometry.now }
     requires whole { AreWhole geometry.now calls.old }
-    ensures rose { IfOk result (λ d. AreKnown calls.new ⊎ HasRisen driver.failures d.engine.nand.failures) }
-    ensures ran { IfOk result (λ d. AreKnown calls.new → RanFrom (flash_by (λ die. die.state)) (flash_by (λ die. die.state) driver)
-        certificate.now calls.new d) }
+    ensures rose { IfOk result (λ d. AreKnown (exchanges_of calls.new) ⊎ HasRisen driver.failures d.engine.nand.failures) }
+    ensures ran { IfOk result (λ d. AreKnown (exchanges_of calls.new) → RanFrom (flash_by (λ die. die.state)) (flash_by (λ die. die.state) driver)
+        certificate.now (exchanges_of calls.new) d) }
 {
     let accepted = check(alloc, &mut driver, geometry, 4, certificate)?;
     match Device::run_accepted(alloc, driver, accepted, calls) {
@@ -148,7 +150,7 @@ fn tell(
 ) -> Result<Die, Fail>
     requires same { driver.geometry ≡ geometry.now }
     requires whole { AreWhole geometry.now calls.old }
-    ensures known { OnOk result (AreKnown calls.new) }
+    ensures known { OnOk result (AreKnown (exchanges_of calls.new)) }
 {
     let certificate = mounted(alloc, &mut driver, geometry, 4)?;
     let device = run_on_die(alloc, driver, geometry, &certificate, calls)?;

@@ -15,6 +15,10 @@ pub enum PageAt {
     Trim(u32, u32, u64),
     // A row, the number, the sequence, and the bytes of its first entries. The others are FFh.
     Translation(u32, u32, u64, [u8; 16]),
+    // A row, the number, the sequence, and the first bytes. The others are 00h.
+    Table(u32, u32, u64, [u8; 16]),
+    // The same of a translation page with these bytes 16 to 31, and FFh in all others.
+    Second(u32, u32, u64, [u8; 16]),
     // From row 8 and sequence 3 on, so many pages of the sectors one after another, each with the count
     // of those before it for its byte.
     Round(u8),
@@ -56,6 +60,20 @@ fn translation_body(entries: &[u8; 16]) -> [u8; 64] {
     body
 }
 
+// The data area of a translation page with these bytes 16 to 31.
+fn second_body(entries: &[u8; 16]) -> [u8; 64] {
+    let mut body = [0xFF; 64];
+    body[16..32].copy_from_slice(entries);
+    body
+}
+
+// The data area of a table page that begins with these bytes.
+fn table_body(first: &[u8; 16]) -> [u8; 64] {
+    let mut body = [0; 64];
+    body[..16].copy_from_slice(first);
+    body
+}
+
 // The page of a row, if this is it.
 fn page_if_in(at: &PageAt, row: u32) -> Option<Page> {
     match at {
@@ -67,6 +85,13 @@ fn page_if_in(at: &PageAt, row: u32) -> Option<Page> {
         }
         PageAt::Translation(its, number, sequence, entries) if *its == row => {
             let body = translation_body(entries);
+            Some(page_with(Kind::Translation, *number, *sequence, body))
+        }
+        PageAt::Table(its, number, sequence, first) if *its == row => {
+            Some(page_with(Kind::Table, *number, *sequence, table_body(first)))
+        }
+        PageAt::Second(its, number, sequence, entries) if *its == row => {
+            let body = second_body(entries);
             Some(page_with(Kind::Translation, *number, *sequence, body))
         }
         PageAt::Round(count) => page_of_round(*count, row),

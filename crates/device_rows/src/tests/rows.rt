@@ -2,7 +2,7 @@
 use super::calls::Call;
 use super::calls::Call::{Read, Trim, Write};
 use super::cases::Cached::{Clean, Dirty};
-use super::cases::Step::{Done, Refused, Round};
+use super::cases::Step::{Done, Refused};
 use super::cases::{Case, QUIET, hold_cases};
 use super::pages::PageAt;
 use super::recorder::Operation::{Program, Programs, Read as ReadPage};
@@ -40,18 +40,7 @@ const FIRST_SPARE: [u8; 24] = [
     0x00, 0x00, 0x00, 0x00, 0xFF, 0xFF, 0xFF, 0xFF,
 ];
 
-const ALL: [u32; 32] = [
-    0, 1, 2, 3, 4, 5, 6, 7, 8, 9, 10, 11, 12, 13, 14, 15, 16, 17, 18, 19, 20, 21, 22, 23, 24, 25,
-    26, 27, 28, 29, 30, 31,
-];
-
-const NO_LONGER: DeviceFault = DeviceFault::ReadOnly {
-    good: 32,
-    need: 17,
-    failed: 0,
-};
-
-const SECTORS: [Case; 4] = [
+const SECTORS: [Case; 3] = [
     Case {
         name: "a write is one program",
         steps: &[Done(&[Write(5, 0x5A)])],
@@ -80,28 +69,6 @@ const SECTORS: [Case; 4] = [
             &[Write(32, 1), Read(32, 0), Trim(32), Trim(u32::MAX)],
         )],
         free: 31,
-        ..QUIET
-    },
-    // Nothing is collected, so the writes end where fewer than five blocks are free.
-    Case {
-        name: "writes end where blocks are few",
-        capacity: 32,
-        steps: &[
-            Round(209),
-            Refused(NO_LONGER, &[Write(17, 1), Trim(3)]),
-            Done(&[Read(0, 192), Read(16, 208), Read(17, 177), Read(31, 191)]),
-        ],
-        free: 4,
-        read_only: true,
-        cached: &ALL,
-        operations: &[
-            Programs(8, 1, 209, 0xE0),
-            ReadPage(200),
-            ReadPage(216),
-            ReadPage(185),
-            ReadPage(199),
-        ],
-        pages: &[PageAt::Round(209)],
         ..QUIET
     },
 ];

@@ -23,6 +23,7 @@ returns c command given named =
       format = c.order_named.ensures.format;
       check = c.order_named.ensures.check;
       mount = c.order_named.ensures.mount;
+      serve = c.order_named.ensures.serve;
     } in
     let P : List ℕ → Type 0 = λ name. IsOrderNamed name c.in_ok-words.words c.order_named.result in
     named_spells command given rows c.in_ok-words.words c.order_named.result c.in_ok-words.ensures.some

@@ -21,4 +21,5 @@ returns-clause-some c = record {
   second = word_at (found_of c.args.found.now) (codes "second") c.get_str-2.result _ c.get_str-2.ensures c.in_ok-get_str-2.was;
   third = word_at (found_of c.args.found.now) (codes "third") c.get_str-3.result _ c.get_str-3.ensures c.in_ok-get_str-3.was;
   fourth = word_found (found_of c.args.found.now) (codes "fourth") c.get_str-4.result c.get_str-4.ensures;
+  fifth = word_found (found_of c.args.found.now) (codes "fifth") c.get_str-5.result c.get_str-5.ensures;
 }

@@ -3,7 +3,8 @@ use Rattle.page_layout.specs.Geometry.{row_count}
 use Rattle.page_layout.proofs.GeometryLemmas.{some_rows}
 use Rattle.image_check.specs.Surveyed.{IsSurvey}
 use Rattle.image_check.proofs.JudgeLemmas.{surveys_of}
-use Rattle.image_check.proofs.PassLemmas.{seen, sized_more, whole_of}
+use Rattle.image_check.proofs.PassLemmas.{whole_of}
+use Rattle.image_check.proofs.SeenLemmas.{seen, sized_more}
 use Rattle.mount.proofs.mount_pages.survey_pages.Goals as goal
 
 pub loop-row-init : goal.loop-row-init

@@ -29,11 +29,10 @@ returns-in-Ok-Passed-clause-safe g c =
     let t = state c.take_row.new.self in
     let is = taken_by r c.of.result c.in-Some.row c.split_row-block.result.0 t c.requires.safe.memory c.in-Some.ensures.some c.split_row-block.ensures.block_is in
     record {
-      memory = passed_ram c.of.result c.split_row-block.result.0 c.in-Some.row r t c.requires.safe.memory is _ (record { geometry = refl; directory = refl; mapping = refl; next = refl }) c.args.old_row c.count_move.ensures c.requires.old_row c.requires.next;
+      memory = passed_ram c.of.result c.split_row-block.result.0 c.in-Some.row r t c.requires.safe.memory is _ (record { geometry = refl; directory = refl; mapping = refl; pin = refl; next = refl }) c.args.old_row c.count_move.ensures c.requires.old_row c.requires.next;
       geometry = c.program_record.ensures.geometry ∙ c.requires.safe.geometry;
       page = buffer_spare c.args.self.now.geometry c.args.self.now.page c.program_record.new.spare c.requires.safe.page;
       scratch = c.requires.safe.scratch;
-      idle = c.requires.safe.idle;
     }
 
 pub returns-in-Ok-Passed-clause-goes : goal.returns-in-Ok-Passed-clause-goes
@@ -41,7 +40,7 @@ returns-in-Ok-Passed-clause-goes g c =
     let r = ram c.args.self.now in
     let t = state c.take_row.new.self in
     let is = taken_by r c.of.result c.in-Some.row c.split_row-block.result.0 t c.requires.safe.memory c.in-Some.ensures.some c.split_row-block.ensures.block_is in
-    passed_goes c.of.result c.split_row-block.result.0 c.in-Some.row r t c.requires.safe.memory is _ (record { geometry = refl; directory = refl; mapping = refl; next = refl }) c.args.old_row c.count_move.ensures c.requires.old_row
+    passed_goes c.of.result c.split_row-block.result.0 c.in-Some.row r t c.requires.safe.memory is _ (record { geometry = refl; directory = refl; mapping = refl; pin = refl; next = refl }) c.args.old_row c.count_move.ensures c.requires.old_row
 
 pub returns-in-Ok-Passed-clause-row : goal.returns-in-Ok-Passed-clause-row
 returns-in-Ok-Passed-clause-row g c =
@@ -64,7 +63,7 @@ returns-in-Ok-Passed-clause-cost g c =
     let r = ram c.args.self.now in
     let t = state c.take_row.new.self in
     let is = taken_by r c.of.result c.in-Some.row c.split_row-block.result.0 t c.requires.safe.memory c.in-Some.ensures.some c.split_row-block.ensures.block_is in
-    passed_cost c.of.result c.split_row-block.result.0 c.in-Some.row r t c.requires.safe.memory is _ (record { geometry = refl; directory = refl; mapping = refl; next = refl }) (stream_of c.args.kind) c.args.old_row c.of.ensures c.count_move.ensures c.requires.old_row
+    passed_cost c.of.result c.split_row-block.result.0 c.in-Some.row r t c.requires.safe.memory is _ (record { geometry = refl; directory = refl; mapping = refl; pin = refl; next = refl }) (stream_of c.args.kind) c.args.old_row c.of.ensures c.count_move.ensures c.requires.old_row
 
 pub returns-in-Ok-Passed-clause-went : goal.returns-in-Ok-Passed-clause-went
 returns-in-Ok-Passed-clause-went g c = λ honest _.
@@ -74,7 +73,7 @@ returns-in-Ok-Passed-clause-went g c = λ honest _.
     let after = g.N.PageSource.flash c.program_record.new.nand in
     let is = taken_by r c.of.result c.in-Some.row c.split_row-block.result.0 t c.requires.safe.memory c.in-Some.ensures.some c.split_row-block.ensures.block_is in
     let step = at_outcome (λ o. IsStep c.in-Some.row o before after) c.in-Ok-Passed.field-0 Passed (c.in-Ok-Passed.ensures.step honest) c.in-Ok-Passed.field-0-is in
-    passed_went c.of.result c.split_row-block.result.0 c.in-Some.row r t c.requires.safe.memory is _ (record { geometry = refl; directory = refl; mapping = refl; next = refl }) before after c.args.old_row c.count_move.ensures c.requires.old_row step
+    passed_went c.of.result c.split_row-block.result.0 c.in-Some.row r t c.requires.safe.memory is _ (record { geometry = refl; directory = refl; mapping = refl; pin = refl; next = refl }) before after c.args.old_row c.count_move.ensures c.requires.old_row step
 
 pub returns-in-Ok-Passed-clause-truth : goal.returns-in-Ok-Passed-clause-truth
 returns-in-Ok-Passed-clause-truth g c = λ honest may.
@@ -91,7 +90,7 @@ returns-in-Ok-Passed-clause-truth g c = λ honest may.
     let means = at_outcome (λ o. ProgramMeans r.geometry written row c.deref.result.now (is_passed o) before.image after.image) c.in-Ok-Passed.field-0 Passed (c.in-Ok-Passed.ensures.means honest can) c.in-Ok-Passed.field-0-is in
     let writes = subst (λ bytes. Writes r.geometry written row bytes before.image after.image) c.deref.ensures.value means in
     let whole = c.in-Ok-Passed.ensures.image honest in
-    passed_put c.of.result b row r t c.requires.safe.memory is c.args.kind c.args.number c.args.old_row c.args.self.now.page.body.items before.image may c.requires.key _ (record { geometry = refl; directory = refl; mapping = refl; next = refl }) after.image whole (step_others row Passed before after step) c.wear.result (c.wear.ensures.is ∙ ap (λ x. wear_at x b) c.table.ensures) c.count_move.ensures c.requires.old_row writes
+    passed_put c.of.result b row r t c.requires.safe.memory is c.args.kind c.args.number c.args.old_row c.args.self.now.page.body.items before.image may c.requires.key _ (record { geometry = refl; directory = refl; mapping = refl; pin = refl; next = refl }) after.image whole (step_others row Passed before after step) c.wear.result (c.wear.ensures.is ∙ ap (λ x. wear_at x b) c.table.ensures) c.count_move.ensures c.requires.old_row writes
 
 -- ---- it failed
 
@@ -101,11 +100,10 @@ returns-in-Ok-Failed-clause-safe g c =
     let t = state c.take_row.new.self in
     let is = taken_by r c.of.result c.in-Some.row c.split_row-block.result.0 t c.requires.safe.memory c.in-Some.ensures.some c.split_row-block.ensures.block_is in
     record {
-      memory = failed_ram c.of.result c.split_row-block.result.0 c.in-Some.row r t c.requires.safe.memory is _ (record { geometry = refl; directory = refl; mapping = refl; next = refl }) c.retire.ensures.is c.requires.next;
+      memory = failed_ram c.of.result c.split_row-block.result.0 c.in-Some.row r t c.requires.safe.memory is _ (record { geometry = refl; directory = refl; mapping = refl; pin = refl; next = refl }) c.retire.ensures.is c.requires.next;
       geometry = c.program_record.ensures.geometry ∙ c.requires.safe.geometry;
       page = buffer_spare c.args.self.now.geometry c.args.self.now.page c.program_record.new.spare c.requires.safe.page;
       scratch = c.requires.safe.scratch;
-      idle = c.requires.safe.idle;
     }
 
 pub returns-in-Ok-Failed-clause-goes : goal.returns-in-Ok-Failed-clause-goes
@@ -113,14 +111,14 @@ returns-in-Ok-Failed-clause-goes g c =
     let r = ram c.args.self.now in
     let t = state c.take_row.new.self in
     let is = taken_by r c.of.result c.in-Some.row c.split_row-block.result.0 t c.requires.safe.memory c.in-Some.ensures.some c.split_row-block.ensures.block_is in
-    failed_goes c.of.result c.split_row-block.result.0 c.in-Some.row r t c.requires.safe.memory is _ (record { geometry = refl; directory = refl; mapping = refl; next = refl }) c.retire.ensures.is
+    failed_goes c.of.result c.split_row-block.result.0 c.in-Some.row r t c.requires.safe.memory is _ (record { geometry = refl; directory = refl; mapping = refl; pin = refl; next = refl }) c.retire.ensures.is
 
 pub returns-in-Ok-Failed-clause-cost : goal.returns-in-Ok-Failed-clause-cost
 returns-in-Ok-Failed-clause-cost g c =
     let r = ram c.args.self.now in
     let t = state c.take_row.new.self in
     let is = taken_by r c.of.result c.in-Some.row c.split_row-block.result.0 t c.requires.safe.memory c.in-Some.ensures.some c.split_row-block.ensures.block_is in
-    failed_cost c.of.result c.split_row-block.result.0 c.in-Some.row r t c.requires.safe.memory is _ (record { geometry = refl; directory = refl; mapping = refl; next = refl }) (stream_of c.args.kind) c.of.ensures c.retire.ensures.is
+    failed_cost c.of.result c.split_row-block.result.0 c.in-Some.row r t c.requires.safe.memory is _ (record { geometry = refl; directory = refl; mapping = refl; pin = refl; next = refl }) (stream_of c.args.kind) c.of.ensures c.retire.ensures.is
 
 pub returns-in-Ok-Failed-clause-went : goal.returns-in-Ok-Failed-clause-went
 returns-in-Ok-Failed-clause-went g c = λ honest _.
@@ -130,7 +128,7 @@ returns-in-Ok-Failed-clause-went g c = λ honest _.
     let after = g.N.PageSource.flash c.program_record.new.nand in
     let is = taken_by r c.of.result c.in-Some.row c.split_row-block.result.0 t c.requires.safe.memory c.in-Some.ensures.some c.split_row-block.ensures.block_is in
     let step = at_outcome (λ o. IsStep c.in-Some.row o before after) c.in-Ok-Failed.field-0 Failed (c.in-Ok-Failed.ensures.step honest) c.in-Ok-Failed.field-0-is in
-    failed_went c.of.result c.split_row-block.result.0 c.in-Some.row r t c.requires.safe.memory is _ (record { geometry = refl; directory = refl; mapping = refl; next = refl }) before after c.retire.ensures.is step
+    failed_went c.of.result c.split_row-block.result.0 c.in-Some.row r t c.requires.safe.memory is _ (record { geometry = refl; directory = refl; mapping = refl; pin = refl; next = refl }) before after c.retire.ensures.is step
 
 pub returns-in-Ok-Failed-clause-truth : goal.returns-in-Ok-Failed-clause-truth
 returns-in-Ok-Failed-clause-truth g c = λ honest may.
@@ -146,7 +144,7 @@ returns-in-Ok-Failed-clause-truth g c = λ honest may.
     let can = may_program c.of.result b row r t c.requires.safe.memory is c.args.kind c.args.number c.args.old_row c.args.self.now.page.body.items before.image may c.requires.key c.wear.result in
     let keeps = at_outcome (λ o. ProgramMeans r.geometry written row c.deref.result.now (is_passed o) before.image after.image) c.in-Ok-Failed.field-0 Failed (c.in-Ok-Failed.ensures.means honest can) c.in-Ok-Failed.field-0-is in
     let whole = c.in-Ok-Failed.ensures.image honest in
-    failed_kept c.of.result b row r t c.requires.safe.memory is c.args.kind c.args.number c.args.old_row c.args.self.now.page.body.items before.image may c.requires.key _ (record { geometry = refl; directory = refl; mapping = refl; next = refl }) after.image whole (step_others row Failed before after step) c.retire.ensures.is keeps
+    failed_kept c.of.result b row r t c.requires.safe.memory is c.args.kind c.args.number c.args.old_row c.args.self.now.page.body.items before.image may c.requires.key _ (record { geometry = refl; directory = refl; mapping = refl; pin = refl; next = refl }) after.image whole (step_others row Failed before after step) c.retire.ensures.is keeps
 
 -- ---- the die answered nothing
 
@@ -156,11 +154,10 @@ returns-in-Err-clause-safe g c =
     let t = state c.take_row.new.self in
     let is = taken_by r c.of.result c.in-Some.row c.split_row-block.result.0 t c.requires.safe.memory c.in-Some.ensures.some c.split_row-block.ensures.block_is in
     record {
-      memory = asked_ram c.of.result c.split_row-block.result.0 c.in-Some.row r t c.requires.safe.memory is _ (record { geometry = refl; directory = refl; mapping = refl; next = refl }) refl c.requires.next;
+      memory = asked_ram c.of.result c.split_row-block.result.0 c.in-Some.row r t c.requires.safe.memory is _ (record { geometry = refl; directory = refl; mapping = refl; pin = refl; next = refl }) refl c.requires.next;
       geometry = c.program_record.ensures.geometry ∙ c.requires.safe.geometry;
       page = buffer_spare c.args.self.now.geometry c.args.self.now.page c.program_record.new.spare c.requires.safe.page;
       scratch = c.requires.safe.scratch;
-      idle = c.requires.safe.idle;
     }
 
 pub returns-in-Err-clause-goes : goal.returns-in-Err-clause-goes
@@ -168,4 +165,4 @@ returns-in-Err-clause-goes g c =
     let r = ram c.args.self.now in
     let t = state c.take_row.new.self in
     let is = taken_by r c.of.result c.in-Some.row c.split_row-block.result.0 t c.requires.safe.memory c.in-Some.ensures.some c.split_row-block.ensures.block_is in
-    asked_goes c.of.result c.split_row-block.result.0 c.in-Some.row r t c.requires.safe.memory is _ (record { geometry = refl; directory = refl; mapping = refl; next = refl }) refl
+    asked_goes c.of.result c.split_row-block.result.0 c.in-Some.row r t c.requires.safe.memory is _ (record { geometry = refl; directory = refl; mapping = refl; pin = refl; next = refl }) refl

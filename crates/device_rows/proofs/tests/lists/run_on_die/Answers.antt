@@ -10,7 +10,7 @@ use Rattle.image_check.specs.declared.refusal.Refusal.TheVariants.{Source}
 use Rattle.collection.proofs.Costs.{risen_over}
 use Rattle.onfi_cycles.specs.Driver.{flash_by}
 use Rattle.ftl_device.specs.Device.{IsAcceptedFor}
-use Rattle.ftl_device.specs.Run.{RanFrom}
+use Rattle.ftl_device.specs.Run.{RanFrom, exchanges_of}
 use Rattle.device_rows.proofs.tests.lists.run_on_die.Goals as goal
 
 -- what was accepted for the image before the reads is so for that after them
@@ -41,6 +41,6 @@ returns-in-Ok c =
     record {
       rose = risen_since c.args.driver.failures c.check.new.source.failures c.in-Ok.device.engine.nand.failures its.failed (c.in-Ok.ensures.rose);
       ran = λ known.
-          subst (λ s. RanFrom (flash_by (λ die. die.state)) s c.args.certificate.now c.run_accepted.new.calls c.in-Ok.device) same
-          (subst (λ k. RanFrom (flash_by (λ die. die.state)) (flash_by (λ die. die.state) c.check.new.source) k c.run_accepted.new.calls c.in-Ok.device) its.accepted.0 (c.in-Ok.ensures.ran refl accepted known));
+          subst (λ s. RanFrom (flash_by (λ die. die.state)) s c.args.certificate.now (exchanges_of c.run_accepted.new.calls) c.in-Ok.device) same
+          (subst (λ k. RanFrom (flash_by (λ die. die.state)) (flash_by (λ die. die.state) c.check.new.source) k (exchanges_of c.run_accepted.new.calls) c.in-Ok.device) its.accepted.0 (c.in-Ok.ensures.ran refl accepted known));
     }

@@ -3,8 +3,8 @@ use Rattle.std.proofs.lemmas.List.{with_items_is}
 use Rattle.std.proofs.lemmas.Option.{slice_get-get_or}
 use Rattle.std.specs.Vec.{with_items}
 use Rattle.ftl_device.specs.declared.run.Call.{Call}
-use Rattle.ftl_device.specs.Run.{KeepsBytes}
-use Rattle.ftl_device.proofs.LoopLemmas.{running_none, running_more, running_all, all_kept}
+use Rattle.ftl_device.specs.Run.{told, KeepsBytes, Tells}
+use Rattle.ftl_device.proofs.LoopLemmas.{running_none, running_more, all_told, all_answered, all_kept}
 use Rattle.ftl_device.proofs.device.Device.run.Goals as goal
 
 pub loop-call-init : goal.loop-call-init
@@ -16,22 +16,30 @@ loop-call-preserved g c =
     let below : c.loop-call.call-index < length c.loop-call.calls = omega (arith, c.loop-call-test.true) in
     let long : length c.tell.new.bytes ≡ item.bytes.len = omega (arith, c.tell.auto.bytes, ap length c.deref_mut.ensures.value, item.bytes.ok.0) in
     let after : Call = record { command = item.command; reply = Some c.tell.result; bytes = with_items item.bytes c.tell.new.bytes } in
+    let its = c.tell.ensures in
+    let tells : Tells g.N.PageSource.flash g.N.PageSource.honest g.N.PageSource.failed c.loop-call.self (record { command = told after; result = c.tell.result; bytes = c.tell.new.bytes }) c.tell.new.self = record {
+      device = its.device;
+      sized = its.geometry;
+      limits = its.limits;
+      honest_is = its.honest;
+      failed_is = its.failed;
+      stopped = its.stopped;
+      stops = its.stops;
+      standing = its.standing;
+      rose = its.rose;
+      well = its.well;
+      happened = its.happened;
+    } in
     running_more g.N.PageSource.flash g.N.PageSource.honest g.N.PageSource.failed c.args.self.now c.loop-call.self c.tell.new.self c.args.calls.now c.loop-call.calls c.loop-call.call-index
     item after c.tell.result c.requires.device c.loop-call.invariant (slice_get-get_or c.loop-call.calls c.loop-call.call-index c.call-item.result below) below refl refl
-    c.tell.ensures.device c.tell.ensures.geometry c.tell.ensures.limits c.tell.ensures.honest c.tell.new.bytes (with_items_is item.bytes c.tell.new.bytes long) c.tell.ensures.room c.tell.ensures.well c.tell.ensures.happened
-    (subst (λ bs. KeepsBytes item.command c.tell.result bs c.tell.new.bytes) c.deref_mut.ensures.value c.tell.ensures.kept) c.tell.ensures.failed c.tell.ensures.stopped c.tell.ensures.stops c.tell.ensures.rose c.tell.ensures.standing
+    c.tell.new.bytes (with_items_is item.bytes c.tell.new.bytes long) c.tell.ensures.room tells
+    (subst (λ bs. KeepsBytes (told after) c.tell.result bs c.tell.new.bytes) c.deref_mut.ensures.value c.tell.ensures.kept)
+
+pub returns-clause-told : goal.returns-clause-told
+returns-clause-told g c = all_told g.N.PageSource.flash g.N.PageSource.honest g.N.PageSource.failed c.args.self.now c.loop-call.self c.args.calls.now c.loop-call.calls c.loop-call.call-index (omega (arith, c.loop-call-test.false)) c.loop-call.invariant
+
+pub returns-clause-answered : goal.returns-clause-answered
+returns-clause-answered g c = all_answered g.N.PageSource.flash g.N.PageSource.honest g.N.PageSource.failed c.args.self.now c.loop-call.self c.args.calls.now c.loop-call.calls c.loop-call.call-index (omega (arith, c.loop-call-test.false)) c.loop-call.invariant
 
 pub returns-clause-kept : goal.returns-clause-kept
 returns-clause-kept g c = all_kept g.N.PageSource.flash g.N.PageSource.honest g.N.PageSource.failed c.args.self.now c.loop-call.self c.args.calls.now c.loop-call.calls c.loop-call.call-index (omega (arith, c.loop-call-test.false)) c.loop-call.invariant
-
-pub returns-clause-stopped : goal.returns-clause-stopped
-returns-clause-stopped g c = (running_all g.N.PageSource.flash g.N.PageSource.honest g.N.PageSource.failed c.args.self.now c.loop-call.self c.args.calls.now c.loop-call.calls c.loop-call.call-index (omega (arith, c.loop-call-test.false)) c.loop-call.invariant).stopped
-
-pub returns-clause-stays : goal.returns-clause-stays
-returns-clause-stays g c = (running_all g.N.PageSource.flash g.N.PageSource.honest g.N.PageSource.failed c.args.self.now c.loop-call.self c.args.calls.now c.loop-call.calls c.loop-call.call-index (omega (arith, c.loop-call-test.false)) c.loop-call.invariant).stays
-
-pub returns-clause-rose : goal.returns-clause-rose
-returns-clause-rose g c = (running_all g.N.PageSource.flash g.N.PageSource.honest g.N.PageSource.failed c.args.self.now c.loop-call.self c.args.calls.now c.loop-call.calls c.loop-call.call-index (omega (arith, c.loop-call-test.false)) c.loop-call.invariant).rose
-
-pub returns-clause-ran : goal.returns-clause-ran
-returns-clause-ran g c = λ honest well known. ((running_all g.N.PageSource.flash g.N.PageSource.honest g.N.PageSource.failed c.args.self.now c.loop-call.self c.args.calls.now c.loop-call.calls c.loop-call.call-index (omega (arith, c.loop-call-test.false)) c.loop-call.invariant).ran honest well known).1

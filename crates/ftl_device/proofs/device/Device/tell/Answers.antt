@@ -1,7 +1,6 @@
-use Rattle.std.proofs.Common.{refl}
-use Rattle.ftl_device.specs.declared.run.Command.TheVariants.{Write, Trim}
+use Rattle.promises.specs.Step as step
 use Rattle.page_layout.specs.Array.{zeros}
-use Rattle.ftl_device.proofs.RunLemmas.{read_happened, write_happened}
+use Rattle.ftl_device.proofs.RunLemmas.{read_happened, changed, write_sound, quiet_sound}
 use Rattle.ftl_device.proofs.device.Device.tell.Goals as goal
 
 pub returns-in-Read-clause-happened : goal.returns-in-Read-clause-happened
@@ -10,10 +9,20 @@ returns-in-Read-clause-happened g c = λ honest w ne.
 
 pub returns-in-Write-clause-happened : goal.returns-in-Write-clause-happened
 returns-in-Write-clause-happened g c = λ honest w ne.
-    rw c.in-Write.is (write_happened g.N.PageSource.flash c.args.self.now c.write.new.self c.write.result ne c.requires.device.engine.memory c.write.ensures.device.engine.memory c.write.ensures.geometry (c.write.ensures.well honest w ne) (c.write.ensures.went honest ne) c.write.ensures.says c.in-Write.sector (c.write.ensures.stale honest w)
-    (Write c.in-Write.sector c.in-Write.body) c.args.bytes.now c.in-Write.body.now refl (c.write.ensures.step honest w ne) (c.write.ensures.step honest w ne))
+    rw c.in-Write.is (changed g.N.PageSource.flash c.args.self.now c.write.new.self c.write.result ne c.requires.device.engine.memory c.write.ensures.device.engine.memory c.write.ensures.geometry (c.write.ensures.well honest w ne) (c.write.ensures.went honest ne) c.write.ensures.says
+    (step.Write c.in-Write.sector c.in-Write.body.now) c.args.bytes.now (write_sound _ _ _ c.in-Write.sector c.in-Write.body.now c.write.result (c.write.ensures.step honest w ne)) (c.write.ensures.stale honest w) (c.write.ensures.step honest w ne))
 
 pub returns-in-Trim-clause-happened : goal.returns-in-Trim-clause-happened
 returns-in-Trim-clause-happened g c = λ honest w ne.
-    rw c.in-Trim.is (write_happened g.N.PageSource.flash c.args.self.now c.trim.new.self c.trim.result ne c.requires.device.engine.memory c.trim.ensures.device.engine.memory c.trim.ensures.geometry (c.trim.ensures.well honest w ne) (c.trim.ensures.went honest ne) c.trim.ensures.says c.in-Trim.sector (c.trim.ensures.stale honest w)
-    (Trim c.in-Trim.sector) c.args.bytes.now (zeros c.args.self.now.engine.geometry) refl (c.trim.ensures.step honest w ne) (c.trim.ensures.step honest w ne))
+    rw c.in-Trim.is (changed g.N.PageSource.flash c.args.self.now c.trim.new.self c.trim.result ne c.requires.device.engine.memory c.trim.ensures.device.engine.memory c.trim.ensures.geometry (c.trim.ensures.well honest w ne) (c.trim.ensures.went honest ne) c.trim.ensures.says
+    (step.Trim c.in-Trim.sector) c.args.bytes.now (write_sound _ _ _ c.in-Trim.sector (zeros c.args.self.now.engine.geometry) c.trim.result (c.trim.ensures.step honest w ne)) (c.trim.ensures.stale honest w) (c.trim.ensures.step honest w ne))
+
+pub returns-in-Flush-clause-happened : goal.returns-in-Flush-clause-happened
+returns-in-Flush-clause-happened g c = λ honest w ne.
+    rw c.in-Flush.is (changed g.N.PageSource.flash c.args.self.now c.flush.new.self c.flush.result ne c.requires.device.engine.memory c.flush.ensures.device.engine.memory c.flush.ensures.geometry (c.flush.ensures.well honest w ne) (c.flush.ensures.went honest ne) c.flush.ensures.says
+    step.Flush c.args.bytes.now (quiet_sound _ _ c.flush.result (c.flush.ensures.step honest w ne)) (λ none. c.flush.ensures.memory) (c.flush.ensures.step honest w ne))
+
+pub returns-in-Turn-clause-happened : goal.returns-in-Turn-clause-happened
+returns-in-Turn-clause-happened g c = λ honest w ne.
+    rw c.in-Turn.is (changed g.N.PageSource.flash c.args.self.now c.turn.new.self c.turn.result ne c.requires.device.engine.memory c.turn.ensures.device.engine.memory c.turn.ensures.geometry (c.turn.ensures.well honest w ne) (c.turn.ensures.went honest ne) c.turn.ensures.says
+    step.Turn c.args.bytes.now (quiet_sound _ _ c.turn.result (c.turn.ensures.step honest w ne)) (λ none. c.turn.ensures.memory) (c.turn.ensures.step honest w ne))

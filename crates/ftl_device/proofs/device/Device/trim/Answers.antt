@@ -5,18 +5,18 @@ use Rattle.collection.specs.Safe.{ram}
 use Rattle.ftl_device.proofs.CallLemmas.{well_ram, well_device, memory_only, mountable_after, recent_after}
 use Rattle.ftl_device.proofs.MountableLemmas.{stale_law, restart_law}
 use Rattle.ftl_device.proofs.ShownLemmas.{shown_refused, shown_after}
-use Rattle.ftl_device.specs.Calls.{HasMadePlace, HasCost, order_after}
+use Rattle.ftl_device.specs.Calls.{IsReady, HasCost, order_after}
 use Rattle.ftl_device.proofs.CostLemmas.{done_after, closed_is, spent_is, never_memory}
 use Rattle.ftl_device.proofs.device.Device.trim.Goals as goal
 
 pub returns-clause-well : goal.returns-clause-well
 returns-clause-well g c = λ honest w ne.
     let known = well_ram c.trim_ready-answer.result c.finish.result c.good-good.result c.args.sector _ _ _ _ (ram c.trim_ready-answer.new.engine) (ram c.finish.new.self.engine) c.trim_ready-answer.ensures.fault c.finish.ensures.answer ne (c.trim_ready-answer.ensures.truth honest w.truth) in
-    well_device _ c.finish.new.self _ c.finish.ensures.engine known (c.trim_ready-answer.ensures.unmoved w.unmoved)
+    well_device _ c.finish.new.self _ c.finish.ensures.engine known
 
 pub returns-clause-stale : goal.returns-clause-stale
 returns-clause-stale g c = λ honest w old e.
-    c.trim_ready-answer.ensures.cached (stale_law (ram c.args.self.now.engine) _ c.args.sector w.truth w.unmoved c.in_ok-may_change.ensures.may.within old) (memory_only c.trim_ready-answer.result c.finish.result c.good-good.result (ram c.finish.new.self.engine) c.finish.ensures.answer e)
+    c.trim_ready-answer.ensures.cached (stale_law (ram c.args.self.now.engine) _ c.args.sector w.truth (c.requires.device.idle c.in_ok-may_change.ensures.may.going).moved c.in_ok-may_change.ensures.may.within old) (memory_only c.trim_ready-answer.result c.finish.result c.good-good.result (ram c.finish.new.self.engine) c.finish.ensures.answer e)
 
 pub returns-clause-mountable : goal.returns-clause-mountable
 returns-clause-mountable g c = λ honest w ne most. mountable_after _ c.args.self.now.engine c.finish.new.self _ c.finish.ensures.engine c.trim_ready-answer.ensures.geometry c.trim_ready-answer.ensures.limits c.finish.ensures.device.engine.memory (returns-clause-well g c honest w ne) most
@@ -52,7 +52,7 @@ returns-in_err-may_change-clause-spent g c = λ going within writable last.
     rw (p.1, p.2) (ap Err (spent_is (ram c.args.self.now.engine) c.args.self.now.read_only c.args.sector _ c.in_err-may_change.ensures.may_not going within writable), refl)
 
 pub returns-clause-unwritten : goal.returns-clause-unwritten
-returns-clause-unwritten g c = λ e. subst (λ x. HasMadePlace c.args.sector (ram c.args.self.now.engine) (ram x)) (sym c.finish.ensures.engine) (c.trim_ready-answer.ensures.unwritten (memory_only c.trim_ready-answer.result c.finish.result c.good-good.result (ram c.finish.new.self.engine) c.finish.ensures.answer e))
+returns-clause-unwritten g c = λ e. subst (λ x. IsReady c.args.sector (ram c.args.self.now.engine) (ram x)) (sym c.finish.ensures.engine) (c.trim_ready-answer.ensures.unwritten (memory_only c.trim_ready-answer.result c.finish.result c.good-good.result (ram c.finish.new.self.engine) c.finish.ensures.answer e))
 
 pub returns-clause-same_keys : goal.returns-clause-same_keys
 returns-clause-same_keys g c = λ e. ap (λ x. keys_of x.mapping.cached) c.finish.ensures.engine ∙ c.trim_ready-answer.ensures.same_keys (memory_only c.trim_ready-answer.result c.finish.result c.good-good.result (ram c.finish.new.self.engine) c.finish.ensures.answer e)

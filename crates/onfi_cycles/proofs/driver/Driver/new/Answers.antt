@@ -1,6 +1,6 @@
 use Rattle.std.proofs.Common.{◌∙◌, ap, arith, sym}
 use Rattle.onfi_cycles.specs.Cycles.{DieState, NoOutput}
-use Rattle.onfi_cycles.proofs.Resets.{reset_does, reset_fails, seen_is}
+use Rattle.onfi_cycles.proofs.Resets.{reset_does, reset_fails, reset_noted, seen_is}
 use Rattle.onfi_cycles.proofs.driver.Driver.new.Goals as goal
 
 pub invariant_of-result : goal.invariant_of-result
@@ -18,3 +18,6 @@ returns-in-Err-clause-device g c h = reset_fails _ _ _ (c.in-Err.ensures.cycle h
 
 pub returns-in-Err-clause-cause : goal.returns-in-Err-clause-cause
 returns-in-Err-clause-cause g c h = c.in-Err.ensures.rose (reset_fails _ _ _ (c.in-Err.ensures.cycle h))
+
+pub returns-in-Ok-clause-recorded : goal.returns-in-Ok-clause-recorded
+returns-in-Ok-clause-recorded g c h = reset_noted (g.B.Bus.die c.args.bus) (g.B.Bus.die c.command.new.self) _ _ (c.in-Ok.ensures.recorded h)

@@ -1,0 +1,124 @@
+-- What was served over a checked die.
+use Rattle.std.proofs.Common.{◌≡◌, ◌≢◌, ◌⊎◌, inl, inr, ℕ, ◌≤◌, Bool, true, List, map, Option, None, Some, Result, Ok, Err, refl, sym, ap, subst, ◌∙◌}
+use Rattle.page_layout.specs.declared.geometry.Geometry.{Geometry}
+use Rattle.page_layout.specs.Page.{Image, IsImage}
+use Rattle.page_layout.specs.Array.{HasOneArray}
+use Rattle.page_layout.specs.Counter.{HasRisen}
+use Rattle.page_layout.specs.Flash.{Flash}
+use Rattle.certificate.specs.Claim.{Claim}
+use Rattle.allocation.specs.View.{state}
+use Rattle.promises.specs.Run.{log_of}
+use Rattle.promises.specs.Legal.{IsLegal, accounts_of}
+use Rattle.image_check.specs.Accepted.{Acceptance, IsAcceptance}
+use Rattle.image_check.specs.Agrees.{Agrees}
+use Rattle.image_check.specs.declared.refusal.Refusal.{Refusal}
+use Rattle.image_check.specs.declared.refusal.Refusal.TheVariants.{Source}
+use Rattle.collection.specs.State.{Ram}
+use Rattle.collection.specs.Safe.{ram, image_in}
+use Rattle.collection.specs.Truth.{IsTrue}
+use Rattle.collection.specs.Log.{IsAccounted}
+use Rattle.collection.proofs.Costs.{risen_over}
+use Rattle.request_stream.specs.declared.reply.ServeFault.{ServeFault}
+use Rattle.ftl_device.specs.declared.device.Device.{Device}
+use Rattle.ftl_device.specs.Device.{IsAcceptedFor}
+use Rattle.ftl_device.specs.Begin.{begun_ram, is_bad_in, free_in, is_scarce}
+use Rattle.ftl_device.specs.Calls.{stop_of, IsWell}
+use Rattle.ftl_device.specs.Run.{Exchange, AreKnown, HasRun, Ran, RanFrom, accepted_first, accepted_device, replies_in}
+use Rattle.ftl_device.proofs.AcceptedLemmas.{started_well, ran_accepted}
+use Rattle.block_server.specs.declared.server.Served.{Served}
+use Rattle.block_server.specs.Session.{Session, Serves}
+use Rattle.block_server.specs.Checked.{Headline, IsServed}
+
+-- what was accepted for the image before the reads is so for that after them
+accepted_for : (s t : Flash) (g : Geometry) (capacity : ℕ) (c : Claim) (a : Acceptance) → t ≡ s → s.geometry ≡ g → IsImage g s.image → IsAcceptance g capacity s.image c a → IsAcceptedFor t a
+accepted_for s t g capacity c a same sized whole is =
+    let cap : capacity ≡ a.claim.capacity = sym (ap (λ (x : Claim). x.capacity) is.claim_is ∙ is.agrees.asked.capacity_same) in
+    let here : IsAcceptance g a.claim.capacity s.image a.claim a = subst (λ n. IsAcceptance g n s.image a.claim a) cap (subst (λ (x : Claim). IsAcceptance g capacity s.image x a) (sym is.claim_is) is) in
+    let P : Geometry → Flash → Type 0 = λ h f. IsImage h f.image × IsAcceptance h a.claim.capacity f.image a.claim a in
+    let both : P s.geometry s = subst (λ h. P h s) (sym sized) (whole, here) in
+    let there : P t.geometry t = subst (λ (f : Flash). P f.geometry f) (sym same) both in
+    record { whole = there.0; accepted = there.1 }
+
+abbrev accepted_as : Acceptance → Result Acceptance Refusal
+accepted_as a = Ok a
+
+pub not_refused : (a : Acceptance) (e : Refusal) → accepted_as a ≢ Err e
+not_refused a e is = (let never : ⊥ = cc in never)
+
+abbrev refused_as : Refusal → Result Acceptance Refusal
+refused_as e = Err e
+
+pub refusal_same : (e : Refusal) → e ≢ Source → refused_as e ≢ refused_as Source
+refusal_same e ne is = ne (cc)
+
+pub refusal_is : (e : Refusal) → e ≡ Source → refused_as e ≡ refused_as Source
+refusal_is e is = ap refused_as is
+
+-- the run of the headline, and its log
+record RunsLegally (g : Geometry) (c : Claim) (s t : Flash) (ro : Bool) (xs : List Exchange) : Type 0 where
+  pub run : HasRun (accepted_first g c) (accepted_device s c) (record { flash = t; ro = ro }) xs
+  pub legal : IsLegal g s.image (is_bad_in c) (log_of run.events)
+
+-- Of a die as it was handed in, as the checker left it, and as the device gives it back.
+module _ {N : Type 0} (flash : N → Flash) (honest : N → Bool) (failed : N → ℕ) (nand checked given : N) (g : Geometry) (capacity : ℕ) (c : Claim) (a : Acceptance) (d e : Device N)
+    (sized : (flash nand).geometry ≡ g) (sized' : (flash checked).geometry ≡ (flash nand).geometry)
+    (honest_is : honest checked ≡ honest nand) (failed_is : failed nand ≤ failed checked)
+    (same : honest nand ≡ true → flash checked ≡ flash nand) (whole : honest nand ≡ true → IsImage g (flash nand).image)
+    (claim_is : a.claim ≡ c) (acceptance : honest nand ≡ true → IsAcceptance g capacity (flash nand).image c a)
+    (nand_is : d.engine.nand ≡ checked) (begun : ram d.engine ≡ begun_ram (flash checked).geometry a.claim a.stale)
+    (truth : honest checked ≡ true → IsAcceptedFor (flash checked) a → IsTrue None (ram d.engine) (image_in flash d.engine))
+    (free : honest checked ≡ true → IsAcceptedFor (flash checked) a → d.read_only ≡ is_scarce (free_in (flash checked).geometry a.claim (flash checked).image))
+    (accounts : honest checked ≡ true → IsAcceptedFor (flash checked) a → IsAccounted (accounts_of (flash checked).geometry (flash checked).image (is_bad_in a.claim)) (state d.engine.blocks))
+    (given_is : given ≡ e.engine.nand) where
+  geometry_is : d.engine.geometry ≡ g
+  geometry_is = ap (λ (r : Ram). r.geometry) begun ∙ (sized' ∙ sized)
+
+  accepted : honest nand ≡ true → IsAcceptedFor (flash checked) a
+  accepted h = accepted_for (flash nand) (flash checked) g capacity c a (same h) sized (whole h) (acceptance h)
+
+  known_truth : honest nand ≡ true → IsTrue None (ram d.engine) (image_in flash d.engine)
+  known_truth h = truth (honest_is ∙ h) (accepted h)
+
+  well : honest nand ≡ true → IsWell flash d
+  well h = started_well flash d (flash checked).geometry a.claim a.stale begun (known_truth h)
+
+  one_array : honest nand ≡ true → HasOneArray g (flash nand).image
+  one_array h =
+      subst (λ (f : Flash). HasOneArray g f.image) (ap flash nand_is ∙ same h)
+      (subst (λ k. HasOneArray k (image_in flash d.engine)) geometry_is (known_truth h).one)
+
+  runs : (h : honest nand ≡ true) (xs : List Exchange) → Ran flash d xs e → RunsLegally g c (flash nand) (flash given) e.read_only xs
+  runs h xs ran =
+      let from : RanFrom flash (flash checked) a.claim xs e = ran_accepted flash (flash checked) a d e xs (ap flash nand_is) begun (accepted h) (free (honest_is ∙ h) (accepted h)) (accounts (honest_is ∙ h) (accepted h)) ran in
+      let first : RunsLegally (flash checked).geometry a.claim (flash checked) (flash e.engine.nand) e.read_only xs = record { run = from.run; legal = from.legal } in
+      let then : RunsLegally (flash nand).geometry a.claim (flash nand) (flash e.engine.nand) e.read_only xs =
+      subst (λ (f : Flash). RunsLegally f.geometry a.claim f (flash e.engine.nand) e.read_only xs) (same h) first in
+      let there : RunsLegally g a.claim (flash nand) (flash e.engine.nand) e.read_only xs =
+      subst (λ k. RunsLegally k a.claim (flash nand) (flash e.engine.nand) e.read_only xs) sized then in
+      subst (λ n. RunsLegally g c (flash nand) (flash n) e.read_only xs) (sym given_is)
+      (subst (λ k. RunsLegally g k (flash nand) (flash e.engine.nand) e.read_only xs) claim_is there)
+
+  abbrev Rose : List Exchange → N → Type 0
+  Rose xs n = AreKnown xs ⊎ HasRisen (failed nand) (failed n)
+
+  rose_by : {P : Type 0} (xs : List Exchange) → (P × AreKnown xs) ⊎ HasRisen (failed d.engine.nand) (failed e.engine.nand) → Rose xs given
+  rose_by xs (inl known) = inl known.1
+  rose_by xs (inr risen) =
+      let from : HasRisen (failed checked) (failed e.engine.nand) = subst (λ n. HasRisen (failed n) (failed e.engine.nand)) nand_is risen in
+      inr (subst (λ n. HasRisen (failed nand) (failed n)) (sym given_is) (risen_over (failed nand) (failed checked) (failed e.engine.nand) failed_is from))
+
+  pub is_served : (u v b w : Option (List ℕ)) (result : Result Served ServeFault) → Session flash honest failed d e u v b w result → IsServed flash honest failed nand g capacity c u v b w result given
+  is_served u v b w result session = record {
+    requests = session.requests;
+    exchanges = session.exchanges;
+    commands = session.commands;
+    stream = subst (λ (k : Geometry). Serves k.data_bytes u v b w session.requests (replies_in session.exchanges) result) geometry_is session.stream;
+    stays = session.told.stays;
+    honest_is = ap honest given_is ∙ (session.told.honest_is ∙ (ap honest nand_is ∙ honest_is));
+    sized = ap (λ n. (flash n).geometry) given_is ∙ (session.told.device.engine.geometry ∙ (session.told.sized ∙ geometry_is));
+    rose = rose_by session.exchanges (session.told.rose (ap (λ (r : Ram). stop_of r.fault) begun));
+    headline = λ h known.
+        let ran : Ran flash d session.exchanges e = (session.told.ran (ap honest nand_is ∙ (honest_is ∙ h)) (well h) known).1 in
+        let legal = runs h session.exchanges ran in
+        record { agrees = (acceptance h).agrees; one = one_array h; ro = e.read_only; run = legal.run; legal = legal.legal };
+  }

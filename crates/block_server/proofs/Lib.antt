@@ -1,0 +1,3 @@
+pub mod Serving
+pub mod Answering
+pub mod Checking

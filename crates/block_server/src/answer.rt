@@ -1,0 +1,104 @@
+//! One request is answered.
+ghost use Rattle.std.specs.Prelude.{◌≡◌, ℕ, List, length, IfOk};
+ghost use Rattle.promises.specs.Stream.{status_of, reply_body};
+ghost use Rattle.promises.specs.Stream as stream;
+ghost use Rattle.request_stream.specs.Frames.{request_at};
+ghost use Rattle.ftl_device.specs.Device.{IsDevice};
+ghost use Rattle.ftl_device.specs.Run.{command_of, answer_to, HasRoom};
+ghost use Rattle.block_server.specs.Session.{Answers, ServesNext, IsBodyOf};
+
+use ftl_device::{Command, Device, DeviceFault};
+use onfi_cycles::Nand;
+use promises::stream::{End, Op};
+use request_stream::{Header, Next, ServeFault, read_request, send_reply};
+use std::io::{Read, Write};
+
+// What a request tells the device.
+fn command_for<'a>(header: Header, body: &'a [u8]) -> Command<'a>
+    ensures command { command_of result ≡ stream.command_of (request_at header body.now) }
+    ensures body { IsBodyOf body.now result }
+{
+    let sector = header.sector;
+    match header.op {
+        Op::Read => Command::Read { sector },
+        Op::Write => Command::Write { sector, body },
+        Op::Trim => Command::Trim { sector },
+        Op::Flush => Command::Flush,
+        Op::Turn => Command::Turn,
+    }
+}
+
+// The status of a reply.
+fn status_for(done: Result<(), DeviceFault>) -> u8
+    ensures { (header : Header) (body bytes : List ℕ) → result ≡ status_of (answer_to (stream.command_of (request_at header body)) bytes done) }
+{
+    match done {
+        Ok(()) => 0,
+        Err(fault) => fault.number(),
+    }
+}
+
+// The sector that follows a reply: of a read that is done, what it gave.
+fn sector_for<'a>(header: Header, done: Result<(), DeviceFault>, bytes: &'a [u8]) -> &'a [u8]
+    ensures { (body : List ℕ) → result.now ≡ reply_body (answer_to (stream.command_of (request_at header body)) bytes.now done) }
+{
+    match header.op {
+        Op::Read => match done {
+            Ok(()) => bytes,
+            Err(_) => &[],
+        },
+        Op::Write | Op::Trim | Op::Flush | Op::Turn => &[],
+    }
+}
+
+// Tells the device what a request asks, and writes the reply. `bytes` is room for a sector.
+fn answer<N: Nand, W: Write>(
+    writer: &mut W,
+    device: &mut Device<N>,
+    header: Header,
+    body: &[u8],
+    bytes: &mut [u8],
+) -> Result<(), ServeFault>
+    requires device { IsDevice N.flash device.old }
+    requires body { length body.now ≡ device.old.engine.geometry.data_bytes }
+    requires bytes { length bytes.old ≡ device.old.engine.geometry.data_bytes }
+    ensures { Answers N.flash N.honest N.failed device.old device.new (request_at header body.now)
+        (W.contents writer.old) (W.contents writer.new) result }
+{
+    let done = device.tell(command_for(header, body), bytes);
+    send_reply(
+        writer,
+        header,
+        status_for(done),
+        sector_for(header, done, bytes),
+    )
+}
+
+/// Answers the next request, or tells why there is none. `body` and `bytes` are room for one sector
+/// each.
+///
+/// # Errors
+///
+/// `Read` where a read failed: the device was told nothing. `Write` where the reply could not be
+/// written: the device was told.
+pub(crate) fn serve_next<N: Nand, R: Read, W: Write>(
+    reader: &mut R,
+    writer: &mut W,
+    device: &mut Device<N>,
+    body: &mut [u8],
+    bytes: &mut [u8],
+) -> Result<Option<End>, ServeFault>
+    requires device { IsDevice N.flash device.old }
+    requires body { length body.old ≡ device.old.engine.geometry.data_bytes }
+    requires bytes { length bytes.old ≡ device.old.engine.geometry.data_bytes }
+    ensures { ServesNext N.flash N.honest N.failed device.old device.new (R.remaining reader.old) (R.remaining reader.new)
+        (W.contents writer.old) (W.contents writer.new) result }
+{
+    match read_request(reader, body)? {
+        Next::Ended(end) => Ok(Some(end)),
+        Next::Whole(header) => {
+            answer(writer, device, header, body, bytes)?;
+            Ok(None)
+        }
+    }
+}

@@ -1,0 +1,78 @@
+//! A die is checked, a device is started over it, and requests are served.
+ghost use Rattle.std.specs.Prelude.{◌≡◌, Ok, IfOk, IfErr};
+ghost use Rattle.block_server.specs.Checked.{IsServed, Fails};
+
+use crate::server::{Served, serve};
+use certificate::Certificate;
+use ftl_device::{Device, StartFault};
+use image_check::{Refusal, check};
+use onfi_cycles::Nand;
+use page_layout::geometry::Geometry;
+use request_stream::ServeFault;
+use std::alloc::Global;
+use std::io::{Read, Write};
+use thiserror::Error;
+
+/// Why requests were not served to the end of their stream. The die comes back. (This project's.)
+#[derive(Drop, Error)]
+pub enum RunFault<N> {
+    /// The checker refused the certificate. Nothing was read.
+    #[error("Refused {refusal}")]
+    Refused { refusal: Refusal, nand: N },
+    /// A growth was refused while the device was started. Nothing was read.
+    #[error("Start")]
+    Start { nand: N },
+    /// The server stopped.
+    #[error("Serve {fault}")]
+    Serve { fault: ServeFault, nand: N },
+}
+
+/// Checks that the certificate agrees with what the die holds, starts a device from it, and serves
+/// requests until their stream ends; then the die comes back.
+///
+/// **If the certificate is accepted, the die holds just one array of sectors. Over every list of requests
+/// and failing programs and erases, each answer is that array's, the die holds that array after each, no
+/// page is programmed twice between erases, and no block that the certificate gives as bad, or that has
+/// failed, is programmed or erased. A write is refused only with fewer than five free blocks, by the
+/// image and the log, with the last sequence given out, or for memory, while reads give the array's
+/// sectors.** It is said where the die is honest and answered every operation, so that no reply is
+/// `BusFault`, which comes only where the die's count of faults rose or stands at 2^64 - 1.
+///
+/// # Errors
+///
+/// - `Refused` with the checker's refusal: nothing was read or written, and the die's pages are as they
+///   were.
+/// - `Start` where a growth was refused: likewise.
+/// - `Serve` with the server's fault. What was served until then is as said above.
+///
+/// (This project's.)
+pub fn serve_checked<N: Nand, R: Read, W: Write>(
+    alloc: Global,
+    mut nand: N,
+    geometry: &Geometry,
+    capacity: u32,
+    certificate: &Certificate,
+    reader: &mut R,
+    writer: &mut W,
+) -> Result<(Served, N), RunFault<N>>
+    requires same_geometry { (N.flash nand).geometry ≡ geometry.now }
+    ensures served { IfOk result (λ done. IsServed N.flash N.honest N.failed nand geometry.now capacity certificate.now
+        (R.remaining reader.old) (R.remaining reader.new) (W.contents writer.old) (W.contents writer.new) (Ok done.0) done.1) }
+    ensures fault { IfErr result (Fails N.flash N.honest N.failed nand geometry.now capacity certificate.now
+        (R.remaining reader.old) (R.remaining reader.new) (W.contents writer.old) (W.contents writer.new)) }
+{
+    let accepted = match check(alloc, &mut nand, geometry, capacity, certificate) {
+        Ok(accepted) => accepted,
+        Err(refusal) => return Err(RunFault::Refused { refusal, nand }),
+    };
+    let mut device = match Device::start(alloc, nand, accepted) {
+        Ok(device) => device,
+        Err(StartFault::OutOfMemory { nand, .. }) => return Err(RunFault::Start { nand }),
+    };
+    let served = serve(alloc, reader, writer, &mut device);
+    let nand = device.into_nand();
+    match served {
+        Ok(served) => Ok((served, nand)),
+        Err(fault) => Err(RunFault::Serve { fault, nand }),
+    }
+}

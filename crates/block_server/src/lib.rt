@@ -1,0 +1,10 @@
+//! The block server: requests from a reader, answered by a device to a writer; and the same over a die whose image and
+//! certificate are checked first.
+#![tactic(auto)]
+
+mod answer;
+mod checked;
+mod server;
+
+pub use checked::{RunFault, serve_checked};
+pub use server::{Served, serve};

@@ -1,0 +1,202 @@
+//! Bytes looked at in lanes, and images that are checked in one pass, from a source that counts its reads and from readers.
+use super::images::{FORMATTED_CLAIM, FORMATTED_PAGES, certificate_of, image_of};
+use image_check::{Refusal, check, check_stream};
+use page_layout::geometry::Geometry;
+use page_layout::lanes::has_zero;
+use page_layout::record::is_erased;
+use page_layout::source::{ImageSlice, PageSource, SourceFault};
+use std::alloc::Global;
+use std::io::{self, ErrorKind, Read};
+use std::process::Abort;
+use std::test::Fail;
+
+// The longest piece: four chunks and two bytes.
+const LONGEST: usize = 130;
+
+// Bytes of this length that are all one byte.
+fn hold_plain(rt: &impl Abort, length: usize) {
+    let erased = [0xFF; LONGEST];
+    if let Some(bytes) = erased.get(..length) {
+        assert!(rt; is_erased(bytes, &[]), "{length} erased bytes");
+        assert!(rt; is_erased(&[], bytes), "{length} erased spare bytes");
+        assert!(rt; !has_zero(bytes), "no zero in {length} bytes");
+    }
+}
+
+// The same with another byte at a place, and 00h there.
+fn hold_other(rt: &impl Abort, length: usize, at: usize) {
+    let mut bytes = [0xFF; LONGEST];
+    bytes[at % LONGEST] = 0xFE;
+    if let Some(bytes) = bytes.get(..length) {
+        assert!(rt; !is_erased(bytes, &[]), "{length} bytes, another at {at}");
+        assert!(rt; !has_zero(bytes), "{length} bytes, FEh at {at}");
+    }
+    bytes[at % LONGEST] = 0;
+    if let Some(bytes) = bytes.get(..length) {
+        assert!(rt; !is_erased(bytes, &[]), "{length} bytes, a zero at {at}");
+        assert!(rt; has_zero(bytes), "{length} bytes, 00h at {at}");
+    }
+}
+
+#[test]
+fn each_length_and_place(rt: HostRuntime) {
+    for length in 0..LONGEST + 1 {
+        hold_plain(&rt, length);
+        for at in 0..length {
+            hold_other(&rt, length, at);
+        }
+    }
+}
+
+// A reader that gives its bytes in pieces, and fails at the read after a number of them.
+#[derive(Drop)]
+struct Pieces<'a> {
+    bytes: &'a [u8],
+    at: usize,
+    piece: usize,
+    reads_left: usize,
+    fault: ErrorKind,
+}
+
+impl Read for Pieces<'_> {
+    fn read(&mut self, buf: &mut [u8]) -> io::Result<usize> {
+        if self.reads_left == 0 {
+            return Err(io::Error::from(self.fault));
+        }
+        self.reads_left -= 1;
+        let mut given = 0;
+        for place in buf.iter_mut() {
+            let at = self.at;
+            let Some(byte) = self.bytes.get(at) else {
+                break;
+            };
+            if given >= self.piece || at >= self.bytes.len() {
+                break;
+            }
+            *place = *byte;
+            self.at = at + 1;
+            given += 1;
+        }
+        Ok(given)
+    }
+}
+
+// How many bytes the reader has, in what pieces, the reads that pass, and the answer.
+type Streamed = (usize, usize, usize, Option<Refusal>);
+
+const MANY: usize = 1_000_000;
+
+const STREAMED: [Streamed; 12] = [
+    (24576, 1, MANY, None),
+    (24576, 95, MANY, None),
+    (24576, 96, MANY, None),
+    (24576, 97, MANY, None),
+    (24576, 24576, MANY, None),
+    (24575, 96, MANY, Some(Refusal::WrongLength)),
+    (24577, 96, MANY, Some(Refusal::WrongLength)),
+    (24577, 1, MANY, Some(Refusal::WrongLength)),
+    (0, 96, MANY, Some(Refusal::WrongLength)),
+    (24576, 96, 0, Some(Refusal::Source)),
+    (24576, 64, 300, Some(Refusal::Source)),
+    (24576, 96, 512, Some(Refusal::Source)),
+];
+
+fn hold_streamed(
+    rt: &impl Abort,
+    alloc: Global,
+    bytes: &[u8],
+    row: &Streamed,
+    fault: ErrorKind,
+) -> Result<(), Fail> {
+    let geometry = Geometry::new(64, 32, 8, 32, 32)?;
+    let certificate = certificate_of(alloc, &FORMATTED_CLAIM)?;
+    let (length, piece, reads_left, answer) = *row;
+    let mut reader = Pieces {
+        bytes: bytes.get(..length).unwrap_or(&[]),
+        at: 0,
+        piece,
+        reads_left,
+        fault,
+    };
+    let checked = check_stream(alloc, &mut reader, &geometry, 4, &certificate);
+    assert!(rt; checked.err() == answer, "{row:?}");
+    assert!(rt; reader.at <= 24577, "{row:?}");
+    Ok(())
+}
+
+#[test]
+fn streams_are_answered(rt: HostRuntime) -> Result<(), Fail> {
+    let geometry = Geometry::new(64, 32, 8, 32, 32)?;
+    let mut bytes = image_of(rt.alloc(), &geometry, &FORMATTED_PAGES)?;
+    bytes.push(0xFF)?;
+    for row in &STREAMED {
+        hold_streamed(&rt, rt.alloc(), &bytes, row, ErrorKind::BrokenPipe)?;
+        hold_streamed(&rt, rt.alloc(), &bytes, row, ErrorKind::Interrupted)?;
+    }
+    Ok(())
+}
+
+// Another capacity is told before any byte is read.
+#[test]
+fn another_capacity_is_told_first(rt: HostRuntime) -> Result<(), Fail> {
+    let geometry = Geometry::new(64, 32, 8, 32, 32)?;
+    let certificate = certificate_of(rt.alloc(), &FORMATTED_CLAIM)?;
+    let mut reader = Pieces {
+        bytes: &[],
+        at: 0,
+        piece: 1,
+        reads_left: 0,
+        fault: ErrorKind::BrokenPipe,
+    };
+    let checked = check_stream(rt.alloc(), &mut reader, &geometry, 5, &certificate);
+    assert!(rt; checked.err() == Some(Refusal::GeometryDiffers));
+    Ok(())
+}
+
+// An image that counts the reads of its pages.
+#[derive(Drop)]
+struct Counting<'a> {
+    image: ImageSlice<'a>,
+    reads: u32,
+}
+
+impl PageSource for Counting<'_> {
+    ghost use Rattle.std.specs.Prelude.{true};
+
+    ghost flash = { λ s. s.image.flash };
+
+    ghost honest = { λ _. true };
+
+    ghost reads = { λ s. s.image.reads };
+
+    ghost programs = { λ _. 0 };
+
+    ghost erases = { λ _. 0 };
+
+    ghost failed = { λ _. 0 };
+
+    fn read_page(&mut self, row: u32, body: &mut [u8], spare: &mut [u8]) -> Result<(), SourceFault> {
+        self.reads = self.reads.saturating_add(1);
+        self.image.read_page(row, body, spare)
+    }
+
+    fn failures(&self) -> u64 {
+        0
+    }
+}
+
+// Each page of the die is read once.
+#[test]
+fn pages_are_read_once(rt: HostRuntime) -> Result<(), Fail> {
+    let geometry = Geometry::new(64, 32, 8, 32, 32)?;
+    let bytes = image_of(rt.alloc(), &geometry, &FORMATTED_PAGES)?;
+    let certificate = certificate_of(rt.alloc(), &FORMATTED_CLAIM)?;
+    let mut source = Counting {
+        image: ImageSlice::new(&geometry, &bytes)?,
+        reads: 0,
+    };
+    let checked = check(rt.alloc(), &mut source, &geometry, 4, &certificate);
+    assert!(rt; checked.is_ok());
+    assert!(rt; source.reads == 256);
+    Ok(())
+}

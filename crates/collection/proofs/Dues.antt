@@ -1,0 +1,202 @@
+-- Which translation pages have to be written.
+use Rattle.std.proofs.Common.{◌≡◌, ◌≢◌, inl, inr, ℕ, ◌+◌, ◌/◌, ◌<◌, ◌≤◌, ◌==◌, ◌&&◌, ◌||◌, Bool, true, false, not, List, [], ◌∷◌, ◌++◌, length, get_or, set, replicate, count_by, refl, ap, sym, ◌∙◌, subst, arith, get_or-set_same, get_or-set_other}
+use Rattle.std.specs.List.{range_with_len}
+use Rattle.std.proofs.lemmas.Bool.{cases_eq, eq-eqb, ne_eqb}
+use Rattle.std.proofs.lemmas.List.{get_or-replicate}
+use Rattle.page_layout.specs.declared.geometry.Geometry.{Geometry}
+use Rattle.page_layout.specs.declared.record.Key.{Key}
+use Rattle.page_layout.specs.declared.record.Key.TheVariants.{Sector, Translation, Table}
+use Rattle.page_layout.specs.Geometry.{translation_pages, entries}
+use Rattle.page_layout.specs.Live.{IsKeyOf}
+use Rattle.page_layout.proofs.CountLemmas.{bit}
+use Rattle.page_layout.proofs.GeometryLemmas.{sector_entry}
+use Rattle.mapping_cache.specs.Mapping.{MappingState, per_page, moved_in, without, without_page, cleaned}
+use Rattle.allocation.proofs.CountLemmas.{count_moved, count_none_in}
+use Rattle.collection.specs.State.{Ram}
+use Rattle.collection.specs.Safe.{IsRam, IsIdle}
+use Rattle.collection.specs.Settle.{SetsMapping, Cleans}
+use Rattle.collection.specs.Collect.{has_moved, is_marked, is_due, due_count, marks_after, IsUpToDate, Refreshes, HasNoneDue}
+
+-- ---- the moved list
+
+without_head : (n pp t : ℕ) (e : ℕ × ℕ) (ms : List (ℕ × ℕ)) → t ≢ n / pp → (b : Bool) → (e.0 == n) ≡ b → (c : Bool) → (e.0 / pp == t) ≡ c → moved_in pp t (without n ms) ≡ moved_in pp t ms → moved_in pp t (without n (e ∷ ms)) ≡ moved_in pp t (e ∷ ms)
+without_head n pp t e ms ne true here true of_page rest =
+    let same : e.0 ≡ n = Rattle.std.proofs.lemmas.Bool.eqb-true e.0 n here in
+    let page : e.0 / pp ≡ t = Rattle.std.proofs.lemmas.Bool.eqb-true (e.0 / pp) t of_page in
+    absurd (ne (sym page ∙ ap (λ k. k / pp) same))
+without_head n pp t e ms ne true here false of_page rest = rw (here, of_page) rest
+without_head n pp t e ms ne false here true of_page rest = rw (here, of_page) (ap (λ l. e ∷ l) rest)
+without_head n pp t e ms ne false here false of_page rest = rw (here, of_page) rest
+
+without_others : (n pp t : ℕ) (ms : List (ℕ × ℕ)) → t ≢ n / pp → moved_in pp t (without n ms) ≡ moved_in pp t ms
+without_others n pp t [] ne = refl
+without_others n pp t (e ∷ ms) ne = without_head n pp t e ms ne (e.0 == n) refl (e.0 / pp == t) refl (without_others n pp t ms ne)
+
+append_head : (pp t n row : ℕ) (e : ℕ × ℕ) (ms : List (ℕ × ℕ)) (b : Bool) → (e.0 / pp == t) ≡ b → moved_in pp t (ms ++ (n, row) ∷ []) ≡ moved_in pp t ms → moved_in pp t ((e ∷ ms) ++ (n, row) ∷ []) ≡ moved_in pp t (e ∷ ms)
+append_head pp t n row e ms true is rest = rw is (ap (λ l. e ∷ l) rest)
+append_head pp t n row e ms false is rest = rw is rest
+
+append_other : (pp t n row : ℕ) (ms : List (ℕ × ℕ)) → t ≢ n / pp → moved_in pp t (ms ++ (n, row) ∷ []) ≡ moved_in pp t ms
+append_other pp t n row [] ne = (let e : (n / pp == t) ≡ false = ne_eqb (n / pp) t (λ x. ne (sym x)) in rw e refl)
+append_other pp t n row (e ∷ ms) ne = append_head pp t n row e ms (e.0 / pp == t) refl (append_other pp t n row ms ne)
+
+pub moved_others : (pp t n row : ℕ) (ms : List (ℕ × ℕ)) → t ≢ n / pp → moved_in pp t (without n ms ++ (n, row) ∷ []) ≡ moved_in pp t ms
+moved_others pp t n row ms ne = append_other pp t n row (without n ms) ne ∙ without_others n pp t ms ne
+
+-- the sectors of a page leave it
+left_head : (pp t k : ℕ) (e : ℕ × ℕ) (ms : List (ℕ × ℕ)) → k ≢ t → (b : Bool) → (e.0 / pp == t) ≡ b → (c : Bool) → (e.0 / pp == k) ≡ c → moved_in pp k (without_page pp t ms) ≡ moved_in pp k ms → moved_in pp k (without_page pp t (e ∷ ms)) ≡ moved_in pp k (e ∷ ms)
+left_head pp t k e ms ne true here true of_page rest =
+    let a : e.0 / pp ≡ t = Rattle.std.proofs.lemmas.Bool.eqb-true (e.0 / pp) t here in
+    let b : e.0 / pp ≡ k = Rattle.std.proofs.lemmas.Bool.eqb-true (e.0 / pp) k of_page in
+    absurd (ne (sym b ∙ a))
+left_head pp t k e ms ne true here false of_page rest = rw (here, of_page) rest
+left_head pp t k e ms ne false here true of_page rest = rw (here, of_page) (ap (λ l. e ∷ l) rest)
+left_head pp t k e ms ne false here false of_page rest = rw (here, of_page) rest
+
+pub left_others : (pp t k : ℕ) (ms : List (ℕ × ℕ)) → k ≢ t → moved_in pp k (without_page pp t ms) ≡ moved_in pp k ms
+left_others pp t k [] ne = refl
+left_others pp t k (e ∷ ms) ne = left_head pp t k e ms ne (e.0 / pp == t) refl (e.0 / pp == k) refl (left_others pp t k ms ne)
+
+none_head : (pp t : ℕ) (e : ℕ × ℕ) (ms : List (ℕ × ℕ)) (b : Bool) → (e.0 / pp == t) ≡ b → moved_in pp t (without_page pp t ms) ≡ [] → moved_in pp t (without_page pp t (e ∷ ms)) ≡ []
+none_head pp t e ms true is rest = rw is rest
+none_head pp t e ms false is rest = rw (is, is) rest
+
+pub left_none : (pp t : ℕ) (ms : List (ℕ × ℕ)) → moved_in pp t (without_page pp t ms) ≡ []
+left_none pp t [] = refl
+left_none pp t (e ∷ ms) = none_head pp t e ms (e.0 / pp == t) refl (left_none pp t ms)
+
+-- ---- how many have to be written
+
+-- at most one page's turn has changed
+one_more : (p q : ℕ → Bool) (t n : ℕ) → ((k : ℕ) → k ≢ t → q k ≡ p k) → t < n → count_by q (range_with_len 0 n) ≤ count_by p (range_with_len 0 n) + 1
+one_more p q t n same lt = (let e = count_moved p q t 0 n same (omega arith) (omega arith) in omega (arith, e, most (q t)))
+  where
+    most : (b : Bool) → bit b ≤ 1
+    most true = omega arith
+    most false = omega arith
+
+one_less : (p q : ℕ → Bool) (t n : ℕ) → ((k : ℕ) → k ≢ t → q k ≡ p k) → t < n → p t ≡ true → q t ≡ false → count_by q (range_with_len 0 n) + 1 ≤ count_by p (range_with_len 0 n)
+one_less p q t n same lt was now = (let e = count_moved p q t 0 n same (omega arith) (omega arith) in let a : bit (p t) ≡ 1 = ap bit was in let b : bit (q t) ≡ 0 = ap bit now in omega (arith, e))
+
+-- ---- a sector was copied
+
+pub record HasFollowed (flushing : Bool) (key : Key) (row : ℕ) (r r' : Ram) : Type 0 where
+  pub geometry : r'.geometry ≡ r.geometry
+  pub mapping : SetsMapping key row r.mapping r'.mapping
+  pub marks : r'.pin.marks ≡ marks_after flushing r.geometry key r.pin.marks
+
+marked_other : (flushing : Bool) (g : Geometry) (n t : ℕ) (ms : List Bool) → t ≢ n / entries g → get_or (marks_after flushing g (Sector n) ms) t false ≡ get_or ms t false
+marked_other true g n t ms ne = get_or-set_other ms (n / entries g) t true false ne
+marked_other false g n t ms ne = refl
+
+unmarked_key : (flushing : Bool) (g : Geometry) (key : Key) (ms : List Bool) → ((n : ℕ) → key ≢ Sector n) → marks_after flushing g key ms ≡ ms
+unmarked_key true g (Sector n) ms not = absurd (not n refl)
+unmarked_key true g (Translation t) ms not = refl
+unmarked_key true g (Table u) ms not = refl
+unmarked_key false g key ms not = refl
+
+due_by : (flushing : Bool) (pp t : ℕ) (moved moved' : List (ℕ × ℕ)) (mark mark' : Bool) → moved_in pp t moved' ≡ moved_in pp t moved → mark' ≡ mark → (not (length (moved_in pp t moved') == 0) || (flushing && mark')) ≡ (not (length (moved_in pp t moved) == 0) || (flushing && mark))
+due_by flushing pp t moved moved' mark mark' m k = rw (m, k) refl
+
+pub copied_due : (flushing : Bool) (key : Key) (row : ℕ) (r r' : Ram) → IsRam r → IsKeyOf r.geometry key → HasFollowed flushing key row r r' → due_count flushing r' ≤ due_count flushing r + 1
+copied_due flushing (Sector n) row r r' s lt f =
+    let pp_is : per_page r.mapping ≡ entries r.geometry = ap entries s.mapping_of in
+    let pp'_is : per_page r'.mapping ≡ per_page r.mapping = ap entries f.mapping.limits.geometry in
+    let same : (k : ℕ) → k ≢ n / entries r.geometry → is_due flushing r' k ≡ is_due flushing r k =
+    λ k ne.
+        let others : moved_in (per_page r.mapping) k r'.mapping.moved ≡ moved_in (per_page r.mapping) k r.mapping.moved = f.mapping.moved_others k (λ e. ne (e ∙ ap (λ p. n / p) pp_is)) in
+        let mark : get_or r'.pin.marks k false ≡ get_or r.pin.marks k false = ap (λ l. get_or l k false) f.marks ∙ marked_other flushing r.geometry n k r.pin.marks ne in
+        ap (λ p. not (length (moved_in p k r'.mapping.moved) == 0) || (flushing && get_or r'.pin.marks k false)) pp'_is ∙ due_by flushing (per_page r.mapping) k r.mapping.moved r'.mapping.moved (get_or r.pin.marks k false) (get_or r'.pin.marks k false) others mark in
+    let e = one_more (is_due flushing r) (is_due flushing r') (n / entries r.geometry) (translation_pages r.geometry) same (sector_entry r.geometry n lt) in
+    rw f.geometry e
+copied_due flushing (Translation t) row r r' s lt f =
+    let e : due_count flushing r' ≡ due_count flushing r = (let m : r'.pin.marks ≡ r.pin.marks = f.marks ∙ unmarked_key flushing r.geometry (Translation t) r.pin.marks (λ n x. (let no : ⊥ = cc in no)) in rw (f.geometry, f.mapping, m) refl) in
+    omega (arith, e)
+copied_due flushing (Table u) row r r' s lt f =
+    let e : due_count flushing r' ≡ due_count flushing r = (let m : r'.pin.marks ≡ r.pin.marks = f.marks ∙ unmarked_key flushing r.geometry (Table u) r.pin.marks (λ n x. (let no : ⊥ = cc in no)) in rw (f.geometry, f.mapping, m) refl) in
+    omega (arith, e)
+
+pub copied_refreshes : (key : Key) (row : ℕ) (r r' : Ram) → IsRam r → IsKeyOf r.geometry key → HasFollowed true key row r r' → Refreshes r r'
+copied_refreshes (Sector n) row r r' s lt f = record {
+  each = λ t within fresh unmarked k of_page. elim (cases_eq t (n / entries r.geometry)) [
+    | inl here ↦
+        let did : get_or r'.pin.marks t false ≡ true = ap (get_or r'.pin.marks t) refl ∙ (ap (λ l. get_or l t false) f.marks ∙ (ap (λ i. get_or (set r.pin.marks (n / entries r.geometry) true) i false) here ∙ get_or-set_same r.pin.marks (n / entries r.geometry) true false (let w = sector_entry r.geometry n lt in omega (arith, s.marks)))) in
+        let no : ⊥ = cc in absurd no
+    | inr ne ↦
+        let pp : per_page r'.mapping ≡ entries r.geometry = ap entries f.mapping.limits.geometry ∙ ap entries s.mapping_of in
+        let was_unmarked : is_marked r t ≡ false = sym (ap (λ l. get_or l t false) f.marks ∙ marked_other true r.geometry n t r.pin.marks ne) ∙ unmarked in
+        let apart : k ≢ n = λ e. ne (sym of_page ∙ (ap (λ p. k / p) pp ∙ ap (λ j. j / entries r.geometry) e)) in
+        f.mapping.pending_others k apart ∙ fresh was_unmarked k (ap (λ p. k / p) (ap entries (sym f.mapping.limits.geometry)) ∙ of_page)
+  ];
+}
+copied_refreshes (Translation t) row r r' s lt f = record { each = λ k within fresh unmarked n of_page. (let x = fresh (sym (ap (λ l. get_or l k false) f.marks) ∙ unmarked) n in rw f.mapping (x (ap (λ m. n / per_page m) (sym f.mapping) ∙ of_page))) }
+copied_refreshes (Table u) row r r' s lt f = record { each = λ k within fresh unmarked n of_page. (let x = fresh (sym (ap (λ l. get_or l k false) f.marks) ∙ unmarked) n in rw f.mapping (x (ap (λ m. n / per_page m) (sym f.mapping) ∙ of_page))) }
+
+-- ---- a translation page was written
+
+pub record HasLeft (t : ℕ) (r r' : Ram) : Type 0 where
+  pub geometry : r'.geometry ≡ r.geometry
+  pub mapping : r'.mapping ≡ cleaned r.mapping t
+  pub marks : r'.pin.marks ≡ set r.pin.marks t false
+
+module _ (t : ℕ) (r r' : Ram) (s : IsRam r) (lt : t < translation_pages r.geometry) (f : HasLeft t r r') where
+  mark_there : (k : ℕ) → k ≢ t → get_or r'.pin.marks k false ≡ get_or r.pin.marks k false
+  mark_there k ne = ap (λ l. get_or l k false) f.marks ∙ get_or-set_other r.pin.marks t k false false ne
+
+  mark_here : get_or r'.pin.marks t false ≡ false
+  mark_here = ap (λ l. get_or l t false) f.marks ∙ get_or-set_same r.pin.marks t false false (omega (arith, s.marks))
+
+  pub written_due : (flushing : Bool) → is_due flushing r t ≡ true → due_count flushing r' + 1 ≤ due_count flushing r
+  written_due flushing was =
+      let same : (k : ℕ) → k ≢ t → is_due flushing r' k ≡ is_due flushing r k = λ k ne.
+          ap (λ (m : MappingState). not (length (moved_in (per_page m) k m.moved) == 0) || (flushing && get_or r'.pin.marks k false)) f.mapping ∙ due_by flushing (per_page r.mapping) k r.mapping.moved (without_page (per_page r.mapping) t r.mapping.moved) (get_or r.pin.marks k false) (get_or r'.pin.marks k false) (left_others (per_page r.mapping) t k r.mapping.moved ne) (mark_there k ne) in
+      let now : is_due flushing r' t ≡ false =
+      ap (λ (m : MappingState). not (length (moved_in (per_page m) t m.moved) == 0) || (flushing && get_or r'.pin.marks t false)) f.mapping ∙ (ap (λ l. not (length l == 0) || (flushing && get_or r'.pin.marks t false)) (left_none (per_page r.mapping) t r.mapping.moved) ∙ none flushing (get_or r'.pin.marks t false) mark_here) in
+      let e = one_less (is_due flushing r) (is_due flushing r') t (translation_pages r.geometry) same lt was now in
+      rw f.geometry e
+    where
+      none : (b m : Bool) → m ≡ false → (not (0 == 0) || (b && m)) ≡ false
+      none true m is = is
+      none false m is = refl
+
+  pub written_refreshes : Cleans (per_page r.mapping) t r.mapping r'.mapping → Refreshes r r'
+  written_refreshes c = record {
+    each = λ k within fresh unmarked n of_page.
+        let pp : per_page r'.mapping ≡ per_page r.mapping = ap per_page f.mapping in
+        let at : n / per_page r.mapping ≡ k = ap (λ p. n / p) (sym pp) ∙ of_page in
+        elim (cases_eq k t) [
+          | inl same ↦ c.clean n (at ∙ same)
+          | inr ne ↦ c.others n (λ e. ne (sym at ∙ e)) ∙ fresh (sym (mark_there k ne) ∙ unmarked) n at
+        ];
+  }
+
+-- ---- none has to be written any more
+
+none_marked : (flushing : Bool) (r : Ram) (t : ℕ) → is_due flushing r t ≡ false → flushing ≡ true → is_marked r t ≡ false
+none_marked true r t is did = by (has_moved r.mapping t) (is_marked r t) is
+  where
+    by : (a b : Bool) → (a || b) ≡ false → b ≡ false
+    by true b e = (let no : ⊥ = cc in absurd no)
+    by false b e = e
+none_marked false r t is did = (let no : ⊥ = cc in absurd no)
+
+pub erased_refreshes : (r r' : Ram) → HasNoneDue true r → r'.geometry ≡ r.geometry → r'.mapping ≡ r.mapping → Refreshes r r'
+erased_refreshes r r' none g m = record { each = λ t within fresh unmarked. (let P : MappingState → Type 0 = λ x. IsUpToDate x t in subst P (sym m) (fresh (none_marked true r t (none t within) refl))) }
+
+-- ---- at first
+
+pub idle_due : (flushing : Bool) (r : Ram) → IsIdle r → due_count flushing r ≡ 0
+idle_due flushing r idle = count_none_in (is_due flushing r) 0 (translation_pages r.geometry) (λ t ge lt. none t)
+  where
+    no_mark : (t : ℕ) → get_or r.pin.marks t false ≡ false
+    no_mark t = ap (λ l. get_or l t false) idle.unmarked ∙ elim (Rattle.std.proofs.lemmas.Bool.cases_lt t (translation_pages r.geometry)) [
+      | inl below ↦ get_or-replicate (translation_pages r.geometry) t false false below
+      | inr past ↦ Rattle.std.proofs.lemmas.List.get_or_past (replicate (translation_pages r.geometry) false) t false (omega (arith, Rattle.std.proofs.lemmas.List.length-replicate (translation_pages r.geometry) false))
+    ]
+
+    by : (b m : Bool) → m ≡ false → (not (0 == 0) || (b && m)) ≡ false
+    by true m is = is
+    by false m is = refl
+
+    none : (t : ℕ) → is_due flushing r t ≡ false
+    none t = ap (λ l. not (length (moved_in (per_page r.mapping) t l) == 0) || (flushing && get_or r.pin.marks t false)) idle.moved ∙ by flushing (get_or r.pin.marks t false) (no_mark t)

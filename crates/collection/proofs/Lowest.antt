@@ -1,0 +1,109 @@
+-- The first live page of a block is copied, and the lowest translation page written.
+use Rattle.std.proofs.Common.{◌≡◌, ◌≢◌, inl, inr, ℕ, ◌+◌, ◌*◌, ◌/◌, ◌<◌, ◌≤◌, Bool, true, false, not, ◌||◌, List, length, set, Option, Some, None, MatchOption, refl, ap, sym, ◌∙◌, subst, arith}
+use Rattle.std.proofs.lemmas.Bool.{cases_eq}
+use Rattle.std.proofs.lemmas.Nat.{div-mul-add}
+use Rattle.page_layout.specs.declared.geometry.Geometry.{Geometry}
+use Rattle.page_layout.specs.declared.record.Record.{Record}
+use Rattle.page_layout.specs.declared.record.Key.{Key}
+use Rattle.page_layout.specs.Page.{Image}
+use Rattle.page_layout.specs.Array.{array_of}
+use Rattle.page_layout.specs.Geometry.{translation_pages}
+use Rattle.page_layout.specs.Change.{HoldsNone}
+use Rattle.page_layout.proofs.StepLemmas.{none_live}
+use Rattle.budget.specs.declared.stream.Stream.{Stream}
+use Rattle.bad_blocks.specs.Table.{is_good_at}
+use Rattle.allocation.specs.State.{State, live_at, is_closed}
+use Rattle.allocation.proofs.CountLemmas.{count_has}
+use Rattle.collection.specs.State.{Ram, Pin}
+use Rattle.collection.specs.Safe.{IsRam, is_shut}
+use Rattle.collection.specs.Pages.{newest_row}
+use Rattle.collection.specs.Truth.{IsTrue}
+use Rattle.collection.specs.Cost.{HasPut}
+use Rattle.collection.specs.Live.{NotAt, HoldsNoneIn, IsLivePage, FindsFirst, IsFirstLive}
+use Rattle.collection.specs.Results.{IsSame, Leaves}
+use Rattle.collection.specs.Collect.{is_due, due_count, IsLowestDue, HasNoneDue, IsMovedOut, IsCopied, HasWritten}
+use Rattle.collection.specs.Settle.{HasNoMore}
+use Rattle.mapping_cache.specs.Mapping.{cleaned}
+use Rattle.budget.specs.declared.stream.Stream.TheVariants.{Meta}
+use Rattle.collection.proofs.Dues.{HasLeft, written_due}
+use Rattle.collection.proofs.Puts.{leaves_same}
+use Rattle.collection.proofs.Copies.{exact_at}
+use Rattle.collection.proofs.Finds.{none_all, none_join}
+
+pub same_here : (r : Ram) (image : Image) → IsTrue None r image → IsSame r image r image
+same_here r image w = record { truth = w; array = refl; leaves = leaves_same r image image refl }
+
+pub holds_none : (r : Ram) (image : Image) (block : ℕ) → IsRam r → IsTrue None r image → block < r.geometry.blocks → live_at r.blocks block ≡ 0 → HoldsNone r.geometry.pages block image
+holds_none r image block s w lt zero = none_live r.geometry block image w.one (sym (exact_at r image block s w lt) ∙ zero)
+
+pub some_pages : (g : Geometry) → 0 < g.pages
+some_pages g = omega (arith, g.limits.page_count.least)
+
+pub copied_none : (r r1 : Ram) (x x1 : Image) (block first : ℕ) (live : Option (ℕ × Record)) (body : List ℕ) → IsTrue None r x → r1 ≡ r → x1 ≡ x → HoldsNoneIn r.geometry.pages block 0 first x → FindsFirst r.geometry.pages block first body x live → live ≡ None → IsSame r x r1 x1 × HoldsNone r.geometry.pages block x1
+copied_none r r1 x x1 block first live body w same still none finds is =
+    let rest : HoldsNoneIn r.geometry.pages block first r.geometry.pages x = (let P : Option (ℕ × Record) → Type 0 = λ o. FindsFirst r.geometry.pages block first body x o in subst P is finds) in
+    rw (same, still) (same_here r x w, none_all r.geometry.pages block x (some_pages r.geometry) (none_join r.geometry.pages block x 0 first r.geometry.pages none rest))
+
+pub shut_closed : (s : State) (block : ℕ) → is_closed s block ≡ true → is_shut s block ≡ true
+shut_closed s block closed = by (is_good_at s.table block) (is_closed s block) closed
+  where
+    by : (a b : Bool) → b ≡ true → (not a || b) ≡ true
+    by true b e = e
+    by false b e = refl
+
+-- no newest page comes into a block that is closed
+pub none_leaves : (r : Ram) (x y : Image) (block first end : ℕ) → is_shut r.blocks block ≡ true → end ≤ r.geometry.pages → Leaves r x y → HoldsNoneIn r.geometry.pages block first end x → HoldsNoneIn r.geometry.pages block first end y
+none_leaves r x y block first end shut le l h = record {
+  none = λ p ge lt key is. elim (l.each key) [
+    | inl stayed ↦ h.none p ge lt key (sym stayed ∙ is)
+    | inr out ↦
+        let at : (block * r.geometry.pages + p) / r.geometry.pages ≡ block = div-mul-add block r.geometry.pages p (omega arith) in
+        let unshut : is_shut r.blocks block ≡ false = ap (is_shut r.blocks) (sym at) ∙ out (block * r.geometry.pages + p) is in
+        let no : true ≡ false = sym shut ∙ unshut in
+        let never : ⊥ = cc in never
+  ];
+}
+
+pub copied_by : (r r2 : Ram) (x x2 : Image) (block first page row : ℕ) (found : Record) (body : List ℕ) → row ≡ block * r.geometry.pages + page → page < r.geometry.pages → is_closed r.blocks block ≡ true → HoldsNoneIn r.geometry.pages block 0 first x → IsFirstLive r.geometry.pages block first page body found x → IsMovedOut row r x r2 x2 → IsCopied block page r x r2 x2
+copied_by r r2 x x2 block first page row found body at lt closed none f m =
+    let of_block : row / r.geometry.pages ≡ block = ap (λ k. k / r.geometry.pages) at ∙ div-mul-add block r.geometry.pages page lt in
+    let shut : is_shut r.blocks block ≡ true = shut_closed r.blocks block closed in
+    let before : HoldsNoneIn r.geometry.pages block 0 page x2 = none_leaves r x x2 block 0 page shut (omega arith) m.same.leaves (none_join r.geometry.pages block x 0 first page none f.before) in
+    record {
+      same = m.same;
+      fewer = ap (λ b. live_at r2.blocks b + 1) (sym of_block) ∙ (m.fewer ∙ ap (live_at r.blocks) of_block);
+      none = Rattle.collection.proofs.Finds.none_more r.geometry.pages block x2 0 page before (let P : ℕ → Type 0 = λ q. NotAt q x2 in subst P at m.gone);
+    }
+
+pub copied_from : (r r1 r2 : Ram) (x x1 x2 : Image) (block first page row : ℕ) (found : Record) (body : List ℕ) (live : Option (ℕ × Record)) → IsTrue None r x → r1 ≡ r → x1 ≡ x → row ≡ block * r1.geometry.pages + page → page < r.geometry.pages → is_closed r.blocks block ≡ true → HoldsNoneIn r.geometry.pages block 0 first x → FindsFirst r.geometry.pages block first body x live → live ≡ Some (page, found) → (IsTrue None r1 x1 → is_shut r1.blocks (row / r1.geometry.pages) ≡ true → IsLivePage row body found x1 → IsMovedOut row r1 x1 r2 x2) → IsCopied block page r x r2 x2
+copied_from r r1 r2 x x1 x2 block first page row found body live w same still at lt closed none finds is call =
+    let f : IsFirstLive r.geometry.pages block first page body found x = (let P : Option (ℕ × Record) → Type 0 = λ o. FindsFirst r.geometry.pages block first body x o in subst P is finds) in
+    let here : row ≡ block * r.geometry.pages + page = at ∙ ap (λ (z : Ram). block * z.geometry.pages + page) same in
+    let of_block : row / r.geometry.pages ≡ block = ap (λ k. k / r.geometry.pages) here ∙ div-mul-add block r.geometry.pages page lt in
+    let shut : is_shut r.blocks (row / r.geometry.pages) ≡ true = ap (is_shut r.blocks) of_block ∙ shut_closed r.blocks block closed in
+    let live_page : IsLivePage row body found x = (let P : ℕ → Type 0 = λ q. IsLivePage q body found x in subst P (sym here) f.live) in
+    let m : IsMovedOut row r1 x1 r2 x2 = call (rw (same, still) w) (rw same shut) (rw still live_page) in
+    let P : Ram → Type 0 = λ z. IsMovedOut row z x1 r2 x2 in
+    let Q : Image → Type 0 = λ i. IsMovedOut row r i r2 x2 in
+    copied_by r r2 x x2 block first page row found body here lt closed none f (subst Q still (subst P same m))
+
+-- ---- translation pages
+
+pub due_some : (flushing : Bool) (r : Ram) (o : Option ℕ) (t : ℕ) → MatchOption o (HasNoneDue flushing r) (IsLowestDue flushing r) → o ≡ Some t → IsLowestDue flushing r t
+due_some flushing r o t m is = (let P : Option ℕ → Type 0 = λ x. MatchOption x (HasNoneDue flushing r) (IsLowestDue flushing r) in subst P is m)
+
+pub due_positive : (flushing : Bool) (r : Ram) (t : ℕ) → IsLowestDue flushing r t → 0 < due_count flushing r
+due_positive flushing r t d = (let lt = d.within in count_has (is_due flushing r) t 0 (translation_pages r.geometry) d.due (omega arith) (omega arith))
+
+pub put_pinned : (stream : Stream) (r b : Ram) (p : Pin) → HasPut stream r b → HasPut stream r (record b { pin = p })
+put_pinned stream r b p cost = record { failures = cost.failures; put = cost.put; next = cost.next }
+
+pub same_pinned : (r b : Ram) (x y : Image) (p : Pin) → IsSame r x b y → IsSame r x (record b { pin = p }) y
+same_pinned r b x y p k = (let w = k.truth in record { truth = record { whole = w.whole; one = w.one; below = w.below; filled = w.filled; live = w.live; worn = w.worn; tables = w.tables; maps = w.maps }; array = k.array; leaves = k.leaves })
+
+pub written_cost : (flushing : Bool) (t : ℕ) (r b : Ram) (p : Pin) → IsRam r → IsLowestDue flushing r t → HasPut Meta r b → HasNoMore r.mapping b.mapping → b.geometry ≡ r.geometry → b.mapping ≡ cleaned r.mapping t → p.marks ≡ set r.pin.marks t false → HasWritten flushing r (record b { pin = p })
+written_cost flushing t r b p s low cost more same mapping marks = record {
+  put = put_pinned Meta r b p cost;
+  moved = more.moved;
+  due = written_due t r (record b { pin = p }) s low.within (record { geometry = same; mapping = mapping; marks = marks }) flushing low.due;
+}

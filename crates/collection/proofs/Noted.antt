@@ -1,0 +1,79 @@
+-- A fault that is noted after a collection changes nothing else that is known.
+use Rattle.std.proofs.Common.{◌⊎◌, inl, inr, ℕ, ◌≤◌, Bool, true, false, Option, None, Result, Ok, Err}
+use Rattle.std.specs.Prelude.{MatchResult, IfErr, OnOk}
+use Rattle.page_layout.specs.Page.{Image}
+use Rattle.collection.specs.declared.fault.WriteFault.{WriteFault}
+use Rattle.collection.specs.declared.fault.WriteFault.TheVariants.{ReadOnly, SequenceSpent, Damaged, Bus}
+use Rattle.allocation.specs.State.{free_count}
+use Rattle.collection.specs.State.{Ram}
+use Rattle.collection.specs.Results.{Refused, fault_after}
+use Rattle.collection.specs.Collect.{GoesBut, GoesOn, Refreshes, HasNoneWorth, HasRoom, CollectCosts, IsEmptied, IsRearranged, RoomRefused, RoomTells, RoomCounts, RescueCosts, IsRescued}
+use Rattle.collection.proofs.Gates.{true_noted, same_noted, refused_noted}
+
+module _ (fault : Option WriteFault) where
+  pub but_noted : (block : ℕ) (a b : Ram) → GoesBut block a b → GoesBut block a (record b { fault = fault })
+  but_noted block a b x = record { geometry = x.geometry; next = x.next; shut = x.shut }
+
+  pub on_noted : (a b : Ram) → GoesOn a b → GoesOn a (record b { fault = fault })
+  on_noted a b x = record { geometry = x.geometry; next = x.next; bad = x.bad }
+
+  pub fresh_noted : (a b : Ram) → Refreshes a b → Refreshes a (record b { fault = fault })
+  fresh_noted a b x = record { each = x.each }
+
+  pub cost_noted : (flushing : Bool) (a b : Ram) (result : Result (Unit {0}) WriteFault) → CollectCosts flushing a b result → CollectCosts flushing a (record b { fault = fault }) result
+  cost_noted flushing a b (Ok u) x = record { mid = x.mid; ledger = x.ledger; failures = x.failures; erased = x.erased; next = x.next }
+  cost_noted flushing a b (Err ReadOnly) x = record { mid = x.mid; ledger = x.ledger; out = record { stream = x.out.stream; out = record { failures = x.out.out.failures; found = x.out.out.found; none = x.out.out.none; next = x.out.out.next; sequence = x.out.out.sequence } } }
+  cost_noted flushing a b (Err SequenceSpent) x = record { mid = x.mid; ledger = x.ledger; out = record { stream = x.out.stream; spent = record { tried = record { failures = x.out.spent.tried.failures; tries = x.out.spent.tried.tries; next = x.out.spent.tried.next }; last = x.out.spent.last } } }
+  cost_noted flushing a b (Err Damaged) x = tt
+  cost_noted flushing a b (Err Bus) x = tt
+
+  pub emptied_noted : (block : ℕ) (a b : Ram) (x y : Image) (result : Result (Unit {0}) WriteFault) → MatchResult result (λ u. IsEmptied block a x b y) (Refused a x b y) → MatchResult result (λ u. IsEmptied block a x (record b { fault = fault }) y) (Refused a x (record b { fault = fault }) y)
+  emptied_noted block a b x y (Ok u) k = record { same = same_noted fault a b x y k.same; none = k.none }
+  emptied_noted block a b x y (Err f) k = refused_noted fault a b x y f k
+
+  rearranged_noted : (a b : Ram) (x y : Image) → IsRearranged a x b y → IsRearranged a x (record b { fault = fault }) y
+  rearranged_noted a b x y k = record { truth = true_noted fault None b y k.truth; array = k.array; bad = k.bad }
+
+  room_refused_noted : (a b : Ram) (x y : Image) (f : WriteFault) → RoomRefused a x b y f → RoomRefused a x (record b { fault = fault }) y f
+  room_refused_noted a b x y ReadOnly k = rearranged_noted a b x y k
+  room_refused_noted a b x y SequenceSpent k = rearranged_noted a b x y k
+  room_refused_noted a b x y Damaged k = k
+  room_refused_noted a b x y Bus k = tt
+
+  pub made_noted : (a b : Ram) (x y : Image) (result : Result (Unit {0}) WriteFault) → MatchResult result (λ u. IsRearranged a x b y) (RoomRefused a x b y) → MatchResult result (λ u. IsRearranged a x (record b { fault = fault }) y) (RoomRefused a x (record b { fault = fault }) y)
+  made_noted a b x y (Ok u) k = rearranged_noted a b x y k
+  made_noted a b x y (Err f) k = room_refused_noted a b x y f k
+
+  worth_noted : (b : Ram) → (9 ≤ free_count b.blocks) ⊎ HasNoneWorth b → (9 ≤ free_count b.blocks) ⊎ HasNoneWorth (record b { fault = fault })
+  worth_noted b (inl nine) = inl nine
+  worth_noted b (inr none) = inr (record { none = none.none })
+
+  pub room_noted : (b : Ram) (result : Result (Unit {0}) WriteFault) → OnOk result (HasRoom b) → OnOk result (HasRoom (record b { fault = fault }))
+  room_noted b (Ok u) k = record { five = k.five; nine = worth_noted b k.nine }
+  room_noted b (Err f) k = tt
+
+  pub counts_noted : (failures : ℕ) (a b : Ram) (result : Result (Unit {0}) WriteFault) → RoomCounts failures a b result → RoomCounts failures a (record b { fault = fault }) result
+  counts_noted failures a b (Ok u) k = record { its_failures = k.its_failures; good = k.good; funded = k.funded; nine = k.nine }
+  counts_noted failures a b (Err ReadOnly) k = k
+  counts_noted failures a b (Err SequenceSpent) k = k
+  counts_noted failures a b (Err Damaged) k = k
+  counts_noted failures a b (Err Bus) k = k
+
+  pub tells_noted : (b : Ram) (result : Result (Unit {0}) WriteFault) → IfErr result (RoomTells b) → IfErr result (RoomTells (record b { fault = fault }))
+  tells_noted b (Ok u) k = k
+  tells_noted b (Err ReadOnly) k = k
+  tells_noted b (Err SequenceSpent) k = k
+  tells_noted b (Err Damaged) k = k
+  tells_noted b (Err Bus) k = k
+
+  pub rescued_noted : (a b : Ram) (x y : Image) (result : Result Bool WriteFault) → MatchResult result (IsRescued a x b y) (Refused a x b y) → MatchResult result (IsRescued a x (record b { fault = fault }) y) (Refused a x (record b { fault = fault }) y)
+  rescued_noted a b x y (Ok found) k = record { same = same_noted fault a b x y k.same; some = k.some; none = k.none; bad = k.bad }
+  rescued_noted a b x y (Err f) k = refused_noted fault a b x y f k
+
+pub rescue_cost_noted : (a b : Ram) (result : Result Bool WriteFault) → RescueCosts a b result → RescueCosts a (record b { fault = fault_after b.fault result }) result
+rescue_cost_noted a b (Ok false) k = k
+rescue_cost_noted a b (Ok true) k = (k.0, k.1, k.2, record { account = k.3.account; next = k.3.next })
+rescue_cost_noted a b (Err ReadOnly) k = k
+rescue_cost_noted a b (Err SequenceSpent) k = k
+rescue_cost_noted a b (Err Damaged) k = tt
+rescue_cost_noted a b (Err Bus) k = tt

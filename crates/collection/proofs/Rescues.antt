@@ -1,0 +1,165 @@
+-- A page is found in a bad block, and leaves it.
+use Rattle.std.proofs.Common.{◌≡◌, inl, inr, ℕ, ◌+◌, ◌*◌, ◌/◌, ◌<◌, ◌≤◌, true, false, List, Option, Some, None, Ok, Err, refl, ap, sym, ◌∙◌, subst, arith}
+use Rattle.std.proofs.lemmas.Bool.{cases_lt, cases_eq}
+use Rattle.std.proofs.lemmas.Nat.{div-mul-add}
+use Rattle.page_layout.specs.declared.geometry.Geometry.{Geometry}
+use Rattle.page_layout.specs.declared.record.Record.{Record}
+use Rattle.page_layout.specs.Page.{Image, Page}
+use Rattle.bad_blocks.specs.Table.{is_good_at}
+use Rattle.allocation.specs.State.{live_at}
+use Rattle.collection.specs.State.{Ram}
+use Rattle.collection.specs.Safe.{IsRam, is_shut}
+use Rattle.collection.specs.declared.fault.WriteFault.{WriteFault}
+use Rattle.collection.specs.declared.fault.WriteFault.TheVariants.{ReadOnly, SequenceSpent, Damaged, Bus}
+use Rattle.budget.specs.declared.stream.Stream.TheVariants.{Meta}
+use Rattle.budget.specs.Account.{data_of, meta_of}
+use Rattle.budget.proofs.AccountLemmas.{no_page}
+use Rattle.allocation.specs.Counts.{counts_of}
+use Rattle.allocation.specs.Laws.{IsLeftButLive}
+use Rattle.page_layout.specs.Geometry.{row_count}
+use Rattle.page_layout.proofs.GeometryLemmas.{row_within}
+use Rattle.collection.specs.Cost.{HasPut}
+use Rattle.collection.specs.Looks.{IsReadFault}
+use Rattle.collection.specs.Results.{IsSame, Goes, Refused}
+use Rattle.collection.specs.Truth.{IsTrue}
+use Rattle.collection.specs.Live.{NotAt, HoldsNoneIn, FindsFirst, IsFirstLive, IsFoundIn, IsLivePage}
+use Rattle.collection.specs.Collect.{IsAiling, HasNoneAiling, IsFirstAiling, FindsAiling, IsMovedOut, HasCopied, HasProgrammed, FollowCosts, RescueCosts, IsRescued}
+use Rattle.std.proofs.Math.Nat.{div-lt_iff_lt-mul}
+use Rattle.collection.proofs.Finds.{none_all}
+use Rattle.collection.proofs.Puts.{same_then}
+use Rattle.collection.proofs.Lowest.{some_pages, holds_none, same_here}
+use Rattle.collection.proofs.Ledgers.{fit, one_of, programmed_more}
+use Rattle.collection.proofs.Rooms.{bad_shut, still_bad, shut_fewer}
+use Rattle.collection.proofs.Steps.{live_none}
+
+-- what was found by a memory that is as it was
+pub found_at : (r r1 : Ram) (p q : Page) (row at : ℕ) (f : Record) → r1 ≡ r → row ≡ at → IsFoundIn r1 p q at f → (x : ℕ × Record) → Some (row, f) ≡ Some x → IsFoundIn r p q x.0 x.1
+found_at r r1 p q row at f same here found x e =
+    let pair : (ℕ × Record) = (row, f) in
+    let is : pair ≡ x = cc in
+    let P : Ram → Type 0 = λ z. IsFoundIn z p q at f in
+    let Q : ℕ → Type 0 = λ k. IsFoundIn r p q k f in
+    let R : (ℕ × Record) → Type 0 = λ y. IsFoundIn r p q y.0 y.1 in
+    subst R is (subst Q (sym here) (subst P same found))
+
+-- one block more without a newest page
+pub ailing_more : (r : Ram) (x : Image) (block : ℕ) → ((b : ℕ) → b < block → is_good_at r.blocks.table b ≡ false → live_at r.blocks b ≡ 0) → (is_good_at r.blocks.table block ≡ false → live_at r.blocks block ≡ 0) → (b : ℕ) → b < block + 1 → is_good_at r.blocks.table b ≡ false → live_at r.blocks b ≡ 0
+ailing_more r x block below here b lt bad = elim (cases_eq b block) [
+  | inl same ↦ ap (live_at r.blocks) same ∙ here (ap (is_good_at r.blocks.table) (sym same) ∙ bad)
+  | inr ne ↦ below b (omega arith) bad
+]
+
+-- the look through a block found none
+pub looked_through : (r : Ram) (x : Image) (block : ℕ) (body : List ℕ) (live : Option (ℕ × Record)) → IsRam r → IsTrue None r x → block < r.geometry.blocks → FindsFirst r.geometry.pages block 0 body x live → live ≡ None → live_at r.blocks block ≡ 0
+looked_through r x block body live s w lt finds is =
+    let all : HoldsNoneIn r.geometry.pages block 0 r.geometry.pages x = (let P : Option (ℕ × Record) → Type 0 = λ o. FindsFirst r.geometry.pages block 0 body x o in subst P is finds) in
+    live_none r x block s w lt (none_all r.geometry.pages block x (some_pages r.geometry) all)
+
+pub true_over : (r r1 : Ram) (x x1 : Image) → IsTrue None r x → r1 ≡ r → x1 ≡ x → IsTrue None r1 x1
+true_over r r1 x x1 w same still = rw (same, still) w
+
+-- a row of a lower block, or of the same and a lower page
+not_above : (pages b p block page row : ℕ) → 0 < pages → p < pages → page < pages → row ≡ block * pages + page → b * pages + p < row → b < block + 1
+not_above pages b p block page row some lp lt at less =
+    let of_block : row / pages < block + 1 = (let e : row / pages ≡ block = ap (λ k. k / pages) at ∙ div-mul-add block pages page lt in omega arith) in
+    let top : row < (block + 1) * pages = (div-lt_iff_lt-mul {k = pages} {x = row} {y = block + 1} some).0 of_block in
+    let below : (b * pages + p) / pages < block + 1 = (div-lt_iff_lt-mul {k = pages} {x = b * pages + p} {y = block + 1} some).1 (omega arith) in
+    let is : (b * pages + p) / pages ≡ b = div-mul-add b pages p lp in
+    omega arith
+
+pub first_by : (r : Ram) (x : Image) (block page row : ℕ) (found : Record) (body : List ℕ) (live : Option (ℕ × Record)) → IsRam r → IsTrue None r x → row ≡ block * r.geometry.pages + page → page < r.geometry.pages → IsAiling r.blocks block → ((b : ℕ) → b < block → is_good_at r.blocks.table b ≡ false → live_at r.blocks b ≡ 0) → FindsFirst r.geometry.pages block 0 body x live → live ≡ Some (page, found) → IsFirstAiling r.blocks row body found x
+first_by r x block page row found body live s w at lt ailing below finds is =
+    let f : IsFirstLive r.geometry.pages block 0 page body found x = (let P : Option (ℕ × Record) → Type 0 = λ o. FindsFirst r.geometry.pages block 0 body x o in subst P is finds) in
+    let of_block : row / r.geometry.pages ≡ block = ap (λ k. k / r.geometry.pages) at ∙ div-mul-add block r.geometry.pages page lt in
+    let A : Geometry → Type 0 = λ g. IsAiling r.blocks (row / g.pages) in
+    let L : Geometry → Type 0 = λ g. (b p : ℕ) → b < g.blocks → is_good_at r.blocks.table b ≡ false → p < g.pages → b * g.pages + p < row → NotAt (b * g.pages + p) x in
+    let lowest : L r.geometry = λ b p lb bad lp less. elim (cases_lt b block) [
+      | inl under ↦ (λ key q. (holds_none r x b s w lb (below b under bad)).none key (b * r.geometry.pages + p) q (div-mul-add b r.geometry.pages p lp))
+      | inr over ↦
+          let most : b < block + 1 = not_above r.geometry.pages b p block page row (some_pages r.geometry) lp lt at less in
+          let same : b ≡ block = omega arith in
+          let place : b * r.geometry.pages ≡ block * r.geometry.pages = ap (λ k. k * r.geometry.pages) same in
+          let n : NotAt (block * r.geometry.pages + p) x = f.before.none p (omega arith) (omega arith) in
+          rw place n
+    ] in
+    record {
+      ailing = subst A (sym s.blocks_of) (rw of_block ailing);
+      lowest = subst L (sym s.blocks_of) lowest;
+      live = rw at f.live;
+    }
+
+-- ---- the page is copied, and the translation page of its sector follows
+
+-- its row is one of the die
+pub row_found : (r r1 : Ram) (block page row : ℕ) (found : Record) (x : ℕ × Record) → r1 ≡ r → block < r.geometry.blocks → page < r.geometry.pages → row ≡ block * r1.geometry.pages + page → Some (row, found) ≡ Some x → x.0 < row_count r.geometry
+row_found r r1 block page row found x same lb lp at e =
+    let pair : (ℕ × Record) = (row, found) in
+    let is : pair ≡ x = cc in
+    let P : (ℕ × Record) → Type 0 = λ y. y.0 < row_count r.geometry in
+    let here : row ≡ block * r.geometry.pages + page = at ∙ ap (λ (z : Ram). block * z.geometry.pages + page) same in
+    let w = row_within r.geometry block page lb lp in
+    subst P is (rw here w)
+
+pub goes_from : (a b c : Ram) → b ≡ a → Goes b c → Goes a c
+goes_from a b c same goes = (let P : Ram → Type 0 = λ r. Goes r c in subst P same goes)
+
+module _ (a b : Ram) (x x1 : Image) (row : ℕ) (found : Record) (body : List ℕ) (live : Option (ℕ × Record)) (s : IsRam a) (same : b ≡ a) (still : x1 ≡ x) (w : IsTrue None a x) (finds : FindsAiling a.blocks body x live) (is : live ≡ Some (row, found)) where
+  first_found : IsFirstAiling a.blocks row body found x
+  first_found = (let P : Option (ℕ × Record) → Type 0 = λ o. FindsAiling a.blocks body x o in subst P is finds)
+
+  of_bad : IsAiling a.blocks (row / a.geometry.pages)
+  of_bad = (let P : Geometry → Type 0 = λ g. IsAiling a.blocks (row / g.pages) in subst P s.blocks_of first_found.ailing)
+
+  -- what is known of the copy, by what the look found
+  pub copied_as : (Q : Ram → Image → Type 0) → (IsTrue None b x1 → is_shut b.blocks (row / b.geometry.pages) ≡ true → IsLivePage row body found x1 → Q b x1) → Q a x
+  copied_as Q call =
+      let k : Q b x1 = call (rw (same, still) w) (rw same (bad_shut a.blocks (row / a.geometry.pages) of_bad.bad)) (let l = first_found.live in rw still l) in
+      let P : Ram → Type 0 = λ z. Q z x in
+      subst P same (subst (Q b) still k)
+
+  pub rescued : (c d : Ram) (y z : Image) → IsRam c → IsRam d → Goes a c → d.geometry ≡ c.geometry → IsMovedOut row a x c y → (IsTrue None c y → IsSame c y d z) → IsRescued a x d z true
+  rescued c d y z sc sd goes after m follow =
+      let k : IsSame c y d z = follow m.same.truth in
+      let all : IsSame a x d z = same_then a c d x y z goes after m.same k in
+      let within : row / a.geometry.pages < a.geometry.blocks = (let P : Geometry → Type 0 = λ g. row / a.geometry.pages < g.blocks in subst P s.blocks_of of_bad.within) in
+      let left : IsLeftButLive a.blocks c.blocks (row / a.geometry.pages) = goes.shut (row / a.geometry.pages) within (bad_shut a.blocks (row / a.geometry.pages) of_bad.bad) in
+      let less : live_at d.blocks (row / a.geometry.pages) ≤ live_at c.blocks (row / a.geometry.pages) = shut_fewer c d y z (row / a.geometry.pages) sc sd after m.same.truth k.truth k.leaves (rw goes.geometry within) (bad_shut c.blocks (row / a.geometry.pages) (still_bad a.blocks c.blocks (row / a.geometry.pages) left of_bad.bad)) in
+      record {
+        same = all;
+        some = λ t. (row / a.geometry.pages, of_bad, omega (arith, m.fewer, less));
+        none = λ f. (let never : ⊥ = cc in absurd never);
+        bad = λ i lt bad. shut_fewer a d x z i s sd (after ∙ goes.geometry) w k.truth all.leaves lt (bad_shut a.blocks i bad);
+      }
+
+pub none_rescued : (a b : Ram) (x x1 : Image) (body : List ℕ) (live : Option (ℕ × Record)) → b ≡ a → x1 ≡ x → IsTrue None a x → FindsAiling a.blocks body x live → live ≡ None → IsRescued a x b x1 false
+none_rescued a b x x1 body live same still w finds is =
+    let none : HasNoneAiling a.blocks = (let P : Option (ℕ × Record) → Type 0 = λ o. FindsAiling a.blocks body x o in subst P is finds) in
+    let r : IsRescued a x a x false = record {
+      same = same_here a x w;
+      some = λ t. (let never : ⊥ = cc in absurd never);
+      none = λ f. none;
+      bad = λ i lt bad. omega arith;
+    } in
+    rw (same, still) r
+
+-- ---- what it costs
+
+pub rescued_cost : (a b c d : Ram) → IsRam a → b ≡ a → c.geometry ≡ b.geometry → HasCopied false b c → FollowCosts c d (Ok tt) → RescueCosts a d (Ok true)
+rescued_cost a b c d s same g cost follows =
+    let one : HasPut cost.stream a c = (let P : Ram → Type 0 = λ z. HasPut cost.stream z c in subst P same cost.put) in
+    let none : HasProgrammed a a 0 0 = record { account = no_page a.geometry.pages (counts_of a.blocks) (fit a s); next = omega arith } in
+    let p : HasProgrammed a c (0 + data_of cost.stream) (0 + meta_of cost.stream) = programmed_more cost.stream a a c 0 0 refl none one in
+    let P : Ram → Type 0 = λ z. HasProgrammed a z (0 + data_of cost.stream) (0 + meta_of cost.stream) in
+    elim follows [
+      | inl stays ↦ (0 + data_of cost.stream, 0 + meta_of cost.stream, omega (arith, one_of cost.stream), subst P (sym stays) p)
+      | inr put ↦ (0 + data_of cost.stream + data_of Meta, 0 + meta_of cost.stream + meta_of Meta, omega (arith, one_of cost.stream, one_of Meta), programmed_more Meta a c d (0 + data_of cost.stream) (0 + meta_of cost.stream) (g ∙ ap (λ (z : Ram). z.geometry) same) p put)
+    ]
+
+pub unread_rescue : (a b : Ram) (fault : WriteFault) → IsReadFault fault → RescueCosts a b (Err fault)
+unread_rescue a b ReadOnly is = absurd is
+unread_rescue a b SequenceSpent is = absurd is
+unread_rescue a b Damaged is = tt
+unread_rescue a b Bus is = tt
+
+pub unread_refused : (a b : Ram) (x y : Image) (fault : WriteFault) → fault ≡ Bus → Refused a x b y fault
+unread_refused a b x y fault is = (let P : WriteFault → Type 0 = λ f. Refused a x b y f in subst P (sym is) tt)

@@ -1,0 +1,169 @@
+-- Collections one after another, until there is room.
+use Rattle.std.proofs.Common.{◌≡◌, ◌≢◌, ◌⊎◌, inl, inr, ℕ, ◌+◌, ◌/◌, ◌<◌, ◌≤◌, Bool, true, false, not, ◌||◌, List, [], ◌∷◌, count_by, Option, Some, None, Result, Ok, Err, MatchOption, refl, ap, sym, ◌∙◌, subst, arith}
+use Rattle.std.proofs.lemmas.Bool.{cases_lt, eqb-true}
+use Rattle.std.specs.Prelude.{IfErr}
+use Rattle.page_layout.specs.declared.geometry.Geometry.{Geometry}
+use Rattle.page_layout.specs.declared.record.Key.{Key}
+use Rattle.page_layout.specs.Geometry.{need, vmax}
+use Rattle.page_layout.specs.Page.{Image}
+use Rattle.page_layout.specs.Array.{marks, array_of}
+use Rattle.page_layout.specs.Live.{live, keys, is_in_block}
+use Rattle.page_layout.specs.Newest.{newest}
+use Rattle.page_layout.proofs.CountLemmas.{bit, count_by-cons}
+use Rattle.bad_blocks.specs.Table.{is_good, is_good_at}
+use Rattle.budget.specs.Counts.{Fits}
+use Rattle.budget.specs.Account.{Collected, IsFunded}
+use Rattle.budget.proofs.RoomLemmas.{collected_funded, never_stuck}
+use Rattle.allocation.specs.State.{State, live_at, free_count, is_closed}
+use Rattle.allocation.specs.Step.{IsVictim}
+use Rattle.allocation.specs.Counts.{counts_of}
+use Rattle.allocation.specs.Laws.{IsLeftButLive}
+use Rattle.allocation.proofs.SafeLemmas.{closed_parts}
+use Rattle.collection.specs.declared.fault.WriteFault.{WriteFault}
+use Rattle.collection.specs.declared.fault.WriteFault.TheVariants.{ReadOnly, SequenceSpent, Damaged, Bus}
+use Rattle.collection.specs.State.{Ram}
+use Rattle.collection.specs.Safe.{IsRam, is_shut}
+use Rattle.collection.specs.Pages.{newest_row}
+use Rattle.collection.specs.Truth.{IsTrue}
+use Rattle.collection.specs.Results.{IsSame, Leaves, Refused}
+use Rattle.collection.specs.Collect.{GoesOn, GoesBut, CollectCosts, CollectCounts, HasNoneWorth, RoomTells, IsRearranged, RoomRefused, HasRegained, RoomCounts}
+use Rattle.collection.specs.Room.{IsMade, IsWorth, IsFundedOn}
+use Rattle.collection.proofs.Blocks.{left_then}
+use Rattle.collection.proofs.Copies.{exact_at}
+use Rattle.collection.proofs.Ledgers.{fit}
+
+-- ---- the next victim
+
+pub none_worth_none : (r : Ram) → IsRam r → ((b : ℕ) → b < r.blocks.geometry.blocks → is_closed r.blocks b ≡ false) → HasNoneWorth r
+none_worth_none r s none = record { none = λ b lt closed. (let f : is_closed r.blocks b ≡ false = none b (rw s.blocks_of lt) in let no : true ≡ false = sym closed ∙ f in let never : ⊥ = cc in absurd never) }
+
+pub none_worth_large : (r : Ram) (v : ℕ) → IsRam r → IsVictim r.blocks r.blocks.geometry.blocks v → vmax r.geometry < live_at r.blocks v → HasNoneWorth r
+none_worth_large r v s w large = record { none = λ b lt closed. (let l = w.live_least b (rw s.blocks_of lt) closed in omega arith) }
+
+-- ---- blocks
+
+pub bad_shut : (s : State) (k : ℕ) → is_good_at s.table k ≡ false → is_shut s k ≡ true
+bad_shut s k bad = ap (λ b. not b || is_closed s k) bad
+
+bad_not_closed : (s : State) (k block : ℕ) → is_good_at s.table k ≡ false → is_closed s block ≡ true → k ≢ block
+bad_not_closed s k block bad closed same = (let g : is_good_at s.table k ≡ true = ap (is_good_at s.table) same ∙ (closed_parts s block closed).good in let no : true ≡ false = sym g ∙ bad in let never : ⊥ = cc in never)
+
+pub on_same : (r : Ram) → GoesOn r r
+on_same r = record { geometry = refl; next = omega arith; bad = λ b lt bad. record { row = refl; pointer = refl; closed = refl } }
+
+pub still_bad : (a b : State) (k : ℕ) → IsLeftButLive a b k → is_good_at a.table k ≡ false → is_good_at b.table k ≡ false
+still_bad a b k l bad = ap is_good l.row ∙ bad
+
+pub on_then : (block : ℕ) (a b c : Ram) → GoesOn a b → GoesBut block b c → is_closed b.blocks block ≡ true → GoesOn a c
+on_then block a b c x y closed = record {
+  geometry = y.geometry ∙ x.geometry;
+  next = omega (arith, x.next, y.next);
+  bad = λ k lt bad.
+      let first : IsLeftButLive a.blocks b.blocks k = x.bad k lt bad in
+      let now : is_good_at b.blocks.table k ≡ false = still_bad a.blocks b.blocks k first bad in
+      left_then a.blocks b.blocks c.blocks k first (y.shut k (rw x.geometry lt) (bad_not_closed b.blocks k block now closed) (bad_shut b.blocks k now));
+}
+
+-- ---- newest pages in bad blocks
+
+count_less : (p q : Key → Bool) (ks : List Key) → ((key : Key) → q key ≡ true → p key ≡ true) → count_by q ks ≤ count_by p ks
+count_less p q [] imply = omega arith
+count_less p q (k ∷ ks) imply = (let rest = count_less p q ks imply in omega (arith, count_by-cons p k ks, count_by-cons q k ks, bits (q k) (p k) (imply k)))
+  where
+    bits : (x y : Bool) → (x ≡ true → y ≡ true) → bit x ≤ bit y
+    bits false y i = omega arith
+    bits true y i = (let e : bit y ≡ 1 = ap bit (i refl) in omega arith)
+
+live_fewer : (g : Geometry) (x y : Image) (k : ℕ) → ((key : Key) → is_in_block g.pages k (newest_row y key) ≡ true → is_in_block g.pages k (newest_row x key) ≡ true) → live g (marks y) k ≤ live g (marks x) k
+unfolding live
+live_fewer g x y k imply = count_less (λ key. is_in_block g.pages k (newest (marks x) key)) (λ key. is_in_block g.pages k (newest (marks y) key)) (keys g) imply
+
+in_by : (pages k : ℕ) (o : Option ℕ) → is_in_block pages k o ≡ true → (row : ℕ) × (o ≡ Some row) × (row / pages ≡ k)
+in_by pages k None is = (let no : ⊥ = cc in absurd no)
+in_by pages k (Some row) is = (row, refl, eqb-true (row / pages) k is)
+
+pub shut_fewer : (r r' : Ram) (x y : Image) (k : ℕ) → IsRam r → IsRam r' → r'.geometry ≡ r.geometry → IsTrue None r x → IsTrue None r' y → Leaves r x y → k < r.geometry.blocks → is_shut r.blocks k ≡ true → live_at r'.blocks k ≤ live_at r.blocks k
+shut_fewer r r' x y k s s' same w w' l lt shut =
+    let fewer : live r.geometry (marks y) k ≤ live r.geometry (marks x) k = live_fewer r.geometry x y k (λ key is.
+        let at = in_by r.geometry.pages k (newest_row y key) is in
+        elim (l.each key) [
+          | inl stayed ↦ ap (is_in_block r.geometry.pages k) (sym stayed) ∙ is
+          | inr out ↦
+              let unshut : is_shut r.blocks k ≡ false = ap (is_shut r.blocks) (sym at.2) ∙ out at.0 at.1 in
+              let no : true ≡ false = sym shut ∙ unshut in
+              let never : ⊥ = cc in absurd never
+        ]) in
+    let before = exact_at r x k s w lt in
+    let after : live_at r'.blocks k ≡ live r.geometry (marks y) k = (let P : Geometry → Type 0 = λ g. (k < g.blocks → live_at r'.blocks k ≡ live g (marks y) k) in subst P same (exact_at r' y k s' w') lt) in
+    omega (arith, before, after, fewer)
+
+pub rearranged_same : (r : Ram) (x : Image) → IsTrue None r x → IsRearranged r x r x
+rearranged_same r x w = record { truth = w; array = refl; bad = λ b lt bad. omega arith }
+
+pub rearranged_then : (a b c : Ram) (x y z : Image) → IsRam b → IsRam c → GoesOn a b → c.geometry ≡ b.geometry → IsRearranged a x b y → IsSame b y c z → IsRearranged a x c z
+rearranged_then a b c x y z s s' on same k e = record {
+  truth = e.truth;
+  array = (let P : Geometry → Type 0 = λ g. array_of g z ≡ array_of g y in subst P on.geometry e.array) ∙ k.array;
+  bad = λ i lt bad.
+      let left : IsLeftButLive a.blocks b.blocks i = on.bad i lt bad in
+      let fewer : live_at c.blocks i ≤ live_at b.blocks i = shut_fewer b c y z i s s' same k.truth e.truth e.leaves (rw on.geometry lt) (bad_shut b.blocks i (still_bad a.blocks b.blocks i left bad)) in
+      let before = k.bad i lt bad in
+      omega arith;
+}
+
+pub room_refused : (a b c : Ram) (x y z : Image) (fault : WriteFault) → IsRam b → IsRam c → GoesOn a b → c.geometry ≡ b.geometry → IsRearranged a x b y → Refused b y c z fault → RoomRefused a x c z fault
+room_refused a b c x y z ReadOnly s s' on same k e = rearranged_then a b c x y z s s' on same k e
+room_refused a b c x y z SequenceSpent s s' on same k e = rearranged_then a b c x y z s s' on same k e
+room_refused a b c x y z Damaged s s' on same k e = e
+room_refused a b c x y z Bus s s' on same k e = tt
+
+-- ---- what a refusal tells
+
+pub room_tells : (flushing : Bool) (b c : Ram) (fault : WriteFault) → CollectCosts flushing b c (Err fault) → RoomTells c fault
+room_tells flushing b c ReadOnly cost = (let z = cost.out.out.none.none_free in omega arith)
+room_tells flushing b c SequenceSpent cost = cost.out.spent.last
+room_tells flushing b c Damaged cost = tt
+room_tells flushing b c Bus cost = tt
+
+-- ---- the count
+
+pub funded_same : (failures : ℕ) (r : Ram) → IsFunded r.geometry.pages failures (counts_of r.blocks) → IsFundedOn failures r r
+funded_same failures r f = record { its_failures = 0; good = omega arith; funded = (let e : failures + 0 ≡ failures = omega arith in rw e f) }
+
+pub funded_then : (failures : ℕ) (a b c : Ram) → b.geometry ≡ a.geometry → IsFundedOn failures a b → Collected b.geometry.pages (counts_of b.blocks) (counts_of c.blocks) → IsFundedOn failures a c
+funded_then failures a b c same f k =
+    let k' : Collected a.geometry.pages (counts_of b.blocks) (counts_of c.blocks) = (let P : Geometry → Type 0 = λ g. Collected g.pages (counts_of b.blocks) (counts_of c.blocks) in subst P same k) in
+    record {
+      its_failures = f.its_failures + k'.failures;
+      good = omega (arith, f.good, k'.good);
+      funded = (let e : failures + (f.its_failures + k'.failures) ≡ failures + f.its_failures + k'.failures = omega arith in rw e (collected_funded a.geometry.pages (failures + f.its_failures) (counts_of b.blocks) (counts_of c.blocks) f.funded k'));
+    }
+
+pub refused_room : (failures : ℕ) (a b c : Ram) (fault : WriteFault) → IsRam b → b.geometry ≡ a.geometry → IsFundedOn failures a b → CollectCounts b c (Err fault) → RoomCounts failures a c (Err fault)
+refused_room failures a b c ReadOnly s same f k =
+    let fits_b : Fits a.geometry.pages (counts_of b.blocks) = (let P : Geometry → Type 0 = λ g. Fits g.pages (counts_of b.blocks) in subst P same (fit b s)) in
+    let n = never_stuck a.geometry.pages (failures + f.its_failures) (counts_of b.blocks) (counts_of c.blocks) fits_b f.funded k in
+    inr (omega (arith, n, f.good))
+refused_room failures a b c SequenceSpent s same f k = tt
+refused_room failures a b c Damaged s same f k = k
+refused_room failures a b c Bus s same f k = tt
+
+-- with fewer than nine free blocks, and none worth collecting, fewer than `need` are good
+pub short_or_nine : (r : Ram) (x : Image) → IsTrue None r x → IsMade r → ((counts_of r.blocks).good < need r.geometry) ⊎ (9 ≤ (counts_of r.blocks).free)
+short_or_nine r x w room = elim (cases_lt (counts_of r.blocks).good (need r.geometry)) [ | inl few ↦ inl few | inr many ↦ inr (room.nine (marks x) w.live many) ]
+
+pub regained : (failures : ℕ) (a b : Ram) (y : Image) → IsTrue None b y → b.geometry ≡ a.geometry → IsMade b → IsFundedOn failures a b → HasRegained failures a b
+regained failures a b y w same room f = record { its_failures = f.its_failures; good = f.good; funded = f.funded; nine = (let n = short_or_nine b y w room in rw (← same) n) }
+
+pub too_few : (failures : ℕ) (a b : Ram) (y : Image) → IsTrue None b y → b.geometry ≡ a.geometry → IsMade b → free_count b.blocks < 5 → RoomCounts failures a b (Err ReadOnly)
+too_few failures a b y w same room few = elim (short_or_nine b y w room) [ | inl short ↦ inl (rw (← same) short) | inr nine ↦ absurd (omega arith) ]
+
+pub made_none : (r : Ram) (o : Option ℕ) → MatchOption o (IsMade r) (IsWorth r) → o ≡ None → IsMade r
+made_none r o m is = (let P : Option ℕ → Type 0 = λ x. MatchOption x (IsMade r) (IsWorth r) in subst P is m)
+
+pub made_some : (r : Ram) (o : Option ℕ) (block : ℕ) → MatchOption o (IsMade r) (IsWorth r) → o ≡ Some block → IsWorth r block
+made_some r o block m is = (let P : Option ℕ → Type 0 = λ x. MatchOption x (IsMade r) (IsWorth r) in subst P is m)
+
+pub final_counts : (failures : ℕ) (a b : Ram) (y : Image) (result : Result (Unit {0}) WriteFault) → IsTrue None b y → b.geometry ≡ a.geometry → IsMade b → IsFundedOn failures a b → IfErr result (λ fault. (fault ≡ ReadOnly) × (free_count b.blocks < 5)) → RoomCounts failures a b result
+final_counts failures a b y (Ok u) w same room f few = regained failures a b y w same room f
+final_counts failures a b y (Err fault) w same room f few = (let P : WriteFault → Type 0 = λ e. RoomCounts failures a b (Err e) in subst P (sym few.0) (too_few failures a b y w same room few.1))

@@ -1,0 +1,43 @@
+use Rattle.std.proofs.Common.{◌∙◌, ap}
+use Rattle.std.proofs.lemmas.Result.{err_from_is_err_and}
+use Rattle.page_layout.specs.Key.{key_of}
+use Rattle.budget.specs.Stream.{stream_of}
+use Rattle.collection.specs.Safe.{ram, page_in}
+use Rattle.collection.proofs.Copies.{may_copy, moved_out, marked_at, last_marked, goes_marked, cost_marked, refreshes_marked, moved_marked, pin_marked, only_marked}
+use Rattle.collection.proofs.Follows.{moved_only}
+use Rattle.collection.proofs.engine.Engine.copy_page.Goals as goal
+
+pub returns-in_err-replace-clause-truth : goal.returns-in_err-replace-clause-truth
+returns-in_err-replace-clause-truth g c = λ honest w shut live.
+    let p = err_from_is_err_and c.from_residual.result c.from_residual.ensures.1 in
+    rw (p.1, p.2) (c.in_err-replace.ensures.truth honest (may_copy (ram c.args.self.now) _ c.args.row c.args.found.now _ w c.requires.key live))
+
+pub returns-clause-goes : goal.returns-clause-goes
+returns-clause-goes g c = goes_marked c.args.flushing c.key.result 0 (ram c.args.self.now) (ram c.replace.new.self) _ c.mark.ensures.marked c.replace.ensures.goes
+
+pub returns-clause-refreshes : goal.returns-clause-refreshes
+returns-clause-refreshes g c = λ on. refreshes_marked c.args.flushing (key_of c.args.found.now) c.in_ok-replace.field-0 (ram c.args.self.now) (ram c.replace.new.self) _ (marked_at c.args.flushing (key_of c.args.found.now) c.key.result (ram c.replace.new.self) _ c.key.ensures c.mark.ensures.marked) on c.requires.safe.memory c.requires.key c.replace.ensures.goes.geometry c.replace.ensures.pin c.in_ok-replace.ensures.mapping
+
+pub returns-clause-cost : goal.returns-clause-cost
+returns-clause-cost g c = cost_marked c.args.flushing (key_of c.args.found.now) c.in_ok-replace.field-0 (ram c.args.self.now) (ram c.replace.new.self) _ (marked_at c.args.flushing (key_of c.args.found.now) c.key.result (ram c.replace.new.self) _ c.key.ensures c.mark.ensures.marked) (stream_of c.args.found.now.kind) c.requires.safe.memory c.requires.key c.in_ok-replace.ensures.cost c.replace.ensures.goes.geometry c.replace.ensures.pin c.in_ok-replace.ensures.mapping
+
+pub returns-clause-pinned : goal.returns-clause-pinned
+returns-clause-pinned g c = λ off. pin_marked c.args.flushing c.key.result 0 (ram c.args.self.now) (ram c.replace.new.self) _ c.mark.ensures.marked off ∙ c.replace.ensures.pin
+
+pub returns-clause-alone : goal.returns-clause-alone
+returns-clause-alone g c = λ none.
+    let moved = moved_only (key_of c.args.found.now) c.in_ok-replace.field-0 c.args.self.now.mapping c.replace.new.self.mapping none c.in_ok-replace.ensures.mapping in
+    only_marked c.args.flushing c.key.result 0 (ram c.args.self.now) (ram c.replace.new.self) _ c.mark.ensures.marked (key_of c.args.found.now) moved
+
+pub returns-clause-programmed : goal.returns-clause-programmed
+returns-clause-programmed g c = last_marked c.args.found.now.kind c.args.found.now.number (ram c.replace.new.self) _ _ _ (ap (λ r. r.next) c.mark.ensures.marked) (ap page_in c.mark.ensures.page) c.in_ok-replace.ensures.programmed
+
+pub returns-clause-truth : goal.returns-clause-truth
+returns-clause-truth g c = λ honest w shut live.
+    let r = ram c.args.self.now in
+    let b = ram c.replace.new.self in
+    let old = (g.N.PageSource.flash c.args.self.now.nand).image in
+    let new = (g.N.PageSource.flash c.replace.new.self.nand).image in
+    let replaced = c.in_ok-replace.ensures.truth honest (may_copy r _ c.args.row c.args.found.now _ w c.requires.key live) in
+    let moved = moved_out r b old new c.args.row c.in_ok-replace.field-0 c.args.found.now c.args.self.now.page.body.items c.requires.safe.memory c.replace.ensures.safe.memory c.replace.ensures.goes.geometry w live c.requires.key c.requires.row shut c.in_ok-replace.ensures.row replaced in
+    rw c.mark.ensures.nand (moved_marked c.args.flushing c.key.result c.in_ok-replace.field-0 r b _ c.mark.ensures.marked c.args.row old new moved)

@@ -1,0 +1,16 @@
+use Rattle.std.proofs.Common.{◌∙◌, ap}
+use Rattle.collection.specs.Safe.{ram}
+use Rattle.collection.specs.Pages.{newest_row}
+use Rattle.collection.proofs.Looks.{none_from, ok_not_bus}
+use Rattle.collection.proofs.Finds.{gone_none, gone_other, not_same, still_newest}
+use Rattle.collection.proofs.engine.Engine.live_record.Goals as goal
+
+pub returns-in_default-clause-truth : goal.returns-in_default-clause-truth
+returns-in_default-clause-truth g c = λ honest w. gone_none _ c.args.row ((c.in_ok-taken.ensures.truth honest).mark ∙ none_from c.in_ok-taken.taken c.in_default.not-Some)
+
+pub returns-else-eq-clause-truth : goal.returns-else-eq-clause-truth
+returns-else-eq-clause-truth g c = λ honest w.
+    let taken = c.in_ok-taken.ensures.truth honest in
+    let still = ap (λ f. f.image) (c.in_ok-taken.ensures.same honest (ok_not_bus _)) in
+    let found = still_newest (ram c.args.self.now) (ram c.take_page.new.self) _ _ c.key-key.result c.in_ok-newest.newest w c.take_page.ensures.memory still (c.in_ok-newest.ensures.truth (c.take_page.ensures.honest ∙ honest)) in
+    gone_other _ c.args.row c.in-Some.found (taken.mark ∙ c.in-Some.is) (λ e. not_same c.in_ok-newest.newest c.args.row c.eq.result c.eq.ensures c.if-eq.false (found ∙ (ap (newest_row (g.N.PageSource.flash c.args.self.now.nand).image) c.key-key.ensures ∙ e)))

@@ -1,0 +1,34 @@
+use Rattle.collection.specs.Safe.{ram}
+use Rattle.collection.specs.Results.{fault_after}
+use Rattle.collection.proofs.Gates.{ram_noted, went_noted}
+use Rattle.collection.proofs.Noted.{on_noted, fresh_noted, made_noted, room_noted, counts_noted, tells_noted}
+use Rattle.collection.proofs.engine.Engine.make_room.Goals as goal
+
+pub returns-clause-safe : goal.returns-clause-safe
+returns-clause-safe g c = rw c.noted.ensures.noted (record {
+  memory = ram_noted _ (ram c.regain-answer.new.self) c.regain-answer.ensures.safe.memory;
+  geometry = c.regain-answer.ensures.safe.geometry;
+  page = c.regain-answer.ensures.safe.page;
+  scratch = c.regain-answer.ensures.safe.scratch;
+})
+
+pub returns-clause-goes : goal.returns-clause-goes
+returns-clause-goes g c = rw c.noted.ensures.noted (on_noted _ _ (ram c.regain-answer.new.self) c.regain-answer.ensures.goes)
+
+pub returns-clause-refreshes : goal.returns-clause-refreshes
+returns-clause-refreshes g c = λ on. rw c.noted.ensures.noted (fresh_noted _ _ (ram c.regain-answer.new.self) (c.regain-answer.ensures.refreshes on))
+
+pub returns-clause-room : goal.returns-clause-room
+returns-clause-room g c = rw (c.noted.ensures.same, c.noted.ensures.noted) (room_noted _ (ram c.regain-answer.new.self) c.regain-answer.result c.regain-answer.ensures.room)
+
+pub returns-clause-tells : goal.returns-clause-tells
+returns-clause-tells g c = λ none. rw (c.noted.ensures.same, c.noted.ensures.noted) (tells_noted (fault_after c.regain-answer.new.self.fault c.regain-answer.result) (ram c.regain-answer.new.self) c.regain-answer.result c.regain-answer.ensures.tells)
+
+pub returns-clause-went : goal.returns-clause-went
+returns-clause-went g c = λ honest. rw (c.noted.ensures.same, c.noted.ensures.noted) (λ ne. went_noted _ _ (ram c.regain-answer.new.self) _ _ (c.regain-answer.ensures.went honest ne))
+
+pub returns-clause-truth : goal.returns-clause-truth
+returns-clause-truth g c = λ honest none w. rw (c.noted.ensures.same, c.noted.ensures.noted) (made_noted _ _ (ram c.regain-answer.new.self) _ _ c.regain-answer.result (c.regain-answer.ensures.truth honest w))
+
+pub returns-clause-count : goal.returns-clause-count
+returns-clause-count g c = λ honest none w failures enough. rw (c.noted.ensures.same, c.noted.ensures.noted) (counts_noted _ failures _ (ram c.regain-answer.new.self) c.regain-answer.result (c.regain-answer.ensures.count honest w failures enough))

@@ -1,0 +1,338 @@
+-- What a collection of a block does, step by step and as a whole.
+use Rattle.std.specs.Prelude.{◌≡◌, ◌≢◌, ◌⊎◌, ℕ, ◌+◌, ◌-◌, ◌*◌, ◌/◌, ◌<◌, ◌≤◌, ◌==◌, ◌^◌, ◌||◌, ◌&&◌, min, Bool, true, false, not, List, [], length, slice_set, get_or, count_by, Option, Some, None, IsSome, Result, Ok, Err}
+use Rattle.std.specs.List.{range_with_len}
+use Rattle.std.specs.Map.{keys_of}
+use Rattle.page_layout.specs.Page.{Image}
+use Rattle.page_layout.specs.declared.geometry.Geometry.{Geometry}
+use Rattle.page_layout.specs.declared.record.Key.{Key}
+use Rattle.page_layout.specs.declared.record.Record.{Record}
+use Rattle.page_layout.specs.declared.record.Key.TheVariants.{Sector, Translation, Table}
+use Rattle.page_layout.specs.Geometry.{translation_pages, entries, need, vmax}
+use Rattle.page_layout.specs.Change.{HoldsNone}
+use Rattle.page_layout.specs.Array.{array_of}
+use Rattle.bad_blocks.specs.Table.{is_good_at, wear_at, most_wear}
+use Rattle.budget.specs.declared.stream.Stream.{Stream}
+use Rattle.budget.specs.declared.stream.Stream.TheVariants.{Meta}
+use Rattle.budget.specs.Counts.{Erased}
+use Rattle.budget.specs.Account.{Account, Collected, Stuck, IsFunded}
+use Rattle.mapping_cache.specs.Mapping.{MappingState, HasLimitsOf, per_page, pending, slot_of, moved_row, moved_in}
+use Rattle.allocation.specs.State.{State, live_at, is_closed, is_free, free_count}
+use Rattle.allocation.specs.Step.{erased, without}
+use Rattle.allocation.specs.Counts.{counts_of}
+use Rattle.allocation.specs.Laws.{IsLeftButLive}
+use Rattle.collection.specs.declared.fault.WriteFault.{WriteFault}
+use Rattle.collection.specs.declared.fault.WriteFault.TheVariants.{ReadOnly, SequenceSpent, Damaged, Bus}
+use Rattle.collection.specs.declared.engine.step.Step.{Step}
+use Rattle.collection.specs.declared.engine.step.Step.TheVariants as step
+use Rattle.collection.specs.State.{Ram}
+use Rattle.collection.specs.Safe.{is_shut}
+use Rattle.collection.specs.Cost.{HasPut, HasRunOut, HasSpent}
+use Rattle.collection.specs.Live.{NotAt, HoldsNoneIn, IsLivePage}
+use Rattle.collection.specs.Results.{IsSame}
+use Rattle.collection.specs.Truth.{IsTrue}
+
+-- ---- translation pages that have to be written
+
+-- a sector of translation page t is on the moved list
+abbrev pub has_moved : MappingState → ℕ → Bool
+has_moved m t = not (length (moved_in (per_page m) t m.moved) == 0)
+
+abbrev pub is_marked : Ram → ℕ → Bool
+is_marked r t = get_or r.pin.marks t false
+
+-- it has to be written before the block is erased: a sector of it is on the moved list or, in a flush, it is marked
+abbrev pub is_due : Bool → Ram → ℕ → Bool
+is_due flushing r t = has_moved r.mapping t || (flushing && is_marked r t)
+
+-- how many have to
+abbrev pub due_count : Bool → Ram → ℕ
+due_count flushing r = count_by (is_due flushing r) (range_with_len 0 (translation_pages r.geometry))
+
+-- the lowest of them
+pub record IsLowestDue (flushing : Bool) (r : Ram) (t : ℕ) : Type 0 where
+  pub within : t < translation_pages r.geometry
+  pub due : is_due flushing r t ≡ true
+  pub lowest : (k : ℕ) → k < t → is_due flushing r k ≡ false
+
+-- none has to
+abbrev pub HasNoneDue : Bool → Ram → Type 0
+HasNoneDue flushing r = (t : ℕ) → t < translation_pages r.geometry → is_due flushing r t ≡ false
+
+-- the marks after a copy of a page of this key: in a flush the translation page of a sector is marked
+abbrev pub marks_after : Bool → Geometry → Key → List Bool → List Bool
+marks_after false g key ms = ms
+marks_after true g (Sector n) ms = slice_set ms (n / entries g) true
+marks_after true g (Translation t) ms = ms
+marks_after true g (Table u) ms = ms
+
+-- translation page t lacks no row
+abbrev pub IsUpToDate : MappingState → ℕ → Type 0
+IsUpToDate m t = (n : ℕ) → n / per_page m ≡ t → pending m n ≡ None
+
+-- it lacks none, unless it is marked
+abbrev pub IsFresh : Ram → ℕ → Type 0
+IsFresh r t = is_marked r t ≡ false → IsUpToDate r.mapping t
+
+-- IN A FLUSH: each translation page that lacked no row, or was marked, lacks none or is marked
+pub record Refreshes (old new : Ram) : Type 0 where
+  pub each : (t : ℕ) → t < translation_pages old.geometry → IsFresh old t → IsFresh new t
+
+-- ---- what stays, whatever the die does
+
+-- the cache has the same sectors in the same order, and the mapping its size
+pub record KeepsKeys (old new : MappingState) : Type 0 where
+  pub limits : HasLimitsOf old new
+  pub keys : keys_of new.cached ≡ keys_of old.cached
+
+-- bad blocks and closed ones but for this one are as they were, but for the count of their live pages
+pub record GoesBut (block : ℕ) (old new : Ram) : Type 0 where
+  pub geometry : new.geometry ≡ old.geometry
+  pub next : old.next ≤ new.next
+  pub shut : (b : ℕ) → b < old.geometry.blocks → b ≢ block → is_shut old.blocks b ≡ true → IsLeftButLive old.blocks new.blocks b
+
+-- bad blocks are
+pub record GoesOn (old new : Ram) : Type 0 where
+  pub geometry : new.geometry ≡ old.geometry
+  pub next : old.next ≤ new.next
+  pub bad : (b : ℕ) → b < old.geometry.blocks → is_good_at old.blocks.table b ≡ false → IsLeftButLive old.blocks new.blocks b
+
+-- the block is free and was erased once more, or it is bad
+abbrev pub IsReleased : ℕ → State → State → Type 0
+IsReleased block old new = ((is_free new block ≡ true) × (wear_at new.table block ≡ min (wear_at old.table block + 1) most_wear)) ⊎ (is_good_at new.table block ≡ false)
+
+-- ---- what a step costs, whatever the die does
+
+-- the block was erased, or has failed; nothing else in memory has changed but that no translation page is marked
+pub record HasErased (block : ℕ) (old new : Ram) : Type 0 where
+  pub failures : ℕ
+  pub counts : Erased failures (counts_of old.blocks) (counts_of new.blocks)
+  pub blocks : (new.blocks ≡ erased block old.blocks) ⊎ (new.blocks ≡ without block old.blocks)
+  pub geometry : new.geometry ≡ old.geometry
+  pub directory : new.directory ≡ old.directory
+  pub mapping : new.mapping ≡ old.mapping
+  pub next : new.next ≡ old.next
+  pub fault : new.fault ≡ old.fault
+
+-- a page was copied: at most one more sector is moved, and at most one translation page more has to be written
+pub record HasCopied (flushing : Bool) (old new : Ram) : Type 0 where
+  pub stream : Stream
+  pub put : HasPut stream old new
+  pub moved : length new.mapping.moved ≤ length old.mapping.moved + 1
+  pub due : due_count flushing new ≤ due_count flushing old + 1
+
+-- a translation page was written: one less has to be
+pub record HasWritten (flushing : Bool) (old new : Ram) : Type 0 where
+  pub put : HasPut Meta old new
+  pub moved : length new.mapping.moved ≤ length old.mapping.moved
+  pub due : due_count flushing new + 1 ≤ due_count flushing old
+
+-- a page that found no block, or no sequence
+pub record StreamRunsOut (old new : Ram) : Type 0 where
+  pub stream : Stream
+  pub out : HasRunOut stream old new
+
+pub record StreamSpends (old new : Ram) : Type 0 where
+  pub stream : Stream
+  pub spent : HasSpent stream old new
+
+-- what a refused call costs that programs one page at most
+abbrev pub FaultCosts : Ram → Ram → WriteFault → Type 0
+FaultCosts old new ReadOnly = StreamRunsOut old new
+FaultCosts old new SequenceSpent = StreamSpends old new
+FaultCosts old new Damaged = new.next ≡ old.next
+FaultCosts old new Bus = Unit {0}
+
+-- what a step costs, by what it answers; from this page on, none before it counts
+abbrev pub StepCosts : Bool → (block first : ℕ) → Ram → Ram → Result Step WriteFault → Type 0
+StepCosts flushing block first old new (Ok (step.Copied page)) = (first ≤ page) × (page < old.geometry.pages) × HasCopied flushing old new × (new.fault ≡ old.fault)
+StepCosts flushing block first old new (Ok step.WroteBack) = HasWritten flushing old new
+StepCosts flushing block first old new (Ok step.Erased) = HasNoneDue flushing old × HasErased block old new
+StepCosts flushing block first old new (Err fault) = FaultCosts old new fault
+
+-- ---- what it does, where the die is honest
+
+-- the page of the row was copied: the array is as it was, no newest page is in the row, and its block has one less
+pub record IsMovedOut (row : ℕ) (old : Ram) (before : Image) (new : Ram) (after : Image) : Type 0 where
+  pub same : IsSame old before new after
+  pub gone : NotAt row after
+  pub fewer : live_at new.blocks (row / old.geometry.pages) + 1 ≡ live_at old.blocks (row / old.geometry.pages)
+
+-- a page was copied: the array is as it was, the block has one newest page less, and none up to that page
+pub record IsCopied (block page : ℕ) (old : Ram) (before : Image) (new : Ram) (after : Image) : Type 0 where
+  pub same : IsSame old before new after
+  pub fewer : live_at new.blocks block + 1 ≡ live_at old.blocks block
+  pub none : HoldsNoneIn old.geometry.pages block 0 (page + 1) after
+
+-- the same of a look for a page to be copied: where there is none, the block has no newest page
+abbrev pub IsCopiedOr : ℕ → Ram → Image → Ram → Image → Option ℕ → Type 0
+IsCopiedOr block old before new after None = IsSame old before new after × HoldsNone old.geometry.pages block after
+IsCopiedOr block old before new after (Some page) = IsCopied block page old before new after
+
+-- a translation page was written, or the block was erased: the array is as it was, and the block has no newest page
+pub record IsEmptied (block : ℕ) (old : Ram) (before : Image) (new : Ram) (after : Image) : Type 0 where
+  pub same : IsSame old before new after
+  pub none : live_at new.blocks block ≡ 0
+
+abbrev pub IsStepped : ℕ → Ram → Image → Ram → Image → Step → Type 0
+IsStepped block old before new after (step.Copied page) = IsCopied block page old before new after
+IsStepped block old before new after step.WroteBack = IsEmptied block old before new after
+IsStepped block old before new after step.Erased = IsEmptied block old before new after
+
+-- ---- what a collection costs
+
+-- so many pages were programmed in each stream, each with its failures
+pub record HasProgrammed (first now : Ram) (data_pages meta_pages : ℕ) : Type 0 where
+  pub account : Account first.geometry.pages (counts_of first.blocks) (counts_of now.blocks) data_pages meta_pages
+  pub next : now.next + (counts_of now.blocks).good ≡ first.next + (data_pages + meta_pages) + (counts_of first.blocks).good
+
+-- So far so many pages were copied and so many translation pages written back. As many more have to be written as are due, and with them
+-- they are no more than the copies, and no more than there are.
+pub record Ledger (flushing : Bool) (first now : Ram) : Type 0 where
+  pub copies : ℕ
+  pub written : ℕ
+  pub data_pages : ℕ
+  pub meta_pages : ℕ
+  pub pages : data_pages + meta_pages ≡ copies + written
+  pub programmed : HasProgrammed first now data_pages meta_pages
+  pub for_copies : written + due_count flushing now ≤ copies
+  pub for_pages : written + due_count flushing now ≤ translation_pages first.geometry
+
+-- copies, translation pages, and the erase
+pub record HasCollected (flushing : Bool) (old new : Ram) : Type 0 where
+  pub mid : Ram
+  pub ledger : Ledger flushing old mid
+  pub failures : ℕ
+  pub erased : Erased failures (counts_of mid.blocks) (counts_of new.blocks)
+  pub next : new.next ≡ mid.next
+
+-- copies and translation pages, and one more page that found no block, or no sequence
+pub record HasStuck (flushing : Bool) (old new : Ram) : Type 0 where
+  pub mid : Ram
+  pub ledger : Ledger flushing old mid
+  pub out : StreamRunsOut mid new
+
+pub record HasSpentIn (flushing : Bool) (old new : Ram) : Type 0 where
+  pub mid : Ram
+  pub ledger : Ledger flushing old mid
+  pub out : StreamSpends mid new
+
+abbrev pub CollectCosts : Bool → Ram → Ram → Result (Unit {0}) WriteFault → Type 0
+CollectCosts flushing old new (Ok done) = HasCollected flushing old new
+CollectCosts flushing old new (Err ReadOnly) = HasStuck flushing old new
+CollectCosts flushing old new (Err SequenceSpent) = HasSpentIn flushing old new
+CollectCosts flushing old new (Err Damaged) = Unit {0}
+CollectCosts flushing old new (Err Bus) = Unit {0}
+
+-- ---- the count, where the die is honest and the block has at most vmax newest pages
+
+-- FEWER PAGES THAN A BLOCK HAS were programmed, but for one more for each failure
+abbrev pub IsThrifty : Ram → Ram → Type 0
+IsThrifty old new = new.next + (counts_of new.blocks).good + 1 ≤ old.next + (counts_of old.blocks).good + old.geometry.pages
+
+-- what a collection brings, and where it found no free block, how few there were
+abbrev pub CollectCounts : Ram → Ram → Result (Unit {0}) WriteFault → Type 0
+CollectCounts old new (Ok done) = Collected old.geometry.pages (counts_of old.blocks) (counts_of new.blocks)
+CollectCounts old new (Err ReadOnly) = Stuck (counts_of old.blocks) (counts_of new.blocks)
+CollectCounts old new (Err SequenceSpent) = Unit {0}
+CollectCounts old new (Err Damaged) = ⊥
+CollectCounts old new (Err Bus) = Unit {0}
+
+-- ---- room for a call
+
+-- no closed block has as few live pages
+pub record HasNoneWorth (r : Ram) : Type 0 where
+  pub none : (b : ℕ) → b < r.geometry.blocks → is_closed r.blocks b ≡ true → vmax r.geometry < live_at r.blocks b
+
+-- what there is when room was made: five free blocks, and nine unless no block is worth collecting
+pub record HasRoom (r : Ram) : Type 0 where
+  pub five : 5 ≤ free_count r.blocks
+  pub nine : (9 ≤ free_count r.blocks) ⊎ HasNoneWorth r
+
+-- why there is none, whatever the die does
+abbrev pub RoomTells : Ram → WriteFault → Type 0
+RoomTells new ReadOnly = free_count new.blocks < 5
+RoomTells new SequenceSpent = new.next ≡ 2 ^ 64 - 1
+RoomTells new Damaged = Unit {0}
+RoomTells new Bus = Unit {0}
+
+-- the array is as it was, and no bad block has more newest pages
+pub record IsRearranged (old : Ram) (before : Image) (new : Ram) (after : Image) : Type 0 where
+  pub truth : IsTrue None new after
+  pub array : array_of old.geometry after ≡ array_of old.geometry before
+  pub bad : (b : ℕ) → b < old.geometry.blocks → is_good_at old.blocks.table b ≡ false → live_at new.blocks b ≤ live_at old.blocks b
+
+-- after a fault
+abbrev pub RoomRefused : Ram → Image → Ram → Image → WriteFault → Type 0
+RoomRefused old before new after ReadOnly = IsRearranged old before new after
+RoomRefused old before new after SequenceSpent = IsRearranged old before new after
+RoomRefused old before new after Damaged = ⊥
+RoomRefused old before new after Bus = Unit {0}
+
+-- THE COUNT: with so many failures before it the pool held five blocks' pages but for a block for each failure, and so it does now; nine blocks are free
+-- unless fewer than `need` are good
+pub record HasRegained (failures : ℕ) (old new : Ram) : Type 0 where
+  pub its_failures : ℕ
+  pub good : (counts_of old.blocks).good ≡ (counts_of new.blocks).good + its_failures
+  pub funded : IsFunded old.geometry.pages (failures + its_failures) (counts_of new.blocks)
+  pub nine : ((counts_of new.blocks).good < need old.geometry) ⊎ (9 ≤ (counts_of new.blocks).free)
+
+-- refused: fewer than `need` blocks are good, or three have failed, here and before
+abbrev pub RoomCounts : ℕ → Ram → Ram → Result (Unit {0}) WriteFault → Type 0
+RoomCounts failures old new (Ok done) = HasRegained failures old new
+RoomCounts failures old new (Err ReadOnly) = ((counts_of new.blocks).good < need old.geometry) ⊎ (3 + (counts_of new.blocks).good ≤ failures + (counts_of old.blocks).good)
+RoomCounts failures old new (Err SequenceSpent) = Unit {0}
+RoomCounts failures old new (Err Damaged) = ⊥
+RoomCounts failures old new (Err Bus) = Unit {0}
+
+-- ---- a page is rescued
+
+-- a bad block that has a newest page, by the memory's counts
+pub record IsAiling (s : State) (block : ℕ) : Type 0 where
+  pub within : block < s.geometry.blocks
+  pub bad : is_good_at s.table block ≡ false
+  pub some : 0 < live_at s block
+
+abbrev pub HasAiling : State → Type 0
+HasAiling s = (block : ℕ) × IsAiling s block
+
+-- no bad block has one
+abbrev pub HasNoneAiling : State → Type 0
+HasNoneAiling s = (b : ℕ) → b < s.geometry.blocks → is_good_at s.table b ≡ false → live_at s b ≡ 0
+
+-- the page of lowest row in a bad block that is the newest of its key
+pub record IsFirstAiling (s : State) (row : ℕ) (body : List ℕ) (r : Record) (image : Image) : Type 0 where
+  pub ailing : IsAiling s (row / s.geometry.pages)
+  pub lowest : (b p : ℕ) → b < s.geometry.blocks → is_good_at s.table b ≡ false → p < s.geometry.pages → b * s.geometry.pages + p < row → NotAt (b * s.geometry.pages + p) image
+  pub live : IsLivePage row body r image
+
+-- what a look for it finds
+abbrev pub FindsAiling : State → List ℕ → Image → Option (ℕ × Record) → Type 0
+FindsAiling s body image None = HasNoneAiling s
+FindsAiling s body image (Some found) = IsFirstAiling s found.0 body found.1 image
+
+-- no sector but the key's is on the moved list, and that one only where it isn't cached
+abbrev pub HasMovedOnly : MappingState → Key → Type 0
+HasMovedOnly m (Sector n) = (IsSome (slot_of m n) → m.moved ≡ []) × ((k : ℕ) → k ≢ n → moved_row m k ≡ None)
+HasMovedOnly m (Translation t) = m.moved ≡ []
+HasMovedOnly m (Table u) = m.moved ≡ []
+
+-- what it costs that a sector's translation page follows: nothing, or a translation page
+abbrev pub FollowCosts : Ram → Ram → Result (Unit {0}) WriteFault → Type 0
+FollowCosts old new (Ok done) = (new ≡ old) ⊎ HasPut Meta old new
+FollowCosts old new (Err fault) = FaultCosts old new fault
+
+-- what it costs, whatever the die does: nothing, or at most two pages, and those that failed
+abbrev pub RescueCosts : Ram → Ram → Result Bool WriteFault → Type 0
+RescueCosts old new (Ok false) = new ≡ old
+RescueCosts old new (Ok true) = (data_pages : ℕ) × (meta_pages : ℕ) × (data_pages + meta_pages ≤ 2) × HasProgrammed old new data_pages meta_pages
+RescueCosts old new (Err ReadOnly) = free_count new.blocks ≡ 0
+RescueCosts old new (Err SequenceSpent) = new.next ≡ 2 ^ 64 - 1
+RescueCosts old new (Err Damaged) = Unit {0}
+RescueCosts old new (Err Bus) = Unit {0}
+
+-- the array is as it was; there was a newest page in a bad block just where it says so, and one of them has left its block
+pub record IsRescued (old : Ram) (before : Image) (new : Ram) (after : Image) (found : Bool) : Type 0 where
+  pub same : IsSame old before new after
+  pub some : found ≡ true → (block : ℕ) × IsAiling old.blocks block × (live_at new.blocks block < live_at old.blocks block)
+  pub none : found ≡ false → HasNoneAiling old.blocks
+  pub bad : (b : ℕ) → b < old.geometry.blocks → is_good_at old.blocks.table b ≡ false → live_at new.blocks b ≤ live_at old.blocks b

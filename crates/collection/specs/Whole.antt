@@ -1,0 +1,45 @@
+-- A collection while it is under way.
+use Rattle.std.specs.Prelude.{◌≡◌, ◌⊎◌, ℕ, ◌+◌, ◌-◌, ◌*◌, ◌<◌, ◌≤◌, ◌^◌, min, Bool, Option, Some, None}
+use Rattle.page_layout.specs.Page.{Image}
+use Rattle.allocation.specs.State.{live_at}
+use Rattle.allocation.specs.Counts.{counts_of}
+use Rattle.collection.specs.declared.engine.step.Step.{Step}
+use Rattle.collection.specs.declared.engine.step.Step.TheVariants.{Copied, WroteBack, Erased}
+use Rattle.collection.specs.State.{Ram}
+use Rattle.collection.specs.Live.{HoldsNoneIn}
+use Rattle.collection.specs.Results.{IsSame}
+use Rattle.collection.specs.Collect.{Ledger}
+
+-- the page from which the next step goes on, unless the block was erased
+abbrev pub next_of : ℕ → Step → Option ℕ
+next_of pages (Copied page) = Some (page + 1)
+next_of pages WroteBack = Some pages
+next_of pages Erased = None
+
+-- a page that was copied is one of a block
+abbrev pub step_within : ℕ → Step → Type 0
+step_within pages (Copied page) = page < pages
+step_within pages WroteBack = Unit {0}
+step_within pages Erased = Unit {0}
+
+-- the good blocks that are neither free nor open, and as many more as the die has blocks, and two
+abbrev pub busy_of : Ram → ℕ
+busy_of r = (counts_of r.blocks).good + (r.geometry.blocks + 2 - ((counts_of r.blocks).free + min (counts_of r.blocks).data_left 1 + min (counts_of r.blocks).meta_left 1))
+
+-- WHATEVER THE DIE DOES COLLECTIONS END: each leaves less of this. A page takes a sequence and closes at most one block, and an erase frees one.
+abbrev pub work_left : Ram → ℕ
+work_left r = 2 * (2 ^ 64 - 1 - r.next) + busy_of r
+
+-- so far the array is as it was, each copy has left the block one newest page less, and none is in its first pages
+pub record IsSoFar (block first copies : ℕ) (old : Ram) (before : Image) (now : Ram) (after : Image) : Type 0 where
+  pub same : IsSame old before now after
+  pub copies_left : copies + live_at now.blocks block ≤ live_at old.blocks block
+  pub none : HoldsNoneIn old.geometry.pages block 0 first after
+
+-- so many steps have been taken; translation pages are written only once no page is left to copy
+pub record IsUnderWay (flushing : Bool) (block first : ℕ) (old now : Ram) (known : Type 0) (before after : Image) : Type 0 where
+  pub ledger : Ledger flushing old now
+  pub order : (ledger.written ≡ 0) ⊎ (old.geometry.pages ≤ first)
+  pub busy : busy_of now ≤ busy_of old + (ledger.copies + ledger.written)
+  pub programmed : old.next + (ledger.copies + ledger.written) ≤ now.next
+  pub truth : known → IsSoFar block first ledger.copies old before now after

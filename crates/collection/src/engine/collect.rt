@@ -1,0 +1,140 @@
+//! A block is collected: what counts is copied out of it, and it is erased.
+ghost use Rattle.std.specs.Prelude.{◌≡◌, ◌≢◌, ◌<◌, ◌≤◌, true, [], length, None, Ok, Err, OnOk, MatchResult};
+ghost use Rattle.std.specs.Option.{ForSome};
+ghost use Rattle.page_layout.specs.Counter.{HasRisen};
+ghost use Rattle.page_layout.specs.Geometry.{vmax};
+ghost use Rattle.allocation.specs.State.{is_closed, live_at};
+ghost use Rattle.collection.specs.Safe.{IsSafe, IsIdle, ram, image_in};
+ghost use Rattle.collection.specs.Truth as truth;
+ghost use Rattle.collection.specs.Log.{Went};
+ghost use Rattle.collection.specs.Results.{Refused, fault_after};
+ghost use Rattle.collection.specs.Collect.{KeepsKeys, Refreshes, GoesBut, IsReleased, IsEmptied, CollectCosts, CollectCounts, IsThrifty};
+ghost use Rattle.collection.specs.Whole.{next_of, step_within, work_left};
+
+use super::Engine;
+use super::step::Step;
+use crate::fault::WriteFault;
+use onfi_cycles::Nand;
+
+// The page from which the next step goes on: none after the erase.
+fn next_page(step: Step, pages: u32) -> Option<u32>
+    requires { step_within pages step }
+    ensures { result ≡ next_of pages step }
+{
+    match step {
+        Step::Copied(page) => Some(page + 1),
+        Step::WroteBack => Some(pages),
+        Step::Erased => None,
+    }
+}
+
+impl<N: Nand> Engine<N> {
+    /// Whether a block is closed: good, and neither free nor open. Such a block can be collected.
+    /// (This project.)
+    pub fn closed(&self, block: u32) -> bool
+        requires safe { IsSafe N.flash self.now }
+        requires block { block < self.now.geometry.blocks }
+        ensures { result ≡ is_closed (ram self.now).blocks block }
+    {
+        self.blocks.closed(block)
+    }
+
+    // Collects a closed block, whatever fault stands.
+    pub(crate) fn collect_block(&mut self, block: u32, flushing: bool) -> Result<(), WriteFault>
+        requires safe { IsSafe N.flash self.old }
+        requires idle { IsIdle (ram self.old) }
+        requires block { block < self.old.geometry.blocks }
+        requires closed { is_closed (ram self.old).blocks block ≡ true }
+        ensures safe { IsSafe N.flash self.new }
+        ensures idle { OnOk result (IsIdle (ram self.new)) }
+        ensures goes { GoesBut block (ram self.old) (ram self.new) }
+        ensures released { OnOk result (IsReleased block (ram self.old).blocks (ram self.new).blocks) }
+        ensures fault { self.new.fault ≡ self.old.fault }
+        ensures honest { N.honest self.new.nand ≡ N.honest self.old.nand }
+        ensures failed { N.failed self.old.nand ≤ N.failed self.new.nand }
+        ensures rose { result ≡ Err WriteFault.Bus → HasRisen (N.failed self.old.nand) (N.failed self.new.nand) }
+        ensures keys { KeepsKeys self.old.mapping self.new.mapping }
+        ensures refreshes { flushing ≡ true → Refreshes (ram self.old) (ram self.new) }
+        ensures cost { CollectCosts flushing (ram self.old) (ram self.new) result }
+        ensures less_work { OnOk result (work_left (ram self.new) < work_left (ram self.old)) }
+        ensures went { N.honest self.old.nand ≡ true → result ≢ Err WriteFault.Bus →
+            Went (ram self.old) (N.flash self.old.nand) (ram self.new) (N.flash self.new.nand) }
+        ensures truth { N.honest self.old.nand ≡ true → truth.IsTrue None (ram self.old) (image_in N.flash self.old) →
+            MatchResult result
+            (λ _. IsEmptied block (ram self.old) (image_in N.flash self.old) (ram self.new) (image_in N.flash self.new))
+            (Refused (ram self.old) (image_in N.flash self.old) (ram self.new) (image_in N.flash self.new)) }
+        ensures count { N.honest self.old.nand ≡ true → truth.IsTrue None (ram self.old) (image_in N.flash self.old) →
+            live_at (ram self.old).blocks block ≤ vmax self.old.geometry → CollectCounts (ram self.old) (ram self.new) result }
+        ensures thrifty { N.honest self.old.nand ≡ true → truth.IsTrue None (ram self.old) (image_in N.flash self.old) →
+            live_at (ram self.old).blocks block ≤ vmax self.old.geometry → result ≢ Err WriteFault.Bus →
+            IsThrifty (ram self.old) (ram self.new) }
+    {
+        let pages = self.geometry.pages();
+        let mut first = 0;
+        'steps: loop {
+            let step = self.collect_step(block, first, flushing)?;
+            let going_on = next_page(step, pages);
+            let Some(next) = going_on else {
+                return Ok(());
+            };
+            first = next;
+        }
+    }
+
+    /// Collects a closed block. Its pages that are the newest of their keys are copied by rising row,
+    /// each in its stream; the rows of cached sectors become dirty, and the other sectors are moved
+    /// ones for the time being. Then each translation page of a moved sector is written back, rising,
+    /// and while flushing also each of another sector that was copied. Then the block is erased: it
+    /// is free, with an erase count of one more, or where the erase fails it is grown bad.
+    ///
+    /// The array stays, and so do the sectors that are cached, and their order. Closed and bad blocks
+    /// stay so. No sector is moved afterwards; while flushing, a translation page that lacked no row
+    /// lacks none.
+    ///
+    /// A block with at most `Geometry::vmax` newest pages costs fewer programs than a block has pages,
+    /// and one more for each failure: the erased pages in free and open blocks grow, or fall by at most
+    /// a block's pages for each failure.
+    ///
+    /// # Errors
+    ///
+    /// Those of `write_back`, as there; each stands. After `ReadOnly` and `SequenceSpent` the array is
+    /// as it was, and the block is as it was but for pages that were copied.
+    ///
+    /// It takes no memory.
+    ///
+    /// Source: the garbage collection of the DFTL paper, with its lazy copying and batch updates; the
+    /// moved sectors and flushing are this project's.
+    pub fn collect(&mut self, block: u32, flushing: bool) -> Result<(), WriteFault>
+        requires safe { IsSafe N.flash self.old }
+        requires idle { self.old.fault ≡ None → IsIdle (ram self.old) }
+        requires block { block < self.old.geometry.blocks }
+        requires closed { is_closed (ram self.old).blocks block ≡ true }
+        ensures safe { IsSafe N.flash self.new }
+        ensures standing { ForSome self.old.fault (λ fault. (result ≡ Err fault) × (self.new ≡ self.old)) }
+        ensures fault { self.new.fault ≡ fault_after self.old.fault result }
+        ensures idle { OnOk result (IsIdle (ram self.new)) }
+        ensures goes { GoesBut block (ram self.old) (ram self.new) }
+        ensures released { OnOk result (IsReleased block (ram self.old).blocks (ram self.new).blocks) }
+        ensures honest { N.honest self.new.nand ≡ N.honest self.old.nand }
+        ensures failed { N.failed self.old.nand ≤ N.failed self.new.nand }
+        ensures rose { self.old.fault ≡ None → result ≡ Err WriteFault.Bus → HasRisen (N.failed self.old.nand) (N.failed self.new.nand) }
+        ensures keys { KeepsKeys self.old.mapping self.new.mapping }
+        ensures refreshes { flushing ≡ true → Refreshes (ram self.old) (ram self.new) }
+        ensures cost { self.old.fault ≡ None → CollectCosts flushing (ram self.old) (ram self.new) result }
+        ensures went { N.honest self.old.nand ≡ true → result ≢ Err WriteFault.Bus →
+            Went (ram self.old) (N.flash self.old.nand) (ram self.new) (N.flash self.new.nand) }
+        ensures truth { N.honest self.old.nand ≡ true → self.old.fault ≡ None → truth.IsTrue None (ram self.old) (image_in N.flash self.old) →
+            MatchResult result
+            (λ _. IsEmptied block (ram self.old) (image_in N.flash self.old) (ram self.new) (image_in N.flash self.new))
+            (Refused (ram self.old) (image_in N.flash self.old) (ram self.new) (image_in N.flash self.new)) }
+        ensures count { N.honest self.old.nand ≡ true → self.old.fault ≡ None → truth.IsTrue None (ram self.old) (image_in N.flash self.old) →
+            live_at (ram self.old).blocks block ≤ vmax self.old.geometry → CollectCounts (ram self.old) (ram self.new) result }
+        ensures thrifty { N.honest self.old.nand ≡ true → self.old.fault ≡ None → truth.IsTrue None (ram self.old) (image_in N.flash self.old) →
+            live_at (ram self.old).blocks block ≤ vmax self.old.geometry → result ≢ Err WriteFault.Bus →
+            IsThrifty (ram self.old) (ram self.new) }
+    {
+        self.standing()?;
+        let answer = self.collect_block(block, flushing);
+        self.noted(answer)
+    }
+}

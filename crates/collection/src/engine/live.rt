@@ -1,0 +1,166 @@
+//! Pages that are the newest of their keys.
+ghost use Rattle.std.specs.Prelude.{◌≡◌, ◌≢◌, ◌↔◌, ◌+◌, ◌*◌, ◌/◌, ◌<◌, ◌≤◌, true, length, IsTrue, Some, None, Err, IfOk, IfErr, OnOk, MatchResult};
+ghost use Rattle.std.specs.Option.{ForSome};
+ghost use Rattle.page_layout.specs.Counter.{HasRisen};
+ghost use Rattle.page_layout.specs.Key.{key_from, key_of};
+ghost use Rattle.page_layout.specs.Geometry.{row_count};
+ghost use Rattle.page_layout.specs.Live.{IsKeyOf};
+ghost use Rattle.page_layout.specs.Sound.{record_of};
+ghost use Rattle.collection.specs.Pages.{newest_row};
+ghost use Rattle.collection.specs.Safe.{IsSafe, ram, image_in, page_in};
+ghost use Rattle.collection.specs.Truth as truth;
+ghost use Rattle.collection.specs.Looks.{IsReadFault};
+ghost use Rattle.collection.specs.Live.{PointsTo, IsTaken, LooksAt, FindsFirst, IsFoundIn};
+
+use super::Engine;
+use super::steps::read_sound;
+use crate::fault::WriteFault;
+use onfi_cycles::Nand;
+use page_layout::geometry::Geometry;
+use page_layout::record::{Key, Record};
+
+// Whether a key is one of the die's.
+fn has_key(geometry: &Geometry, key: Key) -> bool
+    ensures { IsTrue result ↔ IsKeyOf geometry.now key }
+{
+    match key {
+        Key::Sector(n) => n < geometry.sectors(),
+        Key::Translation(t) => t < geometry.translation_pages(),
+        Key::Table(u) => u < geometry.table_pages(),
+    }
+}
+
+impl<N: Nand> Engine<N> {
+    // The row of the newest page of a key, by memory or by its translation page.
+    fn find_newest(&mut self, key: Key) -> Result<Option<u32>, WriteFault>
+        requires safe { IsSafe N.flash self.old }
+        requires key { IsKeyOf self.old.geometry key }
+        ensures safe { IsSafe N.flash self.new }
+        ensures memory { ram self.new ≡ ram self.old }
+        ensures page { self.new.page ≡ self.old.page }
+        ensures honest { N.honest self.new.nand ≡ N.honest self.old.nand }
+        ensures programs { N.programs self.new.nand ≡ N.programs self.old.nand }
+        ensures erases { N.erases self.new.nand ≡ N.erases self.old.nand }
+        ensures failed { N.failed self.old.nand ≤ N.failed self.new.nand }
+        ensures faults { IfErr result IsReadFault }
+        ensures rose { result ≡ Err WriteFault.Bus → HasRisen (N.failed self.old.nand) (N.failed self.new.nand) }
+        ensures points { IfOk result (PointsTo (ram self.old) (page_in self.new.scratch) key) }
+        ensures same { N.honest self.old.nand ≡ true → result ≢ Err WriteFault.Bus → N.flash self.new.nand ≡ N.flash self.old.nand }
+        ensures truth { N.honest self.old.nand ≡ true → truth.IsTrue None (ram self.old) (image_in N.flash self.old) →
+            MatchResult result
+            (λ row. row ≡ newest_row (image_in N.flash self.old) key)
+            (λ fault. fault ≡ WriteFault.Bus) }
+    {
+        match key {
+            Key::Sector(n) => self.row_of_sector(n),
+            Key::Translation(t) => Ok(self.directory.row_of(t)),
+            Key::Table(u) => {
+                let place = self.geometry.translation_pages() + u;
+                Ok(self.directory.row_of(place))
+            }
+        }
+    }
+
+    // Takes the page of a row into the page buffer, and answers its record.
+    fn take_page(&mut self, row: u32) -> Result<Option<Record>, WriteFault>
+        requires safe { IsSafe N.flash self.old }
+        requires row { row < row_count self.old.geometry }
+        ensures safe { IsSafe N.flash self.new }
+        ensures memory { ram self.new ≡ ram self.old }
+        ensures honest { N.honest self.new.nand ≡ N.honest self.old.nand }
+        ensures programs { N.programs self.new.nand ≡ N.programs self.old.nand }
+        ensures erases { N.erases self.new.nand ≡ N.erases self.old.nand }
+        ensures failed { N.failed self.old.nand ≤ N.failed self.new.nand }
+        ensures faults { IfErr result (λ fault. fault ≡ WriteFault.Bus) }
+        ensures rose { result ≡ Err WriteFault.Bus → HasRisen (N.failed self.old.nand) (N.failed self.new.nand) }
+        ensures sound { IfOk result (λ found. found ≡ record_of (page_in self.new.page)) }
+        ensures same { N.honest self.old.nand ≡ true → result ≢ Err WriteFault.Bus → N.flash self.new.nand ≡ N.flash self.old.nand }
+        ensures truth { N.honest self.old.nand ≡ true →
+            IfOk result (λ found. IsTaken row found self.new.page.body.items (image_in N.flash self.old)) }
+    {
+        match read_sound(
+            &mut self.nand,
+            &self.geometry,
+            row,
+            &mut self.page.body,
+            &mut self.page.spare,
+        ) {
+            Ok(found) => Ok(found),
+            Err(_) => Err(WriteFault::Bus),
+        }
+    }
+
+    // Takes the page of a row into the page buffer, and answers its record where it is the newest of
+    // its key. Whatever the die does, the page is sound with that record, and the key's row is this
+    // one by memory or by its translation page.
+    pub(crate) fn live_record(&mut self, row: u32) -> Result<Option<Record>, WriteFault>
+        requires safe { IsSafe N.flash self.old }
+        requires row { row < row_count self.old.geometry }
+        ensures safe { IsSafe N.flash self.new }
+        ensures memory { ram self.new ≡ ram self.old }
+        ensures honest { N.honest self.new.nand ≡ N.honest self.old.nand }
+        ensures programs { N.programs self.new.nand ≡ N.programs self.old.nand }
+        ensures erases { N.erases self.new.nand ≡ N.erases self.old.nand }
+        ensures failed { N.failed self.old.nand ≤ N.failed self.new.nand }
+        ensures faults { IfErr result IsReadFault }
+        ensures rose { result ≡ Err WriteFault.Bus → HasRisen (N.failed self.old.nand) (N.failed self.new.nand) }
+        ensures checked { IfOk result (λ found. ForSome found (IsFoundIn (ram self.old) (page_in self.new.page) (page_in self.new.scratch) row)) }
+        ensures same { N.honest self.old.nand ≡ true → result ≢ Err WriteFault.Bus → N.flash self.new.nand ≡ N.flash self.old.nand }
+        ensures truth { N.honest self.old.nand ≡ true → truth.IsTrue None (ram self.old) (image_in N.flash self.old) →
+            MatchResult result
+            (LooksAt row self.new.page.body.items (image_in N.flash self.old))
+            (λ fault. fault ≡ WriteFault.Bus) }
+    {
+        let taken = self.take_page(row)?;
+        let Some(found) = taken else {
+            return Ok(None);
+        };
+        let key = found.key();
+        if !has_key(&self.geometry, key) {
+            return Ok(None);
+        }
+        let newest = self.find_newest(key)?;
+        if newest == Some(row) {
+            Ok(Some(found))
+        } else {
+            Ok(None)
+        }
+    }
+
+    // Looks for the first page of a block, from a page on, that is the newest of its key, and takes it
+    // into the page buffer.
+    pub(crate) fn first_live(
+        &mut self,
+        block: u32,
+        first: u32,
+    ) -> Result<Option<(u32, Record)>, WriteFault>
+        requires safe { IsSafe N.flash self.old }
+        requires block { block < self.old.geometry.blocks }
+        ensures safe { IsSafe N.flash self.new }
+        ensures memory { ram self.new ≡ ram self.old }
+        ensures honest { N.honest self.new.nand ≡ N.honest self.old.nand }
+        ensures programs { N.programs self.new.nand ≡ N.programs self.old.nand }
+        ensures erases { N.erases self.new.nand ≡ N.erases self.old.nand }
+        ensures failed { N.failed self.old.nand ≤ N.failed self.new.nand }
+        ensures faults { IfErr result IsReadFault }
+        ensures rose { result ≡ Err WriteFault.Bus → HasRisen (N.failed self.old.nand) (N.failed self.new.nand) }
+        ensures within { IfOk result (λ found. ForSome found (λ f. (first ≤ f.0) × (f.0 < self.old.geometry.pages))) }
+        ensures checked { IfOk result (λ found. ForSome found (λ f.
+            IsFoundIn (ram self.old) (page_in self.new.page) (page_in self.new.scratch) (block * self.old.geometry.pages + f.0) f.1)) }
+        ensures same { N.honest self.old.nand ≡ true → result ≢ Err WriteFault.Bus → N.flash self.new.nand ≡ N.flash self.old.nand }
+        ensures truth { N.honest self.old.nand ≡ true → truth.IsTrue None (ram self.old) (image_in N.flash self.old) →
+            MatchResult result
+            (FindsFirst self.old.geometry.pages block first self.new.page.body.items (image_in N.flash self.old))
+            (λ fault. fault ≡ WriteFault.Bus) }
+    {
+        'candidates: for page in first..self.geometry.pages() {
+            let row = self.geometry.row(block, page);
+            let live = self.live_record(row)?;
+            match live {
+                Some(found) => return Ok(Some((page, found))),
+                None => continue,
+            }
+        }
+        Ok(None)
+    }
+}

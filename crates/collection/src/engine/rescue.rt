@@ -1,0 +1,178 @@
+//! Pages are copied out of bad blocks.
+ghost use Rattle.std.specs.Prelude.{◌≡◌, ◌≢◌, ◌+◌, ◌*◌, ◌<◌, ◌≤◌, true, false, [], length, None, Ok, Err, IfOk, IfErr, OnOk, MatchResult, MatchOption};
+ghost use Rattle.std.specs.Bool.{OnTrue, OnFalse};
+ghost use Rattle.std.specs.Option.{ForSome};
+ghost use Rattle.page_layout.specs.Counter.{HasRisen};
+ghost use Rattle.page_layout.specs.Geometry.{row_count};
+ghost use Rattle.page_layout.specs.Live.{IsKeyOf};
+ghost use Rattle.bad_blocks.specs.Table.{is_good_at};
+ghost use Rattle.allocation.specs.State.{live_at};
+ghost use Rattle.collection.specs.Safe.{IsSafe, IsIdle, ram, image_in, page_in};
+ghost use Rattle.collection.specs.Truth as truth;
+ghost use Rattle.collection.specs.Log.{Went};
+ghost use Rattle.collection.specs.Looks.{IsReadFault};
+ghost use Rattle.collection.specs.Live.{IsFoundIn};
+ghost use Rattle.collection.specs.Results.{IsSame, Refused, Goes, fault_after};
+ghost use Rattle.collection.specs.Collect.{KeepsKeys, IsAiling, HasAiling, HasNoneAiling, FollowCosts, HasMovedOnly, RescueCosts, IsRescued, FindsAiling};
+
+use super::Engine;
+use crate::fault::WriteFault;
+use bad_blocks::Class;
+use onfi_cycles::Nand;
+use page_layout::record::{Key, Record};
+
+impl<N: Nand> Engine<N> {
+    // Whether a bad block has a live page, by the count.
+    fn is_ailing(&self, block: u32) -> bool
+        requires safe { IsSafe N.flash self.now }
+        requires block { block < self.now.geometry.blocks }
+        ensures some { OnTrue result (IsAiling (ram self.now).blocks block) }
+        ensures none { OnFalse result (is_good_at (ram self.now).blocks.table block ≡ false → live_at (ram self.now).blocks block ≡ 0) }
+    {
+        self.blocks.table().class(block) != Class::Good && self.blocks.live(block) > 0
+    }
+
+    /// Whether a bad block holds a page that is the newest of its key, by the counts of live pages.
+    /// (This project.)
+    pub fn needs_rescue(&self) -> bool
+        requires safe { IsSafe N.flash self.now }
+        ensures some { OnTrue result (HasAiling (ram self.now).blocks) }
+        ensures none { OnFalse result (HasNoneAiling (ram self.now).blocks) }
+    {
+        'numbers: for block in 0..self.geometry.blocks() {
+            if self.is_ailing(block) {
+                return true;
+            }
+        }
+        false
+    }
+
+    // Looks for the page of lowest row in a bad block that is the newest of its key, and takes it into
+    // the page buffer.
+    fn first_ailing(&mut self) -> Result<Option<(u32, Record)>, WriteFault>
+        requires safe { IsSafe N.flash self.old }
+        ensures safe { IsSafe N.flash self.new }
+        ensures memory { ram self.new ≡ ram self.old }
+        ensures honest { N.honest self.new.nand ≡ N.honest self.old.nand }
+        ensures programs { N.programs self.new.nand ≡ N.programs self.old.nand }
+        ensures erases { N.erases self.new.nand ≡ N.erases self.old.nand }
+        ensures failed { N.failed self.old.nand ≤ N.failed self.new.nand }
+        ensures faults { IfErr result IsReadFault }
+        ensures rose { result ≡ Err WriteFault.Bus → HasRisen (N.failed self.old.nand) (N.failed self.new.nand) }
+        ensures row { IfOk result (λ found. ForSome found (λ f. f.0 < row_count self.old.geometry)) }
+        ensures checked { IfOk result (λ found. ForSome found (λ f. IsFoundIn (ram self.old) (page_in self.new.page) (page_in self.new.scratch) f.0 f.1)) }
+        ensures same { N.honest self.old.nand ≡ true → result ≢ Err WriteFault.Bus → N.flash self.new.nand ≡ N.flash self.old.nand }
+        ensures truth { N.honest self.old.nand ≡ true → truth.IsTrue None (ram self.old) (image_in N.flash self.old) →
+            MatchResult result
+            (FindsAiling (ram self.old).blocks self.new.page.body.items (image_in N.flash self.old))
+            (λ fault. fault ≡ WriteFault.Bus) }
+    {
+        'numbers: for block in 0..self.geometry.blocks() {
+            if !self.is_ailing(block) {
+                continue;
+            }
+            let live = self.first_live(block, 0)?;
+            match live {
+                Some((page, found)) => return Ok(Some((self.geometry.row(block, page), found))),
+                None => continue,
+            }
+        }
+        Ok(None)
+    }
+
+    // Writes back the translation page of a sector that was moved.
+    fn follow_moved(&mut self, key: Key) -> Result<(), WriteFault>
+        requires safe { IsSafe N.flash self.old }
+        requires key { IsKeyOf self.old.geometry key }
+        ensures safe { IsSafe N.flash self.new }
+        ensures goes { Goes (ram self.old) (ram self.new) }
+        ensures fault { self.new.fault ≡ self.old.fault }
+        ensures honest { N.honest self.new.nand ≡ N.honest self.old.nand }
+        ensures erases { N.erases self.new.nand ≡ N.erases self.old.nand }
+        ensures failed { N.failed self.old.nand ≤ N.failed self.new.nand }
+        ensures rose { result ≡ Err WriteFault.Bus → HasRisen (N.failed self.old.nand) (N.failed self.new.nand) }
+        ensures keys { KeepsKeys self.old.mapping self.new.mapping }
+        ensures pin { (ram self.new).pin ≡ (ram self.old).pin }
+        ensures moved { HasMovedOnly self.old.mapping key → OnOk result (self.new.mapping.moved ≡ []) }
+        ensures cost { FollowCosts (ram self.old) (ram self.new) result }
+        ensures went { N.honest self.old.nand ≡ true → result ≢ Err WriteFault.Bus →
+            Went (ram self.old) (N.flash self.old.nand) (ram self.new) (N.flash self.new.nand) }
+        ensures truth { N.honest self.old.nand ≡ true → truth.IsTrue None (ram self.old) (image_in N.flash self.old) →
+            MatchResult result (λ _. IsSame (ram self.old) (image_in N.flash self.old) (ram self.new) (image_in N.flash self.new)) (Refused (ram self.old) (image_in N.flash self.old) (ram self.new) (image_in N.flash self.new)) }
+    {
+        let Key::Sector(n) = key else {
+            return Ok(());
+        };
+        if self.mapping.is_cached(n) {
+            return Ok(());
+        }
+        let t = n / self.geometry.entries();
+        self.write_page_back(t)
+    }
+
+    // Copies the live page of lowest row in a bad block out of it, whatever fault stands.
+    fn rescue(&mut self) -> Result<bool, WriteFault>
+        requires safe { IsSafe N.flash self.old }
+        requires idle { IsIdle (ram self.old) }
+        ensures safe { IsSafe N.flash self.new }
+        ensures goes { Goes (ram self.old) (ram self.new) }
+        ensures fault { self.new.fault ≡ self.old.fault }
+        ensures honest { N.honest self.new.nand ≡ N.honest self.old.nand }
+        ensures erases { N.erases self.new.nand ≡ N.erases self.old.nand }
+        ensures failed { N.failed self.old.nand ≤ N.failed self.new.nand }
+        ensures rose { result ≡ Err WriteFault.Bus → HasRisen (N.failed self.old.nand) (N.failed self.new.nand) }
+        ensures keys { KeepsKeys self.old.mapping self.new.mapping }
+        ensures idle { OnOk result (IsIdle (ram self.new)) }
+        ensures cost { RescueCosts (ram self.old) (ram self.new) result }
+        ensures went { N.honest self.old.nand ≡ true → result ≢ Err WriteFault.Bus →
+            Went (ram self.old) (N.flash self.old.nand) (ram self.new) (N.flash self.new.nand) }
+        ensures truth { N.honest self.old.nand ≡ true → truth.IsTrue None (ram self.old) (image_in N.flash self.old) →
+            MatchResult result (IsRescued (ram self.old) (image_in N.flash self.old) (ram self.new) (image_in N.flash self.new)) (Refused (ram self.old) (image_in N.flash self.old) (ram self.new) (image_in N.flash self.new)) }
+    {
+        let ailing = self.first_ailing()?;
+        let Some((row, found)) = ailing else {
+            return Ok(false);
+        };
+        self.copy_page(&found, row, false)?;
+        self.follow_moved(found.key())?;
+        Ok(true)
+    }
+
+    /// Copies the page of lowest row in a bad block that is the newest of its key into its stream, and
+    /// answers whether there was one. A cached sector's row becomes dirty; of another sector the
+    /// translation page is written back.
+    ///
+    /// The array stays, and so do the sectors that are cached, and their order; no block is erased, and
+    /// no bad block gets a page. No sector is moved afterwards.
+    ///
+    /// # Errors
+    ///
+    /// Those of `write_back`, as there; each stands.
+    ///
+    /// It takes no memory. (This project.)
+    pub fn rescue_one(&mut self) -> Result<bool, WriteFault>
+        requires safe { IsSafe N.flash self.old }
+        requires idle { self.old.fault ≡ None → IsIdle (ram self.old) }
+        ensures safe { IsSafe N.flash self.new }
+        ensures standing { ForSome self.old.fault (λ fault. (result ≡ Err fault) × (self.new ≡ self.old)) }
+        ensures fault { self.new.fault ≡ fault_after self.old.fault result }
+        ensures idle { OnOk result (IsIdle (ram self.new)) }
+        ensures goes { Goes (ram self.old) (ram self.new) }
+        ensures honest { N.honest self.new.nand ≡ N.honest self.old.nand }
+        ensures erases { N.erases self.new.nand ≡ N.erases self.old.nand }
+        ensures failed { N.failed self.old.nand ≤ N.failed self.new.nand }
+        ensures rose { self.old.fault ≡ None → result ≡ Err WriteFault.Bus → HasRisen (N.failed self.old.nand) (N.failed self.new.nand) }
+        ensures keys { KeepsKeys self.old.mapping self.new.mapping }
+        ensures cost { self.old.fault ≡ None → RescueCosts (ram self.old) (ram self.new) result }
+        ensures went { N.honest self.old.nand ≡ true → result ≢ Err WriteFault.Bus →
+            Went (ram self.old) (N.flash self.old.nand) (ram self.new) (N.flash self.new.nand) }
+        ensures truth { N.honest self.old.nand ≡ true → self.old.fault ≡ None → truth.IsTrue None (ram self.old) (image_in N.flash self.old) →
+            MatchResult result
+            (IsRescued (ram self.old) (image_in N.flash self.old) (ram self.new) (image_in N.flash self.new))
+            (Refused (ram self.old) (image_in N.flash self.old) (ram self.new) (image_in N.flash self.new)) }
+    {
+        self.standing()?;
+        let answer = self.rescue();
+        self.noted(answer)
+    }
+}

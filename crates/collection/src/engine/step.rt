@@ -1,0 +1,271 @@
+//! A block is collected step by step.
+ghost use Rattle.std.specs.Prelude.{◌≡◌, ◌≢◌, ◌⊎◌, ◌+◌, ◌*◌, ◌/◌, ◌<◌, ◌≤◌, ◌↔◌, true, false, [], length, replicate, slice_set, get_or, Some, None, Ok, Err, IfOk, IfErr, IfSome, IsTrue, OnOk, OnErr, MatchResult, MatchOption};
+ghost use Rattle.std.specs.Option.{ForSome};
+ghost use Rattle.std.specs.Bool.{OnTrue, OnFalse};
+ghost use Rattle.page_layout.specs.Counter.{HasRisen, counted};
+ghost use Rattle.page_layout.specs.Change.{HoldsNone};
+ghost use Rattle.page_layout.specs.Key.{key_of};
+ghost use Rattle.page_layout.specs.Live.{IsKeyOf};
+ghost use Rattle.page_layout.specs.Geometry.{row_count, translation_pages};
+ghost use Rattle.budget.specs.declared.stream.Stream.TheVariants.{Meta};
+ghost use Rattle.mapping_cache.specs.Mapping.{CanMove};
+ghost use Rattle.allocation.specs.State.{is_closed, live_at};
+ghost use Rattle.collection.specs.Safe.{IsSafe, IsIdle, ram, image_in, page_in, is_shut};
+ghost use Rattle.collection.specs.Truth as truth;
+ghost use Rattle.collection.specs.Log.{Went};
+ghost use Rattle.collection.specs.Live.{HoldsNoneIn, IsLivePage};
+ghost use Rattle.collection.specs.Results.{IsSame, IsKept, Refused, Goes, IsLastPage};
+ghost use Rattle.collection.specs.Collect.{is_due, has_moved, is_marked, due_count, marks_after, IsLowestDue, HasNoneDue, Refreshes, KeepsKeys, GoesBut, HasCopied, HasWritten, HasErased, IsReleased, FaultCosts, HasMovedOnly, StepCosts, IsMovedOut, IsCopied, IsCopiedOr, IsEmptied, IsStepped};
+
+use super::Engine;
+use crate::fault::WriteFault;
+use mapping_cache::Mapping;
+use onfi_cycles::{Nand, Outcome};
+use page_layout::record::{Key, Record};
+
+/// What one step of a collection did. (This project.)
+#[derive(Clone, Copy, Debug, PartialEq, Eq)]
+pub(crate) enum Step {
+    /// The block's first page that was the newest of its key was copied: this one.
+    Copied(u32),
+    /// A translation page was written back.
+    WroteBack,
+    /// The block was erased, or has failed.
+    Erased,
+}
+
+// Whether a sector of translation page `t` is on the moved list.
+fn is_moved(mapping: &Mapping, t: u32) -> bool
+    ensures { result ≡ has_moved mapping.now t }
+{
+    mapping.moved_of(t).next().is_some()
+}
+
+// Takes all marks off.
+fn clear_marks(marks: &mut Vec<bool>)
+    ensures { marks.new.items ≡ replicate (length marks.old.items) false }
+{
+    marks.fill(false);
+}
+
+// Sets the mark of translation page `t`.
+fn set_mark(marks: &mut Vec<bool>, t: u32, mark: bool)
+    requires { t < length marks.old.items }
+    ensures { marks.new.items ≡ slice_set marks.old.items t mark }
+{
+    marks[t as usize] = mark;
+}
+
+impl<N: Nand> Engine<N> {
+    // In a flush, notes that the translation page of a key's sector has to be written.
+    fn mark(&mut self, key: Key, flushing: bool)
+        requires safe { IsSafe N.flash self.old }
+        requires key { IsKeyOf self.old.geometry key }
+        ensures safe { IsSafe N.flash self.new }
+        ensures marked { ram self.new ≡ record (ram self.old) { pin = record { block = self.old.pinned; marks = marks_after flushing self.old.geometry key (ram self.old).pin.marks } } }
+        ensures nand { self.new.nand ≡ self.old.nand }
+        ensures page { self.new.page ≡ self.old.page }
+    {
+        if let (Key::Sector(n), true) = (key, flushing) {
+            let t = n / self.geometry.entries();
+            set_mark(&mut self.marks, t, true);
+        }
+    }
+
+    // Copies the page in the page buffer, the newest of its key, out of its block.
+    pub(crate) fn copy_page(&mut self, found: &Record, row: u32, flushing: bool) -> Result<(), WriteFault>
+        requires safe { IsSafe N.flash self.old }
+        requires key { IsKeyOf self.old.geometry (key_of found.now) }
+        requires row { row < row_count self.old.geometry }
+        requires room { length self.old.mapping.moved < self.old.geometry.pages }
+        ensures safe { IsSafe N.flash self.new }
+        ensures goes { Goes (ram self.old) (ram self.new) }
+        ensures fault { self.new.fault ≡ self.old.fault }
+        ensures honest { N.honest self.new.nand ≡ N.honest self.old.nand }
+        ensures erases { N.erases self.new.nand ≡ N.erases self.old.nand }
+        ensures failed { N.failed self.old.nand ≤ N.failed self.new.nand }
+        ensures rose { result ≡ Err WriteFault.Bus → HasRisen (N.failed self.old.nand) (N.failed self.new.nand) }
+        ensures keys { KeepsKeys self.old.mapping self.new.mapping }
+        ensures refreshes { flushing ≡ true → Refreshes (ram self.old) (ram self.new) }
+        ensures cost { MatchResult result (λ _. HasCopied flushing (ram self.old) (ram self.new)) (FaultCosts (ram self.old) (ram self.new)) }
+        ensures pinned { flushing ≡ false → (ram self.new).pin ≡ (ram self.old).pin }
+        ensures alone { self.old.mapping.moved ≡ [] → OnOk result (HasMovedOnly self.new.mapping (key_of found.now)) }
+        ensures programmed { OnOk result (IsLastPage found.now.kind found.now.number (ram self.new) (page_in self.new.page)) }
+        ensures went { N.honest self.old.nand ≡ true → result ≢ Err WriteFault.Bus →
+            Went (ram self.old) (N.flash self.old.nand) (ram self.new) (N.flash self.new.nand) }
+        ensures truth { N.honest self.old.nand ≡ true → truth.IsTrue None (ram self.old) (image_in N.flash self.old) →
+            is_shut (ram self.old).blocks (row / self.old.geometry.pages) ≡ true →
+            IsLivePage row self.old.page.body.items found.now (image_in N.flash self.old) →
+            MatchResult result
+            (λ _. IsMovedOut row (ram self.old) (image_in N.flash self.old) (ram self.new) (image_in N.flash self.new))
+            (Refused (ram self.old) (image_in N.flash self.old) (ram self.new) (image_in N.flash self.new)) }
+    {
+        self.replace(found.kind, found.number, Some(row))?;
+        self.mark(found.key(), flushing);
+        Ok(())
+    }
+
+    // Copies the first page of a closed block, from a page on, that is the newest of its key. Answers
+    // that page, or none where there is none.
+    fn copy_lowest(&mut self, block: u32, first: u32, flushing: bool) -> Result<Option<u32>, WriteFault>
+        requires safe { IsSafe N.flash self.old }
+        requires block { block < self.old.geometry.blocks }
+        requires closed { is_closed (ram self.old).blocks block ≡ true }
+        requires room { length self.old.mapping.moved ≤ first }
+        ensures safe { IsSafe N.flash self.new }
+        ensures goes { Goes (ram self.old) (ram self.new) }
+        ensures fault { self.new.fault ≡ self.old.fault }
+        ensures honest { N.honest self.new.nand ≡ N.honest self.old.nand }
+        ensures failed { N.failed self.old.nand ≤ N.failed self.new.nand }
+        ensures rose { result ≡ Err WriteFault.Bus → HasRisen (N.failed self.old.nand) (N.failed self.new.nand) }
+        ensures erases { N.erases self.new.nand ≡ N.erases self.old.nand }
+        ensures keys { KeepsKeys self.old.mapping self.new.mapping }
+        ensures refreshes { flushing ≡ true → Refreshes (ram self.old) (ram self.new) }
+        ensures none { result ≡ Ok None → ram self.new ≡ ram self.old }
+        ensures within { IfOk result (λ copied. ForSome copied (λ page. (first ≤ page) × (page < self.old.geometry.pages))) }
+        ensures owed { result ≡ Err WriteFault.ReadOnly → 0 < live_at (ram self.old).blocks block }
+        ensures cost { MatchResult result (λ copied. ForSome copied (λ _. HasCopied flushing (ram self.old) (ram self.new))) (FaultCosts (ram self.old) (ram self.new)) }
+        ensures went { N.honest self.old.nand ≡ true → result ≢ Err WriteFault.Bus →
+            Went (ram self.old) (N.flash self.old.nand) (ram self.new) (N.flash self.new.nand) }
+        ensures truth { N.honest self.old.nand ≡ true → truth.IsTrue None (ram self.old) (image_in N.flash self.old) →
+            HoldsNoneIn self.old.geometry.pages block 0 first (image_in N.flash self.old) →
+            MatchResult result
+            (IsCopiedOr block (ram self.old) (image_in N.flash self.old) (ram self.new) (image_in N.flash self.new))
+            (Refused (ram self.old) (image_in N.flash self.old) (ram self.new) (image_in N.flash self.new)) }
+    {
+        if self.blocks.live(block) == 0 {
+            return Ok(None);
+        }
+        let live = self.first_live(block, first)?;
+        let Some((page, found)) = live else {
+            return Ok(None);
+        };
+        let row = self.geometry.row(block, page);
+        self.copy_page(&found, row, flushing)?;
+        Ok(Some(page))
+    }
+
+    // The lowest translation page that has to be written before a block is erased.
+    fn lowest_due(&self, flushing: bool) -> Option<u32>
+        requires safe { IsSafe N.flash self.now }
+        ensures { MatchOption result (HasNoneDue flushing (ram self.now)) (IsLowestDue flushing (ram self.now)) }
+    {
+        'pages: for t in 0..self.geometry.translation_pages() {
+            if is_moved(&self.mapping, t) || flushing && self.marks[t as usize] {
+                return Some(t);
+            }
+        }
+        None
+    }
+
+    // Writes it. Answers whether there was one.
+    fn write_back_lowest(&mut self, flushing: bool) -> Result<bool, WriteFault>
+        requires safe { IsSafe N.flash self.old }
+        ensures safe { IsSafe N.flash self.new }
+        ensures goes { Goes (ram self.old) (ram self.new) }
+        ensures fault { self.new.fault ≡ self.old.fault }
+        ensures honest { N.honest self.new.nand ≡ N.honest self.old.nand }
+        ensures failed { N.failed self.old.nand ≤ N.failed self.new.nand }
+        ensures rose { result ≡ Err WriteFault.Bus → HasRisen (N.failed self.old.nand) (N.failed self.new.nand) }
+        ensures erases { N.erases self.new.nand ≡ N.erases self.old.nand }
+        ensures keys { KeepsKeys self.old.mapping self.new.mapping }
+        ensures refreshes { flushing ≡ true → Refreshes (ram self.old) (ram self.new) }
+        ensures none { result ≡ Ok false → HasNoneDue flushing (ram self.old) × (self.new ≡ self.old) }
+        ensures owed { result ≡ Err WriteFault.ReadOnly → 0 < due_count flushing (ram self.old) }
+        ensures cost { MatchResult result (λ written. written ≡ true → HasWritten flushing (ram self.old) (ram self.new)) (FaultCosts (ram self.old) (ram self.new)) }
+        ensures went { N.honest self.old.nand ≡ true → result ≢ Err WriteFault.Bus →
+            Went (ram self.old) (N.flash self.old.nand) (ram self.new) (N.flash self.new.nand) }
+        ensures truth { N.honest self.old.nand ≡ true → truth.IsTrue None (ram self.old) (image_in N.flash self.old) →
+            MatchResult result
+            (λ _. IsSame (ram self.old) (image_in N.flash self.old) (ram self.new) (image_in N.flash self.new))
+            (Refused (ram self.old) (image_in N.flash self.old) (ram self.new) (image_in N.flash self.new)) }
+    {
+        let due = self.lowest_due(flushing);
+        let Some(t) = due else {
+            return Ok(false);
+        };
+        self.write_page_back(t)?;
+        set_mark(&mut self.marks, t, false);
+        Ok(true)
+    }
+
+    // Erases a closed block. Where the erase fails, the block is grown bad.
+    fn erase_block(&mut self, block: u32) -> Result<(), WriteFault>
+        requires safe { IsSafe N.flash self.old }
+        requires block { block < self.old.geometry.blocks }
+        requires closed { is_closed (ram self.old).blocks block ≡ true }
+        ensures safe { IsSafe N.flash self.new }
+        ensures goes { GoesBut block (ram self.old) (ram self.new) }
+        ensures erased { OnOk result (HasErased block (ram self.old) (ram self.new)) }
+        ensures unmarked { OnOk result ((ram self.new).pin.marks ≡ replicate (translation_pages self.old.geometry) false) }
+        ensures released { OnOk result (IsReleased block (ram self.old).blocks (ram self.new).blocks) }
+        ensures refused { OnErr result (ram self.new ≡ ram self.old) }
+        ensures bus { IfErr result (λ fault. fault ≡ WriteFault.Bus) }
+        ensures honest { N.honest self.new.nand ≡ N.honest self.old.nand }
+        ensures failed { N.failed self.old.nand ≤ N.failed self.new.nand }
+        ensures rose { result ≡ Err WriteFault.Bus → HasRisen (N.failed self.old.nand) (N.failed self.new.nand) }
+        ensures reads { N.reads self.new.nand ≡ N.reads self.old.nand }
+        ensures programs { N.programs self.new.nand ≡ N.programs self.old.nand }
+        ensures erases { N.erases self.new.nand ≡ counted (N.erases self.old.nand) }
+        ensures went { N.honest self.old.nand ≡ true → result ≢ Err WriteFault.Bus →
+            Went (ram self.old) (N.flash self.old.nand) (ram self.new) (N.flash self.new.nand) }
+        ensures truth { N.honest self.old.nand ≡ true → truth.IsTrue None (ram self.old) (image_in N.flash self.old) →
+            HoldsNone self.old.geometry.pages block (image_in N.flash self.old) →
+            OnOk result (IsKept (ram self.old) (image_in N.flash self.old) (ram self.new) (image_in N.flash self.new)) }
+    {
+        match self.nand.erase(block) {
+            Ok(Outcome::Passed) => {
+                self.blocks.freed(block);
+                clear_marks(&mut self.marks);
+                Ok(())
+            }
+            Ok(Outcome::Failed) => {
+                self.blocks.retire(block);
+                clear_marks(&mut self.marks);
+                Ok(())
+            }
+            Err(_) => Err(WriteFault::Bus),
+        }
+    }
+
+    // One step of the collection of a closed block: its first page that is the newest of its key is
+    // copied; with none left, the lowest translation page that has to be is written; with none left,
+    // the block is erased.
+    pub(crate) fn collect_step(&mut self, block: u32, first: u32, flushing: bool) -> Result<Step, WriteFault>
+        requires safe { IsSafe N.flash self.old }
+        requires block { block < self.old.geometry.blocks }
+        requires closed { is_closed (ram self.old).blocks block ≡ true }
+        requires room { length self.old.mapping.moved ≤ first }
+        ensures safe { IsSafe N.flash self.new }
+        ensures goes { GoesBut block (ram self.old) (ram self.new) }
+        ensures goes_still { result ≢ Ok Step.Erased → Goes (ram self.old) (ram self.new) }
+        ensures fault { self.new.fault ≡ self.old.fault }
+        ensures honest { N.honest self.new.nand ≡ N.honest self.old.nand }
+        ensures failed { N.failed self.old.nand ≤ N.failed self.new.nand }
+        ensures rose { result ≡ Err WriteFault.Bus → HasRisen (N.failed self.old.nand) (N.failed self.new.nand) }
+        ensures keys { KeepsKeys self.old.mapping self.new.mapping }
+        ensures refreshes { flushing ≡ true → Refreshes (ram self.old) (ram self.new) }
+        ensures idle { result ≡ Ok Step.Erased → IsIdle (ram self.new) }
+        ensures released { result ≡ Ok Step.Erased → IsReleased block (ram self.old).blocks (ram self.new).blocks }
+        ensures owed { result ≡ Err WriteFault.ReadOnly → (0 < live_at (ram self.old).blocks block) ⊎ (0 < due_count flushing (ram self.old)) }
+        ensures cost { StepCosts flushing block first (ram self.old) (ram self.new) result }
+        ensures went { N.honest self.old.nand ≡ true → result ≢ Err WriteFault.Bus →
+            Went (ram self.old) (N.flash self.old.nand) (ram self.new) (N.flash self.new.nand) }
+        ensures truth { N.honest self.old.nand ≡ true → truth.IsTrue None (ram self.old) (image_in N.flash self.old) →
+            HoldsNoneIn self.old.geometry.pages block 0 first (image_in N.flash self.old) →
+            MatchResult result
+            (IsStepped block (ram self.old) (image_in N.flash self.old) (ram self.new) (image_in N.flash self.new))
+            (Refused (ram self.old) (image_in N.flash self.old) (ram self.new) (image_in N.flash self.new)) }
+    {
+        let copied = self.copy_lowest(block, first, flushing)?;
+        if let Some(page) = copied {
+            return Ok(Step::Copied(page));
+        }
+        let written = self.write_back_lowest(flushing)?;
+        if written {
+            return Ok(Step::WroteBack);
+        }
+        self.erase_block(block)?;
+        Ok(Step::Erased)
+    }
+}

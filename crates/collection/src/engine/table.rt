@@ -1,0 +1,93 @@
+//! Table pages are written.
+ghost use Rattle.std.specs.Prelude.{◌≡◌, ◌≢◌, ◌/◌, ◌<◌, ◌≤◌, true, length, None, Err, OnOk, MatchResult};
+ghost use Rattle.std.specs.Option.{ForSome};
+ghost use Rattle.page_layout.specs.Counter.{HasRisen};
+ghost use Rattle.page_layout.specs.Geometry.{entries, table_pages};
+ghost use Rattle.bad_blocks.specs.TablePage.{table_bytes};
+ghost use Rattle.budget.specs.declared.stream.Stream.TheVariants.{Meta};
+ghost use Rattle.collection.specs.Safe.{IsSafe, ram, image_in, page_in};
+ghost use Rattle.collection.specs.Truth.{IsTrue};
+ghost use Rattle.collection.specs.Cost.{PageCosts};
+ghost use Rattle.collection.specs.Log.{Went};
+ghost use Rattle.collection.specs.Results.{IsLastPage, IsTabled, Refused, Goes, KeepsTable, fault_after};
+
+use super::Engine;
+use crate::fault::WriteFault;
+use bad_blocks::write_table_page;
+use onfi_cycles::Nand;
+use page_layout::record::{Key, Kind};
+
+impl<N: Nand> Engine<N> {
+    // Programs table page `u` as the table is now, whatever fault stands.
+    fn put_table(&mut self, u: u32) -> Result<(), WriteFault>
+        requires safe { IsSafe N.flash self.old }
+        requires page { u < table_pages self.old.geometry }
+        ensures safe { IsSafe N.flash self.new }
+        ensures goes { Goes (ram self.old) (ram self.new) }
+        ensures table { KeepsTable (ram self.old).blocks (ram self.new).blocks }
+        ensures mapping { self.new.mapping ≡ self.old.mapping }
+        ensures pin { (ram self.new).pin ≡ (ram self.old).pin }
+        ensures fault { self.new.fault ≡ self.old.fault }
+        ensures honest { N.honest self.new.nand ≡ N.honest self.old.nand }
+        ensures reads { N.reads self.new.nand ≡ N.reads self.old.nand }
+        ensures erases { N.erases self.new.nand ≡ N.erases self.old.nand }
+        ensures failed { N.failed self.old.nand ≤ N.failed self.new.nand }
+        ensures rose { result ≡ Err WriteFault.Bus → HasRisen (N.failed self.old.nand) (N.failed self.new.nand) }
+        ensures spelled { self.new.page.body.items ≡ table_bytes (entries self.old.geometry) (ram self.old).blocks.table u }
+        ensures programmed { OnOk result (IsLastPage Kind.Table u (ram self.new) (page_in self.new.page)) }
+        ensures cost { PageCosts Meta (ram self.old) (ram self.new) result }
+        ensures went { N.honest self.old.nand ≡ true → result ≢ Err WriteFault.Bus →
+            Went (ram self.old) (N.flash self.old.nand) (ram self.new) (N.flash self.new.nand) }
+        ensures truth { N.honest self.old.nand ≡ true → IsTrue None (ram self.old) (image_in N.flash self.old) →
+            MatchResult result
+            (λ _. IsTabled u (ram self.old) (image_in N.flash self.old) (ram self.new) (image_in N.flash self.new))
+            (Refused (ram self.old) (image_in N.flash self.old) (ram self.new) (image_in N.flash self.new)) }
+    {
+        write_table_page(self.blocks.table(), u, &mut self.page.body);
+        let old_row = self.row_of_key(Key::Table(u));
+        self.replace(Kind::Table, u, old_row)?;
+        Ok(())
+    }
+
+    /// Writes table page `u`: the class and the erase count of each of its blocks as the table has
+    /// them when the call begins. The array stays, and so do the cached and the moved sectors.
+    ///
+    /// A program that fails makes its block bad, which the page that is then programmed in another
+    /// block doesn't tell. The caller sees it by the good blocks, and writes the pages again.
+    ///
+    /// # Errors
+    ///
+    /// Those of `put`, as there: after `ReadOnly` and `SequenceSpent` the array is as it was.
+    ///
+    /// It takes no memory. (This project.)
+    pub fn write_table(&mut self, u: u32) -> Result<(), WriteFault>
+        requires safe { IsSafe N.flash self.old }
+        requires page { u < table_pages self.old.geometry }
+        ensures safe { IsSafe N.flash self.new }
+        ensures standing { ForSome self.old.fault (λ fault. (result ≡ Err fault) × (self.new ≡ self.old)) }
+        ensures fault { self.new.fault ≡ fault_after self.old.fault result }
+        ensures goes { Goes (ram self.old) (ram self.new) }
+        ensures table { KeepsTable (ram self.old).blocks (ram self.new).blocks }
+        ensures mapping { self.new.mapping ≡ self.old.mapping }
+        ensures pin { (ram self.new).pin ≡ (ram self.old).pin }
+        ensures honest { N.honest self.new.nand ≡ N.honest self.old.nand }
+        ensures reads { N.reads self.new.nand ≡ N.reads self.old.nand }
+        ensures erases { N.erases self.new.nand ≡ N.erases self.old.nand }
+        ensures failed { N.failed self.old.nand ≤ N.failed self.new.nand }
+        ensures rose { self.old.fault ≡ None → result ≡ Err WriteFault.Bus → HasRisen (N.failed self.old.nand) (N.failed self.new.nand) }
+        ensures spelled { self.old.fault ≡ None →
+            self.new.page.body.items ≡ table_bytes (entries self.old.geometry) (ram self.old).blocks.table u }
+        ensures programmed { OnOk result (IsLastPage Kind.Table u (ram self.new) (page_in self.new.page)) }
+        ensures cost { self.old.fault ≡ None → PageCosts Meta (ram self.old) (ram self.new) result }
+        ensures went { N.honest self.old.nand ≡ true → result ≢ Err WriteFault.Bus →
+            Went (ram self.old) (N.flash self.old.nand) (ram self.new) (N.flash self.new.nand) }
+        ensures truth { N.honest self.old.nand ≡ true → self.old.fault ≡ None → IsTrue None (ram self.old) (image_in N.flash self.old) →
+            MatchResult result
+            (λ _. IsTabled u (ram self.old) (image_in N.flash self.old) (ram self.new) (image_in N.flash self.new))
+            (Refused (ram self.old) (image_in N.flash self.old) (ram self.new) (image_in N.flash self.new)) }
+    {
+        self.standing()?;
+        let answer = self.put_table(u);
+        self.noted(answer)
+    }
+}

@@ -1,0 +1,137 @@
+-- What the command `serve` comes to.
+use Rattle.std.specs.Prelude.{◌≡◌, ◌⊎◌, ℕ, List, map, filter, min, Option, Some, None, Result, Ok, Err}
+use Rattle.std.specs.List.{range_with_len}
+use Rattle.std.specs.Io.KnownBytes.{Keeps}
+use Rattle.page_layout.specs.declared.geometry.Geometry.{Geometry}
+use Rattle.page_layout.specs.Flash.{Flash}
+use Rattle.page_layout.specs.Raw.{raw_image, raw_bytes}
+use Rattle.certificate.specs.Claim.{Claim}
+use Rattle.nand_die.specs.declared.fault.DieFault.TheVariants as die
+use Rattle.nand_die.specs.Made.{loaded_flash}
+use Rattle.promises.specs.Stream.{Request, command_of}
+use Rattle.promises.specs.declared.stream.End.{End}
+use Rattle.promises.specs.declared.stream.End.TheVariants as ends
+use Rattle.image_check.specs.declared.refusal.Refusal.TheVariants as refusals
+use Rattle.image_check.specs.Refused.{IsFirstWrong}
+use Rattle.image_check.specs.Agrees.{Agrees}
+use Rattle.request_stream.specs.declared.reply.ServeFault.{ServeFault}
+use Rattle.ftl_device.specs.Begin.{is_bad_in}
+use Rattle.ftl_device.specs.Run.{Exchange, commands_in, replies_in}
+use Rattle.block_server.specs.declared.server.Served.{Served}
+use Rattle.block_server.specs.Session.{Serves}
+use Rattle.block_server.specs.Checked.{Headline}
+use Rattle.command_words.specs.declared.words.CertificateWords.{CertificateWords}
+use Rattle.command_words.specs.declared.words.ServeWords.{ServeWords}
+use Rattle.commands.specs.declared.text.CommandFault.{CommandFault}
+use Rattle.commands.specs.declared.text.CommandFault.TheVariants as fault
+use Rattle.commands.specs.declared.text.ServeStop.{ServeStop}
+use Rattle.commands.specs.declared.text.ServeStop.TheVariants as stop
+use Rattle.commands.specs.Check.{HasFiles, IsAsked, IsNoCertificate, IsSpelled, IsUnasked, IsWhole}
+use Rattle.commands.specs.Files.{Gives, Left, Leaves, Stored, with_store, written, unwritten}
+use Rattle.commands.specs.Inputs.{IsUnread}
+
+-- ---- an image in place
+
+-- the blocks of the die that the certificate gives as bad, rising
+abbrev pub bad_in : Geometry → Claim → List ℕ
+bad_in g c = filter (is_bad_in c) (range_with_len 0 (min g.blocks c.sizes.blocks))
+
+-- Requests were served over a die in memory: what was read and written, and the image that it holds then. The headline holds, since a die in
+-- memory is honest and answers all that it is asked.
+pub record ServesDie (g : Geometry) (capacity : ℕ) (c : Claim) (s : Flash) (after : List ℕ) (unread left out out' : Option (List ℕ)) (result : Result Served ServeFault) : Type 0 where
+  pub requests : List Request
+  pub exchanges : List Exchange
+  pub commands : commands_in exchanges ≡ map command_of requests
+  pub stream : Serves g.data_bytes unread left out out' requests (replies_in exchanges) result
+  pub flash : Flash
+  pub headline : Headline g capacity c s flash exchanges
+  pub pages : raw_image g after ≡ flash.image
+  pub bytes : after ≡ raw_bytes flash.image
+
+-- the same of the die that holds the image, with the certificate's bad blocks
+abbrev pub ServesImage : Geometry → ℕ → Claim → (before after : List ℕ) → (unread left out out' : Option (List ℕ)) → Result Served ServeFault → Type 0
+ServesImage g capacity c before after unread left out out' result = ServesDie g capacity c (loaded_flash g before (bad_in g c)) after unread left out out' result
+
+-- what stopped the server, by its result; nothing where the stream ended
+abbrev pub stop_at : End → Option ServeStop
+stop_at ends.Boundary = None
+stop_at ends.Unfinished = None
+stop_at ends.BadFrame = Some stop.BadFrame
+
+abbrev pub stop_in : Result Served ServeFault → Option ServeStop
+stop_in (Ok served) = stop_at served.end
+stop_in (Err stopped) = Some (stop.Fault stopped)
+
+-- why the die was not served: nothing was read and nothing written
+abbrev pub IsUnserved : Geometry → ℕ → List ℕ → Claim → CommandFault → Type 0
+IsUnserved g capacity bytes c fault.WrongLength = ¬ IsWhole g bytes
+IsUnserved g capacity bytes c (fault.Die broken) = IsWhole g bytes × (broken ≡ die.OutOfMemory)
+IsUnserved g capacity bytes c (fault.Check refusal) = IsWhole g bytes × ((refusal ≡ refusals.OutOfMemory) ⊎ IsFirstWrong g capacity (raw_image g bytes) c refusal)
+IsUnserved g capacity bytes c fault.Start = IsWhole g bytes × Agrees g capacity (raw_image g bytes) c
+IsUnserved g capacity bytes c _ = ⊥
+
+-- a die was served, and this stopped the server, if anything
+pub record HasServed (g : Geometry) (capacity : ℕ) (c : Claim) (s : Flash) (after : List ℕ) (unread left out out' : Option (List ℕ)) (how : Option ServeStop) : Type 0 where
+  pub came : Result Served ServeFault
+  pub how_is : how ≡ stop_in came
+  pub serves : ServesDie g capacity c s after unread left out out' came
+
+-- why a die in memory was not: it answers each read
+abbrev pub IsUnservedDie : Geometry → ℕ → Claim → Flash → CommandFault → Type 0
+IsUnservedDie g capacity c s (fault.Check refusal) = (refusal ≡ refusals.OutOfMemory) ⊎ IsFirstWrong g capacity s.image c refusal
+IsUnservedDie g capacity c s fault.Start = Agrees g capacity s.image c
+IsUnservedDie g capacity c s _ = ⊥
+
+-- ---- the command
+
+-- the words but for OUT
+abbrev pub checked_words : ServeWords → CertificateWords
+checked_words words = record { geometry = words.geometry; capacity = words.capacity; image = words.image; certificate = words.certificate }
+
+-- the words are numbers, both files were read, and the certificate's bytes are those of this claim
+pub record HasClaim (gives : Gives) (words : ServeWords) (g : Geometry) (capacity : ℕ) (bytes : List ℕ) (c : Claim) : Type 0 where
+  pub written : List ℕ
+  pub files : HasFiles gives (checked_words words) g capacity bytes written
+  pub spelled : IsSpelled c written
+
+-- Why the command ended before anything was read from standard input. Each case says that none before it in the order held.
+abbrev pub IsUnstarted : Gives → ServeWords → CommandFault → Type 0
+IsUnstarted gives words stopped =
+    IsUnasked (checked_words words) stopped
+    ⊎ ((g : Geometry) × (capacity : ℕ) × IsAsked (checked_words words) g capacity × IsUnread gives words.image.now stopped)
+    ⊎ ((g : Geometry) × (capacity : ℕ) × (bytes : List ℕ) × IsAsked (checked_words words) g capacity × gives words.image.now (Ok bytes) × IsUnread gives words.certificate.now stopped)
+    ⊎ ((g : Geometry) × (capacity : ℕ) × (bytes written : List ℕ) × HasFiles gives (checked_words words) g capacity bytes written × IsNoCertificate written stopped)
+    ⊎ ((g : Geometry) × (capacity : ℕ) × (bytes : List ℕ) × (c : Claim) × HasClaim gives words g capacity bytes c × IsUnserved g capacity bytes c stopped)
+
+-- How it ended after the run: the image was stored, and what stopped the server is told; or it could not be stored, and that is told, after
+-- what stopped the server.
+abbrev pub Ends : List ℕ → List ℕ → Option ServeStop → Option (List Stored) → Option (List Stored) → Result (Unit {0}) CommandFault → Type 0
+Ends path image how before after (Ok done) = (how ≡ None) × (after ≡ with_store before (written path image))
+Ends path image how before after (Err (fault.Serve stopped)) = (how ≡ Some stopped) × (after ≡ with_store before (written path image))
+Ends path image how before after (Err (fault.Write text)) = (how ≡ None) × (text.now ≡ path) × (after ≡ with_store before (unwritten path image))
+Ends path image how before after (Err fault.OutOfMemory) = (how ≡ None) × (after ≡ before)
+Ends path image how before after (Err (fault.ServeUnstored stopped text)) = (how ≡ Some stopped) × (text.now ≡ path) × ((after ≡ with_store before (unwritten path image)) ⊎ (after ≡ before))
+Ends path image how before after (Err _) = ⊥
+
+-- it ran: requests were served over the image, and it ended so
+pub record HasRun (gives : Gives) (words : ServeWords) (unread left : Option (List ℕ)) (before after : Left) (result : Result (Unit {0}) CommandFault) : Type 0 where
+  pub geometry : Geometry
+  pub capacity : ℕ
+  pub bytes : List ℕ
+  pub claim : Claim
+  pub has : HasClaim gives words geometry capacity bytes claim
+  pub image : List ℕ
+  pub came : Result Served ServeFault
+  pub serves : ServesImage geometry capacity claim bytes image unread left before.out after.out came
+  pub ends : Ends words.output.now image (stop_in came) before.stores after.stores result
+
+-- nothing was read from standard input, stored or printed
+pub record HasNotRun (gives : Gives) (words : ServeWords) (unread left : Option (List ℕ)) (before after : Left) (stopped : CommandFault) : Type 0 where
+  pub leaves : Leaves before after
+  pub unread_is : Keeps unread left
+  pub because : IsUnstarted gives words stopped
+
+-- What the command came to, with what standard input had, and the stores and the bytes of standard output before and after.
+abbrev pub DoesServe : Gives → ServeWords → Option (List ℕ) → Option (List ℕ) → Left → Left → Result (Unit {0}) CommandFault → Type 0
+DoesServe gives words unread left before after (Ok done) = HasRun gives words unread left before after (Ok done)
+DoesServe gives words unread left before after (Err stopped) = HasNotRun gives words unread left before after stopped ⊎ HasRun gives words unread left before after (Err stopped)

@@ -1,0 +1,218 @@
+-- What making room leaves, and what no call moves.
+use Rattle.std.proofs.Common.{◌≡◌, ◌≢◌, ℕ, zero, suc, ◌+◌, ◌/◌, ◌<◌, ◌≤◌, ◌∙◌, inl, inr, Bool, true, false, not, ◌||◌, cond, List, [], ◌∷◌, length, get_or, replicate, count_by, Option, Some, None, Result, Ok, Err, OnOk, IfErr, MatchResult, refl, sym, ap, subst, arith}
+use Rattle.std.specs.Map.{keys_of}
+use Rattle.std.proofs.lemmas.List.{get_or-replicate}
+use Rattle.page_layout.specs.declared.geometry.Geometry.{Geometry}
+use Rattle.page_layout.specs.Page.{Image}
+use Rattle.page_layout.specs.Geometry.{entries, translation_pages}
+use Rattle.page_layout.specs.Array.{array_of}
+use Rattle.bad_blocks.specs.declared.table.TableRow.{TableRow}
+use Rattle.bad_blocks.specs.Table.{is_good, is_good_at, good_count, no_table_row}
+use Rattle.allocation.specs.State.{State, free_count, live_at, is_closed}
+use Rattle.mapping_cache.specs.Mapping.{MappingState, HasLimitsOf, CanLoad, per_page, pending, loaded}
+use Rattle.collection.specs.declared.engine.Engine.{Engine}
+use Rattle.collection.specs.declared.fault.WriteFault.{WriteFault}
+use Rattle.collection.specs.declared.fault.WriteFault.TheVariants.{ReadOnly, SequenceSpent, Damaged, Bus}
+use Rattle.collection.specs.State.{Ram, Pin}
+use Rattle.collection.specs.Safe.{IsRam, IsIdle, is_shut, ram}
+use Rattle.collection.specs.Truth.{IsTrue}
+use Rattle.collection.specs.Settle.{HasNoMore}
+use Rattle.collection.specs.Results.{Goes, IsSame, Refused, fault_after}
+use Rattle.collection.specs.Collect.{GoesOn, KeepsKeys, Refreshes, IsFresh, IsUpToDate, HasRoom, RoomTells, IsRearranged, RoomRefused, IsAiling, HasAiling, HasNoneAiling, RescueCosts, IsRescued}
+use Rattle.ftl_device.specs.declared.fault.CallFault.{CallFault}
+use Rattle.ftl_device.specs.declared.fault.CallFault.TheVariants as call
+use Rattle.ftl_device.specs.declared.fault.CallFault.TheVariants.{Engine as EngineFault}
+use Rattle.ftl_device.specs.Calls.{Tells, CallTells, KeepsArray, CallRefused, HasMadeRoom, HasRescued, HasRested, standing_after}
+use Rattle.ftl_device.specs.Flush.{IsClean, KeepsClean}
+use Rattle.ftl_device.proofs.ReadLemmas.{loaded_moves_none}
+
+-- ---- good blocks
+
+one : Bool → ℕ
+one b = cond b 1 0
+
+one_fewer : (x y : Bool) → (x ≡ false → y ≡ false) → one y ≤ one x
+one_fewer true true h = omega arith
+one_fewer true false h = omega arith
+one_fewer false y h = (let e : y ≡ false = h refl in let f : one y ≡ 0 = ap one e in omega arith)
+
+-- where bad rows stay bad
+fewer_rows : (xs ys : List TableRow) → length ys ≡ length xs → ((b : ℕ) → b < length xs → is_good_at xs b ≡ false → is_good_at ys b ≡ false) → good_count ys ≤ good_count xs
+fewer_rows [] [] size h = omega arith
+fewer_rows [] (y ∷ ys) size h = (let no : ⊥ = cc in absurd no)
+fewer_rows (x ∷ xs) [] size h = (let no : ⊥ = cc in absurd no)
+fewer_rows (x ∷ xs) (y ∷ ys) size h =
+    let tails : length ys ≡ length xs = cc in
+    let rest : good_count ys ≤ good_count xs = fewer_rows xs ys tails (λ b lt. h (suc b) (omega arith)) in
+    let first : one (is_good y) ≤ one (is_good x) = one_fewer (is_good x) (is_good y) (h 0 (omega arith)) in
+    omega arith
+
+pub good_fewer : (a b : Ram) → IsRam a → IsRam b → GoesOn a b → good_count b.blocks.table ≤ good_count a.blocks.table
+good_fewer a b s t goes =
+    let g : b.blocks.geometry ≡ a.blocks.geometry = t.blocks_of ∙ (goes.geometry ∙ sym s.blocks_of) in
+    let size : length b.blocks.table ≡ length a.blocks.table = t.blocks.table_whole ∙ (ap (λ (x : Geometry). x.blocks) g ∙ sym s.blocks.table_whole) in
+    fewer_rows a.blocks.table b.blocks.table size (λ k lt bad.
+      let within : k < a.geometry.blocks = (let e : a.blocks.geometry.blocks ≡ a.geometry.blocks = ap (λ (x : Geometry). x.blocks) s.blocks_of in omega (arith, s.blocks.table_whole)) in
+      ap is_good (goes.bad k within bad).row ∙ bad)
+
+-- ---- room was made
+
+pub room_tells : (result : Result (Unit {0}) WriteFault) (a b : Ram) → IsRam a → IsRam b → GoesOn a b → IfErr result (RoomTells b) → Tells a b result
+room_tells (Ok done) a b s t goes h = good_fewer a b s t goes
+room_tells (Err ReadOnly) a b s t goes h = (h, good_fewer a b s t goes)
+room_tells (Err SequenceSpent) a b s t goes h = h
+room_tells (Err Damaged) a b s t goes h = tt
+room_tells (Err Bus) a b s t goes h = tt
+
+pub room_made : (result : Result (Unit {0}) WriteFault) (a b : Ram) → GoesOn a b → KeepsKeys a.mapping b.mapping → OnOk result (HasRoom b) → OnOk result (IsIdle b) → OnOk result (HasMadeRoom a b)
+room_made (Ok done) a b goes keys room idle = record { goes = goes; keys = keys; room = room; idle = idle }
+room_made (Err fault) a b goes keys room idle = tt
+
+-- a translation page that lacked no row lacks none
+clean_now : (a b : Ram) → IsRam a → IsRam b → b.geometry ≡ a.geometry → Refreshes a b → IsIdle b → KeepsClean a.geometry a.mapping b.mapping
+clean_now a b s t same r idle = record {
+  still = λ p within was.
+      let here : entries a.geometry ≡ per_page a.mapping = ap entries (sym s.mapping_of) in
+      let there : entries a.geometry ≡ per_page b.mapping = ap entries (sym (t.mapping_of ∙ same)) in
+      let before : IsUpToDate a.mapping p = λ n of_page. was.none n (ap (λ e. n / e) here ∙ of_page) in
+      let size : translation_pages b.geometry ≡ translation_pages a.geometry = ap translation_pages same in
+      let unmarked : get_or b.pin.marks p false ≡ false = ap (λ l. get_or l p false) idle.unmarked ∙ get_or-replicate (translation_pages b.geometry) p false false (omega arith) in
+      let now : IsUpToDate b.mapping p = r.each p within (λ any. before) unmarked in
+      record { none = λ n of_page. now n (ap (λ e. n / e) (sym there) ∙ of_page) };
+}
+
+pub room_cleans : (result : Result (Unit {0}) WriteFault) (flushing : Bool) (a b : Ram) → IsRam a → IsRam b → b.geometry ≡ a.geometry → (flushing ≡ true → Refreshes a b) → OnOk result (IsIdle b) → flushing ≡ true → OnOk result (KeepsClean a.geometry a.mapping b.mapping)
+room_cleans (Ok done) flushing a b s t same r idle on = clean_now a b s t same (r on) idle
+room_cleans (Err fault) flushing a b s t same r idle on = tt
+
+-- ---- the array stays
+
+pub keeps_room : (a b : Ram) (x y : Image) → IsRearranged a x b y → KeepsArray a.geometry x b y
+keeps_room a b x y r = record { truth = r.truth; array = r.array }
+
+pub refused_room : (a b : Ram) (x y : Image) (fault : WriteFault) → RoomRefused a x b y fault → CallRefused a.geometry x b y (EngineFault fault)
+refused_room a b x y ReadOnly r = keeps_room a b x y r
+refused_room a b x y SequenceSpent r = keeps_room a b x y r
+refused_room a b x y Damaged r = r
+refused_room a b x y Bus r = tt
+
+-- ---- nothing is moved
+
+pub idle_kept : (a b : Ram) → b.geometry ≡ a.geometry → HasNoMore a.mapping b.mapping → b.pin ≡ a.pin → IsIdle a → IsIdle b
+idle_kept a b same m pin idle = record {
+  moved = none b.mapping.moved (let e : length a.mapping.moved ≡ 0 = ap length idle.moved in omega (arith, m.moved));
+  unmarked = ap (λ (p : Pin). p.marks) pin ∙ (idle.unmarked ∙ ap (λ g. replicate (translation_pages g) false) (sym same));
+}
+  where
+    none : (ms : List (ℕ × ℕ)) → length ms ≤ 0 → ms ≡ []
+    none [] le = refl
+    none (x ∷ xs) le = absurd (omega arith)
+
+pub idle_mapping : (a b : Ram) → b.geometry ≡ a.geometry → b.mapping.moved ≡ a.mapping.moved → b.pin ≡ a.pin → IsIdle a → IsIdle b
+idle_mapping a b same moved pin idle = record {
+  moved = moved ∙ idle.moved;
+  unmarked = ap (λ (p : Pin). p.marks) pin ∙ (idle.unmarked ∙ ap (λ g. replicate (translation_pages g) false) (sym same));
+}
+
+-- a look-up
+pub idle_found : (a b : Ram) (fault : Option WriteFault) → b ≡ record a { fault = fault } → IsIdle a → IsIdle b
+idle_found a b fault is idle = (let P : Ram → Type 0 = IsIdle in subst P (sym is) (record { moved = idle.moved; unmarked = idle.unmarked }))
+
+-- a sector is cached
+pub idle_loaded : {N : Type 0} (e f : Engine N) (n : ℕ) (row : Option ℕ) → f ≡ record e { mapping = loaded e.mapping n row } → IsIdle (ram e) → IsIdle (ram f)
+idle_loaded {N} e f n row is idle = (let P : Engine N → Type 0 = λ x. IsIdle (ram x) in subst P (sym is) (record { moved = loaded_moves_none e.mapping n row idle.moved; unmarked = idle.unmarked }))
+
+-- what holds of a call that was done holds where no fault stands after it
+pub when_done : (P : Type 0) (result : Result (Unit {0}) WriteFault) (fault : Option WriteFault) → fault ≡ fault_after None result → OnOk result P → fault ≡ None → P
+when_done P (Ok done) fault is h none = h
+when_done P (Err f) fault is h none = (let no : Some f ≡ None = sym is ∙ none in let never : ⊥ = cc in absurd never)
+
+-- ---- a turn
+
+goes_on : (b c : Ram) → IsRam b → Goes b c → GoesOn b c
+goes_on b c s x = record { geometry = x.geometry; next = x.next; bad = λ k within bad. x.shut k within (shut_bad b.blocks k bad) }
+  where
+    shut_bad : (t : State) (k : ℕ) → is_good_at t.table k ≡ false → is_shut t k ≡ true
+    shut_bad t k bad = ap (λ g. not g || is_closed t k) bad
+
+-- where as many are good, those that are bad were bad
+same_rows : (xs ys : List TableRow) → length ys ≡ length xs → ((b : ℕ) → b < length xs → is_good_at xs b ≡ false → is_good_at ys b ≡ false) → good_count ys ≡ good_count xs → (k : ℕ) → k < length xs → is_good_at ys k ≡ false → is_good_at xs k ≡ false
+same_rows [] ys size h same k lt bad = absurd (omega arith)
+same_rows (x ∷ xs) [] size h same k lt bad = (let no : ⊥ = cc in absurd no)
+same_rows (x ∷ xs) (y ∷ ys) size h same k lt bad =
+    let tails : length ys ≡ length xs = cc in
+    let lower : (b : ℕ) → b < length xs → is_good_at xs b ≡ false → is_good_at ys b ≡ false = λ b below. h (suc b) (omega arith) in
+    let rest : good_count ys ≤ good_count xs = fewer_rows xs ys tails lower in
+    let first : one (is_good y) ≤ one (is_good x) = one_fewer (is_good x) (is_good y) (h 0 (omega arith)) in
+    at k lt bad tails lower rest first
+  where
+    at : (k : ℕ) → k < length (x ∷ xs) → is_good_at (y ∷ ys) k ≡ false → length ys ≡ length xs → ((b : ℕ) → b < length xs → is_good_at xs b ≡ false → is_good_at ys b ≡ false) → good_count ys ≤ good_count xs → one (is_good y) ≤ one (is_good x) → is_good_at (x ∷ xs) k ≡ false
+    at zero lt bad tails lower rest first = head_bad (is_good x) (is_good y) bad (omega arith)
+    at (suc k) lt bad tails lower rest first = same_rows xs ys tails lower (omega arith) k (omega arith) bad
+
+    head_bad : (p q : Bool) → q ≡ false → one p ≤ one q → p ≡ false
+    head_bad true q bad le = (let e : one q ≡ 0 = ap one bad in absurd (omega arith))
+    head_bad false q bad le = refl
+
+good_same : (a b : Ram) → IsRam a → IsRam b → GoesOn a b → good_count b.blocks.table ≡ good_count a.blocks.table → (k : ℕ) → k < a.geometry.blocks → is_good_at b.blocks.table k ≡ false → is_good_at a.blocks.table k ≡ false
+good_same a b s t goes same k within bad =
+    let g : b.blocks.geometry ≡ a.blocks.geometry = t.blocks_of ∙ (goes.geometry ∙ sym s.blocks_of) in
+    let size : length b.blocks.table ≡ length a.blocks.table = t.blocks.table_whole ∙ (ap (λ (x : Geometry). x.blocks) g ∙ sym s.blocks.table_whole) in
+    let many : a.blocks.geometry.blocks ≡ a.geometry.blocks = ap (λ (x : Geometry). x.blocks) s.blocks_of in
+    same_rows a.blocks.table b.blocks.table size (λ j lt was. ap is_good (goes.bad j (omega (arith, s.blocks.table_whole)) was).row ∙ was) same k (omega (arith, s.blocks.table_whole)) bad
+
+-- none was to be rescued
+pub rescued_none : (a : Ram) → HasNoneAiling a.blocks → HasRescued a a
+rescued_none a none = record { bad = λ k within was. omega arith; fewer = λ same some. (let z : live_at a.blocks some.0 ≡ 0 = none some.0 some.1.within some.1.bad in absurd (omega (arith, some.1.some))) }
+
+pub rescued_by : (a b c : Ram) (x y z : Image) (found : Bool) → IsRam a → IsRam b → IsRam c → GoesOn a b → Goes b c → IsRearranged a x b y → IsRescued b y c z found → HasRescued a c
+rescued_by a b c x y z found s t u first then r d = record {
+  bad = λ k within was. omega (arith, r.bad k within was, d.bad k (in_b k within) (still k within was));
+  fewer = λ same some. by found refl same some;
+}
+  where
+    in_b : (k : ℕ) → k < a.geometry.blocks → k < b.geometry.blocks
+    in_b k within = (let e : b.geometry.blocks ≡ a.geometry.blocks = ap (λ (g : Geometry). g.blocks) first.geometry in omega arith)
+
+    still : (k : ℕ) → k < a.geometry.blocks → is_good_at a.blocks.table k ≡ false → is_good_at b.blocks.table k ≡ false
+    still k within was = ap is_good (first.bad k within was).row ∙ was
+
+    of_a : (k : ℕ) → k < a.blocks.geometry.blocks → k < a.geometry.blocks
+    of_a k within = (let e : a.blocks.geometry.blocks ≡ a.geometry.blocks = ap (λ (g : Geometry). g.blocks) s.blocks_of in omega arith)
+
+    by : (f : Bool) → found ≡ f → good_count c.blocks.table ≡ good_count a.blocks.table → HasAiling a.blocks → (block : ℕ) × IsAiling a.blocks block × (live_at c.blocks block < live_at a.blocks block)
+    by false is same some =
+        let k : ℕ = some.0 in
+        let within : k < a.geometry.blocks = of_a k some.1.within in
+        let here : is_good_at b.blocks.table k ≡ false = still k within some.1.bad in
+        let at_b : k < b.blocks.geometry.blocks = (let e : b.blocks.geometry.blocks ≡ b.geometry.blocks = ap (λ (g : Geometry). g.blocks) t.blocks_of in let l : k < b.geometry.blocks = in_b k within in omega arith) in
+        let gone : live_at b.blocks k ≡ 0 = d.none is k at_b here in
+        (k, some.1, omega (arith, some.1.some, d.bad k (in_b k within) here))
+    by true is same some =
+        let one_of = d.some is in
+        let k : ℕ = one_of.0 in
+        let e : b.blocks.geometry.blocks ≡ a.geometry.blocks = ap (λ (g : Geometry). g.blocks) (t.blocks_of ∙ first.geometry) in
+        let within : k < a.geometry.blocks = omega (arith, one_of.1.0.within) in
+        let many : good_count b.blocks.table ≡ good_count a.blocks.table = omega (arith, good_fewer a b s t first, good_fewer b c t u (goes_on b c t then)) in
+        let bad : is_good_at a.blocks.table k ≡ false = good_same a b s t first many k within one_of.1.0.bad in
+        let less : live_at b.blocks k ≤ live_at a.blocks k = r.bad k within bad in
+        let at_a : k < a.blocks.geometry.blocks = (let f : a.blocks.geometry.blocks ≡ a.geometry.blocks = ap (λ (g : Geometry). g.blocks) s.blocks_of in omega arith) in
+        (k, record { within = at_a; bad = bad; some = omega (arith, one_of.1.1) }, omega (arith, one_of.1.1))
+
+pub call_tells : (fault : WriteFault) (a b : Ram) → Tells {A = Unit {0}} a b (Err fault) → CallTells {A = Unit {0}} a b (Err (EngineFault fault))
+call_tells ReadOnly a b h = h
+call_tells SequenceSpent a b h = h
+call_tells Damaged a b h = tt
+call_tells Bus a b h = tt
+
+pub rescue_tells : (fault : WriteFault) (a b c : Ram) → IsRam b → IsRam c → Goes b c → good_count b.blocks.table ≤ good_count a.blocks.table → RescueCosts b c (Err fault) → CallTells {A = Unit {0}} a c (Err (EngineFault fault))
+rescue_tells ReadOnly a b c t u goes fewer h = (omega arith, omega (arith, good_fewer b c t u (goes_on b c t goes)))
+rescue_tells SequenceSpent a b c t u goes fewer h = h
+rescue_tells Damaged a b c t u goes fewer h = tt
+rescue_tells Bus a b c t u goes fewer h = tt
+
+pub rescue_fewer : (a b c : Ram) → IsRam b → IsRam c → Goes b c → good_count b.blocks.table ≤ good_count a.blocks.table → good_count c.blocks.table ≤ good_count a.blocks.table
+rescue_fewer a b c t u goes fewer = omega (arith, good_fewer b c t u (goes_on b c t goes))
+
+pub never_rested : (a b : Ram) → HasAiling a.blocks → HasRested a b
+never_rested a b some = λ none. (let z : live_at a.blocks some.0 ≡ 0 = none some.0 some.1.within some.1.bad in absurd (omega (arith, some.1.some)))

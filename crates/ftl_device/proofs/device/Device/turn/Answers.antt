@@ -1,0 +1,30 @@
+use Rattle.std.proofs.Common.{◌≡◌, true}
+use Rattle.collection.specs.Safe.{ram, image_in}
+use Rattle.ftl_device.specs.Calls.{HasRescued}
+use Rattle.ftl_device.proofs.CallLemmas.{well_device, mountable_after}
+use Rattle.ftl_device.proofs.CostLemmas.{done_after}
+use Rattle.ftl_device.proofs.MountableLemmas.{restart_law}
+use Rattle.ftl_device.proofs.FlushCalls.{flush_well, flush_shown, flush_refused}
+use Rattle.ftl_device.proofs.device.Device.turn.Goals as goal
+
+pub returns-in_err-may_flush-clause-shown : goal.returns-in_err-may_flush-clause-shown
+returns-in_err-may_flush-clause-shown g c = λ honest w ne log.
+    let p = err_from_is_err_and c.from_residual.result c.from_residual.ensures.1 in
+    rw (p.1, p.2) (flush_refused (ram c.args.self.now.engine) (g.N.PageSource.flash c.args.self.now.engine.nand) log c.args.self.now.read_only _ c.requires.device.engine.memory w.truth w.going c.in_err-may_flush.ensures.may_not)
+
+pub returns-in_err-may_flush-clause-mountable : goal.returns-in_err-may_flush-clause-mountable
+returns-in_err-may_flush-clause-mountable g c = λ honest w ne most. restart_law (ram c.args.self.now.engine) _ c.requires.device.engine.memory w.truth most
+
+pub returns-clause-well : goal.returns-clause-well
+returns-clause-well g c = λ honest w ne.
+    let known = flush_well c.turn_ready-answer.result c.finish.result c.good-good.result _ _ _ (ram c.turn_ready-answer.new.engine) (ram c.finish.new.self.engine) c.turn_ready-answer.ensures.fault c.finish.ensures.answer ne (c.turn_ready-answer.ensures.truth honest w.truth) in
+    well_device _ c.finish.new.self _ c.finish.ensures.engine known
+
+pub returns-clause-mountable : goal.returns-clause-mountable
+returns-clause-mountable g c = λ honest w ne most. mountable_after _ c.args.self.now.engine c.finish.new.self _ c.finish.ensures.engine c.turn_ready-answer.ensures.geometry c.turn_ready-answer.ensures.limits c.finish.ensures.device.engine.memory (returns-clause-well g c honest w ne) most
+
+pub returns-clause-shown : goal.returns-clause-shown
+returns-clause-shown g c = λ honest w ne log. flush_shown g.N.PageSource.flash c.args.self.now.engine c.turn_ready-answer.new.engine c.finish.new.self.engine log c.turn_ready-answer.result c.finish.result c.good-good.result c.finish.ensures.engine c.requires.device.engine.memory c.turn_ready-answer.ensures.safe.memory c.turn_ready-answer.ensures.geometry c.good-good.ensures c.finish.ensures.answer c.turn_ready-answer.ensures.tells (c.turn_ready-answer.ensures.truth honest w.truth) ne
+
+pub returns-clause-rescued : goal.returns-clause-rescued
+returns-clause-rescued g c = λ honest w. done_after (λ e. HasRescued (ram c.args.self.now.engine) (ram e)) c.turn_ready-answer.new.engine c.finish.new.self.engine c.turn_ready-answer.result c.finish.result c.good-good.result c.finish.ensures.engine c.finish.ensures.answer (c.turn_ready-answer.ensures.rescued honest w.truth)

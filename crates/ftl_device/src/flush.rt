@@ -1,0 +1,279 @@
+//! What waits in memory is written to the die.
+ghost use Rattle.std.specs.Prelude.{◌≡◌, ◌≢◌, ℕ, ◌+◌, ◌-◌, ◌/◌, ◌^◌, ◌<◌, ◌≤◌, min, true, false, [], Some, None, Ok, Err, IfErr, OnOk, MatchResult};
+ghost use Rattle.std.specs.Option.{ForSome};
+ghost use Rattle.std.specs.Map.{keys_of};
+ghost use Rattle.page_layout.specs.Counter.{HasRisen};
+ghost use Rattle.page_layout.specs.Geometry.{translation_pages, table_pages};
+ghost use Rattle.allocation.specs.State.{free_count};
+ghost use Rattle.collection.specs.Safe.{IsSafe, IsIdle, ram, image_in};
+ghost use Rattle.collection.specs.Truth.{IsTrue};
+ghost use Rattle.collection.specs.Log.{Went};
+ghost use Rattle.collection.specs.Results.{KeepsTable, fault_after};
+ghost use Rattle.ftl_device.specs.Calls.{Tells, CallTells, KeepsArray, CallRefused, standing_after};
+ghost use Rattle.ftl_device.specs.Flush.{IsClean, KeepsClean, SpellsAll, KeepsTables, AddsPages, FailsAmong, RunsOut, IsFlushed, WritesTables, MayFlush, MayNotFlush};
+ghost use Rattle.std.specs.Prelude.{◌↔◌};
+ghost use Rattle.page_layout.specs.Geometry.{need};
+ghost use Rattle.bad_blocks.specs.Table.{good_count, wear_at};
+ghost use Rattle.mapping_cache.specs.Mapping.{HasLimitsOf};
+ghost use Rattle.promises.specs.Step.{ArrayStep, Flush};
+ghost use Rattle.promises.specs.Log.{bad_of};
+ghost use Rattle.image_check.specs.Blocks.{erase_count};
+ghost use Rattle.image_check.specs.Stale.{stale_sectors};
+ghost use Rattle.image_check.specs.Mountable.{IsMountable};
+ghost use Rattle.ftl_device.specs.Device.{IsDevice};
+ghost use Rattle.ftl_device.specs.Calls.{state_in, reply_of, stop_of, IsWell, Says};
+ghost use Rattle.ftl_device.specs.Counts.{is_bad_by, IsShown};
+ghost use Rattle.ftl_device.specs.Flush.{ShowsBad};
+
+use crate::device::Device;
+use crate::fault::{CallFault, DeviceFault};
+use crate::ready::make_room;
+use collection::{Engine, WriteFault};
+use onfi_cycles::Nand;
+
+// Writes translation page `t` back where it lacks a row. Whether it does is asked before room is made.
+fn flush_translation<N: Nand>(engine: &mut Engine<N>, t: u32) -> Result<(), WriteFault>
+    requires safe { IsSafe N.flash engine.old }
+    requires going { engine.old.fault ≡ None }
+    requires idle { IsIdle (ram engine.old) }
+    requires page { t < translation_pages engine.old.geometry }
+    ensures safe { IsSafe N.flash engine.new }
+    ensures fault { engine.new.fault ≡ fault_after None result }
+    ensures geometry { engine.new.geometry ≡ engine.old.geometry }
+    ensures honest { N.honest engine.new.nand ≡ N.honest engine.old.nand }
+    ensures failed { N.failed engine.old.nand ≤ N.failed engine.new.nand }
+    ensures rose { result ≡ Err WriteFault.Bus → HasRisen (N.failed engine.old.nand) (N.failed engine.new.nand) }
+    ensures keys { keys_of engine.new.mapping.cached ≡ keys_of engine.old.mapping.cached }
+    ensures limits { HasLimitsOf engine.old.mapping engine.new.mapping }
+    ensures idle { engine.new.fault ≡ None → IsIdle (ram engine.new) }
+    ensures clean { OnOk result (IsClean engine.old.geometry t engine.new.mapping) }
+    ensures cleans { OnOk result (KeepsClean engine.old.geometry engine.old.mapping engine.new.mapping) }
+    ensures tells { Tells (ram engine.old) (ram engine.new) result }
+    ensures went { N.honest engine.old.nand ≡ true → result ≢ Err WriteFault.Bus →
+        Went (ram engine.old) (N.flash engine.old.nand) (ram engine.new) (N.flash engine.new.nand) }
+    ensures truth { N.honest engine.old.nand ≡ true → IsTrue None (ram engine.old) (image_in N.flash engine.old) →
+        MatchResult result
+        (λ _. KeepsArray engine.old.geometry (image_in N.flash engine.old) (ram engine.new) (image_in N.flash engine.new))
+        (λ fault. CallRefused engine.old.geometry (image_in N.flash engine.old) (ram engine.new) (image_in N.flash engine.new) (CallFault.Engine fault)) }
+{
+    if !engine.mapping.lacks(t) {
+        return Ok(());
+    }
+    make_room(engine, true)?;
+    engine.write_back(t)
+}
+
+// Writes back each translation page that lacks a row.
+fn flush_translations<N: Nand>(engine: &mut Engine<N>) -> Result<(), WriteFault>
+    requires safe { IsSafe N.flash engine.old }
+    requires going { engine.old.fault ≡ None }
+    requires idle { IsIdle (ram engine.old) }
+    ensures safe { IsSafe N.flash engine.new }
+    ensures fault { engine.new.fault ≡ fault_after None result }
+    ensures geometry { engine.new.geometry ≡ engine.old.geometry }
+    ensures honest { N.honest engine.new.nand ≡ N.honest engine.old.nand }
+    ensures failed { N.failed engine.old.nand ≤ N.failed engine.new.nand }
+    ensures rose { result ≡ Err WriteFault.Bus → HasRisen (N.failed engine.old.nand) (N.failed engine.new.nand) }
+    ensures keys { keys_of engine.new.mapping.cached ≡ keys_of engine.old.mapping.cached }
+    ensures limits { HasLimitsOf engine.old.mapping engine.new.mapping }
+    ensures idle { engine.new.fault ≡ None → IsIdle (ram engine.new) }
+    ensures clean { OnOk result ((t : ℕ) → t < translation_pages engine.old.geometry → IsClean engine.old.geometry t engine.new.mapping) }
+    ensures tells { Tells (ram engine.old) (ram engine.new) result }
+    ensures went { N.honest engine.old.nand ≡ true → result ≢ Err WriteFault.Bus →
+        Went (ram engine.old) (N.flash engine.old.nand) (ram engine.new) (N.flash engine.new.nand) }
+    ensures truth { N.honest engine.old.nand ≡ true → IsTrue None (ram engine.old) (image_in N.flash engine.old) →
+        MatchResult result
+        (λ _. KeepsArray engine.old.geometry (image_in N.flash engine.old) (ram engine.new) (image_in N.flash engine.new))
+        (λ fault. CallRefused engine.old.geometry (image_in N.flash engine.old) (ram engine.new) (image_in N.flash engine.new) (CallFault.Engine fault)) }
+{
+    'translations: for t in 0..engine.geometry.translation_pages() {
+        flush_translation(engine, t)?;
+    }
+    Ok(())
+}
+
+// Writes each table page once. Where no block has failed meanwhile, they tell the table as it is.
+fn write_tables_once<N: Nand>(engine: &mut Engine<N>) -> Result<(), WriteFault>
+    requires safe { IsSafe N.flash engine.old }
+    requires going { engine.old.fault ≡ None }
+    ensures safe { IsSafe N.flash engine.new }
+    ensures fault { engine.new.fault ≡ fault_after None result }
+    ensures geometry { engine.new.geometry ≡ engine.old.geometry }
+    ensures honest { N.honest engine.new.nand ≡ N.honest engine.old.nand }
+    ensures failed { N.failed engine.old.nand ≤ N.failed engine.new.nand }
+    ensures rose { result ≡ Err WriteFault.Bus → HasRisen (N.failed engine.old.nand) (N.failed engine.new.nand) }
+    ensures mapping { engine.new.mapping ≡ engine.old.mapping }
+    ensures pin { (ram engine.new).pin ≡ (ram engine.old).pin }
+    ensures table { KeepsTable (ram engine.old).blocks (ram engine.new).blocks }
+    ensures cost { OnOk result (AddsPages (table_pages engine.old.geometry) (ram engine.old) (ram engine.new)) }
+    ensures out { result ≡ Err WriteFault.ReadOnly → FailsAmong (table_pages engine.old.geometry) (ram engine.old) (ram engine.new) }
+    ensures tells { Tells (ram engine.old) (ram engine.new) result }
+    ensures went { N.honest engine.old.nand ≡ true → result ≢ Err WriteFault.Bus →
+        Went (ram engine.old) (N.flash engine.old.nand) (ram engine.new) (N.flash engine.new.nand) }
+    ensures truth { N.honest engine.old.nand ≡ true → IsTrue None (ram engine.old) (image_in N.flash engine.old) →
+        MatchResult result
+        (λ _. KeepsTables (table_pages engine.old.geometry) (ram engine.old) (image_in N.flash engine.old) (ram engine.new) (image_in N.flash engine.new))
+        (λ fault. CallRefused engine.old.geometry (image_in N.flash engine.old) (ram engine.new) (image_in N.flash engine.new) (CallFault.Engine fault)) }
+{
+    'pages: for u in 0..engine.geometry.table_pages() {
+        engine.write_table(u)?;
+    }
+    Ok(())
+}
+
+// Writes the table pages, and all of them again as long as a block has failed while they were written.
+fn write_tables<N: Nand>(engine: &mut Engine<N>) -> Result<(), WriteFault>
+    requires safe { IsSafe N.flash engine.old }
+    requires going { engine.old.fault ≡ None }
+    ensures safe { IsSafe N.flash engine.new }
+    ensures fault { engine.new.fault ≡ fault_after None result }
+    ensures geometry { engine.new.geometry ≡ engine.old.geometry }
+    ensures honest { N.honest engine.new.nand ≡ N.honest engine.old.nand }
+    ensures failed { N.failed engine.old.nand ≤ N.failed engine.new.nand }
+    ensures rose { result ≡ Err WriteFault.Bus → HasRisen (N.failed engine.old.nand) (N.failed engine.new.nand) }
+    ensures mapping { engine.new.mapping ≡ engine.old.mapping }
+    ensures pin { (ram engine.new).pin ≡ (ram engine.old).pin }
+    ensures cost { OnOk result (WritesTables (ram engine.old) (ram engine.new)) }
+    ensures out { result ≡ Err WriteFault.ReadOnly → RunsOut (ram engine.old) (ram engine.new) }
+    ensures tells { Tells (ram engine.old) (ram engine.new) result }
+    ensures went { N.honest engine.old.nand ≡ true → result ≢ Err WriteFault.Bus →
+        Went (ram engine.old) (N.flash engine.old.nand) (ram engine.new) (N.flash engine.new.nand) }
+    ensures truth { N.honest engine.old.nand ≡ true → IsTrue None (ram engine.old) (image_in N.flash engine.old) →
+        MatchResult result
+        (λ _. SpellsAll engine.old.geometry (image_in N.flash engine.old) (ram engine.new) (image_in N.flash engine.new))
+        (λ fault. CallRefused engine.old.geometry (image_in N.flash engine.old) (ram engine.new) (image_in N.flash engine.new) (CallFault.Engine fault)) }
+{
+    let mut good = engine.blocks.good();
+    write_tables_once(engine)?;
+    'rounds: while engine.blocks.good() < good {
+        good = engine.blocks.good();
+        write_tables_once(engine)?;
+    }
+    Ok(())
+}
+
+// Writes back what waits, and then the table.
+pub(crate) fn flush_ready<N: Nand>(engine: &mut Engine<N>) -> Result<(), CallFault>
+    requires safe { IsSafe N.flash engine.old }
+    requires going { engine.old.fault ≡ None }
+    requires idle { IsIdle (ram engine.old) }
+    ensures safe { IsSafe N.flash engine.new }
+    ensures fault { engine.new.fault ≡ standing_after result }
+    ensures geometry { engine.new.geometry ≡ engine.old.geometry }
+    ensures honest { N.honest engine.new.nand ≡ N.honest engine.old.nand }
+    ensures failed { N.failed engine.old.nand ≤ N.failed engine.new.nand }
+    ensures rose { result ≡ Err (CallFault.Engine WriteFault.Bus) → HasRisen (N.failed engine.old.nand) (N.failed engine.new.nand) }
+    ensures memory { result ≢ Err CallFault.OutOfMemory }
+    ensures keys { keys_of engine.new.mapping.cached ≡ keys_of engine.old.mapping.cached }
+    ensures limits { HasLimitsOf engine.old.mapping engine.new.mapping }
+    ensures idle { engine.new.fault ≡ None → IsIdle (ram engine.new) }
+    ensures clean { OnOk result ((t : ℕ) → t < translation_pages engine.old.geometry → IsClean engine.old.geometry t engine.new.mapping) }
+    ensures tells { CallTells (ram engine.old) (ram engine.new) result }
+    ensures went { N.honest engine.old.nand ≡ true → result ≢ Err (CallFault.Engine WriteFault.Bus) →
+        Went (ram engine.old) (N.flash engine.old.nand) (ram engine.new) (N.flash engine.new.nand) }
+    ensures truth { N.honest engine.old.nand ≡ true → IsTrue None (ram engine.old) (image_in N.flash engine.old) →
+        MatchResult result
+        (λ _. KeepsArray engine.old.geometry (image_in N.flash engine.old) (ram engine.new) (image_in N.flash engine.new))
+        (CallRefused engine.old.geometry (image_in N.flash engine.old) (ram engine.new) (image_in N.flash engine.new)) }
+    ensures flushed { N.honest engine.old.nand ≡ true → IsTrue None (ram engine.old) (image_in N.flash engine.old) →
+        OnOk result (IsFlushed (ram engine.new) (image_in N.flash engine.new)) }
+{
+    flush_translations(engine)?;
+    make_room(engine, true)?;
+    write_tables(engine)?;
+    Ok(())
+}
+
+impl<N: Nand> Device<N> {
+    // Whether a flush may begin.
+    pub(crate) fn may_flush(&self) -> Result<(), DeviceFault>
+        requires device { IsDevice N.flash self.now }
+        ensures may { OnOk result (MayFlush (ram self.now.engine) self.now.read_only) }
+        ensures may_not { IfErr result (MayNotFlush (ram self.now.engine) self.now.read_only) }
+    {
+        self.going()?;
+        if self.read_only {
+            return Err(self.short_of(self.engine.blocks.good()));
+        }
+        if self.engine.next == u64::MAX {
+            return Err(DeviceFault::SequenceSpent);
+        }
+        Ok(())
+    }
+
+    /// Writes to the die what is known in memory alone: each translation page that lacks a row, and
+    /// then the table of blocks. Done, the die may be mounted at every capacity, no entry is stale,
+    /// and it shows the bad blocks and the erase counts that are known.
+    ///
+    /// The table pages are written again, all of them, as long as a program fails meanwhile. The
+    /// sectors that are cached stay, and their order.
+    ///
+    /// # Errors
+    ///
+    /// As the call begins, the first of these that holds; nothing has changed then:
+    ///
+    /// - `Damaged`, `BusFault` where it was answered before. The die isn't asked.
+    /// - `ReadOnly` where the device is read-only.
+    /// - `SequenceSpent` where the next sequence is 2^64 - 1.
+    ///
+    /// Then each as it comes, with what `write` says of it: `ReadOnly`, `SequenceSpent`, `Damaged`,
+    /// `BusFault`. After the first two the array is as it was. `OutOfRange` and `OutOfMemory` never
+    /// come.
+    ///
+    /// Source: this project.
+    pub fn flush(&mut self) -> Result<(), DeviceFault>
+        requires device { IsDevice N.flash self.old }
+        ensures device { IsDevice N.flash self.new }
+        ensures geometry { self.new.engine.geometry ≡ self.old.engine.geometry }
+        ensures limits { HasLimitsOf self.old.engine.mapping self.new.engine.mapping }
+        ensures honest { N.honest self.new.engine.nand ≡ N.honest self.old.engine.nand }
+        ensures failed { N.failed self.old.engine.nand ≤ N.failed self.new.engine.nand }
+
+        // When it is refused, whatever the die does.
+        ensures stopped { ForSome (stop_of self.old.engine.fault) (λ fault. (result ≡ Err fault) × (self.new ≡ self.old)) }
+        ensures closed { self.old.read_only ≡ true → self.new ≡ self.old }
+        ensures read_only { stop_of self.old.engine.fault ≡ None → self.old.read_only ≡ true →
+            result ≡ Err (DeviceFault.ReadOnly (good_count (ram self.old.engine).blocks.table) (need self.old.engine.geometry) 0) }
+        ensures spent { stop_of self.old.engine.fault ≡ None → self.old.read_only ≡ false →
+            self.old.engine.next ≡ 2 ^ 64 - 1 → (result ≡ Err DeviceFault.SequenceSpent) × (self.new ≡ self.old) }
+        ensures within { result ≢ Err DeviceFault.OutOfRange }
+        ensures memory { result ≢ Err DeviceFault.OutOfMemory }
+        ensures says { IfErr result (Says (ram self.old.engine) (ram self.new.engine)) }
+        ensures rose { stop_of self.old.engine.fault ≡ None → result ≡ Err DeviceFault.BusFault →
+            HasRisen (N.failed self.old.engine.nand) (N.failed self.new.engine.nand) }
+        ensures standing { ForSome (stop_of self.new.engine.fault) (λ fault. result ≡ Err fault) }
+        ensures keys { keys_of self.new.engine.mapping.cached ≡ keys_of self.old.engine.mapping.cached }
+
+        // What is true of an honest die.
+        ensures went { N.honest self.old.engine.nand ≡ true → result ≢ Err DeviceFault.BusFault →
+            Went (ram self.old.engine) (N.flash self.old.engine.nand) (ram self.new.engine) (N.flash self.new.engine.nand) }
+        ensures step { N.honest self.old.engine.nand ≡ true → IsWell N.flash self.old → result ≢ Err DeviceFault.BusFault →
+            ArrayStep self.old.engine.geometry (state_in N.flash self.old) Flush (reply_of result) (state_in N.flash self.new) }
+        ensures well { N.honest self.old.engine.nand ≡ true → IsWell N.flash self.old → result ≢ Err DeviceFault.BusFault →
+            IsWell N.flash self.new }
+        ensures shown { N.honest self.old.engine.nand ≡ true → IsWell N.flash self.old → result ≢ Err DeviceFault.BusFault →
+            (w : Went (ram self.old.engine) (N.flash self.old.engine.nand) (ram self.new.engine) (N.flash self.new.engine.nand)) →
+            IfErr result (IsShown self.old.engine.geometry (is_bad_by (ram self.old.engine)) self.old.engine.next w.log w.log (image_in N.flash self.new.engine)) }
+        ensures mountable { N.honest self.old.engine.nand ≡ true → IsWell N.flash self.old → result ≢ Err DeviceFault.BusFault →
+            self.old.engine.mapping.capacity + self.old.engine.geometry.pages ≤ 65536 →
+            IsMountable self.old.engine.geometry (self.old.engine.mapping.capacity + self.old.engine.geometry.pages) (image_in N.flash self.new.engine) }
+        // What the image is worth once it is done.
+        ensures anywhere { N.honest self.old.engine.nand ≡ true → IsWell N.flash self.old → OnOk result
+            ((capacity : ℕ) → 1 ≤ capacity → capacity ≤ 65536 → IsMountable self.old.engine.geometry capacity (image_in N.flash self.new.engine)) }
+        ensures fresh { N.honest self.old.engine.nand ≡ true → IsWell N.flash self.old → OnOk result
+            (stale_sectors self.old.engine.geometry (image_in N.flash self.new.engine) ≡ []) }
+        ensures bad { N.honest self.old.engine.nand ≡ true → IsWell N.flash self.old → OnOk result
+            ((w : Went (ram self.old.engine) (N.flash self.old.engine.nand) (ram self.new.engine) (N.flash self.new.engine.nand)) (b : ℕ) →
+            b < self.old.engine.geometry.blocks →
+            ShowsBad self.old.engine.geometry (image_in N.flash self.new.engine) b ↔
+            (bad_of self.old.engine.geometry.pages (is_bad_by (ram self.old.engine)) w.log b ≡ true)) }
+        ensures wear { N.honest self.old.engine.nand ≡ true → IsWell N.flash self.old → OnOk result
+            ((b : ℕ) → b < self.old.engine.geometry.blocks →
+            erase_count self.old.engine.geometry (image_in N.flash self.new.engine) b ≡ wear_at (ram self.new.engine).blocks.table b) }
+    {
+        self.may_flush()?;
+        let good = self.engine.blocks.good();
+        let answer = flush_ready(&mut self.engine);
+        self.finish(good, answer)
+    }
+}

@@ -1,0 +1,33 @@
+use Rattle.std.proofs.Common.{arith, ◌∙◌, ap, sym, slice_get}
+use Rattle.page_layout.specs.Page.{page}
+use Rattle.page_layout.specs.Flash.{Flash}
+use Rattle.page_layout.proofs.GeometryLemmas.{some_rows}
+use Rattle.image_check.proofs.PassLemmas.{whole_of, same_pass}
+use Rattle.image_check.proofs.checker.show_pages.Goals as goal
+
+pub returns-clause-whole : goal.returns-clause-whole
+returns-clause-whole g c honest =
+    c.loop-row.invariant.whole (omega (arith, some_rows c.args.geometry.now, c.rows-row-end.ensures, c.loop-row-test.false)) honest
+
+pub loop-row-preserved : goal.loop-row-preserved
+loop-row-preserved g c =
+    let inv = c.loop-row.invariant in
+    let read = c.in_ok-read_page.ensures in
+    let passed = c.page.ensures in
+    record {
+      geometry_is = read.geometry ∙ inv.geometry_is;
+      geometry_was = inv.geometry_was;
+      pass_is = passed.pass;
+      pass_same = same_pass _ _ _ inv.pass_same passed.same;
+      pass_geometry = passed.same.geometry ∙ inv.pass_geometry;
+      body_whole = omega arith;
+      spare_whole = omega arith;
+      as_honest = read.honest ∙ inv.as_honest;
+      same = λ honest. read.same (inv.as_honest ∙ honest) ∙ inv.same honest;
+      whole = λ below honest. whole_of c.args.geometry.now (g.S.PageSource.flash c.read_page.new.self) (read.geometry ∙ inv.geometry_is) (read.whole (inv.as_honest ∙ honest));
+      reads = omega arith;
+      programs_same = read.programs ∙ inv.programs_same;
+      erases_same = read.erases ∙ inv.erases_same;
+      kept = omega arith;
+      seen = λ honest start. passed.shows (g.S.PageSource.flash c.args.source.now).image (inv.seen honest start) (ap (λ (f : Flash). slice_get f.image c.loop-row.row) (sym (inv.same honest)) ∙ read.page (inv.as_honest ∙ honest));
+    }

@@ -1,0 +1,15 @@
+use Rattle.std.proofs.Common.{◌≡◌, length}
+use Rattle.image_check.specs.Passed.{IsPass, IsSamePass}
+use Rattle.image_check.specs.Streamed.{IsReadTo}
+use Rattle.image_check.proofs.stream.stream_pages.Given as goal
+
+abbrev pub invariant-loop-row : goal.invariant-loop-row
+invariant-loop-row g l =
+    record {
+      pass_is : IsPass l.row l.pass;
+      pass_same : IsSamePass l.fn.pass l.pass;
+      pass_geometry : l.pass.survey.geometry ≡ l.geometry;
+      body_whole : length l.body ≡ l.geometry.data_bytes;
+      spare_whole : length l.spare ≡ l.geometry.spare_bytes;
+      read : IsReadTo l.geometry l.row (g.R.Read.remaining l.fn.reader) (g.R.Read.remaining l.reader) l.pass;
+    }

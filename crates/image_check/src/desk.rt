@@ -1,0 +1,42 @@
+//! What the parts are judged on.
+ghost use Rattle.std.specs.Prelude.{◌≡◌, All, length, IfOk};
+ghost use Rattle.image_check.specs.Room.{IsDesk};
+
+use bad_blocks::{Class, Table, TableRow};
+use certificate::BlockState;
+use page_layout::geometry::Geometry;
+use std::alloc::{AllocError, Global};
+
+/// A table of as many blocks as the geometry has, for the newest table pages to be read into.
+fn blank_table(alloc: Global, blocks: u32) -> Result<Table, AllocError>
+    ensures { IfOk result (λ table. length table ≡ blocks) }
+{
+    let row = TableRow {
+        class: Class::Good,
+        wear: 0,
+    };
+    let rows = vec![in alloc; row; blocks as usize]?;
+    Table::new(alloc, &rows)
+}
+
+/// The memory that the judges write into: what the newest table pages say, and of each block its newest pages and its state.
+#[derive(Drop)]
+pub(crate) struct Desk {
+    pub(crate) table: Table,
+    pub(crate) counts: Vec<u32>,
+    pub(crate) states: Vec<BlockState>,
+}
+
+impl Desk {
+    /// Nothing written yet.
+    pub(crate) fn new(alloc: Global, geometry: &Geometry) -> Result<Desk, AllocError>
+        ensures { IfOk result (IsDesk geometry.now) }
+    {
+        let blocks = geometry.blocks();
+        Ok(Desk {
+            table: blank_table(alloc, blocks)?,
+            counts: vec![in alloc; 0; blocks as usize]?,
+            states: Vec::with_capacity(alloc, blocks as usize)?,
+        })
+    }
+}

@@ -1,0 +1,172 @@
+//! The checker of an image that a reader gives, page by page.
+ghost use Rattle.std.specs.Prelude.{◌≡◌, ◌≢◌, ◌⊎◌, ◌≤◌, ◌+◌, ◌↔◌, ◌++◌, Err, length, OnOk, IfOk, IfErr, IfSome};
+ghost use Rattle.std.specs.Io.KnownBytes.{Consumes, IsAtEnd};
+ghost use Rattle.page_layout.specs.Geometry.{row_count, page_bytes};
+ghost use Rattle.page_layout.specs.Page.{Image};
+ghost use Rattle.page_layout.specs.Raw.{raw_image};
+ghost use Rattle.image_check.specs.Accepted.{IsAcceptance};
+ghost use Rattle.image_check.specs.Agrees.{IsAsked};
+ghost use Rattle.image_check.specs.Passed.{IsPass, IsSamePass, Shows};
+ghost use Rattle.image_check.specs.Refused.{IsJudgement};
+ghost use Rattle.image_check.specs.Streamed.{image_bytes, ReadsUpTo, HasMore, IsCut, IsReadTo, IsTaken, IsUntaken, IsStreamRefusal};
+ghost use Rattle.image_check.specs.declared.refusal.Refusal.TheVariants as refusals;
+
+use crate::accepted::Accepted;
+use crate::checker::is_asked;
+use crate::pass::Pass;
+use crate::refusal::Refusal;
+use certificate::Certificate;
+use page_layout::geometry::Geometry;
+use std::alloc::Global;
+use std::io::Read;
+
+/// Why a buffer was not filled.
+#[derive(Clone, Copy, Debug, PartialEq, Eq)]
+pub(crate) enum Cut {
+    // the reader's bytes ended
+    Ended,
+    // a read failed, or was interrupted
+    Failed,
+}
+
+impl From<Cut> for Refusal {
+    ghost use Rattle.image_check.specs.Streamed.{refusal_of};
+
+    ghost from_gives = { λ cut refusal. refusal ≡ refusal_of cut };
+
+    fn from(cut: Cut) -> Refusal {
+        match cut {
+            Cut::Ended => Refusal::WrongLength,
+            Cut::Failed => Refusal::Source,
+        }
+    }
+}
+
+// Fills the buffer from the reader, and reads no further.
+fn fill<R: Read>(reader: &mut R, buffer: &mut [u8]) -> Result<(), Cut>
+    ensures whole { OnOk result (Consumes (R.remaining reader.old) (R.remaining reader.new) buffer.new) }
+    ensures cut { IfErr result (IsCut (length buffer.new) (R.remaining reader.old) (R.remaining reader.new)) }
+{
+    let mut count = 0;
+    while count < buffer.len() {
+        match reader.read(&mut buffer[count..]) {
+            Ok(0) => return Err(Cut::Ended),
+            Ok(n) => count += n,
+            Err(_) => return Err(Cut::Failed),
+        }
+    }
+    Ok(())
+}
+
+// The next page: its data area and then its spare area.
+fn read_page<R: Read>(reader: &mut R, body: &mut [u8], spare: &mut [u8]) -> Result<(), Cut>
+    ensures whole { OnOk result (Consumes (R.remaining reader.old) (R.remaining reader.new) (body.new ++ spare.new)) }
+    ensures cut { IfErr result (IsCut (length body.new + length spare.new) (R.remaining reader.old) (R.remaining reader.new)) }
+{
+    fill(reader, body)?;
+    fill(reader, spare)
+}
+
+// Hands each page to a pass, in row order, as the reader gives them.
+fn stream_pages<R: Read>(
+    reader: &mut R,
+    geometry: &Geometry,
+    pass: &mut Pass<'_>,
+    body: &mut [u8],
+    spare: &mut [u8],
+) -> Result<(), Cut>
+    requires pass { IsPass 0 pass.old }
+    requires pass_geometry { pass.old.survey.geometry ≡ geometry.now }
+    requires shows { (image : Image) → Shows image 0 pass.old }
+    requires body_whole { length body.old ≡ geometry.now.data_bytes }
+    requires spare_whole { length spare.old ≡ geometry.now.spare_bytes }
+    ensures pass { OnOk result (IsPass (row_count geometry.now) pass.new) }
+    ensures same_pass { OnOk result (IsSamePass pass.old pass.new) }
+    ensures read { OnOk result (IsReadTo geometry.now (row_count geometry.now) (R.remaining reader.old) (R.remaining reader.new) pass.new) }
+    ensures cut { IfErr result (IsCut (image_bytes geometry.now) (R.remaining reader.old) (R.remaining reader.new)) }
+{
+    for row in 0..geometry.rows() {
+        read_page(reader, body, spare)?;
+        pass.page(row, body, spare);
+    }
+    Ok(())
+}
+
+// No byte is left. One is asked for at most.
+#[tactic(auto, using(crate::proofs::StreamLemmas::end_of_cut, crate::proofs::StreamLemmas::one_more, crate::proofs::StreamLemmas::reads_cut, crate::proofs::StreamLemmas::reads_one))]
+fn expect_end<R: Read>(reader: &mut R) -> Result<(), Refusal>
+    ensures ok { OnOk result (IsAtEnd (R.remaining reader.old)) }
+    ensures err { IfErr result (λ refusal. (refusal ≡ refusals.Source) ⊎ ((refusal ≡ refusals.WrongLength) × HasMore (R.remaining reader.old))) }
+    ensures read { ReadsUpTo 1 (R.remaining reader.old) (R.remaining reader.new) }
+{
+    let mut byte = [0];
+    match fill(reader, &mut byte) {
+        Ok(()) => Err(Refusal::WrongLength),
+        Err(Cut::Ended) => Ok(()),
+        Err(Cut::Failed) => Err(Refusal::Source),
+    }
+}
+
+// Hands all pages to a pass, and sees that no byte follows them.
+fn take_image<R: Read>(
+    reader: &mut R,
+    geometry: &Geometry,
+    pass: &mut Pass<'_>,
+    body: &mut [u8],
+    spare: &mut [u8],
+) -> Result<(), Refusal>
+    requires pass { IsPass 0 pass.old }
+    requires pass_geometry { pass.old.survey.geometry ≡ geometry.now }
+    requires shows { (image : Image) → Shows image 0 pass.old }
+    requires body_whole { length body.old ≡ geometry.now.data_bytes }
+    requires spare_whole { length spare.old ≡ geometry.now.spare_bytes }
+    ensures pass { OnOk result (IsPass (row_count geometry.now) pass.new) }
+    ensures same_pass { OnOk result (IsSamePass pass.old pass.new) }
+    ensures taken { OnOk result (IfSome (R.remaining reader.old) (IsTaken geometry.now pass.new)) }
+    ensures untaken { IfErr result (λ refusal. IfSome (R.remaining reader.old) (λ bytes. IsUntaken geometry.now bytes refusal)) }
+    ensures stops { IfErr result (λ refusal. (refusal ≡ refusals.Source) ⊎ (refusal ≡ refusals.WrongLength)) }
+    ensures read { ReadsUpTo (image_bytes geometry.now + 1) (R.remaining reader.old) (R.remaining reader.new) }
+{
+    stream_pages(reader, geometry, pass, body, spare)?;
+    expect_end(reader)
+}
+
+/// Checks a certificate against an image that a reader gives: the pages in row order, each its data area and then its spare
+/// area, with nothing after them.
+///
+/// For a reader that tells its bytes the answer is that of `check` for the image that these bytes are. `GeometryDiffers` is
+/// answered before any byte is read or memory asked for. All memory is taken before the first byte, and at most one byte
+/// past the image is read.
+///
+/// # Errors
+/// `WrongLength` where the reader's bytes ended before the last page or a byte follows it, `Source` where a read failed or was
+/// interrupted, `OutOfMemory` where a growth was refused: each when it happens. Else the refusals of `check`. (This project's
+/// rules.)
+pub fn check_stream<'a, R: Read>(
+    alloc: Global,
+    reader: &mut R,
+    geometry: &Geometry,
+    capacity: u32,
+    certificate: &'a Certificate,
+) -> Result<Accepted<'a>, Refusal>
+    // The truth of the answer, for a reader that tells its bytes.
+    ensures ok { IfOk result (λ accepted. IfSome (R.remaining reader.old) (λ bytes. IsAcceptance geometry.now capacity (raw_image geometry.now bytes) certificate.now accepted)) }
+    ensures whole { OnOk result (IfSome (R.remaining reader.old) (λ bytes. length bytes ≡ image_bytes geometry.now)) }
+    ensures err { IfErr result (λ refusal. IfSome (R.remaining reader.old) (λ bytes. IsStreamRefusal geometry.now capacity bytes certificate.now refusal)) }
+    ensures judged { IfErr result (λ refusal. IsJudgement refusal → IfSome (R.remaining reader.old) (λ bytes. length bytes ≡ image_bytes geometry.now)) }
+    ensures read { ReadsUpTo (image_bytes geometry.now + 1) (R.remaining reader.old) (R.remaining reader.new) }
+    // Whatever the reader does.
+    ensures asked { (result ≡ Err Refusal.GeometryDiffers) ↔ (¬ IsAsked geometry.now capacity certificate.now) }
+    ensures unread { result ≡ Err Refusal.GeometryDiffers → reader.new ≡ reader.old }
+    ensures memory { result ≡ Err Refusal.OutOfMemory → reader.new ≡ reader.old }
+    ensures accepted { IfOk result (λ accepted. (accepted.claim ≡ certificate.now) × IsAsked geometry.now capacity certificate.now) }
+{
+    if !is_asked(geometry, capacity, certificate) {
+        return Err(Refusal::GeometryDiffers);
+    }
+    let mut pass = Pass::new(alloc, geometry, certificate)?;
+    let mut body = vec![in alloc; 0; geometry.data_bytes()]?;
+    let mut spare = vec![in alloc; 0; geometry.spare_bytes()]?;
+    take_image(reader, geometry, &mut pass, &mut body, &mut spare)?;
+    pass.finish()
+}

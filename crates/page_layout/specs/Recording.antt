@@ -1,0 +1,52 @@
+-- Records of a die: its image as it was when the record began, and the programs and erases since. A die may tell a record, or none, which
+-- claims nothing.
+use Rattle.std.specs.Prelude.{◌≡◌, ◌⊎◌, ℕ, List, [], ◌∷◌, ◌++◌, slice_set, Option, Some, None, IfSome}
+use Rattle.page_layout.specs.Page.{Image}
+use Rattle.page_layout.specs.Flash.{Flash, Operation, Program, Erase, Leads, with_block}
+
+-- the image as it was, and the operations since in order, each with the page handed in, its outcome and what it left
+pub record Recording : Type 0 where
+  pub image : Image
+  pub log : List Operation
+
+-- the same with these operations more; none stays none
+abbrev pub noted : List Operation → Option Recording → Option Recording
+noted log None = None
+noted log (Some r) = Some (record { image = r.image; log = r.log ++ log })
+
+-- A CALL THAT DID THESE OPERATIONS: a record that is told after it was told before it, and has gained just them. It may also have ended.
+abbrev pub Records : Option Recording → List Operation → Option Recording → Type 0
+Records old log new = (new ≡ None) ⊎ (new ≡ noted log old)
+
+-- the image after an operation
+unfoldable pub image_after : ℕ → Image → Operation → Image
+image_after pages image (Program row page passed left) = slice_set image row left
+image_after pages image (Erase block passed left) = with_block pages block left image
+
+abbrev pub image_after_all : ℕ → Image → List Operation → Image
+image_after_all pages image [] = image
+image_after_all pages image (op ∷ log) = image_after_all pages (image_after pages image op) log
+
+-- a record tells of a die: its operations lead to the image as it is
+abbrev pub IsRecordOf : Flash → Option Recording → Type 0
+IsRecordOf s told = IfSome told (λ r. s.image ≡ image_after_all s.geometry.pages r.image r.log)
+
+-- ---- laws
+
+-- a record that ran on while the die was led on still tells of it
+abbrev pub RecordStaysLaw : Type 0
+RecordStaysLaw = (old new : Flash) (log : List Operation) (told told' : Option Recording) → Leads old log new → IsRecordOf old told → Records told log told' → IsRecordOf new told'
+
+-- one call after another: the record gained what both did
+abbrev pub RecordsJoinLaw : Type 0
+RecordsJoinLaw = (a b c : Option Recording) (xs ys : List Operation) → Records a xs b → Records b ys c → Records a (xs ++ ys) c
+
+-- a record that is told after a call was told before it, and began with the same image
+pub record RanOn (old : Option Recording) (log : List Operation) (r : Recording) : Type 0 where
+  pub before : Recording
+  pub was : old ≡ Some before
+  pub image_same : r.image ≡ before.image
+  pub gained : r.log ≡ before.log ++ log
+
+abbrev pub RanOnLaw : Type 0
+RanOnLaw = (old new : Option Recording) (log : List Operation) (r : Recording) → Records old log new → new ≡ Some r → RanOn old log r

@@ -1,0 +1,68 @@
+-- How the requests of a stream are read one by one, and how replies are written.
+use Rattle.std.specs.Prelude.{◌≡◌, ◌<◌, ℕ, false, List, [], ◌∷◌, ◌++◌, length, Option, Result, Ok, Err}
+use Rattle.std.specs.Int.{to_le_bytes, w32}
+use Rattle.std.specs.Io.KnownBytes.{Appends, Consumes, IsAtEnd}
+use Rattle.promises.specs.Stream.{Request, IsRequest, IsBeginning, IsRest, body_length, is_header, request_bytes}
+use Rattle.promises.specs.declared.stream.Op.{Op}
+use Rattle.promises.specs.declared.stream.Op.TheVariants.{Read, Write, Trim, Flush, Turn}
+use Rattle.promises.specs.declared.stream.End.{End}
+use Rattle.promises.specs.declared.stream.End.TheVariants.{Boundary, Unfinished, BadFrame}
+use Rattle.request_stream.specs.declared.header.Header.{Header}
+use Rattle.request_stream.specs.declared.reply.ServeFault.{ServeFault}
+use Rattle.request_stream.specs.declared.reply.ServeFault.TheVariants as fault
+use Rattle.request_stream.specs.declared.request.Next.{Next}
+use Rattle.request_stream.specs.declared.request.Next.TheVariants as next
+
+-- ---- requests
+
+-- what follows the header of a request, out of a buffer of one sector
+abbrev pub body_at : Op → List ℕ → List ℕ
+body_at Read buffer = []
+body_at Write buffer = buffer
+body_at Trim buffer = []
+body_at Flush buffer = []
+body_at Turn buffer = []
+
+-- the request of this header, with its body in the buffer
+abbrev pub request_at : Header → List ℕ → Request
+request_at h buffer = record { op = h.op; tag = h.tag; sector = h.sector; body = body_at h.op buffer }
+
+-- What was read after the last whole request, and why no more was: the reader has ended, after nothing or after a beginning of a
+-- request, or the twelve bytes are no header.
+abbrev pub Rests : ℕ → End → List ℕ → Option (List ℕ) → Type 0
+Rests size Boundary tail left = (tail ≡ []) × IsAtEnd left
+Rests size Unfinished tail left = IsRest size Unfinished tail × IsAtEnd left
+Rests size BadFrame tail left = (length tail ≡ 12) × (is_header tail ≡ false)
+
+-- THE NEXT REQUEST, or the end, was read and nothing after it; where a read failed, a beginning of it
+abbrev pub ReadsRequest : ℕ → Option (List ℕ) → Option (List ℕ) → List ℕ → Result Next ServeFault → Type 0
+ReadsRequest size unread left buffer (Ok (next.Whole h)) = IsRequest size (request_at h buffer) × Consumes unread left (request_bytes (request_at h buffer))
+ReadsRequest size unread left buffer (Ok (next.Ended end)) = (tail : List ℕ) × Rests size end tail left × Consumes unread left tail
+ReadsRequest size unread left buffer (Err e) = (e ≡ fault.Read) × (tail : List ℕ) × IsBeginning size tail × Consumes unread left tail
+
+-- the same, once the header was read
+abbrev pub ReadsBody : ℕ → Header → Option (List ℕ) → Option (List ℕ) → List ℕ → Result Next ServeFault → Type 0
+ReadsBody size header unread left buffer (Ok (next.Whole h)) = (h ≡ header) × Consumes unread left (body_at header.op buffer)
+ReadsBody size header unread left buffer (Ok (next.Ended end)) = (end ≡ Unfinished) × IsAtEnd left × (part : List ℕ) × (length part < body_length size header.op) × Consumes unread left part
+ReadsBody size header unread left buffer (Err e) = (e ≡ fault.Read) × (part : List ℕ) × (length part < body_length size header.op) × Consumes unread left part
+
+-- ---- replies
+
+-- "df", an operation's code, a status, a tag, and a sector or nothing
+abbrev pub answer_bytes : (code status tag : ℕ) → List ℕ → List ℕ
+answer_bytes code status tag sector = 100 ∷ 102 ∷ code ∷ status ∷ (to_le_bytes w32 tag ++ sector)
+
+-- how many frames the end of a stream is answered with
+abbrev pub last_count : End → ℕ
+last_count Boundary = 0
+last_count Unfinished = 0
+last_count BadFrame = 1
+
+-- a beginning of the bytes was written
+abbrev pub AppendsFront : Option (List ℕ) → Option (List ℕ) → List ℕ → Type 0
+AppendsFront old new due = (sent more : List ℕ) × (sent ++ more ≡ due) × Appends old new sent
+
+-- all of them were written, or a write failed and a beginning was
+abbrev pub Sends : {T : Type 0} → Option (List ℕ) → Option (List ℕ) → List ℕ → Result T ServeFault → Type 0
+Sends old new due (Ok x) = Appends old new due
+Sends old new due (Err e) = (e ≡ fault.Write) × AppendsFront old new due

@@ -1,0 +1,4 @@
+// The geometry of these tests has sectors of 64 bytes, 32 of them, on 32 blocks of 8 pages.
+mod bench;
+mod rows;
+mod streams;

@@ -1,0 +1,67 @@
+// A reader and a writer that take their bytes in pieces, and fail where they are told to.
+use std::alloc::Global;
+use std::io::{self, ErrorKind, Read, Write};
+
+// Gives its bytes in pieces of one length at most. Its read of this number, from 1, is interrupted, and so
+// is each later one; 0 for none.
+#[derive(Drop)]
+pub struct Pieces {
+    pub left: &'static [u8],
+    pub piece: usize,
+    pub failing: usize,
+    pub reads: usize,
+}
+
+impl Read for Pieces {
+    fn read(&mut self, buf: &mut [u8]) -> io::Result<usize> {
+        self.reads = self.reads.saturating_add(1);
+        if self.failing != 0 && self.reads >= self.failing {
+            return Err(io::Error::from(ErrorKind::Interrupted));
+        }
+        let n = buf.len().min(self.piece).min(self.left.len());
+        let (now, later) = self.left.split_at(n);
+        buf[..n].copy_from_slice(now);
+        self.left = later;
+        Ok(n)
+    }
+}
+
+// Takes its bytes in pieces of one length at most. Its write of this number, from 1, is interrupted, and so
+// is each later one; 0 for none. It notes how many bytes it had as it was last told to hand them on.
+#[derive(Drop)]
+pub struct Narrow {
+    pub bytes: Vec<u8>,
+    pub piece: usize,
+    pub failing: usize,
+    pub writes: usize,
+    pub flushed: usize,
+}
+
+impl Narrow {
+    pub fn new(alloc: Global, piece: usize, failing: usize) -> Narrow {
+        Narrow {
+            bytes: Vec::new(alloc),
+            piece,
+            failing,
+            writes: 0,
+            flushed: 0,
+        }
+    }
+}
+
+impl Write for Narrow {
+    fn write(&mut self, buf: &[u8]) -> io::Result<usize> {
+        self.writes = self.writes.saturating_add(1);
+        if self.failing != 0 && self.writes >= self.failing {
+            return Err(io::Error::from(ErrorKind::Interrupted));
+        }
+        let n = buf.len().min(self.piece);
+        self.bytes.extend_from_slice(&buf[..n])?;
+        Ok(n)
+    }
+
+    fn flush(&mut self) -> io::Result<()> {
+        self.flushed = self.bytes.len();
+        Ok(())
+    }
+}
