@@ -21,14 +21,15 @@ for name in "${names[@]}"; do
 done
 
 cd "$room"
-rm -f wrong
+: > wrong
 for name in "${names[@]}"; do
     echo "== $name"
-    rt must-fail "$name" > said 2>&1 || echo "$name" >> wrong
+    if ! rt must-fail "$name" > said 2>&1; then
+        grep -E 'NOT REFUSED|BAD EDIT' said >> wrong || echo "$name: no edit was tried" >> wrong
+    fi
     cat said
-    grep -E 'NOT REFUSED|BAD EDIT' said >> wrong || true
 done
-if [ -e wrong ]; then
+if [ -s wrong ]; then
     echo "== not refused"
     cat wrong
     exit 1
