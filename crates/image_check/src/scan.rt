@@ -54,12 +54,7 @@ fn holds_sector(found: &Record, sector: u32) -> bool
 
 // What a sector reads as whose newest page this is: its data area, or `None` for zeros. A page that is not of the sector
 // is not lent, since a source may put out another page than it did before.
-fn content<'a>(
-    geometry: &Geometry,
-    sector: u32,
-    body: &'a [u8],
-    spare: &[u8],
-) -> Option<&'a [u8]>
+fn content<'a>(geometry: &Geometry, sector: u32, body: &'a [u8], spare: &[u8]) -> Option<&'a [u8]>
     requires body_whole { length body.now ≡ geometry.now.data_bytes }
     requires spare_whole { length spare.now ≡ geometry.now.spare_bytes }
     ensures is { IsSome (sequence_of (key.Sector sector) (record_of (page body.now spare.now))) →

@@ -30,7 +30,12 @@ impl PageSource for Fickle<'_> {
 
     ghost failed = { λ _. 0 };
 
-    fn read_page(&mut self, row: u32, body: &mut [u8], spare: &mut [u8]) -> Result<(), SourceFault> {
+    fn read_page(
+        &mut self,
+        row: u32,
+        body: &mut [u8],
+        spare: &mut [u8],
+    ) -> Result<(), SourceFault> {
         self.first.read_page(row, body, spare)?;
         if self.left > 0 {
             self.left -= 1;

@@ -487,7 +487,11 @@ fn push_row(
 }
 
 // The image of a die that is erased but for these pages.
-pub(super) fn image_of(alloc: Global, geometry: &Geometry, pages: &[Page]) -> Result<Vec<u8>, AllocError> {
+pub(super) fn image_of(
+    alloc: Global,
+    geometry: &Geometry,
+    pages: &[Page],
+) -> Result<Vec<u8>, AllocError> {
     let mut bytes = Vec::new(alloc);
     for row in 0..256 {
         push_row(&mut bytes, geometry, pages, row)?;
@@ -566,7 +570,11 @@ pub(super) fn certificate_of(alloc: Global, claim: &Claim) -> Result<Certificate
 
 fn hold_answer(rt: &impl Abort, case: &Case, form: &str, answer: Result<Accepted, Refusal>) {
     match answer {
-        Ok(accepted) => assert!(rt; case.answer == Ok(accepted.stale()), "{}, {form}", case.name),
+        Ok(accepted) => assert!(rt;
+            case.answer == Ok(accepted.stale()),
+            "{}, {form}",
+            case.name
+        ),
         Err(refusal) => assert!(rt; case.answer == Err(refusal), "{}, {form}", case.name),
     }
 }
@@ -580,7 +588,12 @@ fn hold_source(
 ) -> Result<(), Fail> {
     let geometry = Geometry::new(64, 32, 8, 32, 32)?;
     let mut source = ImageSlice::new(&geometry, bytes)?;
-    hold_answer(rt, case, "page by page", check(alloc, &mut source, &geometry, case.asked, certificate));
+    hold_answer(
+        rt,
+        case,
+        "page by page",
+        check(alloc, &mut source, &geometry, case.asked, certificate),
+    );
     Ok(())
 }
 
@@ -594,7 +607,12 @@ fn hold_reader(
 ) -> Result<(), Fail> {
     let geometry = Geometry::new(64, 32, 8, 32, 32)?;
     let mut reader = bytes;
-    hold_answer(rt, case, "streamed", check_stream(alloc, &mut reader, &geometry, case.asked, certificate));
+    hold_answer(
+        rt,
+        case,
+        "streamed",
+        check_stream(alloc, &mut reader, &geometry, case.asked, certificate),
+    );
     Ok(())
 }
 

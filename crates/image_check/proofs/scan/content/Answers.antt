@@ -1,4 +1,4 @@
-use Rattle.std.proofs.Common.{◌≡◌, Some, sym, ap, ◌∙◌, refl}
+use Rattle.std.proofs.Common.{◌≡◌, Some, sym, ap, ◌∙◌}
 use Rattle.page_layout.specs.Page.{page}
 use Rattle.page_layout.specs.declared.record.Record.{Record}
 use Rattle.image_check.proofs.SectorLemmas.{held, not_held}
@@ -12,9 +12,9 @@ pub returns-else-holds_sector-clause-is : goal.returns-else-holds_sector-clause-
 returns-else-holds_sector-clause-is c = λ of_sector.
     not_held c.args.geometry.now c.args.sector (page c.args.body.now c.args.spare.now) (Some c.in-Some.found) (sym c.in-Some.is ∙ c.read_record.ensures)
     (λ r e kind number.
-      let same : c.in-Some.found ≡ r = cc in
-      let yes = c.holds_sector.ensures.1 (ap (λ (x : Record). x.kind) same ∙ kind, ap (λ (x : Record). x.number) same ∙ number) in
-      let no = c.if-holds_sector.false in cc)
+    let same : c.in-Some.found ≡ r = cc in
+    let yes = c.holds_sector.ensures.1 (ap (λ (x : Record). x.kind) same ∙ kind, ap (λ (x : Record). x.number) same ∙ number) in
+    let no = c.if-holds_sector.false in cc)
     of_sector
 
 pub returns-in_default-clause-is : goal.returns-in_default-clause-is
