@@ -2,10 +2,16 @@
 //! law is proved with the crate, and a caller of the function has it at hand.
 
 ghost use Rattle.page_layout.specs.Count.{SmallBlockLaw};
-ghost use Rattle.page_layout.specs.Laws.{WorthLaw, SectorEntryLaw, BlockEntryLaw, TableFitsLaw, SoundLaw, ErasedLaw, ErasedUnsoundLaw, NewestLaw, ScanLaw, HasNewestLaw, SectorLaw, ArrayLaw, KeysLaw, NoOtherKeyLaw, LiveSumLaw, RawBytesLaw, RawImageLaw, RawAgainLaw, GapLaw, PointerLaw, TopWearLaw, RowAgainLaw, WordAgainLaw};
-ghost use Rattle.page_layout.specs.ChangeLaws.{ProgramLaw, FailureLaw, EraseLaw, NoneLiveLaw, KeepsNothingLaw, KeepsTwiceLaw, KeepsThenWritesLaw, WritesThenKeepsLaw, ArrayKeptLaw, ArrayWrittenLaw, ArrayUnwrittenLaw};
-ghost use Rattle.page_layout.specs.StepLaws.{PassedStepLaw, FailedStepLaw, OutcomeStepLaw, FailsStepLaw, OtherRowsLaw, NextSequenceLaw, EraseStepLaw, LosesStepLaw, ClearedStepLaw, EraseBelowLaw, ErasedRowLaw, ErasedBlockLaw, LogsLaw, GeometryStaysLaw, WholeStaysLaw};
-ghost use Rattle.page_layout.specs.StepLaws.{ProgramTurnLaw, ProgramCountLaw, FairProgramLaw, EraseTurnLaw, EraseCountLaw, FairEraseLaw, RefusedProgramLaw, RefusedEraseLaw};
+ghost use Rattle.page_layout.specs.Laws.{WorthLaw, SectorEntryLaw, BlockEntryLaw, TableFitsLaw, SoundLaw, ErasedLaw, ErasedUnsoundLaw, NewestLaw};
+ghost use Rattle.page_layout.specs.Laws.{ScanLaw, HasNewestLaw, SectorLaw, ArrayLaw, KeysLaw, NoOtherKeyLaw, LiveSumLaw, RawBytesLaw, RawImageLaw};
+ghost use Rattle.page_layout.specs.Laws.{RawAgainLaw, GapLaw, PointerLaw, TopWearLaw, RowAgainLaw, WordAgainLaw};
+ghost use Rattle.page_layout.specs.ChangeLaws.{ProgramLaw, FailureLaw, EraseLaw, NoneLiveLaw, KeepsNothingLaw, KeepsTwiceLaw, KeepsThenWritesLaw};
+ghost use Rattle.page_layout.specs.ChangeLaws.{WritesThenKeepsLaw, ArrayKeptLaw, ArrayWrittenLaw, ArrayUnwrittenLaw};
+ghost use Rattle.page_layout.specs.StepLaws.{PassedStepLaw, FailedStepLaw, OutcomeStepLaw, FailsStepLaw, OtherRowsLaw, NextSequenceLaw, EraseStepLaw};
+ghost use Rattle.page_layout.specs.StepLaws.{LosesStepLaw, ClearedStepLaw, EraseBelowLaw, ErasedRowLaw, ErasedBlockLaw, LogsLaw, GeometryStaysLaw};
+ghost use Rattle.page_layout.specs.StepLaws.{WholeStaysLaw};
+ghost use Rattle.page_layout.specs.StepLaws.{ProgramTurnLaw, ProgramCountLaw, FairProgramLaw, EraseTurnLaw, EraseCountLaw, FairEraseLaw};
+ghost use Rattle.page_layout.specs.StepLaws.{RefusedProgramLaw, RefusedEraseLaw};
 ghost use Rattle.page_layout.specs.Recording.{RecordStaysLaw, RecordsJoinLaw, RanOnLaw};
 
 /// What the derived numbers of a geometry are for.

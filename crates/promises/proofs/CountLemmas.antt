@@ -1,10 +1,11 @@
 -- What the counts of a log are: sums over blocks, blocks with a failure, good and free blocks.
-use Rattle.std.proofs.Common.{◌≡◌, ◌<◌, inl, inr, ◌+◌, ◌-◌, ◌*◌, ◌/◌, ◌%◌, ◌==◌, ℕ, Bool, true, false, not, ◌&&◌, List, [], ◌∷◌, ◌++◌, length, take, drop, get_or, refl, sym, ◌∙◌, ap, subst, arith, length-take, length-drop}
+use Rattle.std.proofs.Common.{◌≡◌, ◌<◌, inl, inr, ◌+◌, ◌-◌, ◌*◌, ◌/◌, ◌%◌, ◌==◌, ℕ, Bool, true, false, not, ◌&&◌, List, [], ◌∷◌, ◌++◌, length, take}
+use Rattle.std.proofs.Common.{zero, suc, drop, get_or, refl, sym, ◌∙◌, ap, subst, arith, length-take, length-drop}
 use Rattle.std.specs.Prelude.{slice_get, Some, sum_by, count_by}
 use Rattle.std.specs.List.{list_all, range_with_len}
 use Rattle.std.proofs.lemmas.List.{get_or-take, get_or-drop, get_or_default}
 use Rattle.std.proofs.lemmas.List.FromFn.{length-range_with_len}
-use Rattle.std.proofs.lemmas.List.Sums.{AllPass-from_list_all, list_all-from_AllPass}
+use Rattle.std.proofs.lemmas.List.Sums.{sum_by-cons, AllPass-from_list_all, list_all-from_AllPass}
 use Rattle.std.proofs.lemmas.Option.{slice_get-get_or, slice_get_within, get_or_from_slice_get}
 use Rattle.std.proofs.lemmas.Nat.{div-mul-add, div_below}
 use Rattle.std.proofs.lemmas.Bool.{and_parts, and_from, or_cases, or_left, or_right, not-true, not_from_false, eq-eqb, eqb-true}
@@ -13,11 +14,13 @@ use Rattle.page_layout.specs.Page.{Page, Image}
 use Rattle.page_layout.specs.Sound.{is_erased_page}
 use Rattle.page_layout.specs.Block.{block_pages}
 use Rattle.page_layout.specs.Change.{one_if}
-use Rattle.page_layout.specs.Flash.{Flash, Operation, Program, Erase, IsLawful, IsWhole, Leads, no_page}
+use Rattle.page_layout.specs.Flash.{Flash, Operation, Program, Erase, IsLawful, IsWhole, Leads, turn_at, no_page}
 use Rattle.page_layout.proofs.CountLemmas.{bit, count_by-cons, sum_by-add, sum_by-same, sum_by_zero, count_in_range_is}
 use Rattle.page_layout.proofs.FlashLemmas.{geometry-Steps}
 use Rattle.page_layout.proofs.RecordingLemmas.{whole_steps}
-use Rattle.promises.specs.Log.{block_of, has_passed, programs_of, erases_of, failed_in, bad_of, good_of, AreErased, CountsEach, HasFailed, SumsLaw, FailedLaw, GoodLaw, FreeLaw}
+use Rattle.promises.specs.Log.{block_of, has_passed, programs_of, erases_of, failed_in, bad_of, good_of, AreErased, CountsEach, HasFailed, SumsLaw}
+use Rattle.promises.specs.Log.{SinceLaw, FailedLaw, GoodLaw, FreeLaw}
+use Rattle.promises.proofs.LogLemmas.{complete}
 use Rattle.promises.proofs.LegalLemmas.{in_block}
 
 -- ---- sums over blocks
@@ -62,6 +65,29 @@ sums_at g old new (Erase block passed left ∷ log) same w leads =
 
 pub sums : SumsLaw
 sums old new log w leads = sums_at old.geometry old new log refl w leads
+
+-- functions that agree on a range have one sum there
+sum_in_range : (f g : ℕ → ℕ) (a n : ℕ) → ((k : ℕ) → k < a + n → f k ≡ g k) → sum_by f (range_with_len a n) ≡ sum_by g (range_with_len a n)
+sum_in_range f g a zero same = refl
+sum_in_range f g a (suc n) same =
+    let rest : sum_by f (range_with_len (a + 1) n) ≡ sum_by g (range_with_len (a + 1) n) = sum_in_range f g (a + 1) n (λ k lt. same k (omega (arith, lt))) in
+    omega (arith, rest, same a (omega arith), sum_by-cons f a (range_with_len (a + 1) n), sum_by-cons g a (range_with_len (a + 1) n))
+
+pub since : SinceLaw
+since old new log w leads =
+    let n : ℕ = old.geometry.blocks in
+    let each = sums old new log w leads in
+    let all = λ (block : ℕ) (lt : block < n). complete old new log block (subst (λ m. block < m) (sym w.turns_whole) lt) leads in
+    record {
+      programs = λ fits.
+          sum_in_range (λ b. (turn_at new b).programs) (λ b. (turn_at old b).programs + programs_of old.geometry.pages log b) 0 n (λ b lt. (all b (omega (arith, lt))).programs (fits b))
+          ∙ (sum_by-add (λ b. (turn_at old b).programs) (λ b. programs_of old.geometry.pages log b) (range_with_len 0 n)
+          ∙ ap (λ m. sum_by (λ b. (turn_at old b).programs) (range_with_len 0 n) + m) (sym each.programs));
+      erases = λ fits.
+          sum_in_range (λ b. (turn_at new b).erases) (λ b. (turn_at old b).erases + erases_of log b) 0 n (λ b lt. (all b (omega (arith, lt))).erases (fits b))
+          ∙ (sum_by-add (λ b. (turn_at old b).erases) (λ b. erases_of log b) (range_with_len 0 n)
+          ∙ ap (λ m. sum_by (λ b. (turn_at old b).erases) (range_with_len 0 n) + m) (sym each.erases));
+    }
 
 -- ---- blocks with a failure
 

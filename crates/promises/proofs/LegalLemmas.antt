@@ -1,5 +1,6 @@
 -- Legal logs.
-use Rattle.std.proofs.Common.{◌≡◌, ◌<◌, ◌≤◌, ◌⊎◌, inl, inr, ◌+◌, ◌-◌, ◌*◌, ◌/◌, ◌%◌, ◌==◌, ℕ, Bool, true, false, not, ◌&&◌, List, [], ◌∷◌, ◌++◌, refl, sym, ◌∙◌, ap, subst, arith, get_or, length, take, drop, zero, suc, length-drop, length-take, if◌then◌else◌}
+use Rattle.std.proofs.Common.{◌≡◌, ◌<◌, ◌≤◌, ◌⊎◌, inl, inr, ◌+◌, ◌-◌, ◌*◌, ◌/◌, ◌%◌, ◌==◌, ℕ, Bool, true, false, not, ◌&&◌, List, [], ◌∷◌, ◌++◌, refl}
+use Rattle.std.proofs.Common.{sym, ◌∙◌, ap, subst, arith, get_or, length, take, drop, zero, suc, length-drop, length-take, if◌then◌else◌}
 use Rattle.std.specs.Prelude.{slice_get, Some}
 use Rattle.std.specs.List.{list_any}
 use Rattle.std.proofs.lemmas.List.{get_or_past, get_or-take, get_or-drop}
@@ -15,7 +16,8 @@ use Rattle.page_layout.specs.Change.{one_if}
 use Rattle.page_layout.specs.Flash.{Operation, Program, Erase, no_page}
 use Rattle.page_layout.proofs.BlockLemmas.{none_programmed}
 use Rattle.promises.specs.Log.{block_of, has_passed, erases_of, failed_in}
-use Rattle.promises.specs.Legal.{Account, no_account, account_at, accounts_of, noted, accounted, accounted_all, IsDue, LegalFrom, EmptyLaw, JoinLaw, AccountsLaw, OneMoreLaw, NoBadBlockLaw, NotTwiceLaw, OnErasedLaw, InOrderLaw}
+use Rattle.promises.specs.Legal.{Account, no_account, account_at, accounts_of, noted, accounted, accounted_all, IsDue, LegalFrom, EmptyLaw, JoinLaw}
+use Rattle.promises.specs.Legal.{AccountsLaw, OneMoreLaw, NoBadBlockLaw, NotTwiceLaw, OnErasedLaw, InOrderLaw}
 use Rattle.promises.proofs.AccountLemmas.{account_of, length-accounts_of, due_good, accounted-same, accounted-other, noted-barred}
 
 -- ---- lists of operations in a row

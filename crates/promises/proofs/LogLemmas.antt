@@ -1,5 +1,6 @@
 -- Logs: what they count, which blocks they leave good, and where they lead.
-use Rattle.std.proofs.Common.{◌≡◌, ◌<◌, inl, inr, ◌+◌, ◌/◌, ◌^◌, ◌==◌, ℕ, Bool, true, false, not, ◌&&◌, ◌||◌, List, [], ◌∷◌, ◌++◌, refl, sym, ◌∙◌, ap, subst, arith, get_or, length, if◌then◌else◌}
+use Rattle.std.proofs.Common.{◌≡◌, ◌<◌, inl, inr, ◌+◌, ◌/◌, ◌^◌, ◌==◌, ℕ, Bool, true, false, not, ◌&&◌, ◌||◌, List, [], ◌∷◌, ◌++◌, refl, sym, ◌∙◌, ap}
+use Rattle.std.proofs.Common.{subst, arith, get_or, length, if◌then◌else◌}
 use Rattle.std.specs.Prelude.{slice_set}
 use Rattle.std.proofs.Math.Bool.{or_assoc}
 use Rattle.std.proofs.lemmas.List.{get_or-set_same, get_or-set_other, length-set}
@@ -7,8 +8,10 @@ use Rattle.std.proofs.lemmas.Bool.Decides.{eqb_tells}
 use Rattle.page_layout.specs.Change.{one_if}
 use Rattle.page_layout.specs.Page.{Page}
 use Rattle.page_layout.specs.Counter.{counted}
-use Rattle.page_layout.specs.Flash.{Flash, Operation, Program, Erase, Turn, no_turn, turn_at, after, after_program, after_erase, may_program, may_erase, Leads}
-use Rattle.promises.specs.Log.{block_of, has_passed, programs_in, erases_in, programs_of, erases_of, passed_erases_of, failed_in, CountsLaw, BadJoinLaw, BadStaysLaw, CompleteLaw}
+use Rattle.page_layout.specs.Flash.{Flash, Operation, Program, Erase, Turn, no_turn, turn_at, after, after_program, after_erase, may_program}
+use Rattle.page_layout.specs.Flash.{may_erase, Leads}
+use Rattle.promises.specs.Log.{block_of, has_passed, programs_in, erases_in, programs_of, erases_of, passed_erases_of, failed_in, CountsLaw}
+use Rattle.promises.specs.Log.{BadJoinLaw, BadStaysLaw, CompleteLaw}
 
 -- ---- counts
 

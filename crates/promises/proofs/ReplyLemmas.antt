@@ -3,7 +3,8 @@ use Rattle.std.proofs.Common.{◌≡◌, ◌≢◌, ◌<◌, ◌≤◌, inl, inr
 use Rattle.std.specs.Prelude.{◌↔◌}
 use Rattle.page_layout.specs.declared.geometry.Geometry.{Geometry}
 use Rattle.page_layout.specs.Array.{zeros}
-use Rattle.promises.specs.Step.{State, Read, Write, Trim, Flush, Turn, Reply, Done, DoneWith, OutOfRange, ReadOnly, SequenceSpent, OutOfMemory, WriteStep, QuietStep, AnswersWrite, AnswersQuiet, MayAnswerLaw, PastLaw, AfterReadOnlyLaw, RefusesLaw}
+use Rattle.promises.specs.Step.{State, Read, Write, Trim, Flush, Turn, Reply, Done, DoneWith, OutOfRange, ReadOnly, SequenceSpent, OutOfMemory}
+use Rattle.promises.specs.Step.{WriteStep, QuietStep, AnswersWrite, AnswersQuiet, MayAnswerLaw, PastLaw, AfterReadOnlyLaw, RefusesLaw}
 use Rattle.promises.proofs.StepLemmas.{not_both}
 
 write_answers : (g : Geometry) (old new : State) (sector : ℕ) (bytes : List ℕ) (reply : Reply) → WriteStep g old sector bytes reply new → AnswersWrite reply

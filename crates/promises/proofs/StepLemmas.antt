@@ -5,7 +5,9 @@ use Rattle.std.proofs.lemmas.List.{length-set}
 use Rattle.page_layout.specs.declared.geometry.Geometry.{Geometry}
 use Rattle.page_layout.specs.Array.{zeros}
 use Rattle.page_layout.proofs.ArrayLemmas.{slice_get-set_same, slice_get-set_other}
-use Rattle.promises.specs.Step.{State, Read, Write, Trim, Flush, Turn, Reply, Done, DoneWith, OutOfRange, ReadOnly, SequenceSpent, OutOfMemory, WriteStep, QuietStep, ArrayStep, KeepsSectors, BecomesReadOnly, OneReadLaw, ReadBackLaw, KeptLaw, ReadOnlyLaw, SectorCountLaw, NeverLaw, RepliesLaw, SixLaw, OtherBytesLaw, written_once}
+use Rattle.promises.specs.Step.{State, Read, Write, Trim, Flush, Turn, Reply, Done, DoneWith, OutOfRange, ReadOnly, SequenceSpent, OutOfMemory}
+use Rattle.promises.specs.Step.{WriteStep, QuietStep, ArrayStep, KeepsSectors, BecomesReadOnly, OneReadLaw, ReadBackLaw, KeptLaw, ReadOnlyLaw}
+use Rattle.promises.specs.Step.{SectorCountLaw, NeverLaw, RepliesLaw, SixLaw, OtherBytesLaw, written_once}
 
 -- ---- lists
 

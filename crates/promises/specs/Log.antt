@@ -1,5 +1,6 @@
 -- Logs of programs and erases: what they count, and which blocks they leave good.
-use Rattle.std.specs.Prelude.{◌≡◌, ◌↔◌, ◌⊎◌, ◌<◌, ℕ, ◌+◌, ◌/◌, ◌==◌, ◌&&◌, ◌||◌, nat_le, not, Bool, true, false, List, [], ◌∷◌, ◌++◌, length, map, sum_by, slice_get, Some, ◌^◌}
+use Rattle.std.specs.Prelude.{◌≡◌, ◌↔◌, ◌⊎◌, ◌<◌, ℕ, ◌+◌, ◌/◌, ◌==◌, ◌&&◌, ◌||◌, nat_le, not, Bool, true, false, List, [], ◌∷◌, ◌++◌, length, map}
+use Rattle.std.specs.Prelude.{sum_by, slice_get, Some, ◌^◌}
 use Rattle.std.specs.List.{list_all, range_with_len}
 use Rattle.page_layout.specs.declared.geometry.Geometry.{Geometry}
 use Rattle.page_layout.specs.Geometry.{need}
@@ -121,6 +122,16 @@ pub record CountsEach (g : Geometry) (log : List Operation) : Type 0 where
 
 abbrev pub SumsLaw : Type 0
 SumsLaw = (old new : Flash) (log : List Operation) → IsWhole old → Leads old log new → CountsEach old.geometry log
+
+-- and so it is what the blocks of the die have counted since, where none of them stands at its top
+pub record CountsSince (old new : Flash) (log : List Operation) : Type 0 where
+  pub programs : ((block : ℕ) → (turn_at old block).programs + programs_of old.geometry.pages log block < 2 ^ 64)
+      → sum_by (λ block. (turn_at new block).programs) (range_with_len 0 old.geometry.blocks) ≡ sum_by (λ block. (turn_at old block).programs) (range_with_len 0 old.geometry.blocks) + programs_in log
+  pub erases : ((block : ℕ) → (turn_at old block).erases + erases_of log block < 2 ^ 64)
+      → sum_by (λ block. (turn_at new block).erases) (range_with_len 0 old.geometry.blocks) ≡ sum_by (λ block. (turn_at old block).erases) (range_with_len 0 old.geometry.blocks) + erases_in log
+
+abbrev pub SinceLaw : Type 0
+SinceLaw = (old new : Flash) (log : List Operation) → IsWhole old → Leads old log new → CountsSince old new log
 
 -- an operation of the log named the block and failed
 pub record HasFailed (pages : ℕ) (log : List Operation) (block : ℕ) : Type 0 where

@@ -1,5 +1,6 @@
 -- A stream of bytes as whole requests and a rest, and the bytes of the replies.
-use Rattle.std.specs.Prelude.{◌≡◌, ◌<◌, ◌≤◌, ◌⊎◌, ◌^◌, ◌↔◌, ◌==◌, ◌&&◌, ℕ, nat_le, Bool, false, List, [], ◌∷◌, ◌++◌, length, take, map, replicate, slice_index, Option, Some, None, if◌then◌else◌}
+use Rattle.std.specs.Prelude.{◌≡◌, ◌<◌, ◌≤◌, ◌⊎◌, ◌^◌, ◌↔◌, ◌==◌, ◌&&◌, ℕ, nat_le, Bool, false, List, [], ◌∷◌, ◌++◌, length, take, map, replicate}
+use Rattle.std.specs.Prelude.{slice_index, Option, Some, None, if◌then◌else◌}
 use Rattle.std.specs.List.{flat_map, AllByRecursion}
 use Rattle.std.specs.Int.{to_le_bytes, w32}
 use Rattle.promises.specs.Step.{Command, Reply, Done, DoneWith, OutOfRange, ReadOnly, SequenceSpent, OutOfMemory, Damaged, BusFault}

@@ -2,7 +2,7 @@
 ghost use Rattle.promises.specs.Step.{OneReadLaw, ReadBackLaw, KeptLaw, ReadOnlyLaw, SectorCountLaw, NeverLaw, RepliesLaw, SixLaw, OtherBytesLaw};
 ghost use Rattle.promises.specs.Log.{CountsLaw, BadJoinLaw, BadStaysLaw, CompleteLaw};
 ghost use Rattle.promises.specs.Step.{MayAnswerLaw, PastLaw, AfterReadOnlyLaw, RefusesLaw};
-ghost use Rattle.promises.specs.Log.{SumsLaw, FailedLaw, GoodLaw, FreeLaw, FewGoodLaw, ThreeFailedLaw, ReadOnlyBeforeLaw, TwoFailedLaw};
+ghost use Rattle.promises.specs.Log.{SumsLaw, SinceLaw, FailedLaw, GoodLaw, FreeLaw, FewGoodLaw, ThreeFailedLaw, ReadOnlyBeforeLaw, TwoFailedLaw};
 ghost use Rattle.promises.specs.Legal.{EmptyLaw, JoinLaw, AccountsLaw, OneMoreLaw, NoBadBlockLaw, NotTwiceLaw, OnErasedLaw, InOrderLaw};
 ghost use Rattle.promises.specs.Legal.{FirstPageLaw, AfterEraseLaw, NextPageLaw};
 ghost use Rattle.promises.specs.Run.{OneMoreEventLaw, RunJoinLaw, LastLaw, OneLogLaw, AnswersLaw, EachLaw, LogsLaw};
@@ -45,10 +45,11 @@ pub fn log_laws()
     ensures complete { CompleteLaw }
 {}
 
-/// What a log's counts and words mean: the programs and erases of all blocks together, the blocks on which an operation failed, good
-/// ones, and free ones, which are good with erased pages alone. (This project.)
+/// What a log's counts and words mean: the programs and erases of all blocks together, which the die counted; the
+/// blocks on which an operation failed; good ones, and free ones, which are good with erased pages alone. (This project.)
 pub fn count_laws()
     ensures sums { SumsLaw }
+    ensures since { SinceLaw }
     ensures failed { FailedLaw }
     ensures good { GoodLaw }
     ensures free { FreeLaw }
