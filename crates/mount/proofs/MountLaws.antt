@@ -1,17 +1,14 @@
 -- The laws of mounting.
-use Rattle.std.proofs.Common.{◌≡◌, ◌⊎◌, inl, inr, length, Some, None, sym, ap, ◌∙◌}
-use Rattle.page_layout.specs.declared.geometry.Geometry.{Geometry}
+use Rattle.std.proofs.Common.{◌≡◌, inl, inr, length, Some, None, sym, ap, ◌∙◌}
 use Rattle.page_layout.specs.declared.record.Key.{Key}
 use Rattle.page_layout.specs.declared.record.Key.TheVariants.{Table}
-use Rattle.page_layout.specs.Page.{Image}
 use Rattle.page_layout.specs.Newest.{sequence_at}
 use Rattle.page_layout.specs.Array.{marks}
 use Rattle.page_layout.proofs.NewestLemmas.{sequence_at-key}
-use Rattle.certificate.specs.Claim.{Claim}
 use Rattle.image_check.specs.declared.refusal.Refusal.{Refusal}
 use Rattle.image_check.specs.declared.refusal.Refusal.TheVariants as refusals
 use Rattle.image_check.specs.Refused.{IsRefusal, IsStop, IsUnformatted}
-use Rattle.mount.specs.Mounted.{IsMounted, IsUnmountable, Refuses}
+use Rattle.mount.specs.Mounted.{Refuses}
 use Rattle.mount.specs.MountLaws.{AcceptedLaw, TableTieLaw}
 use Rattle.mount.proofs.RefuseLemmas.{holds}
 
