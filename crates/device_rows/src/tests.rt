@@ -6,6 +6,7 @@ mod calls;
 mod cases;
 mod collection_rows;
 mod count_runs;
+mod fault_scripts;
 mod faults;
 mod flush;
 mod lists;

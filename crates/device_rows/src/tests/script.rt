@@ -48,6 +48,11 @@ impl Script {
         }
     }
 
+    // The writes and trims that were done.
+    pub fn done(&self) -> u32 {
+        self.done
+    }
+
     // The next state of a linear congruential generator (Knuth's numbers for 64 bits).
     fn step(&mut self) -> u64 {
         self.state = self
@@ -60,15 +65,15 @@ impl Script {
 
 // What a device shows of its blocks.
 #[derive(Drop)]
-struct Seen {
+struct Shown {
     read_only: bool,
     good: u32,
     free: u32,
     need: u32,
 }
 
-fn seen<N: Nand>(device: &Device<N>) -> Seen {
-    Seen {
+fn shown_by<N: Nand>(device: &Device<N>) -> Shown {
+    Shown {
         read_only: device.read_only(),
         good: device.engine.blocks.good(),
         free: device.engine.blocks.free(),
@@ -82,8 +87,8 @@ fn seen<N: Nand>(device: &Device<N>) -> Seen {
 // failed.
 fn hold_answer(
     rt: &impl Abort,
-    old: &Seen,
-    new: &Seen,
+    old: &Shown,
+    new: &Shown,
     call: Call,
     answer: Result<(), DeviceFault>,
 ) {
@@ -110,12 +115,17 @@ pub fn change<N: Nand>(rt: &impl Abort, device: &mut Device<N>, script: &mut Scr
     requires { IsDevice N.flash device.old }
     ensures { IsDevice N.flash device.new }
 {
-    let old = seen(device);
+    let old = shown_by(device);
     let answer = make(rt, device, "given", call);
-    hold_answer(rt, &old, &seen(device), call, answer);
+    hold_answer(rt, &old, &shown_by(device), call, answer);
     if answer.is_ok() {
         script.note(call);
     }
+}
+
+// The sector that a number draws.
+fn drawn(geometry: &Geometry, number: u64) -> u32 {
+    (number % u64::from(geometry.sectors().max(1))) as u32
 }
 
 // Gives a device the next command.
@@ -124,7 +134,7 @@ fn give<N: Nand>(rt: &impl Abort, device: &mut Device<N>, script: &mut Script)
     ensures { IsDevice N.flash device.new }
 {
     let dice = script.step();
-    let sector = ((dice >> 33) % u64::from(device.engine.geometry.sectors())) as u32;
+    let sector = drawn(&device.engine.geometry, dice >> 33);
     let byte = ((dice >> 40) % 256) as u8;
     match dice >> 59 {
         0..=15 => change(rt, device, script, Call::Write(sector, byte)),
@@ -262,16 +272,17 @@ fn sizes_of(row: &Row) -> Result<(Geometry, usize), Fail> {
 // Gives commands to the devices of a row, the die handed on. Nothing illegal is asked of it.
 fn give_row(rt: &impl Abort, alloc: Global, row: &Row) -> Result<u32, Fail> {
     let mut script = Script::new();
-    let (geometry, page_left) = sizes_of(row)?;
+    let (mut geometry, page_left) = sizes_of(row)?;
     let mut driver = formatted_die(alloc, geometry, row.failing, page_left)?;
     for capacity in row.capacities {
         let (given, its) =
             give_started(rt, alloc, driver, &geometry, *capacity, !row.torn, &mut script)?;
         let die = given.into_bus();
         assert_eq!(rt; die.abuse(), 0);
-        driver = driver_on(die, its)?;
+        geometry = its;
+        driver = driver_on(die, geometry)?;
     }
-    Ok(script.done)
+    Ok(script.done())
 }
 
 #[test]
