@@ -23,23 +23,26 @@ USES = "page_layout onfi_cycles nand_die image_check mount bad_blocks allocation
 WRITES = 100_000
 
 
-def run_program(command):
+def run_program(text, uses, lines, is_tried):
+    """The words of each of so many lines that a program prints which uses these crates. With `is_tried` it isn't proved before."""
+    command = ["rt", "try", "--seconds", "3000"] if is_tried else ["rt", "run"]
     with tempfile.TemporaryDirectory() as folder:
         folder = Path(folder)
-        shutil.copytree(TOP / "crates", folder / "crates", symlinks=True)
+        left = shutil.ignore_patterns("out") if is_tried else None
+        shutil.copytree(TOP / "crates", folder / "crates", symlinks=True, ignore=left)
         listed = (TOP / "crates.txt").read_text()
-        (folder / "crates.txt").write_text(f"{listed}{NAME}: {USES}\n")
+        (folder / "crates.txt").write_text(f"{listed}{NAME}: {uses}\n")
         crate = folder / "crates" / NAME
         (crate / "src").mkdir(parents=True)
-        shutil.copy(TOP / "bench" / "write_amplification_program.txt", crate / "src" / "main.rt")
+        shutil.copy(TOP / "bench" / text, crate / "src" / "main.rt")
         (crate / "specs").mkdir()
         (crate / "specs" / "Lib.antt").write_text("")
         subprocess.run(["git", "init", "-q", folder], check=True)
         done = subprocess.run(command, cwd=crate, env=os.environ, capture_output=True, text=True)
         rows = [line.split() for line in done.stdout.splitlines() if line[:1].isdigit()]
-        if len(rows) != 6:
+        if len(rows) != lines:
             sys.exit(done.stdout + done.stderr)
-        return [tuple(map(int, row[:5])) for row in rows]
+        return rows
 
 
 def run_model(sectors, capacity):
@@ -69,17 +72,17 @@ def greedy_limit(pages):
 
 
 def main(words):
-    command = ["rt", "try", "--seconds", "3000"] if words == ["--try"] else ["rt", "run"]
-    rows = run_program(command)
-    print("part sectors cache  programs  a write  erases  greedy limit")
-    for part, sectors, capacity, programs, erases in rows:
+    rows = run_program("write_amplification_program.txt", USES, 6, words == ["--try"])
+    print("part sectors  cache  programs  a write  erases  greedy limit")
+    for row in rows:
+        part, sectors, capacity, programs, erases = map(int, row[:5])
         wanted = run_model(sectors, capacity)
         if wanted != (programs, erases):
             sys.exit(f"{part} {capacity}: {programs} programs and {erases} erases, and {wanted} of the model")
         # Nine blocks are kept free, and one is open for translation pages.
         limit = greedy_limit(sectors / (64 * (128 - 9 - 1)))
         times = programs / WRITES
-        print(f"{part:3}% {sectors:7} {capacity:6} {programs:8} {times:8.2f} {erases:7} {limit:10.2f}  {'#' * round(10 * times)}")
+        print(f"{part:3}% {sectors:7} {capacity:6} {programs:9} {times:8.2f} {erases:7} {limit:10.2f}     {'#' * round(10 * times)}")
 
 
 if __name__ == "__main__":
