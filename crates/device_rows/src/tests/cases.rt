@@ -239,10 +239,11 @@ fn collect_all<N: Nand>(
     requires safe { IsSafe N.flash engine.old }
     requires idle { engine.old.fault ≡ None → IsIdle (ram engine.old) }
 {
-    for (block, flushing) in blocks {
-        assert!(rt; *block < engine.geometry.blocks());
-        assert!(rt; engine.closed(*block));
-        engine.collect(*block, *flushing)?;
+    for its in blocks {
+        let (block, flushing) = *its;
+        assert!(rt; block < engine.geometry.blocks());
+        assert!(rt; engine.closed(block));
+        engine.collect(block, flushing)?;
     }
     Ok(())
 }
