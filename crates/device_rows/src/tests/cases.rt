@@ -4,9 +4,9 @@ ghost use Rattle.collection.specs.Safe.{IsSafe, IsIdle, ram};
 ghost use Rattle.ftl_device.specs.Device.{IsDevice};
 ghost use Rattle.std.specs.Prelude.{◌≡◌, None, IfOk};
 
+use super::again::{Mounted, hold_mounted};
 use super::bench::{after_calls, formatted, recorded, small, unwired, wired};
 use super::calls::{Call, hold_call, hold_calls};
-use super::again::{Mounted, hold_mounted};
 use super::pages::{PageAt, hold_pages, hold_spare};
 use super::recorder::{Cycle, Operation, Recorder, changes_of, cycles_of};
 use allocation::Blocks;
@@ -123,13 +123,7 @@ fn nth_write(sector: u32, nth: u16) -> Call {
 }
 
 // Writes a sector over and over.
-fn hold_over<N: Nand>(
-    rt: &impl Abort,
-    device: &mut Device<N>,
-    name: &str,
-    sector: u32,
-    count: u16,
-)
+fn hold_over<N: Nand>(rt: &impl Abort, device: &mut Device<N>, name: &str, sector: u32, count: u16)
     requires { IsDevice N.flash device.old }
     ensures { IsDevice N.flash device.new }
 {
@@ -151,7 +145,13 @@ fn hold_spread<N: Nand>(
     ensures { IsDevice N.flash device.new }
 {
     for sector in 0..count {
-        hold_call(rt, device, name, Call::Write(sector, (sector % 256) as u8), Ok(()));
+        hold_call(
+            rt,
+            device,
+            name,
+            Call::Write(sector, (sector % 256) as u8),
+            Ok(()),
+        );
         hold_over(rt, device, name, other, times);
     }
 }

@@ -32,9 +32,13 @@ const EIGHT_READ: [Call; 7] = [
     Read(5, 0x15),
 ];
 
-const BEFORE: [u8; 16] = [10, 11, 12, NO, NO, NO, NO, 9, NO, NO, NO, NO, NO, NO, NO, NO];
+const BEFORE: [u8; 16] = [
+    10, 11, 12, NO, NO, NO, NO, 9, NO, NO, NO, NO, NO, NO, NO, NO,
+];
 
-const AFTER: [u8; 16] = [17, 18, 19, 20, 21, 22, NO, 16, NO, NO, NO, NO, NO, NO, NO, NO];
+const AFTER: [u8; 16] = [
+    17, 18, 19, 20, 21, 22, NO, 16, NO, NO, NO, NO, NO, NO, NO, NO,
+];
 
 // Block 1 is erased: its seven live pages stand in block 2 by rising row, the trim among them. Sectors
 // 7, 0 and 1 weren't cached, so their translation page is written.
@@ -141,7 +145,9 @@ const CACHED: [Call; 8] = [
     Write(7, 0x27),
 ];
 
-const MOVED: [u8; 16] = [16, 17, 18, 19, 20, 21, 22, 23, NO, NO, NO, NO, NO, NO, NO, NO];
+const MOVED: [u8; 16] = [
+    16, 17, 18, 19, 20, 21, 22, 23, NO, NO, NO, NO, NO, NO, NO, NO,
+];
 
 const FLUSHING: [Case; 2] = [
     // A moved sector that is cached waits for its translation page to be written.
@@ -238,25 +244,85 @@ const FIVE_LIVE: Case = Case {
     ],
     told: Told::Changes,
     pages: &[
-        PageAt::Translation(2, 0, 4, [8, NO, NO, NO, NO, NO, NO, NO, NO, NO, NO, NO, NO, NO, NO, NO]),
-        PageAt::Translation(3, 1, 6, [9, NO, NO, NO, NO, NO, NO, NO, NO, NO, NO, NO, NO, NO, NO, NO]),
-        PageAt::Translation(4, 0, 8, [8, 10, NO, NO, NO, NO, NO, NO, NO, NO, NO, NO, NO, NO, NO, NO]),
-        PageAt::Translation(5, 1, 10, [9, 11, NO, NO, NO, NO, NO, NO, NO, NO, NO, NO, NO, NO, NO, NO]),
-        PageAt::Translation(6, 0, 12, [8, 10, 12, NO, NO, NO, NO, NO, NO, NO, NO, NO, NO, NO, NO, NO]),
-        PageAt::Translation(7, 0, 21, [20, 17, 19, NO, NO, NO, NO, NO, NO, NO, NO, NO, NO, NO, NO, NO]),
+        PageAt::Translation(
+            2,
+            0,
+            4,
+            [
+                8, NO, NO, NO, NO, NO, NO, NO, NO, NO, NO, NO, NO, NO, NO, NO,
+            ],
+        ),
+        PageAt::Translation(
+            3,
+            1,
+            6,
+            [
+                9, NO, NO, NO, NO, NO, NO, NO, NO, NO, NO, NO, NO, NO, NO, NO,
+            ],
+        ),
+        PageAt::Translation(
+            4,
+            0,
+            8,
+            [
+                8, 10, NO, NO, NO, NO, NO, NO, NO, NO, NO, NO, NO, NO, NO, NO,
+            ],
+        ),
+        PageAt::Translation(
+            5,
+            1,
+            10,
+            [
+                9, 11, NO, NO, NO, NO, NO, NO, NO, NO, NO, NO, NO, NO, NO, NO,
+            ],
+        ),
+        PageAt::Translation(
+            6,
+            0,
+            12,
+            [
+                8, 10, 12, NO, NO, NO, NO, NO, NO, NO, NO, NO, NO, NO, NO, NO,
+            ],
+        ),
+        PageAt::Translation(
+            7,
+            0,
+            21,
+            [
+                20, 17, 19, NO, NO, NO, NO, NO, NO, NO, NO, NO, NO, NO, NO, NO,
+            ],
+        ),
         PageAt::Sector(16, 16, 16, 0x31),
         PageAt::Sector(17, 1, 17, 0x32),
         PageAt::Sector(18, 17, 18, 0x33),
         PageAt::Sector(19, 2, 19, 0x34),
         PageAt::Sector(20, 0, 20, 0x37),
-        PageAt::Translation(24, 1, 22, [16, 18, NO, NO, NO, NO, NO, NO, NO, NO, NO, NO, NO, NO, NO, NO]),
+        PageAt::Translation(
+            24,
+            1,
+            22,
+            [
+                16, 18, NO, NO, NO, NO, NO, NO, NO, NO, NO, NO, NO, NO, NO, NO,
+            ],
+        ),
     ],
     mounted: Some(&Mounted {
         capacity: 1,
         next: 23,
         stale: 0,
-        states: &[(0, 3, 8, 3, 0), (1, 0, 0, 0, 0), (2, 1, 5, 5, 0), (3, 2, 1, 1, 0)],
-        calls: &[Read(0, 0x37), Read(1, 0x32), Read(2, 0x34), Read(16, 0x31), Read(17, 0x33)],
+        states: &[
+            (0, 3, 8, 3, 0),
+            (1, 0, 0, 0, 0),
+            (2, 1, 5, 5, 0),
+            (3, 2, 1, 1, 0),
+        ],
+        calls: &[
+            Read(0, 0x37),
+            Read(1, 0x32),
+            Read(2, 0x34),
+            Read(16, 0x31),
+            Read(17, 0x33),
+        ],
     }),
     ..QUIET
 };
@@ -295,11 +361,32 @@ const EVERY_KIND: Case = Case {
     ],
     told: Told::Changes,
     pages: &[
-        PageAt::Translation(16, 0, 15, [8, 10, 11, 12, 13, NO, NO, NO, NO, NO, NO, NO, NO, NO, NO, NO]),
-        PageAt::Translation(24, 1, 19, [9, NO, NO, NO, NO, NO, NO, NO, NO, NO, NO, NO, NO, NO, NO, NO]),
+        PageAt::Translation(
+            16,
+            0,
+            15,
+            [
+                8, 10, 11, 12, 13, NO, NO, NO, NO, NO, NO, NO, NO, NO, NO, NO,
+            ],
+        ),
+        PageAt::Translation(
+            24,
+            1,
+            19,
+            [
+                9, NO, NO, NO, NO, NO, NO, NO, NO, NO, NO, NO, NO, NO, NO, NO,
+            ],
+        ),
         PageAt::Table(25, 0, 20, [0; 16]),
         PageAt::Table(26, 1, 21, [0; 16]),
-        PageAt::Translation(27, 0, 30, [40, 41, 42, 43, 44, 45, NO, NO, NO, NO, NO, NO, NO, NO, NO, NO]),
+        PageAt::Translation(
+            27,
+            0,
+            30,
+            [
+                40, 41, 42, 43, 44, 45, NO, NO, NO, NO, NO, NO, NO, NO, NO, NO,
+            ],
+        ),
         PageAt::Sector(40, 0, 23, 0x40),
         PageAt::Sector(41, 1, 24, 0x42),
         PageAt::Sector(42, 2, 25, 0x43),
@@ -312,8 +399,23 @@ const EVERY_KIND: Case = Case {
         capacity: 1,
         next: 31,
         stale: 1,
-        states: &[(0, 0, 0, 0, 0), (1, 0, 0, 0, 0), (2, 3, 1, 0, 0), (3, 2, 4, 4, 0), (4, 0, 0, 0, 0), (5, 1, 7, 7, 0)],
-        calls: &[Read(0, 0x40), Read(1, 0x42), Read(2, 0x43), Read(3, 0x44), Read(4, 0x45), Read(5, 0), Read(16, 0)],
+        states: &[
+            (0, 0, 0, 0, 0),
+            (1, 0, 0, 0, 0),
+            (2, 3, 1, 0, 0),
+            (3, 2, 4, 4, 0),
+            (4, 0, 0, 0, 0),
+            (5, 1, 7, 7, 0),
+        ],
+        calls: &[
+            Read(0, 0x40),
+            Read(1, 0x42),
+            Read(2, 0x43),
+            Read(3, 0x44),
+            Read(4, 0x45),
+            Read(5, 0),
+            Read(16, 0),
+        ],
     }),
     ..QUIET
 };
@@ -325,7 +427,18 @@ const LEAST_WORN: Case = Case {
     steps: &[Over(0, 270)],
     free: 9,
     worn: &[
-        (1, 1), (2, 1), (3, 1), (4, 1), (5, 1), (6, 1), (7, 1), (8, 1), (9, 1), (10, 1), (11, 1), (12, 1),
+        (1, 1),
+        (2, 1),
+        (3, 1),
+        (4, 1),
+        (5, 1),
+        (6, 1),
+        (7, 1),
+        (8, 1),
+        (9, 1),
+        (10, 1),
+        (11, 1),
+        (12, 1),
     ],
     cached: &[0],
     told: Told::Nothing,
@@ -333,7 +446,14 @@ const LEAST_WORN: Case = Case {
         capacity: 1,
         next: 273,
         stale: 1,
-        states: &[(0, 2, 2, 2, 0), (1, 3, 8, 0, 1), (2, 3, 8, 0, 1), (3, 1, 6, 1, 1), (4, 0, 0, 0, 0), (13, 3, 8, 0, 0)],
+        states: &[
+            (0, 2, 2, 2, 0),
+            (1, 3, 8, 0, 1),
+            (2, 3, 8, 0, 1),
+            (3, 1, 6, 1, 1),
+            (4, 0, 0, 0, 0),
+            (13, 3, 8, 0, 0),
+        ],
         calls: &[Read(0, 13)],
     }),
     ..QUIET
@@ -354,14 +474,30 @@ const FLUSHED: Case = Case {
     ],
     free: 8,
     worn: &[(1, 1)],
-    cached: &[0, 1, 2, 3, 4, 5, 6, 7, 8, 9, 10, 11, 12, 13, 14, 15, 16, 17, 18, 19, 20, 21, 31],
+    cached: &[
+        0, 1, 2, 3, 4, 5, 6, 7, 8, 9, 10, 11, 12, 13, 14, 15, 16, 17, 18, 19, 20, 21, 31,
+    ],
     told: Told::Nothing,
     mounted: Some(&Mounted {
         capacity: 1,
         next: 189,
         stale: 0,
-        states: &[(0, 3, 8, 2, 0), (1, 0, 0, 0, 1), (2, 3, 8, 1, 0), (22, 3, 8, 1, 0), (23, 1, 2, 2, 0), (24, 2, 2, 2, 0)],
-        calls: &[Read(0, 0), Read(1, 1), Read(20, 20), Read(21, 21), Read(22, 0), Read(31, 79)],
+        states: &[
+            (0, 3, 8, 2, 0),
+            (1, 0, 0, 0, 1),
+            (2, 3, 8, 1, 0),
+            (22, 3, 8, 1, 0),
+            (23, 1, 2, 2, 0),
+            (24, 2, 2, 2, 0),
+        ],
+        calls: &[
+            Read(0, 0),
+            Read(1, 1),
+            Read(20, 20),
+            Read(21, 21),
+            Read(22, 0),
+            Read(31, 79),
+        ],
     }),
     ..QUIET
 };

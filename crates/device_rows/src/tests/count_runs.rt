@@ -169,7 +169,12 @@ fn hold_sectors<N: Nand>(rt: &impl Abort, device: &mut Device<N>, run: &Run)
     let sectors = device.engine.geometry.sectors();
     for sector in 0..sectors {
         let byte = last_byte(run, sectors, sector);
-        assert_eq!(rt; read(rt, device, run.name, sector, byte), Ok(()), "{}", run.name);
+        assert_eq!(rt;
+            read(rt, device, run.name, sector, byte),
+            Ok(()),
+            "{}",
+            run.name
+        );
     }
 }
 

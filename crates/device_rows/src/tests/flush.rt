@@ -23,10 +23,14 @@ const NONE_BAD: [u8; 16] = [0; 16];
 const ONE_BAD: [u8; 16] = [0, 0, 0, 0, 2, 0, 0, 0, 0, 0, 0, 0, 0, 0, 0, 0];
 
 // Sector 5 is in row 8.
-const AT_8: [u8; 16] = [NO, NO, NO, NO, NO, 8, NO, NO, NO, NO, NO, NO, NO, NO, NO, NO];
+const AT_8: [u8; 16] = [
+    NO, NO, NO, NO, NO, 8, NO, NO, NO, NO, NO, NO, NO, NO, NO, NO,
+];
 
 // The same in row 16.
-const AT_16: [u8; 16] = [NO, NO, NO, NO, NO, 16, NO, NO, NO, NO, NO, NO, NO, NO, NO, NO];
+const AT_16: [u8; 16] = [
+    NO, NO, NO, NO, NO, 16, NO, NO, NO, NO, NO, NO, NO, NO, NO, NO,
+];
 
 const FLUSHES: [Case; 4] = [
     Case {
@@ -153,7 +157,13 @@ const FAILURES: [Case; 3] = [
     Case {
         name: "a write-back fails",
         failing: &[5],
-        steps: &[Done(&[Write(0, 7), Write(1, 7), Write(2, 7), Write(3, 7), Write(16, 9)])],
+        steps: &[Done(&[
+            Write(0, 7),
+            Write(1, 7),
+            Write(2, 7),
+            Write(3, 7),
+            Write(16, 9),
+        ])],
         bad: &[0],
         free: 29,
         cached: &[1, 2, 3, 16],

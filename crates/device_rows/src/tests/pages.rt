@@ -70,11 +70,29 @@ impl PageAt {
 
     fn page(&self) -> Page {
         match self {
-            PageAt::Sector(_, n, sequence, byte) => page_with(Kind::Sector, *n, *sequence, [*byte; 64]),
+            PageAt::Sector(_, n, sequence, byte) => page_with(
+                Kind::Sector,
+                *n,
+                *sequence,
+                [*byte; 64],
+            ),
             PageAt::Trim(_, n, sequence) => page_with(Kind::Trim, *n, *sequence, [0; 64]),
-            PageAt::Translation(_, t, sequence, entries) => page_with(Kind::Translation, *t, *sequence, translation_body(entries)),
-            PageAt::Table(_, u, sequence, first) => page_with(Kind::Table, *u, *sequence, table_body(first)),
-            PageAt::Torn(_) => Page { record: None, body: [0; 64] },
+            PageAt::Translation(_, t, sequence, entries) => page_with(
+                Kind::Translation,
+                *t,
+                *sequence,
+                translation_body(entries),
+            ),
+            PageAt::Table(_, u, sequence, first) => page_with(
+                Kind::Table,
+                *u,
+                *sequence,
+                table_body(first),
+            ),
+            PageAt::Torn(_) => Page {
+                record: None,
+                body: [0; 64],
+            },
         }
     }
 }
@@ -86,7 +104,10 @@ fn page_in(pages: &[PageAt], row: u32) -> Page {
             return at.page();
         }
     }
-    Page { record: None, body: [0xFF; 64] }
+    Page {
+        record: None,
+        body: [0xFF; 64],
+    }
 }
 
 // Reads a page.
@@ -132,7 +153,11 @@ fn hold_row<S: PageSource>(
     read_areas(rt, source, geometry, row, &mut body, &mut spare)?;
     let record = record_of(rt, geometry, &body, &spare);
     let page = page_in(pages, row);
-    assert_eq!(rt; (record, body), (page.record, page.body), "{name}: row {row}");
+    assert_eq!(rt;
+        (record, body),
+        (page.record, page.body),
+        "{name}: row {row}"
+    );
     if page.record.is_none() {
         assert_eq!(rt; spare, [page.body[0]; 32], "{name}: row {row}");
     }

@@ -221,13 +221,17 @@ const SHORT: (u32, u32, u32, u32) = (32, 4, 32, 32);
 const ROWS: [Row; 6] = [
     Row {
         sizes: FIRST,
-        failing: &[5, 30, 31, 200, 210, 333, 400, 401, 555, 700, 801, 900, 1001, 1100, 1300],
+        failing: &[
+            5, 30, 31, 200, 210, 333, 400, 401, 555, 700, 801, 900, 1001, 1100, 1300,
+        ],
         torn: false,
         capacities: &[4, 1, 16, 2],
     },
     Row {
         sizes: FIRST,
-        failing: &[2, 60, 90, 250, 251, 340, 420, 500, 600, 601, 750, 850, 950, 1020, 1200],
+        failing: &[
+            2, 60, 90, 250, 251, 340, 420, 500, 600, 601, 750, 850, 950, 1020, 1200,
+        ],
         torn: true,
         capacities: &[3, 64, 32, 40],
     },
@@ -275,8 +279,15 @@ fn give_row(rt: &impl Abort, alloc: Global, row: &Row) -> Result<u32, Fail> {
     let (mut geometry, page_left) = sizes_of(row)?;
     let mut driver = formatted_die(alloc, geometry, row.failing, page_left)?;
     for capacity in row.capacities {
-        let (given, its) =
-            give_started(rt, alloc, driver, &geometry, *capacity, !row.torn, &mut script)?;
+        let (given, its) = give_started(
+            rt,
+            alloc,
+            driver,
+            &geometry,
+            *capacity,
+            !row.torn,
+            &mut script,
+        )?;
         let die = given.into_bus();
         assert_eq!(rt; die.abuse(), 0);
         geometry = its;
