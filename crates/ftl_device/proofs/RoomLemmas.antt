@@ -215,6 +215,15 @@ rescue_tells SequenceSpent a b c t u goes fewer h = h
 rescue_tells Damaged a b c t u goes fewer h = tt
 rescue_tells Bus a b c t u goes fewer h = tt
 
+abbrev call_err : CallFault → Result (Unit {0}) CallFault
+call_err fault = Err fault
+
+abbrev rescue_err : WriteFault → Result Bool WriteFault
+rescue_err fault = Err fault
+
+pub rescue_not_bus : (fault : WriteFault) → call_err (EngineFault fault) ≢ call_err (EngineFault Bus) → rescue_err fault ≢ rescue_err Bus
+rescue_not_bus fault ne e = (let same : fault ≡ Bus = cc in ne (ap (λ f. call_err (EngineFault f)) same))
+
 pub rescue_fewer : (a b c : Ram) → IsRam b → IsRam c → Goes b c → good_count b.blocks.table ≤ good_count a.blocks.table → good_count c.blocks.table ≤ good_count a.blocks.table
 rescue_fewer a b c t u goes fewer = omega (arith, good_fewer b c t u (goes_on b c t goes))
 

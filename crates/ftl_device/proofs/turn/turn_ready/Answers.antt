@@ -2,9 +2,8 @@ use Rattle.std.proofs.Common.{◌∙◌, ap}
 use Rattle.std.proofs.lemmas.Result.{err_from_is_err_and}
 use Rattle.collection.specs.Safe.{ram}
 use Rattle.collection.proofs.Logs.{went_then}
-use Rattle.ftl_device.proofs.ReadyLemmas.{engine_not_bus}
 use Rattle.ftl_device.proofs.FlushLoops.{limits_then, engine_keeps, engine_refused}
-use Rattle.ftl_device.proofs.RoomLemmas.{never_rested, rescued_none, rescued_by, rescue_tells, rescue_fewer, keeps_room, refused_room}
+use Rattle.ftl_device.proofs.RoomLemmas.{never_rested, rescued_none, rescued_by, rescue_tells, rescue_fewer, rescue_not_bus, keeps_room, refused_room}
 use Rattle.ftl_device.proofs.turn.turn_ready.Goals as goal
 
 -- ---- no bad block has a newest page
@@ -41,7 +40,7 @@ returns-in_err-rescue_one-clause-tells g c =
 pub returns-in_err-rescue_one-clause-went : goal.returns-in_err-rescue_one-clause-went
 returns-in_err-rescue_one-clause-went g c =
     let p = err_from_is_err_and c.from_residual-in_err-rescue_one.result c.from_residual-in_err-rescue_one.ensures.1 in
-    rw (p.1, p.2) (λ honest ne. went_then _ _ _ _ _ _ c.make_room.ensures.geometry (c.in_ok-make_room.ensures.went honest (λ e. (let no : ⊥ = cc in no))) (c.in_err-rescue_one.ensures.went (c.make_room.ensures.honest ∙ honest) (engine_not_bus _ ne)))
+    rw (p.1, p.2) (λ honest ne. went_then _ _ _ _ _ _ c.make_room.ensures.geometry (c.in_ok-make_room.ensures.went honest (λ e. (let no : ⊥ = cc in no))) (c.in_err-rescue_one.ensures.went (c.make_room.ensures.honest ∙ honest) (rescue_not_bus _ ne)))
 
 pub returns-in_err-rescue_one-clause-truth : goal.returns-in_err-rescue_one-clause-truth
 returns-in_err-rescue_one-clause-truth g c =
