@@ -56,8 +56,8 @@ good_fewer a b s t goes =
     let g : b.blocks.geometry ≡ a.blocks.geometry = t.blocks_of ∙ (goes.geometry ∙ sym s.blocks_of) in
     let size : length b.blocks.table ≡ length a.blocks.table = t.blocks.table_whole ∙ (ap (λ (x : Geometry). x.blocks) g ∙ sym s.blocks.table_whole) in
     fewer_rows a.blocks.table b.blocks.table size (λ k lt bad.
-      let within : k < a.geometry.blocks = (let e : a.blocks.geometry.blocks ≡ a.geometry.blocks = ap (λ (x : Geometry). x.blocks) s.blocks_of in omega (arith, s.blocks.table_whole)) in
-      ap is_good (goes.bad k within bad).row ∙ bad)
+    let within : k < a.geometry.blocks = (let e : a.blocks.geometry.blocks ≡ a.geometry.blocks = ap (λ (x : Geometry). x.blocks) s.blocks_of in omega (arith, s.blocks.table_whole)) in
+    ap is_good (goes.bad k within bad).row ∙ bad)
 
 -- ---- room was made
 
