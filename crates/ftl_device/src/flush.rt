@@ -41,6 +41,7 @@ fn flush_translation<N: Nand>(engine: &mut Engine<N>, t: u32) -> Result<(), Writ
     ensures fault { engine.new.fault ≡ fault_after None result }
     ensures geometry { engine.new.geometry ≡ engine.old.geometry }
     ensures honest { N.honest engine.new.nand ≡ N.honest engine.old.nand }
+    ensures calm { N.calm engine.new.nand ≡ N.calm engine.old.nand }
     ensures failed { N.failed engine.old.nand ≤ N.failed engine.new.nand }
     ensures rose { result ≡ Err WriteFault.Bus → HasRisen (N.failed engine.old.nand) (N.failed engine.new.nand) }
     ensures keys { keys_of engine.new.mapping.cached ≡ keys_of engine.old.mapping.cached }
@@ -72,6 +73,7 @@ fn flush_translations<N: Nand>(engine: &mut Engine<N>) -> Result<(), WriteFault>
     ensures fault { engine.new.fault ≡ fault_after None result }
     ensures geometry { engine.new.geometry ≡ engine.old.geometry }
     ensures honest { N.honest engine.new.nand ≡ N.honest engine.old.nand }
+    ensures calm { N.calm engine.new.nand ≡ N.calm engine.old.nand }
     ensures failed { N.failed engine.old.nand ≤ N.failed engine.new.nand }
     ensures rose { result ≡ Err WriteFault.Bus → HasRisen (N.failed engine.old.nand) (N.failed engine.new.nand) }
     ensures keys { keys_of engine.new.mapping.cached ≡ keys_of engine.old.mapping.cached }
@@ -100,6 +102,7 @@ fn write_tables_once<N: Nand>(engine: &mut Engine<N>) -> Result<(), WriteFault>
     ensures fault { engine.new.fault ≡ fault_after None result }
     ensures geometry { engine.new.geometry ≡ engine.old.geometry }
     ensures honest { N.honest engine.new.nand ≡ N.honest engine.old.nand }
+    ensures calm { N.calm engine.new.nand ≡ N.calm engine.old.nand }
     ensures failed { N.failed engine.old.nand ≤ N.failed engine.new.nand }
     ensures rose { result ≡ Err WriteFault.Bus → HasRisen (N.failed engine.old.nand) (N.failed engine.new.nand) }
     ensures mapping { engine.new.mapping ≡ engine.old.mapping }
@@ -129,6 +132,7 @@ fn write_tables<N: Nand>(engine: &mut Engine<N>) -> Result<(), WriteFault>
     ensures fault { engine.new.fault ≡ fault_after None result }
     ensures geometry { engine.new.geometry ≡ engine.old.geometry }
     ensures honest { N.honest engine.new.nand ≡ N.honest engine.old.nand }
+    ensures calm { N.calm engine.new.nand ≡ N.calm engine.old.nand }
     ensures failed { N.failed engine.old.nand ≤ N.failed engine.new.nand }
     ensures rose { result ≡ Err WriteFault.Bus → HasRisen (N.failed engine.old.nand) (N.failed engine.new.nand) }
     ensures mapping { engine.new.mapping ≡ engine.old.mapping }
@@ -161,6 +165,7 @@ pub(crate) fn flush_ready<N: Nand>(engine: &mut Engine<N>) -> Result<(), CallFau
     ensures fault { engine.new.fault ≡ standing_after result }
     ensures geometry { engine.new.geometry ≡ engine.old.geometry }
     ensures honest { N.honest engine.new.nand ≡ N.honest engine.old.nand }
+    ensures calm { N.calm engine.new.nand ≡ N.calm engine.old.nand }
     ensures failed { N.failed engine.old.nand ≤ N.failed engine.new.nand }
     ensures rose { result ≡ Err (CallFault.Engine WriteFault.Bus) → HasRisen (N.failed engine.old.nand) (N.failed engine.new.nand) }
     ensures memory { result ≢ Err CallFault.OutOfMemory }
@@ -227,6 +232,7 @@ impl<N: Nand> Device<N> {
         ensures geometry { self.new.engine.geometry ≡ self.old.engine.geometry }
         ensures limits { HasLimitsOf self.old.engine.mapping self.new.engine.mapping }
         ensures honest { N.honest self.new.engine.nand ≡ N.honest self.old.engine.nand }
+        ensures calm { N.calm self.new.engine.nand ≡ N.calm self.old.engine.nand }
         ensures failed { N.failed self.old.engine.nand ≤ N.failed self.new.engine.nand }
 
         // When it is refused, whatever the die does.

@@ -8,15 +8,16 @@ ghost use Rattle.page_layout.specs.declared.record.Key.TheVariants.{Sector};
 ghost use Rattle.page_layout.specs.Array.{zeros};
 ghost use Rattle.mapping_cache.specs.Mapping.{CanLoad, HasLimitsOf, slot_of};
 ghost use Rattle.collection.specs.Pages.{newest_row};
-ghost use Rattle.collection.specs.Safe.{IsSafe, IsIdle, ram, image_in};
+ghost use Rattle.collection.specs.Safe.{IsSafe, IsIdle, ram, image_in, page_in};
 ghost use Rattle.collection.specs.Truth.{IsTrue};
 ghost use Rattle.collection.specs.Log.{Went};
 ghost use Rattle.collection.specs.Settle.{HasNoMore};
-ghost use Rattle.collection.specs.Looks.{IsReadFault};
+ghost use Rattle.collection.specs.Looks.{FindsRow, IsReadFault};
 ghost use Rattle.collection.specs.Results.{IsSame, Refused, fault_after};
-ghost use Rattle.collection.specs.Collect.{KeepsKeys, IsRearranged, RoomRefused};
+ghost use Rattle.collection.specs.Collect.{KeepsKeys, RestsOrErases, IsRearranged, RoomRefused};
 ghost use Rattle.ftl_device.specs.Calls.{Tells, IsFound, CallTells, standing_after, KeepsArray, HoldsSector, CallRefused, IsMostRecent, HasMadeRoom, HasMadePlace, IsReady, HasCost, order_after};
 ghost use Rattle.ftl_device.specs.Flush.{KeepsClean};
+ghost use Rattle.ftl_device.specs.Read.{IsLookedUp};
 
 use crate::fault::CallFault;
 use collection::{Engine, WriteFault};
@@ -31,9 +32,11 @@ pub(crate) fn make_room<N: Nand>(engine: &mut Engine<N>, flushing: bool) -> Resu
     ensures fault { engine.new.fault ≡ fault_after None result }
     ensures geometry { engine.new.geometry ≡ engine.old.geometry }
     ensures honest { N.honest engine.new.nand ≡ N.honest engine.old.nand }
+    ensures calm { N.calm engine.new.nand ≡ N.calm engine.old.nand }
     ensures failed { N.failed engine.old.nand ≤ N.failed engine.new.nand }
     ensures rose { result ≡ Err WriteFault.Bus → HasRisen (N.failed engine.old.nand) (N.failed engine.new.nand) }
     ensures made { OnOk result (HasMadeRoom (ram engine.old) (ram engine.new)) }
+    ensures erases { OnOk result (RestsOrErases (ram engine.old) (ram engine.new) (N.erases engine.old.nand) (N.erases engine.new.nand)) }
     ensures keys { KeepsKeys engine.old.mapping engine.new.mapping }
     ensures cleans { flushing ≡ true → OnOk result (KeepsClean engine.old.geometry engine.old.mapping engine.new.mapping) }
     ensures tells { Tells (ram engine.old) (ram engine.new) result }
@@ -56,6 +59,7 @@ fn make_place<N: Nand>(engine: &mut Engine<N>, sector: u32) -> Result<(), WriteF
     ensures fault { engine.new.fault ≡ fault_after None result }
     ensures geometry { engine.new.geometry ≡ engine.old.geometry }
     ensures honest { N.honest engine.new.nand ≡ N.honest engine.old.nand }
+    ensures calm { N.calm engine.new.nand ≡ N.calm engine.old.nand }
     ensures failed { N.failed engine.old.nand ≤ N.failed engine.new.nand }
     ensures rose { result ≡ Err WriteFault.Bus → HasRisen (N.failed engine.old.nand) (N.failed engine.new.nand) }
     ensures place { OnOk result (CanLoad engine.new.mapping sector) }
@@ -83,7 +87,8 @@ fn make_place<N: Nand>(engine: &mut Engine<N>, sector: u32) -> Result<(), WriteF
     }
 }
 
-// The row of a sector's newest page. A fault stops the engine.
+// The row of a sector's newest page. A fault stops the engine. Whatever the die does, the row is the one that
+// memory has, or else the one that a sound translation page gives.
 fn find_row<N: Nand>(engine: &mut Engine<N>, sector: u32) -> Result<Option<u32>, WriteFault>
     requires safe { IsSafe N.flash engine.old }
     requires going { engine.old.fault ≡ None }
@@ -91,9 +96,11 @@ fn find_row<N: Nand>(engine: &mut Engine<N>, sector: u32) -> Result<Option<u32>,
     ensures safe { IsSafe N.flash engine.new }
     ensures memory { ram engine.new ≡ record (ram engine.old) { fault = fault_after None result } }
     ensures honest { N.honest engine.new.nand ≡ N.honest engine.old.nand }
+    ensures calm { N.calm engine.new.nand ≡ N.calm engine.old.nand }
     ensures failed { N.failed engine.old.nand ≤ N.failed engine.new.nand }
     ensures rose { result ≡ Err WriteFault.Bus → HasRisen (N.failed engine.old.nand) (N.failed engine.new.nand) }
     ensures faults { IfErr result IsReadFault }
+    ensures checked { IfOk result (FindsRow (ram engine.old) sector (page_in engine.new.scratch)) }
     ensures row { IfOk result (λ row. ForSome row (λ r. r < row_count engine.old.geometry)) }
     ensures same { N.honest engine.old.nand ≡ true → result ≢ Err WriteFault.Bus → N.flash engine.new.nand ≡ N.flash engine.old.nand }
     ensures truth { N.honest engine.old.nand ≡ true → IsTrue None (ram engine.old) (image_in N.flash engine.old) →
@@ -101,11 +108,13 @@ fn find_row<N: Nand>(engine: &mut Engine<N>, sector: u32) -> Result<Option<u32>,
         (λ row. row ≡ newest_row (image_in N.flash engine.old) (Sector sector))
         (λ fault. fault ≡ WriteFault.Bus) }
 {
-    let answer = engine.row_of_sector(sector);
-    if let Err(fault) = &answer {
-        engine.fault = Some(*fault);
+    match engine.row_of_sector(sector) {
+        Ok(row) => Ok(row),
+        Err(fault) => {
+            engine.fault = Some(fault);
+            Err(fault)
+        }
     }
-    answer
 }
 
 // Sees that there is room for the sector's page and a place for its entry, and finds the row that it
@@ -119,10 +128,12 @@ fn prepare<N: Nand>(engine: &mut Engine<N>, sector: u32) -> Result<Option<u32>, 
     ensures fault { engine.new.fault ≡ fault_after None result }
     ensures geometry { engine.new.geometry ≡ engine.old.geometry }
     ensures honest { N.honest engine.new.nand ≡ N.honest engine.old.nand }
+    ensures calm { N.calm engine.new.nand ≡ N.calm engine.old.nand }
     ensures failed { N.failed engine.old.nand ≤ N.failed engine.new.nand }
     ensures rose { result ≡ Err WriteFault.Bus → HasRisen (N.failed engine.old.nand) (N.failed engine.new.nand) }
     ensures place { OnOk result (CanLoad engine.new.mapping sector) }
     ensures row { IfOk result (λ row. ForSome row (λ r. r < row_count engine.old.geometry)) }
+    ensures checked { IfOk result (FindsRow (ram engine.new) sector (page_in engine.new.scratch)) }
     ensures keys { keys_of engine.new.mapping.cached ≡ keys_of engine.old.mapping.cached }
     ensures limits { HasLimitsOf engine.old.mapping engine.new.mapping }
     ensures idle { OnOk result (IsIdle (ram engine.new)) }
@@ -150,10 +161,12 @@ fn make_ready<N: Nand>(engine: &mut Engine<N>, sector: u32) -> Result<(), CallFa
     ensures fault { engine.new.fault ≡ standing_after result }
     ensures geometry { engine.new.geometry ≡ engine.old.geometry }
     ensures honest { N.honest engine.new.nand ≡ N.honest engine.old.nand }
+    ensures calm { N.calm engine.new.nand ≡ N.calm engine.old.nand }
     ensures failed { N.failed engine.old.nand ≤ N.failed engine.new.nand }
     ensures rose { result ≡ Err (CallFault.Engine WriteFault.Bus) → HasRisen (N.failed engine.old.nand) (N.failed engine.new.nand) }
     ensures holds { OnOk result (IsSome (slot_of engine.new.mapping sector)) }
     ensures recent { OnOk result (IsMostRecent sector engine.new.mapping) }
+    ensures checked { OnOk result (IsLookedUp sector (ram engine.new) (page_in engine.new.scratch)) }
     ensures keys { OnOk result (keys_of engine.new.mapping.cached ≡ order_after engine.old.mapping sector) }
     ensures cost { OnOk result (IsReady sector (ram engine.old) (ram engine.new)) }
     ensures unwritten { result ≡ Err CallFault.OutOfMemory → IsReady sector (ram engine.old) (ram engine.new) }
@@ -189,6 +202,7 @@ pub(crate) fn write_ready<N: Nand>(
     ensures fault { engine.new.fault ≡ standing_after result }
     ensures geometry { engine.new.geometry ≡ engine.old.geometry }
     ensures honest { N.honest engine.new.nand ≡ N.honest engine.old.nand }
+    ensures calm { N.calm engine.new.nand ≡ N.calm engine.old.nand }
     ensures failed { N.failed engine.old.nand ≤ N.failed engine.new.nand }
     ensures rose { result ≡ Err (CallFault.Engine WriteFault.Bus) → HasRisen (N.failed engine.old.nand) (N.failed engine.new.nand) }
     ensures recent { OnOk result (IsMostRecent sector engine.new.mapping) }
@@ -222,6 +236,7 @@ pub(crate) fn trim_ready<N: Nand>(engine: &mut Engine<N>, sector: u32) -> Result
     ensures fault { engine.new.fault ≡ standing_after result }
     ensures geometry { engine.new.geometry ≡ engine.old.geometry }
     ensures honest { N.honest engine.new.nand ≡ N.honest engine.old.nand }
+    ensures calm { N.calm engine.new.nand ≡ N.calm engine.old.nand }
     ensures failed { N.failed engine.old.nand ≤ N.failed engine.new.nand }
     ensures rose { result ≡ Err (CallFault.Engine WriteFault.Bus) → HasRisen (N.failed engine.old.nand) (N.failed engine.new.nand) }
     ensures recent { OnOk result (IsMostRecent sector engine.new.mapping) }

@@ -15,6 +15,7 @@ translations-preserved g c = record {
   fault = c.in_ok-flush_translation.ensures.fault;
   geometry = c.flush_translation.ensures.geometry ∙ c.translations.invariant.geometry;
   as_honest = c.flush_translation.ensures.honest ∙ c.translations.invariant.as_honest;
+  as_calm = c.flush_translation.ensures.calm ∙ c.translations.invariant.as_calm;
   faults = omega (arith, c.translations.invariant.faults, c.flush_translation.ensures.failed);
   keys = c.flush_translation.ensures.keys ∙ c.translations.invariant.keys;
   limits = limits_then _ _ _ c.translations.invariant.limits c.flush_translation.ensures.limits;

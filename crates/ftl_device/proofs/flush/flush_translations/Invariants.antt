@@ -15,6 +15,7 @@ invariant-translations g l = record {
   fault : l.engine.fault ≡ None;
   geometry : l.engine.geometry ≡ l.initial.engine.geometry;
   as_honest : g.N.PageSource.honest l.engine.nand ≡ g.N.PageSource.honest l.initial.engine.nand;
+  as_calm : g.N.PageSource.calm l.engine.nand ≡ g.N.PageSource.calm l.initial.engine.nand;
   faults : g.N.PageSource.failed l.initial.engine.nand ≤ g.N.PageSource.failed l.engine.nand;
   keys : keys_of l.engine.mapping.cached ≡ keys_of l.initial.engine.mapping.cached;
   limits : HasLimitsOf l.initial.engine.mapping l.engine.mapping;

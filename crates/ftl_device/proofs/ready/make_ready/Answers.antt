@@ -3,6 +3,7 @@ use Rattle.collection.specs.Safe.{IsIdle, ram}
 use Rattle.ftl_device.proofs.ReadyLemmas.{same_slots, most_recent}
 use Rattle.ftl_device.proofs.CostLemmas.{order_ready, ready_then}
 use Rattle.ftl_device.proofs.RoomLemmas.{idle_loaded}
+use Rattle.ftl_device.proofs.ReadLemmas.{is_looked_up}
 use Rattle.ftl_device.proofs.ready.make_ready.Goals as goal
 
 pub returns-in_err-cache_sector-clause-cached : goal.returns-in_err-cache_sector-clause-cached
@@ -27,3 +28,6 @@ returns-clause-idle g c = λ none. idle_loaded c.prepare.new.engine c.cache_sect
 
 pub returns-in_err-cache_sector-clause-idle : goal.returns-in_err-cache_sector-clause-idle
 returns-in_err-cache_sector-clause-idle g c = λ none. subst (λ e. IsIdle (ram e)) (sym c.in_err-cache_sector.ensures.refused) c.in_ok-row.ensures.idle
+
+pub returns-clause-checked : goal.returns-clause-checked
+returns-clause-checked g c = is_looked_up c.prepare.new.engine c.cache_sector.new.self c.args.sector c.in_ok-row.row c.in_ok-cache_sector.ensures.loaded c.in_ok-row.ensures.checked

@@ -7,6 +7,7 @@ use Rattle.ftl_device.proofs.FlushLoops.{engine_keeps, engine_refused}
 use Rattle.ftl_device.proofs.ReadyLemmas.{place_stays}
 use Rattle.ftl_device.proofs.CostLemmas.{ready_found}
 use Rattle.ftl_device.proofs.PrepareLemmas.{tells_then, tells_found, went_found, found_after, idle_after}
+use Rattle.ftl_device.proofs.ReadLemmas.{finds_noted}
 use Rattle.ftl_device.proofs.ready.prepare.Goals as goal
 
 pub returns-clause-place : goal.returns-clause-place
@@ -59,3 +60,6 @@ pub returns-in_err-make_room-clause-truth : goal.returns-in_err-make_room-clause
 returns-in_err-make_room-clause-truth g c =
     let p = err_from_is_err_and c.from_residual.result c.from_residual.ensures.1 in
     rw (p.1, p.2) (λ honest w. refused_room (ram c.args.engine.now) (ram c.make_room.new.engine) _ _ _ (c.in_err-make_room.ensures.truth honest w))
+
+pub returns-clause-checked : goal.returns-clause-checked
+returns-clause-checked g c = finds_noted c.find_row.result (ram c.make_place.new.engine) (ram c.find_row.new.engine) c.args.sector _ _ c.find_row.ensures.memory c.find_row.ensures.checked
