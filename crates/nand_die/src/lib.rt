@@ -21,6 +21,7 @@ mod fault;
 pub mod laws;
 mod make;
 mod strike;
+mod tape;
 
 pub use buses::{CycleFuse, Garble};
 pub use die::Die;
