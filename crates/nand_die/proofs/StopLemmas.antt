@@ -1,7 +1,7 @@
 -- What a stop leaves of a die.
-use Rattle.std.proofs.Common.{◌≡◌, ◌⊎◌, inl, inr, ℕ, ◌-◌, Bool, true, false, not, List, [], ◌∷◌, refl, sym, ◌∙◌, ap, subst, ◌==◌, ◌&&◌, ◌||◌, if◌then◌else◌, Ok, Err, Option, None}
+use Rattle.std.proofs.Common.{◌≡◌, inl, inr, ℕ, ◌-◌, Bool, true, false, not, List, [], ◌∷◌, refl, sym, ◌∙◌, ap, subst, ◌==◌, ◌&&◌, ◌||◌, if◌then◌else◌, Ok, Err, Option, Some, None, arith}
 use Rattle.std.specs.Prelude.{Result, OnOk}
-use Rattle.std.proofs.lemmas.Bool.{eqb-true}
+use Rattle.std.proofs.lemmas.Bool.{eqb-true, eq-eqb, ne_eqb}
 use Rattle.page_layout.specs.declared.geometry.Geometry.{Geometry}
 use Rattle.page_layout.specs.Page.{Page}
 use Rattle.page_layout.specs.Flash.{Operation, Program, Erase, after, page_at, block_at}
@@ -11,13 +11,14 @@ use Rattle.onfi_cycles.specs.declared.nand.BusFault.TheVariants.{NoReset, Unknow
 use Rattle.onfi_cycles.specs.Spelling.{refused}
 use Rattle.onfi_cycles.specs.Recorded.{Notes}
 use Rattle.nand_die.specs.Tape.{next_record}
+use Rattle.nand_die.specs.Laws.{CalmLaw, StoppedLaw, RoomLaw}
 use Rattle.onfi_cycles.specs.Cycles.{Phase, Unreset, Ready, Taking, Confirming, Loading, NoOutput, DieState, Cycle, Command, Address, DataIn, DataOut, Due, Moves, Resets, Programs, Erases, Refuses, FailsBy, command_due, given_up}
 use Rattle.nand_die.specs.declared.fault.Stop.{Stop}
 use Rattle.nand_die.specs.declared.fault.Stop.TheVariants.{Before, After, Torn}
 use Rattle.nand_die.specs.BusState.{IsProtocolFault}
 use Rattle.nand_die.specs.ChipValue.{ChipValue, Acts, answered, answer_to}
 use Rattle.nand_die.specs.Stopping.{is_change, left_by_stop}
-use Rattle.nand_die.specs.DieValue.{DieValue, IsCall, after_cycle, chip_of, die_of, done_as, due_now, is_calm, record_after, stops}
+use Rattle.nand_die.specs.DieValue.{DieValue, IsCall, after_cycle, chip_of, die_of, done_as, due_now, failed_as, is_calm, record_after, stops}
 
 no_change : (b : Bool) → is_change (if b then Resets else Refuses NoReset) ≡ true → ⊥
 no_change true e = cc
@@ -202,3 +203,28 @@ done_noted d e due left (Err fault) is = tt
 pub run_noted : (d x e : DieValue) (code left : ℕ) (r : Result (Unit {0}) BusFault) → x ≡ die_of (chip_of d) d.stop left d.stopped d.failures d.recorded d.room
     → e ≡ done_as x (due_now x (Command code)) x.left → OnOk r (true ≡ true → Notes (due_now d (Command code)) d.recorded e.state e.recorded)
 run_noted d x e code left r is does = subst (λ (y : DieValue). OnOk r (true ≡ true → Notes (due_now y (Command code)) y.recorded e.state e.recorded)) is (done_noted x e (due_now x (Command code)) x.left r does)
+
+-- ---- laws
+
+pub calm_law : CalmLaw
+calm_law d e = (calm_failures d e, λ cycle. ap (λ b. if b then refused Device else answer_to (due_now d cycle)) (calm_runs d cycle e))
+
+after_stopped : (d : DieValue) (cycle : Cycle) → d.stopped ≡ true → after_cycle cycle d ≡ failed_as d (chip_of d) d.left
+after_stopped d (Command code) e = rw e refl
+after_stopped d (Address byte) e = rw e refl
+after_stopped d (DataIn bytes) e = rw e refl
+after_stopped d (DataOut count) e = rw e refl
+
+pub stopped_law : StoppedLaw
+stopped_law d cycle e = let h = after_stopped d cycle e in (
+  ap (λ b. if b || stops d cycle then refused Device else answer_to (due_now d cycle)) e,
+  ap (λ (x : DieValue). x.stopped) h,
+  ap (λ (x : DieValue). x.state.flash) h,
+  ap (λ (x : DieValue). x.changes) h,
+)
+
+pub room_law : RoomLaw
+room_law room op r = (
+  λ none. ap (λ b. if b then None else noted (op ∷ []) (Some r)) (eq-eqb room 0 none),
+  λ some. ap (λ b. if b then None else noted (op ∷ []) (Some r)) (ne_eqb room 0 (λ e. omega (arith, e, some))),
+)

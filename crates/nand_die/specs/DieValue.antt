@@ -9,7 +9,7 @@ use Rattle.onfi_cycles.specs.Cycles.{DieState, Due, Moves, Resets, Programs, Era
 use Rattle.onfi_cycles.specs.Spelling.{refused}
 use Rattle.nand_die.specs.declared.fault.Fault.{Fault}
 use Rattle.nand_die.specs.declared.fault.Stop.{Stop}
-use Rattle.nand_die.specs.declared.fault.Stop.TheVariants.{Before, After, Torn}
+use Rattle.nand_die.specs.declared.fault.Stop.TheVariants.{Before}
 use Rattle.nand_die.specs.BusState.{IsProtocolFault}
 use Rattle.nand_die.specs.Tape.{next_record}
 use Rattle.nand_die.specs.ChipValue.{ChipValue, fresh, answered, answer_to}

@@ -144,9 +144,17 @@ impl Die {
     /// - Else `SoundFaultPage` where the page has a sound record.
     pub fn set_faults(&mut self, faults: Vec<Fault>) -> Result<(), DieFault>
         ensures ok { OnOk result (self.new ≡ record {
-            state = self.old.state; faults = faults.items; asked = 0; changes = self.old.changes;
-            stop = self.old.stop; left = self.old.left; stopped = self.old.stopped; failures = self.old.failures;
-            recorded = self.old.recorded; room = self.old.room }) }
+          state = self.old.state;
+          faults = faults.items;
+          asked = 0;
+          changes = self.old.changes;
+          stop = self.old.stop;
+          left = self.old.left;
+          stopped = self.old.stopped;
+          failures = self.old.failures;
+          recorded = self.old.recorded;
+          room = self.old.room;
+        }) }
         ensures left { OnOk result (ArePagesLeft self.old.state.flash.geometry faults.items) }
         ensures err { IfErr result (HasFirstWrong self.old.state.flash.geometry faults.items) }
         ensures kept { OnErr result (self.new ≡ self.old) }

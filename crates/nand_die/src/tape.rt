@@ -98,12 +98,7 @@ impl Tape {
     ghost use Rattle.nand_die.specs.Tape.{TapeValue};
 
     // A record that begins with this image, with room for so many operations.
-    pub fn new(
-        alloc: Global,
-        geometry: Geometry,
-        image: &[u8],
-        room: u32,
-    ) -> Result<Tape, DieFault>
+    pub fn new(alloc: Global, geometry: Geometry, image: &[u8], room: u32) -> Result<Tape, DieFault>
         ensures ok { IfOk result (λ tape. (tape.geometry ≡ geometry) × (tape.recording ≡ record { image = raw_image geometry image.now; log = [] }) × (tape.free ≡ room)) }
         ensures err { IfErr result (λ fault. fault ≡ DieFault.OutOfMemory) }
     {

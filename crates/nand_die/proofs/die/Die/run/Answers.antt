@@ -12,8 +12,7 @@ use Rattle.nand_die.proofs.die.Die.run.Goals as goal
 pub invariant_of-self : goal.invariant_of-self
 invariant_of-self c =
     let i = c.self.inside in
-    let same = c.command-answer.ensures.same in
-    (
+    let same = c.command-answer.ensures.same in (
       subst (λ (g : Geometry). IsStop g i.stop) (sym same) c.self.invariant.0,
       subst (λ (g : Geometry). IsTapeOf g c.note_program.new.tape) (c.geometry-geometry.ensures ∙ sym same) c.note_program.ensures.of,
     )
