@@ -104,12 +104,7 @@ const GARBLES: [(&str, u64, usize, u8, &[Call]); 5] = [
         1,
         3,
         0xFF,
-        &[
-            RESET,
-            IDENTIFY,
-            AT_20,
-            Call::Out(&[0x4F, 0x4E, 0x46, 0xB6]),
-        ],
+        &[RESET, IDENTIFY, AT_20, Call::Out(&[0x4F, 0x4E, 0x46, 0xB6])],
     ),
     (
         "a piece that is too short",
