@@ -53,7 +53,6 @@ fn turn_ready<N: Nand>(engine: &mut Engine<N>) -> Result<(), CallFault>
     Ok(())
 }
 
-
 impl<N: Nand> Device<N> {
     /// Gives the device an idle moment. Where a bad block holds a newest page, room is made as by
     /// `write`, and the one of lowest row is copied out; where its sector is then moved and not
