@@ -375,6 +375,8 @@ class Device:
         def body():
             self.make_room(False)
             rows = [r for r in self.newest.values() if self.cls[r // self.g.P]]
+            if not rows:
+                return
             row = min(rows)
             number = self.die.rows[row].number
             self.copy(row, False)

@@ -180,7 +180,7 @@ fn hold_steps<N: Nand>(rt: &impl Abort, device: &mut Device<N>, name: &str, step
 }
 
 // A block is good, and was erased so often.
-fn row_of(rt: &impl Abort, blocks: &Blocks, block: u32) -> (bool, u32) {
+pub fn row_of(rt: &impl Abort, blocks: &Blocks, block: u32) -> (bool, u32) {
     assert!(rt; block < blocks.geometry().blocks());
     let table = blocks.table();
     (table.class(block) == Class::Good, table.wear(block))

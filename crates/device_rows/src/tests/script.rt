@@ -5,6 +5,8 @@ ghost use Rattle.ftl_device.specs.Device.{IsDevice};
 
 use super::bench::{driver_on, formatted_die, given_up, started};
 use super::calls::{Call, make, read};
+use super::cases::row_of;
+use allocation::Blocks;
 use ftl_device::{Device, DeviceFault};
 use nand_die::Die;
 use onfi_cycles::{Driver, Nand};
@@ -175,6 +177,23 @@ fn give_each<N: Nand>(rt: &impl Abort, device: &mut Device<N>, script: &mut Scri
     compare(rt, device, script);
 }
 
+// The erases of all blocks.
+fn erases_of(rt: &impl Abort, blocks: &Blocks) -> u32 {
+    let mut erases = 0u32;
+    for block in 0..blocks.geometry().blocks() {
+        let (_, wear) = row_of(rt, blocks, block);
+        erases = erases.saturating_add(wear);
+    }
+    erases
+}
+
+// A device has come to this.
+fn hold_end<N: Nand>(rt: &impl Abort, device: &Device<N>, its: &Stage) {
+    let blocks = &device.engine.blocks;
+    let found = (blocks.free(), blocks.good(), erases_of(rt, blocks));
+    assert_eq!(rt; (device.engine.next, found), (its.next, its.blocks));
+}
+
 // A device is started on a die that holds what the list says, is given 250 commands, and is flushed if
 // that is wanted.
 fn give_started<N: Nand + Drop>(
@@ -182,20 +201,29 @@ fn give_started<N: Nand + Drop>(
     alloc: Global,
     nand: N,
     geometry: &Geometry,
-    capacity: u32,
+    its: &Stage,
     flushed: bool,
     script: &mut Script,
 ) -> Result<(N, Geometry), Fail>
     requires { (N.flash nand).geometry ≡ geometry.now }
     ensures { IfOk result (λ pair. (N.flash pair.0).geometry ≡ pair.1) }
 {
-    let mut device = started(alloc, nand, geometry, capacity)?;
+    let mut device = started(alloc, nand, geometry, its.capacity)?;
     compare(rt, &mut device, script);
     give_each(rt, &mut device, script);
     if flushed {
         change(rt, &mut device, script, Call::Flush);
     }
+    hold_end(rt, &device, its);
     Ok(given_up(device))
+}
+
+// A device: the capacity of its cache, and at its end the next sequence, the free and the good blocks, and
+// the erases of all blocks that it counts. `bench/device_model.py` says so too.
+struct Stage {
+    capacity: u32,
+    next: u64,
+    blocks: (u32, u32, u32),
 }
 
 // A die, and the devices that are started on it one after the other.
@@ -206,8 +234,8 @@ struct Row {
     failing: &'static [u16],
     // Whether they leave bytes 00h in the page. No table page need tell of a block that failed so.
     torn: bool,
-    // The capacities of the devices. Where the failures leave no bytes each is flushed at its end.
-    capacities: &'static [u32],
+    // The devices. Where the failures leave no bytes each is flushed at its end.
+    devices: &'static [Stage],
 }
 
 const FIRST: (u32, u32, u32, u32) = (32, 8, 32, 32);
@@ -225,7 +253,28 @@ const ROWS: [Row; 6] = [
             5, 30, 31, 200, 210, 333, 400, 401, 555, 700, 801, 900, 1001, 1100, 1300,
         ],
         torn: false,
-        capacities: &[4, 1, 16, 2],
+        devices: &[
+            Stage {
+                capacity: 4,
+                next: 247,
+                blocks: (9, 27, 12),
+            },
+            Stage {
+                capacity: 1,
+                next: 615,
+                blocks: (9, 23, 58),
+            },
+            Stage {
+                capacity: 16,
+                next: 831,
+                blocks: (9, 20, 87),
+            },
+            Stage {
+                capacity: 2,
+                next: 1159,
+                blocks: (9, 18, 129),
+            },
+        ],
     },
     Row {
         sizes: FIRST,
@@ -233,31 +282,136 @@ const ROWS: [Row; 6] = [
             2, 60, 90, 250, 251, 340, 420, 500, 600, 601, 750, 850, 950, 1020, 1200,
         ],
         torn: true,
-        capacities: &[3, 64, 32, 40],
+        devices: &[
+            Stage {
+                capacity: 3,
+                next: 252,
+                blocks: (9, 27, 11),
+            },
+            Stage {
+                capacity: 64,
+                next: 469,
+                blocks: (9, 24, 35),
+            },
+            Stage {
+                capacity: 32,
+                next: 658,
+                blocks: (9, 22, 56),
+            },
+            Stage {
+                capacity: 40,
+                next: 837,
+                blocks: (9, 20, 75),
+            },
+        ],
     },
     Row {
         sizes: LONG,
         failing: &[9, 10, 40, 300, 500, 650, 651, 900, 1200],
         torn: false,
-        capacities: &[5, 48, 1, 3],
+        devices: &[
+            Stage {
+                capacity: 5,
+                next: 247,
+                blocks: (8, 21, 3),
+            },
+            Stage {
+                capacity: 48,
+                next: 484,
+                blocks: (9, 20, 18),
+            },
+            Stage {
+                capacity: 1,
+                next: 863,
+                blocks: (8, 16, 43),
+            },
+            Stage {
+                capacity: 3,
+                next: 1221,
+                blocks: (9, 15, 66),
+            },
+        ],
     },
     Row {
         sizes: LONG,
         failing: &[1, 2, 77, 350, 480, 700, 800, 1000, 1101],
         torn: true,
-        capacities: &[2, 48, 64, 50],
+        devices: &[
+            Stage {
+                capacity: 2,
+                next: 280,
+                blocks: (9, 21, 6),
+            },
+            Stage {
+                capacity: 48,
+                next: 515,
+                blocks: (9, 19, 18),
+            },
+            Stage {
+                capacity: 64,
+                next: 710,
+                blocks: (9, 18, 29),
+            },
+            Stage {
+                capacity: 50,
+                next: 913,
+                blocks: (9, 17, 40),
+            },
+        ],
     },
     Row {
         sizes: SHORT,
-        failing: &[100, 900, 1800],
+        failing: &[100, 600, 1100],
         torn: false,
-        capacities: &[4, 8, 1, 32],
+        devices: &[
+            Stage {
+                capacity: 4,
+                next: 232,
+                blocks: (9, 31, 35),
+            },
+            Stage {
+                capacity: 8,
+                next: 473,
+                blocks: (9, 31, 95),
+            },
+            Stage {
+                capacity: 1,
+                next: 796,
+                blocks: (8, 30, 176),
+            },
+            Stage {
+                capacity: 32,
+                next: 971,
+                blocks: (8, 29, 220),
+            },
+        ],
     },
     Row {
         sizes: SHORT,
-        failing: &[50, 51, 52, 1500, 1501, 1800],
+        failing: &[50, 51, 52, 700, 701, 900],
         torn: true,
-        capacities: &[8, 64, 40, 33],
+        devices: &[
+            Stage {
+                capacity: 8,
+                next: 205,
+                blocks: (9, 29, 30),
+            },
+            Stage {
+                capacity: 64,
+                next: 419,
+                blocks: (9, 29, 77),
+            },
+            Stage {
+                capacity: 40,
+                next: 605,
+                blocks: (8, 27, 123),
+            },
+            Stage {
+                capacity: 33,
+                next: 792,
+                blocks: (8, 26, 163),
+            },
+        ],
     },
 ];
 
@@ -278,19 +432,11 @@ fn give_row(rt: &impl Abort, alloc: Global, row: &Row) -> Result<u32, Fail> {
     let mut script = Script::new();
     let (mut geometry, page_left) = sizes_of(row)?;
     let mut driver = formatted_die(alloc, geometry, row.failing, page_left)?;
-    for capacity in row.capacities {
-        let (given, its) = give_started(
-            rt,
-            alloc,
-            driver,
-            &geometry,
-            *capacity,
-            !row.torn,
-            &mut script,
-        )?;
+    for its in row.devices {
+        let (given, now) = give_started(rt, alloc, driver, &geometry, its, !row.torn, &mut script)?;
         let die = given.into_bus();
         assert_eq!(rt; die.abuse(), 0);
-        geometry = its;
+        geometry = now;
         driver = driver_on(die, geometry)?;
     }
     Ok(script.done())
