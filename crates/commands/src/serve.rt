@@ -1,5 +1,5 @@
 //! The command `serve GEOM C IMAGE CERT OUT`.
-ghost use Rattle.std.specs.Prelude.{◌≡◌, length, filter, min, Ok, IfOk, IfErr, OnOk, OnErr};
+ghost use Rattle.std.specs.Prelude.{◌≡◌, ◌<◌, length, filter, min, Ok, IfOk, IfErr, OnOk, OnErr};
 ghost use Rattle.std.specs.List.{range_with_len};
 ghost use Rattle.std.specs.Io.KnownBytes.{Keeps};
 ghost use Rattle.onfi_cycles.specs.Driver.{flash_by};
@@ -28,6 +28,14 @@ use std::io::{Read, Write};
 // The least class of a bad block in a certificate.
 const LEAST_BAD: u8 = 4;
 
+// Whether a certificate gives a block as bad.
+fn is_bad(certificate: &Certificate, block: u32) -> bool
+    requires { block < length certificate.now.blocks }
+    ensures { result ≡ is_bad_in certificate.now block }
+{
+    certificate.block(block).class >= LEAST_BAD
+}
+
 // The blocks, of so many, that a certificate gives as bad.
 fn bad_blocks(
     alloc: Global,
@@ -39,7 +47,7 @@ fn bad_blocks(
 {
     let mut bad = Vec::new(alloc);
     for block in 0..blocks.min(certificate.geometry().blocks()) {
-        if certificate.block(block).class >= LEAST_BAD {
+        if is_bad(certificate, block) {
             bad.push(block)?;
         }
     }
@@ -66,7 +74,6 @@ fn die_of<'a>(
     };
     match Die::from_image(alloc, asked.geometry, bytes, &bad) {
         Ok(die) => Ok(die),
-        Err(DieFault::WrongLength) => Err(CommandFault::WrongLength),
         Err(fault) => Err(CommandFault::Die(fault)),
     }
 }
