@@ -20,4 +20,5 @@ pub mod RunLemmas
 pub mod ToldLemmas
 pub mod LoopLemmas
 pub mod AcceptedLemmas
-mod RoomLemmas
+pub mod RoomLemmas
+pub mod PrepareLemmas

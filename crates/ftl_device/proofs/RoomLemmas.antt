@@ -2,6 +2,7 @@
 use Rattle.std.proofs.Common.{◌≡◌, ◌≢◌, ℕ, zero, suc, ◌+◌, ◌/◌, ◌<◌, ◌≤◌, ◌∙◌, inl, inr, Bool, true, false, not, ◌||◌, cond, List, [], ◌∷◌, length, get_or, replicate, count_by, Option, Some, None, Result, Ok, Err, OnOk, IfErr, MatchResult, refl, sym, ap, subst, arith}
 use Rattle.std.specs.Map.{keys_of}
 use Rattle.std.proofs.lemmas.List.{get_or-replicate}
+use Rattle.std.proofs.lemmas.List.Sums.{sum_by-cons}
 use Rattle.page_layout.specs.declared.geometry.Geometry.{Geometry}
 use Rattle.page_layout.specs.Page.{Image}
 use Rattle.page_layout.specs.Geometry.{entries, translation_pages}
@@ -28,13 +29,16 @@ use Rattle.ftl_device.proofs.ReadLemmas.{loaded_moves_none}
 
 -- ---- good blocks
 
-one : Bool → ℕ
+abbrev one : Bool → ℕ
 one b = cond b 1 0
 
 one_fewer : (x y : Bool) → (x ≡ false → y ≡ false) → one y ≤ one x
 one_fewer true true h = omega arith
 one_fewer true false h = omega arith
 one_fewer false y h = (let e : y ≡ false = h refl in let f : one y ≡ 0 = ap one e in omega arith)
+
+counted : (x : TableRow) (xs : List TableRow) → good_count (x ∷ xs) ≡ one (is_good x) + good_count xs
+counted x xs = sum_by-cons (λ r. one (is_good r)) x xs
 
 -- where bad rows stay bad
 fewer_rows : (xs ys : List TableRow) → length ys ≡ length xs → ((b : ℕ) → b < length xs → is_good_at xs b ≡ false → is_good_at ys b ≡ false) → good_count ys ≤ good_count xs
@@ -45,7 +49,7 @@ fewer_rows (x ∷ xs) (y ∷ ys) size h =
     let tails : length ys ≡ length xs = cc in
     let rest : good_count ys ≤ good_count xs = fewer_rows xs ys tails (λ b lt. h (suc b) (omega arith)) in
     let first : one (is_good y) ≤ one (is_good x) = one_fewer (is_good x) (is_good y) (h 0 (omega arith)) in
-    omega arith
+    omega (arith, counted x xs, counted y ys)
 
 pub good_fewer : (a b : Ram) → IsRam a → IsRam b → GoesOn a b → good_count b.blocks.table ≤ good_count a.blocks.table
 good_fewer a b s t goes =
@@ -136,23 +140,23 @@ goes_on b c s x = record { geometry = x.geometry; next = x.next; bad = λ k with
     shut_bad t k bad = ap (λ g. not g || is_closed t k) bad
 
 -- where as many are good, those that are bad were bad
+head_bad : (p q : Bool) → q ≡ false → one p ≤ one q → p ≡ false
+head_bad true q bad le = (let e : one q ≡ 0 = ap one bad in absurd (omega arith))
+head_bad false q bad le = refl
+
 same_rows : (xs ys : List TableRow) → length ys ≡ length xs → ((b : ℕ) → b < length xs → is_good_at xs b ≡ false → is_good_at ys b ≡ false) → good_count ys ≡ good_count xs → (k : ℕ) → k < length xs → is_good_at ys k ≡ false → is_good_at xs k ≡ false
 same_rows [] ys size h same k lt bad = absurd (omega arith)
 same_rows (x ∷ xs) [] size h same k lt bad = (let no : ⊥ = cc in absurd no)
-same_rows (x ∷ xs) (y ∷ ys) size h same k lt bad =
+same_rows (x ∷ xs) (y ∷ ys) size h same zero lt bad =
+    let tails : length ys ≡ length xs = cc in
+    let rest : good_count ys ≤ good_count xs = fewer_rows xs ys tails (λ b below. h (suc b) (omega arith)) in
+    head_bad (is_good x) (is_good y) bad (omega (arith, counted x xs, counted y ys))
+same_rows (x ∷ xs) (y ∷ ys) size h same (suc k) lt bad =
     let tails : length ys ≡ length xs = cc in
     let lower : (b : ℕ) → b < length xs → is_good_at xs b ≡ false → is_good_at ys b ≡ false = λ b below. h (suc b) (omega arith) in
     let rest : good_count ys ≤ good_count xs = fewer_rows xs ys tails lower in
     let first : one (is_good y) ≤ one (is_good x) = one_fewer (is_good x) (is_good y) (h 0 (omega arith)) in
-    at k lt bad tails lower rest first
-  where
-    at : (k : ℕ) → k < length (x ∷ xs) → is_good_at (y ∷ ys) k ≡ false → length ys ≡ length xs → ((b : ℕ) → b < length xs → is_good_at xs b ≡ false → is_good_at ys b ≡ false) → good_count ys ≤ good_count xs → one (is_good y) ≤ one (is_good x) → is_good_at (x ∷ xs) k ≡ false
-    at zero lt bad tails lower rest first = head_bad (is_good x) (is_good y) bad (omega arith)
-    at (suc k) lt bad tails lower rest first = same_rows xs ys tails lower (omega arith) k (omega arith) bad
-
-    head_bad : (p q : Bool) → q ≡ false → one p ≤ one q → p ≡ false
-    head_bad true q bad le = (let e : one q ≡ 0 = ap one bad in absurd (omega arith))
-    head_bad false q bad le = refl
+    same_rows xs ys tails lower (omega (arith, counted x xs, counted y ys)) k (omega arith) bad
 
 good_same : (a b : Ram) → IsRam a → IsRam b → GoesOn a b → good_count b.blocks.table ≡ good_count a.blocks.table → (k : ℕ) → k < a.geometry.blocks → is_good_at b.blocks.table k ≡ false → is_good_at a.blocks.table k ≡ false
 good_same a b s t goes same k within bad =
@@ -192,12 +196,12 @@ rescued_by a b c x y z found s t u first then r d = record {
         let one_of = d.some is in
         let k : ℕ = one_of.0 in
         let e : b.blocks.geometry.blocks ≡ a.geometry.blocks = ap (λ (g : Geometry). g.blocks) (t.blocks_of ∙ first.geometry) in
-        let within : k < a.geometry.blocks = omega (arith, one_of.1.0.within) in
+        let within : k < a.geometry.blocks = omega (arith, one_of.1.within) in
         let many : good_count b.blocks.table ≡ good_count a.blocks.table = omega (arith, good_fewer a b s t first, good_fewer b c t u (goes_on b c t then)) in
-        let bad : is_good_at a.blocks.table k ≡ false = good_same a b s t first many k within one_of.1.0.bad in
+        let bad : is_good_at a.blocks.table k ≡ false = good_same a b s t first many k within one_of.1.bad in
         let less : live_at b.blocks k ≤ live_at a.blocks k = r.bad k within bad in
         let at_a : k < a.blocks.geometry.blocks = (let f : a.blocks.geometry.blocks ≡ a.geometry.blocks = ap (λ (g : Geometry). g.blocks) s.blocks_of in omega arith) in
-        (k, record { within = at_a; bad = bad; some = omega (arith, one_of.1.1) }, omega (arith, one_of.1.1))
+        (k, record { within = at_a; bad = bad; some = omega (arith, one_of.2) }, omega (arith, one_of.2))
 
 pub call_tells : (fault : WriteFault) (a b : Ram) → Tells {A = Unit {0}} a b (Err fault) → CallTells {A = Unit {0}} a b (Err (EngineFault fault))
 call_tells ReadOnly a b h = h
@@ -210,6 +214,15 @@ rescue_tells ReadOnly a b c t u goes fewer h = (omega arith, omega (arith, good_
 rescue_tells SequenceSpent a b c t u goes fewer h = h
 rescue_tells Damaged a b c t u goes fewer h = tt
 rescue_tells Bus a b c t u goes fewer h = tt
+
+abbrev call_err : CallFault → Result (Unit {0}) CallFault
+call_err fault = Err fault
+
+abbrev rescue_err : WriteFault → Result Bool WriteFault
+rescue_err fault = Err fault
+
+pub rescue_not_bus : (fault : WriteFault) → call_err (EngineFault fault) ≢ call_err (EngineFault Bus) → rescue_err fault ≢ rescue_err Bus
+rescue_not_bus fault ne e = (let same : fault ≡ Bus = cc in ne (ap (λ f. call_err (EngineFault f)) same))
 
 pub rescue_fewer : (a b c : Ram) → IsRam b → IsRam c → Goes b c → good_count b.blocks.table ≤ good_count a.blocks.table → good_count c.blocks.table ≤ good_count a.blocks.table
 rescue_fewer a b c t u goes fewer = omega (arith, good_fewer b c t u (goes_on b c t goes))

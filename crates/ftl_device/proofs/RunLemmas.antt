@@ -6,6 +6,7 @@ use Rattle.page_layout.specs.declared.geometry.Geometry.{Geometry}
 use Rattle.page_layout.specs.Page.{Image}
 use Rattle.page_layout.specs.Flash.{Flash, Operation}
 use Rattle.page_layout.specs.Array.{array_of}
+use Rattle.bad_blocks.specs.Table.{wear_at}
 use Rattle.allocation.specs.State.{State}
 use Rattle.mapping_cache.specs.Mapping.{HasLimitsOf}
 use Rattle.image_check.specs.Stale.{is_stale}
@@ -59,6 +60,7 @@ went_none old new s t same kept = record {
   leads = kept;
   follows = record { legal = λ accounts a. tt; accounted = λ accounts a. subst (IsAccounted accounts) (sym (ap (λ (x : Ram). x.blocks) same)) a };
   next = ap (λ (x : Ram). x.next) same ∙ omega arith;
+  wears = record { worn = λ b most. (let e : wear_at new.blocks.table b ≡ wear_at old.blocks.table b = ap (λ (x : Ram). wear_at x.blocks.table b) same in omega arith) };
 }
 
 read_shown : (g : Geometry) (bad : ℕ → Bool) (next : ℕ) (log call : List Operation) (image : Image) (n : ℕ) (bytes : List ℕ) (s t : step.State) (result : Result (Unit {0}) DeviceFault) → IfErr result IsReadRefusal → ReadStep g s n (read_reply_of bytes result) t → result ≢ Err BusFault → IfErr result (IsShown g bad next log call image)

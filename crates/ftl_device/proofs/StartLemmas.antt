@@ -1,8 +1,8 @@
 -- What a device starts with.
-use Rattle.std.proofs.Common.{◌≡◌, ℕ, ◌<◌, List, [], ◌∷◌, zero, suc, slice_get, Option, Some, None, sym, ap, subst, ◌∙◌, arith}
+use Rattle.std.proofs.Common.{◌≡◌, ℕ, ◌<◌, false, List, [], ◌∷◌, replicate, zero, suc, slice_get, Option, Some, None, refl, sym, ap, subst, ◌∙◌, arith}
 use Rattle.std.specs.List.{AllByRecursion}
 use Rattle.page_layout.specs.declared.geometry.Geometry.{Geometry}
-use Rattle.page_layout.specs.Geometry.{row_count}
+use Rattle.page_layout.specs.Geometry.{row_count, translation_pages}
 use Rattle.page_layout.specs.Flash.{Flash}
 use Rattle.bad_blocks.specs.Table.{good_count}
 use Rattle.certificate.specs.Claim.{Claim, sizes_of, good_blocks}
@@ -14,6 +14,7 @@ use Rattle.promises.specs.Legal.{accounts_of}
 use Rattle.image_check.specs.Accepted.{Acceptance}
 use Rattle.image_check.specs.Stale.{stale_sectors}
 use Rattle.collection.specs.State.{Ram}
+use Rattle.collection.specs.Safe.{IsIdle}
 use Rattle.collection.specs.Truth.{IsTrue}
 use Rattle.collection.specs.Log.{IsAccounted}
 use Rattle.ftl_device.specs.Begin.{begun_mapping, begun_ram, is_bad_in, free_in, is_scarce}
@@ -23,7 +24,7 @@ use Rattle.ftl_device.proofs.BeginLemmas.{true_from_agreement}
 
 -- ---- the parts that an engine is made of
 
-pub begun_from : (g h : Geometry) (directory : List (Option ℕ)) (mapping : MappingState) (blocks : State) (next : ℕ) (c : Claim) (stale : List ℕ) (r : Ram) → h ≡ g → directory ≡ c.directory → mapping ≡ begun_mapping h c stale → blocks ≡ begun h c.blocks → next ≡ c.next → r ≡ record { geometry = h; directory = directory; mapping = mapping; blocks = blocks; next = next; fault = None } → r ≡ begun_ram g c stale
+pub begun_from : (g h : Geometry) (directory : List (Option ℕ)) (mapping : MappingState) (blocks : State) (next : ℕ) (c : Claim) (stale : List ℕ) (r : Ram) → h ≡ g → directory ≡ c.directory → mapping ≡ begun_mapping h c stale → blocks ≡ begun h c.blocks → next ≡ c.next → r ≡ record { geometry = h; directory = directory; mapping = mapping; blocks = blocks; next = next; fault = None; pin = record { block = None; marks = replicate (translation_pages h) false } } → r ≡ begun_ram g c stale
 begun_from g h directory mapping blocks next c stale r same d m b n is =
     let whole : r ≡ begun_ram h c stale = cc in
     whole ∙ ap (λ x. begun_ram x c stale) same
@@ -40,6 +41,10 @@ directory_row h c directory k row fits same is at =
     omega arith
 
 -- ---- what it begins with
+
+-- nothing is moved or marked yet
+pub started_idle : (g : Geometry) (c : Claim) (stale : List ℕ) (r : Ram) → r ≡ begun_ram g c stale → IsIdle r
+started_idle g c stale r is = subst IsIdle (sym is) (record { moved = refl; unmarked = refl })
 
 -- the count of free blocks that was looked at is the engine's
 pub same_scarce : (n : ℕ) (r whole : Ram) → n ≡ free_count whole.blocks → r ≡ whole → is_scarce n ≡ is_scarce (free_count r.blocks)

@@ -1,17 +1,32 @@
-use Rattle.std.proofs.Common.{◌≡◌, ◌∙◌, subst, arith}
+use Rattle.std.proofs.Common.{◌≡◌, ◌∙◌, refl, subst, arith}
 use Rattle.std.proofs.lemmas.Result.{err_from_is_err_and}
 use Rattle.page_layout.specs.Geometry.{table_pages}
 use Rattle.collection.specs.Safe.{ram}
-use Rattle.collection.proofs.Logs.{went_then}
+use Rattle.collection.proofs.Logs.{went_same, went_then}
 use Rattle.collection.proofs.Memory.{table_then}
 use Rattle.ftl_device.specs.Flush.{AddsPages}
-use Rattle.ftl_device.proofs.FlushLoops.{page_fails, pages_more, tables_more}
+use Rattle.ftl_device.proofs.FlushLoops.{page_fails, pages_none, pages_more, tables_none, tables_more}
 use Rattle.ftl_device.proofs.flush.write_tables_once.Goals as goal
 
 pub returns-in_err-write_table-clause-went : goal.returns-in_err-write_table-clause-went
 returns-in_err-write_table-clause-went g c =
     let p = err_from_is_err_and c.from_residual.result c.from_residual.ensures.1 in
     rw (p.1, p.2) (λ honest ne. went_then _ _ _ _ _ _ c.pages.invariant.geometry (c.pages.invariant.went honest) (c.in_err-write_table.ensures.went (c.pages.invariant.as_honest ∙ honest) ne))
+
+pub pages-init : goal.pages-init
+pages-init g c = record {
+  safe = c.requires.safe;
+  fault = c.requires.going;
+  geometry = refl;
+  as_honest = refl;
+  faults = omega arith;
+  mapping = refl;
+  pin = refl;
+  table = record { fewer = omega arith; same = λ as_many. refl };
+  cost = pages_none (ram c.args.engine.now);
+  went = λ honest. went_same (ram c.args.engine.now) (g.N.PageSource.flash c.args.engine.now.nand);
+  truth = λ honest w. tables_none (ram c.args.engine.now) _ w;
+}
 
 pub pages-preserved : goal.pages-preserved
 pages-preserved g c = record {

@@ -1,7 +1,8 @@
-use Rattle.std.proofs.Common.{ap}
-use Rattle.collection.specs.Safe.{ram}
+use Rattle.std.proofs.Common.{sym, ap, subst}
+use Rattle.collection.specs.Safe.{IsIdle, ram}
 use Rattle.ftl_device.proofs.ReadyLemmas.{same_slots, most_recent}
 use Rattle.ftl_device.proofs.CostLemmas.{order_ready, ready_then}
+use Rattle.ftl_device.proofs.RoomLemmas.{idle_loaded}
 use Rattle.ftl_device.proofs.ready.make_ready.Goals as goal
 
 pub returns-in_err-cache_sector-clause-cached : goal.returns-in_err-cache_sector-clause-cached
@@ -20,3 +21,9 @@ returns-clause-cost g c = ready_then c.args.sector (ram c.args.engine.now) (ram 
 
 pub returns-in_err-cache_sector-clause-unwritten : goal.returns-in_err-cache_sector-clause-unwritten
 returns-in_err-cache_sector-clause-unwritten g c = λ _. ready_then c.args.sector (ram c.args.engine.now) (ram c.prepare.new.engine) (ram c.cache_sector.new.self) (ap (λ e. e.geometry) c.in_err-cache_sector.ensures.refused) (ap (λ e. (ram e).blocks) c.in_err-cache_sector.ensures.refused) (ap (λ e. e.next) c.in_err-cache_sector.ensures.refused) c.in_ok-row.ensures.cost
+
+pub returns-clause-idle : goal.returns-clause-idle
+returns-clause-idle g c = λ none. idle_loaded c.prepare.new.engine c.cache_sector.new.self c.args.sector _ c.in_ok-cache_sector.ensures.loaded c.in_ok-row.ensures.idle
+
+pub returns-in_err-cache_sector-clause-idle : goal.returns-in_err-cache_sector-clause-idle
+returns-in_err-cache_sector-clause-idle g c = λ none. subst (λ e. IsIdle (ram e)) (sym c.in_err-cache_sector.ensures.refused) c.in_ok-row.ensures.idle

@@ -6,6 +6,7 @@ use Rattle.collection.specs.Safe.{ram}
 use Rattle.collection.proofs.Logs.{went_then}
 use Rattle.ftl_device.proofs.ReadyLemmas.{ok_not_bus, engine_not_bus, recent_kept, written_ready}
 use Rattle.ftl_device.proofs.CostLemmas.{cost_of}
+use Rattle.ftl_device.proofs.RoomLemmas.{idle_kept}
 use Rattle.ftl_device.proofs.ready.trim_ready.Goals as goal
 
 pub returns-in_err-trim_sector-clause-went : goal.returns-in_err-trim_sector-clause-went
@@ -27,3 +28,6 @@ returns-clause-truth g c = λ honest well.
     let kept = c.in_ok-make_ready.ensures.truth honest well in
     written_ready c.args.engine.now.geometry c.args.sector Trim (zeros c.make_ready.new.engine.geometry) (ram c.make_ready.new.engine) (ram c.trim_sector.new.self) _ _ _ c.make_ready.ensures.geometry kept
     (c.in_ok-trim_sector.ensures.truth (c.make_ready.ensures.honest ∙ honest) c.in_ok-make_ready.ensures.fault kept.truth)
+
+pub returns-clause-idle : goal.returns-clause-idle
+returns-clause-idle g c = λ none. idle_kept (ram c.make_ready.new.engine) (ram c.trim_sector.new.self) c.trim_sector.ensures.goes.geometry c.trim_sector.ensures.no_more c.trim_sector.ensures.pin (c.make_ready.ensures.idle c.in_ok-make_ready.ensures.fault)

@@ -1,4 +1,5 @@
 use Rattle.std.proofs.Common.{◌≡◌, true}
+use Rattle.std.proofs.lemmas.Result.{err_from_is_err_and}
 use Rattle.collection.specs.Safe.{ram, image_in}
 use Rattle.ftl_device.specs.Calls.{HasRescued}
 use Rattle.ftl_device.proofs.CallLemmas.{well_device, mountable_after}

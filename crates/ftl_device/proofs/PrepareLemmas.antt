@@ -1,0 +1,63 @@
+-- A sector is made ready, one step after another.
+use Rattle.std.proofs.Common.{◌≡◌, ◌≢◌, ℕ, ◌≤◌, ◌∙◌, None, Option, Some, Result, Ok, Err, OnOk, IfErr, MatchResult, refl, sym, ap, subst, arith}
+use Rattle.page_layout.specs.declared.geometry.Geometry.{Geometry}
+use Rattle.page_layout.specs.declared.record.Key.TheVariants.{Sector}
+use Rattle.page_layout.specs.Page.{Image}
+use Rattle.page_layout.specs.Flash.{Flash}
+use Rattle.bad_blocks.specs.Table.{good_count}
+use Rattle.collection.specs.declared.fault.WriteFault.{WriteFault}
+use Rattle.collection.specs.declared.fault.WriteFault.TheVariants.{ReadOnly, SequenceSpent, Damaged, Bus}
+use Rattle.collection.specs.State.{Ram}
+use Rattle.collection.specs.Safe.{IsIdle}
+use Rattle.collection.specs.Truth.{IsTrue}
+use Rattle.collection.specs.Log.{Went}
+use Rattle.collection.specs.Looks.{IsReadFault}
+use Rattle.collection.specs.Settle.{HasNoMore}
+use Rattle.collection.specs.Pages.{newest_row}
+use Rattle.ftl_device.specs.declared.fault.CallFault.TheVariants.{Engine}
+use Rattle.ftl_device.specs.Calls.{Tells, KeepsArray, IsFound, CallRefused, HasMadeRoom}
+use Rattle.ftl_device.proofs.RoomLemmas.{idle_kept, idle_found}
+
+-- ---- counts
+
+-- where more were good before
+pub tells_then : (fault : WriteFault) (a b c : Ram) → good_count b.blocks.table ≤ good_count a.blocks.table → Tells {A = Option ℕ} b c (Err fault) → Tells {A = Option ℕ} a c (Err fault)
+tells_then ReadOnly a b c fewer h = (h.0, omega (arith, h.1))
+tells_then SequenceSpent a b c fewer h = h
+tells_then Damaged a b c fewer h = tt
+tells_then Bus a b c fewer h = tt
+
+pub tells_found : (result : Result (Option ℕ) WriteFault) (a b c d : Ram) (fault : Option WriteFault) → good_count b.blocks.table ≤ good_count a.blocks.table → good_count c.blocks.table ≤ good_count b.blocks.table → d ≡ record c { fault = fault } → IfErr result IsReadFault → Tells a d result
+tells_found (Ok row) a b c d fault first next is of_read = (let e : good_count d.blocks.table ≡ good_count c.blocks.table = ap (λ (r : Ram). good_count r.blocks.table) is in omega arith)
+tells_found (Err ReadOnly) a b c d fault first next is of_read = absurd of_read
+tells_found (Err SequenceSpent) a b c d fault first next is of_read = absurd of_read
+tells_found (Err Damaged) a b c d fault first next is of_read = tt
+tells_found (Err Bus) a b c d fault first next is of_read = tt
+
+-- ---- the look-up comes last
+
+module _ (c d : Ram) (fault : Option WriteFault) (is : d ≡ record c { fault = fault }) where
+  pub went_found : (a : Ram) (s t u : Flash) → Went a s c t → u ≡ t → Went a s d u
+  went_found a s t u w same =
+      let noted : Went a s (record c { fault = fault }) t = record { log = w.log; leads = w.leads; follows = w.follows; next = w.next; wears = w.wears } in
+      subst (λ x. Went a s d x) (sym same) (subst (λ r. Went a s r t) (sym is) noted)
+
+  truth_found : (x : Image) → IsTrue None c x → IsTrue None d x
+  truth_found x w =
+      let noted : IsTrue None (record c { fault = fault }) x = record { whole = w.whole; one = w.one; below = w.below; filled = w.filled; live = w.live; worn = w.worn; tables = w.tables; maps = w.maps } in
+      subst (λ r. IsTrue None r x) (sym is) noted
+
+  pub found_after : (result : Result (Option ℕ) WriteFault) (n : ℕ) (g : Geometry) (x : Image) (t u : Flash) → KeepsArray g x c t.image → (result ≢ Err Bus → u ≡ t)
+      → MatchResult result (λ row. row ≡ newest_row t.image (Sector n)) (λ f. f ≡ Bus)
+      → MatchResult result (λ row. IsFound n row g x d u.image) (λ f. CallRefused g x d u.image (Engine f))
+  found_after (Ok row) n g x t u keeps same row_is =
+      let unread : u ≡ t = same (λ e. (let no : ⊥ = cc in no)) in
+      subst (λ (s : Flash). IsFound n row g x d s.image) (sym unread) (record { keeps = record { truth = truth_found t.image keeps.truth; array = keeps.array }; row_is = row_is })
+  found_after (Err ReadOnly) n g x t u keeps same of_bus = (let no : ⊥ = cc in absurd no)
+  found_after (Err SequenceSpent) n g x t u keeps same of_bus = (let no : ⊥ = cc in absurd no)
+  found_after (Err Damaged) n g x t u keeps same of_bus = (let no : ⊥ = cc in absurd no)
+  found_after (Err Bus) n g x t u keeps same of_bus = tt
+
+  pub idle_after : (result : Result (Option ℕ) WriteFault) (a b : Ram) → HasMadeRoom a b → c.geometry ≡ b.geometry → HasNoMore b.mapping c.mapping → c.pin ≡ b.pin → OnOk result (IsIdle d)
+  idle_after (Ok row) a b room same no_more pin = idle_found c d fault is (idle_kept b c same no_more pin room.idle)
+  idle_after (Err f) a b room same no_more pin = tt
