@@ -5,7 +5,7 @@ use Rattle.onfi_cycles.specs.Cycles.{Erases}
 use Rattle.nand_die.specs.declared.fault.Fault.{Fault}
 use Rattle.nand_die.specs.Faults.{IsPageLeft, fault_at, left_by}
 use Rattle.nand_die.proofs.ActLemmas.{acts_closed, erase_acts, left_at}
-use Rattle.nand_die.proofs.die.Die.confirm_erase.Goals as goal
+use Rattle.nand_die.proofs.chip.Chip.confirm_erase.Goals as goal
 
 pub erase_into-change-requires-clause-left : goal.erase_into-change-requires-clause-left
 erase_into-change-requires-clause-left c =

@@ -1,7 +1,7 @@
 use Rattle.std.proofs.Common.{◌∙◌, ap, sym}
 use Rattle.page_layout.specs.Raw.{raw_image}
 use Rattle.page_layout.proofs.RawLemmas.{raw_bytes-raw_image}
-use Rattle.nand_die.proofs.die.Die.image_into.Goals as goal
+use Rattle.nand_die.proofs.chip.Chip.image_into.Goals as goal
 
 pub returns-clause-bytes : goal.returns-clause-bytes
 returns-clause-bytes c =

@@ -1,9 +1,9 @@
 use Rattle.std.proofs.Common.{refl, ℕ, List, length}
 use Rattle.onfi_cycles.specs.Cycles.{Ready, data_out_due}
-use Rattle.nand_die.specs.contracts.die.Die.{the_view}
+use Rattle.nand_die.specs.contracts.chip.Chip.{the_view}
 use Rattle.nand_die.specs.BusState.{phase_of, output_of}
 use Rattle.nand_die.proofs.ActLemmas.{acts_moves, fields_whole}
-use Rattle.nand_die.proofs.die.Die.put_data.Goals as goal
+use Rattle.nand_die.proofs.chip.Chip.data_out.Goals as goal
 
 pub returns-in-Ok-clause-acts : goal.returns-in-Ok-clause-acts
 returns-in-Ok-clause-acts c =

@@ -3,11 +3,11 @@ use Rattle.std.proofs.lemmas.List.{with_items_is}
 use Rattle.std.specs.Vec.{with_items}
 use Rattle.page_layout.specs.Geometry.{page_bytes}
 use Rattle.onfi_cycles.specs.Cycles.{Loading, address_due, to_phase}
-use Rattle.nand_die.specs.contracts.die.Die.{the_view}
+use Rattle.nand_die.specs.contracts.chip.Chip.{the_view}
 use Rattle.nand_die.specs.BusState.{phase_of}
-use Rattle.nand_die.specs.DieValue.{DieValue, in_state}
+use Rattle.nand_die.specs.ChipValue.{ChipValue, in_state}
 use Rattle.nand_die.proofs.ActLemmas.{acts_moves, fields_whole}
-use Rattle.nand_die.proofs.die.Die.take_address.Goals as goal
+use Rattle.nand_die.proofs.chip.Chip.address.Goals as goal
 
 pub returns-in-Moves : goal.returns-in-Moves
 returns-in-Moves c =
@@ -19,7 +19,7 @@ pub returns-in-Loads : goal.returns-in-Loads
 returns-in-Loads c =
     let i = c.self.inside in
     let r : List ℕ = i.register.items in
-    let d : DieValue = the_view i in
+    let d : ChipValue = the_view i in
     let blank : (with_items i.register c.fill.new.self).items ≡ replicate (page_bytes i.geometry) 255
     = with_items_is i.register c.fill.new.self (c.fill.auto.self ∙ c.as_mut_slice.ensures.len) ∙ (c.fill.ensures.after (λ y e. e)
     ∙ ap (λ n. replicate n 255) (ap length c.as_mut_slice.ensures.value ∙ c.self.invariant.register_whole)) in

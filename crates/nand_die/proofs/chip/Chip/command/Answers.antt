@@ -1,10 +1,10 @@
 use Rattle.std.proofs.Common.{◌≡◌, ◌∙◌, ap, sym, subst, refl, ℕ, List}
 use Rattle.onfi_cycles.specs.Cycles.{Due, Programs, Loading, page_of, command_due}
-use Rattle.nand_die.specs.contracts.die.Die.{the_view}
+use Rattle.nand_die.specs.contracts.chip.Chip.{the_view}
 use Rattle.nand_die.specs.BusState.{phase_of}
-use Rattle.nand_die.specs.DieValue.{DieValue, Acts}
+use Rattle.nand_die.specs.ChipValue.{ChipValue, Acts}
 use Rattle.nand_die.proofs.ActLemmas.{acts_moves, acts_resets, fields_whole}
-use Rattle.nand_die.proofs.die.Die.take_command.Goals as goal
+use Rattle.nand_die.proofs.chip.Chip.command.Goals as goal
 
 pub returns-in-Moves : goal.returns-in-Moves
 returns-in-Moves c =
@@ -23,7 +23,7 @@ returns-in-Programs c =
     let i = c.self.inside in
     let r : List ℕ = i.register.items in
     let fits = c.in-Programs.ensures.within in
-    let at : c.args.self.now.state.phase ≡ Loading c.in-Programs.row fits.0 r = sym (ap (λ (d : DieValue). d.state.phase) c.self.view_is) ∙ ap (phase_of r) fits.1 in
+    let at : c.args.self.now.state.phase ≡ Loading c.in-Programs.row fits.0 r = sym (ap (λ (d : ChipValue). d.state.phase) c.self.view_is) ∙ ap (phase_of r) fits.1 in
     let due : Programs c.in-Programs.row (page_of c.args.self.now.state.flash.geometry r) ≡ command_due c.args.self.now.state.flash.geometry c.args.self.now.state.phase c.args.code
-    = subst (λ (d : DieValue). Programs c.in-Programs.row (page_of d.state.flash.geometry r) ≡ command_due d.state.flash.geometry d.state.phase c.args.code) c.self.view_is (c.in-Programs.ensures.due r) in
+    = subst (λ (d : ChipValue). Programs c.in-Programs.row (page_of d.state.flash.geometry r) ≡ command_due d.state.flash.geometry d.state.phase c.args.code) c.self.view_is (c.in-Programs.ensures.due r) in
     subst (λ (u : Due). Acts u c.args.self.now c.confirm_program.new.self c.confirm_program.result) due (c.confirm_program.ensures r fits.0 at)

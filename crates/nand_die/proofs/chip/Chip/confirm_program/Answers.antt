@@ -6,11 +6,11 @@ use Rattle.onfi_cycles.specs.Cycles.{Programs, page_of}
 use Rattle.nand_die.specs.declared.bus_state.BusState.TheVariants.{Ready}
 use Rattle.nand_die.specs.declared.bus_state.OutputSource.TheVariants.{Nothing}
 use Rattle.nand_die.specs.declared.fault.Fault.{Fault}
-use Rattle.nand_die.specs.contracts.die.Die.{the_view}
+use Rattle.nand_die.specs.contracts.chip.Chip.{the_view}
 use Rattle.nand_die.specs.Faults.{IsPageLeft, fault_at, left_by}
-use Rattle.nand_die.specs.DieValue.{DieValue, Acts}
+use Rattle.nand_die.specs.ChipValue.{ChipValue, Acts}
 use Rattle.nand_die.proofs.ActLemmas.{acts_closed, program_acts, left_at, loading_register}
-use Rattle.nand_die.proofs.die.Die.confirm_program.Goals as goal
+use Rattle.nand_die.proofs.chip.Chip.confirm_program.Goals as goal
 
 pub program_into-change-requires-clause-left : goal.program_into-change-requires-clause-left
 program_into-change-requires-clause-left c =
@@ -38,8 +38,8 @@ returns c register column at =
     let change = c.program_into-change in
     let counts = c.counts_after-self-inside in
     let strike = c.next_strike-strike in
-    let new : DieValue = the_view (record { geometry = i.geometry; bytes = with_items i.bytes change.new.bytes; register = i.register; turns = with_items i.turns change.new.turns; bus_state = Ready Nothing; passed = change.result.passed; faults = i.faults; counts = counts.result }) in
-    let same : i.register.items ≡ register = loading_register i.register.items i.bus_state c.args.row column register (ap (λ (d : DieValue). d.state.phase) c.self.view_is ∙ at) in
+    let new : ChipValue = the_view (record { geometry = i.geometry; bytes = with_items i.bytes change.new.bytes; register = i.register; turns = with_items i.turns change.new.turns; bus_state = Ready Nothing; passed = change.result.passed; faults = i.faults; counts = counts.result }) in
+    let same : i.register.items ≡ register = loading_register i.register.items i.bus_state c.args.row column register (ap (λ (d : ChipValue). d.state.phase) c.self.view_is ∙ at) in
     subst (λ ws. Acts {A = Unit {0}} (Programs c.args.row (page_of c.args.self.now.state.flash.geometry ws)) c.args.self.now new (Ok tt)) same
     (rw (← c.self.view_is) (acts_closed (Programs c.args.row (page_of i.geometry i.register.items)) i change.new.bytes _ change.new.turns _ counts.result.abuse counts.result.asked counts.result.changes change.result.passed tt
     (with_items_is i.bytes change.new.bytes (change.auto.bytes ∙ c.deref_mut.ensures.len)) (with_items_is i.turns change.new.turns (change.auto.turns ∙ c.deref_mut-2.ensures.len))

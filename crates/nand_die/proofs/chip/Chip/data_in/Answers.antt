@@ -3,18 +3,18 @@ use Rattle.std.proofs.lemmas.List.{with_items_is}
 use Rattle.std.specs.Vec.{with_items}
 use Rattle.page_layout.specs.Geometry.{page_bytes}
 use Rattle.onfi_cycles.specs.Cycles.{Moves, Loading, data_in_due, to_phase, replaced}
-use Rattle.nand_die.specs.contracts.die.Die.{the_view}
+use Rattle.nand_die.specs.contracts.chip.Chip.{the_view}
 use Rattle.nand_die.specs.BusState.{phase_of}
 use Rattle.nand_die.specs.declared.bus_state.BusState.{BusState}
-use Rattle.nand_die.specs.DieValue.{DieValue, in_state}
+use Rattle.nand_die.specs.ChipValue.{ChipValue, in_state}
 use Rattle.nand_die.proofs.ActLemmas.{acts_moves, fields_whole, load_in, replaced_so, written_length}
-use Rattle.nand_die.proofs.die.Die.take_data.Goals as goal
+use Rattle.nand_die.proofs.chip.Chip.data_in.Goals as goal
 
 pub returns-in-Ok : goal.returns-in-Ok
 returns-in-Ok c =
     let i = c.self.inside in
     let r : List ℕ = i.register.items in
-    let d : DieValue = the_view i in
+    let d : ChipValue = the_view i in
     let row = c.in-Ok.row in
     let column = c.in-Ok.column in
     let bytes : List ℕ = c.args.bytes.now in

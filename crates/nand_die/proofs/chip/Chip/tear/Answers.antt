@@ -6,11 +6,11 @@ use Rattle.page_layout.specs.Raw.{IsRaw, raw_image}
 use Rattle.page_layout.specs.Flash.{may_program}
 use Rattle.onfi_cycles.specs.Cycles.{page_of}
 use Rattle.nand_die.specs.declared.change.BlockTurn.{BlockTurn}
-use Rattle.nand_die.specs.contracts.die.Die.{the_view}
+use Rattle.nand_die.specs.contracts.chip.Chip.{the_view}
 use Rattle.nand_die.specs.Turns.{flash_of}
-use Rattle.nand_die.specs.DieValue.{DieValue}
+use Rattle.nand_die.specs.ChipValue.{ChipValue}
 use Rattle.nand_die.specs.Stopping.{torn_image, with_image}
-use Rattle.nand_die.proofs.die.Die.tear.Goals as goal
+use Rattle.nand_die.proofs.chip.Chip.tear.Goals as goal
 
 pub invariant_of-self : goal.invariant_of-self
 invariant_of-self c =
@@ -42,7 +42,7 @@ pub returns-then-program_is_due : goal.returns-then-program_is_due
 returns-then-program_is_due c =
     let i = c.self.inside in
     let g = i.geometry in
-    let d : DieValue = the_view i in
+    let d : ChipValue = the_view i in
     let torn = c.tear_page in
     let left = page_of g c.args.page.now in
     let is_bytes = with_items_is i.bytes torn.new.bytes (torn.auto.bytes ∙ c.deref_mut.ensures.len) in
@@ -58,7 +58,7 @@ pub returns-else-program_is_due : goal.returns-else-program_is_due
 returns-else-program_is_due c =
     let i = c.self.inside in
     let g = i.geometry in
-    let d : DieValue = the_view i in
+    let d : ChipValue = the_view i in
     let left = page_of g c.args.page.now in
     let may : false ≡ may_program d.state.flash c.in-Programs.row
     = c.if-program_is_due.ensures i.bytes.items i.counts.abuse ∙ ap (λ (ts : List BlockTurn). may_program (flash_of g i.bytes.items ts i.counts.abuse) c.in-Programs.row) c.deref.ensures.value in

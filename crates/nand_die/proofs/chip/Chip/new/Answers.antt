@@ -1,7 +1,7 @@
 use Rattle.std.proofs.Common.{◌∙◌, ap}
 use Rattle.page_layout.specs.Raw.{raw_image}
 use Rattle.nand_die.proofs.MakeLemmas.{blank_new}
-use Rattle.nand_die.proofs.die.Die.new.Goals as goal
+use Rattle.nand_die.proofs.chip.Chip.new.Goals as goal
 
 pub mark_all-requires-clause-erased : goal.mark_all-requires-clause-erased
 mark_all-requires-clause-erased c =
