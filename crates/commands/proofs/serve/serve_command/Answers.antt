@@ -74,7 +74,7 @@ returns-in_err-stop g c =
       spelled = subst Q c.deref.ensures.value c.in_ok-certificate.ensures.ok;
     } in
     let driver = c.driver_of-driver.result in
-    let s = flash_by (λ die. die.state) driver in
+    let s = flash_by (λ bus. bus.die.state) driver in
     let made : s ≡ loaded_flash asked.geometry c.deref-2.result.now (bad_in asked.geometry claim) = c.driver_of-driver.ensures.flash ∙ ap (λ (d : DieValue). d.state.flash) c.in_ok-die.ensures.made in
     let loaded : s ≡ loaded_flash asked.geometry bytes (bad_in asked.geometry claim) = subst (λ (b : List ℕ). s ≡ loaded_flash asked.geometry b (bad_in asked.geometry claim)) c.deref-2.ensures.value made in
     let whole : IsWhole asked.geometry bytes = subst (λ (b : List ℕ). IsWhole asked.geometry b) c.deref-2.ensures.value c.in_ok-die.ensures.whole in
@@ -96,7 +96,7 @@ returns g c =
       spelled = subst Q c.deref.ensures.value c.in_ok-certificate.ensures.ok;
     } in
     let driver = c.driver_of-driver.result in
-    let s = flash_by (λ die. die.state) driver in
+    let s = flash_by (λ bus. bus.die.state) driver in
     let made : s ≡ loaded_flash asked.geometry c.deref-2.result.now (bad_in asked.geometry claim) = c.driver_of-driver.ensures.flash ∙ ap (λ (d : DieValue). d.state.flash) c.in_ok-die.ensures.made in
     let loaded : s ≡ loaded_flash asked.geometry bytes (bad_in asked.geometry claim) = subst (λ (b : List ℕ). s ≡ loaded_flash asked.geometry b (bad_in asked.geometry claim)) c.deref-2.ensures.value made in
     let before = left (g.F.FileStore.stores c.args.files.now) (g.W.Write.contents c.args.out.now) in
