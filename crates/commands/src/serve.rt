@@ -38,11 +38,7 @@ fn is_bad(certificate: &Certificate, block: u32) -> bool
 }
 
 // The blocks, of so many, that a certificate gives as bad.
-fn bad_blocks(
-    alloc: Global,
-    certificate: &Certificate,
-    blocks: u32,
-) -> Result<Vec<u32>, AllocError>
+fn bad_blocks(alloc: Global, certificate: &Certificate, blocks: u32) -> Result<Vec<u32>, AllocError>
     requires { length certificate.now.blocks ≡ certificate.now.sizes.blocks }
     ensures { IfOk result (λ bad. bad.items ≡ filter (is_bad_in certificate.now) (range_with_len 0 (min blocks certificate.now.sizes.blocks))) }
 {
@@ -176,14 +172,6 @@ pub fn serve_command<'a, F: FileStore, R: Read, W: Write>(
     let certificate = certificate_in(alloc, &written)?;
     let die = die_of(alloc, &asked, &bytes, &certificate)?;
     let driver = driver_of(die, asked.geometry);
-    let stop = serve_die(
-        alloc,
-        &asked,
-        driver,
-        &certificate,
-        &mut bytes,
-        input,
-        out,
-    )?;
+    let stop = serve_die(alloc, &asked, driver, &certificate, &mut bytes, input, out)?;
     finish(files, words.output, &bytes, stop)
 }

@@ -39,9 +39,14 @@ returns-in_err-certificate g c =
     let stop = c.in_err-certificate.field-0.0 in
     let P : List ℕ → Type 0 = λ w. IsNoCertificate w stop in
     stops gives c.args.words _ _ _ _ c.from_residual-in_err-certificate.result stop (search rules) (c.in_ok-written.ensures.stores ∙ c.in_ok-bytes.ensures.stores, search rules) (search rules)
-    (inr (inr (inr (inl (asked.geometry, asked.capacity, bytes, written,
-    record { asked = c.in_ok-asked.ensures.ok; image = c.in_ok-bytes.ensures.ok; certificate = c.in_ok-bytes.ensures.same c.args.words.certificate.now (Ok written) c.in_ok-written.ensures.ok },
-    subst P c.deref.ensures.value c.in_err-certificate.ensures.fault)))))
+    (inr (inr (inr (inl (
+      asked.geometry,
+      asked.capacity,
+      bytes,
+      written,
+      record { asked = c.in_ok-asked.ensures.ok; image = c.in_ok-bytes.ensures.ok; certificate = c.in_ok-bytes.ensures.same c.args.words.certificate.now (Ok written) c.in_ok-written.ensures.ok },
+      subst P c.deref.ensures.value c.in_err-certificate.ensures.fault,
+    )))))
 
 pub returns-in_err-die : goal.returns-in_err-die
 returns-in_err-die g c =
