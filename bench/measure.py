@@ -1,43 +1,53 @@
 #!/usr/bin/env python3
 """Least time of a processor and most memory of a command, of `cat` and of `sha256sum` on one image.
 
-    measure.py REPEATS IMAGE NAME RATIO MIB COMMAND ..
+    measure.py REPEATS IMAGE [--refused] [--mib-a-second LEAST] NAME RATIO MOST COMMAND ..
 
-Fails where the command takes more than RATIO times as long as `sha256sum`, or holds more than the image and MIB MiB."""
+Fails where the command takes more than RATIO times as long as `sha256sum`, holds more than MOST bytes, or reads less than LEAST
+MiB of the image a second. It has to end with status 0, or with 1 where `--refused` says so."""
 
 import os
 import sys
 
 
-def run(command):
+def run(command, wanted):
     """Seconds of a processor, and the most memory in KiB, of a command whose output is thrown away."""
     child = os.fork()
     if child == 0:
-        os.dup2(os.open(os.devnull, os.O_WRONLY), 1)
+        null = os.open(os.devnull, os.O_WRONLY)
+        os.dup2(null, 1)
+        if wanted != 0:
+            os.dup2(null, 2)
         os.execvp(command[0], command)
     _, status, usage = os.wait4(child, 0)
-    if status != 0:
-        sys.exit(f"{command[0]} ended with status {status}")
+    if os.waitstatus_to_exitcode(status) != wanted:
+        sys.exit(f"{command[0]} ended with status {os.waitstatus_to_exitcode(status)}")
     return usage.ru_utime + usage.ru_stime, usage.ru_maxrss
 
 
-def least(repeats, command):
-    runs = [run(command) for _ in range(repeats)]
+def least(repeats, command, wanted=0):
+    runs = [run(command, wanted) for _ in range(repeats)]
     return min(seconds for seconds, _ in runs), max(memory for _, memory in runs)
 
 
 def main(words):
-    repeats, image, asked, ratio, mib = int(words[0]), words[1], words[2], float(words[3]), float(words[4])
+    repeats, image, words = int(words[0]), words[1], words[2:]
+    wanted, least_speed = 0, 0.0
+    if words[0] == "--refused":
+        wanted, words = 1, words[1:]
+    if words[0] == "--mib-a-second":
+        least_speed, words = float(words[1]), words[2:]
+    asked, ratio, most, command = words[0], float(words[1]), int(words[2]), words[3:]
     size = os.path.getsize(image)
-    commands = {"cat": ["cat", image], "sha256sum": ["sha256sum", image], asked: words[5:]}
     print(f"image: {size} bytes")
-    measured = {name: least(repeats, command) for name, command in commands.items()}
+    measured = {name: least(repeats, [name, image]) for name in ["cat", "sha256sum"]}
+    measured[asked] = least(repeats, command, wanted)
     for name, (seconds, memory) in measured.items():
         print(f"{name:15} {seconds:7.3f} s {size / seconds / 2**20:8.0f} MiB/s {memory:8} KiB")
     seconds, memory = measured[asked]
-    times, over = seconds / measured["sha256sum"][0], memory * 1024 - size
-    print(f"{asked} / sha256sum = {times:.2f}, memory beyond the image = {over / 2**20:.1f} MiB")
-    if times > ratio or over > mib * 2**20:
+    times, speed = seconds / measured["sha256sum"][0], size / seconds / 2**20
+    print(f"{asked} / sha256sum = {times:.2f}, memory {memory / 1024:.1f} MiB of {most / 2**20:.1f}")
+    if times > ratio or memory * 1024 > most or speed < least_speed:
         sys.exit(f"{asked} is slower, or holds more, than it may")
 
 

@@ -1,13 +1,13 @@
 #!/usr/bin/env bash
 # Refuses each allocation of a run of the program in turn, and looks that the run then ends in its named refusal (nothing on
 # standard output, `refused image 3 OutOfMemory` on standard error, status 1), or, where a vector made do with a smaller
-# growth, as if nothing had been refused. Build the program first (`rt run` in crates/nandctl). The Nth call of malloc or
+# growth, as if nothing had been refused. The program is PROGRAM, or the one that `rt run` in crates/nandctl builds. The Nth call of malloc or
 # realloc is refused by a library that is loaded before the C library.
 #
 #     bench/refused_memory.sh WORD..       the program's words, in the folder of its stored run (default: that run's)
 set -eu
 top="$(cd "$(dirname "$0")/.." && pwd)"
-program="$top/crates/nandctl/out/nandctl"
+program="${PROGRAM:-$top/crates/nandctl/out/nandctl}"
 folder="$(mktemp -d)"
 trap 'rm -rf "$folder"' EXIT
 cat > "$folder/refuse.c" <<'C'

@@ -2,6 +2,7 @@
 ghost use Rattle.std.specs.Prelude.{◌≡◌};
 ghost use Rattle.page_layout.specs.Geometry.{row_count};
 
+mod buses;
 mod driver;
 mod faults;
 mod made;
@@ -9,6 +10,7 @@ mod operations;
 mod pages;
 mod recorder;
 mod steps;
+mod stops;
 mod turns;
 
 use nand_die::{Die, Mark};

@@ -1,5 +1,5 @@
 -- What the judges are told of a survey whose pairs are sorted.
-use Rattle.std.proofs.Common.{◌≡◌, ℕ, zero, suc, ◌-◌, ◌<◌, ◌≤◌, List, [], Bool, length, get_or, refl, sym, ap, subst, ◌∙◌, ◌⊎◌, inl, inr, arith}
+use Rattle.std.proofs.Common.{◌≡◌, ℕ, zero, suc, ◌-◌, ◌<◌, ◌≤◌, List, [], Bool, length, get_or, refl, sym, ap, subst, ◌∙◌, inl, inr, arith}
 use Rattle.std.specs.Prelude.{IsPermutation}
 use Rattle.page_layout.specs.declared.geometry.Geometry.{Geometry}
 use Rattle.page_layout.specs.declared.newest.Latest.{Latest}
@@ -22,9 +22,9 @@ use Rattle.image_check.specs.Rising.{IsRisingBelow}
 use Rattle.image_check.specs.Accepted.{Acceptance, IsAcceptance}
 use Rattle.std.proofs.lemmas.Bool.{cases_lt}
 use Rattle.page_layout.specs.Flash.{Flash}
-use Rattle.image_check.specs.Refused.{Asked, Numbers, Sequences, Fresh, HoldBetween, FailsFrom, IsMemory, IsStop, IsFirstWrong, IsRefusal}
+use Rattle.image_check.specs.Refused.{Asked, Numbers, Sequences, Fresh, HoldBetween, FailsFrom, IsFirstWrong}
 use Rattle.image_check.specs.declared.refusal.Refusal.TheVariants as refusals
-use Rattle.image_check.proofs.ChainLemmas.{hold_none, hold_one, hold_join, hold_more, fails_here, fails_later, fails_first, agrees_of}
+use Rattle.image_check.proofs.ChainLemmas.{hold_none, hold_one, hold_join, hold_more, fails_here, fails_first, agrees_of}
 
 -- the survey with its pairs in another order
 pub record IsSorted (g : Geometry) (image : Image) (s : Survey) : Type 0 where
@@ -85,20 +85,6 @@ numbers_any g image h = numbers_of g 0 image (no_claim g) (h (no_claim g))
 pub surveys_of : (g : Geometry) (first now : Flash) (s : Survey) → now ≡ first → IsImage g now.image → IsSurvey g first.image (row_count g) s → Surveys g first.image s
 surveys_of g first now s same whole h = record { whole = sym (ap (λ (f : Flash). length f.image) same) ∙ whole.rows; survey = h }
 
-pub judged_hold : (g : Geometry) (capacity : ℕ) (image : Image) (s : Survey) (c : Claim) (passed : List Bool) → s.geometry ≡ g → Surveys g image s → HasPassed (marks image) (row_count g) c.sectors passed
-    → ((capacity : ℕ) (image : Image) → Surveys s.geometry image s → HasPassed (marks image) (row_count s.geometry) c.sectors passed → HoldBetween s.geometry capacity image c 1 11) → HoldBetween g capacity image c 1 11
-judged_hold g capacity image s c passed e surveys passes h =
-    (subst (λ x. (capacity : ℕ) (image : Image) → Surveys x image s → HasPassed (marks image) (row_count x) c.sectors passed → HoldBetween x capacity image c 1 11) e h) capacity image surveys passes
-
-pub judged_fail : (g : Geometry) (capacity : ℕ) (image : Image) (s : Survey) (c : Claim) (passed : List Bool) (r : Refusal) → s.geometry ≡ g → Surveys g image s → HasPassed (marks image) (row_count g) c.sectors passed
-    → ((capacity : ℕ) (image : Image) → Surveys s.geometry image s → HasPassed (marks image) (row_count s.geometry) c.sectors passed → IsMemory r ⊎ FailsFrom s.geometry capacity image c 1 r) → IsStop r ⊎ FailsFrom g capacity image c 1 r
-judged_fail g capacity image s c passed r e surveys passes h =
-    stopped ((subst (λ x. (capacity : ℕ) (image : Image) → Surveys x image s → HasPassed (marks image) (row_count x) c.sectors passed → IsMemory r ⊎ FailsFrom x capacity image c 1 r) e h) capacity image surveys passes)
-  where
-    stopped : IsMemory r ⊎ FailsFrom g capacity image c 1 r → IsStop r ⊎ FailsFrom g capacity image c 1 r
-    stopped (inl m) = inl (inr m)
-    stopped (inr f) = inr f
-
 pub keys_after : (g : Geometry) (image : Image) (s new : Survey) (given : List Latest) → Surveys g image s → new ≡ record s { pairs = new.pairs } → given ≡ new.newest.items → SurveysKeys g image given
 keys_after g image s new given h others same =
     subst (λ xs. SurveysKeys g image xs) (sym (same ∙ ap (λ (x : Survey). x.newest.items) others)) (record { whole = h.whole; noted = h.survey.newest })
@@ -107,10 +93,6 @@ keys_after g image s new given h others same =
 
 pub not_asked : (g : Geometry) (capacity : ℕ) (image : Image) (c : Claim) → (IsAsked g capacity c → ⊥) → IsFirstWrong g capacity image c refusals.GeometryDiffers
 not_asked g capacity image c ne = fails_first g capacity image c refusals.GeometryDiffers (fails_here g capacity image c Asked 0 refusals.GeometryDiffers (hold_none g capacity image c 0) (record { part_is = refl; fails = ne; says = tt }))
-
-pub examined_fail : (g : Geometry) (capacity : ℕ) (image : Image) (c : Claim) (r : Refusal) → IsAsked g capacity c → IsStop r ⊎ FailsFrom g capacity image c 1 r → IsRefusal g capacity image c r
-examined_fail g capacity image c r asked (inl stop) = inl stop
-examined_fail g capacity image c r asked (inr f) = inr (fails_first g capacity image c r (fails_later g capacity image c 0 1 r (hold_one g capacity image c Asked 0 1 refl refl asked) f))
 
 all_but_last : (g : Geometry) (capacity : ℕ) (image : Image) (c : Claim) → IsAsked g capacity c → HoldBetween g capacity image c 1 11 → HoldBetween g capacity image c 0 11
 all_but_last g capacity image c asked h = hold_join g capacity image c 0 1 11 (hold_one g capacity image c Asked 0 1 refl refl asked) h

@@ -16,7 +16,6 @@ use Rattle.image_check.specs.declared.kept.Noted.{Noted}
 use Rattle.image_check.specs.declared.survey.Survey.{Survey}
 use Rattle.image_check.specs.declared.refusal.Refusal.{Refusal}
 use Rattle.image_check.proofs.ChainLemmas.{hold_one, fails_first, fails_later}
-use Rattle.std.proofs.lemmas.List.{length-take}
 use Rattle.image_check.specs.declared.refusal.Refusal.TheVariants as refusals
 use Rattle.image_check.specs.Accepted.{Acceptance, IsAcceptance}
 use Rattle.image_check.specs.Agrees.{IsAsked, IsCertificateOf, IsDirectory, AreNewest}
@@ -24,7 +23,7 @@ use Rattle.image_check.specs.Noted.{HasNoted, HasSomeNoted}
 use Rattle.image_check.specs.Passed.{IsPass, IsSamePass, Shows}
 use Rattle.image_check.specs.Refused.{Asked, Directory, Sectors, HoldBetween, FailsFrom, IsFirstWrong, IsJudgement}
 use Rattle.image_check.specs.Room.{IsDesk}
-use Rattle.image_check.specs.Stale.{stale_sectors, stale_count}
+use Rattle.image_check.specs.Stale.{stale_sectors}
 use Rattle.image_check.specs.Surveyed.{IsSized, IsSurvey, Surveys}
 use Rattle.image_check.proofs.SurveyLemmas.{passed_first}
 use Rattle.image_check.proofs.JudgeLemmas.{too_stale, accepted_is}
@@ -100,9 +99,6 @@ surveys_from g image s whole h = record { whole = whole; survey = h }
 
 pub first_wrong : (g : Geometry) (capacity : ℕ) (image : Image) (c : Claim) (r : Refusal) → IsAsked g capacity c → FailsFrom g capacity image c 1 r → IsFirstWrong g capacity image c r
 first_wrong g capacity image c r asked f = fails_first g capacity image c r (fails_later g capacity image c 0 1 r (hold_one g capacity image c Asked 0 1 refl refl asked) f)
-
-pub kept_few : (g : Geometry) (c : Claim) (rows : ℕ) (x : Noted) → HasSomeNoted g c rows x → length x.kept.items ≤ x.most
-kept_few g c rows x h = let size = ap length h.noted.kept.first in omega (arith, length-take x.most h.noted.noted)
 
 -- ---- from the end of a pass to the answer of a check
 

@@ -1,5 +1,5 @@
 -- An image that a reader gives, page by page.
-use Rattle.std.proofs.Common.{◌≡◌, ◌≢◌, ◌⊎◌, ℕ, zero, suc, ◌+◌, ◌-◌, ◌*◌, ◌<◌, ◌≤◌, Bool, List, [], ◌∷◌, ◌++◌, length, length-append, append-nil, append_assoc, take, drop, Option, Some, None, IfSome, Result, Ok, Err, IfOk, IfErr, OnOk, refl, sym, ap, subst, ◌∙◌, inl, inr, arith, slice_get}
+use Rattle.std.proofs.Common.{◌≡◌, ◌⊎◌, ℕ, suc, ◌+◌, ◌-◌, ◌*◌, ◌<◌, ◌≤◌, List, [], ◌∷◌, ◌++◌, length, length-append, append-nil, append_assoc, take, drop, Option, Some, None, IfSome, Result, Ok, Err, IfOk, IfErr, OnOk, refl, sym, ap, subst, ◌∙◌, inl, inr, arith, slice_get}
 use Rattle.std.specs.Prelude.{slice_range}
 use Rattle.std.specs.Io.KnownBytes.{Consumes, Keeps, IsAtEnd}
 use Rattle.std.proofs.KnownBytes.{Consumes-nil, Consumes-trans, Consumes-kept}
@@ -7,7 +7,7 @@ use Rattle.std.proofs.lemmas.List.{drop_at, take_at}
 use Rattle.std.proofs.Math.Nat.{mul-le-mul_right}
 use Rattle.page_layout.specs.declared.geometry.Geometry.{Geometry}
 use Rattle.page_layout.specs.Geometry.{row_count, page_bytes}
-use Rattle.page_layout.specs.Page.{Page, Image, page}
+use Rattle.page_layout.specs.Page.{Image, page}
 use Rattle.page_layout.specs.Raw.{raw_image, page_from}
 use Rattle.page_layout.proofs.RawLemmas.{raw_image-at, length-raw_image}
 use Rattle.image_check.specs.declared.pass.Pass.{Pass}
@@ -18,11 +18,11 @@ use Rattle.image_check.specs.declared.stream.Cut.TheVariants.{Ended, Failed}
 use Rattle.certificate.specs.Claim.{Claim}
 use Rattle.image_check.specs.Accepted.{Acceptance, IsAcceptance}
 use Rattle.image_check.specs.Agrees.{IsAsked}
-use Rattle.image_check.specs.Refused.{IsStop, IsFirstWrong, IsJudgement}
+use Rattle.image_check.specs.Refused.{IsFirstWrong, IsJudgement}
 use Rattle.image_check.specs.Passed.{Shows}
 use Rattle.image_check.proofs.JudgeLemmas.{not_asked}
 use Rattle.image_check.proofs.PassLemmas.{finished_ok, finished_err}
-use Rattle.image_check.specs.Streamed.{image_bytes, ReadsUpTo, EndsAs, HasMore, IsCut, IsReadTo, IsWrongLength, IsTaken, IsUntaken, IsStreamRefusal, refusal_of}
+use Rattle.image_check.specs.Streamed.{image_bytes, ReadsUpTo, HasMore, IsCut, IsReadTo, IsTaken, IsUntaken, IsStreamRefusal, refusal_of}
 
 -- ---- known bytes
 
@@ -46,9 +46,6 @@ cut_ended size n a b d xs ys first few none second ends = record {
 
 pub cut_failed : (size : ℕ) (a b d : Option (List ℕ)) (xs : List ℕ) → Consumes a b xs → length xs < size → Keeps b d → IsCut size a d Failed
 cut_failed size a b d xs first few keeps = record { bytes = xs; few = few; read = Consumes-kept a b d xs first keeps; ends = tt }
-
-pub cut_less : (size more : ℕ) (a d : Option (List ℕ)) (cut : Cut) → size ≤ more → IsCut size a d cut → IsCut more a d cut
-cut_less size more a d cut le h = record { bytes = h.bytes; few = (let few = h.few in omega arith); read = h.read; ends = h.ends }
 
 pub cut_after : (size more : ℕ) (a b d : Option (List ℕ)) (xs : List ℕ) (cut : Cut) → Consumes a b xs → length xs + size ≤ more → IsCut size b d cut → IsCut more a d cut
 cut_after size more a b d xs cut first le h = record {
@@ -88,8 +85,8 @@ read_more g rows a b d p q body spare h next body_size spare_size within more = 
   size = (let size = h.size in let step = next_times rows (page_bytes g) in omega (arith, length-append h.bytes (body ++ spare), length-append body spare));
   read = Consumes-trans a b d h.bytes (body ++ spare) h.read next;
   shows = λ rest. subst (λ bytes. Shows (raw_image g bytes) (rows + 1) q) (sym (append_assoc h.bytes (body ++ spare) rest))
-    (more (raw_image g (h.bytes ++ ((body ++ spare) ++ rest))) (h.shows ((body ++ spare) ++ rest))
-    (raw_image-at g (h.bytes ++ ((body ++ spare) ++ rest)) rows within ∙ ap Some (page_there g h.bytes body spare rest (rows * page_bytes g) h.size body_size spare_size)));
+      (more (raw_image g (h.bytes ++ ((body ++ spare) ++ rest))) (h.shows ((body ++ spare) ++ rest))
+      (raw_image-at g (h.bytes ++ ((body ++ spare) ++ rest)) rows within ∙ ap Some (page_there g h.bytes body spare rest (rows * page_bytes g) h.size body_size spare_size)));
 }
 
 -- a page that wasn't read whole
@@ -158,9 +155,6 @@ end_untaken g a b p r h (inr w) = subst (λ (x : Refusal). IfSome a (λ bytes. I
 
 -- ---- how many bytes were read
 
-pub reads_none : (most : ℕ) (a : Option (List ℕ)) → ReadsUpTo most a a
-reads_none most a = record { bytes = []; few = omega arith; read = Consumes-nil a }
-
 pub reads_cut : (size most : ℕ) (a b : Option (List ℕ)) (cut : Cut) → size ≤ most → IsCut size a b cut → ReadsUpTo most a b
 reads_cut size most a b cut le h = record { bytes = h.bytes; few = (let few = h.few in omega arith); read = h.read }
 
@@ -175,12 +169,6 @@ reads_all g most a b d p is h one = record {
 }
 
 -- ---- the answer
-
-pub untaken_refusal : (g : Geometry) (capacity : ℕ) (a : Option (List ℕ)) (c : Claim) (r : Refusal) → IfSome a (λ bytes. IsUntaken g bytes r) → IfSome a (λ bytes. IsStreamRefusal g capacity bytes c r)
-untaken_refusal g capacity a c r h = if_more a (λ bytes. IsUntaken g bytes r) (λ bytes. IsStreamRefusal g capacity bytes c r) h (λ bytes u. elim u [ | inl source ↦ inl (inl source) | inr wrong ↦ inr (inl wrong) ])
-
-pub stop_refusal : (g : Geometry) (capacity : ℕ) (a : Option (List ℕ)) (c : Claim) (r : Refusal) → IsStop r → IfSome a (λ bytes. IsStreamRefusal g capacity bytes c r)
-stop_refusal g capacity a c r h = if_all a (λ bytes. IsStreamRefusal g capacity bytes c r) (λ bytes. inl h)
 
 pub unasked_refusal : (g : Geometry) (capacity : ℕ) (a : Option (List ℕ)) (c : Claim) → (IsAsked g capacity c → ⊥) → IfSome a (λ bytes. IsStreamRefusal g capacity bytes c refusals.GeometryDiffers)
 unasked_refusal g capacity a c ne = if_all a (λ bytes. IsStreamRefusal g capacity bytes c refusals.GeometryDiffers) (λ bytes. inr (inr (not_asked g capacity (raw_image g bytes) c ne)))
@@ -207,7 +195,3 @@ streamed_whole g o p (Err x) took = tt
 pub streamed_judged : (g : Geometry) (o : Option (List ℕ)) (p : Pass) (r : Result Acceptance Refusal) → IfSome o (IsTaken g p) → IfErr r (λ x. IsJudgement x → IfSome o (λ bytes. length bytes ≡ image_bytes g))
 streamed_judged g o p (Ok a) took = tt
 streamed_judged g o p (Err x) took = λ j. taken_whole g o p took
-
-pub stop_unjudged : (P : Type 0) (r : Refusal) → (r ≡ refusals.Source) ⊎ (r ≡ refusals.WrongLength) → IsJudgement r → P
-stop_unjudged P r (inl e) j = absurd (subst (λ (x : Refusal). IsJudgement x) e j)
-stop_unjudged P r (inr e) j = absurd (subst (λ (x : Refusal). IsJudgement x) e j)

@@ -1,6 +1,6 @@
 -- From the bytes that the survey keeps to the newest table pages of the image.
 use Rattle.std.proofs.Common.{◌≡◌, ℕ, suc, ◌+◌, ◌-◌, ◌*◌, ◌/◌, ◌%◌, ◌<◌, ◌≤◌, Bool, true, false, List, [], ◌∷◌, length, get_or, Option, Some, None, refl, sym, ap, subst, ◌∙◌, inl, inr, arith, slice_get}
-use Rattle.std.specs.Prelude.{slice_index, slice_range, is_some, not}
+use Rattle.std.specs.Prelude.{slice_index, slice_range, is_some, not, IsSome}
 use Rattle.std.specs.Int.{w32, from_le_bytes, div_ceil}
 use Rattle.std.proofs.lemmas.Bool.{cases_order, cases_lt, lt-ltb, le-ltb}
 use Rattle.std.proofs.Common.{All, replicate, take, drop, length-take, length-drop}
@@ -10,17 +10,21 @@ use Rattle.bad_blocks.specs.Table.{IsCounted, no_table_row}
 use Rattle.std.proofs.Math.Nat.{mul-le-mul_right, div-mul-le_self, mul_comm}
 use Rattle.std.proofs.lemmas.Grind.{div_ceil_times}
 use Rattle.page_layout.specs.declared.geometry.Geometry.{Geometry}
+use Rattle.page_layout.specs.declared.record.Key.{Key}
 use Rattle.page_layout.specs.declared.record.Key.TheVariants.{Table}
+use Rattle.page_layout.specs.declared.record.Record.{Record}
 use Rattle.page_layout.specs.declared.newest.Latest.{Latest}
 use Rattle.page_layout.specs.declared.newest.Latest.TheVariants.{Never}
 use Rattle.page_layout.specs.Geometry.{entries, translation_pages, table_pages, row_count}
 use Rattle.page_layout.specs.Greatest.{place_of}
 use Rattle.page_layout.specs.Limits.{IsDataSize}
 use Rattle.page_layout.specs.Page.{Image, body_at}
-use Rattle.page_layout.specs.Newest.{newest, latest_below}
+use Rattle.page_layout.specs.Newest.{newest, latest_below, sequence_at}
+use Rattle.page_layout.specs.OneArray.{AreDistinct}
 use Rattle.page_layout.specs.Array.{marks}
 use Rattle.page_layout.specs.Word.{word_at}
 use Rattle.page_layout.proofs.ArrayLemmas.{length-marks, latest-newest}
+use Rattle.page_layout.proofs.NewestLemmas.{IsOf, newest-is, newest_some, sequence_at-is}
 use Rattle.bad_blocks.specs.declared.table.TableRow.{TableRow}
 use Rattle.bad_blocks.specs.declared.class.Class.{Class}
 use Rattle.bad_blocks.specs.declared.class.Class.TheVariants.{Good, Factory, Grown}
@@ -64,11 +68,22 @@ formatted_of g image items u h keys within =
     let e = h.each u within in
     record { row = e.0; newest_is = sym (surveyed_row g image items (g.sectors + (translation_pages g + u)) (Table u) Never keys.whole keys.noted within refl) ∙ e.1 }
 
-pub unformatted_of : (g : Geometry) (image : Image) (items : List Latest) (u i : ℕ) (d : Latest) → SurveysKeys g image items → u < table_pages g → i ≡ g.sectors + (translation_pages g + u) → place_of (get_or items i d) ≡ None → IsUnformatted g image
-unformatted_of g image items u i d keys within at none = record {
+-- under distinct sequences a key with no newest page has no sound page
+none_newest : (marks : List (Option Record)) (key : Key) → AreDistinct marks → newest marks key ≡ None → (row : ℕ) → sequence_at marks key row ≡ None
+none_newest marks key distinct none row = by_sequence (sequence_at marks key row) refl
+  where
+    by_sequence : (o : Option ℕ) → sequence_at marks key row ≡ o → sequence_at marks key row ≡ None
+    by_sequence None e = e
+    by_sequence (Some s) e =
+        let its : IsOf key (get_or marks row None) s = sequence_at-is marks key row s e in
+        let some : IsSome (newest marks key) = subst (λ k. IsSome (newest marks k)) its.of_key (newest_some marks row its.its distinct its.is) in
+        absurd (let clash : false ≡ true = sym (ap is_some none) ∙ some in cc)
+
+pub unformatted_of : (g : Geometry) (image : Image) (items : List Latest) (u i : ℕ) (d : Latest) → SurveysKeys g image items → u < table_pages g → i ≡ g.sectors + (translation_pages g + u) → place_of (get_or items i d) ≡ None → AreDistinct (marks image) → IsUnformatted g image
+unformatted_of g image items u i d keys within at none distinct = record {
   page = u;
   within = within;
-  missing = sym (surveyed_row g image items i (Table u) d keys.whole keys.noted within at) ∙ none;
+  missing = none_newest (marks image) (Table u) distinct (sym (surveyed_row g image items i (Table u) d keys.whole keys.noted within at) ∙ none);
 }
 
 -- ---- their bytes
@@ -213,7 +228,10 @@ tables_damaged g capacity image claim u rows body fault formatted taken within k
 pub tables_missing : (g : Geometry) (capacity : ℕ) (image : Image) (claim : Claim) → IsUnformatted g image → IsWrong g capacity image claim Tables refusals.NotFormatted
 tables_missing g capacity image claim h = record {
   part_is = refl;
-  fails = λ (all : HasTables g image). (let f = all.formatted h.page h.within in let clash : None ≡ Some f.row = sym h.missing ∙ f.newest_is in cc);
+  fails = λ (all : HasTables g image). (
+      let f = all.formatted h.page h.within in
+      let is = newest-is (marks image) (Table h.page) f.row f.newest_is in
+      let clash : None ≡ Some is.value = sym (h.missing f.row) ∙ is.here in cc);
   says = h;
 }
 

@@ -82,11 +82,11 @@ pub record IsFirstRepeated (marks : List (Option Record)) (a b : ℕ) : Type 0 w
   pub pair : IsRepeated marks a b
   pub lowest : (c d : ℕ) → IsRepeated marks c d → b ≤ d
 
--- some table page has no newest page
+-- some table page has no sound page
 pub record IsUnformatted (g : Geometry) (image : Image) : Type 0 where
   pub page : ℕ
   pub within : page < table_pages g
-  pub missing : newest (marks image) (Table page) ≡ None
+  pub missing : (row : ℕ) → sequence_at (marks image) (Table page) row ≡ None
 
 -- each table page has one, and this is the first that isn't well formed
 pub record IsTableDamaged (g : Geometry) (image : Image) (u : ℕ) : Type 0 where

@@ -1,12 +1,15 @@
 -- What a sector of an image is asked for, and what the answers say.
-use Rattle.std.specs.Prelude.{ℕ, ◌<◌, Result, Ok, Err}
+use Rattle.std.specs.Prelude.{◌≡◌, ◌⊎◌, ℕ, ◌<◌, ◌≤◌, List, Result, Ok, Err, Some}
 use Rattle.page_layout.specs.declared.geometry.Geometry.{Geometry}
+use Rattle.page_layout.specs.declared.record.Record.{Record}
+use Rattle.page_layout.specs.declared.record.Kind.TheVariants as kind
 use Rattle.page_layout.specs.declared.record.Key.TheVariants as key
 use Rattle.page_layout.specs.declared.newest.Latest.{Latest}
 use Rattle.page_layout.specs.declared.newest.Latest.TheVariants.{Never, Once, Tied}
-use Rattle.page_layout.specs.Page.{Image}
+use Rattle.page_layout.specs.Page.{Image, page}
+use Rattle.page_layout.specs.Sound.{record_of}
 use Rattle.page_layout.specs.Newest.{AreTied}
-use Rattle.page_layout.specs.Array.{marks}
+use Rattle.page_layout.specs.Array.{marks, zeros}
 use Rattle.image_check.specs.declared.scan.SectorFault.{SectorFault}
 use Rattle.image_check.specs.declared.scan.SectorFault.TheVariants.{OutOfRange, SequenceRepeated, Source}
 
@@ -26,6 +29,24 @@ abbrev pub NamesRows : Image → ℕ → SectorFault → Type 0
 NamesRows image n (SequenceRepeated first second) = SharesSequence image n first second
 NamesRows image n OutOfRange = Unit {0}
 NamesRows image n Source = Unit {0}
+
+-- no two rows that share that sequence are lower than those that a fault names
+abbrev pub NamesLowest : Image → ℕ → SectorFault → Type 0
+NamesLowest image n (SequenceRepeated first second) = (a b : ℕ) → SharesSequence image n a b → (first ≤ a) × (second ≤ b)
+NamesLowest image n OutOfRange = Unit {0}
+NamesLowest image n Source = Unit {0}
+
+-- the bytes are the data area of a sound page that holds the sector
+pub record HoldsSector (n : ℕ) (bytes : List ℕ) : Type 0 where
+  pub spare : List ℕ
+  pub its : Record
+  pub says : record_of (page bytes spare) ≡ Some its
+  pub kind_is : its.kind ≡ kind.Sector
+  pub number_is : its.number ≡ n
+
+-- the bytes are zeros, or those of a page that holds the sector
+abbrev pub MayRead : Geometry → ℕ → List ℕ → Type 0
+MayRead g n bytes = (bytes ≡ zeros g) ⊎ HoldsSector n bytes
 
 -- the answer is a fault that names two rows
 abbrev pub IsRepeated : {T : Type 0} → Result T SectorFault → Type 0

@@ -66,13 +66,7 @@ pub(crate) fn note_absent(geometry: &Geometry, certificate: &Certificate, noted:
 }
 
 // Notes which sectors from `first` up to `end` have another row in the certificate than in this translation page.
-fn note_differing(
-    certificate: &Certificate,
-    first: u32,
-    end: u32,
-    page: &[u8],
-    noted: &mut Noted,
-)
+fn note_differing(certificate: &Certificate, first: u32, end: u32, page: &[u8], noted: &mut Noted)
     requires order { first ≤ end }
     requires sectors { end ≤ length certificate.now.sectors }
     requires entries { 4 * (end - first) ≤ length page.now }

@@ -1,15 +1,18 @@
 //! The plain scan: one sector of an image, found by a look at every page.
-ghost use Rattle.std.specs.Prelude.{◌≡◌, ◌≢◌, ◌+◌, ◌^◌, ◌≤◌, ◌<◌, ℕ, ◌↔◌, Bool, true, Err, OnOk, OnErr, length, IfOk, IfErr, unwrap_or, option_copied, IfSome, Some};
+ghost use Rattle.std.specs.Prelude.{◌≡◌, ◌≢◌, ◌+◌, ◌^◌, ◌≤◌, ◌<◌, ℕ, ◌↔◌, Bool, true, Err, OnOk, OnErr, length, IfOk, IfErr, unwrap_or, option_copied, IfSome, IsSome, IsTrue, Some};
 ghost use Rattle.page_layout.specs.Counter.{HasRisen};
 ghost use Rattle.page_layout.specs.Page.{Image, IsImage, page};
-ghost use Rattle.page_layout.specs.Newest.{latest_below};
+ghost use Rattle.page_layout.specs.Newest.{latest_below, sequence_of};
 ghost use Rattle.page_layout.specs.Array.{marks, zeros, content, sector_of};
+ghost use Rattle.page_layout.specs.Sound.{record_of};
+ghost use Rattle.page_layout.specs.declared.record.Key.TheVariants as key;
+ghost use Rattle.page_layout.specs.declared.record.Kind.TheVariants as kind;
 ghost use Rattle.page_layout.specs.Geometry.{row_count, page_bytes};
-ghost use Rattle.image_check.specs.Sector.{IsAmbiguous, NamesRows, IsRepeated, IsBelow};
+ghost use Rattle.image_check.specs.Sector.{IsAmbiguous, NamesRows, NamesLowest, HoldsSector, MayRead, IsRepeated, IsBelow};
 
 use page_layout::geometry::Geometry;
 use page_layout::newest::Latest;
-use page_layout::record::{Key, Kind, read_record, sequence_in};
+use page_layout::record::{Key, Kind, Record, read_record, sequence_in};
 use page_layout::source::{ImageSlice, PageSource, SourceFault};
 use thiserror::Error;
 
@@ -42,17 +45,30 @@ fn latest(image: &ImageSlice, key: Key) -> Latest
     latest
 }
 
-// What a sector reads as whose newest page this is: its data area, or `None` for zeros.
-#[tactic(auto, unfolding(page_layout::specs::Array::content))]
-fn content<'a>(geometry: &Geometry, body: &'a [u8], spare: &[u8]) -> Option<&'a [u8]>
+// Whether the record is that of a page with the sector's bytes.
+fn holds_sector(found: &Record, sector: u32) -> bool
+    ensures { IsTrue result ↔ ((found.now.kind ≡ kind.Sector) × (found.now.number ≡ sector)) }
+{
+    found.kind == Kind::Sector && found.number == sector
+}
+
+// What a sector reads as whose newest page this is: its data area, or `None` for zeros. A page that is not of the sector
+// is not lent, since a source may put out another page than it did before.
+fn content<'a>(geometry: &Geometry, sector: u32, body: &'a [u8], spare: &[u8]) -> Option<&'a [u8]>
     requires body_whole { length body.now ≡ geometry.now.data_bytes }
     requires spare_whole { length spare.now ≡ geometry.now.spare_bytes }
-    ensures is { unwrap_or (option_copied result) (zeros geometry.now) ≡ content geometry.now (Some (page body.now spare.now)) }
+    ensures is { IsSome (sequence_of (key.Sector sector) (record_of (page body.now spare.now))) →
+        unwrap_or (option_copied result) (zeros geometry.now) ≡ content geometry.now (Some (page body.now spare.now)) }
+    ensures own { IfSome result (λ found. HoldsSector sector found.now) }
     ensures whole { IfSome result (λ found. length found.now ≡ geometry.now.data_bytes) }
 {
-    match read_record(geometry, body, spare) {
-        Some(found) if found.kind == Kind::Sector => Some(body),
-        _ => None,
+    let Some(found) = read_record(geometry, body, spare) else {
+        return None;
+    };
+    if holds_sector(&found, sector) {
+        Some(body)
+    } else {
+        None
     }
 }
 
@@ -73,6 +89,7 @@ pub fn sector_in<'a>(image: &ImageSlice<'a>, sector: u32) -> Result<Option<&'a [
     ensures range { (result ≡ Err SectorFault.OutOfRange) ↔ (image.now.flash.geometry.sectors ≤ sector) }
     ensures repeated { IsRepeated result ↔ IsAmbiguous image.now.flash.geometry image.now.flash.image sector }
     ensures rows { IfErr result (NamesRows image.now.flash.image sector) }
+    ensures lowest { IfErr result (NamesLowest image.now.flash.image sector) }
     ensures never_source { result ≢ Err SectorFault.Source }
 
     // What is lent is the sector, and nothing lent means zeros.
@@ -88,7 +105,7 @@ pub fn sector_in<'a>(image: &ImageSlice<'a>, sector: u32) -> Result<Option<&'a [
         Latest::Tied(first, second, _) => Err(SectorFault::SequenceRepeated { first, second }),
         Latest::Once(row, _) => {
             let (body, spare) = image.page(row);
-            Ok(content(&geometry, body, spare))
+            Ok(content(&geometry, sector, body, spare))
         }
     }
 }
@@ -143,7 +160,8 @@ fn latest_of<S: PageSource>(
 ///
 /// `page` is scratch of one page, data area and spare area together; `out` has the bytes of a data
 /// area. Takes no memory. Reads each page once and the newest one once more, programs and erases
-/// nothing, and leaves an honest source's pages as they are.
+/// nothing, and leaves an honest source's pages as they are. A source that changes its pages in between is shown as zeros,
+/// or as the sector stands in the page that was read last, and never as another sector.
 ///
 /// # Errors
 ///
@@ -172,7 +190,11 @@ pub fn sector<S: PageSource>(
     ensures ok { OnOk result (S.honest source.old ≡ true → out.new ≡ sector_of geometry.now (S.flash source.old).image sector) }
     ensures repeated { S.honest source.old ≡ true → result ≢ Err SectorFault.Source → (IsRepeated result ↔ IsAmbiguous geometry.now (S.flash source.old).image sector) }
     ensures rows { S.honest source.old ≡ true → IfErr result (NamesRows (S.flash source.old).image sector) }
+    ensures lowest { S.honest source.old ≡ true → IfErr result (NamesLowest (S.flash source.old).image sector) }
     ensures same { S.honest source.old ≡ true → result ≢ Err SectorFault.Source → S.flash source.new ≡ S.flash source.old }
+
+    // What any source shows: no bytes of another sector.
+    ensures own { OnOk result (MayRead geometry.now sector out.new) }
 
     // What stays the same of any source.
     ensures unread { geometry.now.sectors ≤ sector → source.new ≡ source.old }
@@ -198,7 +220,7 @@ pub fn sector<S: PageSource>(
         Latest::Once(row, _) => row,
     };
     source.read_page(row, body, spare)?;
-    if let Some(found) = content(geometry, body, spare) {
+    if let Some(found) = content(geometry, sector, body, spare) {
         out.copy_from_slice(found);
     }
     Ok(())

@@ -81,8 +81,7 @@ fn read_translation<S: PageSource>(
 /// `spare` are scratch of one data area and one spare area in bytes, and hold anything afterwards.
 ///
 /// # Errors
-/// `Source` where a page read failed, `OutOfMemory` where a growth was refused. `stale` then holds a beginning of the
-/// stale sectors. (This project's rules.)
+/// `Source` where a page read failed, `OutOfMemory` where a growth was refused. (This project's rules.)
 pub fn find_stale<S: PageSource>(
     source: &mut S,
     geometry: &Geometry,

@@ -1,6 +1,8 @@
 //! The newest table pages: whether there are all of them, and what they say of the blocks.
 ghost use Rattle.std.specs.Prelude.{◌≡◌, true, false, ℕ, ◌+◌, ◌*◌, ◌<◌, ◌≤◌, length, OnOk, IfErr};
 ghost use Rattle.page_layout.specs.Page.{Image};
+ghost use Rattle.page_layout.specs.Array.{marks};
+ghost use Rattle.page_layout.specs.OneArray.{AreDistinct};
 ghost use Rattle.page_layout.specs.Geometry.{key_count, table_pages};
 ghost use Rattle.page_layout.specs.Limits.{IsDataSize};
 ghost use Rattle.certificate.specs.Claim.{Claim};
@@ -15,11 +17,11 @@ use bad_blocks::{Table, read_table_page};
 use page_layout::geometry::Geometry;
 use page_layout::newest::Latest;
 
-// Whether each table page has a newest page.
+// Whether each table page has a newest page. It has none where it has no sound page, or where two share its greatest sequence.
 fn is_formatted(geometry: &Geometry, newest: &[Latest]) -> bool
     requires { length newest.now ≡ key_count geometry.now }
     ensures yes { result ≡ true → (image : Image) → SurveysKeys geometry.now image newest.now → (u : ℕ) → u < table_pages geometry.now → IsFormatted image u }
-    ensures no { result ≡ false → (image : Image) → SurveysKeys geometry.now image newest.now → IsUnformatted geometry.now image }
+    ensures no { result ≡ false → (image : Image) → SurveysKeys geometry.now image newest.now → AreDistinct (marks image) → IsUnformatted geometry.now image }
 {
     let first = geometry.sectors() + geometry.translation_pages();
     for page in 0..geometry.table_pages() {
@@ -43,14 +45,15 @@ fn bytes_of(survey: &Survey, page: u32) -> &[u8]
     &survey.tables[at..at + size]
 }
 
-/// Each table page has a newest page, and it is well formed. Takes what they say of the blocks.
+/// Each table page has a newest page, and it is well formed. Takes what they say of the blocks. Where no two sound pages share
+/// a sequence, a table page with no newest page has no sound page.
 pub(crate) fn check_tables(survey: &Survey, table: &mut Table) -> Result<(), Refusal>
     requires newest { length survey.now.newest.items ≡ key_count survey.now.geometry }
     requires tables { length survey.now.tables.items ≡ table_pages survey.now.geometry * survey.now.geometry.data_bytes }
     requires blocks { length table.old ≡ survey.now.geometry.blocks }
     ensures ok { OnOk result ((image : Image) → SurveysTables survey.now.geometry image survey.now.newest.items survey.now.tables.items → HasTables survey.now.geometry image) }
     ensures rows { OnOk result ((image : Image) → SurveysTables survey.now.geometry image survey.now.newest.items survey.now.tables.items → IsTableOf survey.now.geometry image table.new) }
-    ensures err { IfErr result (λ refusal. (capacity : ℕ) (image : Image) (claim : Claim) → SurveysTables survey.now.geometry image survey.now.newest.items survey.now.tables.items → IsWrong survey.now.geometry capacity image claim Tables refusal) }
+    ensures err { IfErr result (λ refusal. (capacity : ℕ) (image : Image) (claim : Claim) → SurveysTables survey.now.geometry image survey.now.newest.items survey.now.tables.items → AreDistinct (marks image) → IsWrong survey.now.geometry capacity image claim Tables refusal) }
     ensures named { IfErr result IsJudgement }
     ensures kind { IfErr result IsOfImage }
     ensures size { length table.new ≡ length table.old }

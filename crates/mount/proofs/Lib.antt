@@ -15,4 +15,5 @@ pub mod NextLemmas
 pub mod RefuseLemmas
 pub mod WordLemmas
 pub mod MountLemmas
+pub mod MountLaws
 pub mod ReadyLemmas

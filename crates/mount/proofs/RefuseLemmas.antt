@@ -15,7 +15,7 @@ use Rattle.image_check.specs.Refused.{Part, Asked, Numbers, Sequences, Tables, D
 use Rattle.mount.specs.Mounted.{Shows, IsSpent, Refuses, IsOfMounting}
 
 -- each part of the agreement
-holds : (g : Geometry) (capacity : ℕ) (image : Image) (c : Claim) (p : Part) → Agrees g capacity image c → Holds g capacity image c p
+pub holds : (g : Geometry) (capacity : ℕ) (image : Image) (c : Claim) (p : Part) → Agrees g capacity image c → Holds g capacity image c p
 holds g capacity image c Asked h = h.asked
 holds g capacity image c Numbers h = h.numbers
 holds g capacity image c Sequences h = h.sequences

@@ -20,7 +20,7 @@ use Rattle.mount.specs.Fresh.{IsFresh}
 use Rattle.promises.specs.Log.{programs_in, failed_in}
 use Rattle.promises.specs.Legal.{account_at, accounts_of, accounted_all}
 use Rattle.mount.specs.Log.{failures}
-use Rattle.mount.specs.Formatted.{table_after, table_record, good_after, IsDone, HasTablePage, IsFormatted, IsTooFewGood, IsWriteFailed}
+use Rattle.mount.specs.Formatted.{table_after, table_record, good_after, IsDone, HasTablePage, AreThreeMore, IsFormatted, IsTooFewGood, IsWriteFailed}
 use Rattle.mount.specs.declared.format_fault.FormatFault.{FormatFault}
 use Rattle.mount.specs.declared.format_fault.FormatFault.TheVariants.{TooFewGood, Bus, OutOfMemory, WriteFailed, NotFresh}
 
@@ -89,5 +89,5 @@ AnswersWrite g old_programs new_programs (Err (TooFewGood good asked)) =
     (good < need g) × (asked ≡ need g) × ((new_programs ≡ old_programs) ⊎ (good + 1 ≡ need g))
 AnswersWrite g old_programs new_programs (Err Bus) = Unit {0}
 AnswersWrite g old_programs new_programs (Err OutOfMemory) = ⊥
-AnswersWrite g old_programs new_programs (Err WriteFailed) = Unit {0}
+AnswersWrite g old_programs new_programs (Err WriteFailed) = AreThreeMore old_programs new_programs
 AnswersWrite g old_programs new_programs (Err (NotFresh row)) = ⊥

@@ -1,5 +1,5 @@
 -- What formatting a die makes of it, and what is true of a die whose format was refused.
-use Rattle.std.specs.Prelude.{◌≡◌, ◌⊎◌, ℕ, ◌+◌, ◌*◌, ◌/◌, ◌<◌, ◌≤◌, Bool, true, false, ◌||◌, List, [], map, replicate, slice_get, Some, None, Result, Ok, Err, if◌then◌else◌}
+use Rattle.std.specs.Prelude.{◌≡◌, ◌⊎◌, ℕ, ◌+◌, ◌*◌, ◌/◌, ◌^◌, ◌<◌, ◌≤◌, Bool, true, false, ◌||◌, List, [], map, replicate, slice_get, Some, None, Result, Ok, Err, if◌then◌else◌}
 use Rattle.std.specs.List.{list_any, range_with_len}
 use Rattle.page_layout.specs.declared.geometry.Geometry.{Geometry}
 use Rattle.page_layout.specs.declared.record.Record.{Record}
@@ -152,13 +152,18 @@ Formats g old new (Err OutOfMemory) = new ≡ old
 Formats g old new (Err WriteFailed) = IsWriteFailed g old new
 Formats g old new (Err (NotFresh row)) = IsNotFresh g old new row
 
+-- three programs were counted, where the count didn't stand at the greatest u64
+abbrev pub AreThreeMore : ℕ → ℕ → Type 0
+AreThreeMore old new = old + 3 < 2 ^ 64 → old + 3 ≤ new
+
 -- What any die's format answers, honest or not: numbers in range, and no program before a refusal by the scan. Too few good
--- blocks are found by the scan, or after a program failed in the last block that could be spared.
+-- blocks are found by the scan, or after a program failed in the last block that could be spared. Writing is given up after
+-- three programs at least.
 abbrev pub Answers : Geometry → ℕ → ℕ → Result ℕ FormatFault → Type 0
 Answers g old_programs new_programs (Ok good) = (need g ≤ good) × (good ≤ g.blocks)
 Answers g old_programs new_programs (Err (TooFewGood good asked)) =
     (good < need g) × (asked ≡ need g) × ((new_programs ≡ old_programs) ⊎ (good + 1 ≡ need g))
 Answers g old_programs new_programs (Err Bus) = Unit {0}
 Answers g old_programs new_programs (Err OutOfMemory) = new_programs ≡ old_programs
-Answers g old_programs new_programs (Err WriteFailed) = Unit {0}
+Answers g old_programs new_programs (Err WriteFailed) = AreThreeMore old_programs new_programs
 Answers g old_programs new_programs (Err (NotFresh row)) = (row < row_count g) × (new_programs ≡ old_programs)

@@ -5,5 +5,6 @@ pub mod FormatLaws
 pub mod Look
 pub mod Attempt
 pub mod Mounted
+pub mod MountLaws
 pub mod Shown
 pub mod Ready

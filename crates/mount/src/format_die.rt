@@ -44,6 +44,7 @@ pub fn format<N: Nand>(alloc: Global, nand: &mut N, geometry: &Geometry) -> Resu
     ensures erases { N.erases nand.new ≡ N.erases nand.old }
     ensures geometry { (N.flash nand.new).geometry ≡ (N.flash nand.old).geometry }
     ensures honest { N.honest nand.new ≡ N.honest nand.old }
+    ensures calm { N.calm nand.new ≡ N.calm nand.old }
     ensures failed { N.failed nand.old ≤ N.failed nand.new }
 {
     let mut classes = vec![in alloc; Class::Good; geometry.blocks() as usize]?;

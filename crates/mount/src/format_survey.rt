@@ -70,6 +70,7 @@ fn read_look<S: PageSource>(
     ensures whole { OnOk result (S.honest source.old ≡ true → IsImage geometry.now (S.flash source.old).image) }
     ensures geometry { (S.flash source.new).geometry ≡ (S.flash source.old).geometry }
     ensures honest { S.honest source.new ≡ S.honest source.old }
+    ensures calm { S.calm source.new ≡ S.calm source.old }
     ensures reads { S.reads source.new ≡ counted (S.reads source.old) }
     ensures programs { S.programs source.new ≡ S.programs source.old }
     ensures erases { S.erases source.new ≡ S.erases source.old }
@@ -102,6 +103,7 @@ fn used_between<S: PageSource>(
     ensures same { OnOk result (S.honest source.old ≡ true → S.flash source.new ≡ S.flash source.old) }
     ensures geometry { (S.flash source.new).geometry ≡ (S.flash source.old).geometry }
     ensures honest { S.honest source.new ≡ S.honest source.old }
+    ensures calm { S.calm source.new ≡ S.calm source.old }
     ensures reads { OnOk result (S.reads source.old + (to - from) < 2 ^ 64 →
         S.reads source.new ≡ S.reads source.old + (to - from)) }
     ensures most_reads { S.reads source.new ≤ S.reads source.old + (to - from) }
@@ -169,6 +171,7 @@ fn survey_block<S: PageSource>(
     ensures whole { OnOk result (S.honest source.old ≡ true → IsImage geometry.now (S.flash source.old).image) }
     ensures geometry { (S.flash source.new).geometry ≡ (S.flash source.old).geometry }
     ensures honest { S.honest source.new ≡ S.honest source.old }
+    ensures calm { S.calm source.new ≡ S.calm source.old }
     ensures reads { OnOk result (S.reads source.old + geometry.now.pages < 2 ^ 64 →
         S.reads source.new ≡ S.reads source.old + geometry.now.pages) }
     ensures most_reads { S.reads source.new ≤ S.reads source.old + geometry.now.pages }
@@ -225,6 +228,7 @@ pub fn survey<S: PageSource>(
     ensures whole { OnOk result (S.honest source.old ≡ true → IsImage geometry.now (S.flash source.old).image) }
     ensures geometry { (S.flash source.new).geometry ≡ (S.flash source.old).geometry }
     ensures honest { S.honest source.new ≡ S.honest source.old }
+    ensures calm { S.calm source.new ≡ S.calm source.old }
     ensures reads { OnOk result (S.reads source.old + row_count geometry.now < 2 ^ 64 →
         S.reads source.new ≡ S.reads source.old + row_count geometry.now) }
     ensures most_reads { S.reads source.new ≤ S.reads source.old + row_count geometry.now }

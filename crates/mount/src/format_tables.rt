@@ -33,6 +33,7 @@ fn program_table<N: Nand>(
         u sequence (unworn classes.now) outcome) }
     ensures geometry { (N.flash nand.new).geometry ≡ (N.flash nand.old).geometry }
     ensures honest { N.honest nand.new ≡ N.honest nand.old }
+    ensures calm { N.calm nand.new ≡ N.calm nand.old }
     ensures reads { N.reads nand.new ≡ N.reads nand.old }
     ensures programs { N.programs nand.new ≡ counted (N.programs nand.old) }
     ensures erases { N.erases nand.new ≡ N.erases nand.old }
@@ -73,8 +74,10 @@ fn write_in_block<N: Nand>(
     ensures sequences { sequence.new ≤ sequence.old + table_pages geometry.now }
     ensures geometry { (N.flash nand.new).geometry ≡ (N.flash nand.old).geometry }
     ensures honest { N.honest nand.new ≡ N.honest nand.old }
+    ensures calm { N.calm nand.new ≡ N.calm nand.old }
     ensures reads { N.reads nand.new ≡ N.reads nand.old }
     ensures programs { N.programs nand.new ≤ N.programs nand.old + table_pages geometry.now }
+    ensures tried { IfOk result (λ outcome. outcome ≡ Outcome.Failed → counted (N.programs nand.old) ≤ N.programs nand.new) }
     ensures erases { N.erases nand.new ≡ N.erases nand.old }
     ensures failed { N.failed nand.old ≤ N.failed nand.new }
     ensures rose { OnErr result (HasRisen (N.failed nand.old) (N.failed nand.new)) }
@@ -153,6 +156,7 @@ pub fn write_tables<N: Nand>(
     ensures answers { AnswersWrite geometry.now (N.programs nand.old) (N.programs nand.new) result }
     ensures geometry { (N.flash nand.new).geometry ≡ (N.flash nand.old).geometry }
     ensures honest { N.honest nand.new ≡ N.honest nand.old }
+    ensures calm { N.calm nand.new ≡ N.calm nand.old }
     ensures reads { N.reads nand.new ≡ N.reads nand.old }
     ensures programs { N.programs nand.new ≤ N.programs nand.old + 3 * table_pages geometry.now }
     ensures erases { N.erases nand.new ≡ N.erases nand.old }

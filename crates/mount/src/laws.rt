@@ -1,4 +1,5 @@
 ghost use Rattle.mount.specs.FormatLaws.{FewLaw, FreshLaw, UsedLaw};
+ghost use Rattle.mount.specs.MountLaws.{AcceptedLaw, TableTieLaw};
 ghost use Rattle.mount.specs.Ready.{FormattedLaw};
 
 /// What the state of an honest die allows its format to answer: a die with too few unmarked blocks,
@@ -14,4 +15,12 @@ pub fn format_laws()
 /// sector is 00h bytes.
 pub fn formatted_laws()
     ensures { FormattedLaw }
+{}
+
+/// What mounting means to those who use it: the checker accepts a certificate that was mounted, with as many stale sectors
+/// as `mount_counted` tells; and an image is refused as not formatted only where some table page has no sound page, so that
+/// a tie of a table page's only pages is told as `SequenceRepeated`.
+pub fn mount_laws()
+    ensures accepted { AcceptedLaw }
+    ensures tie { TableTieLaw }
 {}

@@ -11,4 +11,4 @@ mod mount_pages;
 
 pub use format_die::format;
 pub use format_fault::FormatFault;
-pub use mount_image::mount;
+pub use mount_image::{Mounted, mount, mount_counted};

@@ -3,6 +3,7 @@ ghost use Rattle.std.specs.Prelude.{◌≡◌, ◌≢◌, ◌≤◌, ◌+◌, []
 ghost use Rattle.page_layout.specs.Counter.{HasRisen};
 ghost use Rattle.page_layout.specs.Geometry.{row_count, translation_pages, table_pages};
 ghost use Rattle.image_check.specs.Agrees.{IsAsked};
+ghost use Rattle.image_check.specs.Stale.{stale_count};
 ghost use Rattle.mount.specs.Mounted.{IsMounted, Refuses, IsOfMounting};
 ghost use Rattle.mount.specs.Shown.{IsShownSized, HasWords};
 
@@ -39,6 +40,78 @@ fn put_directory(words: &mut Vec<u32>, geometry: &Geometry, shown: &Shown)
         let row = shown.newest[(sectors + page) as usize].row();
         words.push(word_from(row)).unwrap();
     }
+}
+
+/// A certificate that was made of an image, and what the image's entries on flash lack against it.
+#[derive(Drop)]
+pub struct Mounted {
+    /// The image's certificate.
+    pub certificate: Certificate,
+    /// How many sectors are stale: their entry in the newest translation page isn't the row of their newest page.
+    pub stale: u32,
+}
+
+/// The certificate of an image, and how many sectors are stale. It is `mount` but for that count: it reads, takes and refuses
+/// as `mount` does, and the checker accepts the certificate with just so many stale sectors.
+///
+/// # Errors
+/// As of `mount`. (This project's rules.)
+pub fn mount_counted<S: PageSource>(
+    alloc: Global,
+    source: &mut S,
+    geometry: &Geometry,
+    capacity: u32,
+) -> Result<Mounted, Refusal>
+    requires same_geometry { (S.flash source.old).geometry ≡ geometry.now }
+    requires least { 1 ≤ capacity }
+    requires most { capacity ≤ 65536 }
+    // The truth of the answer, for a source that keeps its promises.
+    ensures ok { IfOk result (λ mounted. S.honest source.old ≡ true → IsMounted geometry.now capacity (S.flash source.old).image mounted.certificate) }
+    ensures stale { IfOk result (λ mounted. S.honest source.old ≡ true → mounted.stale ≡ stale_count geometry.now (S.flash source.old).image) }
+    ensures err { IfErr result (λ refusal. S.honest source.old ≡ true → Refuses geometry.now capacity (S.flash source.old).image refusal) }
+    ensures same { result ≢ Err Refusal.Source → S.honest source.old ≡ true → S.flash source.new ≡ S.flash source.old }
+    // Whatever the source does.
+    ensures few { IfOk result (λ mounted. mounted.stale ≤ capacity) }
+    ensures asked { IfOk result (λ mounted. IsAsked geometry.now capacity mounted.certificate) }
+    ensures only { IfErr result IsOfMounting }
+    ensures geometry { (S.flash source.new).geometry ≡ (S.flash source.old).geometry }
+    ensures honest { S.honest source.new ≡ S.honest source.old }
+    ensures reads { S.reads source.new ≤ S.reads source.old + (row_count geometry.now + translation_pages geometry.now) }
+    ensures programs { S.programs source.new ≡ S.programs source.old }
+    ensures erases { S.erases source.new ≡ S.erases source.old }
+    ensures failed { S.failed source.old ≤ S.failed source.new }
+    ensures rose { result ≡ Err Refusal.Source → HasRisen (S.failed source.old) (S.failed source.new) }
+{
+    let pages = geometry.translation_pages() + geometry.table_pages();
+    let mut sectors = Vec::with_capacity(alloc, geometry.sectors() as usize)?;
+    let mut directory = Vec::with_capacity(alloc, pages as usize)?;
+    let mut stale = Vec::with_capacity(alloc, geometry.sectors() as usize)?;
+    let mut body = vec![in alloc; 0; geometry.data_bytes()]?;
+    let mut spare = vec![in alloc; 0; geometry.spare_bytes()]?;
+    let shown = show_pages(alloc, source, geometry, &mut body, &mut spare)?;
+    find_stale(
+        source,
+        geometry,
+        &shown.newest,
+        &mut body,
+        &mut spare,
+        &mut stale,
+    )?;
+    let stale = stale.len() as u32;
+    if stale > capacity {
+        return Err(Refusal::TooStale { stale, capacity });
+    }
+    put_sectors(&mut sectors, geometry, &shown);
+    put_directory(&mut directory, geometry, &shown);
+    let certificate = Certificate::new(
+        *geometry,
+        capacity,
+        shown.next,
+        shown.blocks,
+        directory,
+        sectors,
+    );
+    Ok(Mounted { certificate, stale })
 }
 
 /// The certificate of an image: the one that agrees with it, whose next sequence is one more than the greatest of all
@@ -78,33 +151,6 @@ pub fn mount<S: PageSource>(
     ensures failed { S.failed source.old ≤ S.failed source.new }
     ensures rose { result ≡ Err Refusal.Source → HasRisen (S.failed source.old) (S.failed source.new) }
 {
-    let pages = geometry.translation_pages() + geometry.table_pages();
-    let mut sectors = Vec::with_capacity(alloc, geometry.sectors() as usize)?;
-    let mut directory = Vec::with_capacity(alloc, pages as usize)?;
-    let mut stale = Vec::with_capacity(alloc, geometry.sectors() as usize)?;
-    let mut body = vec![in alloc; 0; geometry.data_bytes()]?;
-    let mut spare = vec![in alloc; 0; geometry.spare_bytes()]?;
-    let shown = show_pages(alloc, source, geometry, &mut body, &mut spare)?;
-    find_stale(
-        source,
-        geometry,
-        &shown.newest,
-        &mut body,
-        &mut spare,
-        &mut stale,
-    )?;
-    if stale.len() > capacity as usize {
-        let stale = stale.len() as u32;
-        return Err(Refusal::TooStale { stale, capacity });
-    }
-    put_sectors(&mut sectors, geometry, &shown);
-    put_directory(&mut directory, geometry, &shown);
-    Ok(Certificate::new(
-        *geometry,
-        capacity,
-        shown.next,
-        shown.blocks,
-        directory,
-        sectors,
-    ))
+    let Mounted { certificate, .. } = mount_counted(alloc, source, geometry, capacity)?;
+    Ok(certificate)
 }

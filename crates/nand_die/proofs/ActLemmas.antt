@@ -23,9 +23,9 @@ use Rattle.nand_die.specs.declared.change.BlockTurn.{BlockTurn}
 use Rattle.nand_die.specs.BusState.{IsProtocolFault, phase_of}
 use Rattle.nand_die.specs.Faults.{fault_at, left_by, IsPageLeft, ArePagesLeft}
 use Rattle.nand_die.specs.Turns.{flash_of, left_page, left_block, turn_of}
-use Rattle.nand_die.specs.declared.die.Die.TheInside.{Inside}
-use Rattle.nand_die.specs.contracts.die.Die.{the_view}
-use Rattle.nand_die.specs.DieValue.{AreFields, DieValue, answered, Acts, in_state, fault_next, program_passes, program_left, erase_passes, erase_left}
+use Rattle.nand_die.specs.declared.chip.Chip.TheInside.{Inside}
+use Rattle.nand_die.specs.contracts.chip.Chip.{the_view}
+use Rattle.nand_die.specs.ChipValue.{AreFields, ChipValue, answered, Acts, in_state, fault_next, program_passes, program_left, erase_passes, erase_left}
 use Rattle.nand_die.proofs.PagesLemmas.{block_within, middle_part}
 
 -- the register of a phase that loads
@@ -50,15 +50,15 @@ pub whole_of : (g : Geometry) (bytes : List ℕ) (turns : List BlockTurn) (abuse
 whole_of g bytes turns abuse raw lt = record { image_whole = raw_image_whole g bytes raw.whole raw.fits; turns_whole = length-map turns turn_of ∙ lt }
 
 -- a cycle that moves to another phase
-pub acts_moves : {A : Type 0} → (due : Due) (d e : DieValue) (phase : Phase) (x : A) → due ≡ Moves phase → e ≡ in_state (to_phase phase d.state) d → IsWhole d.state.flash → Acts due d e (Ok x)
+pub acts_moves : {A : Type 0} → (due : Due) (d e : ChipValue) (phase : Phase) (x : A) → due ≡ Moves phase → e ≡ in_state (to_phase phase d.state) d → IsWhole d.state.flash → Acts due d e (Ok x)
 acts_moves due d e phase x is to w = subst (λ u. Acts u d e (Ok x)) (sym is)
     (subst (λ v. Acts (Moves phase) d v (Ok x)) (sym to) (record { does = refl; follows = refl; own = tt; same = refl; whole = w }))
 
-pub acts_resets : {A : Type 0} → (due : Due) (d e : DieValue) (x : A) → due ≡ Resets → e ≡ answered Resets d → IsWhole d.state.flash → Acts due d e (Ok x)
+pub acts_resets : {A : Type 0} → (due : Due) (d e : ChipValue) (x : A) → due ≡ Resets → e ≡ answered Resets d → IsWhole d.state.flash → Acts due d e (Ok x)
 acts_resets due d e x is to w = subst (λ u. Acts u d e (Ok x)) (sym is)
     (subst (λ v. Acts Resets d v (Ok x)) (sym to) (record { does = refl; follows = refl; own = tt; same = refl; whole = w }))
 
-fails_by : (d : DieValue) (fault : BusFault) → FailsBy (Refuses fault) d.state (to_phase (given_up d.state.phase) d.state) fault
+fails_by : (d : ChipValue) (fault : BusFault) → FailsBy (Refuses fault) d.state (to_phase (given_up d.state.phase) d.state) fault
 fails_by d NoReset = (refl, refl)
 fails_by d UnknownCommand = (refl, refl)
 fails_by d OutOfTurn = (refl, refl)
@@ -66,7 +66,7 @@ fails_by d AddressRange = (refl, refl)
 fails_by d ColumnRange = (refl, refl)
 fails_by d Device = refl
 
-pub acts_refuses : (A : Type 0) → (d e : DieValue) (fault : BusFault) → IsProtocolFault fault → e ≡ answered (Refuses fault) d → IsWhole d.state.flash → Acts {A = A} (Refuses fault) d e (Err fault)
+pub acts_refuses : (A : Type 0) → (d e : ChipValue) (fault : BusFault) → IsProtocolFault fault → e ≡ answered (Refuses fault) d → IsWhole d.state.flash → Acts {A = A} (Refuses fault) d e (Err fault)
 acts_refuses A d e fault own to w = subst (λ v. Acts {A = A} (Refuses fault) d v (Err fault)) (sym to)
     (record { does = refl; follows = fails_by d fault; own = own; same = refl; whole = w })
 
@@ -89,7 +89,7 @@ page_sized : (f : Flash) (g : Geometry) (row : ℕ) → IsWhole f → f.geometry
 page_sized f g row w same lt = subst (λ h. IsPage h (page_at f row)) same
     (w.image_whole.pages row (page_at f row) (slice_get-get_or f.image row no_page (subst (λ n. row < n) (sym w.image_whole.rows) (subst (λ h. row < row_count h) (sym same) lt))))
 
-lawful_program : (d : DieValue) (row : ℕ) (page : Page) → row < length d.state.flash.image → IsPage d.state.flash.geometry (program_left d row page) → IsPageLeft d.state.flash.geometry (left_by (fault_next d))
+lawful_program : (d : ChipValue) (row : ℕ) (page : Page) → row < length d.state.flash.image → IsPage d.state.flash.geometry (program_left d row page) → IsPageLeft d.state.flash.geometry (left_by (fault_next d))
     → IsLawfulProgram d.state.flash row page (program_passes d row) (program_left d row page)
 lawful_program d row page lt sized left =
     let f : Flash = d.state.flash in
@@ -109,14 +109,14 @@ page_left_at : (f : Flash) (row : ℕ) (page : Page) (passed : Bool) (left : Pag
 unfolding after
 page_left_at f row page passed left lt = sym (get_or-set_same f.image row left no_page lt)
 
-pub acts_programs : {A : Type 0} → (d e : DieValue) (row : ℕ) (page : Page) (x : A) → e ≡ answered (Programs row page) d → row < row_count d.state.flash.geometry → IsWhole d.state.flash → IsWhole e.state.flash → e.state.flash.geometry ≡ d.state.flash.geometry
+pub acts_programs : {A : Type 0} → (d e : ChipValue) (row : ℕ) (page : Page) (x : A) → e ≡ answered (Programs row page) d → row < row_count d.state.flash.geometry → IsWhole d.state.flash → IsWhole e.state.flash → e.state.flash.geometry ≡ d.state.flash.geometry
     → IsPageLeft d.state.flash.geometry (left_by (fault_next d)) → Acts (Programs row page) d e (Ok x)
 acts_programs d e row page x is lt w v same fair =
     let f : Flash = d.state.flash in
     let P : Bool = program_passes d row in
     let L : Page = program_left d row page in
     let inside : row < length f.image = subst (λ n. row < n) (sym w.image_whole.rows) lt in
-    let flash : e.state.flash ≡ after f (Program row page P L) = ap (λ (u : DieValue). u.state.flash) is in
+    let flash : e.state.flash ≡ after f (Program row page P L) = ap (λ (u : ChipValue). u.state.flash) is in
     let left : L ≡ page_at e.state.flash row = page_left_at f row page P L inside ∙ ap (λ g. page_at g row) (sym flash) in
     let sized : IsPage f.geometry L = subst (IsPage f.geometry) (sym left) (page_sized e.state.flash f.geometry row v same lt) in
     record {
@@ -124,8 +124,8 @@ acts_programs d e row page x is lt w v same fair =
       follows = record {
         passed = P;
         step = subst (λ l. Steps f (Program row page P l) e.state.flash) left (record { lawful = lawful_program d row page inside sized fair; left = flash });
-        phase = ap (λ (u : DieValue). u.state.phase) is;
-        status = ap (λ (u : DieValue). u.state.status) is;
+        phase = ap (λ (u : ChipValue). u.state.phase) is;
+        status = ap (λ (u : ChipValue). u.state.status) is;
       };
       own = tt;
       same = same;
@@ -168,7 +168,7 @@ failed_block g old true left k u = elim (lt_cases (length left)) [
 page_in_block : (ps : List Page) (a b k : ℕ) → k < b → get_or (take b (drop a ps)) k no_page ≡ get_or ps (a + k) no_page
 page_in_block ps a b k lt = get_or-take b (drop a ps) k no_page lt ∙ get_or-drop a ps k no_page
 
-lawful_erase : (d : DieValue) (block : ℕ) → IsWhole d.state.flash → block < d.state.flash.geometry.blocks → IsPageLeft d.state.flash.geometry (left_by (fault_next d))
+lawful_erase : (d : ChipValue) (block : ℕ) → IsWhole d.state.flash → block < d.state.flash.geometry.blocks → IsPageLeft d.state.flash.geometry (left_by (fault_next d))
     → ((k : ℕ) → k < d.state.flash.geometry.pages → IsPage d.state.flash.geometry (get_or (erase_left d block) k no_page))
     → IsLawfulErase d.state.flash block (erase_passes d block) (erase_left d block)
 lawful_erase d block w lt left sized =
@@ -194,14 +194,14 @@ block_left_at : (f : Flash) (block : ℕ) (passed : Bool) (left : List Page) →
 unfolding after
 block_left_at f block passed left e le = sym (middle_part (take (block * f.geometry.pages) f.image) left (drop (block * f.geometry.pages + f.geometry.pages) f.image) (block * f.geometry.pages) f.geometry.pages (length-take-le (block * f.geometry.pages) f.image le) e)
 
-pub acts_erases : {A : Type 0} → (d e : DieValue) (block : ℕ) (x : A) → e ≡ answered (Erases block) d → block < d.state.flash.geometry.blocks → IsWhole d.state.flash → IsWhole e.state.flash → e.state.flash.geometry ≡ d.state.flash.geometry
+pub acts_erases : {A : Type 0} → (d e : ChipValue) (block : ℕ) (x : A) → e ≡ answered (Erases block) d → block < d.state.flash.geometry.blocks → IsWhole d.state.flash → IsWhole e.state.flash → e.state.flash.geometry ≡ d.state.flash.geometry
     → IsPageLeft d.state.flash.geometry (left_by (fault_next d)) → Acts (Erases block) d e (Ok x)
 acts_erases d e block x is lt w v same fair =
     let f : Flash = d.state.flash in
     let P : Bool = erase_passes d block in
     let L : List Page = erase_left d block in
     let size : length L ≡ f.geometry.pages = length_left f.geometry (block_at f block) (may_erase f block) P (left_by (fault_next d)) (length_block f.geometry f.image block lt w.image_whole.rows) (omega (arith, f.geometry.limits.page_count.least)) in
-    let flash : e.state.flash ≡ after f (Erase block P L) = ap (λ (u : DieValue). u.state.flash) is in
+    let flash : e.state.flash ≡ after f (Erase block P L) = ap (λ (u : ChipValue). u.state.flash) is in
     let within : block * f.geometry.pages + f.geometry.pages ≤ row_count f.geometry = block_within f.geometry block lt in
     let le : block * f.geometry.pages ≤ length f.image = omega (arith, within, w.image_whole.rows) in
     let left : L ≡ block_at e.state.flash block = block_left_at f block P L size le ∙ ap (λ g. block_at g block) (sym flash) in
@@ -216,8 +216,8 @@ acts_erases d e block x is lt w v same fair =
       follows = record {
         passed = P;
         step = subst (λ l. Steps f (Erase block P l) e.state.flash) left (record { lawful = law; left = flash });
-        phase = ap (λ (u : DieValue). u.state.phase) is;
-        status = ap (λ (u : DieValue). u.state.status) is;
+        phase = ap (λ (u : ChipValue). u.state.phase) is;
+        status = ap (λ (u : ChipValue). u.state.status) is;
       };
       own = tt;
       same = same;
@@ -225,13 +225,13 @@ acts_erases d e block x is lt w v same fair =
     }
 
 -- the value after a program or an erase
-abbrev pub done : DieValue → Flash → Bool → ℕ → ℕ → DieValue
+abbrev pub done : ChipValue → Flash → Bool → ℕ → ℕ → ChipValue
 done d flash passed asked changes = record { state = record { flash = flash; phase = Ready NoOutput; status = status_of passed }; faults = d.faults; asked = asked; changes = changes }
 
-done_as : (d : DieValue) (f g : Flash) (p q : Bool) (a b m n : ℕ) → f ≡ g → p ≡ q → a ≡ b → m ≡ n → done d f p a m ≡ done d g q b n
+done_as : (d : ChipValue) (f g : Flash) (p q : Bool) (a b m n : ℕ) → f ≡ g → p ≡ q → a ≡ b → m ≡ n → done d f p a m ≡ done d g q b n
 done_as d f g p q a b m n e1 e2 e3 e4 = ap (λ u. done d u p a m) e1 ∙ (ap (λ u. done d g u a m) e2 ∙ (ap (λ u. done d g q u m) e3 ∙ ap (λ u. done d g q b u) e4))
 
-programs_as : (d : DieValue) (flash : Flash) (row : ℕ) (page : Page) (legal passed comes : Bool) (left : List ℕ) (asked changes : ℕ)
+programs_as : (d : ChipValue) (flash : Flash) (row : ℕ) (page : Page) (legal passed comes : Bool) (left : List ℕ) (asked changes : ℕ)
     → legal ≡ may_program d.state.flash row → passed ≡ (legal && not comes) → comes ≡ is_some (fault_next d) → left ≡ left_by (fault_next d)
     → flash ≡ after d.state.flash (Program row page passed (left_page d.state.flash.geometry (page_at d.state.flash row) legal passed page left)) → asked ≡ counted d.asked → changes ≡ counted d.changes
     → done d flash passed asked changes ≡ answered (Programs row page) d
@@ -244,7 +244,7 @@ programs_as d flash row page legal passed comes left asked changes is_legal is_p
     = ap (λ b. left_page f.geometry was b passed page left) is_legal ∙ (ap (λ b. left_page f.geometry was may b page left) p ∙ ap (λ xs. left_page f.geometry was may (program_passes d row) page xs) is_left) in
     done_as d _ _ _ _ _ _ _ _ (is_flash ∙ (ap (λ b. after f (Program row page b (left_page f.geometry was legal passed page left))) p ∙ ap (λ m. after f (Program row page (program_passes d row) m)) l)) p is_asked is_changes
 
-erases_as : (d : DieValue) (flash : Flash) (block : ℕ) (legal passed comes : Bool) (left : List ℕ) (asked changes : ℕ)
+erases_as : (d : ChipValue) (flash : Flash) (block : ℕ) (legal passed comes : Bool) (left : List ℕ) (asked changes : ℕ)
     → legal ≡ may_erase d.state.flash block → passed ≡ (legal && not comes) → comes ≡ is_some (fault_next d) → left ≡ left_by (fault_next d)
     → flash ≡ after d.state.flash (Erase block passed (left_block d.state.flash.geometry (block_at d.state.flash block) legal passed left)) → asked ≡ counted d.asked → changes ≡ counted d.changes
     → done d flash passed asked changes ≡ answered (Erases block) d
@@ -271,7 +271,7 @@ pub program_acts : {A : Type 0} → (i : Inside) (xs ys bytes : List ℕ) (ts tu
 program_acts i xs ys bytes ts turns fs row legal passed comes left abuse asked changes x fit lt e1 e2 e3 e4 is_comes is_left is_legal is_passed is_flash is_abuse is_asked is_changes raw lt' =
     let g = i.geometry in
     let n : ℕ = i.counts.abuse in
-    let d : DieValue = the_view i in
+    let d : ChipValue = the_view i in
     let K : List ℕ → List BlockTurn → List ℕ → Flash
     = λ zs us ws. after (flash_of g zs us n) (Program row (page_of g ws) passed (left_page g (page_at (flash_of g zs us n) row) legal passed (page_of g ws) left)) in
     acts_programs d _ row (page_of g i.register.items) x
@@ -296,7 +296,7 @@ pub erase_acts : {A : Type 0} → (i : Inside) (xs bytes : List ℕ) (ts turns :
 erase_acts i xs bytes ts turns fs block legal passed comes left abuse asked changes x fit lt e1 e2 e4 is_comes is_left is_legal is_passed is_flash is_abuse is_asked is_changes raw lt' =
     let g = i.geometry in
     let n : ℕ = i.counts.abuse in
-    let d : DieValue = the_view i in
+    let d : ChipValue = the_view i in
     let K : List ℕ → List BlockTurn → Flash
     = λ zs us. after (flash_of g zs us n) (Erase block passed (left_block g (block_at (flash_of g zs us n) block) legal passed left)) in
     acts_erases d _ block x

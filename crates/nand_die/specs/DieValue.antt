@@ -1,88 +1,97 @@
 -- A die in memory as contracts see it, and what it does at each cycle: a function of its value, and a case of the bus protocol.
-use Rattle.std.specs.Prelude.{◌≡◌, ℕ, ◌+◌, Bool, not, ◌&&◌, List, [], length, Option, is_some, Result, IfErr}
-use Rattle.page_layout.specs.declared.geometry.Geometry.{Geometry}
-use Rattle.page_layout.specs.Geometry.{page_bytes}
-use Rattle.page_layout.specs.Page.{Page}
-use Rattle.page_layout.specs.Raw.{IsRaw}
+use Rattle.std.specs.Prelude.{◌≡◌, ℕ, Bool, true, false, not, ◌&&◌, ◌||◌, ◌==◌, ◌-◌, List, Result, IfErr, if◌then◌else◌}
 use Rattle.page_layout.specs.Counter.{counted}
-use Rattle.page_layout.specs.Flash.{Flash, Program, Erase, after, page_at, block_at, may_program, may_erase, IsWhole}
-use Rattle.onfi_cycles.specs.Cycles.{DieState, Unreset, Ready, NoOutput, Cycle, Due, Moves, Resets, Programs, Erases, Refuses, due_of, to_phase, given_up, status_of, Follows}
+use Rattle.page_layout.specs.Flash.{Flash}
 use Rattle.onfi_cycles.specs.declared.nand.BusFault.{BusFault}
+use Rattle.onfi_cycles.specs.declared.nand.BusFault.TheVariants.{Device}
+use Rattle.onfi_cycles.specs.Cycles.{DieState, Due, Cycle, Command, Address, DataIn, DataOut, due_of}
+use Rattle.onfi_cycles.specs.Spelling.{refused}
 use Rattle.nand_die.specs.declared.fault.Fault.{Fault}
-use Rattle.nand_die.specs.declared.bus_state.BusState.{BusState}
-use Rattle.nand_die.specs.declared.change.BlockTurn.{BlockTurn}
-use Rattle.nand_die.specs.BusState.{IsWithin, IsProtocolFault}
-use Rattle.nand_die.specs.Faults.{fault_at, left_by, ArePagesLeft}
-use Rattle.nand_die.specs.Turns.{left_page, left_block}
+use Rattle.nand_die.specs.declared.fault.Stop.{Stop}
+use Rattle.nand_die.specs.declared.fault.Stop.TheVariants.{Before, After, Torn}
+use Rattle.nand_die.specs.BusState.{IsProtocolFault}
+use Rattle.nand_die.specs.ChipValue.{ChipValue, fresh, answered, answer_to}
+use Rattle.nand_die.specs.Stopping.{is_change, quit, left_by_stop}
 
--- what its bus shows, the faults that are set on it, how many programs and erases were asked for since, and how many in all
+-- What its bus shows; the faults that are set on it, how many programs and erases were asked for since, and how many in all; the stop that
+-- is set, in so many programs and erases from now, counted from 1 (0 is none); whether it has stopped, and the cycles that failed since.
 pub record DieValue : Type 0 where
   pub state : DieState
   pub faults : List Fault
   pub asked : ℕ
   pub changes : ℕ
+  pub stop : Stop
+  pub left : ℕ
+  pub stopped : Bool
+  pub failures : ℕ
 
--- a die that was not yet reset, with no faults set
-abbrev pub before_reset : Flash → DieValue
-before_reset flash = record { state = record { flash = flash; phase = Unreset; status = 0xE0 }; faults = []; asked = 0; changes = 0 }
+-- its part that does the work
+abbrev pub chip_of : DieValue → ChipValue
+chip_of d = record { state = d.state; faults = d.faults; asked = d.asked; changes = d.changes }
 
--- the fault that strikes the next program or erase, where one does
-abbrev pub fault_next : DieValue → Option Fault
-fault_next d = fault_at d.faults (d.asked + 1)
-
--- a program or an erase passes just where it is legal and no fault strikes it
-abbrev pub program_passes : DieValue → ℕ → Bool
-program_passes d row = may_program d.state.flash row && not (is_some (fault_next d))
-
--- the same of an erase
-abbrev pub erase_passes : DieValue → ℕ → Bool
-erase_passes d block = may_erase d.state.flash block && not (is_some (fault_next d))
-
--- what the program leaves in its page
-abbrev pub program_left : DieValue → ℕ → Page → Page
-program_left d row page = left_page d.state.flash.geometry (page_at d.state.flash row) (may_program d.state.flash row) (program_passes d row) page (left_by (fault_next d))
-
--- what the erase leaves in its block
-abbrev pub erase_left : DieValue → ℕ → List Page
-erase_left d block = left_block d.state.flash.geometry (block_at d.state.flash block) (may_erase d.state.flash block) (erase_passes d block) (left_by (fault_next d))
-
--- after a program or an erase: a fault that was due is used up, whether it struck or met an illegal one
-abbrev pub changed : DieValue → Flash → Bool → DieValue
-changed d flash passed = record {
-  state = record { flash = flash; phase = Ready NoOutput; status = status_of passed };
-  faults = d.faults;
-  asked = counted d.asked;
-  changes = counted d.changes;
+-- a die of that part, with its stop
+abbrev pub die_of : ChipValue → Stop → ℕ → Bool → ℕ → DieValue
+die_of c stop left stopped failures = record {
+  state = c.state;
+  faults = c.faults;
+  asked = c.asked;
+  changes = c.changes;
+  stop = stop;
+  left = left;
+  stopped = stopped;
+  failures = failures;
 }
 
--- the die with this bus state, its faults as they were
-abbrev pub in_state : DieState → DieValue → DieValue
-in_state state d = record { state = state; faults = d.faults; asked = d.asked; changes = d.changes }
+-- a die that was not yet reset, with no faults and no stop set
+abbrev pub before_reset : Flash → DieValue
+before_reset flash = die_of (fresh flash) Before 0 false 0
 
--- the die after what was due
-abbrev pub answered : Due → DieValue → DieValue
-answered (Moves phase) d = in_state (to_phase phase d.state) d
-answered Resets d = in_state (record { flash = d.state.flash; phase = Ready NoOutput; status = 0xE0 }) d
-answered (Programs row page) d = changed d (after d.state.flash (Program row page (program_passes d row) (program_left d row page))) (program_passes d row)
-answered (Erases block) d = changed d (after d.state.flash (Erase block (erase_passes d block) (erase_left d block))) (erase_passes d block)
-answered (Refuses fault) d = in_state (to_phase (given_up d.state.phase) d.state) d
+-- no stop is set, none came, and no cycle has failed
+abbrev pub is_calm : DieValue → Bool
+is_calm d = not d.stopped && ((d.left == 0) && (d.failures == 0))
 
--- the die after a cycle
+-- ---- a cycle
+
+-- what a cycle is due to do
+abbrev pub due_now : DieValue → Cycle → Due
+due_now d cycle = due_of d.state.flash.geometry d.state.phase cycle
+
+-- whether the die stops in the cycle: at the program or the erase that the stop is set for
+abbrev pub stops : DieValue → Cycle → Bool
+stops d (Command code) = (d.left == 1) && is_change (due_now d (Command code))
+stops d (Address byte) = false
+stops d (DataIn bytes) = false
+stops d (DataOut count) = false
+
+-- a die that fails: its unfinished command is given up
+abbrev pub failed_as : DieValue → ChipValue → ℕ → DieValue
+failed_as d c left = die_of (quit c) d.stop left true (counted d.failures)
+
+-- a cycle that is no command: a stopped die fails, any other does it
+abbrev pub after_quiet : Cycle → DieValue → DieValue
+after_quiet cycle d = if d.stopped then failed_as d (chip_of d) d.left else die_of (answered (due_now d cycle) (chip_of d)) d.stop d.left false d.failures
+
+-- A command. A stopped die fails. One that stops in it fails with what the stop leaves. Any other does it, and a program or an erase
+-- brings the stop nearer.
+abbrev pub after_command : ℕ → DieValue → DieValue
+after_command code d =
+    if d.stopped then failed_as d (chip_of d) d.left
+    else if stops d (Command code) then failed_as d (left_by_stop d.stop (due_now d (Command code)) (chip_of d)) 0
+    else die_of (answered (due_now d (Command code)) (chip_of d)) d.stop (if is_change (due_now d (Command code)) then d.left - 1 else d.left) false d.failures
+
+-- THE DIE AFTER A CYCLE
 abbrev pub after_cycle : Cycle → DieValue → DieValue
-after_cycle cycle d = answered (due_of d.state.flash.geometry d.state.phase cycle) d
+after_cycle (Command code) d = after_command code d
+after_cycle (Address byte) d = after_quiet (Address byte) d
+after_cycle (DataIn bytes) d = after_quiet (DataIn bytes) d
+after_cycle (DataOut count) d = after_quiet (DataOut count) d
 
--- what is true of each cycle of a die, by what was due
-pub record Acts {A : Type 0} (due : Due) (old new : DieValue) (result : Result A BusFault) : Type 0 where
-  pub does : new ≡ answered due old
-  pub follows : Follows due old.state new.state result
-  pub own : IfErr result IsProtocolFault
-  pub same : new.state.flash.geometry ≡ old.state.flash.geometry
-  pub whole : IsWhole new.state.flash
+-- ITS ANSWER: the device's fault from the cycle on in which it stops, else what the protocol asks for
+abbrev pub answer_of : Cycle → DieValue → Result (Unit {0}) BusFault
+answer_of cycle d = if d.stopped || stops d cycle then refused Device else answer_to (due_now d cycle)
 
--- what is true of a die's fields
-pub record AreFields (g : Geometry) (bytes register : List ℕ) (turns : List BlockTurn) (state : BusState) (faults : List Fault) : Type 0 where
-  pub raw : IsRaw g bytes
-  pub register_whole : length register ≡ page_bytes g
-  pub blocks : length turns ≡ g.blocks
-  pub within : IsWithin g state
-  pub left : ArePagesLeft g faults
+-- a call of a die: both follow from its value, and one on which no stop is set does not fail
+pub record IsCall (old : DieValue) (cycle : Cycle) (answer : Result (Unit {0}) BusFault) (new : DieValue) : Type 0 where
+  pub does : new ≡ after_cycle cycle old
+  pub answers : answer ≡ answer_of cycle old
+  pub own : is_calm old ≡ true → IfErr answer IsProtocolFault

@@ -11,42 +11,42 @@ use Rattle.nand_die.specs.declared.fault.Fault.{Fault}
 use Rattle.nand_die.specs.declared.fault.DieFault.{DieFault}
 use Rattle.nand_die.specs.Made.{AreNames, IsFirstMisnamed, is_named, IsNextPage}
 use Rattle.nand_die.specs.Faults.{ArePagesLeft, HasFirstWrong}
-use Rattle.nand_die.specs.DieValue.{DieValue, fault_next, answered}
+use Rattle.nand_die.specs.ChipValue.{ChipValue, fault_next, answered}
 
 -- A program passes, with status E0h, just where its page is the next of a block that is neither bad nor failed and no fault is due. Else
 -- it fails, with status E1h.
 abbrev pub ProgramPassesLaw : Type 0
-ProgramPassesLaw = (d : DieValue) (row : ℕ) (page : Page) →
+ProgramPassesLaw = (d : ChipValue) (row : ℕ) (page : Page) →
     (((answered (Programs row page) d).state.status ≡ 0xE0) ↔ ((may_program d.state.flash row ≡ true) × (fault_next d ≡ None)))
     × (((answered (Programs row page) d).state.status ≡ 0xE1) ↔ ((may_program d.state.flash row ≡ false) ⊎ IsSome (fault_next d)))
 
 -- An erase passes just where its block is neither bad nor failed and no fault is due.
 abbrev pub ErasePassesLaw : Type 0
-ErasePassesLaw = (d : DieValue) (block : ℕ) →
+ErasePassesLaw = (d : ChipValue) (block : ℕ) →
     (((answered (Erases block) d).state.status ≡ 0xE0) ↔ ((may_erase d.state.flash block ≡ true) × (fault_next d ≡ None)))
     × (((answered (Erases block) d).state.status ≡ 0xE1) ↔ ((may_erase d.state.flash block ≡ false) ⊎ IsSome (fault_next d)))
 
 -- An illegal program leaves every page as it was, and it alone counts as abuse.
 abbrev pub ProgramAbuseLaw : Type 0
-ProgramAbuseLaw = (d : DieValue) (row : ℕ) (page : Page) →
+ProgramAbuseLaw = (d : ChipValue) (row : ℕ) (page : Page) →
     ((answered (Programs row page) d).state.flash.abuse ≡ (if may_program d.state.flash row then d.state.flash.abuse else counted d.state.flash.abuse))
     × (may_program d.state.flash row ≡ false → row < length d.state.flash.image → (answered (Programs row page) d).state.flash.image ≡ d.state.flash.image)
 
 -- The same of an erase.
 abbrev pub EraseAbuseLaw : Type 0
-EraseAbuseLaw = (d : DieValue) (block : ℕ) →
+EraseAbuseLaw = (d : ChipValue) (block : ℕ) →
     ((answered (Erases block) d).state.flash.abuse ≡ (if may_erase d.state.flash block then d.state.flash.abuse else counted d.state.flash.abuse))
     × (may_erase d.state.flash block ≡ false → (answered (Erases block) d).state.flash.image ≡ d.state.flash.image)
 
 -- Each program and each erase uses up one number of the faults' count, and is counted as a change.
 abbrev pub CountLaw : Type 0
-CountLaw = (d : DieValue) →
+CountLaw = (d : ChipValue) →
     ((row : ℕ) (page : Page) → ((answered (Programs row page) d).asked ≡ counted d.asked) × ((answered (Programs row page) d).changes ≡ counted d.changes))
     × ((block : ℕ) → ((answered (Erases block) d).asked ≡ counted d.asked) × ((answered (Erases block) d).changes ≡ counted d.changes))
 
 -- No other cycle touches the flash, the faults or the counts.
 abbrev pub QuietLaw : Type 0
-QuietLaw = (d : DieValue) →
+QuietLaw = (d : ChipValue) →
     ((phase : Phase) → ((answered (Moves phase) d).state.flash ≡ d.state.flash) × ((answered (Moves phase) d).asked ≡ d.asked) × ((answered (Moves phase) d).changes ≡ d.changes))
     × (((answered Resets d).state.flash ≡ d.state.flash) × ((answered Resets d).asked ≡ d.asked) × ((answered Resets d).changes ≡ d.changes))
     × ((fault : BusFault) → ((answered (Refuses fault) d).state.flash ≡ d.state.flash) × ((answered (Refuses fault) d).asked ≡ d.asked) × ((answered (Refuses fault) d).changes ≡ d.changes))

@@ -2,7 +2,8 @@ pub mod Faults
 pub mod BusState
 pub mod Turns
 pub mod Made
+pub mod ChipValue
+pub mod Stopping
 pub mod DieValue
 pub mod Laws
 pub mod Buses
-pub mod Stopping

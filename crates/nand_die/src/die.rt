@@ -1,119 +1,65 @@
-// A die in memory.
-ghost use Rattle.std.specs.Prelude.{◌≡◌, ◌<◌, ◌*◌, ℕ, true, List, length, map, IfOk, IfErr, OnOk, OnErr, if◌then◌else◌};
+// A die in memory, which may be stopped in the middle of its work.
+ghost use Rattle.std.specs.Prelude.{◌≡◌, ◌*◌, ◌-◌, ℕ, true, false, length, Err, IfOk, IfErr, OnOk, OnErr, if◌then◌else◌};
 ghost use Rattle.page_layout.specs.Geometry.{row_count, page_bytes};
 ghost use Rattle.page_layout.specs.Raw.{raw_bytes, raw_image};
-ghost use Rattle.page_layout.specs.Counter.{counted};
-ghost use Rattle.page_layout.specs.Flash.{IsWhole};
-ghost use Rattle.onfi_cycles.specs.Cycles.{Programs, Erases, Refuses, Loading, Command, Address, DataIn, DataOut, CycleStep, page_of, command_due, address_due, data_in_due, data_out_due, bytes_out};
-ghost use Rattle.nand_die.specs.BusState.{IsProtocolFault};
+ghost use Rattle.onfi_cycles.specs.Cycles.{Command, Address, DataIn, DataOut};
 
-use crate::array::{image_length, page_length, tear_page};
-use crate::bus_state::{AddressStep, BusState, CommandStep, OutputSource};
-use crate::change::{BlockTurn, Change, erase_into, program_into, program_is_due};
-use crate::cycle_step::{address_step, command_step, data_place};
-use crate::data_out::put_out_at;
-use crate::fault::{DieFault, Fault, Mark};
-use crate::make::{blank, copy_of, load_turns, mark_all, new_turns};
-use crate::strike::{check_faults, next_strike};
+use crate::chip::Chip;
+use crate::fault::{DieFault, Fault, Mark, Stop};
+use crate::strike::check_torn;
 use onfi_cycles::{Bus, BusFault};
 use page_layout::geometry::Geometry;
 use std::alloc::Global;
 use std::marker::Model;
 
-// How many programs and erases were illegal, were asked for since the faults were set, and were asked for in all.
-#[derive(Clone, Copy)]
-pub struct ChangeCounts {
-    pub abuse: u64,
-    pub asked: u64,
-    pub changes: u64,
-}
-
-// The counts after a program or an erase.
-fn counts_after(counts: ChangeCounts, change: Change) -> ChangeCounts
-    ensures abuse { result.abuse ≡ (if change.legal then counts.abuse else counted counts.abuse) }
-    ensures asked { result.asked ≡ counted counts.asked }
-    ensures changes { result.changes ≡ counted counts.changes }
-{
-    ChangeCounts {
-        abuse: if change.legal {
-            counts.abuse
-        } else {
-            counts.abuse.saturating_add(1)
-        },
-        asked: counts.asked.saturating_add(1),
-        changes: counts.changes.saturating_add(1),
-    }
-}
-
-/// A raw NAND die in memory, behind its bus. It is always ready after a confirm cycle, never write
-/// protected, and never answers `Device`; it holds its image once, and a program copies one page.
+/// A raw NAND die in memory, behind its bus. It is always ready after a confirm cycle and never write
+/// protected; it holds its image once, and a program copies one page.
 ///
 /// A program or an erase fails just where it is illegal or a fault is set for it. Illegal is a program
 /// of another page than the next of its block, and a program or an erase of a block that is bad or has
 /// failed: it changes no page. A block that failed where it was legal takes nothing more. (Commands and
 /// status bits are ONFI 1.0's; the rules of turns are this project's.)
+///
+/// A stop may be set. In the program or erase that it is set for and from then on every cycle is answered
+/// `Device`; a die on which none is set never answers that. What each cycle leaves and answers follows
+/// from the die's value: see `DieValue` in `specs/`.
 #[derive(Drop)]
 pub struct Die {
-    geometry: Geometry,
-    bytes: Vec<u8>,
-    register: Vec<u8>,
-    turns: Vec<BlockTurn>,
-    bus_state: BusState,
-    passed: bool,
-    faults: Vec<Fault>,
-    counts: ChangeCounts,
+    chip: Chip,
+    stop: Stop,
+    left: u64,
+    stopped: bool,
+    failures: u64,
 }
 
 impl Model for Die {
-    ghost use Rattle.onfi_cycles.specs.Cycles.{status_of};
-    ghost use Rattle.nand_die.specs.BusState.{phase_of};
-    ghost use Rattle.nand_die.specs.Turns.{flash_of};
-    ghost use Rattle.nand_die.specs.DieValue.{DieValue, AreFields};
+    ghost use Rattle.nand_die.specs.Stopping.{IsStop};
+    ghost use Rattle.nand_die.specs.DieValue.{DieValue, die_of};
 
     ghost Value = { DieValue };
 
-    ghost view = { λ d. record {
-      state = record { flash = flash_of d.geometry d.bytes.items d.turns.items d.counts.abuse; phase = phase_of d.register.items d.bus_state; status = status_of d.passed };
-      faults = d.faults.items;
-      asked = d.counts.asked;
-      changes = d.counts.changes;
-    } };
+    ghost view = { λ d. die_of d.chip d.stop d.left d.stopped d.failures };
 
-    ghost invariant = { λ d. AreFields d.geometry d.bytes.items d.register.items d.turns.items d.bus_state d.faults.items };
+    ghost invariant = { λ d. IsStop d.chip.state.flash.geometry d.stop };
 }
 
 impl Die {
-    ghost use Rattle.nand_die.specs.DieValue.{DieValue, Acts, before_reset};
-    ghost use Rattle.nand_die.specs.Stopping.{quit, is_change, torn_image, with_image};
     ghost use Rattle.nand_die.specs.Faults.{ArePagesLeft, HasFirstWrong};
-    ghost use Rattle.nand_die.specs.Turns.{flash_of};
+    ghost use Rattle.nand_die.specs.ChipValue.{ChipValue, fresh};
+    ghost use Rattle.nand_die.specs.Stopping.{IsStop, IsWrongStop, is_change, left_by_stop};
+    ghost use Rattle.nand_die.specs.DieValue.{DieValue, before_reset, chip_of, die_of, due_now, failed_as, stops};
     ghost use Rattle.nand_die.specs.Made.{AreNames, marked_blocks, new_flash, loaded_flash, RefusesMarks, RefusesImage};
 
-    fn of(
-        alloc: Global,
-        geometry: Geometry,
-        bytes: Vec<u8>,
-        register: Vec<u8>,
-        turns: Vec<BlockTurn>,
-    ) -> Die
-        requires whole { length bytes.items ≡ row_count geometry * page_bytes geometry }
-        requires register { length register.items ≡ page_bytes geometry }
-        requires blocks { length turns.items ≡ geometry.blocks }
-        ensures { result ≡ before_reset (flash_of geometry bytes.items turns.items 0) }
+    // A die with no stop set.
+    fn of(chip: Chip) -> Die
+        ensures { result ≡ die_of chip Stop.Before 0 false 0 }
     {
         Die {
-            geometry,
-            bytes,
-            register,
-            turns,
-            bus_state: BusState::Unreset,
-            passed: true,
-            faults: Vec::new(alloc),
-            counts: ChangeCounts {
-                abuse: 0,
-                asked: 0,
-                changes: 0,
-            },
+            chip,
+            stop: Stop::Before,
+            left: 0,
+            stopped: false,
+            failures: 0,
         }
     }
 
@@ -129,11 +75,7 @@ impl Die {
         ensures named { OnOk result (AreNames geometry (marked_blocks marks.now)) }
         ensures err { IfErr result (RefusesMarks geometry marks.now) }
     {
-        let mut bytes = blank(alloc, image_length(&geometry))?;
-        let register = blank(alloc, page_length(&geometry))?;
-        let mut turns = new_turns(alloc, &geometry)?;
-        mark_all(&mut bytes, &mut turns, &geometry, marks)?;
-        Ok(Die::of(alloc, geometry, bytes, register, turns))
+        Ok(Die::of(Chip::new(alloc, geometry, marks)?))
     }
 
     /// A die that holds a raw image: the pages in row order, each its data area and then its spare
@@ -156,38 +98,33 @@ impl Die {
         ensures named { OnOk result (AreNames geometry bad.now) }
         ensures err { IfErr result (RefusesImage geometry image.now bad.now) }
     {
-        if image.len() != image_length(&geometry) {
-            return Err(DieFault::WrongLength);
-        }
-        let bytes = copy_of(alloc, image)?;
-        let register = blank(alloc, page_length(&geometry))?;
-        let mut turns = new_turns(alloc, &geometry)?;
-        load_turns(&mut turns, &geometry, image, bad)?;
-        Ok(Die::of(alloc, geometry, bytes, register, turns))
+        Ok(Die::of(Chip::from_image(alloc, geometry, image, bad)?))
     }
 
     /// The programs and erases so far that were illegal. The count stays at 2^64 - 1 once there.
     pub fn abuse(&self) -> u64
         ensures { result ≡ self.now.state.flash.abuse }
     {
-        self.counts.abuse
+        self.chip.abuse()
     }
 
-    /// The programs and erases so far, illegal ones too. The count stays at 2^64 - 1 once there.
+    /// The programs and erases asked for so far, illegal ones too, and the one in which it stopped. The
+    /// count stays at 2^64 - 1 once there.
     pub fn changes(&self) -> u64
         ensures { result ≡ self.now.changes }
     {
-        self.counts.changes
+        self.chip.changes()
     }
 
     /// Writes the raw image out: the pages in row order, each its data area and then its spare area.
-    /// `out` has as many bytes as they have. The time is linear in the image.
+    /// `out` has as many bytes as they have. The time is linear in the image. A die that has stopped
+    /// writes it too.
     pub fn image_into(&self, out: &mut [u8])
         requires whole { length out.old ≡ row_count self.now.state.flash.geometry * page_bytes self.now.state.flash.geometry }
         ensures bytes { out.new ≡ raw_bytes self.now.state.flash.image }
         ensures pages { raw_image self.now.state.flash.geometry out.new ≡ self.now.state.flash.image }
     {
-        out.copy_from_slice(self.bytes.as_slice());
+        self.chip.image_into(out);
     }
 
     /// Sets the programs and erases that are to fail, counted from now on, in place of those set
@@ -202,254 +139,130 @@ impl Die {
     /// - `WrongLength` where it is neither empty nor as long as a page.
     /// - Else `SoundFaultPage` where the page has a sound record.
     pub fn set_faults(&mut self, faults: Vec<Fault>) -> Result<(), DieFault>
-        ensures ok { OnOk result (self.new ≡ record { state = self.old.state; faults = faults.items; asked = 0; changes = self.old.changes }) }
+        ensures ok { OnOk result (self.new ≡ record {
+            state = self.old.state; faults = faults.items; asked = 0; changes = self.old.changes;
+            stop = self.old.stop; left = self.old.left; stopped = self.old.stopped; failures = self.old.failures }) }
         ensures left { OnOk result (ArePagesLeft self.old.state.flash.geometry faults.items) }
         ensures err { IfErr result (HasFirstWrong self.old.state.flash.geometry faults.items) }
         ensures kept { OnErr result (self.new ≡ self.old) }
     {
-        check_faults(&self.geometry, faults.as_slice())?;
-        self.faults = faults;
-        self.counts.asked = 0;
+        self.chip.set_faults(faults)
+    }
+
+    /// Sets the stop, in place of one set before: at the nth program or erase from now, counted from 1,
+    /// illegal ones too; number 0 never comes. In that program or erase and from then on every cycle is
+    /// answered `Device`. A die that has stopped stays so.
+    ///
+    /// # Errors
+    ///
+    /// After a refusal no stop is set.
+    ///
+    /// - `WrongLength` where torn bytes are not as long as a page.
+    /// - Else `SoundFaultPage` where they have a sound record.
+    pub fn set_stop(&mut self, nth_change: u64, stop: Stop) -> Result<(), DieFault>
+        ensures ok { OnOk result (self.new ≡ die_of (chip_of self.old) stop nth_change self.old.stopped self.old.failures) }
+        ensures fits { OnOk result (IsStop self.old.state.flash.geometry stop) }
+        ensures err { IfErr result (IsWrongStop self.old.state.flash.geometry stop) }
+        ensures none { OnErr result (self.new ≡ die_of (chip_of self.old) self.old.stop 0 self.old.stopped self.old.failures) }
+    {
+        self.left = 0;
+        if let Stop::Torn(bytes) = &stop {
+            check_torn(&self.chip.geometry(), bytes.as_slice())?;
+        }
+        self.stop = stop;
+        self.left = nth_change;
         Ok(())
     }
 
-    // The geometry that it was made with.
-    pub(crate) fn geometry(&self) -> Geometry
-        ensures { result ≡ self.now.state.flash.geometry }
+    // Fails in this cycle.
+    fn fail(&mut self) -> Result<(), BusFault>
+        ensures new { self.new ≡ failed_as self.old (chip_of self.old) self.old.left }
+        ensures device { result ≡ Err BusFault.Device }
     {
-        self.geometry
+        self.chip.give_up();
+        self.stopped = true;
+        self.failures = self.failures.saturating_add(1);
+        Err(BusFault::Device)
     }
 
-    // Gives up the unfinished command, and does nothing else.
-    pub(crate) fn give_up(&mut self)
-        ensures { self.new ≡ quit self.old }
+    // Counts a program or an erase that a command does. Whether it is the one to stop at.
+    fn comes(&mut self, code: u8) -> bool
+        ensures is { result ≡ stops self.old (Command code) }
+        ensures new { self.new ≡ die_of (chip_of self.old) self.old.stop (if is_change (due_now self.old (Command code)) then self.old.left - 1 else self.old.left) self.old.stopped self.old.failures }
     {
-        self.bus_state = self.bus_state.given_up();
-    }
-
-    // Whether a command does a program or an erase.
-    #[tactic(auto, unfolding(onfi_cycles::specs::Cycles::command_due))]
-    pub(crate) fn confirms(&self, code: u8) -> bool
-        ensures { result ≡ is_change (command_due self.now.state.flash.geometry self.now.state.phase code) }
-    {
-        match command_step(&self.geometry, self.bus_state, code) {
-            CommandStep::Programs { row: _ } => true,
-            CommandStep::Erases { block: _ } => true,
-            CommandStep::Moves(_) => false,
-            CommandStep::Resets => false,
-            CommandStep::Refuses(_) => false,
+        if !self.chip.confirms(code) {
+            return false;
         }
+        let now = self.left == 1;
+        self.left = self.left.saturating_sub(1);
+        now
     }
 
-    // Leaves a page where the program or the erase that a command does would change one, if it is legal.
-    pub(crate) fn tear(&mut self, code: u8, page: &[u8])
-        requires { length page.now ≡ page_bytes self.old.state.flash.geometry }
-        ensures { self.new ≡ with_image (torn_image (command_due self.old.state.flash.geometry self.old.state.phase code) self.old.state.flash (page_of self.old.state.flash.geometry page.now)) self.old }
+    // What the stop leaves.
+    fn strike(&mut self, code: u8)
+        ensures { self.new ≡ die_of (left_by_stop self.old.stop (due_now self.old (Command code)) (chip_of self.old)) self.old.stop self.old.left self.old.stopped self.old.failures }
     {
-        match command_step(&self.geometry, self.bus_state, code) {
-            CommandStep::Programs { row } => {
-                if program_is_due(&self.turns, &self.geometry, row) {
-                    tear_page(&mut self.bytes, &self.geometry, row, page);
-                }
+        match &self.stop {
+            Stop::Before => self.chip.miss(),
+            Stop::After => {
+                let _ = self.chip.command(code);
             }
-            CommandStep::Erases { block } => {
-                if !self.turns[block as usize].barred {
-                    tear_page(
-                        &mut self.bytes,
-                        &self.geometry,
-                        self.geometry.row(block, 0),
-                        page,
-                    );
-                }
+            Stop::Torn(bytes) => {
+                self.chip.tear(code, bytes.as_slice());
+                self.chip.miss();
             }
-            CommandStep::Moves(_) => {}
-            CommandStep::Resets => {}
-            CommandStep::Refuses(_) => {}
-        }
-    }
-
-    // Gives up the unfinished command.
-    fn refuse(&mut self, fault: BusFault) -> Result<(), BusFault>
-        requires { IsProtocolFault fault }
-        ensures { Acts (Refuses fault) self.old self.new result }
-    {
-        self.bus_state = self.bus_state.given_up();
-        Err(fault)
-    }
-
-    // The program that a confirm cycle asks for.
-    fn confirm_program(&mut self, row: u32) -> Result<(), BusFault>
-        requires in_range { row < row_count self.old.state.flash.geometry }
-        ensures { (register : List ℕ) (column : ℕ) → self.old.state.phase ≡ Loading row column register → Acts (Programs row (page_of self.old.state.flash.geometry register)) self.old self.new result }
-    {
-        let strike = next_strike(self.faults.as_slice(), self.counts.asked);
-        let change = program_into(
-            &mut self.bytes,
-            &mut self.turns,
-            &self.geometry,
-            row,
-            &self.register,
-            strike,
-        );
-        self.counts = counts_after(self.counts, change);
-        self.passed = change.passed;
-        self.bus_state = BusState::Ready(OutputSource::Nothing);
-        Ok(())
-    }
-
-    // The erase that a confirm cycle asks for.
-    fn confirm_erase(&mut self, block: u32) -> Result<(), BusFault>
-        requires in_range { block < self.old.state.flash.geometry.blocks }
-        ensures { Acts (Erases block) self.old self.new result }
-    {
-        let strike = next_strike(self.faults.as_slice(), self.counts.asked);
-        let change = erase_into(
-            &mut self.bytes,
-            &mut self.turns,
-            &self.geometry,
-            block,
-            strike,
-        );
-        self.counts = counts_after(self.counts, change);
-        self.passed = change.passed;
-        self.bus_state = BusState::Ready(OutputSource::Nothing);
-        Ok(())
-    }
-
-    fn take_command(&mut self, code: u8) -> Result<(), BusFault>
-        ensures { Acts (command_due self.old.state.flash.geometry self.old.state.phase code) self.old self.new result }
-    {
-        match command_step(&self.geometry, self.bus_state, code) {
-            CommandStep::Moves(to) => {
-                self.bus_state = to;
-                Ok(())
-            }
-            CommandStep::Resets => {
-                self.passed = true;
-                self.bus_state = BusState::Ready(OutputSource::Nothing);
-                Ok(())
-            }
-            CommandStep::Programs { row } => self.confirm_program(row),
-            CommandStep::Erases { block } => self.confirm_erase(block),
-            CommandStep::Refuses(fault) => self.refuse(fault),
-        }
-    }
-
-    fn take_address(&mut self, byte: u8) -> Result<(), BusFault>
-        ensures { Acts (address_due self.old.state.flash.geometry self.old.state.phase byte) self.old self.new result }
-    {
-        match address_step(&self.geometry, self.bus_state, byte) {
-            AddressStep::Moves(to) => {
-                self.bus_state = to;
-                Ok(())
-            }
-            AddressStep::Loads { row, column } => {
-                self.register.as_mut_slice().fill(0xFF);
-                self.bus_state = BusState::Loading { row, column };
-                Ok(())
-            }
-            AddressStep::Refuses(fault) => self.refuse(fault),
-        }
-    }
-
-    fn take_data(&mut self, bytes: &[u8]) -> Result<(), BusFault>
-        ensures { Acts (data_in_due self.old.state.flash.geometry self.old.state.phase bytes.now) self.old self.new result }
-    {
-        match data_place(&self.geometry, self.bus_state, bytes.len()) {
-            Ok((row, column)) => {
-                let end = column as usize + bytes.len();
-                self.register[column as usize..end].copy_from_slice(bytes);
-                self.bus_state = BusState::Loading {
-                    row,
-                    column: end as u32,
-                };
-                Ok(())
-            }
-            Err(fault) => self.refuse(fault),
-        }
-    }
-
-    fn put_data(&mut self, bytes: &mut [u8]) -> Result<(), BusFault>
-        ensures acts { Acts (data_out_due self.old.state.flash.geometry self.old.state.phase (length bytes.old)) self.old self.new result }
-        ensures out { OnOk result (bytes.new ≡ bytes_out self.old.state self.old.state.phase (length bytes.old)) }
-        ensures kept { OnErr result (bytes.new ≡ bytes.old) }
-    {
-        match put_out_at(
-            &self.geometry,
-            self.bytes.as_slice(),
-            self.passed,
-            self.bus_state,
-            bytes,
-        ) {
-            Ok(next) => {
-                self.bus_state = BusState::Ready(next);
-                Ok(())
-            }
-            Err(fault) => self.refuse(fault),
         }
     }
 }
 
 impl Bus for Die {
-    ghost use Rattle.nand_die.specs.DieValue.{after_cycle};
+    ghost use Rattle.nand_die.specs.DieValue.{IsCall, is_calm};
 
     ghost die = { λ d. d.state };
 
     ghost honest = { λ _. true };
 
-    ghost calm = { λ _. true };
+    ghost failed = { λ d. d.failures };
 
-    ghost failed = { λ _. 0 };
+    ghost calm = { λ d. is_calm d };
 
-    /// A command cycle, as the bus protocol has it. What a program or an erase leaves follows from the
-    /// die's value: see `DieValue` in `specs/`.
-    fn command(&mut self, code: u8) -> Result<(), BusFault>
-        ensures cycle { CycleStep self.old.state (Command code) result self.new.state }
-        ensures acts { self.new ≡ after_cycle (Command code) self.old }
-        ensures own { IfErr result IsProtocolFault }
-        ensures geometry { self.new.state.flash.geometry ≡ self.old.state.flash.geometry }
-        ensures whole { IsWhole self.new.state.flash }
-    {
-        self.take_command(code)
+    // The answer and the die after it follow from its value.
+    ghost called = { λ old cycle answer out new. IsCall old cycle answer new };
+
+    fn command(&mut self, code: u8) -> Result<(), BusFault> {
+        if self.stopped {
+            return self.fail();
+        }
+        if self.comes(code) {
+            self.strike(code);
+            return self.fail();
+        }
+        self.chip.command(code)
     }
 
-    /// An address cycle, as the bus protocol has it.
-    fn address(&mut self, byte: u8) -> Result<(), BusFault>
-        ensures cycle { CycleStep self.old.state (Address byte) result self.new.state }
-        ensures acts { self.new ≡ after_cycle (Address byte) self.old }
-        ensures own { IfErr result IsProtocolFault }
-        ensures geometry { self.new.state.flash.geometry ≡ self.old.state.flash.geometry }
-        ensures whole { IsWhole self.new.state.flash }
-    {
-        self.take_address(byte)
+    fn address(&mut self, byte: u8) -> Result<(), BusFault> {
+        if self.stopped {
+            return self.fail();
+        }
+        self.chip.address(byte)
     }
 
-    /// Bytes for the page register, as the bus protocol has it.
-    fn data_in(&mut self, bytes: &[u8]) -> Result<(), BusFault>
-        ensures cycle { CycleStep self.old.state (DataIn bytes.now) result self.new.state }
-        ensures acts { self.new ≡ after_cycle (DataIn bytes.now) self.old }
-        ensures own { IfErr result IsProtocolFault }
-        ensures geometry { self.new.state.flash.geometry ≡ self.old.state.flash.geometry }
-        ensures whole { IsWhole self.new.state.flash }
-    {
-        self.take_data(bytes)
+    fn data_in(&mut self, bytes: &[u8]) -> Result<(), BusFault> {
+        if self.stopped {
+            return self.fail();
+        }
+        self.chip.data_in(bytes)
     }
 
-    /// Bytes put out, as the bus protocol has it. After an `Err` the buffer is as it was.
-    fn data_out(&mut self, bytes: &mut [u8]) -> Result<(), BusFault>
-        ensures cycle { CycleStep self.old.state (DataOut (length bytes.old)) result self.new.state }
-        ensures acts { self.new ≡ after_cycle (DataOut (length bytes.old)) self.old }
-        ensures out { OnOk result (bytes.new ≡ bytes_out self.old.state self.old.state.phase (length bytes.old)) }
-        ensures kept { OnErr result (bytes.new ≡ bytes.old) }
-        ensures own { IfErr result IsProtocolFault }
-        ensures geometry { self.new.state.flash.geometry ≡ self.old.state.flash.geometry }
-        ensures whole { IsWhole self.new.state.flash }
-    {
-        self.put_data(bytes)
+    fn data_out(&mut self, bytes: &mut [u8]) -> Result<(), BusFault> {
+        if self.stopped {
+            return self.fail();
+        }
+        self.chip.data_out(bytes)
     }
 
-    /// Always 0: a die in memory has no faults of its own.
+    /// The cycles that failed because the die has stopped. The count stays at 2^64 - 1 once there.
     fn failures(&self) -> u64 {
-        0
+        self.failures
     }
 }

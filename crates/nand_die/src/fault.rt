@@ -1,4 +1,4 @@
-// Factory marks, faults on order, and what a die refuses.
+// Factory marks, faults on order, stops, and what a die refuses.
 use thiserror::Error;
 
 /// A factory mark: spare byte 0 of the first page of a block, or of the last, is 00h, and the block is
@@ -23,10 +23,24 @@ pub struct Fault {
     pub page_left: Vec<u8>,
 }
 
+/// How a die stops at a program or an erase. One that is illegal changes no page in either way. (This
+/// project.)
+#[derive(Debug, Drop)]
+pub enum Stop {
+    /// Nothing of it is done.
+    Before,
+    /// All of it is done.
+    After,
+    /// Its page, for an erase page 0 of its block, is left with these bytes: one page, data area and
+    /// then spare area, without a sound record.
+    Torn(Vec<u8>),
+}
+
 /// What a die in memory refuses, cycles aside. (This project.)
 #[derive(Clone, Copy, Debug, PartialEq, Eq, Error)]
 pub enum DieFault {
-    /// An image is not as long as the die, or a `page_left` is neither empty nor as long as a page.
+    /// An image is not as long as the die, a `page_left` is neither empty nor as long as a page, or torn
+    /// bytes are not as long as one.
     #[error("WrongLength")]
     WrongLength,
     /// A block that is named bad lies past the die, or was named earlier in the list.
@@ -35,7 +49,7 @@ pub enum DieFault {
     /// A growth was refused.
     #[error("OutOfMemory")]
     OutOfMemory,
-    /// A `page_left` has a sound record, which no failing program or erase leaves.
+    /// A `page_left` or torn bytes have a sound record, which no failing or torn program or erase leaves.
     #[error("SoundFaultPage")]
     SoundFaultPage,
 }

@@ -257,3 +257,7 @@ IsCounted old new fault = fault ≡ Device → HasRisen old new
 -- any other fault leaves the count
 abbrev pub IsUncounted : ℕ → ℕ → BusFault → Type 0
 IsUncounted old new fault = fault ≢ Device → new ≡ old
+
+-- a data out that is refused with any other fault leaves the buffer
+abbrev pub IsUntouched : List ℕ → List ℕ → BusFault → Type 0
+IsUntouched old new fault = fault ≢ Device → new ≡ old

@@ -12,7 +12,7 @@ pub trait Bus {
     ghost use Rattle.page_layout.specs.Counter.{HasRisen};
     ghost use Rattle.page_layout.specs.Flash.{IsWhole};
     ghost use Rattle.onfi_cycles.specs.declared.nand.BusFault.{BusFault};
-    ghost use Rattle.onfi_cycles.specs.Cycles.{DieState, Cycle, CycleStep, Command, Address, DataIn, DataOut, IsCounted, IsUncounted, bytes_out};
+    ghost use Rattle.onfi_cycles.specs.Cycles.{DieState, Cycle, CycleStep, Command, Address, DataIn, DataOut, IsCounted, IsUncounted, IsUntouched, bytes_out};
 
     /// The die behind it: its flash, the command that is unfinished and what is to be put out, and its status byte.
     ghost die: { Self → DieState };
@@ -20,7 +20,8 @@ pub trait Bus {
     /// Whether it keeps the promises that are made of an honest one.
     ghost honest: { Self → Bool };
 
-    /// The device's faults so far: `Device` comes only where this rose, or stands at 2^64 - 1.
+    /// The device's faults so far: `Device` comes only where this rose, or stands at 2^64 - 1. At each other answer of an honest bus it
+    /// stays.
     ghost failed: { Self → ℕ };
 
     /// Whether nothing can make its device fail, as far as is known, and nothing has. It stays so or not for good.
@@ -46,6 +47,7 @@ pub trait Bus {
         ensures calm { calm self.new ≡ calm self.old }
         ensures failed { failed self.old ≤ failed self.new }
         ensures rose { IfErr result (IsCounted (failed self.old) (failed self.new)) }
+        ensures settled { OnOk result (honest self.old ≡ true → failed self.new ≡ failed self.old) }
         ensures uncounted { IfErr result (λ fault. honest self.old ≡ true → IsUncounted (failed self.old) (failed self.new) fault) };
 
     /// An address cycle, column before row, least significant byte first. `NoReset` and `OutOfTurn` come where none is due,
@@ -61,6 +63,7 @@ pub trait Bus {
         ensures calm { calm self.new ≡ calm self.old }
         ensures failed { failed self.old ≤ failed self.new }
         ensures rose { IfErr result (IsCounted (failed self.old) (failed self.new)) }
+        ensures settled { OnOk result (honest self.old ≡ true → failed self.new ≡ failed self.old) }
         ensures uncounted { IfErr result (λ fault. honest self.old ≡ true → IsUncounted (failed self.old) (failed self.new) fault) };
 
     /// Bytes for the page register, from the column on. `NoReset` and `OutOfTurn` come where none are due, `ColumnRange` where they
@@ -75,14 +78,16 @@ pub trait Bus {
         ensures calm { calm self.new ≡ calm self.old }
         ensures failed { failed self.old ≤ failed self.new }
         ensures rose { IfErr result (IsCounted (failed self.old) (failed self.new)) }
+        ensures settled { OnOk result (honest self.old ≡ true → failed self.new ≡ failed self.old) }
         ensures uncounted { IfErr result (λ fault. honest self.old ≡ true → IsUncounted (failed self.old) (failed self.new) fault) };
 
     /// Bytes put out: of the page that was read from the column on, of the identity, or the status byte as often as asked.
-    /// `NoReset` and `OutOfTurn` come where nothing is put out, `ColumnRange` where the bytes would pass the last one. After an
-    /// `Err` the buffer holds anything.
+    /// `NoReset` and `OutOfTurn` come where nothing is put out, `ColumnRange` where the bytes would pass the last one. A
+    /// buffer that is refused so is left as it was; after any other `Err`, and of a bus that is not honest, it holds anything.
     fn data_out(&mut self, bytes: &mut [u8]) -> Result<(), BusFault>
         ensures called { called self.old (DataOut (length bytes.old)) result bytes.new self.new }
         ensures cycle { honest self.old ≡ true → CycleStep (die self.old) (DataOut (length bytes.old)) result (die self.new) }
+        ensures kept { IfErr result (λ fault. honest self.old ≡ true → IsUntouched bytes.old bytes.new fault) }
         ensures out { OnOk result (honest self.old ≡ true → bytes.new ≡ bytes_out (die self.old) (die self.old).phase (length bytes.old)) }
         ensures recorded { OnOk result (honest self.old ≡ true → IsNoted (die self.old) (DataOut (length bytes.old)) (recorded self.old) (die self.new) (recorded self.new)) }
         ensures geometry { honest self.old ≡ true → (die self.new).flash.geometry ≡ (die self.old).flash.geometry }
@@ -91,6 +96,7 @@ pub trait Bus {
         ensures calm { calm self.new ≡ calm self.old }
         ensures failed { failed self.old ≤ failed self.new }
         ensures rose { IfErr result (IsCounted (failed self.old) (failed self.new)) }
+        ensures settled { OnOk result (honest self.old ≡ true → failed self.new ≡ failed self.old) }
         ensures uncounted { IfErr result (λ fault. honest self.old ≡ true → IsUncounted (failed self.old) (failed self.new) fault) };
 
     /// The device's faults so far. The count stays at its greatest value once there.

@@ -1,6 +1,6 @@
 //! The checker on images of the geometry 64,32,8,32,32, whose pages are built one by one.
 use certificate::{Certificate, read_certificate};
-use image_check::{Refusal, check};
+use image_check::{Accepted, Refusal, check, check_stream};
 use page_layout::geometry::Geometry;
 use page_layout::record::{Kind, Record, write_record};
 use page_layout::source::ImageSlice;
@@ -35,7 +35,7 @@ struct Case {
 }
 
 // The two table pages of a formatted die without marks.
-const TABLE_0: Page = (0, Kind::Table, 0, 1, 0);
+pub(super) const TABLE_0: Page = (0, Kind::Table, 0, 1, 0);
 
 const TABLE_1: Page = (1, Kind::Table, 1, 2, 0);
 
@@ -487,7 +487,11 @@ fn push_row(
 }
 
 // The image of a die that is erased but for these pages.
-pub(super) fn image_of(alloc: Global, geometry: &Geometry, pages: &[Page]) -> Result<Vec<u8>, AllocError> {
+pub(super) fn image_of(
+    alloc: Global,
+    geometry: &Geometry,
+    pages: &[Page],
+) -> Result<Vec<u8>, AllocError> {
     let mut bytes = Vec::new(alloc);
     for row in 0..256 {
         push_row(&mut bytes, geometry, pages, row)?;
@@ -564,28 +568,60 @@ pub(super) fn certificate_of(alloc: Global, claim: &Claim) -> Result<Certificate
     Ok(read_certificate(alloc, &bytes)?)
 }
 
-// The stale sectors where the certificate is accepted, else the refusal.
-fn answer_of(
-    alloc: Global,
-    case: &Case,
-    certificate: &Certificate,
-) -> Result<Result<Vec<u32>, Refusal>, Fail> {
-    let geometry = Geometry::new(64, 32, 8, 32, 32)?;
-    let bytes = image_of(alloc, &geometry, case.pages)?;
-    let mut source = ImageSlice::new(&geometry, &bytes)?;
-    match check(alloc, &mut source, &geometry, case.asked, certificate) {
-        Ok(accepted) => Ok(Ok(accepted.stale().to_vec(alloc)?)),
-        Err(refusal) => Ok(Err(refusal)),
+fn hold_answer(rt: &impl Abort, case: &Case, form: &str, answer: Result<Accepted, Refusal>) {
+    match answer {
+        Ok(accepted) => assert!(rt;
+            case.answer == Ok(accepted.stale()),
+            "{}, {form}",
+            case.name
+        ),
+        Err(refusal) => assert!(rt; case.answer == Err(refusal), "{}, {form}", case.name),
     }
 }
 
-fn hold_case(rt: &impl Abort, alloc: Global, case: &Case) -> Result<(), Fail> {
-    let certificate = certificate_of(alloc, &case.claim)?;
-    match answer_of(alloc, case, &certificate)? {
-        Ok(stale) => assert!(rt; case.answer == Ok(stale.as_slice()), "{}", case.name),
-        Err(refusal) => assert!(rt; case.answer == Err(refusal), "{}", case.name),
-    }
+fn hold_source(
+    rt: &impl Abort,
+    alloc: Global,
+    case: &Case,
+    bytes: &[u8],
+    certificate: &Certificate,
+) -> Result<(), Fail> {
+    let geometry = Geometry::new(64, 32, 8, 32, 32)?;
+    let mut source = ImageSlice::new(&geometry, bytes)?;
+    hold_answer(
+        rt,
+        case,
+        "page by page",
+        check(alloc, &mut source, &geometry, case.asked, certificate),
+    );
     Ok(())
+}
+
+// The same image from a reader.
+fn hold_reader(
+    rt: &impl Abort,
+    alloc: Global,
+    case: &Case,
+    bytes: &[u8],
+    certificate: &Certificate,
+) -> Result<(), Fail> {
+    let geometry = Geometry::new(64, 32, 8, 32, 32)?;
+    let mut reader = bytes;
+    hold_answer(
+        rt,
+        case,
+        "streamed",
+        check_stream(alloc, &mut reader, &geometry, case.asked, certificate),
+    );
+    Ok(())
+}
+
+fn hold_case(rt: &impl Abort, alloc: Global, case: &Case) -> Result<(), Fail> {
+    let geometry = Geometry::new(64, 32, 8, 32, 32)?;
+    let certificate = certificate_of(alloc, &case.claim)?;
+    let bytes = image_of(alloc, &geometry, case.pages)?;
+    hold_source(rt, alloc, case, &bytes, &certificate)?;
+    hold_reader(rt, alloc, case, &bytes, &certificate)
 }
 
 #[test]

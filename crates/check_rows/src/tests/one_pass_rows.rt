@@ -175,7 +175,12 @@ impl PageSource for Counting<'_> {
 
     ghost failed = { λ _. 0 };
 
-    fn read_page(&mut self, row: u32, body: &mut [u8], spare: &mut [u8]) -> Result<(), SourceFault> {
+    fn read_page(
+        &mut self,
+        row: u32,
+        body: &mut [u8],
+        spare: &mut [u8],
+    ) -> Result<(), SourceFault> {
         self.reads = self.reads.saturating_add(1);
         self.image.read_page(row, body, spare)
     }

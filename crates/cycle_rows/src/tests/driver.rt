@@ -181,6 +181,142 @@ const FAULTS: [(&str, BusFault, &[Operation]); 6] = [
     ),
 ];
 
+// The cycle of a program or of an erase that fails, counted from 1, Reset included, its fault, and what a driver answers.
+const CHANGE_FAULTS: [(&str, u64, BusFault, &[Operation]); 12] = [
+    (
+        "program: NoReset",
+        2,
+        BusFault::NoReset,
+        &[
+            Operation::Program(8, 1, 2, Err(BusFault::NoReset)),
+            Operation::Failures(1),
+            Operation::Erase(1, PASSED),
+            Operation::Failures(1),
+        ],
+    ),
+    (
+        "program: UnknownCommand",
+        4,
+        BusFault::UnknownCommand,
+        &[
+            Operation::Program(8, 1, 2, Err(BusFault::UnknownCommand)),
+            Operation::Failures(1),
+            Operation::Erase(1, PASSED),
+            Operation::Failures(1),
+        ],
+    ),
+    (
+        "program: OutOfTurn",
+        9,
+        BusFault::OutOfTurn,
+        &[
+            Operation::Program(8, 1, 2, Err(BusFault::OutOfTurn)),
+            Operation::Failures(1),
+            Operation::Erase(1, PASSED),
+            Operation::Failures(1),
+        ],
+    ),
+    (
+        "program: AddressRange",
+        10,
+        BusFault::AddressRange,
+        &[
+            Operation::Program(8, 1, 2, Err(BusFault::AddressRange)),
+            Operation::Failures(1),
+            Operation::Erase(1, PASSED),
+            Operation::Failures(1),
+        ],
+    ),
+    (
+        "program: ColumnRange",
+        11,
+        BusFault::ColumnRange,
+        &[
+            Operation::Program(8, 1, 2, Err(BusFault::ColumnRange)),
+            Operation::Failures(1),
+            Operation::Erase(1, PASSED),
+            Operation::Failures(1),
+        ],
+    ),
+    (
+        "program: Device",
+        12,
+        BusFault::Device,
+        &[
+            Operation::Program(8, 1, 2, Err(BusFault::Device)),
+            Operation::Failures(1),
+            Operation::Erase(1, PASSED),
+            Operation::Failures(1),
+        ],
+    ),
+    (
+        "erase: NoReset",
+        2,
+        BusFault::NoReset,
+        &[
+            Operation::Erase(1, Err(BusFault::NoReset)),
+            Operation::Failures(1),
+            Operation::Erase(1, PASSED),
+            Operation::Failures(1),
+        ],
+    ),
+    (
+        "erase: UnknownCommand",
+        3,
+        BusFault::UnknownCommand,
+        &[
+            Operation::Erase(1, Err(BusFault::UnknownCommand)),
+            Operation::Failures(1),
+            Operation::Erase(1, PASSED),
+            Operation::Failures(1),
+        ],
+    ),
+    (
+        "erase: OutOfTurn",
+        5,
+        BusFault::OutOfTurn,
+        &[
+            Operation::Erase(1, Err(BusFault::OutOfTurn)),
+            Operation::Failures(1),
+            Operation::Erase(1, PASSED),
+            Operation::Failures(1),
+        ],
+    ),
+    (
+        "erase: AddressRange",
+        6,
+        BusFault::AddressRange,
+        &[
+            Operation::Erase(1, Err(BusFault::AddressRange)),
+            Operation::Failures(1),
+            Operation::Erase(1, PASSED),
+            Operation::Failures(1),
+        ],
+    ),
+    (
+        "erase: ColumnRange",
+        7,
+        BusFault::ColumnRange,
+        &[
+            Operation::Erase(1, Err(BusFault::ColumnRange)),
+            Operation::Failures(1),
+            Operation::Erase(1, PASSED),
+            Operation::Failures(1),
+        ],
+    ),
+    (
+        "erase: Device",
+        8,
+        BusFault::Device,
+        &[
+            Operation::Erase(1, Err(BusFault::Device)),
+            Operation::Failures(1),
+            Operation::Erase(1, PASSED),
+            Operation::Failures(1),
+        ],
+    ),
+];
+
 // A parrot that never fails, or at this cycle, counted from 1, Reset included.
 fn new_parrot(geometry: Geometry, byte: u8, fails: Option<(u64, BusFault)>) -> Parrot
     ensures { result.geometry ≡ geometry }
@@ -225,6 +361,13 @@ fn the_status_byte_decides(rt: HostRuntime) {
 fn a_fault_keeps_its_number(rt: HostRuntime) {
     for (name, fault, operations) in &FAULTS {
         ask_parrot(&rt, 0xE0, Some((4, *fault)), name, operations);
+    }
+}
+
+#[test]
+fn a_fault_of_a_program_or_an_erase_stays(rt: HostRuntime) {
+    for (name, cycle, fault, operations) in &CHANGE_FAULTS {
+        ask_parrot(&rt, 0xE0, Some((*cycle, *fault)), name, operations);
     }
 }
 

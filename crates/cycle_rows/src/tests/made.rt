@@ -124,8 +124,8 @@ fn write_rows(image: &mut [u8]) {
     }
 }
 
-// The image that a die puts out.
-fn image_of(rt: &impl Abort, alloc: Global, die: &Die) -> Vec<u8>
+/// The image that a die puts out.
+pub fn image_of(rt: &impl Abort, alloc: Global, die: &Die) -> Vec<u8>
     requires rows { row_count die.now.state.flash.geometry ≡ 256 }
     requires data_bytes { die.now.state.flash.geometry.data_bytes ≡ 64 }
     requires spare_bytes { die.now.state.flash.geometry.spare_bytes ≡ 32 }

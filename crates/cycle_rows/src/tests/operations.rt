@@ -1,5 +1,5 @@
 //! What a die of the small geometry is asked for through any driver, and what it answers.
-ghost use Rattle.std.specs.Prelude.{◌≡◌, ◌<◌};
+ghost use Rattle.std.specs.Prelude.{◌≡◌, ◌<◌, true};
 ghost use Rattle.page_layout.specs.Geometry.{row_count};
 
 use super::steps::Place;
@@ -100,6 +100,7 @@ fn ask_each<N: Nand>(rt: &impl Abort, nand: &mut N, name: &str, operations: &[Op
     requires blocks { (N.flash nand.old).geometry.blocks ≡ 32 }
     requires data_bytes { (N.flash nand.old).geometry.data_bytes ≡ 64 }
     requires spare_bytes { (N.flash nand.old).geometry.spare_bytes ≡ 32 }
+    ensures { (N.flash nand.new).geometry ≡ (N.flash nand.old).geometry }
 {
     for (step, operation) in operations.iter().enumerate() {
         ask(rt, nand, *operation, Place { row: name, step });
@@ -129,6 +130,7 @@ pub fn after<B: Bus + Drop>(
     requires blocks { geometry.blocks ≡ 32 }
     requires data_bytes { geometry.data_bytes ≡ 64 }
     requires spare_bytes { geometry.spare_bytes ≡ 32 }
+    ensures { B.honest result ≡ true → (B.die result).flash.geometry ≡ geometry }
 {
     let mut driver = driver_of(rt, bus, geometry);
     ask_each(rt, &mut driver, name, operations);

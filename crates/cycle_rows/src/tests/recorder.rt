@@ -71,6 +71,12 @@ impl<B: Bus> Bus for Recorder<B> {
 
     ghost failed = { λ recorder. B.failed recorder.bus };
 
+    ghost calm = { λ recorder. B.calm recorder.bus };
+
+    ghost recorded = { λ recorder. B.recorded recorder.bus };
+
+    ghost called = { λ old cycle answer out new. B.called old.bus cycle answer out new.bus };
+
     fn command(&mut self, code: u8) -> Result<(), BusFault> {
         self.note(Seen::Command(code));
         self.bus.command(code)

@@ -78,12 +78,12 @@ pub struct Place<'a> {
 }
 
 /// One cycle.
-pub fn send(die: &mut Die, cycle: Cycle) -> Result<(), BusFault> {
+pub fn send<B: Bus>(bus: &mut B, cycle: Cycle) -> Result<(), BusFault> {
     match cycle {
-        Cycle::Command(code) => die.command(code),
-        Cycle::Address(byte) => die.address(byte),
-        Cycle::In(bytes) => die.data_in(bytes),
-        Cycle::Out(count) => die.data_out(&mut [0; 255][..count as usize]),
+        Cycle::Command(code) => bus.command(code),
+        Cycle::Address(byte) => bus.address(byte),
+        Cycle::In(bytes) => bus.data_in(bytes),
+        Cycle::Out(count) => bus.data_out(&mut [0; 255][..count as usize]),
     }
 }
 
@@ -122,8 +122,8 @@ fn expect_status(rt: &impl Abort, die: &mut Die, want: u8, place: Place) {
     assert_eq!(rt; status, [want], "{place:?}");
 }
 
-// The bytes of a page.
-fn bytes_of(page: Page) -> [u8; 96] {
+/// The bytes of a page.
+pub fn bytes_of(page: Page) -> [u8; 96] {
     let mut bytes = [0xFF; 96];
     for (column, byte) in page {
         if let Some(rest) = bytes.get_mut(*column..) {
@@ -188,7 +188,8 @@ fn sound_page(rt: &impl Abort, alloc: Global) -> Vec<u8> {
     page
 }
 
-fn page_left(rt: &impl Abort, alloc: Global, left: Left) -> Vec<u8> {
+/// The bytes that are left.
+pub fn page_left(rt: &impl Abort, alloc: Global, left: Left) -> Vec<u8> {
     match left {
         Left::Nothing => Vec::new(alloc),
         Left::Bytes(byte, count) => vec![in alloc; byte; count].expect(rt, "a page"),

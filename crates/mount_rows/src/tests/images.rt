@@ -1,6 +1,7 @@
 //! Images of the geometry 64,32,8,32,32, whose pages are built one by one, and sources that fail.
-use super::said::{Said, hold_said, mounted, stale_count};
+use super::said::{Said, hold_said, mounted, mounted_counted, stale_count};
 use image_check::Refusal;
+use mount::Mounted;
 use page_layout::geometry::Geometry;
 use page_layout::record::{Kind, Record, write_record};
 use page_layout::source::{ImageSlice, PageSource, SourceFault};
@@ -41,7 +42,7 @@ const THREE: [Page; 5] = [
     (10, Kind::Sector, 2, 5, 1),
 ];
 
-const CASES: [Case; 14] = [
+const CASES: [Case; 15] = [
     Case {
         name: "three stale sectors, and room for two",
         pages: &THREE,
@@ -77,6 +78,16 @@ const CASES: [Case; 14] = [
         answer: Err(Refusal::SequenceRepeated {
             first: 8,
             second: 16,
+        }),
+    },
+    // A table page that has sound pages and no newest one.
+    Case {
+        name: "a table page's only pages tie",
+        pages: &[TABLE_0, TABLE_1, (8, Kind::Table, 1, 2, 0)],
+        capacity: 4,
+        answer: Err(Refusal::SequenceRepeated {
+            first: 1,
+            second: 8,
         }),
     },
     // A block whose first page is erased and whose second is sound was programmed out of order. Its newest page counts.
@@ -209,12 +220,13 @@ fn hold_case(rt: &impl Abort, alloc: Global, case: &Case) -> Result<(), Fail> {
     let geometry = Geometry::new(64, 32, 8, 32, 32)?;
     let bytes = image_of(alloc, &geometry, case.pages)?;
     let mut source = ImageSlice::new(&geometry, &bytes)?;
-    match mounted(alloc, &mut source, &geometry, case.capacity) {
-        Ok(certificate) => {
+    match mounted_counted(alloc, &mut source, &geometry, case.capacity) {
+        Ok(Mounted { certificate, stale }) => {
             let (said, want) = case.answer?;
             hold_said(rt, case.name, &certificate, said);
-            let stale = stale_count(alloc, &mut source, &geometry, case.capacity, &certificate);
-            assert!(rt; stale == Ok(want), "{}", case.name);
+            assert!(rt; stale as usize == want, "{}, as mounted", case.name);
+            let checked = stale_count(alloc, &mut source, &geometry, case.capacity, &certificate);
+            assert!(rt; checked == Ok(want), "{}, as checked", case.name);
         }
         Err(refusal) => assert!(rt; case.answer.err() == Some(refusal), "{}", case.name),
     }

@@ -3,7 +3,7 @@ ghost use Rattle.std.specs.Prelude.{◌≡◌};
 
 use certificate::Certificate;
 use image_check::{Refusal, check};
-use mount::mount;
+use mount::{Mounted, mount, mount_counted};
 use page_layout::geometry::Geometry;
 use page_layout::source::PageSource;
 use std::alloc::Global;
@@ -35,6 +35,22 @@ pub fn mounted<S: PageSource>(
         return Err(Refusal::GeometryDiffers);
     }
     mount(alloc, source, geometry, capacity)
+}
+
+// The same with the count of stale sectors.
+pub fn mounted_counted<S: PageSource>(
+    alloc: Global,
+    source: &mut S,
+    geometry: &Geometry,
+    capacity: u32,
+) -> Result<Mounted, Refusal>
+    requires { (S.flash source.old).geometry ≡ geometry.now }
+    ensures { (S.flash source.new).geometry ≡ geometry.now }
+{
+    if !geometry.is_capacity(capacity) {
+        return Err(Refusal::GeometryDiffers);
+    }
+    mount_counted(alloc, source, geometry, capacity)
 }
 
 // How many sectors are stale by a check of a certificate, or the refusal.

@@ -18,9 +18,13 @@ const BODY: usize = 64;
 const REQUESTS: u8 = 24;
 
 const READ: u8 = 1;
+
 const WRITE: u8 = 2;
+
 const TRIM: u8 = 3;
+
 const FLUSH: u8 = 4;
+
 const TURN: u8 = 5;
 
 // The sectors as they should be, each of one byte all over, and a stream of requests with the replies to them.
@@ -100,15 +104,11 @@ fn hold_requests(
     }
     plain.ask(FLUSH, 255, 0)?;
     let mut writer = Narrow::new(alloc, 5, 0);
-    let driver = served(
-        alloc,
-        driver,
-        geometry,
-        capacity,
-        &plain.input,
-        &mut writer,
-    )?;
-    assert!(rt; writer.bytes.as_slice() == plain.output.as_slice(), "{capacity}");
+    let driver = served(alloc, driver, geometry, capacity, &plain.input, &mut writer)?;
+    assert!(rt;
+        writer.bytes.as_slice() == plain.output.as_slice(),
+        "{capacity}"
+    );
     Ok(driver)
 }
 

@@ -143,7 +143,11 @@ fn damage_is_answered(rt: HostRuntime) -> Result<(), Fail> {
     let garble = Garble::new(driver.into_bus(), 1, 7, 0x10);
     let written = replies(alloc, garble, accepted, geometry, READS)?;
     assert_eq!(rt; written.len(), 88);
-    assert!(rt; written.as_slice().starts_with(b"df\x01\x05\x03\x00\x00\x00df\x05\x00\x04\x00\x00\x00df\x01\x00\x03\x00\x00\x00\x11"));
+    assert!(rt;
+        written.as_slice().starts_with(
+            b"df\x01\x05\x03\x00\x00\x00df\x05\x00\x04\x00\x00\x00df\x01\x00\x03\x00\x00\x00\x11"
+        )
+    );
     Ok(())
 }
 

@@ -3,10 +3,12 @@ use Rattle.page_layout.specs.Flash.{Flash}
 use Rattle.onfi_cycles.specs.Driver.{flash_by}
 use Rattle.nand_die.specs.DieValue.{DieValue}
 use Rattle.nand_die.specs.Made.{loaded_flash}
-use Rattle.commands.specs.Check.{HasFiles, IsNoCertificate, IsSpelled, IsWhole}
+use Rattle.commands.specs.declared.steady.SteadyDie.{SteadyDie}
+use Rattle.commands.specs.Check.{IsNoCertificate, IsSpelled, IsWhole}
 use Rattle.commands.specs.Files.{Stored, left}
 use Rattle.commands.specs.Serve.{Ends, HasClaim, HasServed, IsUnserved, bad_in, checked_words}
 use Rattle.commands.proofs.CheckLemmas.{unread_before}
+use Rattle.commands.proofs.FormatLemmas.{kept_whole}
 use Rattle.commands.proofs.ServeLemmas.{served_does, stops, unserved}
 use Rattle.commands.proofs.serve.serve_command.Goals as goal
 
@@ -37,9 +39,14 @@ returns-in_err-certificate g c =
     let stop = c.in_err-certificate.field-0.0 in
     let P : List ℕ → Type 0 = λ w. IsNoCertificate w stop in
     stops gives c.args.words _ _ _ _ c.from_residual-in_err-certificate.result stop (search rules) (c.in_ok-written.ensures.stores ∙ c.in_ok-bytes.ensures.stores, search rules) (search rules)
-    (inr (inr (inr (inl (asked.geometry, asked.capacity, bytes, written,
-    record { asked = c.in_ok-asked.ensures.ok; image = c.in_ok-bytes.ensures.ok; certificate = c.in_ok-bytes.ensures.same c.args.words.certificate.now (Ok written) c.in_ok-written.ensures.ok },
-    subst P c.deref.ensures.value c.in_err-certificate.ensures.fault)))))
+    (inr (inr (inr (inl (
+      asked.geometry,
+      asked.capacity,
+      bytes,
+      written,
+      record { asked = c.in_ok-asked.ensures.ok; image = c.in_ok-bytes.ensures.ok; certificate = c.in_ok-bytes.ensures.same c.args.words.certificate.now (Ok written) c.in_ok-written.ensures.ok },
+      subst P c.deref.ensures.value c.in_err-certificate.ensures.fault,
+    )))))
 
 pub returns-in_err-die : goal.returns-in_err-die
 returns-in_err-die g c =
@@ -74,7 +81,7 @@ returns-in_err-stop g c =
       spelled = subst Q c.deref.ensures.value c.in_ok-certificate.ensures.ok;
     } in
     let driver = c.driver_of-driver.result in
-    let s = flash_by (λ die. die.state) driver in
+    let s : Flash = flash_by {B = SteadyDie} (λ bus. bus.die.state) driver in
     let made : s ≡ loaded_flash asked.geometry c.deref-2.result.now (bad_in asked.geometry claim) = c.driver_of-driver.ensures.flash ∙ ap (λ (d : DieValue). d.state.flash) c.in_ok-die.ensures.made in
     let loaded : s ≡ loaded_flash asked.geometry bytes (bad_in asked.geometry claim) = subst (λ (b : List ℕ). s ≡ loaded_flash asked.geometry b (bad_in asked.geometry claim)) c.deref-2.ensures.value made in
     let whole : IsWhole asked.geometry bytes = subst (λ (b : List ℕ). IsWhole asked.geometry b) c.deref-2.ensures.value c.in_ok-die.ensures.whole in
@@ -96,14 +103,15 @@ returns g c =
       spelled = subst Q c.deref.ensures.value c.in_ok-certificate.ensures.ok;
     } in
     let driver = c.driver_of-driver.result in
-    let s = flash_by (λ die. die.state) driver in
+    let s : Flash = flash_by {B = SteadyDie} (λ bus. bus.die.state) driver in
     let made : s ≡ loaded_flash asked.geometry c.deref-2.result.now (bad_in asked.geometry claim) = c.driver_of-driver.ensures.flash ∙ ap (λ (d : DieValue). d.state.flash) c.in_ok-die.ensures.made in
     let loaded : s ≡ loaded_flash asked.geometry bytes (bad_in asked.geometry claim) = subst (λ (b : List ℕ). s ≡ loaded_flash asked.geometry b (bad_in asked.geometry claim)) c.deref-2.ensures.value made in
     let before = left (g.F.FileStore.stores c.args.files.now) (g.W.Write.contents c.args.out.now) in
     let after = left (g.F.FileStore.stores c.finish.new.files) (g.W.Write.contents c.serve_die.new.out) in
     let image = c.deref-3.result.now in
+    let kept : image ≡ c.serve_die.new.image = c.deref-3.ensures.value ∙ kept_whole c.in_ok-bytes.bytes.len c.serve_die.new.image bytes (c.serve_die.auto.image ∙ c.deref_mut.ensures.len) in
     let E : Option (List Stored) → Type 0 = λ stores. Ends words.output.now image c.in_ok-stop.stop stores after.stores c.finish.result in
     let H : List ℕ → Type 0 = λ i. HasServed asked.geometry asked.capacity claim s i (g.R.Read.remaining c.args.input.now) (g.R.Read.remaining c.serve_die.new.input) before.out after.out c.in_ok-stop.stop in
     served_does gives words _ _ before after c.finish.result asked.geometry asked.capacity bytes image claim s c.in_ok-stop.stop
-    has loaded (subst H (sym c.deref-3.ensures.value) (search rules))
+    has loaded (subst H (sym kept) c.in_ok-stop.ensures.ok)
     (subst E (c.in_ok-written.ensures.stores ∙ c.in_ok-bytes.ensures.stores) c.finish.ensures)

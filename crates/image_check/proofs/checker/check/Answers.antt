@@ -1,11 +1,10 @@
-use Rattle.std.proofs.Common.{◌≡◌, true, false, ℕ, arith, sym, ap, subst, ◌∙◌, inr, length}
-use Rattle.page_layout.specs.Geometry.{row_count}
+use Rattle.std.proofs.Common.{◌≡◌, true, false, sym, subst, ◌∙◌, inr}
 use Rattle.page_layout.specs.Page.{IsImage}
 use Rattle.page_layout.specs.Flash.{Flash}
 use Rattle.image_check.specs.Accepted.{IsAcceptance}
 use Rattle.image_check.specs.Refused.{IsFirstWrong, IsRefusal}
 use Rattle.image_check.proofs.JudgeLemmas.{not_asked}
-use Rattle.image_check.proofs.PassLemmas.{judged, rows_of, finished_ok, finished_err, ok_under, err_under, on_ok}
+use Rattle.image_check.proofs.PassLemmas.{rows_of, finished_ok, finished_err, ok_under, err_under, on_ok}
 use Rattle.image_check.proofs.checker.check.Goals as goal
 
 pub returns-then-not-is_asked-clause-err : goal.returns-then-not-is_asked-clause-err

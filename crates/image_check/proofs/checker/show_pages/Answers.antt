@@ -1,5 +1,4 @@
 use Rattle.std.proofs.Common.{arith, ◌∙◌, ap, sym, slice_get}
-use Rattle.page_layout.specs.Page.{page}
 use Rattle.page_layout.specs.Flash.{Flash}
 use Rattle.page_layout.proofs.GeometryLemmas.{some_rows}
 use Rattle.image_check.proofs.PassLemmas.{whole_of, same_pass}

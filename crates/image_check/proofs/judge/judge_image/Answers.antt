@@ -30,8 +30,10 @@ returns-in_err-check_tables-clause-err c =
     λ capacity image claim h.
     let g = c.args.survey.now.geometry in
     let numbers : HoldBetween g capacity image claim 1 2 = hold_one g capacity image claim Numbers 1 2 refl refl (c.in_ok-check_numbers.ensures.ok image h) in
-    let sequences : HoldBetween g capacity image claim 1 3 = hold_more g capacity image claim Sequences 1 2 3 refl refl numbers (c.in_ok-check_sequences.ensures.ok g image h.whole (c.deref_mut.ensures.value ∙ h.survey.pairs)) in
-    fails_here g capacity image claim Tables 1 _ sequences (c.in_err-check_tables.ensures.err capacity image claim (record { whole = h.whole; noted = h.survey.newest; kept = h.survey.tables }))
+    let distinct = c.in_ok-check_sequences.ensures.ok g image h.whole (c.deref_mut.ensures.value ∙ h.survey.pairs) in
+    let sequences : HoldBetween g capacity image claim 1 3 = hold_more g capacity image claim Sequences 1 2 3 refl refl numbers distinct in
+    fails_here g capacity image claim Tables 1 _ sequences
+    (c.in_err-check_tables.ensures.err capacity image claim (record { whole = h.whole; noted = h.survey.newest; kept = h.survey.tables }) distinct)
     )
 
 pub returns-clause-ok : goal.returns-clause-ok

@@ -1,4 +1,4 @@
-use Rattle.std.proofs.Common.{◌≡◌, arith, ◌∙◌}
+use Rattle.std.proofs.Common.{arith}
 use Rattle.image_check.proofs.CountingLemmas.{counts_are}
 use Rattle.image_check.proofs.live.count_live.Goals as goal
 

@@ -1,5 +1,5 @@
 use Rattle.std.proofs.Common.{arith, replicate, ap, ◌∙◌}
-use Rattle.image_check.proofs.SectorLemmas.{ambiguous, clear, none_read, one_read, two_read}
+use Rattle.image_check.proofs.SectorLemmas.{ambiguous, clear, lowest_read, none_read, one_read, read_of_sector, two_read}
 use Rattle.image_check.proofs.scan.sector.Goals as goal
 
 pub returns-in-Never-clause-ok : goal.returns-in-Never-clause-ok
@@ -29,25 +29,34 @@ returns-in-Some-clause-ok g c honest =
     (one_read c.args.geometry.now _ _ c.args.sector _ _ _ _ _ (c.in_ok-latest.ensures.whole honest) (c.in_ok-latest.ensures.same honest)
     (c.in_ok-latest.ensures.found honest) c.in-Once.is
     (c.in_ok-read_page.ensures.page (c.latest_of.ensures.honest ∙ honest))
-    (c.copy_from_slice.ensures.after ∙ c.in-Some.ensures.is)).holds
+    (c.copy_from_slice.ensures.after ∙ c.in-Some.ensures.is (read_of_sector _ _ c.args.sector _ _ _ _ _ (c.in_ok-latest.ensures.same honest) (c.in_ok-latest.ensures.found honest) c.in-Once.is
+    (c.in_ok-read_page.ensures.page (c.latest_of.ensures.honest ∙ honest))))).holds
 
 pub returns-in-Some-clause-repeated : goal.returns-in-Some-clause-repeated
 returns-in-Some-clause-repeated g c honest unfailed =
     clear _ _ _ _ (one_read c.args.geometry.now _ _ c.args.sector _ _ _ _ _ (c.in_ok-latest.ensures.whole honest) (c.in_ok-latest.ensures.same honest)
     (c.in_ok-latest.ensures.found honest) c.in-Once.is
     (c.in_ok-read_page.ensures.page (c.latest_of.ensures.honest ∙ honest))
-    (c.copy_from_slice.ensures.after ∙ c.in-Some.ensures.is))
+    (c.copy_from_slice.ensures.after ∙ c.in-Some.ensures.is (read_of_sector _ _ c.args.sector _ _ _ _ _ (c.in_ok-latest.ensures.same honest) (c.in_ok-latest.ensures.found honest) c.in-Once.is
+    (c.in_ok-read_page.ensures.page (c.latest_of.ensures.honest ∙ honest)))))
 
 pub returns-in_default-clause-ok : goal.returns-in_default-clause-ok
 returns-in_default-clause-ok g c honest =
     (one_read c.args.geometry.now _ _ c.args.sector _ _ _ _ _ (c.in_ok-latest.ensures.whole honest) (c.in_ok-latest.ensures.same honest)
     (c.in_ok-latest.ensures.found honest) c.in-Once.is
     (c.in_ok-read_page.ensures.page (c.latest_of.ensures.honest ∙ honest))
-    (c.fill.ensures.after (λ y e. e) ∙ (ap (λ k. replicate k 0) c.requires.out_whole ∙ c.in_default.ensures.is))).holds
+    (c.fill.ensures.after (λ y e. e) ∙ (ap (λ k. replicate k 0) c.requires.out_whole ∙ c.in_default.ensures.is (read_of_sector _ _ c.args.sector _ _ _ _ _ (c.in_ok-latest.ensures.same honest) (c.in_ok-latest.ensures.found honest) c.in-Once.is
+    (c.in_ok-read_page.ensures.page (c.latest_of.ensures.honest ∙ honest)))))).holds
 
 pub returns-in_default-clause-repeated : goal.returns-in_default-clause-repeated
 returns-in_default-clause-repeated g c honest unfailed =
     clear _ _ _ _ (one_read c.args.geometry.now _ _ c.args.sector _ _ _ _ _ (c.in_ok-latest.ensures.whole honest) (c.in_ok-latest.ensures.same honest)
     (c.in_ok-latest.ensures.found honest) c.in-Once.is
     (c.in_ok-read_page.ensures.page (c.latest_of.ensures.honest ∙ honest))
-    (c.fill.ensures.after (λ y e. e) ∙ (ap (λ k. replicate k 0) c.requires.out_whole ∙ c.in_default.ensures.is)))
+    (c.fill.ensures.after (λ y e. e) ∙ (ap (λ k. replicate k 0) c.requires.out_whole ∙ c.in_default.ensures.is (read_of_sector _ _ c.args.sector _ _ _ _ _ (c.in_ok-latest.ensures.same honest) (c.in_ok-latest.ensures.found honest) c.in-Once.is
+    (c.in_ok-read_page.ensures.page (c.latest_of.ensures.honest ∙ honest))))))
+
+pub returns-in-Tied-clause-lowest : goal.returns-in-Tied-clause-lowest
+returns-in-Tied-clause-lowest g c honest =
+    lowest_read c.args.geometry.now _ _ c.args.sector _ _ _ _ (c.in_ok-latest.ensures.whole honest) (c.in_ok-latest.ensures.same honest)
+    (c.in_ok-latest.ensures.found honest) c.in-Tied.is

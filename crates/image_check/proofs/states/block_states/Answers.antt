@@ -19,7 +19,7 @@ loop-block-preserved c =
     let top = top_for rows looks _ _ _ c.of-top.result _ c.tops_of-tops.ensures.of_data c.tops_of-tops.ensures.of_meta c.of-top.ensures.of_data c.of-top.ensures.of_meta in
     record {
       made = subst (λ xs. AreStatesTo rows looks c.args.counts.now (n + 1) xs) (sym {A = List BlockState} c.push_reserved.ensures.items)
-        (states_more rows looks c.args.counts.now n c.loop-block.states.items row.row _ c.of-top.result c.state_of.result made row.at at top (state_made c.state_of.result c.class-class.result c.wear-wear.result row.row _ _ _ c.state_of.ensures row.class_is wear));
+          (states_more rows looks c.args.counts.now n c.loop-block.states.items row.row _ c.of-top.result c.state_of.result made row.at at top (state_made c.state_of.result c.class-class.result c.wear-wear.result row.row _ _ _ c.state_of.ensures row.class_is wear));
       room = omega arith;
     }
 

@@ -1,5 +1,5 @@
 use Rattle.std.proofs.lemmas.Result.{err_from_is_err_and}
-use Rattle.std.proofs.Common.{◌≡◌, ◌+◌, length, refl, arith, ◌∙◌, ap}
+use Rattle.std.proofs.Common.{refl, arith, ◌∙◌}
 use Rattle.image_check.proofs.PassLemmas.{same_pass}
 use Rattle.image_check.proofs.StreamLemmas.{read_none, read_more, read_cut}
 use Rattle.image_check.proofs.stream.stream_pages.Goals as goal

@@ -1,8 +1,8 @@
-use Rattle.std.proofs.Common.{◌+◌, ◌≡◌, arith, IfSome, refl}
+use Rattle.std.proofs.Common.{IfSome, refl}
 use Rattle.std.specs.Io.KnownBytes.{IsAtEnd}
 use Rattle.image_check.specs.Streamed.{IsTaken}
 use Rattle.image_check.proofs.PassLemmas.{err_map, ok_map}
-use Rattle.image_check.proofs.StreamLemmas.{taken, cut_untaken, end_untaken, reads_cut, reads_all}
+use Rattle.image_check.proofs.StreamLemmas.{taken, end_untaken, reads_all}
 use Rattle.image_check.proofs.stream.take_image.Goals as goal
 
 pub returns-clause-taken : goal.returns-clause-taken

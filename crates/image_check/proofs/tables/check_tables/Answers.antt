@@ -5,8 +5,10 @@ use Rattle.image_check.proofs.TablesLemmas.{AreTaken, taken_more, tables_hold, t
 use Rattle.image_check.proofs.tables.check_tables.Goals as goal
 
 pub returns-then-not-is_formatted-clause-err : goal.returns-then-not-is_formatted-clause-err
-returns-then-not-is_formatted-clause-err c = λ capacity image claim h.
-    tables_missing c.args.survey.now.geometry capacity image claim (c.is_formatted.ensures.no c.if-not-is_formatted.true image (keys_of c.args.survey.now.geometry image c.args.survey.now.newest.items c.deref.result.now c.args.survey.now.tables.items h c.deref.ensures.value))
+returns-then-not-is_formatted-clause-err c = λ capacity image claim h distinct.
+    let g = c.args.survey.now.geometry in
+    let keys = keys_of g image c.args.survey.now.newest.items c.deref.result.now c.args.survey.now.tables.items h c.deref.ensures.value in
+    tables_missing g capacity image claim (c.is_formatted.ensures.no c.if-not-is_formatted.true image keys distinct)
 
 pub returns-clause-ok : goal.returns-clause-ok
 returns-clause-ok c = λ image h.
@@ -22,7 +24,7 @@ returns-clause-rows c = λ image h.
     table_of g image c.loop-page.table c.loop-page.invariant.size (subst (λ n. AreTaken g image n c.loop-page.table) whole (c.loop-page.invariant.taken image h))
 
 pub returns-in-Err-clause-err : goal.returns-in-Err-clause-err
-returns-in-Err-clause-err c = λ capacity image claim h.
+returns-in-Err-clause-err c = λ capacity image claim h distinct.
     let g = c.args.survey.now.geometry in
     let formatted = c.is_formatted.ensures.yes c.if-not-is_formatted.false image (keys_of g image c.args.survey.now.newest.items c.deref.result.now c.args.survey.now.tables.items h c.deref.ensures.value) in
     let body = c.bytes_of.result.now in

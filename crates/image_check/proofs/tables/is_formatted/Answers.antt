@@ -4,8 +4,9 @@ use Rattle.page_layout.specs.Geometry.{table_pages}
 use Rattle.image_check.proofs.tables.is_formatted.Goals as goal
 
 pub returns-then-is_none-clause-no : goal.returns-then-is_none-clause-no
-returns-then-is_none-clause-no c = λ e image keys.
-    unformatted_of c.args.geometry.now image c.args.newest.now c.loop-page.page _ _ keys (omega arith) (omega arith) (sym c.row.ensures ∙ row_none c.row.result c.is_none.result c.is_none.ensures c.if-is_none.true)
+returns-then-is_none-clause-no c = λ e image keys distinct.
+    unformatted_of c.args.geometry.now image c.args.newest.now c.loop-page.page _ _ keys (omega arith) (omega arith)
+    (sym c.row.ensures ∙ row_none c.row.result c.is_none.result c.is_none.ensures c.if-is_none.true) distinct
 
 pub loop-page-preserved : goal.loop-page-preserved
 loop-page-preserved c =

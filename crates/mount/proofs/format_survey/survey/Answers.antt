@@ -25,6 +25,7 @@ loop-block-preserved g c =
       whole = search rules;
       same_geometry = search rules;
       as_honest = search rules;
+      as_calm = search rules;
       reads = grind (arith, common_steps);
       most_reads = grind (arith, common_steps);
       programs = search rules;

@@ -19,6 +19,7 @@ invariant-loop-block g l =
       whole : s.honest l.initial.source ≡ true → 0 < l.block → IsImage l.geometry (s.flash l.initial.source).image;
       same_geometry : (s.flash l.source).geometry ≡ (s.flash l.initial.source).geometry;
       as_honest : s.honest l.source ≡ s.honest l.initial.source;
+      as_calm : s.calm l.source ≡ s.calm l.initial.source;
       reads : s.reads l.initial.source + l.block * l.geometry.pages < 2 ^ 64 → s.reads l.source ≡ s.reads l.initial.source + l.block * l.geometry.pages;
       most_reads : s.reads l.source ≤ s.reads l.initial.source + l.block * l.geometry.pages;
       programs : s.programs l.source ≡ s.programs l.initial.source;

@@ -13,6 +13,7 @@ invariant-loop-row g l =
       same : s.honest l.initial.source ≡ true → s.flash l.source ≡ s.flash l.initial.source;
       same_geometry : (s.flash l.source).geometry ≡ (s.flash l.initial.source).geometry;
       as_honest : s.honest l.source ≡ s.honest l.initial.source;
+      as_calm : s.calm l.source ≡ s.calm l.initial.source;
       reads : s.reads l.initial.source + (l.row - l.from) < 2 ^ 64 → s.reads l.source ≡ s.reads l.initial.source + (l.row - l.from);
       most_reads : s.reads l.source ≤ s.reads l.initial.source + (l.row - l.from);
       programs : s.programs l.source ≡ s.programs l.initial.source;

@@ -20,8 +20,13 @@ loop-u-preserved g c =
       sequences = omega (arith, i.sequences);
       same_geometry = search rules;
       as_honest = search rules;
+      as_calm = search rules;
       reads = search rules;
       programs = omega (arith, i.programs, c.in_ok-outcome.ensures.programs);
+      at_least = omega (arith, i.at_least, c.in_ok-outcome.ensures.programs);
       erases = search rules;
       failed = search rules;
     }
+
+pub returns-then-not-passed-clause-tried : goal.returns-then-not-passed-clause-tried
+returns-then-not-passed-clause-tried g c = λ failed. omega (arith, c.loop-u.invariant.at_least, c.in_ok-outcome.ensures.programs)

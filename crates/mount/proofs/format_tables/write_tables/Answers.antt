@@ -1,12 +1,20 @@
-use Rattle.std.proofs.Common.{rules, arith, ◌≡◌, ◌<◌, ◌≤◌, ◌+◌, ◌*◌, ℕ, length, set, length-set, ◌∙◌, sym, ap, refl}
+use Rattle.std.proofs.Common.{rules, arith, ◌≡◌, ◌<◌, ◌≤◌, ◌+◌, ◌*◌, ℕ, length, set, length-set, ◌∙◌, sym, ap, refl, true, false}
 use Rattle.std.proofs.Math.Nat.{mul-le-mul}
 use Rattle.std.proofs.lemmas.Result.{err_from_is_err_and}
+use Rattle.onfi_cycles.specs.declared.nand.Outcome.{Outcome}
+use Rattle.onfi_cycles.specs.declared.nand.Outcome.TheVariants.{Passed, Failed}
+use Rattle.onfi_cycles.specs.Outcomes.{is_passed}
 use Rattle.page_layout.specs.Geometry.{table_pages}
 use Rattle.bad_blocks.specs.declared.class.Class.TheVariants.{Grown}
 use Rattle.bad_blocks.specs.Table.{good_count, retired, unworn}
 use Rattle.mount.proofs.GoodLemmas.{good_count-retired, unworn_retired, unworn_length}
 use Rattle.mount.proofs.TriesLemmas.{tries-passed, tries-failed, writes_all, too_few, gives_up}
 use Rattle.mount.proofs.format_tables.write_tables.Goals as goal
+
+-- an outcome that isn't passed
+failed_of : (o : Outcome) → is_passed o ≡ false → o ≡ Failed
+failed_of Passed e = absurd (let clash : true ≡ false = e in cc)
+failed_of Failed e = refl
 
 -- the programs of one attempt more
 programs_more : (f u : ℕ) → f < 3 → f * u + u ≤ 3 * u
@@ -57,8 +65,13 @@ loop-failures-preserved g c =
       sequences = omega (arith, i.sequences, c.in_ok-write_in_block.ensures.sequences);
       same_geometry = search rules;
       as_honest = search rules;
+      as_calm = search rules;
       reads = search rules;
       programs = omega (arith, i.programs, c.in_ok-write_in_block.ensures.programs);
+      at_least = (
+          let failed = failed_of c.in_ok-write_in_block.field-0 (sym c.if-passed.ensures) in
+          let tried = c.in_ok-write_in_block.ensures.tried failed in
+          omega (arith, i.at_least, tried));
       erases = search rules;
       failed = search rules;
     }
@@ -67,3 +80,6 @@ pub returns-clause-writes : goal.returns-clause-writes
 returns-clause-writes g c = λ h start.
     let i = c.loop-failures.invariant in
     gives_up c.args.geometry.now _ _ (unworn c.loop-failures.classes) 0 c.loop-failures.sequence c.loop-failures._failures (i.trying h start 0) (omega arith) (i.just (omega arith))
+
+pub returns-clause-answers : goal.returns-clause-answers
+returns-clause-answers g c = λ below. let three : c.loop-failures._failures ≡ 3 = omega arith in omega (arith, three, c.loop-failures.invariant.at_least)

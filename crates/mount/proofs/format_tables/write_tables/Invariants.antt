@@ -1,4 +1,4 @@
-use Rattle.std.proofs.Common.{◌≡◌, ◌<◌, ◌≤◌, ℕ, ◌+◌, ◌*◌, true, length}
+use Rattle.std.proofs.Common.{◌≡◌, ◌<◌, ◌≤◌, ℕ, ◌+◌, ◌-◌, ◌*◌, ◌^◌, min, true, length}
 use Rattle.page_layout.specs.Geometry.{need, table_pages}
 use Rattle.bad_blocks.specs.Table.{good_count, unworn}
 use Rattle.mount.specs.Attempt.{IsTrying}
@@ -16,8 +16,10 @@ invariant-loop-failures g l =
       sequences : l.sequence ≤ 1 + l._failures * table_pages l.geometry;
       same_geometry : (n.flash l.nand).geometry ≡ (n.flash l.initial.nand).geometry;
       as_honest : n.honest l.nand ≡ n.honest l.initial.nand;
+      as_calm : n.calm l.nand ≡ n.calm l.initial.nand;
       reads : n.reads l.nand ≡ n.reads l.initial.nand;
       programs : n.programs l.nand ≤ n.programs l.initial.nand + l._failures * table_pages l.geometry;
+      at_least : min (n.programs l.initial.nand + l._failures) (2 ^ 64 - 1) ≤ n.programs l.nand;
       erases : n.erases l.nand ≡ n.erases l.initial.nand;
       failed : n.failed l.initial.nand ≤ n.failed l.nand;
     }

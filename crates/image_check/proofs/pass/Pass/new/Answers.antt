@@ -1,4 +1,4 @@
-use Rattle.std.proofs.Common.{◌≡◌, arith, sym, ap, ◌∙◌}
+use Rattle.std.proofs.Common.{arith, ◌∙◌}
 use Rattle.page_layout.specs.Array.{marks}
 use Rattle.image_check.proofs.NotedLemmas.{some_start}
 use Rattle.image_check.proofs.PassLemmas.{pass_of, shows_of, claims_start}

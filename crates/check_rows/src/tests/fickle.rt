@@ -1,0 +1,95 @@
+//! The plain scan of a source that puts out other pages when it is read again.
+use super::images::{Page, TABLE_0, image_of};
+use image_check::sector;
+use page_layout::geometry::Geometry;
+use page_layout::record::Kind;
+use page_layout::source::{ImageSlice, PageSource, SourceFault};
+use std::process::Abort;
+use std::test::Fail;
+
+// The pages of one image, and after so many reads those of another.
+#[derive(Drop)]
+struct Fickle<'a> {
+    first: ImageSlice<'a>,
+    later: ImageSlice<'a>,
+    left: u32,
+}
+
+impl PageSource for Fickle<'_> {
+    ghost use Rattle.std.specs.Prelude.{false};
+
+    ghost flash = { λ s. s.first.flash };
+
+    ghost honest = { λ _. false };
+
+    ghost reads = { λ s. s.first.reads };
+
+    ghost programs = { λ _. 0 };
+
+    ghost erases = { λ _. 0 };
+
+    ghost failed = { λ _. 0 };
+
+    fn read_page(
+        &mut self,
+        row: u32,
+        body: &mut [u8],
+        spare: &mut [u8],
+    ) -> Result<(), SourceFault> {
+        self.first.read_page(row, body, spare)?;
+        if self.left > 0 {
+            self.left -= 1;
+            return Ok(());
+        }
+        let geometry = self.later.geometry();
+        let is_whole = body.len() == geometry.data_bytes() && spare.len() == geometry.spare_bytes();
+        if is_whole && row < geometry.rows() {
+            return self.later.read_page(row, body, spare);
+        }
+        Ok(())
+    }
+
+    fn failures(&self) -> u64 {
+        0
+    }
+}
+
+// Sector 5 as it is found.
+const FOUND: [Page; 2] = [TABLE_0, (8, Kind::Sector, 5, 3, 0x11)];
+
+// The page that stands there when it is read again, and what sector 5 then reads as.
+type Case = (&'static [Page], u8);
+
+const CASES: [Case; 5] = [
+    (&FOUND, 0x11),
+    (&[TABLE_0, (8, Kind::Sector, 5, 9, 0x22)], 0x22),
+    (&[TABLE_0, (8, Kind::Sector, 6, 3, 0x33)], 0),
+    (&[TABLE_0, (8, Kind::Trim, 5, 3, 0x44)], 0),
+    (&[], 0),
+];
+
+fn hold_case(rt: &impl Abort, found: &[u8], later: &[u8], want: u8) -> Result<(), Fail> {
+    let geometry = Geometry::new(64, 32, 8, 32, 32)?;
+    let mut source = Fickle {
+        first: ImageSlice::new(&geometry, found)?,
+        later: ImageSlice::new(&geometry, later)?,
+        left: 256,
+    };
+    let mut page = [0; 96];
+    let mut out = [0xEE; 64];
+    let read = sector(&mut source, &geometry, 5, &mut page, &mut out);
+    assert!(rt; read == Ok(()));
+    assert!(rt; out == [want; 64], "{want}");
+    Ok(())
+}
+
+#[test]
+fn another_sector_is_not_shown(rt: HostRuntime) -> Result<(), Fail> {
+    let geometry = Geometry::new(64, 32, 8, 32, 32)?;
+    let found = image_of(rt.alloc(), &geometry, &FOUND)?;
+    for (pages, want) in CASES {
+        let later = image_of(rt.alloc(), &geometry, pages)?;
+        hold_case(&rt, &found, &later, want)?;
+    }
+    Ok(())
+}

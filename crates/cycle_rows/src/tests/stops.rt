@@ -1,0 +1,245 @@
+//! A die that is stopped at a program or an erase: what a driver over it answers, and the pages that it holds then.
+ghost use Rattle.std.specs.Prelude.{◌≡◌};
+ghost use Rattle.page_layout.specs.Geometry.{row_count};
+
+use super::made::image_of;
+use super::operations::{Operation, after};
+use super::steps::{ERASED, Left, Page, bytes_of, page_left};
+use super::{new_die, small};
+use nand_die::{Die, DieFault, Stop};
+use onfi_cycles::{BusFault, Outcome};
+use page_layout::geometry::Geometry;
+use page_layout::source::SourceFault;
+use std::alloc::Global;
+use std::process::Abort;
+
+/// How a die is to stop.
+#[derive(Clone, Copy)]
+enum Halt {
+    Before,
+    After,
+    // Torn, with these bytes.
+    Torn(Left),
+}
+
+/// At which change it is to stop and how, and the answer to that.
+type Setting = (u64, Halt, Result<(), DieFault>);
+
+// The stops that are set on a new die, what it is asked for through a driver, its counts of changes and of illegal ones, and what some
+// of its rows hold.
+struct Row {
+    name: &'static str,
+    stops: &'static [Setting],
+    operations: &'static [Operation],
+    changes: u64,
+    abuse: u64,
+    holds: &'static [(usize, Page)],
+}
+
+const PASSED: Result<Outcome, BusFault> = Ok(Outcome::Passed);
+
+const FAILED: Result<Outcome, BusFault> = Ok(Outcome::Failed);
+
+const DEVICE: Result<Outcome, BusFault> = Err(BusFault::Device);
+
+const SET: Result<(), DieFault> = Ok(());
+
+const ZEROS: Page = &[(0, 0x00)];
+
+const WRITTEN: Page = &[(0, 0x11), (64, 0x22)];
+
+const TORN: Halt = Halt::Torn(Left::Bytes(0, 96));
+
+// A program in which the die stops, and what comes after.
+const STOPPED_PROGRAM: &[Operation] = &[
+    Operation::Program(8, 0x11, 0x22, DEVICE),
+    Operation::Fails(8, SourceFault(6)),
+    Operation::Erase(1, DEVICE),
+    Operation::Program(8, 0x11, 0x22, DEVICE),
+    Operation::Failures(4),
+];
+
+// An erase of two pages in which it stops.
+const STOPPED_ERASE: &[Operation] = &[
+    Operation::Program(8, 0x11, 0x22, PASSED),
+    Operation::Program(9, 0x11, 0x22, PASSED),
+    Operation::Erase(1, DEVICE),
+    Operation::Program(10, 0x11, 0x22, DEVICE),
+    Operation::Failures(2),
+];
+
+// No stop comes.
+const WORKS: &[Operation] = &[
+    Operation::Program(8, 0x11, 0x22, PASSED),
+    Operation::Read(8, 0x11, 0x22),
+    Operation::Failures(0),
+];
+
+const STOPS: [Row; 13] = [
+    Row {
+        name: "a program, before",
+        stops: &[(1, Halt::Before, SET)],
+        operations: STOPPED_PROGRAM,
+        changes: 1,
+        abuse: 0,
+        holds: &[(8, ERASED), (9, ERASED)],
+    },
+    Row {
+        name: "a program, after",
+        stops: &[(1, Halt::After, SET)],
+        operations: STOPPED_PROGRAM,
+        changes: 1,
+        abuse: 0,
+        holds: &[(8, WRITTEN), (9, ERASED)],
+    },
+    Row {
+        name: "a program, torn",
+        stops: &[(1, TORN, SET)],
+        operations: STOPPED_PROGRAM,
+        changes: 1,
+        abuse: 0,
+        holds: &[(7, ERASED), (8, ZEROS), (9, ERASED)],
+    },
+    Row {
+        name: "an erase, before",
+        stops: &[(3, Halt::Before, SET)],
+        operations: STOPPED_ERASE,
+        changes: 3,
+        abuse: 0,
+        holds: &[(8, WRITTEN), (9, WRITTEN)],
+    },
+    Row {
+        name: "an erase, after",
+        stops: &[(3, Halt::After, SET)],
+        operations: STOPPED_ERASE,
+        changes: 3,
+        abuse: 0,
+        holds: &[(8, ERASED), (9, ERASED)],
+    },
+    Row {
+        name: "an erase, torn",
+        stops: &[(3, TORN, SET)],
+        operations: STOPPED_ERASE,
+        changes: 3,
+        abuse: 0,
+        holds: &[(7, ERASED), (8, ZEROS), (9, WRITTEN), (10, ERASED)],
+    },
+    Row {
+        name: "an illegal program, torn",
+        stops: &[(2, TORN, SET)],
+        operations: &[
+            Operation::Program(10, 0x11, 0x22, FAILED),
+            Operation::Program(10, 0x11, 0x22, DEVICE),
+        ],
+        changes: 2,
+        abuse: 1,
+        holds: &[(8, ERASED), (10, ERASED)],
+    },
+    Row {
+        name: "an illegal program, after",
+        stops: &[(1, Halt::After, SET)],
+        operations: &[Operation::Program(10, 0x11, 0x22, DEVICE)],
+        changes: 1,
+        abuse: 1,
+        holds: &[(8, ERASED), (10, ERASED)],
+    },
+    Row {
+        name: "number 0 never comes",
+        stops: &[(0, Halt::Before, SET)],
+        operations: WORKS,
+        changes: 1,
+        abuse: 0,
+        holds: &[(8, WRITTEN)],
+    },
+    Row {
+        name: "a later stop counts",
+        stops: &[(1, Halt::Before, SET), (2, TORN, SET)],
+        operations: &[
+            Operation::Program(8, 0x11, 0x22, PASSED),
+            Operation::Program(9, 0x11, 0x22, DEVICE),
+        ],
+        changes: 2,
+        abuse: 0,
+        holds: &[(8, WRITTEN), (9, ZEROS)],
+    },
+    Row {
+        name: "torn bytes of another length",
+        stops: &[
+            (1, Halt::Before, SET),
+            (1, Halt::Torn(Left::Bytes(0, 95)), Err(DieFault::WrongLength)),
+        ],
+        operations: WORKS,
+        changes: 1,
+        abuse: 0,
+        holds: &[(8, WRITTEN)],
+    },
+    Row {
+        name: "torn bytes that are sound",
+        stops: &[
+            (1, Halt::Before, SET),
+            (1, Halt::Torn(Left::Sound), Err(DieFault::SoundFaultPage)),
+        ],
+        operations: WORKS,
+        changes: 1,
+        abuse: 0,
+        holds: &[(8, WRITTEN)],
+    },
+    Row {
+        name: "a stop after a refused one",
+        stops: &[
+            (1, Halt::Torn(Left::Nothing), Err(DieFault::WrongLength)),
+            (1, TORN, SET),
+        ],
+        operations: STOPPED_PROGRAM,
+        changes: 1,
+        abuse: 0,
+        holds: &[(8, ZEROS), (9, ERASED)],
+    },
+];
+
+fn stop_of(rt: &impl Abort, alloc: Global, halt: Halt) -> Stop {
+    match halt {
+        Halt::Before => Stop::Before,
+        Halt::After => Stop::After,
+        Halt::Torn(left) => Stop::Torn(page_left(rt, alloc, left)),
+    }
+}
+
+fn set_each(rt: &impl Abort, alloc: Global, die: &mut Die, row: &Row)
+    ensures { die.new.state.flash.geometry ≡ die.old.state.flash.geometry }
+{
+    for (nth_change, halt, want) in row.stops {
+        let stop = stop_of(rt, alloc, *halt);
+        assert_eq!(rt; die.set_stop(*nth_change, stop), *want, "{}", row.name);
+    }
+}
+
+// The pages that a die holds, which has stopped or not.
+fn expect_pages(rt: &impl Abort, alloc: Global, die: &Die, row: &Row)
+    requires rows { row_count die.now.state.flash.geometry ≡ 256 }
+    requires data_bytes { die.now.state.flash.geometry.data_bytes ≡ 64 }
+    requires spare_bytes { die.now.state.flash.geometry.spare_bytes ≡ 32 }
+{
+    let image = image_of(rt, alloc, die);
+    for (at, page) in row.holds {
+        let held = image.as_slice().get(*at * 96..*at * 96 + 96);
+        assert_eq!(rt; held, Some(bytes_of(*page).as_slice()), "row {at}, {}", row.name);
+    }
+}
+
+fn walk_stops(rt: &impl Abort, alloc: Global, row: &Row) {
+    let geometry = small(rt);
+    let mut die = new_die(rt, alloc, geometry, &[]);
+    set_each(rt, alloc, &mut die, row);
+    let die = after(rt, die, geometry, row.name, row.operations);
+    assert_eq!(rt; die.changes(), row.changes, "{}", row.name);
+    assert_eq!(rt; die.abuse(), row.abuse, "{}", row.name);
+    expect_pages(rt, alloc, &die, row);
+}
+
+#[test]
+fn stops_at_single_pages(rt: HostRuntime) {
+    for row in &STOPS {
+        walk_stops(&rt, rt.alloc(), row);
+    }
+}

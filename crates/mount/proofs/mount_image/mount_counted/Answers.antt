@@ -1,0 +1,41 @@
+use Rattle.std.proofs.Common.{sym, subst, ap, ◌∙◌, arith, length}
+use Rattle.image_check.specs.Surveyed.{SurveysKeys}
+use Rattle.image_check.proofs.JudgeLemmas.{rising_length, stale_after}
+use Rattle.mount.specs.Mounted.{IsMounted}
+use Rattle.mount.proofs.MountLemmas.{parts_fit, mounted}
+use Rattle.mount.proofs.mount_image.mount_counted.Goals as goal
+
+pub overflow_cast-stale : goal.overflow_cast-stale
+overflow_cast-stale g c =
+    let few = rising_length c.args.geometry.now.sectors c.find_stale.new.stale.items c.in_ok-find_stale.ensures.rising in
+    let most = c.args.geometry.now.limits.sector_count.most in
+    omega (arith, few, most, c.find_stale.new.stale.ok.0, c.len-stale.ensures)
+
+pub new-certificate-requires : goal.new-certificate-requires
+new-certificate-requires g c =
+    let geo = c.args.geometry.now in
+    let shown = c.in_ok-shown.shown in
+    parts_fit geo c.args.capacity shown c.put_directory.new.words.items c.put_sectors.new.words.items c.requires.least c.requires.most c.in_ok-shown.ensures.sized c.put_sectors.ensures c.put_directory.ensures
+
+pub returns-clause-ok : goal.returns-clause-ok
+returns-clause-ok g c = λ honest.
+    let geo = c.args.geometry.now in
+    let shown = c.in_ok-shown.shown in
+    let first = g.S.PageSource.flash c.args.source.now in
+    let told = c.in_ok-shown.ensures.shown honest in
+    let keys : SurveysKeys geo first.image c.deref.result.now = subst (λ xs. SurveysKeys geo first.image xs) (sym c.deref.ensures.value) told.keys in
+    let same = c.in_ok-shown.ensures.same (λ e. cc) honest in
+    let stale = stale_after geo first (g.S.PageSource.flash c.show_pages.new.source) c.deref.result.now c.find_stale.new.stale.items same keys (c.in_ok-find_stale.ensures.stale (c.in_ok-shown.ensures.honest ∙ honest)) in
+    subst (λ claim. IsMounted geo c.args.capacity first.image claim) (sym c.new-certificate.ensures.is)
+    (mounted geo c.args.capacity first.image shown c.put_directory.new.words.items c.put_sectors.new.words.items c.find_stale.new.stale.items c.in_ok-shown.ensures.sized told c.put_sectors.ensures c.put_directory.ensures stale (omega (arith, c.find_stale.new.stale.ok.0, c.len-stale.ensures, c.if-stale-capacity.false)))
+
+pub returns-clause-stale : goal.returns-clause-stale
+returns-clause-stale g c = λ honest.
+    let geo = c.args.geometry.now in
+    let first = g.S.PageSource.flash c.args.source.now in
+    let told = c.in_ok-shown.ensures.shown honest in
+    let keys : SurveysKeys geo first.image c.deref.result.now = subst (λ xs. SurveysKeys geo first.image xs) (sym c.deref.ensures.value) told.keys in
+    let same = c.in_ok-shown.ensures.same (λ e. cc) honest in
+    let stale = stale_after geo first (g.S.PageSource.flash c.show_pages.new.source) c.deref.result.now c.find_stale.new.stale.items same keys (c.in_ok-find_stale.ensures.stale (c.in_ok-shown.ensures.honest ∙ honest)) in
+    let count = ap length stale in
+    omega (arith, count, c.find_stale.new.stale.ok.0, c.len-stale.ensures)

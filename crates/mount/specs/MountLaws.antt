@@ -1,0 +1,38 @@
+-- What a certificate that was mounted is to the checker, and when an image isn't refused as one that was never formatted.
+use Rattle.std.specs.Prelude.{◌≡◌, ℕ, ◌<◌, List, length, get_or, Option, Some, None}
+use Rattle.page_layout.specs.declared.geometry.Geometry.{Geometry}
+use Rattle.page_layout.specs.declared.record.Record.{Record}
+use Rattle.page_layout.specs.declared.record.Key.{Key}
+use Rattle.page_layout.specs.declared.record.Key.TheVariants.{Table}
+use Rattle.page_layout.specs.Geometry.{table_pages}
+use Rattle.page_layout.specs.Key.{key_of}
+use Rattle.page_layout.specs.Page.{Image}
+use Rattle.page_layout.specs.Array.{marks}
+use Rattle.certificate.specs.Claim.{Claim}
+use Rattle.image_check.specs.declared.refusal.Refusal.{Refusal}
+use Rattle.image_check.specs.declared.refusal.Refusal.TheVariants as refusals
+use Rattle.image_check.specs.Accepted.{Acceptance, IsAcceptance}
+use Rattle.image_check.specs.Refused.{IsRefusal, IsStop}
+use Rattle.image_check.specs.Stale.{stale_count}
+use Rattle.mount.specs.Mounted.{IsMounted, Refuses}
+
+-- The checker accepts the certificate, with so many stale sectors: it never refuses it but for a page read that failed or
+-- memory that was refused.
+pub record IsAcceptedWith (g : Geometry) (capacity : ℕ) (image : Image) (c : Claim) (stale : ℕ) : Type 0 where
+  pub refused : (r : Refusal) → IsRefusal g capacity image c r → IsStop r
+  pub counted : (a : Acceptance) → IsAcceptance g capacity image c a → length a.stale ≡ stale
+
+-- the certificate that mounting gives
+abbrev pub AcceptedLaw : Type 0
+AcceptedLaw = (g : Geometry) (capacity : ℕ) (image : Image) (c : Claim) → IsMounted g capacity image c → IsAcceptedWith g capacity image c (stale_count g image)
+
+-- some page is sound and of the key
+pub record HasSoundPage (marks : List (Option Record)) (key : Key) : Type 0 where
+  pub row : ℕ
+  pub its : Record
+  pub here : get_or marks row None ≡ Some its
+  pub of_key : key_of its ≡ key
+
+-- an image in which each table page has a sound page isn't refused as not formatted, even if those of some table page tie
+abbrev pub TableTieLaw : Type 0
+TableTieLaw = (g : Geometry) (capacity : ℕ) (image : Image) → ((u : ℕ) → u < table_pages g → HasSoundPage (marks image) (Table u)) → ¬ Refuses g capacity image refusals.NotFormatted

@@ -1,0 +1,27 @@
+use Rattle.std.proofs.Common.{◌≡◌, ◌∙◌, ap, sym, refl, ℕ, List, length, replicate}
+use Rattle.std.proofs.lemmas.List.{with_items_is}
+use Rattle.std.specs.Vec.{with_items}
+use Rattle.page_layout.specs.Geometry.{page_bytes}
+use Rattle.onfi_cycles.specs.Cycles.{Loading, address_due, to_phase}
+use Rattle.nand_die.specs.contracts.chip.Chip.{the_view}
+use Rattle.nand_die.specs.BusState.{phase_of}
+use Rattle.nand_die.specs.ChipValue.{ChipValue, in_state}
+use Rattle.nand_die.proofs.ActLemmas.{acts_moves, fields_whole}
+use Rattle.nand_die.proofs.chip.Chip.address.Goals as goal
+
+pub returns-in-Moves : goal.returns-in-Moves
+returns-in-Moves c =
+    let i = c.self.inside in
+    let r : List ℕ = i.register.items in
+    rw (← c.self.view_is) (acts_moves (address_due i.geometry (phase_of r i.bus_state) c.args.byte) (the_view i) _ (phase_of r c.in-Moves.to) tt (sym (c.in-Moves.ensures.due r)) refl (fields_whole i c.self.invariant))
+
+pub returns-in-Loads : goal.returns-in-Loads
+returns-in-Loads c =
+    let i = c.self.inside in
+    let r : List ℕ = i.register.items in
+    let d : ChipValue = the_view i in
+    let blank : (with_items i.register c.fill.new.self).items ≡ replicate (page_bytes i.geometry) 255
+    = with_items_is i.register c.fill.new.self (c.fill.auto.self ∙ c.as_mut_slice.ensures.len) ∙ (c.fill.ensures.after (λ y e. e)
+    ∙ ap (λ n. replicate n 255) (ap length c.as_mut_slice.ensures.value ∙ c.self.invariant.register_whole)) in
+    rw (← c.self.view_is) (acts_moves (address_due i.geometry (phase_of r i.bus_state) c.args.byte) d _ (Loading c.in-Loads.row c.in-Loads.column (replicate (page_bytes i.geometry) 255)) tt (sym (c.in-Loads.ensures.due r))
+    (ap (λ ws. in_state (to_phase (Loading c.in-Loads.row c.in-Loads.column ws) d.state) d) blank) (fields_whole i c.self.invariant))

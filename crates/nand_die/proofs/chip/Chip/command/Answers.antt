@@ -1,0 +1,29 @@
+use Rattle.std.proofs.Common.{◌≡◌, ◌∙◌, ap, sym, subst, refl, ℕ, List}
+use Rattle.onfi_cycles.specs.Cycles.{Due, Programs, Loading, page_of, command_due}
+use Rattle.nand_die.specs.contracts.chip.Chip.{the_view}
+use Rattle.nand_die.specs.BusState.{phase_of}
+use Rattle.nand_die.specs.ChipValue.{ChipValue, Acts}
+use Rattle.nand_die.proofs.ActLemmas.{acts_moves, acts_resets, fields_whole}
+use Rattle.nand_die.proofs.chip.Chip.command.Goals as goal
+
+pub returns-in-Moves : goal.returns-in-Moves
+returns-in-Moves c =
+    let i = c.self.inside in
+    let r : List ℕ = i.register.items in
+    rw (← c.self.view_is) (acts_moves (command_due i.geometry (phase_of r i.bus_state) c.args.code) (the_view i) _ (phase_of r c.in-Moves.to) tt (sym (c.in-Moves.ensures.due r)) refl (fields_whole i c.self.invariant))
+
+pub returns-in-Resets : goal.returns-in-Resets
+returns-in-Resets c =
+    let i = c.self.inside in
+    let r : List ℕ = i.register.items in
+    rw (← c.self.view_is) (acts_resets (command_due i.geometry (phase_of r i.bus_state) c.args.code) (the_view i) _ tt (sym (c.in-Resets.ensures.due r)) refl (fields_whole i c.self.invariant))
+
+pub returns-in-Programs : goal.returns-in-Programs
+returns-in-Programs c =
+    let i = c.self.inside in
+    let r : List ℕ = i.register.items in
+    let fits = c.in-Programs.ensures.within in
+    let at : c.args.self.now.state.phase ≡ Loading c.in-Programs.row fits.0 r = sym (ap (λ (d : ChipValue). d.state.phase) c.self.view_is) ∙ ap (phase_of r) fits.1 in
+    let due : Programs c.in-Programs.row (page_of c.args.self.now.state.flash.geometry r) ≡ command_due c.args.self.now.state.flash.geometry c.args.self.now.state.phase c.args.code
+    = subst (λ (d : ChipValue). Programs c.in-Programs.row (page_of d.state.flash.geometry r) ≡ command_due d.state.flash.geometry d.state.phase c.args.code) c.self.view_is (c.in-Programs.ensures.due r) in
+    subst (λ (u : Due). Acts u c.args.self.now c.confirm_program.new.self c.confirm_program.result) due (c.confirm_program.ensures r fits.0 at)

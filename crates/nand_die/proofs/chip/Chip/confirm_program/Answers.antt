@@ -1,0 +1,50 @@
+use Rattle.std.proofs.Common.{◌≡◌, ◌∙◌, ap, sym, subst, ◌+◌, List, length, Ok}
+use Rattle.std.proofs.lemmas.List.{with_items_is}
+use Rattle.std.specs.Vec.{with_items}
+use Rattle.page_layout.specs.Raw.{IsRaw}
+use Rattle.onfi_cycles.specs.Cycles.{Programs, page_of}
+use Rattle.nand_die.specs.declared.bus_state.BusState.TheVariants.{Ready}
+use Rattle.nand_die.specs.declared.bus_state.OutputSource.TheVariants.{Nothing}
+use Rattle.nand_die.specs.declared.fault.Fault.{Fault}
+use Rattle.nand_die.specs.contracts.chip.Chip.{the_view}
+use Rattle.nand_die.specs.Faults.{IsPageLeft, fault_at, left_by}
+use Rattle.nand_die.specs.ChipValue.{ChipValue, Acts}
+use Rattle.nand_die.proofs.ActLemmas.{acts_closed, program_acts, left_at, loading_register}
+use Rattle.nand_die.proofs.chip.Chip.confirm_program.Goals as goal
+
+pub program_into-change-requires-clause-left : goal.program_into-change-requires-clause-left
+program_into-change-requires-clause-left c =
+    let i = c.self.inside in
+    let is_left = c.next_strike-strike.ensures.left ∙ ap (λ (fs : List Fault). left_by (fault_at fs (i.counts.asked + 1))) c.as_slice.ensures.value in
+    (subst (IsPageLeft i.geometry) (sym is_left) (left_at i.geometry i.faults.items (i.counts.asked + 1) c.self.invariant.left)).size
+
+pub invariant_of-self : goal.invariant_of-self
+invariant_of-self c =
+    let i = c.self.inside in
+    let change = c.program_into-change in
+    let is_bytes = with_items_is i.bytes change.new.bytes (change.auto.bytes ∙ c.deref_mut.ensures.len) in
+    let is_turns = with_items_is i.turns change.new.turns (change.auto.turns ∙ c.deref_mut-2.ensures.len) in
+    record {
+      raw = subst (IsRaw i.geometry) (sym is_bytes) change.ensures.raw;
+      register_whole = c.self.invariant.register_whole;
+      blocks = ap length is_turns ∙ (change.auto.turns ∙ (ap length c.deref_mut-2.ensures.value ∙ c.self.invariant.blocks));
+      within = tt;
+      left = c.self.invariant.left;
+    }
+
+pub returns : goal.returns
+returns c register column at =
+    let i = c.self.inside in
+    let change = c.program_into-change in
+    let counts = c.counts_after-self-inside in
+    let strike = c.next_strike-strike in
+    let new : ChipValue = the_view (record { geometry = i.geometry; bytes = with_items i.bytes change.new.bytes; register = i.register; turns = with_items i.turns change.new.turns; bus_state = Ready Nothing; passed = change.result.passed; faults = i.faults; counts = counts.result }) in
+    let same : i.register.items ≡ register = loading_register i.register.items i.bus_state c.args.row column register (ap (λ (d : ChipValue). d.state.phase) c.self.view_is ∙ at) in
+    subst (λ ws. Acts {A = Unit {0}} (Programs c.args.row (page_of c.args.self.now.state.flash.geometry ws)) c.args.self.now new (Ok tt)) same
+    (rw (← c.self.view_is) (acts_closed (Programs c.args.row (page_of i.geometry i.register.items)) i change.new.bytes _ change.new.turns _ counts.result.abuse counts.result.asked counts.result.changes change.result.passed tt
+    (with_items_is i.bytes change.new.bytes (change.auto.bytes ∙ c.deref_mut.ensures.len)) (with_items_is i.turns change.new.turns (change.auto.turns ∙ c.deref_mut-2.ensures.len))
+    (program_acts i c.deref_mut.result.now c.deref.result.now change.new.bytes c.deref_mut-2.result.now change.new.turns c.as_slice.result.now c.args.row change.result.legal change.result.passed strike.result.comes strike.result.page_left.now
+    counts.result.abuse counts.result.asked counts.result.changes tt
+    c.self.invariant (rw (← c.self.view_is) at c.requires.in_range) c.deref_mut.ensures.value c.deref_mut-2.ensures.value c.deref.ensures.value c.as_slice.ensures.value
+    strike.ensures.comes strike.ensures.left (change.ensures.legal i.counts.abuse) change.ensures.passed (change.ensures.flash i.counts.abuse)
+    counts.ensures.abuse counts.ensures.asked counts.ensures.changes change.ensures.raw change.auto.turns)))
