@@ -66,7 +66,7 @@ refused_formats gives words g bytes before after (fault.Format refused) input le
 refused_formats gives words g bytes before after _ input leaves un = absurd un
 
 -- a vector whose whole slice was written holds the slice
-kept_whole : (n : ℕ) (xs ys : List ℕ) → length xs ≡ n → take n (xs ++ drop (length xs) ys) ≡ xs
+pub kept_whole : (n : ℕ) (xs ys : List ℕ) → length xs ≡ n → take n (xs ++ drop (length xs) ys) ≡ xs
 kept_whole n xs ys e = ap (λ k. take k (xs ++ drop (length xs) ys)) (sym e) ∙ take-append_seam xs (drop (length xs) ys)
 
 -- the vector's bytes are those of the slice that was formatted

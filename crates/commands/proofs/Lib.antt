@@ -4,3 +4,4 @@ pub mod MountLemmas
 pub mod CommandLemmas
 pub mod FormatLemmas
 pub mod ServeLemmas
+pub mod BadLemmas

@@ -1,8 +1,10 @@
--- From what serving a die in memory came to, to what became of its image.
+-- From what serving a die in memory came to, to what became of its image, and to what the command came to.
 use Rattle.std.proofs.Common.{◌≡◌, ◌⊎◌, inl, inr, ℕ, ◌≤◌, Bool, true, List, Option, Result, Ok, Err, refl, sym, ap, subst, ◌∙◌, arith}
+use Rattle.std.specs.Io.KnownBytes.{Keeps}
 use Rattle.page_layout.specs.declared.geometry.Geometry.{Geometry}
 use Rattle.page_layout.specs.Counter.{HasRisen}
 use Rattle.page_layout.specs.Flash.{Flash}
+use Rattle.page_layout.specs.Page.{Image}
 use Rattle.page_layout.specs.Raw.{raw_image, raw_bytes}
 use Rattle.certificate.specs.Claim.{Claim}
 use Rattle.request_stream.specs.declared.reply.ServeFault.{ServeFault}
@@ -10,7 +12,15 @@ use Rattle.ftl_device.specs.Run.{Exchange, AreKnown}
 use Rattle.block_server.specs.declared.server.Served.{Served}
 use Rattle.block_server.specs.Checked.{IsServed}
 use Rattle.commands.specs.declared.text.ServeStop.{ServeStop}
-use Rattle.commands.specs.Serve.{HasServed, stop_in}
+use Rattle.nand_die.specs.Made.{loaded_flash}
+use Rattle.image_check.specs.Agrees.{Agrees}
+use Rattle.image_check.specs.Refused.{IsFirstWrong}
+use Rattle.command_words.specs.declared.words.ServeWords.{ServeWords}
+use Rattle.commands.specs.declared.text.CommandFault.{CommandFault}
+use Rattle.commands.specs.declared.text.CommandFault.TheVariants as fault
+use Rattle.commands.specs.Check.{IsWhole}
+use Rattle.commands.specs.Files.{Gives, Left, Leaves}
+use Rattle.commands.specs.Serve.{bad_in, stop_in, DoesServe, Ends, HasClaim, HasRun, HasServed, IsUnserved, IsUnservedDie, IsUnstarted, ServesDie}
 use Rattle.commands.proofs.FormatLemmas.{not_risen}
 
 -- a count that stays at none did not rise
@@ -35,3 +45,41 @@ die_served flash honest failed nand given g capacity c u v b w result how after 
     bytes = bytes ∙ ap (λ (f : Flash). raw_bytes f.image) same;
   };
 }
+
+-- ---- the command
+
+-- a step before the run ended it
+pub stops : (gives : Gives) (words : ServeWords) (unread left : Option (List ℕ)) (before after : Left) (result : Result (Unit {0}) CommandFault) (stop : CommandFault)
+    → result ≡ Err stop → Leaves before after → Keeps unread left → IsUnstarted gives words stop → DoesServe gives words unread left before after result
+stops gives words unread left before after result stop is leaves keeps because =
+    let P : Result (Unit {0}) CommandFault → Type 0 = λ r. DoesServe gives words unread left before after r in
+    subst P (sym is) (inl (record { leaves = leaves; unread_is = keeps; because = because }))
+
+-- a die of a whole image that was not served
+pub unserved : (g : Geometry) (capacity : ℕ) (bytes : List ℕ) (c : Claim) (s : Flash) (stop : CommandFault) → IsWhole g bytes → s ≡ loaded_flash g bytes (bad_in g c)
+    → IsUnservedDie g capacity c s stop → IsUnserved g capacity bytes c stop
+unserved g capacity bytes c s (fault.Check refusal) whole same (inl memory) = (whole, inl memory)
+unserved g capacity bytes c s (fault.Check refusal) whole same (inr wrong) = (whole, inr (subst (λ (f : Flash). IsFirstWrong g capacity f.image c refusal) same wrong))
+unserved g capacity bytes c s fault.Start whole same agrees = (whole, subst (λ (f : Flash). Agrees g capacity f.image c) same agrees)
+unserved g capacity bytes c s _ whole same h = absurd h
+
+-- one that was, and then the image was stored, or not
+pub served_does : (gives : Gives) (words : ServeWords) (unread left : Option (List ℕ)) (before after : Left) (result : Result (Unit {0}) CommandFault)
+    (g : Geometry) (capacity : ℕ) (bytes image : List ℕ) (c : Claim) (s : Flash) (how : Option ServeStop)
+    → HasClaim gives words g capacity bytes c → s ≡ loaded_flash g bytes (bad_in g c) → HasServed g capacity c s image unread left before.out after.out how
+    → Ends words.output.now image how before.stores after.stores result → DoesServe gives words unread left before after result
+served_does gives words unread left before after result g capacity bytes image c s how has same served ends = does result (record {
+  geometry = g;
+  capacity = capacity;
+  bytes = bytes;
+  claim = c;
+  has = has;
+  image = image;
+  came = served.came;
+  serves = subst (λ (f : Flash). ServesDie g capacity c f image unread left before.out after.out served.came) same served.serves;
+  ends = subst (λ (h : Option ServeStop). Ends words.output.now image h before.stores after.stores result) served.how_is ends;
+})
+  where
+    does : (r : Result (Unit {0}) CommandFault) → HasRun gives words unread left before after r → DoesServe gives words unread left before after r
+    does (Ok done) ran = ran
+    does (Err stop) ran = inr ran

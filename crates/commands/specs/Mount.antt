@@ -32,11 +32,7 @@ pub record IsMountedAs (g : Geometry) (capacity : ℕ) (bytes : List ℕ) (m : M
   pub good_is : m.good ≡ good_blocks claim
   pub stale_is : m.stale ≡ stale_count g (raw_image g bytes)
 
--- a growth was refused while the stale sectors were counted, or while the certificate was spelled
-abbrev pub IsNoMemory : CommandFault → Type 0
-IsNoMemory (fault.Mount refusal) = refusal ≡ refusals.OutOfMemory
-IsNoMemory _ = ⊥
-
+-- a growth was refused while the certificate was spelled
 abbrev pub IsUnspelled : CommandFault → Type 0
 IsUnspelled (fault.Certificate broken) = broken ≡ certificate.OutOfMemory
 IsUnspelled _ = ⊥

@@ -14,7 +14,10 @@ use std::alloc::Global;
 use std::io::{Read, Write};
 
 // The certificate that a file's bytes spell.
-pub(crate) fn certificate_in<'a>(alloc: Global, written: &[u8]) -> Result<Certificate, CommandFault<'a>>
+pub(crate) fn certificate_in<'a>(
+    alloc: Global,
+    written: &[u8],
+) -> Result<Certificate, CommandFault<'a>>
     ensures ok { IfOk result (λ certificate. IsSpelled certificate written.now) }
     ensures fault { IfErr result (IsNoCertificate written.now) }
 {
@@ -46,13 +49,7 @@ fn hold<'a, R: Read>(
     ensures ok { OnOk result (IfSome (R.remaining image.old) (λ bytes. IsHeld asked.now.geometry asked.now.capacity bytes certificate.now)) }
     ensures fault { IfErr result (IsUnheld asked.now.geometry asked.now.capacity path.now (R.remaining image.old) certificate.now) }
 {
-    match check_stream(
-        alloc,
-        image,
-        &asked.geometry,
-        asked.capacity,
-        certificate,
-    ) {
+    match check_stream(alloc, image, &asked.geometry, asked.capacity, certificate) {
         Ok(_) => Ok(()),
         Err(refusal) => Err(told(refusal, path)),
     }

@@ -1,12 +1,14 @@
 //! The command `format GEOM IN OUT`.
-ghost use Rattle.std.specs.Prelude.{◌≡◌, IfOk, IfErr};
+ghost use Rattle.std.specs.Prelude.{◌≡◌, true, IfOk, IfErr};
 ghost use Rattle.onfi_cycles.specs.Driver.{seen};
+ghost use Rattle.nand_die.specs.DieValue.{is_calm};
 ghost use Rattle.commands.specs.Format.{DoesFormat, IsFormattedImage, IsUnformatted};
 ghost use Rattle.commands.specs.Files.{left};
 
 use crate::files::FileStore;
 use crate::inputs::{geometry_of, load, numbers_at};
 use crate::outputs::store;
+use crate::steady::SteadyDie;
 use crate::text::CommandFault;
 use command_words::FileWords;
 use mount::format;
@@ -16,13 +18,14 @@ use page_layout::geometry::Geometry;
 use std::alloc::Global;
 use std::io::Write;
 
-// A die in memory behind a driver. It always takes Reset.
-pub(crate) fn driver_of(die: Die, geometry: Geometry) -> Driver<Die>
-    requires { die.state.flash.geometry ≡ geometry }
+// A die in memory, on which no stop is set, behind a driver. It always takes Reset.
+pub(crate) fn driver_of(die: Die, geometry: Geometry) -> Driver<SteadyDie>
+    requires geometry { die.state.flash.geometry ≡ geometry }
+    requires steady { is_calm die ≡ true }
     ensures geometry { result.geometry ≡ geometry }
-    ensures flash { seen result.geometry result.bus.state.flash ≡ die.state.flash }
+    ensures flash { seen result.geometry result.bus.die.state.flash ≡ die.state.flash }
 {
-    match Driver::new(die, geometry) {
+    match Driver::new(SteadyDie { die }, geometry) {
         Ok(driver) => driver,
         Err(_) => unreachable!(),
     }
@@ -50,7 +53,7 @@ pub fn format_image<'a>(
     };
     let mut driver = driver_of(die, geometry);
     let answer = format(alloc, &mut driver, &geometry);
-    let die = driver.into_bus();
+    let SteadyDie { die } = driver.into_bus();
     match answer {
         Ok(good) => {
             die.image_into(image);

@@ -14,6 +14,7 @@ mod readers;
 mod sector;
 mod serve;
 mod show;
+mod steady;
 mod text;
 
 pub use files::{FileFault, FileStore};

@@ -2,11 +2,9 @@
 ghost use Rattle.std.specs.Prelude.{◌≡◌, ◌≤◌, OnOk, IfOk, IfErr};
 ghost use Rattle.std.specs.Io.KnownBytes.{Appends};
 ghost use Rattle.certificate.specs.Spelling.{certificate_bytes};
-ghost use Rattle.image_check.specs.Agrees.{Agrees};
-ghost use Rattle.image_check.specs.Stale.{stale_count};
 ghost use Rattle.commands.specs.Check.{IsUnprinted};
 ghost use Rattle.commands.specs.Files.{left};
-ghost use Rattle.commands.specs.Mount.{DoesMount, IsMountedAs, IsNoMemory, IsUnmounted, IsUnspelled, mounted_line};
+ghost use Rattle.commands.specs.Mount.{DoesMount, IsMountedAs, IsUnmounted, IsUnspelled, mounted_line};
 
 use crate::files::FileStore;
 use crate::inputs::{CacheAsked, cache_asked, load};
@@ -14,8 +12,7 @@ use crate::outputs::store;
 use crate::text::CommandFault;
 use certificate::{Certificate, write_certificate};
 use command_words::CertificateWords;
-use image_check::check;
-use mount::mount;
+use mount::mount_counted;
 use page_layout::source::ImageSlice;
 use std::alloc::Global;
 use std::io::Write;
@@ -26,25 +23,7 @@ struct Mounted {
     written: Vec<u8>,
     next: u64,
     good: u32,
-    stale: usize,
-}
-
-// How many sectors are stale in an image that was just mounted.
-fn count_stale<'a>(
-    alloc: Global,
-    asked: &CacheAsked,
-    image: &mut ImageSlice,
-    certificate: &Certificate,
-) -> Result<usize, CommandFault<'a>>
-    requires same_geometry { image.old.flash.geometry ≡ asked.now.geometry }
-    requires agrees { Agrees asked.now.geometry asked.now.capacity image.old.flash.image certificate.now }
-    ensures ok { IfOk result (λ count. count ≡ stale_count asked.now.geometry image.old.flash.image) }
-    ensures fault { IfErr result IsNoMemory }
-{
-    match check(alloc, image, &asked.geometry, asked.capacity, certificate) {
-        Ok(accepted) => Ok(accepted.stale().len()),
-        Err(refusal) => Err(CommandFault::Mount(refusal)),
-    }
+    stale: u32,
 }
 
 // The bytes of a certificate.
@@ -73,17 +52,16 @@ fn mount_bytes<'a>(
         Ok(image) => image,
         Err(_) => return Err(CommandFault::WrongLength),
     };
-    let certificate = match mount(alloc, &mut image, &asked.geometry, asked.capacity) {
-        Ok(certificate) => certificate,
+    let made = match mount_counted(alloc, &mut image, &asked.geometry, asked.capacity) {
+        Ok(made) => made,
         Err(refusal) => return Err(CommandFault::Mount(refusal)),
     };
-    let stale = count_stale(alloc, asked, &mut image, &certificate)?;
-    let written = spell(alloc, &certificate)?;
+    let written = spell(alloc, &made.certificate)?;
     Ok(Mounted {
         written,
-        next: certificate.next_sequence(),
-        good: certificate.good(),
-        stale,
+        next: made.certificate.next_sequence(),
+        good: made.certificate.good(),
+        stale: made.stale,
     })
 }
 
@@ -112,8 +90,8 @@ fn print_mounted<'a, W: Write>(mounted: &Mounted, out: &mut W) -> Result<(), Com
 ///
 /// The first of this order: `BadNumber` where GEOM or C writes no numbers, `Geometry` where GEOM's are no geometry, `Capacity`
 /// where C is not from 1 to 65536, `Read` where IMAGE cannot be read, or `OutOfMemory` where it was refused memory, `WrongLength`
-/// where it has not as many bytes as the geometry says, `Mount` with the refusal of `mount::mount`, or with `OutOfMemory` where
-/// the stale sectors wanted memory, `Certificate` with `OutOfMemory` where its bytes did: after these nothing was stored and
+/// where it has not as many bytes as the geometry says, `Mount` with the refusal of `mount::mount_counted`, `Certificate` with
+/// `OutOfMemory` where its bytes wanted memory: after these nothing was stored and
 /// nothing printed. `Write` of CERT where it cannot be stored, or `OutOfMemory` where that was refused memory before any byte was
 /// written: nothing was printed. `Write` of `-` where `out` failed: CERT is stored, and a part of the line may stand in `out`.
 ///

@@ -1,5 +1,5 @@
 //! The command `serve GEOM C IMAGE CERT OUT`.
-ghost use Rattle.std.specs.Prelude.{◌≡◌, length, filter, min, Ok, IfOk, IfErr, OnOk, OnErr};
+ghost use Rattle.std.specs.Prelude.{◌≡◌, ◌<◌, length, filter, min, Ok, IfOk, IfErr, OnOk, OnErr};
 ghost use Rattle.std.specs.List.{range_with_len};
 ghost use Rattle.std.specs.Io.KnownBytes.{Keeps};
 ghost use Rattle.onfi_cycles.specs.Driver.{flash_by};
@@ -14,6 +14,7 @@ use crate::check::certificate_in;
 use crate::files::{FileFault, FileStore};
 use crate::format::driver_of;
 use crate::inputs::{CacheAsked, cache_asked, load};
+use crate::steady::SteadyDie;
 use crate::text::{CommandFault, ServeStop};
 use block_server::{RunFault, Served, serve_checked};
 use certificate::Certificate;
@@ -28,18 +29,22 @@ use std::io::{Read, Write};
 // The least class of a bad block in a certificate.
 const LEAST_BAD: u8 = 4;
 
+// Whether a certificate gives a block as bad.
+fn is_bad(certificate: &Certificate, block: u32) -> bool
+    requires { block < length certificate.now.blocks }
+    ensures { result ≡ is_bad_in certificate.now block }
+{
+    certificate.block(block).class >= LEAST_BAD
+}
+
 // The blocks, of so many, that a certificate gives as bad.
-fn bad_blocks(
-    alloc: Global,
-    certificate: &Certificate,
-    blocks: u32,
-) -> Result<Vec<u32>, AllocError>
+fn bad_blocks(alloc: Global, certificate: &Certificate, blocks: u32) -> Result<Vec<u32>, AllocError>
     requires { length certificate.now.blocks ≡ certificate.now.sizes.blocks }
     ensures { IfOk result (λ bad. bad.items ≡ filter (is_bad_in certificate.now) (range_with_len 0 (min blocks certificate.now.sizes.blocks))) }
 {
     let mut bad = Vec::new(alloc);
     for block in 0..blocks.min(certificate.geometry().blocks()) {
-        if certificate.block(block).class >= LEAST_BAD {
+        if is_bad(certificate, block) {
             bad.push(block)?;
         }
     }
@@ -66,7 +71,6 @@ fn die_of<'a>(
     };
     match Die::from_image(alloc, asked.geometry, bytes, &bad) {
         Ok(die) => Ok(die),
-        Err(DieFault::WrongLength) => Err(CommandFault::WrongLength),
         Err(fault) => Err(CommandFault::Die(fault)),
     }
 }
@@ -85,7 +89,7 @@ fn stop_of(served: Served) -> Option<ServeStop>
 fn serve_die<'a, R: Read, W: Write>(
     alloc: Global,
     asked: &CacheAsked,
-    driver: Driver<Die>,
+    driver: Driver<SteadyDie>,
     certificate: &Certificate,
     image: &mut [u8],
     input: &mut R,
@@ -93,9 +97,9 @@ fn serve_die<'a, R: Read, W: Write>(
 ) -> Result<Option<ServeStop>, CommandFault<'a>>
     requires same { driver.geometry ≡ asked.now.geometry }
     requires whole { IsWhole asked.now.geometry image.old }
-    ensures ok { IfOk result (HasServed asked.now.geometry asked.now.capacity certificate.now (flash_by (λ die. die.state) driver) image.new
+    ensures ok { IfOk result (HasServed asked.now.geometry asked.now.capacity certificate.now (flash_by (λ bus. bus.die.state) driver) image.new
         (R.remaining input.old) (R.remaining input.new) (W.contents out.old) (W.contents out.new)) }
-    ensures fault { IfErr result (IsUnservedDie asked.now.geometry asked.now.capacity certificate.now (flash_by (λ die. die.state) driver)) }
+    ensures fault { IfErr result (IsUnservedDie asked.now.geometry asked.now.capacity certificate.now (flash_by (λ bus. bus.die.state) driver)) }
     ensures unread { OnErr result (Keeps (R.remaining input.old) (R.remaining input.new)) }
     ensures unwritten { OnErr result (Keeps (W.contents out.old) (W.contents out.new)) }
 {
@@ -103,11 +107,11 @@ fn serve_die<'a, R: Read, W: Write>(
     let capacity = asked.capacity;
     match serve_checked(alloc, driver, geometry, capacity, certificate, input, out) {
         Ok((served, driver)) => {
-            driver.into_bus().image_into(image);
+            driver.into_bus().die.image_into(image);
             Ok(stop_of(served))
         }
         Err(RunFault::Serve { fault, nand }) => {
-            nand.into_bus().image_into(image);
+            nand.into_bus().die.image_into(image);
             Ok(Some(ServeStop::Fault(fault)))
         }
         Err(RunFault::Refused { refusal, .. }) => Err(CommandFault::Check(refusal)),
@@ -168,14 +172,6 @@ pub fn serve_command<'a, F: FileStore, R: Read, W: Write>(
     let certificate = certificate_in(alloc, &written)?;
     let die = die_of(alloc, &asked, &bytes, &certificate)?;
     let driver = driver_of(die, asked.geometry);
-    let stop = serve_die(
-        alloc,
-        &asked,
-        driver,
-        &certificate,
-        &mut bytes,
-        input,
-        out,
-    )?;
+    let stop = serve_die(alloc, &asked, driver, &certificate, &mut bytes, input, out)?;
     finish(files, words.output, &bytes, stop)
 }

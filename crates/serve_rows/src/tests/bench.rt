@@ -1,5 +1,5 @@
 // A die in memory that is formatted, mounted and served.
-ghost use Rattle.std.specs.Prelude.{◌≡◌, IfOk};
+ghost use Rattle.std.specs.Prelude.{◌≡◌, ◌≤◌, IfOk};
 
 use super::streams::{Narrow, Pieces};
 use block_server::{RunFault, Served, serve_checked};
@@ -54,6 +54,41 @@ fn mounted(
     ensures { driver.new.geometry ≡ geometry.now }
 {
     Ok(mount(alloc, driver, geometry, 4)?)
+}
+
+// Serves a stream to its end over a die with a cache of so many entries, and gives the die back.
+pub fn served(
+    alloc: Global,
+    mut driver: Driver<Die>,
+    geometry: &Geometry,
+    capacity: u32,
+    input: &[u8],
+    writer: &mut Narrow,
+) -> Result<Driver<Die>, Fail>
+    requires same { driver.geometry ≡ geometry.now }
+    requires least { 1 ≤ capacity }
+    requires most { capacity ≤ 65536 }
+    ensures { IfOk result (λ driver. driver.geometry ≡ geometry.now) }
+{
+    let certificate = mount(alloc, &mut driver, geometry, capacity)?;
+    let mut reader = Pieces {
+        left: input,
+        piece: 7,
+        failing: 0,
+        reads: 0,
+    };
+    match serve_checked(
+        alloc,
+        driver,
+        geometry,
+        capacity,
+        &certificate,
+        &mut reader,
+        writer,
+    ) {
+        Ok((_, driver)) => Ok(driver),
+        Err(_) => Err("not served")?,
+    }
 }
 
 // What was served, and the die's image then.

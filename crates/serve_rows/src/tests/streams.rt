@@ -5,14 +5,14 @@ use std::io::{self, ErrorKind, Read, Write};
 // Gives its bytes in pieces of one length at most. Its read of this number, from 1, is interrupted, and so
 // is each later one; 0 for none.
 #[derive(Drop)]
-pub struct Pieces {
-    pub left: &'static [u8],
+pub struct Pieces<'a> {
+    pub left: &'a [u8],
     pub piece: usize,
     pub failing: usize,
     pub reads: usize,
 }
 
-impl Read for Pieces {
+impl Read for Pieces<'_> {
     fn read(&mut self, buf: &mut [u8]) -> io::Result<usize> {
         self.reads = self.reads.saturating_add(1);
         if self.failing != 0 && self.reads >= self.failing {

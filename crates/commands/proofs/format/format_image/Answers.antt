@@ -11,7 +11,7 @@ returns-in-Ok-answer-clause-ok c =
     let last = c.format-answer.new.nand in
     let loaded = c.driver_of-driver.ensures.flash ∙ ap (λ (d : DieValue). d.state.flash) c.in-Ok.ensures.made in
     formatted_image g c.args.image.now c.image_into.new.out c.in-Ok-answer.good
-    (seen first.geometry first.bus.state.flash) (seen last.geometry last.bus.state.flash) c.into_bus-die.result.state.flash
+    (seen first.geometry first.bus.die.state.flash) (seen last.geometry last.bus.die.state.flash) c.into_bus-die.result.die.state.flash
     c.in-Ok.ensures.whole loaded (c.in-Ok-answer.ensures.formats refl) (c.into_bus-die.ensures.flash refl)
     (c.format-answer.ensures.geometry ∙ c.driver_of-driver.ensures.geometry) c.image_into.ensures.pages c.image_into.ensures.bytes
 
@@ -21,6 +21,6 @@ returns-clause-fault c =
     let first = c.driver_of-driver.result in
     let last = c.format-answer.new.nand in
     let loaded = c.driver_of-driver.ensures.flash ∙ ap (λ (d : DieValue). d.state.flash) c.in-Ok.ensures.made in
-    unformatted g c.args.image.now c.in-Err-answer.fault (seen first.geometry first.bus.state.flash) (seen last.geometry last.bus.state.flash)
+    unformatted g c.args.image.now c.in-Err-answer.fault (seen first.geometry first.bus.die.state.flash) (seen last.geometry last.bus.die.state.flash)
     c.in-Ok.ensures.whole loaded (c.in-Err-answer.ensures.formats refl)
     (λ bus. not_risen first.failures last.failures 0 (c.in-Err-answer.ensures.bus (ap Err bus)) (c.into_bus-die.ensures.counted refl) refl)

@@ -1,0 +1,44 @@
+//! A die in memory that is not to stop.
+ghost use Rattle.std.specs.Prelude.{◌≡◌, true};
+ghost use Rattle.nand_die.specs.DieValue.{is_calm};
+
+use nand_die::Die;
+use onfi_cycles::{Bus, BusFault};
+
+/// A die in memory on which no stop is set, as a bus: its device never fails.
+#[derive(Drop)]
+pub(crate) struct SteadyDie {
+    pub(crate) die: Die,
+    ghost steady: { is_calm die ≡ true },
+}
+
+impl Bus for SteadyDie {
+    ghost die = { λ d. d.die.state };
+
+    ghost honest = { λ _. true };
+
+    ghost failed = { λ _. 0 };
+
+    ghost calm = { λ _. true };
+
+    fn command(&mut self, code: u8) -> Result<(), BusFault> {
+        self.die.command(code)
+    }
+
+    fn address(&mut self, byte: u8) -> Result<(), BusFault> {
+        self.die.address(byte)
+    }
+
+    fn data_in(&mut self, bytes: &[u8]) -> Result<(), BusFault> {
+        self.die.data_in(bytes)
+    }
+
+    fn data_out(&mut self, bytes: &mut [u8]) -> Result<(), BusFault> {
+        self.die.data_out(bytes)
+    }
+
+    /// None: the device does not fail.
+    fn failures(&self) -> u64 {
+        0
+    }
+}
