@@ -171,7 +171,7 @@ fails_by b c Bus h e = (let no : ⊥ = cc in absurd no)
 pub page_fails : (k most : ℕ) (a b c : Ram) (fault : WriteFault) → b.geometry ≡ a.geometry → k < most → KeepsTable a.blocks b.blocks → AddsPages k a b → PageCosts Meta b c (Err fault) → refused fault ≡ refused ReadOnly → FailsAmong most a c
 page_fails k most a b c fault same lt table used cost is = record { mid = b; geometry = same; pages = k; few = omega arith; fewer = table.fewer; used = used; out = fails_by b c fault cost is }
 
-pub free_most : (failures free left : ℕ) → NoneFree failures free left → free ≤ failures
+free_most : (failures free left : ℕ) → NoneFree failures free left → free ≤ failures
 free_most failures free left n = elim n.cases [ inl c ↦ omega (arith, c.1) | inr c ↦ omega (arith, c.1) ]
 
 -- in the first round

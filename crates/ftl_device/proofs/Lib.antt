@@ -22,4 +22,3 @@ pub mod LoopLemmas
 pub mod AcceptedLemmas
 pub mod RoomLemmas
 pub mod PrepareLemmas
-pub mod SpentLemmas

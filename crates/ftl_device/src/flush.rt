@@ -4,15 +4,13 @@ ghost use Rattle.std.specs.Option.{ForSome};
 ghost use Rattle.std.specs.Map.{keys_of};
 ghost use Rattle.page_layout.specs.Counter.{HasRisen};
 ghost use Rattle.page_layout.specs.Geometry.{translation_pages, table_pages};
-ghost use Rattle.budget.specs.Account.{IsFunded};
-ghost use Rattle.allocation.specs.Counts.{counts_of};
+ghost use Rattle.allocation.specs.State.{free_count};
 ghost use Rattle.collection.specs.Safe.{IsSafe, IsIdle, ram, image_in};
 ghost use Rattle.collection.specs.Truth.{IsTrue};
 ghost use Rattle.collection.specs.Log.{Went};
 ghost use Rattle.collection.specs.Results.{KeepsTable, fault_after};
 ghost use Rattle.ftl_device.specs.Calls.{Tells, CallTells, KeepsArray, CallRefused, standing_after};
 ghost use Rattle.ftl_device.specs.Flush.{IsClean, KeepsClean, SpellsAll, KeepsTables, AddsPages, FailsAmong, RunsOut, IsFlushed, WritesTables, MayFlush, MayNotFlush};
-ghost use Rattle.ftl_device.specs.Shortage.{HasFunds, FlushCounts, FlushShort};
 ghost use Rattle.std.specs.Prelude.{◌↔◌};
 ghost use Rattle.page_layout.specs.Geometry.{need};
 ghost use Rattle.bad_blocks.specs.Table.{good_count, wear_at};
@@ -51,9 +49,6 @@ fn flush_translation<N: Nand>(engine: &mut Engine<N>, t: u32) -> Result<(), Writ
     ensures idle { engine.new.fault ≡ None → IsIdle (ram engine.new) }
     ensures clean { OnOk result (IsClean engine.old.geometry t engine.new.mapping) }
     ensures cleans { OnOk result (KeepsClean engine.old.geometry engine.old.mapping engine.new.mapping) }
-    ensures count { N.honest engine.old.nand ≡ true → IsTrue None (ram engine.old) (image_in N.flash engine.old) →
-        (failures : ℕ) → IsFunded engine.old.geometry.pages failures (counts_of (ram engine.old).blocks) →
-        FlushCounts failures (ram engine.old) (ram engine.new) result }
     ensures tells { Tells (ram engine.old) (ram engine.new) result }
     ensures went { N.honest engine.old.nand ≡ true → result ≢ Err WriteFault.Bus →
         Went (ram engine.old) (N.flash engine.old.nand) (ram engine.new) (N.flash engine.new.nand) }
@@ -85,9 +80,6 @@ fn flush_translations<N: Nand>(engine: &mut Engine<N>) -> Result<(), WriteFault>
     ensures limits { HasLimitsOf engine.old.mapping engine.new.mapping }
     ensures idle { engine.new.fault ≡ None → IsIdle (ram engine.new) }
     ensures clean { OnOk result ((t : ℕ) → t < translation_pages engine.old.geometry → IsClean engine.old.geometry t engine.new.mapping) }
-    ensures count { N.honest engine.old.nand ≡ true → IsTrue None (ram engine.old) (image_in N.flash engine.old) →
-        (failures : ℕ) → IsFunded engine.old.geometry.pages failures (counts_of (ram engine.old).blocks) →
-        FlushCounts failures (ram engine.old) (ram engine.new) result }
     ensures tells { Tells (ram engine.old) (ram engine.new) result }
     ensures went { N.honest engine.old.nand ≡ true → result ≢ Err WriteFault.Bus →
         Went (ram engine.old) (N.flash engine.old.nand) (ram engine.new) (N.flash engine.new.nand) }
@@ -181,7 +173,6 @@ pub(crate) fn flush_ready<N: Nand>(engine: &mut Engine<N>) -> Result<(), CallFau
     ensures limits { HasLimitsOf engine.old.mapping engine.new.mapping }
     ensures idle { engine.new.fault ≡ None → IsIdle (ram engine.new) }
     ensures clean { OnOk result ((t : ℕ) → t < translation_pages engine.old.geometry → IsClean engine.old.geometry t engine.new.mapping) }
-    ensures count { HasFunds (N.honest engine.old.nand) (ram engine.old) (image_in N.flash engine.old) → FlushShort (ram engine.old) (ram engine.new) result }
     ensures tells { CallTells (ram engine.old) (ram engine.new) result }
     ensures went { N.honest engine.old.nand ≡ true → result ≢ Err (CallFault.Engine WriteFault.Bus) →
         Went (ram engine.old) (N.flash engine.old.nand) (ram engine.new) (N.flash engine.new.nand) }
