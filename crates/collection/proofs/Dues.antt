@@ -104,9 +104,9 @@ copied_due flushing (Sector n) row r r' s lt f =
     let pp'_is : per_page r'.mapping ≡ per_page r.mapping = ap entries f.mapping.limits.geometry in
     let same : (k : ℕ) → k ≢ n / entries r.geometry → is_due flushing r' k ≡ is_due flushing r k =
     λ k ne.
-        let others : moved_in (per_page r.mapping) k r'.mapping.moved ≡ moved_in (per_page r.mapping) k r.mapping.moved = f.mapping.moved_others k (λ e. ne (e ∙ ap (λ p. n / p) pp_is)) in
-        let mark : get_or r'.pin.marks k false ≡ get_or r.pin.marks k false = ap (λ l. get_or l k false) f.marks ∙ marked_other flushing r.geometry n k r.pin.marks ne in
-        ap (λ p. not (length (moved_in p k r'.mapping.moved) == 0) || (flushing && get_or r'.pin.marks k false)) pp'_is ∙ due_by flushing (per_page r.mapping) k r.mapping.moved r'.mapping.moved (get_or r.pin.marks k false) (get_or r'.pin.marks k false) others mark in
+    let others : moved_in (per_page r.mapping) k r'.mapping.moved ≡ moved_in (per_page r.mapping) k r.mapping.moved = f.mapping.moved_others k (λ e. ne (e ∙ ap (λ p. n / p) pp_is)) in
+    let mark : get_or r'.pin.marks k false ≡ get_or r.pin.marks k false = ap (λ l. get_or l k false) f.marks ∙ marked_other flushing r.geometry n k r.pin.marks ne in
+    ap (λ p. not (length (moved_in p k r'.mapping.moved) == 0) || (flushing && get_or r'.pin.marks k false)) pp'_is ∙ due_by flushing (per_page r.mapping) k r.mapping.moved r'.mapping.moved (get_or r.pin.marks k false) (get_or r'.pin.marks k false) others mark in
     let e = one_more (is_due flushing r) (is_due flushing r') (n / entries r.geometry) (translation_pages r.geometry) same (sector_entry r.geometry n lt) in
     rw f.geometry e
 copied_due flushing (Translation t) row r r' s lt f =
@@ -149,7 +149,7 @@ module _ (t : ℕ) (r r' : Ram) (s : IsRam r) (lt : t < translation_pages r.geom
   pub written_due : (flushing : Bool) → is_due flushing r t ≡ true → due_count flushing r' + 1 ≤ due_count flushing r
   written_due flushing was =
       let same : (k : ℕ) → k ≢ t → is_due flushing r' k ≡ is_due flushing r k = λ k ne.
-          ap (λ (m : MappingState). not (length (moved_in (per_page m) k m.moved) == 0) || (flushing && get_or r'.pin.marks k false)) f.mapping ∙ due_by flushing (per_page r.mapping) k r.mapping.moved (without_page (per_page r.mapping) t r.mapping.moved) (get_or r.pin.marks k false) (get_or r'.pin.marks k false) (left_others (per_page r.mapping) t k r.mapping.moved ne) (mark_there k ne) in
+      ap (λ (m : MappingState). not (length (moved_in (per_page m) k m.moved) == 0) || (flushing && get_or r'.pin.marks k false)) f.mapping ∙ due_by flushing (per_page r.mapping) k r.mapping.moved (without_page (per_page r.mapping) t r.mapping.moved) (get_or r.pin.marks k false) (get_or r'.pin.marks k false) (left_others (per_page r.mapping) t k r.mapping.moved ne) (mark_there k ne) in
       let now : is_due flushing r' t ≡ false =
       ap (λ (m : MappingState). not (length (moved_in (per_page m) t m.moved) == 0) || (flushing && get_or r'.pin.marks t false)) f.mapping ∙ (ap (λ l. not (length l == 0) || (flushing && get_or r'.pin.marks t false)) (left_none (per_page r.mapping) t r.mapping.moved) ∙ none flushing (get_or r'.pin.marks t false) mark_here) in
       let e = one_less (is_due flushing r) (is_due flushing r') t (translation_pages r.geometry) same lt was now in

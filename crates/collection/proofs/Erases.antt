@@ -211,10 +211,12 @@ went_erase old new before after block passed left step h next = record {
   leads = Leads-one before after (Erase block passed left) step;
   follows = erase_follows old.geometry.pages block passed left old.blocks new.blocks h;
   next = omega (arith, next);
-  wears = record { worn = λ b most. elim (cases_eq b block) [
-    | inl same ↦ worn_here block passed left (wear_at old.blocks.table b) (wear_at new.blocks.table b) b same (ap (wear_at new.blocks.table) same ∙ (h.wear ∙ ap (λ k. worn_by passed (wear_at old.blocks.table k)) (sym same))) most
-    | inr ne ↦ worn_there block passed left (wear_at old.blocks.table b) (wear_at new.blocks.table b) b ne (ap (λ (x : TableRow). x.wear) (h.made.others b ne).row) most
-  ] };
+  wears = record {
+    worn = λ b most. elim (cases_eq b block) [
+      | inl same ↦ worn_here block passed left (wear_at old.blocks.table b) (wear_at new.blocks.table b) b same (ap (wear_at new.blocks.table) same ∙ (h.wear ∙ ap (λ k. worn_by passed (wear_at old.blocks.table k)) (sym same))) most
+      | inr ne ↦ worn_there block passed left (wear_at old.blocks.table b) (wear_at new.blocks.table b) b ne (ap (λ (x : TableRow). x.wear) (h.made.others b ne).row) most
+    ];
+  };
 }
 
 most_by : (passed : Bool) (w v : ℕ) → v ≡ worn_by passed w → w ≤ most_wear → v ≤ most_wear

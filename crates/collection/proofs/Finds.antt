@@ -73,7 +73,7 @@ module _ (pages block : ℕ) (image : Image) where
   }
 
   pub none_join : (first mid end : ℕ) → HoldsNoneIn pages block first mid image → HoldsNoneIn pages block mid end image → HoldsNoneIn pages block first end image
-  none_join first mid end h k = record { none = λ p ge lt. elim (cases_lt p mid) [ | inl below ↦ h.none p ge below | inr above ↦ k.none p above lt ] }
+  none_join first mid end h k = record { none = λ p ge lt. elim (cases_lt p mid) [ inl below ↦ h.none p ge below | inr above ↦ k.none p above lt ] }
 
   pub none_all : 0 < pages → HoldsNoneIn pages block 0 pages image → HoldsNone pages block image
   none_all some h = record {

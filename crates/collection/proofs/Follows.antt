@@ -61,9 +61,9 @@ swept pp n (e ∷ ms) only = elim (cases_eq e.0 n) [
   | inl same ↦
       let page : (e.0 / pp == n / pp) ≡ true = eq-eqb (e.0 / pp) (n / pp) (ap (λ k. k / pp) same) in
       let rest : without_page pp (n / pp) ms ≡ [] = swept pp n ms (λ k ne.
-          let head : (k == e.0) ≡ false = ne_eqb k e.0 (λ x. ne (x ∙ same)) in
-          let skip : lookup (nat_eq k) (e ∷ ms) ≡ lookup (nat_eq k) ms = rw head refl in
-          sym skip ∙ only k ne) in
+      let head : (k == e.0) ≡ false = ne_eqb k e.0 (λ x. ne (x ∙ same)) in
+      let skip : lookup (nat_eq k) (e ∷ ms) ≡ lookup (nat_eq k) ms = rw head refl in
+      sym skip ∙ only k ne) in
       rw page rest
   | inr ne ↦
       let here : (e.0 == e.0) ≡ true = eq-eqb e.0 e.0 refl in

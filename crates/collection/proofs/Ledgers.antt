@@ -3,6 +3,7 @@ use Rattle.std.proofs.Common.{◌≡◌, ◌≢◌, ◌⊎◌, inl, inr, ℕ, �
 use Rattle.page_layout.specs.declared.geometry.Geometry.{Geometry}
 use Rattle.page_layout.specs.Geometry.{translation_pages, vmax}
 use Rattle.page_layout.specs.Page.{Image}
+use Rattle.page_layout.specs.Counter.{counted}
 use Rattle.budget.specs.declared.stream.Stream.{Stream}
 use Rattle.budget.specs.declared.stream.Stream.TheVariants.{Data, Meta}
 use Rattle.budget.specs.Counts.{Counts, Fits, Erased}
@@ -24,7 +25,7 @@ use Rattle.collection.specs.Results.{Goes, Refused}
 use Rattle.collection.specs.Collect.{is_due, due_count, HasCopied, HasWritten, HasErased, HasProgrammed, HasCollected, StreamRunsOut, IsCopied, IsEmptied, IsThrifty, FaultCosts, CollectCosts, CollectCounts, StepCosts, IsStepped, GoesBut, IsReleased}
 use Rattle.bad_blocks.specs.declared.table.TableRow.{TableRow}
 use Rattle.bad_blocks.specs.Table.{most_wear}
-use Rattle.collection.specs.Whole.{next_of, step_within, busy_of, work_left, IsSoFar, IsUnderWay}
+use Rattle.collection.specs.Whole.{next_of, erases_after, step_within, busy_of, work_left, IsSoFar, IsUnderWay}
 use Rattle.collection.specs.declared.fault.WriteFault.{WriteFault}
 use Rattle.collection.specs.declared.fault.WriteFault.TheVariants.{ReadOnly, SequenceSpent, Damaged, Bus}
 use Rattle.collection.specs.declared.engine.step.Step.{Step}
@@ -101,7 +102,7 @@ due_most flushing first now same = (let x = count_within (is_due flushing now) 0
 pub copied_more : (flushing : Bool) (block first page : ℕ) (old now new : Ram) (known : Type 0) (x y z : Image) → IsRam now → Goes old now → Goes now new → 1 < old.geometry.pages → IsUnderWay flushing block first old now known x y → first ≤ page → page < now.geometry.pages → HasCopied flushing now new → (known → IsTrue None now y → HoldsNoneIn now.geometry.pages block 0 first y → IsCopied block page now y new z) → IsUnderWay flushing block (page + 1) old new known x z
 copied_more flushing block first page old now new known x y z s goes then some u ge lt cost call =
     let same : now.geometry ≡ old.geometry = goes.geometry in
-    let zero : u.ledger.written ≡ 0 = elim u.order [ | inl e ↦ e | inr past ↦ (let p : now.geometry.pages ≡ old.geometry.pages = ap (λ g. g.pages) same in absurd (omega arith)) ] in
+    let zero : u.ledger.written ≡ 0 = elim u.order [ inl e ↦ e | inr past ↦ (let p : now.geometry.pages ≡ old.geometry.pages = ap (λ g. g.pages) same in absurd (omega arith)) ] in
     let due : due_count flushing new ≤ translation_pages old.geometry = due_most flushing old new (then.geometry ∙ same) in
     let one = one_of cost.stream in
     let b = put_busy cost.stream now.geometry.pages now.geometry.blocks cost.put.failures (counts_of now.blocks) (counts_of new.blocks) (rw same some) (free_within now s) cost.put.put in
@@ -268,6 +269,15 @@ emptied_then block first copies a b c x y z goes after w e = record { same = sam
 
 pub still_goes : (pages next : ℕ) (step : Step) (now new : Ram) → next_of pages step ≡ Some next → (ok_step step ≢ ok_step step_is.Erased → Goes now new) → Goes now new
 still_goes pages next step now new is then = then (λ e. (let same : step ≡ step_is.Erased = cc in not_erased pages next step is same))
+
+-- only the last step erases
+pub still_erased : (pages : ℕ) (next : ℕ) (step : Step) (before after : ℕ) → next_of pages step ≡ Some next → after ≡ erases_after step before → after ≡ before
+still_erased pages next (step_is.Copied page) before after is h = h
+still_erased pages next step_is.WroteBack before after is h = h
+still_erased pages next step_is.Erased before after is h = (let no : ⊥ = cc in absurd no)
+
+pub once_erased : (step : Step) (before after : ℕ) → step ≡ step_is.Erased → after ≡ erases_after step before → after ≡ counted before
+once_erased step before after is h = h ∙ ap (λ s. erases_after s before) is
 
 pub room_next : (flushing : Bool) (block first next pages : ℕ) (now new : Ram) (step : Step) → IsRam new → pages ≡ new.geometry.pages → length now.mapping.moved ≤ first → next_of pages step ≡ Some next → StepCosts flushing block first now new (Ok step) → length new.mapping.moved ≤ next
 room_next flushing block first next pages now new (step_is.Copied page) s' p room is cost = (let e : page + 1 ≡ next = cc in omega (arith, e, cost.0, cost.2.moved))

@@ -94,10 +94,12 @@ went_one old new before after block row outcome step same h row_is next = record
   leads = Leads-one before after (Program row step.its (is_passed outcome) step.left) step.step;
   follows = (let P : Geometry → Type 0 = λ g. Follows g.pages (Program row step.its (is_passed outcome) step.left ∷ []) old.blocks new.blocks in subst P same (program_follows block row step.its step.left (is_passed outcome) old.blocks new.blocks h row_is));
   next = next;
-  wears = record { worn = λ b most. elim (cases_eq b block) [
-    | inl at ↦ (let e : wear_at new.blocks.table b ≡ wear_at old.blocks.table b = ap (wear_at new.blocks.table) at ∙ (h.wear ∙ ap (wear_at old.blocks.table) (sym at)) in omega arith)
-    | inr ne ↦ (let e : wear_at new.blocks.table b ≡ wear_at old.blocks.table b = ap (λ (x : TableRow). x.wear) (h.made.others b ne).row in omega arith)
-  ] };
+  wears = record {
+    worn = λ b most. elim (cases_eq b block) [
+      | inl at ↦ (let e : wear_at new.blocks.table b ≡ wear_at old.blocks.table b = ap (wear_at new.blocks.table) at ∙ (h.wear ∙ ap (wear_at old.blocks.table) (sym at)) in omega arith)
+      | inr ne ↦ (let e : wear_at new.blocks.table b ≡ wear_at old.blocks.table b = ap (λ (x : TableRow). x.wear) (h.made.others b ne).row in omega arith)
+    ];
+  };
 }
 
 pub went_then : (a b c : Ram) (x y z : Flash) → b.geometry ≡ a.geometry → Went a x b y → Went b y c z → Went a x c z
@@ -111,8 +113,10 @@ went_then a b c x y z same v w =
         accounted = λ accounts s. rw (accounts_join a.geometry.pages accounts v.log w.log) (follows.accounted (accounted_all a.geometry.pages accounts v.log) (v.follows.accounted accounts s));
       };
       next = omega (arith, v.next, w.next, (counts a.geometry.pages 0 v.log w.log).programs);
-      wears = record { worn = λ k most.
-          let first : wear_at b.blocks.table k ≡ min (wear_at a.blocks.table k + passed_erases_of v.log k) most_wear = v.wears.worn k most in
-          let second : wear_at c.blocks.table k ≡ min (wear_at b.blocks.table k + passed_erases_of w.log k) most_wear = w.wears.worn k (omega arith) in
-          omega (arith, (counts a.geometry.pages k v.log w.log).passed_erases_at) };
+      wears = record {
+        worn = λ k most.
+            let first : wear_at b.blocks.table k ≡ min (wear_at a.blocks.table k + passed_erases_of v.log k) most_wear = v.wears.worn k most in
+            let second : wear_at c.blocks.table k ≡ min (wear_at b.blocks.table k + passed_erases_of w.log k) most_wear = w.wears.worn k (omega arith) in
+            omega (arith, (counts a.geometry.pages k v.log w.log).passed_erases_at);
+      };
     }

@@ -1,5 +1,5 @@
 -- Where the newest page of a sector is.
-use Rattle.std.proofs.Common.{true, false, is_some, ◌≡◌, ◌≢◌, ℕ, ◌+◌, ◌/◌, ◌%◌, ◌<◌, List, length, replicate, slice_get, Option, Some, None, Result, Ok, Err, refl, ap, sym, ◌∙◌, arith}
+use Rattle.std.proofs.Common.{true, false, is_some, ◌≡◌, ◌≢◌, ℕ, ◌+◌, ◌/◌, ◌%◌, ◌<◌, List, length, replicate, slice_get, Option, Some, None, Result, Ok, Err, refl, ap, sym, ◌∙◌, subst, arith}
 use Rattle.std.specs.Option.{ForSome}
 use Rattle.std.specs.Prelude.{MatchResult, IfOk, OnErr}
 use Rattle.page_layout.specs.declared.geometry.Geometry.{Geometry}
@@ -22,7 +22,8 @@ use Rattle.translation_pages.specs.TranslationPage.{entry_at}
 use Rattle.translation_pages.specs.Entry.{entry_of}
 use Rattle.collection.specs.Pages.{newest_row}
 use Rattle.collection.specs.Maps.{Maps}
-use Rattle.collection.specs.Looks.{IsPageOf, IsRead}
+use Rattle.collection.specs.State.{Ram}
+use Rattle.collection.specs.Looks.{IsPageOf, IsRead, GivesRow, FindsRow, GivesSector}
 use Rattle.collection.specs.declared.fault.WriteFault.{WriteFault}
 use Rattle.collection.specs.declared.fault.WriteFault.TheVariants.{Bus}
 use Rattle.page_layout.proofs.GeometryLemmas.{sector_entry}
@@ -117,6 +118,24 @@ by_kind g kind.Sector bytes body written cleared = written refl
 by_kind g kind.Trim bytes body written cleared = cleared (λ e. (let never : ⊥ = cc in never))
 by_kind g kind.Translation bytes body written cleared = cleared (λ e. (let never : ⊥ = cc in never))
 by_kind g kind.Table bytes body written cleared = cleared (λ e. (let never : ⊥ = cc in never))
+
+-- zeros where there is no row, and else what the page holds
+pub gives_none : (g : Geometry) (n size : ℕ) (p : Page) (bytes : List ℕ) → bytes ≡ replicate size 0 → size ≡ g.data_bytes → GivesSector g n None p bytes
+gives_none g n size p bytes filled whole = filled ∙ ap (λ k. replicate k 0) whole
+
+pub gives_some : (g : Geometry) (n at : ℕ) (row : Option ℕ) (p : Page) (its : Record) (bytes lent : List ℕ) (size : ℕ) → row ≡ Some at → IsPageOf (Sector n) its p → lent ≡ p.body → (its.kind ≡ kind.Sector → bytes ≡ lent) → (its.kind ≢ kind.Sector → bytes ≡ replicate size 0) → size ≡ g.data_bytes → GivesSector g n row p bytes
+gives_some g n at row p its bytes lent size is checked is_lent written cleared whole =
+    let holds : bytes ≡ content_of_kind g its.kind p.body = by_kind g its.kind bytes p.body (λ k. written k ∙ is_lent) (λ k. cleared k ∙ ap (λ z. replicate z 0) whole) in
+    let given : GivesSector g n (Some at) p bytes = record { its = its; checked = checked; holds = holds } in
+    let P : Option ℕ → Type 0 = λ o. GivesSector g n o p bytes in
+    subst P (sym is) given
+
+-- what is told of a look-up, by what memory knows
+abbrev found_row : Option ℕ → Result (Option ℕ) WriteFault
+found_row row = Ok row
+
+pub finds_row : {A : Type 0} (r : Ram) (n : ℕ) (p : Page) (row : Option ℕ) → ForSome (known r.mapping n) (λ its. (found_row row ≡ found_row its) × A) → (known r.mapping n ≡ None → GivesRow r.geometry r.directory n p row) → FindsRow r n p row
+finds_row r n p row hit miss = record { hit = λ its is. (let e : found_row row ≡ found_row its = (hit its is).0 in cc); miss = miss }
 
 pub read_some : (g : Geometry) (image : Image) (n at : ℕ) (row : Option ℕ) (p : Page) (its : Record) (bytes lent : List ℕ) (size : ℕ) → row ≡ newest_row image (Sector n) → row ≡ Some at → slice_get image at ≡ Some p → IsPageOf (Sector n) its p → lent ≡ p.body → (its.kind ≡ kind.Sector → bytes ≡ lent) → (its.kind ≢ kind.Sector → bytes ≡ replicate size 0) → size ≡ g.data_bytes → IsRead n (Some at) bytes g image
 read_some g image n at row p its bytes lent size found is read checked is_lent written cleared whole =

@@ -1,5 +1,5 @@
 -- A fault that is noted after a collection changes nothing else that is known.
-use Rattle.std.proofs.Common.{◌⊎◌, inl, inr, ℕ, ◌≤◌, Bool, true, false, Option, None, Result, Ok, Err}
+use Rattle.std.proofs.Common.{◌⊎◌, inl, inr, ℕ, ◌≤◌, Bool, true, false, Option, Some, None, Result, Ok, Err}
 use Rattle.std.specs.Prelude.{MatchResult, IfErr, OnOk}
 use Rattle.page_layout.specs.Page.{Image}
 use Rattle.collection.specs.declared.fault.WriteFault.{WriteFault}
@@ -7,8 +7,15 @@ use Rattle.collection.specs.declared.fault.WriteFault.TheVariants.{ReadOnly, Seq
 use Rattle.allocation.specs.State.{free_count}
 use Rattle.collection.specs.State.{Ram}
 use Rattle.collection.specs.Results.{Refused, fault_after}
-use Rattle.collection.specs.Collect.{GoesBut, GoesOn, Refreshes, HasNoneWorth, HasRoom, CollectCosts, IsEmptied, IsRearranged, RoomRefused, RoomTells, RoomCounts, RescueCosts, IsRescued}
+use Rattle.collection.specs.Collect.{GoesBut, GoesOn, Refreshes, HasNoneWorth, HasRoom, CollectCosts, IsEmptied, IsRearranged, RoomRefused, RestsOrErases, RoomTells, RoomCounts, StreamRunsOut, StreamSpends, RescueCosts, IsRescued}
 use Rattle.collection.proofs.Gates.{true_noted, same_noted, refused_noted}
+
+module _ (fault : Option WriteFault) (b : Ram) where
+  out_noted : (a : Ram) → StreamRunsOut a b → StreamRunsOut a (record b { fault = fault })
+  out_noted a x = record { stream = x.stream; out = record { failures = x.out.failures; found = x.out.found; none = x.out.none; next = x.out.next; sequence = x.out.sequence } }
+
+  spent_noted : (a : Ram) → StreamSpends a b → StreamSpends a (record b { fault = fault })
+  spent_noted a x = record { stream = x.stream; spent = record { tried = record { failures = x.spent.tried.failures; tries = x.spent.tried.tries; next = x.spent.tried.next }; last = x.spent.last } }
 
 module _ (fault : Option WriteFault) where
   pub but_noted : (block : ℕ) (a b : Ram) → GoesBut block a b → GoesBut block a (record b { fault = fault })
@@ -22,8 +29,8 @@ module _ (fault : Option WriteFault) where
 
   pub cost_noted : (flushing : Bool) (a b : Ram) (result : Result (Unit {0}) WriteFault) → CollectCosts flushing a b result → CollectCosts flushing a (record b { fault = fault }) result
   cost_noted flushing a b (Ok u) x = record { mid = x.mid; ledger = x.ledger; failures = x.failures; erased = x.erased; next = x.next }
-  cost_noted flushing a b (Err ReadOnly) x = record { mid = x.mid; ledger = x.ledger; out = record { stream = x.out.stream; out = record { failures = x.out.out.failures; found = x.out.out.found; none = x.out.out.none; next = x.out.out.next; sequence = x.out.out.sequence } } }
-  cost_noted flushing a b (Err SequenceSpent) x = record { mid = x.mid; ledger = x.ledger; out = record { stream = x.out.stream; spent = record { tried = record { failures = x.out.spent.tried.failures; tries = x.out.spent.tried.tries; next = x.out.spent.tried.next }; last = x.out.spent.last } } }
+  cost_noted flushing a b (Err ReadOnly) x = record { mid = x.mid; ledger = x.ledger; out = out_noted fault b x.mid x.out }
+  cost_noted flushing a b (Err SequenceSpent) x = record { mid = x.mid; ledger = x.ledger; out = spent_noted fault b x.mid x.out }
   cost_noted flushing a b (Err Damaged) x = tt
   cost_noted flushing a b (Err Bus) x = tt
 
@@ -70,10 +77,14 @@ module _ (fault : Option WriteFault) where
   rescued_noted a b x y (Ok found) k = record { same = same_noted fault a b x y k.same; some = k.some; none = k.none; bad = k.bad }
   rescued_noted a b x y (Err f) k = refused_noted fault a b x y f k
 
+pub erases_noted : (a b : Ram) (before after : ℕ) (result : Result (Unit {0}) WriteFault) → OnOk result (RestsOrErases a b before after) → OnOk result (RestsOrErases a (record b { fault = fault_after b.fault result }) before after)
+erases_noted a b before after (Ok u) k = k
+erases_noted a b before after (Err f) k = tt
+
 pub rescue_cost_noted : (a b : Ram) (result : Result Bool WriteFault) → RescueCosts a b result → RescueCosts a (record b { fault = fault_after b.fault result }) result
 rescue_cost_noted a b (Ok false) k = k
-rescue_cost_noted a b (Ok true) k = (k.0, k.1, k.2, record { account = k.3.account; next = k.3.next })
-rescue_cost_noted a b (Err ReadOnly) k = k
-rescue_cost_noted a b (Err SequenceSpent) k = k
+rescue_cost_noted a b (Ok true) k = record { data_pages = k.data_pages; meta_pages = k.meta_pages; some = k.some; few = k.few; programmed = record { account = k.programmed.account; next = k.programmed.next } }
+rescue_cost_noted a b (Err ReadOnly) k = record { mid = k.mid; data_pages = k.data_pages; meta_pages = k.meta_pages; few = k.few; programmed = k.programmed; out = out_noted (Some ReadOnly) b k.mid k.out }
+rescue_cost_noted a b (Err SequenceSpent) k = record { mid = k.mid; data_pages = k.data_pages; meta_pages = k.meta_pages; few = k.few; programmed = k.programmed; spent = spent_noted (Some SequenceSpent) b k.mid k.spent }
 rescue_cost_noted a b (Err Damaged) k = tt
 rescue_cost_noted a b (Err Bus) k = tt

@@ -23,7 +23,7 @@ use Rattle.collection.specs.Looks.{IsReadFault}
 use Rattle.collection.specs.Results.{IsSame, Goes, Refused}
 use Rattle.collection.specs.Truth.{IsTrue}
 use Rattle.collection.specs.Live.{NotAt, HoldsNoneIn, FindsFirst, IsFirstLive, IsFoundIn, IsLivePage}
-use Rattle.collection.specs.Collect.{IsAiling, HasNoneAiling, IsFirstAiling, FindsAiling, IsMovedOut, HasCopied, HasProgrammed, FollowCosts, RescueCosts, IsRescued}
+use Rattle.collection.specs.Collect.{IsAiling, HasNoneAiling, IsFirstAiling, FindsAiling, IsMovedOut, HasCopied, HasProgrammed, StreamRunsOut, StreamSpends, FaultCosts, FollowCosts, RescueCosts, IsRescued}
 use Rattle.std.proofs.Math.Nat.{div-lt_iff_lt-mul}
 use Rattle.collection.proofs.Finds.{none_all}
 use Rattle.collection.proofs.Puts.{same_then}
@@ -144,16 +144,44 @@ none_rescued a b x x1 body live same still w finds is =
 
 -- ---- what it costs
 
+-- nothing was programmed so far
+none_programmed : (a : Ram) → IsRam a → HasProgrammed a a 0 0
+none_programmed a s = record { account = no_page a.geometry.pages (counts_of a.blocks) (fit a s); next = omega arith }
+
+-- one page was
+pub one_programmed : (a b c : Ram) → IsRam a → b ≡ a → (cost : HasCopied false b c) → HasProgrammed a c (0 + data_of cost.stream) (0 + meta_of cost.stream)
+one_programmed a b c s same cost =
+    let one : HasPut cost.stream a c = (let P : Ram → Type 0 = λ z. HasPut cost.stream z c in subst P same cost.put) in
+    programmed_more cost.stream a a c 0 0 refl (none_programmed a s) one
+
 pub rescued_cost : (a b c d : Ram) → IsRam a → b ≡ a → c.geometry ≡ b.geometry → HasCopied false b c → FollowCosts c d (Ok tt) → RescueCosts a d (Ok true)
 rescued_cost a b c d s same g cost follows =
-    let one : HasPut cost.stream a c = (let P : Ram → Type 0 = λ z. HasPut cost.stream z c in subst P same cost.put) in
-    let none : HasProgrammed a a 0 0 = record { account = no_page a.geometry.pages (counts_of a.blocks) (fit a s); next = omega arith } in
-    let p : HasProgrammed a c (0 + data_of cost.stream) (0 + meta_of cost.stream) = programmed_more cost.stream a a c 0 0 refl none one in
+    let p = one_programmed a b c s same cost in
     let P : Ram → Type 0 = λ z. HasProgrammed a z (0 + data_of cost.stream) (0 + meta_of cost.stream) in
     elim follows [
-      | inl stays ↦ (0 + data_of cost.stream, 0 + meta_of cost.stream, omega (arith, one_of cost.stream), subst P (sym stays) p)
-      | inr put ↦ (0 + data_of cost.stream + data_of Meta, 0 + meta_of cost.stream + meta_of Meta, omega (arith, one_of cost.stream, one_of Meta), programmed_more Meta a c d (0 + data_of cost.stream) (0 + meta_of cost.stream) (g ∙ ap (λ (z : Ram). z.geometry) same) p put)
+      | inl stays ↦ record { data_pages = 0 + data_of cost.stream; meta_pages = 0 + meta_of cost.stream; some = omega (arith, one_of cost.stream); few = omega (arith, one_of cost.stream); programmed = subst P (sym stays) p }
+      | inr put ↦ record {
+        data_pages = 0 + data_of cost.stream + data_of Meta;
+        meta_pages = 0 + meta_of cost.stream + meta_of Meta;
+        some = omega (arith, one_of cost.stream, one_of Meta);
+        few = omega (arith, one_of cost.stream, one_of Meta);
+        programmed = programmed_more Meta a c d (0 + data_of cost.stream) (0 + meta_of cost.stream) (g ∙ ap (λ (z : Ram). z.geometry) same) p put;
+      }
     ]
+
+-- the copy was refused
+pub uncopied_cost : (a b c : Ram) (fault : WriteFault) → IsRam a → b ≡ a → FaultCosts b c fault → RescueCosts a c (Err fault)
+uncopied_cost a b c ReadOnly s same out = record { mid = a; data_pages = 0; meta_pages = 0; few = omega arith; programmed = none_programmed a s; out = (let P : Ram → Type 0 = λ z. StreamRunsOut z c in subst P same out) }
+uncopied_cost a b c SequenceSpent s same spent = record { mid = a; data_pages = 0; meta_pages = 0; few = omega arith; programmed = none_programmed a s; spent = (let P : Ram → Type 0 = λ z. StreamSpends z c in subst P same spent) }
+uncopied_cost a b c Damaged s same k = tt
+uncopied_cost a b c Bus s same k = tt
+
+-- or the translation page
+pub unfollowed_cost : (a b c d : Ram) (fault : WriteFault) → IsRam a → b ≡ a → HasCopied false b c → FaultCosts c d fault → RescueCosts a d (Err fault)
+unfollowed_cost a b c d ReadOnly s same cost out = record { mid = c; data_pages = 0 + data_of cost.stream; meta_pages = 0 + meta_of cost.stream; few = omega (arith, one_of cost.stream); programmed = one_programmed a b c s same cost; out = out }
+unfollowed_cost a b c d SequenceSpent s same cost spent = record { mid = c; data_pages = 0 + data_of cost.stream; meta_pages = 0 + meta_of cost.stream; few = omega (arith, one_of cost.stream); programmed = one_programmed a b c s same cost; spent = spent }
+unfollowed_cost a b c d Damaged s same cost k = tt
+unfollowed_cost a b c d Bus s same cost k = tt
 
 pub unread_rescue : (a b : Ram) (fault : WriteFault) → IsReadFault fault → RescueCosts a b (Err fault)
 unread_rescue a b ReadOnly is = absurd is

@@ -1,11 +1,12 @@
 -- Collections one after another, until there is room.
-use Rattle.std.proofs.Common.{◌≡◌, ◌≢◌, ◌⊎◌, inl, inr, ℕ, ◌+◌, ◌/◌, ◌<◌, ◌≤◌, Bool, true, false, not, ◌||◌, List, [], ◌∷◌, count_by, Option, Some, None, Result, Ok, Err, MatchOption, refl, ap, sym, ◌∙◌, subst, arith}
+use Rattle.std.proofs.Common.{◌≡◌, ◌≢◌, ◌⊎◌, inl, inr, ℕ, ◌+◌, ◌/◌, ◌<◌, ◌≤◌, ◌^◌, Bool, true, false, not, ◌||◌, List, [], ◌∷◌, count_by, Option, Some, None, Result, Ok, Err, MatchOption, refl, ap, sym, ◌∙◌, subst, arith}
 use Rattle.std.proofs.lemmas.Bool.{cases_lt, eqb-true}
 use Rattle.std.specs.Prelude.{IfErr}
 use Rattle.page_layout.specs.declared.geometry.Geometry.{Geometry}
 use Rattle.page_layout.specs.declared.record.Key.{Key}
 use Rattle.page_layout.specs.Geometry.{need, vmax}
 use Rattle.page_layout.specs.Page.{Image}
+use Rattle.page_layout.specs.Counter.{counted}
 use Rattle.page_layout.specs.Array.{marks, array_of}
 use Rattle.page_layout.specs.Live.{live, keys, is_in_block}
 use Rattle.page_layout.specs.Newest.{newest}
@@ -26,7 +27,7 @@ use Rattle.collection.specs.Safe.{IsRam, is_shut}
 use Rattle.collection.specs.Pages.{newest_row}
 use Rattle.collection.specs.Truth.{IsTrue}
 use Rattle.collection.specs.Results.{IsSame, Leaves, Refused}
-use Rattle.collection.specs.Collect.{GoesOn, GoesBut, CollectCosts, CollectCounts, HasNoneWorth, RoomTells, IsRearranged, RoomRefused, HasRegained, RoomCounts}
+use Rattle.collection.specs.Collect.{GoesOn, GoesBut, RestsOrErases, CollectCosts, CollectCounts, HasNoneWorth, RoomTells, IsRearranged, RoomRefused, HasRegained, RoomCounts}
 use Rattle.collection.specs.Room.{IsMade, IsWorth, IsFundedOn}
 use Rattle.collection.proofs.Blocks.{left_then}
 use Rattle.collection.proofs.Copies.{exact_at}
@@ -50,6 +51,18 @@ bad_not_closed s k block bad closed same = (let g : is_good_at s.table k ≡ tru
 
 pub on_same : (r : Ram) → GoesOn r r
 on_same r = record { geometry = refl; next = omega arith; bad = λ b lt bad. record { row = refl; pointer = refl; closed = refl } }
+
+-- one more block is erased
+pub erased_more : (a b c : Ram) (before now after : ℕ) → RestsOrErases a b before now → after ≡ counted now → RestsOrErases a c before after
+erased_more a b c before now after (inl still) is = inr (elim (cases_lt (before + 1) (2 ^ 64)) [
+  | inl small ↦ inl (omega (arith, still.1, is))
+  | inr top ↦ inr (omega (arith, still.1, is))
+])
+erased_more a b c before now after (inr (inl rose)) is = inr (elim (cases_lt (now + 1) (2 ^ 64)) [
+  | inl small ↦ inl (omega (arith, is))
+  | inr top ↦ inr (omega (arith, is))
+])
+erased_more a b c before now after (inr (inr top)) is = inr (inr (omega (arith, top, is)))
 
 pub still_bad : (a b : State) (k : ℕ) → IsLeftButLive a b k → is_good_at a.table k ≡ false → is_good_at b.table k ≡ false
 still_bad a b k l bad = ap is_good l.row ∙ bad
@@ -85,14 +98,14 @@ in_by pages k (Some row) is = (row, refl, eqb-true (row / pages) k is)
 pub shut_fewer : (r r' : Ram) (x y : Image) (k : ℕ) → IsRam r → IsRam r' → r'.geometry ≡ r.geometry → IsTrue None r x → IsTrue None r' y → Leaves r x y → k < r.geometry.blocks → is_shut r.blocks k ≡ true → live_at r'.blocks k ≤ live_at r.blocks k
 shut_fewer r r' x y k s s' same w w' l lt shut =
     let fewer : live r.geometry (marks y) k ≤ live r.geometry (marks x) k = live_fewer r.geometry x y k (λ key is.
-        let at = in_by r.geometry.pages k (newest_row y key) is in
-        elim (l.each key) [
-          | inl stayed ↦ ap (is_in_block r.geometry.pages k) (sym stayed) ∙ is
-          | inr out ↦
-              let unshut : is_shut r.blocks k ≡ false = ap (is_shut r.blocks) (sym at.2) ∙ out at.0 at.1 in
-              let no : true ≡ false = sym shut ∙ unshut in
-              let never : ⊥ = cc in absurd never
-        ]) in
+    let at = in_by r.geometry.pages k (newest_row y key) is in
+    elim (l.each key) [
+      | inl stayed ↦ ap (is_in_block r.geometry.pages k) (sym stayed) ∙ is
+      | inr out ↦
+          let unshut : is_shut r.blocks k ≡ false = ap (is_shut r.blocks) (sym at.2) ∙ out at.0 at.1 in
+          let no : true ≡ false = sym shut ∙ unshut in
+          let never : ⊥ = cc in absurd never
+    ]) in
     let before = exact_at r x k s w lt in
     let after : live_at r'.blocks k ≡ live r.geometry (marks y) k = (let P : Geometry → Type 0 = λ g. (k < g.blocks → live_at r'.blocks k ≡ live g (marks y) k) in subst P same (exact_at r' y k s' w') lt) in
     omega (arith, before, after, fewer)
@@ -150,13 +163,13 @@ refused_room failures a b c Bus s same f k = tt
 
 -- with fewer than nine free blocks, and none worth collecting, fewer than `need` are good
 pub short_or_nine : (r : Ram) (x : Image) → IsTrue None r x → IsMade r → ((counts_of r.blocks).good < need r.geometry) ⊎ (9 ≤ (counts_of r.blocks).free)
-short_or_nine r x w room = elim (cases_lt (counts_of r.blocks).good (need r.geometry)) [ | inl few ↦ inl few | inr many ↦ inr (room.nine (marks x) w.live many) ]
+short_or_nine r x w room = elim (cases_lt (counts_of r.blocks).good (need r.geometry)) [ inl few ↦ inl few | inr many ↦ inr (room.nine (marks x) w.live many) ]
 
 pub regained : (failures : ℕ) (a b : Ram) (y : Image) → IsTrue None b y → b.geometry ≡ a.geometry → IsMade b → IsFundedOn failures a b → HasRegained failures a b
 regained failures a b y w same room f = record { its_failures = f.its_failures; good = f.good; funded = f.funded; nine = (let n = short_or_nine b y w room in rw (← same) n) }
 
 pub too_few : (failures : ℕ) (a b : Ram) (y : Image) → IsTrue None b y → b.geometry ≡ a.geometry → IsMade b → free_count b.blocks < 5 → RoomCounts failures a b (Err ReadOnly)
-too_few failures a b y w same room few = elim (short_or_nine b y w room) [ | inl short ↦ inl (rw (← same) short) | inr nine ↦ absurd (omega arith) ]
+too_few failures a b y w same room few = elim (short_or_nine b y w room) [ inl short ↦ inl (rw (← same) short) | inr nine ↦ absurd (omega arith) ]
 
 pub made_none : (r : Ram) (o : Option ℕ) → MatchOption o (IsMade r) (IsWorth r) → o ≡ None → IsMade r
 made_none r o m is = (let P : Option ℕ → Type 0 = λ x. MatchOption x (IsMade r) (IsWorth r) in subst P is m)

@@ -3,6 +3,7 @@ use Rattle.std.specs.Prelude.{◌≡◌, ◌≢◌, ◌⊎◌, ℕ, ◌+◌, ◌
 use Rattle.std.specs.List.{range_with_len}
 use Rattle.std.specs.Map.{keys_of}
 use Rattle.page_layout.specs.Page.{Image}
+use Rattle.page_layout.specs.Counter.{HasRisen}
 use Rattle.page_layout.specs.declared.geometry.Geometry.{Geometry}
 use Rattle.page_layout.specs.declared.record.Key.{Key}
 use Rattle.page_layout.specs.declared.record.Record.{Record}
@@ -248,6 +249,10 @@ pub record HasRoom (r : Ram) : Type 0 where
   pub five : 5 ≤ free_count r.blocks
   pub nine : (9 ≤ free_count r.blocks) ⊎ HasNoneWorth r
 
+-- nothing was done for it, or a block was erased
+abbrev pub RestsOrErases : (old new : Ram) (erases_before erases_after : ℕ) → Type 0
+RestsOrErases old new erases_before erases_after = ((new ≡ old) × (erases_after ≡ erases_before)) ⊎ HasRisen erases_before erases_after
+
 -- why there is none, whatever the die does
 abbrev pub RoomTells : Ram → WriteFault → Type 0
 RoomTells new ReadOnly = free_count new.blocks < 5
@@ -321,12 +326,38 @@ abbrev pub FollowCosts : Ram → Ram → Result (Unit {0}) WriteFault → Type 0
 FollowCosts old new (Ok done) = (new ≡ old) ⊎ HasPut Meta old new
 FollowCosts old new (Err fault) = FaultCosts old new fault
 
--- what it costs, whatever the die does: nothing, or at most two pages, and those that failed
+-- one page, or none, was programmed, and the next one found no block
+pub record RescueRunsOut (old new : Ram) : Type 0 where
+  pub mid : Ram
+  pub data_pages : ℕ
+  pub meta_pages : ℕ
+  pub few : data_pages + meta_pages ≤ 1
+  pub programmed : HasProgrammed old mid data_pages meta_pages
+  pub out : StreamRunsOut mid new
+
+-- or no sequence
+pub record RescueSpends (old new : Ram) : Type 0 where
+  pub mid : Ram
+  pub data_pages : ℕ
+  pub meta_pages : ℕ
+  pub few : data_pages + meta_pages ≤ 1
+  pub programmed : HasProgrammed old mid data_pages meta_pages
+  pub spent : StreamSpends mid new
+
+-- one page was programmed or two, and those that failed
+pub record HasRescuedPage (old new : Ram) : Type 0 where
+  pub data_pages : ℕ
+  pub meta_pages : ℕ
+  pub some : 1 ≤ data_pages + meta_pages
+  pub few : data_pages + meta_pages ≤ 2
+  pub programmed : HasProgrammed old new data_pages meta_pages
+
+-- what it costs, whatever the die does: nothing where there was none, else a page or two
 abbrev pub RescueCosts : Ram → Ram → Result Bool WriteFault → Type 0
 RescueCosts old new (Ok false) = new ≡ old
-RescueCosts old new (Ok true) = (data_pages : ℕ) × (meta_pages : ℕ) × (data_pages + meta_pages ≤ 2) × HasProgrammed old new data_pages meta_pages
-RescueCosts old new (Err ReadOnly) = free_count new.blocks ≡ 0
-RescueCosts old new (Err SequenceSpent) = new.next ≡ 2 ^ 64 - 1
+RescueCosts old new (Ok true) = HasRescuedPage old new
+RescueCosts old new (Err ReadOnly) = RescueRunsOut old new
+RescueCosts old new (Err SequenceSpent) = RescueSpends old new
 RescueCosts old new (Err Damaged) = Unit {0}
 RescueCosts old new (Err Bus) = Unit {0}
 

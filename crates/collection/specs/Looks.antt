@@ -3,18 +3,18 @@ use Rattle.std.specs.Prelude.{◌≡◌, ◌⊎◌, ℕ, ◌+◌, ◌*◌, ◌/�
 use Rattle.page_layout.specs.declared.geometry.Geometry.{Geometry}
 use Rattle.page_layout.specs.declared.record.Key.{Key}
 use Rattle.page_layout.specs.declared.record.Key.TheVariants.{Sector, Translation}
-use Rattle.page_layout.specs.declared.record.Kind.TheVariants as kind
 use Rattle.page_layout.specs.declared.record.Record.{Record}
 use Rattle.page_layout.specs.Page.{Image, Page}
 use Rattle.page_layout.specs.Sound.{record_of}
 use Rattle.page_layout.specs.Key.{key_of}
-use Rattle.page_layout.specs.Array.{zeros, sector_of}
+use Rattle.page_layout.specs.Array.{zeros, content_of_kind, sector_of}
 use Rattle.page_layout.specs.Geometry.{entries}
-use Rattle.mapping_cache.specs.Mapping.{MappingState, pending}
+use Rattle.mapping_cache.specs.Mapping.{MappingState, known, pending}
 use Rattle.translation_pages.specs.TranslationPage.{entry_at}
 use Rattle.collection.specs.declared.fault.WriteFault.{WriteFault}
 use Rattle.collection.specs.declared.fault.WriteFault.TheVariants.{ReadOnly, SequenceSpent, Damaged, Bus}
 use Rattle.translation_pages.specs.Entry.{entry_of}
+use Rattle.collection.specs.State.{Ram}
 use Rattle.collection.specs.Pages.{newest_row}
 
 -- translation page t as it stands on the die
@@ -45,6 +45,11 @@ pub record HoldsEntry (g : Geometry) (n : ℕ) (p : Page) (row : Option ℕ) : T
 abbrev pub GivesRow : Geometry → List (Option ℕ) → ℕ → Page → Option ℕ → Type 0
 GivesRow g directory n p row = ((slice_get directory (n / entries g) ≡ Some None) × (row ≡ None)) ⊎ HoldsEntry g n p row
 
+-- WHAT A LOOK-UP FINDS: the row that memory knows, and else the one that the directory or this page gives
+pub record FindsRow (r : Ram) (n : ℕ) (p : Page) (row : Option ℕ) : Type 0 where
+  pub hit : (its : Option ℕ) → known r.mapping n ≡ Some its → row ≡ its
+  pub miss : known r.mapping n ≡ None → GivesRow r.geometry r.directory n p row
+
 -- what a write-back changes: a sound page of translation page t where there is one in this row, else a page of FFh
 abbrev pub StartsFrom : ℕ → Option ℕ → Page → Type 0
 StartsFrom t None p = p.body ≡ replicate (length p.body) 255
@@ -61,17 +66,16 @@ pub record IsRead (n : ℕ) (row : Option ℕ) (bytes : List ℕ) (g : Geometry)
   pub found : row ≡ newest_row image (Sector n)
   pub sector : bytes ≡ sector_of g image n
 
--- the page holds the bytes of a sector: it is sound, of the sector, and no trim
-pub record HoldsSector (n : ℕ) (p : Page) (bytes : List ℕ) : Type 0 where
+-- the page is sound and of the sector, and the bytes are its data area, or zeros where it is a trim
+pub record HoldsSector (g : Geometry) (n : ℕ) (p : Page) (bytes : List ℕ) : Type 0 where
   pub its : Record
-  pub sound : record_of p ≡ Some its
-  pub of_sector : key_of its ≡ Sector n
-  pub no_trim : its.kind ≡ kind.Sector
-  pub holds : bytes ≡ p.body
+  pub checked : IsPageOf (Sector n) its p
+  pub holds : bytes ≡ content_of_kind g its.kind p.body
 
--- the bytes are zeros, or the page holds them
-abbrev pub GivesSector : Geometry → ℕ → Page → List ℕ → Type 0
-GivesSector g n p bytes = (bytes ≡ zeros g) ⊎ HoldsSector n p bytes
+-- WHAT A READ GIVES: zeros where the look-up found no row, and else what a page of the sector holds
+abbrev pub GivesSector : Geometry → ℕ → Option ℕ → Page → List ℕ → Type 0
+GivesSector g n None p bytes = bytes ≡ zeros g
+GivesSector g n (Some row) p bytes = HoldsSector g n p bytes
 
 -- the faults of a read: it programs nothing, so there is always room and a sequence for it
 abbrev pub IsReadFault : WriteFault → Type 0

@@ -1,6 +1,7 @@
 -- A collection while it is under way.
 use Rattle.std.specs.Prelude.{◌≡◌, ◌⊎◌, ℕ, ◌+◌, ◌-◌, ◌*◌, ◌<◌, ◌≤◌, ◌^◌, min, Bool, Option, Some, None}
 use Rattle.page_layout.specs.Page.{Image}
+use Rattle.page_layout.specs.Counter.{counted}
 use Rattle.allocation.specs.State.{live_at}
 use Rattle.allocation.specs.Counts.{counts_of}
 use Rattle.collection.specs.declared.engine.step.Step.{Step}
@@ -21,6 +22,12 @@ abbrev pub step_within : ℕ → Step → Type 0
 step_within pages (Copied page) = page < pages
 step_within pages WroteBack = Unit {0}
 step_within pages Erased = Unit {0}
+
+-- the count of erases after a step
+abbrev pub erases_after : Step → ℕ → ℕ
+erases_after (Copied page) erases = erases
+erases_after WroteBack erases = erases
+erases_after Erased erases = counted erases
 
 -- the good blocks that are neither free nor open, and as many more as the die has blocks, and two
 abbrev pub busy_of : Ram → ℕ

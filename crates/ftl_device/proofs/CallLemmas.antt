@@ -11,6 +11,7 @@ use Rattle.collection.specs.declared.fault.WriteFault.TheVariants as engine_faul
 use Rattle.collection.specs.State.{Ram}
 use Rattle.collection.specs.Safe.{IsRam, ram, image_in}
 use Rattle.collection.specs.Truth.{IsTrue}
+use Rattle.collection.specs.Log.{Went}
 use Rattle.ftl_device.specs.declared.device.Device.{Device}
 use Rattle.ftl_device.specs.declared.fault.CallFault.{CallFault}
 use Rattle.ftl_device.specs.declared.fault.CallFault.TheVariants as call
@@ -68,3 +69,9 @@ pub recent_after : {N : Type 0} (e last : Engine N) (n : ℕ) (answer : Result (
 recent_after {N} e last n answer result good same is first =
     let here : OnOk answer (IsMostRecent n last.mapping) = subst (λ (x : Engine N). OnOk answer (IsMostRecent n x.mapping)) (sym same) first in
     subst (λ r. OnOk r (IsMostRecent n last.mapping)) (sym is) (done_too (IsMostRecent n last.mapping) answer good (ram last) here)
+
+-- and the log of a call is the engine's
+pub went_after : {N : Type 0} (flash : N → Flash) (old e last : Engine N) (answer : Result (Unit {0}) CallFault) (result : Result (Unit {0}) DeviceFault) (good : ℕ) → last ≡ e → result ≡ answer_of (ram last) good answer → (answer ≢ Err (call.Engine engine_fault.Bus) → Went (ram old) (flash old.nand) (ram e) (flash e.nand)) → result ≢ Err BusFault → Went (ram old) (flash old.nand) (ram last) (flash last.nand)
+went_after {N} flash old e last answer result good same is w ne =
+    let P : Engine N → Type 0 = λ x. Went (ram old) (flash old.nand) (ram x) (flash x.nand) in
+    subst P (sym same) (w (λ bus. ne (is ∙ ap (answer_of (ram last) good) bus)))

@@ -1,5 +1,5 @@
 -- What a call that is done programs, which sectors it leaves cached, and what the first checks answer.
-use Rattle.std.proofs.Common.{◌≡◌, ℕ, ◌+◌, ◌-◌, ◌<◌, ◌∙◌, true, false, Bool, eqb, List, [], ◌∷◌, take, Option, Some, None, IsSome, Result, Ok, Err, OnOk, refl, sym, ap, subst, arith}
+use Rattle.std.proofs.Common.{◌≡◌, ℕ, ◌+◌, ◌-◌, ◌<◌, ◌≤◌, ◌∙◌, true, false, Bool, eqb, List, [], ◌∷◌, take, Option, Some, None, IsSome, Result, Ok, Err, OnOk, refl, sym, ap, subst, arith}
 use Rattle.std.specs.Option.{option_map, option_map_or}
 use Rattle.std.specs.Map.{keys_of, lookup_entry, remove_entry}
 use Rattle.std.proofs.lemmas.Bool.{cond-true, cond-false}
@@ -16,13 +16,15 @@ use Rattle.mapping_cache.specs.Mapping.{MappingState, CanLoad, slot_of, used, lo
 use Rattle.mapping_cache.proofs.Entries.{by_test}
 use Rattle.collection.specs.declared.engine.Engine.{Engine}
 use Rattle.collection.specs.declared.fault.WriteFault.{WriteFault}
+use Rattle.collection.specs.declared.fault.WriteFault.TheVariants as engine_fault
 use Rattle.collection.specs.State.{Ram}
 use Rattle.collection.specs.Safe.{ram}
-use Rattle.collection.specs.Cost.{HasPut, WriteBackCosts}
+use Rattle.collection.specs.Cost.{HasPut, PageCosts, WriteBackCosts}
 use Rattle.ftl_device.specs.declared.fault.CallFault.{CallFault}
+use Rattle.ftl_device.specs.declared.fault.CallFault.TheVariants as call
 use Rattle.ftl_device.specs.declared.fault.DeviceFault.{DeviceFault}
 use Rattle.ftl_device.specs.declared.fault.DeviceFault.TheVariants.{OutOfRange, ReadOnly, SequenceSpent, OutOfMemory, Damaged, BusFault}
-use Rattle.ftl_device.specs.Calls.{stop_of, MayNot, IsBeyond, answer_of, HasMadeRoom, HasMadePlace, IsReady, HasPutSector, HasCost, order_after}
+use Rattle.ftl_device.specs.Calls.{stop_of, CallTells, MayNot, IsBeyond, answer_of, HasMadeRoom, HasMadePlace, IsReady, HasPutSector, HasCost, order_after}
 use Rattle.ftl_device.proofs.ReadyLemmas.{same_slots}
 use Rattle.ftl_device.proofs.CallLemmas.{done_too}
 
@@ -139,6 +141,13 @@ put_of n old mid new p page = record {
 
 pub cost_of : (n : ℕ) (old mid new : Ram) → IsReady n old mid → HasPut Data mid new → HasCost n old new
 cost_of n old mid new p page = record { mid = p.mid; room = p.room; put = put_of n p.mid mid new p.place page }
+
+-- what the engine's memory tells of a page that was refused
+pub page_tells : (fault : WriteFault) (a b c : Ram) → good_count b.blocks.table ≤ good_count a.blocks.table → PageCosts Data b c (Err fault) → CallTells {A = Unit {0}} a c (Err (call.Engine fault))
+page_tells engine_fault.ReadOnly a b c fewer h = (omega (arith, h.none.none_free), omega (arith, h.found.good))
+page_tells engine_fault.SequenceSpent a b c fewer h = h.last
+page_tells engine_fault.Damaged a b c fewer h = tt
+page_tells engine_fault.Bus a b c fewer h = tt
 
 -- ---- what the device answers
 

@@ -1,5 +1,5 @@
 -- What the steps of a flush keep, one after another.
-use Rattle.std.proofs.Common.{◌≡◌, inl, inr, ℕ, ◌+◌, ◌*◌, ◌/◌, ◌<◌, ◌≤◌, None, refl, sym, ap, subst, ◌∙◌, arith, Result, Err, Ok, Option, Some}
+use Rattle.std.proofs.Common.{◌≡◌, inl, inr, ℕ, ◌+◌, ◌*◌, ◌/◌, ◌<◌, ◌≤◌, None, refl, sym, ap, subst, ◌∙◌, arith, Result, Err, Ok, OnOk, Option, Some}
 use Rattle.std.proofs.lemmas.Bool.{cases_eq}
 use Rattle.page_layout.specs.declared.geometry.Geometry.{Geometry}
 use Rattle.page_layout.specs.Page.{Image}
@@ -14,7 +14,8 @@ use Rattle.std.proofs.Math.Nat.{mul-le-mul_right, mul_comm}
 use Rattle.page_layout.proofs.GeometryLemmas.{table_fits, sector_entry}
 use Rattle.allocation.proofs.TallyLemmas.{fits}
 use Rattle.budget.specs.declared.stream.Stream.TheVariants.{Meta}
-use Rattle.mapping_cache.specs.Mapping.{MappingState, HasLimitsOf, pending}
+use Rattle.mapping_cache.specs.Mapping.{MappingState, HasLimitsOf, per_page, pending}
+use Rattle.collection.specs.Settle.{Cleans}
 use Rattle.allocation.specs.State.{free_count}
 use Rattle.allocation.specs.Counts.{counts_of}
 use Rattle.collection.specs.declared.fault.WriteFault.{WriteFault}
@@ -98,6 +99,15 @@ clean_more k g h a b same within before keeps now t lt = elim (cases_eq t k) [
   | inr other ↦ subst (λ x. IsClean x t b) same (keeps.still t (let e : translation_pages h ≡ translation_pages g = ap translation_pages same in omega arith) (subst (λ x. IsClean x t a) (sym same) (before t (omega arith))))
 ]
 
+-- room is made, and then a page is written back
+pub keeps_cleaned : (result : Result (Unit {0}) WriteFault) (g : Geometry) (a b c : MappingState) (t : ℕ) → KeepsClean g a b → OnOk result (Cleans (per_page b) t b c) → OnOk result (KeepsClean g a c)
+keeps_cleaned (Ok done) g a b c t k x = record {
+  still = λ p within was. record {
+    none = λ n of_page. elim (cases_eq (n / per_page b) t) [ inl here ↦ x.clean n here | inr other ↦ x.others n other ∙ (k.still p within was).none n of_page ];
+  };
+}
+keeps_cleaned (Err fault) g a b c t k x = tt
+
 -- ---- rounds of table pages
 
 -- so many rounds were written, of which each but the last saw a failure; so many blocks were good as the last began
@@ -161,7 +171,7 @@ fails_by b c Bus h e = (let no : ⊥ = cc in absurd no)
 pub page_fails : (k most : ℕ) (a b c : Ram) (fault : WriteFault) → b.geometry ≡ a.geometry → k < most → KeepsTable a.blocks b.blocks → AddsPages k a b → PageCosts Meta b c (Err fault) → refused fault ≡ refused ReadOnly → FailsAmong most a c
 page_fails k most a b c fault same lt table used cost is = record { mid = b; geometry = same; pages = k; few = omega arith; fewer = table.fewer; used = used; out = fails_by b c fault cost is }
 
-free_most : (failures free left : ℕ) → NoneFree failures free left → free ≤ failures
+pub free_most : (failures free left : ℕ) → NoneFree failures free left → free ≤ failures
 free_most failures free left n = elim n.cases [ inl c ↦ omega (arith, c.1) | inr c ↦ omega (arith, c.1) ]
 
 -- in the first round

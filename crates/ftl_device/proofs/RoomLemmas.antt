@@ -19,11 +19,11 @@ use Rattle.collection.specs.Safe.{IsRam, IsIdle, is_shut, ram}
 use Rattle.collection.specs.Truth.{IsTrue}
 use Rattle.collection.specs.Settle.{HasNoMore}
 use Rattle.collection.specs.Results.{Goes, IsSame, Refused, fault_after}
-use Rattle.collection.specs.Collect.{GoesOn, KeepsKeys, Refreshes, IsFresh, IsUpToDate, HasRoom, RoomTells, IsRearranged, RoomRefused, IsAiling, HasAiling, HasNoneAiling, RescueCosts, IsRescued}
+use Rattle.collection.specs.Collect.{GoesOn, KeepsKeys, Refreshes, IsFresh, IsUpToDate, HasRoom, RoomTells, RestsOrErases, IsRearranged, RoomRefused, IsAiling, HasAiling, HasNoneAiling, RescueCosts, IsRescued}
 use Rattle.ftl_device.specs.declared.fault.CallFault.{CallFault}
 use Rattle.ftl_device.specs.declared.fault.CallFault.TheVariants as call
 use Rattle.ftl_device.specs.declared.fault.CallFault.TheVariants.{Engine as EngineFault}
-use Rattle.ftl_device.specs.Calls.{Tells, CallTells, KeepsArray, CallRefused, HasMadeRoom, HasRescued, HasRested, standing_after}
+use Rattle.ftl_device.specs.Calls.{Tells, CallTells, KeepsArray, CallRefused, HasMadeRoom, HasRescued, HasRested, HasWorked, standing_after}
 use Rattle.ftl_device.specs.Flush.{IsClean, KeepsClean}
 use Rattle.ftl_device.proofs.ReadLemmas.{loaded_moves_none}
 
@@ -56,8 +56,8 @@ good_fewer a b s t goes =
     let g : b.blocks.geometry ≡ a.blocks.geometry = t.blocks_of ∙ (goes.geometry ∙ sym s.blocks_of) in
     let size : length b.blocks.table ≡ length a.blocks.table = t.blocks.table_whole ∙ (ap (λ (x : Geometry). x.blocks) g ∙ sym s.blocks.table_whole) in
     fewer_rows a.blocks.table b.blocks.table size (λ k lt bad.
-      let within : k < a.geometry.blocks = (let e : a.blocks.geometry.blocks ≡ a.geometry.blocks = ap (λ (x : Geometry). x.blocks) s.blocks_of in omega (arith, s.blocks.table_whole)) in
-      ap is_good (goes.bad k within bad).row ∙ bad)
+    let within : k < a.geometry.blocks = (let e : a.blocks.geometry.blocks ≡ a.geometry.blocks = ap (λ (x : Geometry). x.blocks) s.blocks_of in omega (arith, s.blocks.table_whole)) in
+    ap is_good (goes.bad k within bad).row ∙ bad)
 
 -- ---- room was made
 
@@ -210,8 +210,8 @@ call_tells Damaged a b h = tt
 call_tells Bus a b h = tt
 
 pub rescue_tells : (fault : WriteFault) (a b c : Ram) → IsRam b → IsRam c → Goes b c → good_count b.blocks.table ≤ good_count a.blocks.table → RescueCosts b c (Err fault) → CallTells {A = Unit {0}} a c (Err (EngineFault fault))
-rescue_tells ReadOnly a b c t u goes fewer h = (omega arith, omega (arith, good_fewer b c t u (goes_on b c t goes)))
-rescue_tells SequenceSpent a b c t u goes fewer h = h
+rescue_tells ReadOnly a b c t u goes fewer h = (omega (arith, h.out.out.none.none_free), omega (arith, good_fewer b c t u (goes_on b c t goes)))
+rescue_tells SequenceSpent a b c t u goes fewer h = h.spent.spent.last
 rescue_tells Damaged a b c t u goes fewer h = tt
 rescue_tells Bus a b c t u goes fewer h = tt
 
@@ -229,3 +229,17 @@ rescue_fewer a b c t u goes fewer = omega (arith, good_fewer b c t u (goes_on b 
 
 pub never_rested : (a b : Ram) → HasAiling a.blocks → HasRested a b
 never_rested a b some = λ none. (let z : live_at a.blocks some.0 ≡ 0 = none some.0 some.1.within some.1.bad in absurd (omega (arith, some.1.some)))
+
+pub not_ailing : (s : State) → HasNoneAiling s → HasAiling s → ⊥
+not_ailing s none some = (let zero : live_at s some.0 ≡ 0 = none some.0 some.1.within some.1.bad in omega (arith, some.1.some))
+
+-- where some bad block had a newest page as room was made
+pub rescue_worked : (a b c : Ram) (y z : Image) (found : Bool) (before now after : ℕ) → IsRam b → IsRam c → HasAiling a.blocks → RestsOrErases a b before now → after ≡ now → Goes b c → RescueCosts b c (Ok found) → IsRescued b y c z found → HasWorked a c before after
+rescue_worked a b c y z found before now after t u some (inr rose) same goes cost d = (let P : ℕ → Type 0 = λ n. HasWorked a c before n in subst P (sym same) (inr rose))
+rescue_worked a b c y z true before now after t u some (inl still) same goes cost d =
+    let fewer : good_count c.blocks.table ≤ good_count b.blocks.table = good_fewer b c t u (goes_on b c t goes) in
+    let from : b.next ≡ a.next = ap (λ (r : Ram). r.next) still.0 in
+    inl (omega (arith, cost.programmed.next, cost.some))
+rescue_worked a b c y z false before now after t u some (inl still) same goes cost d =
+    let ailing : HasAiling b.blocks = (let P : Ram → Type 0 = λ r. HasAiling r.blocks in subst P (sym still.0) some) in
+    absurd (not_ailing b.blocks (d.none refl) ailing)

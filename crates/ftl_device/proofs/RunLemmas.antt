@@ -3,7 +3,7 @@ use Rattle.std.proofs.Common.{◌≡◌, ◌≢◌, ℕ, ◌+◌, ◌<◌, Bool,
 use Rattle.std.specs.Prelude.{IfErr}
 use Rattle.std.proofs.lemmas.List.{map-append, append-nil}
 use Rattle.page_layout.specs.declared.geometry.Geometry.{Geometry}
-use Rattle.page_layout.specs.Page.{Image}
+use Rattle.page_layout.specs.Page.{Image, Page}
 use Rattle.page_layout.specs.Flash.{Flash, Operation}
 use Rattle.page_layout.specs.Array.{array_of}
 use Rattle.bad_blocks.specs.Table.{wear_at}
@@ -35,23 +35,23 @@ use Rattle.ftl_device.proofs.CallLemmas.{mountable_after}
 -- ---- one call
 
 -- a read leaves all but the mapping as it was
-leaves_mapping : (n : ℕ) (result : Result (Unit {0}) DeviceFault) (old new : Ram) → LeavesRead n result old new → result ≢ Err BusFault → new ≡ record old { mapping = new.mapping }
-leaves_mapping n (Ok done) old new leaves ne = leaves.others
-leaves_mapping n (Err OutOfRange) old new leaves ne = subst (λ (x : Ram). new ≡ record old { mapping = x.mapping }) (sym leaves) leaves
-leaves_mapping n (Err (ReadOnly good wanted failed)) old new leaves ne = subst (λ (x : Ram). new ≡ record old { mapping = x.mapping }) (sym leaves) leaves
-leaves_mapping n (Err SequenceSpent) old new leaves ne = subst (λ (x : Ram). new ≡ record old { mapping = x.mapping }) (sym leaves) leaves
-leaves_mapping n (Err OutOfMemory) old new leaves ne = subst (λ (x : Ram). new ≡ record old { mapping = x.mapping }) (sym leaves) leaves
-leaves_mapping n (Err Damaged) old new leaves ne = subst (λ (x : Ram). new ≡ record old { mapping = x.mapping }) (sym leaves) leaves
-leaves_mapping n (Err BusFault) old new leaves ne = absurd (ne refl)
+leaves_mapping : (n : ℕ) (result : Result (Unit {0}) DeviceFault) (old new : Ram) (p q : Page) (bytes : List ℕ) → LeavesRead n result old new p q bytes → result ≢ Err BusFault → new ≡ record old { mapping = new.mapping }
+leaves_mapping n (Ok done) old new p q bytes leaves ne = leaves.others
+leaves_mapping n (Err OutOfRange) old new p q bytes leaves ne = subst (λ (x : Ram). new ≡ record old { mapping = x.mapping }) (sym leaves) leaves
+leaves_mapping n (Err (ReadOnly good wanted failed)) old new p q bytes leaves ne = subst (λ (x : Ram). new ≡ record old { mapping = x.mapping }) (sym leaves) leaves
+leaves_mapping n (Err SequenceSpent) old new p q bytes leaves ne = subst (λ (x : Ram). new ≡ record old { mapping = x.mapping }) (sym leaves) leaves
+leaves_mapping n (Err OutOfMemory) old new p q bytes leaves ne = subst (λ (x : Ram). new ≡ record old { mapping = x.mapping }) (sym leaves) leaves
+leaves_mapping n (Err Damaged) old new p q bytes leaves ne = subst (λ (x : Ram). new ≡ record old { mapping = x.mapping }) (sym leaves) leaves
+leaves_mapping n (Err BusFault) old new p q bytes leaves ne = absurd (ne refl)
 
-pub read_geometry : (n : ℕ) (result : Result (Unit {0}) DeviceFault) (old new : Ram) → LeavesRead n result old new → new.geometry ≡ old.geometry
-read_geometry n (Ok done) old new leaves = ap (λ (x : Ram). x.geometry) leaves.others
-read_geometry n (Err OutOfRange) old new leaves = ap (λ (x : Ram). x.geometry) leaves
-read_geometry n (Err (ReadOnly good wanted failed)) old new leaves = ap (λ (x : Ram). x.geometry) leaves
-read_geometry n (Err SequenceSpent) old new leaves = ap (λ (x : Ram). x.geometry) leaves
-read_geometry n (Err OutOfMemory) old new leaves = ap (λ (x : Ram). x.geometry) leaves
-read_geometry n (Err Damaged) old new leaves = ap (λ (x : Ram). x.geometry) leaves
-read_geometry n (Err BusFault) old new leaves = ap (λ (x : Ram). x.geometry) leaves
+pub read_geometry : (n : ℕ) (result : Result (Unit {0}) DeviceFault) (old new : Ram) (p q : Page) (bytes : List ℕ) → LeavesRead n result old new p q bytes → new.geometry ≡ old.geometry
+read_geometry n (Ok done) old new p q bytes leaves = ap (λ (x : Ram). x.geometry) leaves.others
+read_geometry n (Err OutOfRange) old new p q bytes leaves = ap (λ (x : Ram). x.geometry) leaves
+read_geometry n (Err (ReadOnly good wanted failed)) old new p q bytes leaves = ap (λ (x : Ram). x.geometry) leaves
+read_geometry n (Err SequenceSpent) old new p q bytes leaves = ap (λ (x : Ram). x.geometry) leaves
+read_geometry n (Err OutOfMemory) old new p q bytes leaves = ap (λ (x : Ram). x.geometry) leaves
+read_geometry n (Err Damaged) old new p q bytes leaves = ap (λ (x : Ram). x.geometry) leaves
+read_geometry n (Err BusFault) old new p q bytes leaves = ap (λ (x : Ram). x.geometry) leaves
 
 -- no operation was asked for
 pub went_none : (old new : Ram) (s t : Flash) → new ≡ record old { mapping = new.mapping } → t ≡ s → Went old s new t
@@ -96,11 +96,11 @@ quiet_sound s t (Err Damaged) is = is
 quiet_sound s t (Err BusFault) is = tt
 
 module _ {N : Type 0} (flash : N → Flash) (old new : Device N) (result : Result (Unit {0}) DeviceFault) (ne : result ≢ Err BusFault) where
-  pub read_happened : (n : ℕ) (bytes : List ℕ) → ReadStep old.engine.geometry (state_in flash old) n (read_reply_of bytes result) (state_in flash new) → flash new.engine.nand ≡ flash old.engine.nand → LeavesRead n result (ram old.engine) (ram new.engine) → IfErr result IsReadRefusal → Happened flash old (record { command = step.Read n; result = result; bytes = bytes }) new
+  pub read_happened : (n : ℕ) (bytes : List ℕ) (p q : Page) → ReadStep old.engine.geometry (state_in flash old) n (read_reply_of bytes result) (state_in flash new) → flash new.engine.nand ≡ flash old.engine.nand → LeavesRead n result (ram old.engine) (ram new.engine) p q bytes → IfErr result IsReadRefusal → Happened flash old (record { command = step.Read n; result = result; bytes = bytes }) new
   unfolding went_none
-  read_happened n bytes is kept leaves of_read = record {
+  read_happened n bytes p q is kept leaves of_read = record {
     step = is;
-    went = went_none (ram old.engine) (ram new.engine) (flash old.engine.nand) (flash new.engine.nand) (leaves_mapping n result (ram old.engine) (ram new.engine) leaves ne) kept;
+    went = went_none (ram old.engine) (ram new.engine) (flash old.engine.nand) (flash new.engine.nand) (leaves_mapping n result (ram old.engine) (ram new.engine) p q bytes leaves ne) kept;
     stale = λ old_entry. no_memory result of_read;
     shown = λ bad next log bads spent. read_shown old.engine.geometry bad next log [] (image_in flash new.engine) n bytes (state_in flash old) (state_in flash new) result of_read is ne;
   }

@@ -1,9 +1,10 @@
 -- What the calls of a device promise.
-use Rattle.std.specs.Prelude.{◌≡◌, ℕ, ◌+◌, ◌-◌, ◌<◌, ◌≤◌, ◌^◌, Bool, true, false, List, [], slice_get, slice_set, Option, Some, None, IsSome, Result, Ok, Err}
+use Rattle.std.specs.Prelude.{◌≡◌, ◌⊎◌, ℕ, ◌+◌, ◌-◌, ◌<◌, ◌≤◌, ◌^◌, Bool, true, false, List, [], slice_get, slice_set, Option, Some, None, IsSome, Result, Ok, Err}
 use Rattle.std.specs.Map.{keys_of}
 use Rattle.page_layout.specs.declared.geometry.Geometry.{Geometry}
 use Rattle.page_layout.specs.declared.record.Key.TheVariants.{Sector}
 use Rattle.page_layout.specs.Page.{Image}
+use Rattle.page_layout.specs.Counter.{HasRisen}
 use Rattle.page_layout.specs.Geometry.{need}
 use Rattle.page_layout.specs.Array.{array_of}
 use Rattle.page_layout.specs.Flash.{Flash}
@@ -250,6 +251,10 @@ answer_of r good (Err call.OutOfMemory) = Err OutOfMemory
 pub record HasRescued (old new : Ram) : Type 0 where
   pub bad : (b : ℕ) → b < old.geometry.blocks → is_good_at old.blocks.table b ≡ false → live_at new.blocks b ≤ live_at old.blocks b
   pub fewer : good_count new.blocks.table ≡ good_count old.blocks.table → HasAiling old.blocks → (block : ℕ) × IsAiling old.blocks block × (live_at new.blocks block < live_at old.blocks block)
+
+-- IT HAS PROGRAMMED OR ERASED: each program takes a sequence, and the count of erases rises with each erase
+abbrev pub HasWorked : (old new : Ram) (erases_before erases_after : ℕ) → Type 0
+HasWorked old new erases_before erases_after = (old.next < new.next) ⊎ HasRisen erases_before erases_after
 
 -- no bad block had one: nothing has changed
 abbrev pub HasRested : Ram → Ram → Type 0

@@ -1,8 +1,10 @@
 -- Which faults a read answers, and what it leaves in memory.
-use Rattle.std.specs.Prelude.{◌≡◌, ◌⊎◌, ℕ, Option, Some, None, IsSome, Result, Ok, Err}
+use Rattle.std.specs.Prelude.{◌≡◌, ◌⊎◌, ℕ, List, Option, Some, None, IsSome, Result, Ok, Err}
 use Rattle.mapping_cache.specs.Mapping.{MappingState, CanLoad, slot_of, pending, used, loaded}
 use Rattle.collection.specs.declared.fault.WriteFault.TheVariants as write
+use Rattle.page_layout.specs.Page.{Page}
 use Rattle.collection.specs.State.{Ram}
+use Rattle.collection.specs.Looks.{FindsRow, GivesSector}
 use Rattle.ftl_device.specs.declared.fault.DeviceFault.{DeviceFault}
 use Rattle.ftl_device.specs.declared.fault.DeviceFault.TheVariants as fault
 
@@ -15,25 +17,36 @@ IsReadRefusal fault.OutOfMemory = ⊥
 IsReadRefusal fault.Damaged = Unit {0}
 IsReadRefusal fault.BusFault = Unit {0}
 
--- a sector came into the cache, for which no dirty entry left it
-pub record IsCachedNow (n : ℕ) (old new : MappingState) : Type 0 where
+-- a sector came into the cache with this row, and no dirty entry left it for that
+pub record IsCachedNow (n : ℕ) (row : Option ℕ) (old new : MappingState) : Type 0 where
   pub room : CanLoad old n
-  pub row : Option ℕ
   pub loaded_is : new ≡ loaded old n row
 
--- A LOOK-UP. A cached sector becomes the most recently used, and another may be cached. No row is lost that a translation page lacks.
-pub record LooksUp (n : ℕ) (old new : MappingState) : Type 0 where
+-- A LOOK-UP that found this row. A cached sector becomes the most recently used, and another may be cached with the row. No row is lost that a
+-- translation page lacks.
+pub record LooksUp (n : ℕ) (row : Option ℕ) (old new : MappingState) : Type 0 where
   pub hit : IsSome (slot_of old n) → new ≡ used old n
-  pub miss : slot_of old n ≡ None → (new ≡ old) ⊎ IsCachedNow n old new
+  pub miss : slot_of old n ≡ None → (new ≡ old) ⊎ IsCachedNow n row old new
   pub lacking : (k : ℕ) → pending new k ≡ pending old k
 
--- a read that gave the sector has changed the mapping alone
-pub record HasLookedUp (n : ℕ) (old new : Ram) : Type 0 where
-  pub mapping : LooksUp n old.mapping new.mapping
+-- the sector was cached with the row that a look-up found, by memory as it was then or by this page of entries
+pub record IsLookedUp (n : ℕ) (r : Ram) (entries_page : Page) : Type 0 where
+  pub before : MappingState
+  pub row : Option ℕ
+  pub found : FindsRow (record r { mapping = before }) n entries_page row
+  pub loaded_is : r.mapping ≡ loaded before n row
+
+-- A READ THAT IS DONE, whatever the die does: there is a row that memory knows, or else that the page of entries gives; what is given is zeros
+-- where there is none, and else what the page of the sector holds; of the memory the mapping alone has changed.
+pub record HasRead (n : ℕ) (old new : Ram) (entries_page sector_page : Page) (bytes : List ℕ) : Type 0 where
+  pub row : Option ℕ
+  pub found : FindsRow old n entries_page row
+  pub gives : GivesSector old.geometry n row sector_page bytes
+  pub mapping : LooksUp n row old.mapping new.mapping
   pub others : new ≡ record old { mapping = new.mapping }
 
--- what a read leaves in memory: after the die's fault that fault stands, and any other refusal leaves all as it was
-abbrev pub LeavesRead : ℕ → Result (Unit {0}) DeviceFault → Ram → Ram → Type 0
-LeavesRead n (Ok _) old new = HasLookedUp n old new
-LeavesRead n (Err fault.BusFault) old new = new ≡ record old { fault = Some write.Bus }
-LeavesRead n (Err _) old new = new ≡ old
+-- what a read gives and leaves in memory, with the pages that are in the buffers as it ends: after the die's fault that fault stands, and any other refusal leaves all as it was
+abbrev pub LeavesRead : ℕ → Result (Unit {0}) DeviceFault → (old new : Ram) (entries_page sector_page : Page) → List ℕ → Type 0
+LeavesRead n (Ok _) old new p q bytes = HasRead n old new p q bytes
+LeavesRead n (Err fault.BusFault) old new p q bytes = new ≡ record old { fault = Some write.Bus }
+LeavesRead n (Err _) old new p q bytes = new ≡ old

@@ -4,13 +4,15 @@ ghost use Rattle.std.specs.Option.{ForSome};
 ghost use Rattle.std.specs.Map.{keys_of};
 ghost use Rattle.page_layout.specs.Counter.{HasRisen};
 ghost use Rattle.page_layout.specs.Geometry.{translation_pages, table_pages};
-ghost use Rattle.allocation.specs.State.{free_count};
+ghost use Rattle.budget.specs.Account.{IsFunded};
+ghost use Rattle.allocation.specs.Counts.{counts_of};
 ghost use Rattle.collection.specs.Safe.{IsSafe, IsIdle, ram, image_in};
 ghost use Rattle.collection.specs.Truth.{IsTrue};
 ghost use Rattle.collection.specs.Log.{Went};
 ghost use Rattle.collection.specs.Results.{KeepsTable, fault_after};
 ghost use Rattle.ftl_device.specs.Calls.{Tells, CallTells, KeepsArray, CallRefused, standing_after};
 ghost use Rattle.ftl_device.specs.Flush.{IsClean, KeepsClean, SpellsAll, KeepsTables, AddsPages, FailsAmong, RunsOut, IsFlushed, WritesTables, MayFlush, MayNotFlush};
+ghost use Rattle.ftl_device.specs.Shortage.{HasFunds, FlushCounts, FlushShort};
 ghost use Rattle.std.specs.Prelude.{◌↔◌};
 ghost use Rattle.page_layout.specs.Geometry.{need};
 ghost use Rattle.bad_blocks.specs.Table.{good_count, wear_at};
@@ -41,6 +43,7 @@ fn flush_translation<N: Nand>(engine: &mut Engine<N>, t: u32) -> Result<(), Writ
     ensures fault { engine.new.fault ≡ fault_after None result }
     ensures geometry { engine.new.geometry ≡ engine.old.geometry }
     ensures honest { N.honest engine.new.nand ≡ N.honest engine.old.nand }
+    ensures calm { N.calm engine.new.nand ≡ N.calm engine.old.nand }
     ensures failed { N.failed engine.old.nand ≤ N.failed engine.new.nand }
     ensures rose { result ≡ Err WriteFault.Bus → HasRisen (N.failed engine.old.nand) (N.failed engine.new.nand) }
     ensures keys { keys_of engine.new.mapping.cached ≡ keys_of engine.old.mapping.cached }
@@ -48,6 +51,9 @@ fn flush_translation<N: Nand>(engine: &mut Engine<N>, t: u32) -> Result<(), Writ
     ensures idle { engine.new.fault ≡ None → IsIdle (ram engine.new) }
     ensures clean { OnOk result (IsClean engine.old.geometry t engine.new.mapping) }
     ensures cleans { OnOk result (KeepsClean engine.old.geometry engine.old.mapping engine.new.mapping) }
+    ensures count { N.honest engine.old.nand ≡ true → IsTrue None (ram engine.old) (image_in N.flash engine.old) →
+        (failures : ℕ) → IsFunded engine.old.geometry.pages failures (counts_of (ram engine.old).blocks) →
+        FlushCounts failures (ram engine.old) (ram engine.new) result }
     ensures tells { Tells (ram engine.old) (ram engine.new) result }
     ensures went { N.honest engine.old.nand ≡ true → result ≢ Err WriteFault.Bus →
         Went (ram engine.old) (N.flash engine.old.nand) (ram engine.new) (N.flash engine.new.nand) }
@@ -72,12 +78,16 @@ fn flush_translations<N: Nand>(engine: &mut Engine<N>) -> Result<(), WriteFault>
     ensures fault { engine.new.fault ≡ fault_after None result }
     ensures geometry { engine.new.geometry ≡ engine.old.geometry }
     ensures honest { N.honest engine.new.nand ≡ N.honest engine.old.nand }
+    ensures calm { N.calm engine.new.nand ≡ N.calm engine.old.nand }
     ensures failed { N.failed engine.old.nand ≤ N.failed engine.new.nand }
     ensures rose { result ≡ Err WriteFault.Bus → HasRisen (N.failed engine.old.nand) (N.failed engine.new.nand) }
     ensures keys { keys_of engine.new.mapping.cached ≡ keys_of engine.old.mapping.cached }
     ensures limits { HasLimitsOf engine.old.mapping engine.new.mapping }
     ensures idle { engine.new.fault ≡ None → IsIdle (ram engine.new) }
     ensures clean { OnOk result ((t : ℕ) → t < translation_pages engine.old.geometry → IsClean engine.old.geometry t engine.new.mapping) }
+    ensures count { N.honest engine.old.nand ≡ true → IsTrue None (ram engine.old) (image_in N.flash engine.old) →
+        (failures : ℕ) → IsFunded engine.old.geometry.pages failures (counts_of (ram engine.old).blocks) →
+        FlushCounts failures (ram engine.old) (ram engine.new) result }
     ensures tells { Tells (ram engine.old) (ram engine.new) result }
     ensures went { N.honest engine.old.nand ≡ true → result ≢ Err WriteFault.Bus →
         Went (ram engine.old) (N.flash engine.old.nand) (ram engine.new) (N.flash engine.new.nand) }
@@ -100,6 +110,7 @@ fn write_tables_once<N: Nand>(engine: &mut Engine<N>) -> Result<(), WriteFault>
     ensures fault { engine.new.fault ≡ fault_after None result }
     ensures geometry { engine.new.geometry ≡ engine.old.geometry }
     ensures honest { N.honest engine.new.nand ≡ N.honest engine.old.nand }
+    ensures calm { N.calm engine.new.nand ≡ N.calm engine.old.nand }
     ensures failed { N.failed engine.old.nand ≤ N.failed engine.new.nand }
     ensures rose { result ≡ Err WriteFault.Bus → HasRisen (N.failed engine.old.nand) (N.failed engine.new.nand) }
     ensures mapping { engine.new.mapping ≡ engine.old.mapping }
@@ -129,6 +140,7 @@ fn write_tables<N: Nand>(engine: &mut Engine<N>) -> Result<(), WriteFault>
     ensures fault { engine.new.fault ≡ fault_after None result }
     ensures geometry { engine.new.geometry ≡ engine.old.geometry }
     ensures honest { N.honest engine.new.nand ≡ N.honest engine.old.nand }
+    ensures calm { N.calm engine.new.nand ≡ N.calm engine.old.nand }
     ensures failed { N.failed engine.old.nand ≤ N.failed engine.new.nand }
     ensures rose { result ≡ Err WriteFault.Bus → HasRisen (N.failed engine.old.nand) (N.failed engine.new.nand) }
     ensures mapping { engine.new.mapping ≡ engine.old.mapping }
@@ -161,6 +173,7 @@ pub(crate) fn flush_ready<N: Nand>(engine: &mut Engine<N>) -> Result<(), CallFau
     ensures fault { engine.new.fault ≡ standing_after result }
     ensures geometry { engine.new.geometry ≡ engine.old.geometry }
     ensures honest { N.honest engine.new.nand ≡ N.honest engine.old.nand }
+    ensures calm { N.calm engine.new.nand ≡ N.calm engine.old.nand }
     ensures failed { N.failed engine.old.nand ≤ N.failed engine.new.nand }
     ensures rose { result ≡ Err (CallFault.Engine WriteFault.Bus) → HasRisen (N.failed engine.old.nand) (N.failed engine.new.nand) }
     ensures memory { result ≢ Err CallFault.OutOfMemory }
@@ -168,6 +181,7 @@ pub(crate) fn flush_ready<N: Nand>(engine: &mut Engine<N>) -> Result<(), CallFau
     ensures limits { HasLimitsOf engine.old.mapping engine.new.mapping }
     ensures idle { engine.new.fault ≡ None → IsIdle (ram engine.new) }
     ensures clean { OnOk result ((t : ℕ) → t < translation_pages engine.old.geometry → IsClean engine.old.geometry t engine.new.mapping) }
+    ensures count { HasFunds (N.honest engine.old.nand) (ram engine.old) (image_in N.flash engine.old) → FlushShort (ram engine.old) (ram engine.new) result }
     ensures tells { CallTells (ram engine.old) (ram engine.new) result }
     ensures went { N.honest engine.old.nand ≡ true → result ≢ Err (CallFault.Engine WriteFault.Bus) →
         Went (ram engine.old) (N.flash engine.old.nand) (ram engine.new) (N.flash engine.new.nand) }
@@ -227,6 +241,7 @@ impl<N: Nand> Device<N> {
         ensures geometry { self.new.engine.geometry ≡ self.old.engine.geometry }
         ensures limits { HasLimitsOf self.old.engine.mapping self.new.engine.mapping }
         ensures honest { N.honest self.new.engine.nand ≡ N.honest self.old.engine.nand }
+        ensures calm { N.calm self.new.engine.nand ≡ N.calm self.old.engine.nand }
         ensures failed { N.failed self.old.engine.nand ≤ N.failed self.new.engine.nand }
 
         // When it is refused, whatever the die does.

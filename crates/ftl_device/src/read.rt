@@ -1,17 +1,17 @@
 //! Sectors are read.
 ghost use Rattle.std.specs.Prelude.{◌≡◌, ◌≢◌, ◌+◌, ◌<◌, ◌≤◌, true, length, None, Some, Err, IsSome, IfOk, IfErr, OnOk, OnErr};
 ghost use Rattle.std.specs.Option.{ForSome};
-ghost use Rattle.page_layout.specs.Page.{Image, page};
+ghost use Rattle.page_layout.specs.Page.{Image};
 ghost use Rattle.page_layout.specs.Counter.{HasRisen};
 ghost use Rattle.page_layout.specs.Geometry.{row_count};
 ghost use Rattle.page_layout.specs.declared.record.Key.TheVariants.{Sector};
 ghost use Rattle.promises.specs.Step.{ArrayStep, Read};
 ghost use Rattle.image_check.specs.Mountable.{IsMountable};
 ghost use Rattle.mapping_cache.specs.Mapping.{HasLimitsOf, known};
-ghost use Rattle.collection.specs.Safe.{ram, image_in};
+ghost use Rattle.collection.specs.Safe.{ram, image_in, page_in};
 ghost use Rattle.collection.specs.Truth.{IsTrue};
 ghost use Rattle.collection.specs.Pages.{newest_row};
-ghost use Rattle.collection.specs.Looks.{GivesSector, IsReadFault};
+ghost use Rattle.collection.specs.Looks.{IsReadFault};
 ghost use Rattle.ftl_device.specs.Device.{IsDevice};
 ghost use Rattle.ftl_device.specs.Calls.{IsWell, stop_of, state_in, read_reply_of};
 ghost use Rattle.ftl_device.specs.Read.{LooksUp, LeavesRead, IsReadRefusal};
@@ -30,7 +30,7 @@ impl<N: Nand> Device<N> {
         requires row { ForSome row (λ r. r < row_count self.old.engine.geometry) }
         ensures device { IsDevice N.flash self.new }
         ensures same { self.new ≡ record self.old { engine = record self.old.engine { mapping = self.new.engine.mapping } } }
-        ensures looks_up { LooksUp sector self.old.engine.mapping self.new.engine.mapping }
+        ensures looks_up { LooksUp sector row self.old.engine.mapping self.new.engine.mapping }
         ensures limits { HasLimitsOf self.old.engine.mapping self.new.engine.mapping }
         ensures truth { (image : Image) → IsTrue None (ram self.old.engine) image → row ≡ newest_row image (Sector sector) →
             IsTrue None (ram self.new.engine) image }
@@ -64,8 +64,10 @@ impl<N: Nand> Device<N> {
     /// A cached sector becomes the most recently used. Another is cached where the cache isn't full or
     /// its least recently used entry is clean, and memory is there; else it is read all the same.
     ///
-    /// Whatever the die does, what it gives is 00h bytes or the data area of the page in the page
-    /// buffer, which is sound, of the sector and no trim.
+    /// Whatever the die does, the sector's row is the one that memory has, or else the one that a sound
+    /// page of the sector's translation page gives, and no other row is cached. What it gives is 00h
+    /// bytes where there is no row, and else the data area of the page in the page buffer, which is
+    /// sound and of the sector, or 00h bytes where that is a trim.
     ///
     /// # Errors
     ///
@@ -89,9 +91,9 @@ impl<N: Nand> Device<N> {
         ensures faults { IfErr result IsReadRefusal }
         ensures refused { OnErr result (out.new ≡ out.old) }
         ensures limits { HasLimitsOf self.old.engine.mapping self.new.engine.mapping }
-        ensures memory { LeavesRead sector result (ram self.old.engine) (ram self.new.engine) }
         ensures read_only { self.new.read_only ≡ self.old.read_only }
         ensures honest { N.honest self.new.engine.nand ≡ N.honest self.old.engine.nand }
+        ensures calm { N.calm self.new.engine.nand ≡ N.calm self.old.engine.nand }
         ensures reads { N.reads self.new.engine.nand ≤ N.reads self.old.engine.nand + 2 }
         ensures hit { IsSome (known self.old.engine.mapping sector) → N.reads self.new.engine.nand ≤ N.reads self.old.engine.nand + 1 }
         ensures programs { N.programs self.new.engine.nand ≡ N.programs self.old.engine.nand }
@@ -100,9 +102,9 @@ impl<N: Nand> Device<N> {
         ensures rose { stop_of self.old.engine.fault ≡ None → result ≡ Err DeviceFault.BusFault →
             HasRisen (N.failed self.old.engine.nand) (N.failed self.new.engine.nand) }
 
-        // Whatever the die does: the page in the buffer holds what was given.
-        ensures checked { OnOk result (GivesSector self.old.engine.geometry sector
-            (page self.new.engine.page.body.items self.new.engine.page.spare.items) out.new) }
+        // Whatever the die does: the row that was found, the pages in the buffers that give it and the sector, and the row that is cached.
+        ensures memory { LeavesRead sector result (ram self.old.engine) (ram self.new.engine)
+            (page_in self.new.engine.scratch) (page_in self.new.engine.page) out.new }
 
         // The truth of it, for a die that keeps its promises.
         ensures same { N.honest self.old.engine.nand ≡ true → result ≢ Err DeviceFault.BusFault →

@@ -1,5 +1,5 @@
 //! A sector is made ready: its entry is cached before anything of it is programmed.
-ghost use Rattle.std.specs.Prelude.{◌≡◌, ◌≢◌, ◌<◌, ◌≤◌, true, length, Some, None, Ok, Err, IfOk, IfErr, IsSome, OnOk, OnErr, MatchResult};
+ghost use Rattle.std.specs.Prelude.{◌≡◌, ◌≢◌, ℕ, ◌<◌, ◌≤◌, true, length, Some, None, Ok, Err, IfOk, IfErr, IsSome, OnOk, OnErr, MatchResult};
 ghost use Rattle.std.specs.Option.{ForSome};
 ghost use Rattle.std.specs.Map.{keys_of};
 ghost use Rattle.page_layout.specs.Counter.{HasRisen};
@@ -8,15 +8,19 @@ ghost use Rattle.page_layout.specs.declared.record.Key.TheVariants.{Sector};
 ghost use Rattle.page_layout.specs.Array.{zeros};
 ghost use Rattle.mapping_cache.specs.Mapping.{CanLoad, HasLimitsOf, slot_of};
 ghost use Rattle.collection.specs.Pages.{newest_row};
-ghost use Rattle.collection.specs.Safe.{IsSafe, IsIdle, ram, image_in};
+ghost use Rattle.collection.specs.Safe.{IsSafe, IsIdle, ram, image_in, page_in};
 ghost use Rattle.collection.specs.Truth.{IsTrue};
 ghost use Rattle.collection.specs.Log.{Went};
 ghost use Rattle.collection.specs.Settle.{HasNoMore};
-ghost use Rattle.collection.specs.Looks.{IsReadFault};
+ghost use Rattle.collection.specs.Looks.{FindsRow, IsReadFault};
 ghost use Rattle.collection.specs.Results.{IsSame, Refused, fault_after};
-ghost use Rattle.collection.specs.Collect.{KeepsKeys, IsRearranged, RoomRefused};
+ghost use Rattle.collection.specs.Collect.{KeepsKeys, RestsOrErases, IsRearranged, RoomRefused, RoomCounts};
 ghost use Rattle.ftl_device.specs.Calls.{Tells, IsFound, CallTells, standing_after, KeepsArray, HoldsSector, CallRefused, IsMostRecent, HasMadeRoom, HasMadePlace, IsReady, HasCost, order_after};
+ghost use Rattle.budget.specs.Account.{IsFunded};
+ghost use Rattle.allocation.specs.Counts.{counts_of};
 ghost use Rattle.ftl_device.specs.Flush.{KeepsClean};
+ghost use Rattle.ftl_device.specs.Read.{IsLookedUp};
+ghost use Rattle.ftl_device.specs.Shortage.{HasFunds, PlaceCosts, RoomCosts, CallRoomCosts};
 
 use crate::fault::CallFault;
 use collection::{Engine, WriteFault};
@@ -31,9 +35,11 @@ pub(crate) fn make_room<N: Nand>(engine: &mut Engine<N>, flushing: bool) -> Resu
     ensures fault { engine.new.fault ≡ fault_after None result }
     ensures geometry { engine.new.geometry ≡ engine.old.geometry }
     ensures honest { N.honest engine.new.nand ≡ N.honest engine.old.nand }
+    ensures calm { N.calm engine.new.nand ≡ N.calm engine.old.nand }
     ensures failed { N.failed engine.old.nand ≤ N.failed engine.new.nand }
     ensures rose { result ≡ Err WriteFault.Bus → HasRisen (N.failed engine.old.nand) (N.failed engine.new.nand) }
     ensures made { OnOk result (HasMadeRoom (ram engine.old) (ram engine.new)) }
+    ensures erases { OnOk result (RestsOrErases (ram engine.old) (ram engine.new) (N.erases engine.old.nand) (N.erases engine.new.nand)) }
     ensures keys { KeepsKeys engine.old.mapping engine.new.mapping }
     ensures cleans { flushing ≡ true → OnOk result (KeepsClean engine.old.geometry engine.old.mapping engine.new.mapping) }
     ensures tells { Tells (ram engine.old) (ram engine.new) result }
@@ -43,6 +49,9 @@ pub(crate) fn make_room<N: Nand>(engine: &mut Engine<N>, flushing: bool) -> Resu
         MatchResult result
         (λ _. IsRearranged (ram engine.old) (image_in N.flash engine.old) (ram engine.new) (image_in N.flash engine.new))
         (RoomRefused (ram engine.old) (image_in N.flash engine.old) (ram engine.new) (image_in N.flash engine.new)) }
+    ensures count { N.honest engine.old.nand ≡ true → IsTrue None (ram engine.old) (image_in N.flash engine.old) →
+        (failures : ℕ) → IsFunded engine.old.geometry.pages failures (counts_of (ram engine.old).blocks) →
+        RoomCounts failures (ram engine.old) (ram engine.new) result }
 {
     engine.make_room(flushing)
 }
@@ -56,6 +65,7 @@ fn make_place<N: Nand>(engine: &mut Engine<N>, sector: u32) -> Result<(), WriteF
     ensures fault { engine.new.fault ≡ fault_after None result }
     ensures geometry { engine.new.geometry ≡ engine.old.geometry }
     ensures honest { N.honest engine.new.nand ≡ N.honest engine.old.nand }
+    ensures calm { N.calm engine.new.nand ≡ N.calm engine.old.nand }
     ensures failed { N.failed engine.old.nand ≤ N.failed engine.new.nand }
     ensures rose { result ≡ Err WriteFault.Bus → HasRisen (N.failed engine.old.nand) (N.failed engine.new.nand) }
     ensures place { OnOk result (CanLoad engine.new.mapping sector) }
@@ -63,6 +73,7 @@ fn make_place<N: Nand>(engine: &mut Engine<N>, sector: u32) -> Result<(), WriteF
     ensures pin { (ram engine.new).pin ≡ (ram engine.old).pin }
     ensures no_more { HasNoMore engine.old.mapping engine.new.mapping }
     ensures cost { OnOk result (HasMadePlace sector (ram engine.old) (ram engine.new)) }
+    ensures costs { PlaceCosts (ram engine.old) (ram engine.new) result }
     ensures tells { Tells (ram engine.old) (ram engine.new) result }
     ensures went { N.honest engine.old.nand ≡ true → result ≢ Err WriteFault.Bus →
         Went (ram engine.old) (N.flash engine.old.nand) (ram engine.new) (N.flash engine.new.nand) }
@@ -83,7 +94,8 @@ fn make_place<N: Nand>(engine: &mut Engine<N>, sector: u32) -> Result<(), WriteF
     }
 }
 
-// The row of a sector's newest page. A fault stops the engine.
+// The row of a sector's newest page. A fault stops the engine. Whatever the die does, the row is the one that
+// memory has, or else the one that a sound translation page gives.
 fn find_row<N: Nand>(engine: &mut Engine<N>, sector: u32) -> Result<Option<u32>, WriteFault>
     requires safe { IsSafe N.flash engine.old }
     requires going { engine.old.fault ≡ None }
@@ -91,9 +103,11 @@ fn find_row<N: Nand>(engine: &mut Engine<N>, sector: u32) -> Result<Option<u32>,
     ensures safe { IsSafe N.flash engine.new }
     ensures memory { ram engine.new ≡ record (ram engine.old) { fault = fault_after None result } }
     ensures honest { N.honest engine.new.nand ≡ N.honest engine.old.nand }
+    ensures calm { N.calm engine.new.nand ≡ N.calm engine.old.nand }
     ensures failed { N.failed engine.old.nand ≤ N.failed engine.new.nand }
     ensures rose { result ≡ Err WriteFault.Bus → HasRisen (N.failed engine.old.nand) (N.failed engine.new.nand) }
     ensures faults { IfErr result IsReadFault }
+    ensures checked { IfOk result (FindsRow (ram engine.old) sector (page_in engine.new.scratch)) }
     ensures row { IfOk result (λ row. ForSome row (λ r. r < row_count engine.old.geometry)) }
     ensures same { N.honest engine.old.nand ≡ true → result ≢ Err WriteFault.Bus → N.flash engine.new.nand ≡ N.flash engine.old.nand }
     ensures truth { N.honest engine.old.nand ≡ true → IsTrue None (ram engine.old) (image_in N.flash engine.old) →
@@ -101,11 +115,13 @@ fn find_row<N: Nand>(engine: &mut Engine<N>, sector: u32) -> Result<Option<u32>,
         (λ row. row ≡ newest_row (image_in N.flash engine.old) (Sector sector))
         (λ fault. fault ≡ WriteFault.Bus) }
 {
-    let answer = engine.row_of_sector(sector);
-    if let Err(fault) = &answer {
-        engine.fault = Some(*fault);
+    match engine.row_of_sector(sector) {
+        Ok(row) => Ok(row),
+        Err(fault) => {
+            engine.fault = Some(fault);
+            Err(fault)
+        }
     }
-    answer
 }
 
 // Sees that there is room for the sector's page and a place for its entry, and finds the row that it
@@ -119,14 +135,18 @@ fn prepare<N: Nand>(engine: &mut Engine<N>, sector: u32) -> Result<Option<u32>, 
     ensures fault { engine.new.fault ≡ fault_after None result }
     ensures geometry { engine.new.geometry ≡ engine.old.geometry }
     ensures honest { N.honest engine.new.nand ≡ N.honest engine.old.nand }
+    ensures calm { N.calm engine.new.nand ≡ N.calm engine.old.nand }
     ensures failed { N.failed engine.old.nand ≤ N.failed engine.new.nand }
     ensures rose { result ≡ Err WriteFault.Bus → HasRisen (N.failed engine.old.nand) (N.failed engine.new.nand) }
     ensures place { OnOk result (CanLoad engine.new.mapping sector) }
     ensures row { IfOk result (λ row. ForSome row (λ r. r < row_count engine.old.geometry)) }
+    ensures checked { IfOk result (FindsRow (ram engine.new) sector (page_in engine.new.scratch)) }
     ensures keys { keys_of engine.new.mapping.cached ≡ keys_of engine.old.mapping.cached }
     ensures limits { HasLimitsOf engine.old.mapping engine.new.mapping }
     ensures idle { OnOk result (IsIdle (ram engine.new)) }
     ensures cost { OnOk result (IsReady sector (ram engine.old) (ram engine.new)) }
+    ensures costs { RoomCosts (HasFunds (N.honest engine.old.nand) (ram engine.old) (image_in N.flash engine.old)) 1
+        (ram engine.old) (ram engine.new) result }
     ensures tells { Tells (ram engine.old) (ram engine.new) result }
     ensures went { N.honest engine.old.nand ≡ true → result ≢ Err WriteFault.Bus →
         Went (ram engine.old) (N.flash engine.old.nand) (ram engine.new) (N.flash engine.new.nand) }
@@ -150,10 +170,12 @@ fn make_ready<N: Nand>(engine: &mut Engine<N>, sector: u32) -> Result<(), CallFa
     ensures fault { engine.new.fault ≡ standing_after result }
     ensures geometry { engine.new.geometry ≡ engine.old.geometry }
     ensures honest { N.honest engine.new.nand ≡ N.honest engine.old.nand }
+    ensures calm { N.calm engine.new.nand ≡ N.calm engine.old.nand }
     ensures failed { N.failed engine.old.nand ≤ N.failed engine.new.nand }
     ensures rose { result ≡ Err (CallFault.Engine WriteFault.Bus) → HasRisen (N.failed engine.old.nand) (N.failed engine.new.nand) }
     ensures holds { OnOk result (IsSome (slot_of engine.new.mapping sector)) }
     ensures recent { OnOk result (IsMostRecent sector engine.new.mapping) }
+    ensures checked { OnOk result (IsLookedUp sector (ram engine.new) (page_in engine.new.scratch)) }
     ensures keys { OnOk result (keys_of engine.new.mapping.cached ≡ order_after engine.old.mapping sector) }
     ensures cost { OnOk result (IsReady sector (ram engine.old) (ram engine.new)) }
     ensures unwritten { result ≡ Err CallFault.OutOfMemory → IsReady sector (ram engine.old) (ram engine.new) }
@@ -161,6 +183,8 @@ fn make_ready<N: Nand>(engine: &mut Engine<N>, sector: u32) -> Result<(), CallFa
     ensures cached { IsSome (slot_of engine.old.mapping sector) → result ≢ Err CallFault.OutOfMemory }
     ensures limits { HasLimitsOf engine.old.mapping engine.new.mapping }
     ensures idle { engine.new.fault ≡ None → IsIdle (ram engine.new) }
+    ensures costs { CallRoomCosts (HasFunds (N.honest engine.old.nand) (ram engine.old) (image_in N.flash engine.old)) 1
+        (ram engine.old) (ram engine.new) result }
     ensures tells { CallTells (ram engine.old) (ram engine.new) result }
     ensures went { N.honest engine.old.nand ≡ true → result ≢ Err (CallFault.Engine WriteFault.Bus) →
         Went (ram engine.old) (N.flash engine.old.nand) (ram engine.new) (N.flash engine.new.nand) }
@@ -189,6 +213,7 @@ pub(crate) fn write_ready<N: Nand>(
     ensures fault { engine.new.fault ≡ standing_after result }
     ensures geometry { engine.new.geometry ≡ engine.old.geometry }
     ensures honest { N.honest engine.new.nand ≡ N.honest engine.old.nand }
+    ensures calm { N.calm engine.new.nand ≡ N.calm engine.old.nand }
     ensures failed { N.failed engine.old.nand ≤ N.failed engine.new.nand }
     ensures rose { result ≡ Err (CallFault.Engine WriteFault.Bus) → HasRisen (N.failed engine.old.nand) (N.failed engine.new.nand) }
     ensures recent { OnOk result (IsMostRecent sector engine.new.mapping) }
@@ -199,6 +224,8 @@ pub(crate) fn write_ready<N: Nand>(
     ensures cached { IsSome (slot_of engine.old.mapping sector) → result ≢ Err CallFault.OutOfMemory }
     ensures limits { HasLimitsOf engine.old.mapping engine.new.mapping }
     ensures idle { engine.new.fault ≡ None → IsIdle (ram engine.new) }
+    ensures costs { CallRoomCosts (HasFunds (N.honest engine.old.nand) (ram engine.old) (image_in N.flash engine.old)) 2
+        (ram engine.old) (ram engine.new) result }
     ensures tells { CallTells (ram engine.old) (ram engine.new) result }
     ensures went { N.honest engine.old.nand ≡ true → result ≢ Err (CallFault.Engine WriteFault.Bus) →
         Went (ram engine.old) (N.flash engine.old.nand) (ram engine.new) (N.flash engine.new.nand) }
@@ -222,6 +249,7 @@ pub(crate) fn trim_ready<N: Nand>(engine: &mut Engine<N>, sector: u32) -> Result
     ensures fault { engine.new.fault ≡ standing_after result }
     ensures geometry { engine.new.geometry ≡ engine.old.geometry }
     ensures honest { N.honest engine.new.nand ≡ N.honest engine.old.nand }
+    ensures calm { N.calm engine.new.nand ≡ N.calm engine.old.nand }
     ensures failed { N.failed engine.old.nand ≤ N.failed engine.new.nand }
     ensures rose { result ≡ Err (CallFault.Engine WriteFault.Bus) → HasRisen (N.failed engine.old.nand) (N.failed engine.new.nand) }
     ensures recent { OnOk result (IsMostRecent sector engine.new.mapping) }
@@ -232,6 +260,8 @@ pub(crate) fn trim_ready<N: Nand>(engine: &mut Engine<N>, sector: u32) -> Result
     ensures cached { IsSome (slot_of engine.old.mapping sector) → result ≢ Err CallFault.OutOfMemory }
     ensures limits { HasLimitsOf engine.old.mapping engine.new.mapping }
     ensures idle { engine.new.fault ≡ None → IsIdle (ram engine.new) }
+    ensures costs { CallRoomCosts (HasFunds (N.honest engine.old.nand) (ram engine.old) (image_in N.flash engine.old)) 2
+        (ram engine.old) (ram engine.new) result }
     ensures tells { CallTells (ram engine.old) (ram engine.new) result }
     ensures went { N.honest engine.old.nand ≡ true → result ≢ Err (CallFault.Engine WriteFault.Bus) →
         Went (ram engine.old) (N.flash engine.old.nand) (ram engine.new) (N.flash engine.new.nand) }

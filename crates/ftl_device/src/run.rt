@@ -87,6 +87,7 @@ impl<N: Nand> Device<N> {
         ensures geometry { self.new.engine.geometry ≡ self.old.engine.geometry }
         ensures limits { HasLimitsOf self.old.engine.mapping self.new.engine.mapping }
         ensures honest { N.honest self.new.engine.nand ≡ N.honest self.old.engine.nand }
+        ensures calm { N.calm self.new.engine.nand ≡ N.calm self.old.engine.nand }
         ensures room { HasRoom self.old.engine.geometry command.entry bytes.new }
         ensures failed { N.failed self.old.engine.nand ≤ N.failed self.new.engine.nand }
         ensures kept { KeepsBytes (command_of command.entry) result bytes.old bytes.new }
@@ -125,6 +126,7 @@ impl<N: Nand> Device<N> {
     pub fn run(&mut self, calls: &mut [Call<'_>])
         requires device { IsDevice N.flash self.old }
         requires whole { AreWhole self.old.engine.geometry calls.old }
+        ensures calm { N.calm self.new.engine.nand ≡ N.calm self.old.engine.nand }
         ensures told { WasTold N.flash N.honest N.failed self.old (exchanges_of calls.new) self.new }
         ensures whole { AreWhole self.old.engine.geometry calls.new }
         ensures commands { map told calls.new ≡ map told calls.old }
@@ -161,6 +163,7 @@ impl<N: Nand> Device<N> {
         ensures commands { map told calls.new ≡ map told calls.old }
         ensures answered { OnOk result (AreAnswered calls.new) }
         ensures kept { OnOk result (HaveKept calls.old calls.new) }
+        ensures calm { IfOk result (λ d. N.calm d.engine.nand ≡ N.calm nand) }
         ensures failed { IfOk result (λ d. N.failed nand ≤ N.failed d.engine.nand) }
         ensures stays { OnOk result (StaysStopped (exchanges_of calls.new)) }
         ensures rose { IfOk result (λ d. AreKnown (exchanges_of calls.new) ⊎ HasRisen (N.failed nand) (N.failed d.engine.nand)) }

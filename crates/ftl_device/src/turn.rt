@@ -10,8 +10,9 @@ ghost use Rattle.image_check.specs.Mountable.{IsMountable};
 ghost use Rattle.collection.specs.Safe.{IsSafe, IsIdle, ram, image_in};
 ghost use Rattle.collection.specs.Truth.{IsTrue};
 ghost use Rattle.collection.specs.Log.{Went};
+ghost use Rattle.collection.specs.Collect.{HasAiling};
 ghost use Rattle.ftl_device.specs.Device.{IsDevice};
-ghost use Rattle.ftl_device.specs.Calls.{state_in, reply_of, stop_of, IsWell, Says, CallTells, standing_after, KeepsArray, CallRefused, HasRescued, HasRested};
+ghost use Rattle.ftl_device.specs.Calls.{state_in, reply_of, stop_of, IsWell, Says, CallTells, standing_after, KeepsArray, CallRefused, HasRescued, HasRested, HasWorked};
 ghost use Rattle.ftl_device.specs.Counts.{is_bad_by, IsShown};
 
 use crate::device::Device;
@@ -29,6 +30,7 @@ fn turn_ready<N: Nand>(engine: &mut Engine<N>) -> Result<(), CallFault>
     ensures fault { engine.new.fault ≡ standing_after result }
     ensures geometry { engine.new.geometry ≡ engine.old.geometry }
     ensures honest { N.honest engine.new.nand ≡ N.honest engine.old.nand }
+    ensures calm { N.calm engine.new.nand ≡ N.calm engine.old.nand }
     ensures failed { N.failed engine.old.nand ≤ N.failed engine.new.nand }
     ensures rose { result ≡ Err (CallFault.Engine WriteFault.Bus) → HasRisen (N.failed engine.old.nand) (N.failed engine.new.nand) }
     ensures memory { result ≢ Err CallFault.OutOfMemory }
@@ -44,6 +46,8 @@ fn turn_ready<N: Nand>(engine: &mut Engine<N>) -> Result<(), CallFault>
         (CallRefused engine.old.geometry (image_in N.flash engine.old) (ram engine.new) (image_in N.flash engine.new)) }
     ensures rescued { N.honest engine.old.nand ≡ true → IsTrue None (ram engine.old) (image_in N.flash engine.old) →
         OnOk result (HasRescued (ram engine.old) (ram engine.new)) }
+    ensures worked { N.honest engine.old.nand ≡ true → IsTrue None (ram engine.old) (image_in N.flash engine.old) → HasAiling (ram engine.old).blocks →
+        OnOk result (HasWorked (ram engine.old) (ram engine.new) (N.erases engine.old.nand) (N.erases engine.new.nand)) }
 {
     if !engine.needs_rescue() {
         return Ok(());
@@ -53,11 +57,11 @@ fn turn_ready<N: Nand>(engine: &mut Engine<N>) -> Result<(), CallFault>
     Ok(())
 }
 
-
 impl<N: Nand> Device<N> {
     /// Gives the device an idle moment. Where a bad block holds a newest page, room is made as by
     /// `write`, and the one of lowest row is copied out; where its sector is then moved and not
-    /// cached, its translation page is written back. With no such page nothing is asked of the die.
+    /// cached, its translation page is written back. With no such page nothing is asked of the die;
+    /// with one, a turn that is done has programmed or erased.
     ///
     /// # Errors
     ///
@@ -72,6 +76,7 @@ impl<N: Nand> Device<N> {
         ensures geometry { self.new.engine.geometry ≡ self.old.engine.geometry }
         ensures limits { HasLimitsOf self.old.engine.mapping self.new.engine.mapping }
         ensures honest { N.honest self.new.engine.nand ≡ N.honest self.old.engine.nand }
+        ensures calm { N.calm self.new.engine.nand ≡ N.calm self.old.engine.nand }
         ensures failed { N.failed self.old.engine.nand ≤ N.failed self.new.engine.nand }
 
         // When it is refused, whatever the die does.
@@ -104,6 +109,8 @@ impl<N: Nand> Device<N> {
             IsMountable self.old.engine.geometry (self.old.engine.mapping.capacity + self.old.engine.geometry.pages) (image_in N.flash self.new.engine) }
         ensures rescued { N.honest self.old.engine.nand ≡ true → IsWell N.flash self.old →
             OnOk result (HasRescued (ram self.old.engine) (ram self.new.engine)) }
+        ensures worked { N.honest self.old.engine.nand ≡ true → IsWell N.flash self.old → HasAiling (ram self.old.engine).blocks →
+            OnOk result (HasWorked (ram self.old.engine) (ram self.new.engine) (N.erases self.old.engine.nand) (N.erases self.new.engine.nand)) }
     {
         self.may_flush()?;
         let good = self.engine.blocks.good();

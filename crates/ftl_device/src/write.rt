@@ -142,6 +142,7 @@ impl<N: Nand> Device<N> {
         ensures geometry { self.new.engine.geometry ≡ self.old.engine.geometry }
         ensures limits { HasLimitsOf self.old.engine.mapping self.new.engine.mapping }
         ensures honest { N.honest self.new.engine.nand ≡ N.honest self.old.engine.nand }
+        ensures calm { N.calm self.new.engine.nand ≡ N.calm self.old.engine.nand }
         ensures failed { N.failed self.old.engine.nand ≤ N.failed self.new.engine.nand }
 
         // When it is refused, whatever the die does.
@@ -203,6 +204,7 @@ impl<N: Nand> Device<N> {
         ensures geometry { self.new.engine.geometry ≡ self.old.engine.geometry }
         ensures limits { HasLimitsOf self.old.engine.mapping self.new.engine.mapping }
         ensures honest { N.honest self.new.engine.nand ≡ N.honest self.old.engine.nand }
+        ensures calm { N.calm self.new.engine.nand ≡ N.calm self.old.engine.nand }
         ensures failed { N.failed self.old.engine.nand ≤ N.failed self.new.engine.nand }
 
         // When it is refused, whatever the die does.

@@ -11,8 +11,8 @@ use Rattle.image_check.specs.Agrees.{Agrees}
 use Rattle.image_check.specs.Mountable.{IsMountable}
 use Rattle.image_check.specs.Stale.{stale_sectors, stale_count}
 use Rattle.image_check.specs.Surveyed.{Surveys}
-use Rattle.image_check.specs.Refused.{Part, Asked, Numbers, Sequences, Tables, Directory, Sectors, BadSet, States, Live, Wear, Next, Fresh, Holds, Says, part_of, FailsFrom, IsMemory, IsStop, IsOfImage}
-use Rattle.mount.specs.Mounted.{Shows, IsSpent, Refuses, IsOfMounting}
+use Rattle.image_check.specs.Refused.{Part, Asked, Numbers, Sequences, Tables, Directory, Sectors, BadSet, States, Live, Wear, Next, Fresh, Holds, Says, order, part_of, HoldBetween, FailsFrom, IsMemory, IsStop, IsOfImage}
+use Rattle.mount.specs.Mounted.{Shows, IsAfter, IsSpent, Refuses, IsOfMounting}
 
 -- each part of the agreement
 pub holds : (g : Geometry) (capacity : ℕ) (image : Image) (c : Claim) (p : Part) → Agrees g capacity image c → Holds g capacity image c p
@@ -64,11 +64,20 @@ refused_of g capacity image r kind h = by_case (h (no_claim g))
     fails_always part is m (inl memory) = no_part r part memory is
     fails_always part is m (inr f) = f.wrong.fails (holds g capacity image m.certificate f.part m.agrees)
 
+    -- a part that comes before the one that the refusal names comes before the first that fails
+    later : (f : FailsFrom g capacity image (no_claim g) 1 r) (part : Part) → IsAfter part r → order part < order f.part
+    later f part after =
+        let same : after.0 ≡ f.part = (let both : Some after.0 ≡ Some f.part = sym after.1 ∙ f.wrong.part_is in cc) in
+        subst (λ (p : Part). order part < order p) same after.2
+
     by_case : IsMemory r ⊎ FailsFrom g capacity image (no_claim g) 1 r → Refuses g capacity image r
     by_case (inl memory) = inl (inr memory)
     by_case (inr f) = inr (record {
       none = λ m. fails_always f.part f.wrong.part_is m (h m.certificate);
       shows = shows g capacity image (no_claim g) r f.part kind f.wrong.part_is f.wrong.says;
+      numbers = λ after. f.before Numbers (omega arith) (later f Numbers after);
+      sequences = λ after. f.before Sequences (omega arith) (later f Sequences after);
+      tables = λ after. f.before Tables (omega arith) (later f Tables after);
     })
 
 -- the same where the geometry goes by another name
@@ -99,16 +108,22 @@ pub stop_of_mounting : (r : Refusal) → IsStop r → IsOfMounting r
 stop_of_mounting r (inl source) = subst IsOfMounting (sym source) tt
 stop_of_mounting r (inr memory) = subst IsOfMounting (sym memory) tt
 
-pub spent_refused : (g : Geometry) (capacity : ℕ) (image : Image) (r : Refusal) → r ≡ refusals.NextSequence → IsSpent (marks image) → Refuses g capacity image r
-spent_refused g capacity image r is spent = subst (Refuses g capacity image) (sym is) (inr (record {
+pub spent_refused : (g : Geometry) (capacity : ℕ) (image : Image) (r : Refusal) → r ≡ refusals.NextSequence → IsSpent (marks image) → HoldBetween g capacity image (no_claim g) 1 4 → Refuses g capacity image r
+spent_refused g capacity image r is spent right = subst (Refuses g capacity image) (sym is) (inr (record {
   none = λ m. let below = m.agrees.next.below spent.row spent.last spent.here in let small = m.fits.next in let e = spent.is in absurd (omega arith);
   shows = spent;
+  numbers = λ after. right.part Numbers (omega arith) (omega arith);
+  sequences = λ after. right.part Sequences (omega arith) (omega arith);
+  tables = λ after. right.part Tables (omega arith) (omega arith);
 }))
 
-pub stale_refused : (g : Geometry) (capacity : ℕ) (image : Image) (stale : List ℕ) (n : ℕ) → stale ≡ stale_sectors g image → n ≡ length stale → capacity < n → Refuses g capacity image (refusals.TooStale n capacity)
-stale_refused g capacity image stale n is size over =
+pub stale_refused : (g : Geometry) (capacity : ℕ) (image : Image) (stale : List ℕ) (n : ℕ) → stale ≡ stale_sectors g image → n ≡ length stale → capacity < n → HoldBetween g capacity image (no_claim g) 1 4 → Refuses g capacity image (refusals.TooStale n capacity)
+stale_refused g capacity image stale n is size over right =
     let count : n ≡ stale_count g image = size ∙ ap length is in
     inr (record {
       none = λ m. let few = m.agrees.fresh in absurd (omega arith);
       shows = (count, refl, over);
+      numbers = λ after. right.part Numbers (omega arith) (omega arith);
+      sequences = λ after. right.part Sequences (omega arith) (omega arith);
+      tables = λ after. right.part Tables (omega arith) (omega arith);
     })

@@ -1,5 +1,5 @@
 -- What a certificate that was mounted is to the checker, and when an image isn't refused as one that was never formatted.
-use Rattle.std.specs.Prelude.{◌≡◌, ℕ, ◌<◌, List, length, get_or, Option, Some, None}
+use Rattle.std.specs.Prelude.{◌≡◌, ◌⊎◌, ℕ, ◌<◌, List, length, get_or, Option, Some, None}
 use Rattle.page_layout.specs.declared.geometry.Geometry.{Geometry}
 use Rattle.page_layout.specs.declared.record.Record.{Record}
 use Rattle.page_layout.specs.declared.record.Key.{Key}
@@ -12,7 +12,8 @@ use Rattle.certificate.specs.Claim.{Claim}
 use Rattle.image_check.specs.declared.refusal.Refusal.{Refusal}
 use Rattle.image_check.specs.declared.refusal.Refusal.TheVariants as refusals
 use Rattle.image_check.specs.Accepted.{Acceptance, IsAcceptance}
-use Rattle.image_check.specs.Refused.{IsRefusal, IsStop}
+use Rattle.image_check.specs.Agrees.{AreInRange}
+use Rattle.image_check.specs.Refused.{IsRefusal, IsRepeated, IsStop}
 use Rattle.image_check.specs.Stale.{stale_count}
 use Rattle.mount.specs.Mounted.{IsMounted, Refuses}
 
@@ -25,6 +26,15 @@ pub record IsAcceptedWith (g : Geometry) (capacity : ℕ) (image : Image) (c : C
 -- the certificate that mounting gives
 abbrev pub AcceptedLaw : Type 0
 AcceptedLaw = (g : Geometry) (capacity : ℕ) (image : Image) (c : Claim) → IsMounted g capacity image c → IsAcceptedWith g capacity image c (stale_count g image)
+
+-- the refusal tells of two pages that share a sequence
+abbrev pub IsShared : Refusal → Type 0
+IsShared r = (first : ℕ) × (second : ℕ) × (r ≡ refusals.SequenceRepeated first second)
+
+-- An image whose numbers are in range, and two of whose sound pages share a sequence, is refused for that and for nothing
+-- else, memory and page reads aside. So is a tie of the only pages of a table page.
+abbrev pub SharedLaw : Type 0
+SharedLaw = (g : Geometry) (capacity : ℕ) (image : Image) (a b : ℕ) (r : Refusal) → AreInRange g (marks image) → IsRepeated (marks image) a b → Refuses g capacity image r → IsStop r ⊎ IsShared r
 
 -- some page is sound and of the key
 pub record HasSoundPage (marks : List (Option Record)) (key : Key) : Type 0 where

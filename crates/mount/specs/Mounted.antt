@@ -4,15 +4,15 @@ use Rattle.page_layout.specs.declared.geometry.Geometry.{Geometry}
 use Rattle.page_layout.specs.declared.record.Record.{Record}
 use Rattle.page_layout.specs.Page.{Image}
 use Rattle.page_layout.specs.Array.{marks}
-use Rattle.page_layout.specs.OneArray.{AreBelow}
+use Rattle.page_layout.specs.OneArray.{AreDistinct, AreBelow}
 use Rattle.certificate.specs.Claim.{Claim}
 use Rattle.image_check.specs.declared.refusal.Refusal.{Refusal}
 use Rattle.image_check.specs.declared.refusal.Refusal.TheVariants as refusals
-use Rattle.image_check.specs.Agrees.{Agrees}
+use Rattle.image_check.specs.Agrees.{Agrees, AreInRange, HasTables}
 use Rattle.image_check.specs.Mountable.{IsMountable}
 use Rattle.image_check.specs.Stale.{stale_count}
 use Rattle.image_check.specs.Survey.{IsFirstOutside}
-use Rattle.image_check.specs.Refused.{IsFirstRepeated, IsUnformatted, IsTableDamaged, IsStop}
+use Rattle.image_check.specs.Refused.{Part, Numbers, Sequences, Tables, order, part_of, IsFirstRepeated, IsUnformatted, IsTableDamaged, IsStop}
 
 -- one more than the greatest sequence of all sound pages
 pub record IsNextSequence (marks : List (Option Record)) (next : ℕ) : Type 0 where
@@ -54,10 +54,19 @@ Shows g capacity image refusals.Source = ⊥
 Shows g capacity image refusals.OutOfMemory = ⊥
 Shows g capacity image refusals.WrongLength = ⊥
 
--- no certificate agrees with the image, and the refusal says why
+-- the refusal names a part that comes later in the order than this one
+abbrev pub IsAfter : Part → Refusal → Type 0
+IsAfter part r = (named : Part) × (part_of r ≡ Some named) × (order part < order named)
+
+-- No certificate agrees with the image, and the refusal says why. Of the parts that the pages alone decide those that come
+-- before the one that it names are right.
+-- Law: an image whose sound pages share a sequence is refused for that, if its numbers are in range (`SharedLaw`).
 pub record IsUnmountable (g : Geometry) (capacity : ℕ) (image : Image) (r : Refusal) : Type 0 where
   pub none : ¬ IsMountable g capacity image
   pub shows : Shows g capacity image r
+  pub numbers : IsAfter Numbers r → AreInRange g (marks image)
+  pub sequences : IsAfter Sequences r → AreDistinct (marks image)
+  pub tables : IsAfter Tables r → HasTables g image
 
 -- what a refusal to mount says: memory or a page read failed, or the image has no certificate
 abbrev pub Refuses : Geometry → ℕ → Image → Refusal → Type 0

@@ -6,3 +6,4 @@ pub mod MakeLemmas
 pub mod ActLemmas
 pub mod LawLemmas
 pub mod StopLemmas
+pub mod TapeLemmas

@@ -12,11 +12,7 @@ use Rattle.page_layout.specs.Raw.{page_from, raw_image}
 use Rattle.page_layout.specs.Change.{erased_page}
 use Rattle.page_layout.specs.Flash.{no_page, with_block}
 use Rattle.onfi_cycles.specs.Cycles.{page_of}
-
--- the first n pages
-abbrev pub pages_of : Geometry → ℕ → List ℕ → List Page
-pages_of g zero bytes = []
-pages_of g (suc n) bytes = page_of g (take (page_bytes g) bytes) ∷ pages_of g n (drop (page_bytes g) bytes)
+use Rattle.nand_die.specs.Tape.{pages_of}
 
 pub length-pages_of : (g : Geometry) (n : ℕ) (bytes : List ℕ) → length (pages_of g n bytes) ≡ n
 length-pages_of g zero bytes = refl
@@ -50,7 +46,7 @@ raw_image_is g bytes = rows_from g bytes 0 (row_count g) ∙ ap (λ k. pages_of 
 
 -- ---- one page
 
-pages_suc : (g : Geometry) (n : ℕ) (u w : List ℕ) → length u ≡ page_bytes g → pages_of g (suc n) (u ++ w) ≡ page_of g u ∷ pages_of g n w
+pub pages_suc : (g : Geometry) (n : ℕ) (u w : List ℕ) → length u ≡ page_bytes g → pages_of g (suc n) (u ++ w) ≡ page_of g u ∷ pages_of g n w
 pages_suc g n u w e = ap (λ k. page_of g (take k (u ++ w)) ∷ pages_of g n (drop k (u ++ w))) (sym e)
     ∙ (ap (λ xs. page_of g xs ∷ pages_of g n (drop (length u) (u ++ w))) (take-append_seam u w) ∙ ap (λ xs. page_of g u ∷ pages_of g n xs) (drop-append_seam u w))
 
@@ -105,7 +101,7 @@ page_read g row a bytes lt at = ap (λ ps. get_or ps row no_page) (raw_image_is 
 -- ---- a block
 
 -- pages in front of others
-pages_append : (g : Geometry) (m n : ℕ) (u w : List ℕ) → length u ≡ m * page_bytes g → pages_of g (m + n) (u ++ w) ≡ pages_of g m u ++ pages_of g n w
+pub pages_append : (g : Geometry) (m n : ℕ) (u w : List ℕ) → length u ≡ m * page_bytes g → pages_of g (m + n) (u ++ w) ≡ pages_of g m u ++ pages_of g n w
 pages_append g zero n [] w e = ap (λ k. pages_of g k w) (omega arith)
 pages_append g zero n (x ∷ u) w e = absurd (omega (arith, e))
 pages_append g (suc m) n u w e =
@@ -192,6 +188,32 @@ block_erased g block start size xs ys le is_start is_size is_ys lx =
     ∙ (ap (λ ps. take a (pages_of g (a + (b + m)) xs) ++ (ps ++ drop (a + b) (pages_of g (a + (b + m)) xs))) (pages_of_blank g b)
     ∙ (ap (λ j. with_block b block (replicate b (erased_page g)) (pages_of g j xs)) (sym k)
     ∙ ap (with_block b block (replicate b (erased_page g))) (sym (raw_image_is g xs)))))))))
+
+-- the pages of a block
+pub block_read : (g : Geometry) (block start size : ℕ) (xs : List ℕ) → block * g.pages + g.pages ≤ row_count g → start ≡ block * g.pages * page_bytes g → size ≡ g.pages * page_bytes g → length xs ≡ row_count g * page_bytes g
+    → take g.pages (drop (block * g.pages) (raw_image g xs)) ≡ pages_of g g.pages (take size (drop start xs))
+block_read g block start size xs le is_start is_size lx =
+    let z : ℕ = page_bytes g in
+    let n : ℕ = row_count g in
+    let a : ℕ = block * g.pages in
+    let b : ℕ = g.pages in
+    let m : ℕ = n - (a + b) in
+    let k : n ≡ a + (b + m) = omega (arith, le) in
+    let u : List ℕ = take (a * z) xs in
+    let t : List ℕ = drop (a * z) xs in
+    let v : List ℕ = take (b * z) t in
+    let w : List ℕ = drop (b * z) t in
+    let total : (a + (b + m)) * z ≡ a * z + (b * z + m * z) = omega arith in
+    let whole : length xs ≡ (a + (b + m)) * z = lx ∙ ap (λ j. j * z) k in
+    let lu : length u ≡ a * z = length-take-le (a * z) xs (omega (arith, whole, total)) in
+    let lt : length t ≡ b * z + m * z = omega (arith, whole, total, length-drop (a * z) xs) in
+    let lv : length v ≡ b * z = length-take-le (b * z) t (omega (arith, lt)) in
+    let parts : pages_of g (a + (b + m)) xs ≡ pages_of g a u ++ (pages_of g b v ++ pages_of g m w)
+    = ap (pages_of g (a + (b + m))) (sym (take-append-drop (a * z) xs)) ∙ (pages_append g a (b + m) u t lu
+    ∙ ap (λ ps. pages_of g a u ++ ps) (ap (pages_of g (b + m)) (sym (take-append-drop (b * z) t)) ∙ pages_append g b m v w lv)) in
+    ap (λ ps. take b (drop a ps)) (raw_image_is g xs ∙ (ap (λ j. pages_of g j xs) k ∙ parts))
+    ∙ (middle_part (pages_of g a u) (pages_of g b v) (pages_of g m w) a b (length-pages_of g a u) (length-pages_of g b v)
+    ∙ (ap (λ j. pages_of g b (take j t)) (sym is_size) ∙ ap (λ j. pages_of g b (take size (drop j xs))) (sym is_start)))
 
 -- a block lies in the array
 pub block_within : (g : Geometry) (block : ℕ) → block < g.blocks → block * g.pages + g.pages ≤ row_count g

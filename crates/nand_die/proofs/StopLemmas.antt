@@ -1,19 +1,24 @@
 -- What a stop leaves of a die.
-use Rattle.std.proofs.Common.{◌≡◌, ℕ, Bool, true, false, not, refl, sym, ◌∙◌, ap, ◌==◌, ◌&&◌, ◌||◌, if◌then◌else◌, Ok, Err}
-use Rattle.std.specs.Prelude.{Result}
-use Rattle.std.proofs.lemmas.Bool.{eqb-true}
+use Rattle.std.proofs.Common.{◌≡◌, inl, inr, ℕ, ◌-◌, Bool, true, false, not, List, [], ◌∷◌, refl, sym, ◌∙◌, ap, subst, ◌==◌, ◌&&◌, ◌||◌, if◌then◌else◌, Ok, Err, Option, Some, None, arith}
+use Rattle.std.specs.Prelude.{Result, OnOk}
+use Rattle.std.proofs.lemmas.Bool.{eqb-true, eq-eqb, ne_eqb}
 use Rattle.page_layout.specs.declared.geometry.Geometry.{Geometry}
-use Rattle.page_layout.specs.Flash.{after}
+use Rattle.page_layout.specs.Page.{Page}
+use Rattle.page_layout.specs.Flash.{Operation, Program, Erase, after, page_at, block_at}
+use Rattle.page_layout.specs.Recording.{Recording, Records, noted}
 use Rattle.onfi_cycles.specs.declared.nand.BusFault.{BusFault}
 use Rattle.onfi_cycles.specs.declared.nand.BusFault.TheVariants.{NoReset, UnknownCommand, OutOfTurn, AddressRange, ColumnRange, Device}
 use Rattle.onfi_cycles.specs.Spelling.{refused}
+use Rattle.onfi_cycles.specs.Recorded.{Notes}
+use Rattle.nand_die.specs.Tape.{next_record}
+use Rattle.nand_die.specs.Laws.{CalmLaw, StoppedLaw, RoomLaw}
 use Rattle.onfi_cycles.specs.Cycles.{Phase, Unreset, Ready, Taking, Confirming, Loading, NoOutput, DieState, Cycle, Command, Address, DataIn, DataOut, Due, Moves, Resets, Programs, Erases, Refuses, FailsBy, command_due, given_up}
 use Rattle.nand_die.specs.declared.fault.Stop.{Stop}
 use Rattle.nand_die.specs.declared.fault.Stop.TheVariants.{Before, After, Torn}
 use Rattle.nand_die.specs.BusState.{IsProtocolFault}
 use Rattle.nand_die.specs.ChipValue.{ChipValue, Acts, answered, answer_to}
 use Rattle.nand_die.specs.Stopping.{is_change, left_by_stop}
-use Rattle.nand_die.specs.DieValue.{DieValue, IsCall, after_cycle, chip_of, due_now, is_calm, stops}
+use Rattle.nand_die.specs.DieValue.{DieValue, IsCall, after_cycle, chip_of, die_of, done_as, due_now, failed_as, is_calm, record_after, stops}
 
 no_change : (b : Bool) → is_change (if b then Resets else Refuses NoReset) ≡ true → ⊥
 no_change true e = cc
@@ -124,3 +129,102 @@ call_fails d e cycle r fails device does = record {
   answers = device ∙ sym (ap (λ b. if b then refused Device else answer_to (due_now d cycle)) fails);
   own = λ calm. absurd (true_false (sym fails ∙ calm_runs d cycle calm));
 }
+
+-- ---- the record
+
+-- a chip that did the program that was due, and the record that noted it
+pub run_program : (d : DieValue) (due : Due) (row : ℕ) (page left : Page) (c : ChipValue) (told : Option Recording) (free : ℕ) (passed : Bool) → d.stopped ≡ false → due ≡ Programs row page
+    → c ≡ answered due (chip_of d) → passed ≡ (c.state.status == 0xE0) → page_at c.state.flash row ≡ left → told ≡ next_record d.room (Program row page passed left) d.recorded → free ≡ d.room - 1
+    → die_of c d.stop d.left d.stopped d.failures told free ≡ done_as d due d.left
+run_program d due row page left c told free passed runs is does is_passed is_left is_told is_free =
+    let noted : ChipValue → Option Recording = λ x. next_record d.room (Program row page (x.state.status == 0xE0) (page_at x.state.flash row)) d.recorded in
+    let now : told ≡ noted c = is_told ∙ (ap (λ b. next_record d.room (Program row page b left) d.recorded) is_passed
+    ∙ ap (λ l. next_record d.room (Program row page (c.state.status == 0xE0) l) d.recorded) (sym is_left)) in
+    ap (λ b. die_of c d.stop d.left b d.failures told free) runs
+    ∙ (ap (λ t. die_of c d.stop d.left false d.failures t free) now
+    ∙ (ap (λ k. die_of c d.stop d.left false d.failures (noted c) k) is_free
+    ∙ (ap (λ x. die_of x d.stop d.left false d.failures (noted x) (d.room - 1)) (does ∙ ap (λ u. answered u (chip_of d)) is)
+    ∙ ap (λ u. done_as d u d.left) (sym is))))
+
+-- the same of an erase
+pub run_erase : (d : DieValue) (due : Due) (block : ℕ) (left : List Page) (c : ChipValue) (told : Option Recording) (free : ℕ) (passed : Bool) → d.stopped ≡ false → due ≡ Erases block
+    → c ≡ answered due (chip_of d) → passed ≡ (c.state.status == 0xE0) → block_at c.state.flash block ≡ left → told ≡ next_record d.room (Erase block passed left) d.recorded → free ≡ d.room - 1
+    → die_of c d.stop d.left d.stopped d.failures told free ≡ done_as d due d.left
+run_erase d due block left c told free passed runs is does is_passed is_left is_told is_free =
+    let noted : ChipValue → Option Recording = λ x. next_record d.room (Erase block (x.state.status == 0xE0) (block_at x.state.flash block)) d.recorded in
+    let now : told ≡ noted c = is_told ∙ (ap (λ b. next_record d.room (Erase block b left) d.recorded) is_passed
+    ∙ ap (λ l. next_record d.room (Erase block (c.state.status == 0xE0) l) d.recorded) (sym is_left)) in
+    ap (λ b. die_of c d.stop d.left b d.failures told free) runs
+    ∙ (ap (λ t. die_of c d.stop d.left false d.failures t free) now
+    ∙ (ap (λ k. die_of c d.stop d.left false d.failures (noted c) k) is_free
+    ∙ (ap (λ x. die_of x d.stop d.left false d.failures (noted x) (d.room - 1)) (does ∙ ap (λ u. answered u (chip_of d)) is)
+    ∙ ap (λ u. done_as d u d.left) (sym is))))
+
+quiet_due : (d : DieValue) (due : Due) → is_change due ≡ false → d.stopped ≡ false → die_of (answered due (chip_of d)) d.stop d.left d.stopped d.failures d.recorded d.room ≡ done_as d due d.left
+quiet_due d (Moves phase) e runs = ap (λ b. die_of (answered (Moves phase) (chip_of d)) d.stop d.left b d.failures d.recorded d.room) runs
+quiet_due d Resets e runs = ap (λ b. die_of (answered Resets (chip_of d)) d.stop d.left b d.failures d.recorded d.room) runs
+quiet_due d (Programs row page) e runs = cc
+quiet_due d (Erases block) e runs = cc
+quiet_due d (Refuses fault) e runs = ap (λ b. die_of (answered (Refuses fault) (chip_of d)) d.stop d.left b d.failures d.recorded d.room) runs
+
+-- a cycle that changes nothing leaves the record
+pub run_other : (d : DieValue) (due : Due) (c : ChipValue) → d.stopped ≡ false → is_change due ≡ false → c ≡ answered due (chip_of d)
+    → die_of c d.stop d.left d.stopped d.failures d.recorded d.room ≡ done_as d due d.left
+run_other d due c runs quiet does = ap (λ x. die_of x d.stop d.left d.stopped d.failures d.recorded d.room) does ∙ quiet_due d due quiet runs
+
+notes_quiet : (due : Due) (told told' : Option Recording) (s : DieState) → is_change due ≡ false → told' ≡ told → Notes due told s told'
+notes_quiet (Moves phase) told told' s e same = same
+notes_quiet Resets told told' s e same = same
+notes_quiet (Programs row page) told told' s e same = cc
+notes_quiet (Erases block) told told' s e same = cc
+notes_quiet (Refuses fault) told told' s e same = same
+
+pub quiet_noted : (due : Due) (told told' : Option Recording) (s : DieState) (r : Result (Unit {0}) BusFault) → is_change due ≡ false → told' ≡ told → OnOk r (true ≡ true → Notes due told s told')
+quiet_noted due told told' s (Ok x) e same = λ h. notes_quiet due told told' s e same
+quiet_noted due told told' s (Err fault) e same = tt
+
+next_noted : (b : Bool) (op : Operation) (told : Option Recording) → Records told (op ∷ []) (if b then None else noted (op ∷ []) told)
+next_noted true op told = inl refl
+next_noted false op told = inr refl
+
+after_noted : (due : Due) (c : ChipValue) (room : ℕ) (told : Option Recording) → Notes due told c.state (record_after due c room told)
+after_noted (Moves phase) c room told = refl
+after_noted Resets c room told = refl
+after_noted (Programs row page) c room told = next_noted (room == 0) (Program row page (c.state.status == 0xE0) (page_at c.state.flash row)) told
+after_noted (Erases block) c room told = next_noted (room == 0) (Erase block (c.state.status == 0xE0) (block_at c.state.flash block)) told
+after_noted (Refuses fault) c room told = refl
+
+-- a command that was done is noted
+done_noted : (d e : DieValue) (due : Due) (left : ℕ) (r : Result (Unit {0}) BusFault) → e ≡ done_as d due left → OnOk r (true ≡ true → Notes due d.recorded e.state e.recorded)
+done_noted d e due left (Ok x) is = λ h. subst (λ (v : DieValue). Notes due d.recorded v.state v.recorded) (sym is) (after_noted due (answered due (chip_of d)) d.room d.recorded)
+done_noted d e due left (Err fault) is = tt
+
+-- the same of one that was first counted towards the stop
+pub run_noted : (d x e : DieValue) (code left : ℕ) (r : Result (Unit {0}) BusFault) → x ≡ die_of (chip_of d) d.stop left d.stopped d.failures d.recorded d.room
+    → e ≡ done_as x (due_now x (Command code)) x.left → OnOk r (true ≡ true → Notes (due_now d (Command code)) d.recorded e.state e.recorded)
+run_noted d x e code left r is does = subst (λ (y : DieValue). OnOk r (true ≡ true → Notes (due_now y (Command code)) y.recorded e.state e.recorded)) is (done_noted x e (due_now x (Command code)) x.left r does)
+
+-- ---- laws
+
+pub calm_law : CalmLaw
+calm_law d e = (calm_failures d e, λ cycle. ap (λ b. if b then refused Device else answer_to (due_now d cycle)) (calm_runs d cycle e))
+
+after_stopped : (d : DieValue) (cycle : Cycle) → d.stopped ≡ true → after_cycle cycle d ≡ failed_as d (chip_of d) d.left
+after_stopped d (Command code) e = rw e refl
+after_stopped d (Address byte) e = rw e refl
+after_stopped d (DataIn bytes) e = rw e refl
+after_stopped d (DataOut count) e = rw e refl
+
+pub stopped_law : StoppedLaw
+stopped_law d cycle e = let h = after_stopped d cycle e in (
+  ap (λ b. if b || stops d cycle then refused Device else answer_to (due_now d cycle)) e,
+  ap (λ (x : DieValue). x.stopped) h,
+  ap (λ (x : DieValue). x.state.flash) h,
+  ap (λ (x : DieValue). x.changes) h,
+)
+
+pub room_law : RoomLaw
+room_law room op r = (
+  λ none. ap (λ b. if b then None else noted (op ∷ []) (Some r)) (eq-eqb room 0 none),
+  λ some. ap (λ b. if b then None else noted (op ∷ []) (Some r)) (ne_eqb room 0 (λ e. omega (arith, e, some))),
+)

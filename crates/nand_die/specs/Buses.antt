@@ -1,5 +1,5 @@
 -- Buses for tests, round another bus: one that breaks down for a while, and one that turns bits of what is put out.
-use Rattle.std.specs.Prelude.{◌≡◌, ℕ, Bool, true, false, not, ◌&&◌, ◌==◌, ◌-◌, List, get_or, slice_set, Result, Err, if◌then◌else◌}
+use Rattle.std.specs.Prelude.{◌≡◌, ℕ, Bool, true, false, not, ◌&&◌, ◌==◌, ◌-◌, List, get_or, slice_set, Result, if◌then◌else◌}
 use Rattle.std.specs.Int.RustNames.{bit_xor}
 use Rattle.page_layout.specs.Counter.{counted}
 use Rattle.onfi_cycles.specs.declared.nand.BusFault.{BusFault}

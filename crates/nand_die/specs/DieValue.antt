@@ -1,20 +1,23 @@
 -- A die in memory as contracts see it, and what it does at each cycle: a function of its value, and a case of the bus protocol.
-use Rattle.std.specs.Prelude.{◌≡◌, ℕ, Bool, true, false, not, ◌&&◌, ◌||◌, ◌==◌, ◌-◌, List, Result, IfErr, if◌then◌else◌}
+use Rattle.std.specs.Prelude.{◌≡◌, ℕ, Bool, true, false, not, ◌&&◌, ◌||◌, ◌==◌, ◌-◌, List, Option, None, Result, IfErr, if◌then◌else◌}
 use Rattle.page_layout.specs.Counter.{counted}
-use Rattle.page_layout.specs.Flash.{Flash}
+use Rattle.page_layout.specs.Flash.{Flash, Program, Erase, page_at, block_at}
+use Rattle.page_layout.specs.Recording.{Recording}
 use Rattle.onfi_cycles.specs.declared.nand.BusFault.{BusFault}
 use Rattle.onfi_cycles.specs.declared.nand.BusFault.TheVariants.{Device}
-use Rattle.onfi_cycles.specs.Cycles.{DieState, Due, Cycle, Command, Address, DataIn, DataOut, due_of}
+use Rattle.onfi_cycles.specs.Cycles.{DieState, Due, Moves, Resets, Programs, Erases, Refuses, Cycle, Command, Address, DataIn, DataOut, due_of}
 use Rattle.onfi_cycles.specs.Spelling.{refused}
 use Rattle.nand_die.specs.declared.fault.Fault.{Fault}
 use Rattle.nand_die.specs.declared.fault.Stop.{Stop}
-use Rattle.nand_die.specs.declared.fault.Stop.TheVariants.{Before, After, Torn}
+use Rattle.nand_die.specs.declared.fault.Stop.TheVariants.{Before}
 use Rattle.nand_die.specs.BusState.{IsProtocolFault}
+use Rattle.nand_die.specs.Tape.{next_record}
 use Rattle.nand_die.specs.ChipValue.{ChipValue, fresh, answered, answer_to}
 use Rattle.nand_die.specs.Stopping.{is_change, quit, left_by_stop}
 
 -- What its bus shows; the faults that are set on it, how many programs and erases were asked for since, and how many in all; the stop that
--- is set, in so many programs and erases from now, counted from 1 (0 is none); whether it has stopped, and the cycles that failed since.
+-- is set, in so many programs and erases from now, counted from 1 (0 is none); whether it has stopped, and the cycles that failed since; the
+-- record that it tells, and how many operations that has room for yet.
 pub record DieValue : Type 0 where
   pub state : DieState
   pub faults : List Fault
@@ -24,14 +27,16 @@ pub record DieValue : Type 0 where
   pub left : ℕ
   pub stopped : Bool
   pub failures : ℕ
+  pub recorded : Option Recording
+  pub room : ℕ
 
 -- its part that does the work
 abbrev pub chip_of : DieValue → ChipValue
 chip_of d = record { state = d.state; faults = d.faults; asked = d.asked; changes = d.changes }
 
--- a die of that part, with its stop
-abbrev pub die_of : ChipValue → Stop → ℕ → Bool → ℕ → DieValue
-die_of c stop left stopped failures = record {
+-- a die of that part, with its stop and its record
+abbrev pub die_of : ChipValue → Stop → ℕ → Bool → ℕ → Option Recording → ℕ → DieValue
+die_of c stop left stopped failures recorded room = record {
   state = c.state;
   faults = c.faults;
   asked = c.asked;
@@ -40,11 +45,13 @@ die_of c stop left stopped failures = record {
   left = left;
   stopped = stopped;
   failures = failures;
+  recorded = recorded;
+  room = room;
 }
 
--- a die that was not yet reset, with no faults and no stop set
+-- a die that was not yet reset, with no faults and no stop set, and no record
 abbrev pub before_reset : Flash → DieValue
-before_reset flash = die_of (fresh flash) Before 0 false 0
+before_reset flash = die_of (fresh flash) Before 0 false 0 None 0
 
 -- no stop is set, none came, and no cycle has failed
 abbrev pub is_calm : DieValue → Bool
@@ -63,21 +70,33 @@ stops d (Address byte) = false
 stops d (DataIn bytes) = false
 stops d (DataOut count) = false
 
--- a die that fails: its unfinished command is given up
+-- a die that fails: its unfinished command is given up, and it tells no record
 abbrev pub failed_as : DieValue → ChipValue → ℕ → DieValue
-failed_as d c left = die_of (quit c) d.stop left true (counted d.failures)
+failed_as d c left = die_of (quit c) d.stop left true (counted d.failures) None 0
+
+-- the record after what was due: a program or an erase is noted with its outcome and with what it left, each other cycle leaves the record
+abbrev pub record_after : Due → ChipValue → ℕ → Option Recording → Option Recording
+record_after (Moves phase) c room told = told
+record_after Resets c room told = told
+record_after (Programs row page) c room told = next_record room (Program row page (c.state.status == 0xE0) (page_at c.state.flash row)) told
+record_after (Erases block) c room told = next_record room (Erase block (c.state.status == 0xE0) (block_at c.state.flash block)) told
+record_after (Refuses fault) c room told = told
+
+-- a die that does what was due
+abbrev pub done_as : DieValue → Due → ℕ → DieValue
+done_as d due left = die_of (answered due (chip_of d)) d.stop left false d.failures (record_after due (answered due (chip_of d)) d.room d.recorded) (if is_change due then d.room - 1 else d.room)
 
 -- a cycle that is no command: a stopped die fails, any other does it
 abbrev pub after_quiet : Cycle → DieValue → DieValue
-after_quiet cycle d = if d.stopped then failed_as d (chip_of d) d.left else die_of (answered (due_now d cycle) (chip_of d)) d.stop d.left false d.failures
+after_quiet cycle d = if d.stopped then failed_as d (chip_of d) d.left else die_of (answered (due_now d cycle) (chip_of d)) d.stop d.left false d.failures d.recorded d.room
 
 -- A command. A stopped die fails. One that stops in it fails with what the stop leaves. Any other does it, and a program or an erase
--- brings the stop nearer.
+-- is noted and brings the stop nearer.
 abbrev pub after_command : ℕ → DieValue → DieValue
 after_command code d =
     if d.stopped then failed_as d (chip_of d) d.left
     else if stops d (Command code) then failed_as d (left_by_stop d.stop (due_now d (Command code)) (chip_of d)) 0
-    else die_of (answered (due_now d (Command code)) (chip_of d)) d.stop (if is_change (due_now d (Command code)) then d.left - 1 else d.left) false d.failures
+    else done_as d (due_now d (Command code)) (if is_change (due_now d (Command code)) then d.left - 1 else d.left)
 
 -- THE DIE AFTER A CYCLE
 abbrev pub after_cycle : Cycle → DieValue → DieValue

@@ -1,17 +1,22 @@
 -- What a die in memory does, said of its value before and after.
-use Rattle.std.specs.Prelude.{List, Contains, ◌≡◌, ◌⊎◌, ◌↔◌, ℕ, ◌<◌, true, false, if◌then◌else◌, length, IsSome, None}
+use Rattle.std.specs.Prelude.{List, [], ◌∷◌, ◌++◌, Some, Contains, ◌≡◌, ◌⊎◌, ◌↔◌, ℕ, ◌<◌, true, false, if◌then◌else◌, length, IsSome, None}
 use Rattle.page_layout.specs.Block.{past_last}
 use Rattle.page_layout.specs.Page.{Page}
 use Rattle.page_layout.specs.Counter.{counted}
-use Rattle.page_layout.specs.Flash.{may_program, may_erase}
-use Rattle.onfi_cycles.specs.Cycles.{Phase, Moves, Resets, Programs, Erases, Refuses}
+use Rattle.page_layout.specs.Flash.{Operation, may_program, may_erase}
+use Rattle.page_layout.specs.Recording.{Recording}
+use Rattle.onfi_cycles.specs.Spelling.{refused}
+use Rattle.onfi_cycles.specs.declared.nand.BusFault.TheVariants.{Device}
+use Rattle.onfi_cycles.specs.Cycles.{Cycle, Phase, Moves, Resets, Programs, Erases, Refuses}
 use Rattle.onfi_cycles.specs.declared.nand.BusFault.{BusFault}
 use Rattle.page_layout.specs.declared.geometry.Geometry.{Geometry}
 use Rattle.nand_die.specs.declared.fault.Fault.{Fault}
 use Rattle.nand_die.specs.declared.fault.DieFault.{DieFault}
 use Rattle.nand_die.specs.Made.{AreNames, IsFirstMisnamed, is_named, IsNextPage}
 use Rattle.nand_die.specs.Faults.{ArePagesLeft, HasFirstWrong}
-use Rattle.nand_die.specs.ChipValue.{ChipValue, fault_next, answered}
+use Rattle.nand_die.specs.ChipValue.{ChipValue, fault_next, answered, answer_to}
+use Rattle.nand_die.specs.Tape.{next_record}
+use Rattle.nand_die.specs.DieValue.{DieValue, after_cycle, answer_of, due_now, is_calm}
 
 -- A program passes, with status E0h, just where its page is the next of a block that is neither bad nor failed and no fault is due. Else
 -- it fails, with status E1h.
@@ -50,6 +55,22 @@ QuietLaw = (d : ChipValue) →
     ((phase : Phase) → ((answered (Moves phase) d).state.flash ≡ d.state.flash) × ((answered (Moves phase) d).asked ≡ d.asked) × ((answered (Moves phase) d).changes ≡ d.changes))
     × (((answered Resets d).state.flash ≡ d.state.flash) × ((answered Resets d).asked ≡ d.asked) × ((answered Resets d).changes ≡ d.changes))
     × ((fault : BusFault) → ((answered (Refuses fault) d).state.flash ≡ d.state.flash) × ((answered (Refuses fault) d).asked ≡ d.asked) × ((answered (Refuses fault) d).changes ≡ d.changes))
+
+-- ---- stops and records
+
+-- A die on which no stop is set has failed no cycle, and answers what the protocol asks for.
+abbrev pub CalmLaw : Type 0
+CalmLaw = (d : DieValue) → is_calm d ≡ true → (d.failures ≡ 0) × ((cycle : Cycle) → answer_of cycle d ≡ answer_to (due_now d cycle))
+
+-- A die that has stopped answers each cycle with the device's fault, and stays as it is.
+abbrev pub StoppedLaw : Type 0
+StoppedLaw = (d : DieValue) (cycle : Cycle) → d.stopped ≡ true →
+    (answer_of cycle d ≡ refused Device) × ((after_cycle cycle d).stopped ≡ true) × ((after_cycle cycle d).state.flash ≡ d.state.flash) × ((after_cycle cycle d).changes ≡ d.changes)
+
+-- A record gains a program or an erase while it has room, and ends past it.
+abbrev pub RoomLaw : Type 0
+RoomLaw = (room : ℕ) (op : Operation) (r : Recording) →
+    (room ≡ 0 → next_record room op (Some r) ≡ None) × (0 < room → next_record room op (Some r) ≡ Some (record { image = r.image; log = r.log ++ (op ∷ []) }))
 
 -- ---- what a die is made of
 

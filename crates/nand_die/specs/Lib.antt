@@ -2,8 +2,10 @@ pub mod Faults
 pub mod BusState
 pub mod Turns
 pub mod Made
+pub mod Tape
 pub mod ChipValue
 pub mod Stopping
+pub mod Jobs
 pub mod DieValue
 pub mod Laws
 pub mod Buses

@@ -1,5 +1,5 @@
 -- How a die may stop at a program or an erase: before it, after it, or with its page torn.
-use Rattle.std.specs.Prelude.{◌≡◌, ◌≢◌, IsSome, ℕ, Bool, true, false, ◌*◌, length, slice_set, None, if◌then◌else◌}
+use Rattle.std.specs.Prelude.{◌≡◌, ◌≢◌, IsSome, Bool, true, false, ◌*◌, length, slice_set, None, if◌then◌else◌}
 use Rattle.page_layout.specs.declared.geometry.Geometry.{Geometry}
 use Rattle.page_layout.specs.Geometry.{page_bytes}
 use Rattle.page_layout.specs.Page.{Page, Image}

@@ -5,6 +5,7 @@ ghost use Rattle.page_layout.specs.Raw.{raw_image, IsRaw};
 ghost use Rattle.page_layout.specs.Change.{erased_page};
 ghost use Rattle.page_layout.specs.Flash.{no_page, with_block};
 ghost use Rattle.onfi_cycles.specs.Cycles.{page_of};
+ghost use Rattle.nand_die.specs.Tape.{pages_of};
 ghost use Rattle.nand_die.specs.Made.{with_mark};
 
 use page_layout::geometry::Geometry;
@@ -55,6 +56,18 @@ pub fn page_slice<'a>(bytes: &'a [u8], geometry: &Geometry, row: u32) -> &'a [u8
 {
     let size = page_length(geometry);
     let start = row as usize * size;
+    &bytes[start..start + size]
+}
+
+// A block, lent.
+pub fn block_slice<'a>(bytes: &'a [u8], geometry: &Geometry, block: u32) -> &'a [u8]
+    requires in_range { block < geometry.now.blocks }
+    requires whole { length bytes.now ≡ row_count geometry.now * page_bytes geometry.now }
+    ensures pages { take geometry.now.pages (drop (block * geometry.now.pages) (raw_image geometry.now bytes.now)) ≡ pages_of geometry.now geometry.now.pages result.now }
+    ensures size { length result.now ≡ geometry.now.pages * page_bytes geometry.now }
+{
+    let size = geometry.pages() as usize * page_length(geometry);
+    let start = block as usize * size;
     &bytes[start..start + size]
 }
 

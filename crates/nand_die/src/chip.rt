@@ -1,12 +1,14 @@
 // The array of a die in memory, and what it does at each cycle.
-ghost use Rattle.std.specs.Prelude.{◌≡◌, ◌<◌, ◌*◌, ℕ, true, List, length, map, IfOk, IfErr, OnOk, OnErr, if◌then◌else◌};
+ghost use Rattle.std.specs.Prelude.{◌≡◌, ◌==◌, ◌<◌, ◌*◌, ℕ, true, false, List, length, map, IfOk, IfErr, OnOk, OnErr, if◌then◌else◌};
 ghost use Rattle.page_layout.specs.Geometry.{row_count, page_bytes};
 ghost use Rattle.page_layout.specs.Raw.{raw_bytes, raw_image};
 ghost use Rattle.page_layout.specs.Counter.{counted};
 ghost use Rattle.onfi_cycles.specs.Cycles.{Programs, Erases, Refuses, Loading, page_of, command_due, address_due, data_in_due, data_out_due, bytes_out};
+ghost use Rattle.page_layout.specs.Flash.{page_at, block_at};
+ghost use Rattle.nand_die.specs.Tape.{pages_of};
 ghost use Rattle.nand_die.specs.BusState.{IsProtocolFault};
 
-use crate::array::{image_length, page_length, tear_page};
+use crate::array::{block_slice, image_length, page_length, page_slice, tear_page};
 use crate::bus_state::{AddressStep, BusState, CommandStep, OutputSource};
 use crate::change::{BlockTurn, Change, erase_into, program_into, program_is_due};
 use crate::cycle_step::{address_step, command_step, data_place};
@@ -44,7 +46,14 @@ fn counts_after(counts: ChangeCounts, change: Change) -> ChangeCounts
     }
 }
 
-// What a die in memory is but for its stop: an honest bus that never answers `Device`.
+// The program or the erase that a command does, if one: of a program the row and the page that was handed in.
+pub enum Job<'a> {
+    Program { row: u32, page: &'a [u8] },
+    Erase { block: u32 },
+    Other,
+}
+
+// What a die in memory is but for its stop and its record: an honest bus that never answers `Device`.
 #[derive(Drop)]
 pub struct Chip {
     geometry: Geometry,
@@ -78,6 +87,7 @@ impl Model for Chip {
 impl Chip {
     ghost use Rattle.nand_die.specs.ChipValue.{ChipValue, Acts, fresh};
     ghost use Rattle.nand_die.specs.Stopping.{quit, is_change, missed, torn_image, with_image};
+    ghost use Rattle.nand_die.specs.Jobs.{IsJob};
     ghost use Rattle.nand_die.specs.Faults.{ArePagesLeft, HasFirstWrong};
     ghost use Rattle.nand_die.specs.Turns.{flash_of};
     ghost use Rattle.nand_die.specs.Made.{AreNames, marked_blocks, new_flash, loaded_flash, RefusesMarks, RefusesImage};
@@ -202,6 +212,55 @@ impl Chip {
         self.counts.changes = self.counts.changes.saturating_add(1);
     }
 
+    // The image.
+    pub(crate) fn image(&self) -> &[u8]
+        ensures { raw_image self.now.state.flash.geometry result.now ≡ self.now.state.flash.image }
+    {
+        self.bytes.as_slice()
+    }
+
+    // The page of a row.
+    pub(crate) fn page(&self, row: u32) -> &[u8]
+        requires { row < row_count self.now.state.flash.geometry }
+        ensures page { page_at self.now.state.flash row ≡ page_of self.now.state.flash.geometry result.now }
+        ensures size { length result.now ≡ page_bytes self.now.state.flash.geometry }
+    {
+        page_slice(self.bytes.as_slice(), &self.geometry, row)
+    }
+
+    // The pages of a block.
+    pub(crate) fn block(&self, block: u32) -> &[u8]
+        requires { block < self.now.state.flash.geometry.blocks }
+        ensures pages { block_at self.now.state.flash block ≡ pages_of self.now.state.flash.geometry self.now.state.flash.geometry.pages result.now }
+        ensures size { length result.now ≡ self.now.state.flash.geometry.pages * page_bytes self.now.state.flash.geometry }
+    {
+        block_slice(self.bytes.as_slice(), &self.geometry, block)
+    }
+
+    // Whether the last program or erase passed, by the status.
+    pub(crate) fn passed(&self) -> bool
+        ensures { result ≡ (self.now.state.status == 0xE0) }
+    {
+        self.passed
+    }
+
+    // The program or the erase that a command does.
+    #[tactic(auto, unfolding(onfi_cycles::specs::Cycles::command_due))]
+    pub(crate) fn job(&self, code: u8) -> Job<'_>
+        ensures { IsJob self.now.state.flash.geometry result (command_due self.now.state.flash.geometry self.now.state.phase code) }
+    {
+        match command_step(&self.geometry, self.bus_state, code) {
+            CommandStep::Programs { row } => Job::Program {
+                row,
+                page: self.register.as_slice(),
+            },
+            CommandStep::Erases { block } => Job::Erase { block },
+            CommandStep::Moves(_) => Job::Other,
+            CommandStep::Resets => Job::Other,
+            CommandStep::Refuses(_) => Job::Other,
+        }
+    }
+
     // Whether a command does a program or an erase.
     #[tactic(auto, unfolding(onfi_cycles::specs::Cycles::command_due))]
     pub(crate) fn confirms(&self, code: u8) -> bool
@@ -311,7 +370,8 @@ impl Chip {
     }
 
     pub(crate) fn address(&mut self, byte: u8) -> Result<(), BusFault>
-        ensures { Acts (address_due self.old.state.flash.geometry self.old.state.phase byte) self.old self.new result }
+        ensures acts { Acts (address_due self.old.state.flash.geometry self.old.state.phase byte) self.old self.new result }
+        ensures quiet { is_change (address_due self.old.state.flash.geometry self.old.state.phase byte) ≡ false }
     {
         match address_step(&self.geometry, self.bus_state, byte) {
             AddressStep::Moves(to) => {
@@ -328,7 +388,8 @@ impl Chip {
     }
 
     pub(crate) fn data_in(&mut self, bytes: &[u8]) -> Result<(), BusFault>
-        ensures { Acts (data_in_due self.old.state.flash.geometry self.old.state.phase bytes.now) self.old self.new result }
+        ensures acts { Acts (data_in_due self.old.state.flash.geometry self.old.state.phase bytes.now) self.old self.new result }
+        ensures quiet { is_change (data_in_due self.old.state.flash.geometry self.old.state.phase bytes.now) ≡ false }
     {
         match data_place(&self.geometry, self.bus_state, bytes.len()) {
             Ok((row, column)) => {
@@ -346,6 +407,7 @@ impl Chip {
 
     pub(crate) fn data_out(&mut self, bytes: &mut [u8]) -> Result<(), BusFault>
         ensures acts { Acts (data_out_due self.old.state.flash.geometry self.old.state.phase (length bytes.old)) self.old self.new result }
+        ensures quiet { is_change (data_out_due self.old.state.flash.geometry self.old.state.phase (length bytes.old)) ≡ false }
         ensures out { OnOk result (bytes.new ≡ bytes_out self.old.state self.old.state.phase (length bytes.old)) }
         ensures kept { OnErr result (bytes.new ≡ bytes.old) }
     {

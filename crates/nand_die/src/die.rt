@@ -1,12 +1,13 @@
 // A die in memory, which may be stopped in the middle of its work.
-ghost use Rattle.std.specs.Prelude.{◌≡◌, ◌*◌, ◌-◌, ℕ, true, false, length, Err, IfOk, IfErr, OnOk, OnErr, if◌then◌else◌};
+ghost use Rattle.std.specs.Prelude.{◌≡◌, ◌*◌, ◌-◌, ℕ, true, false, [], length, Some, None, Err, IfOk, IfErr, OnOk, OnErr, if◌then◌else◌};
 ghost use Rattle.page_layout.specs.Geometry.{row_count, page_bytes};
 ghost use Rattle.page_layout.specs.Raw.{raw_bytes, raw_image};
 ghost use Rattle.onfi_cycles.specs.Cycles.{Command, Address, DataIn, DataOut};
 
-use crate::chip::Chip;
+use crate::chip::{Chip, Job};
 use crate::fault::{DieFault, Fault, Mark, Stop};
 use crate::strike::check_torn;
+use crate::tape::{Tape, keep_page, note_erase, note_program};
 use onfi_cycles::{Bus, BusFault};
 use page_layout::geometry::Geometry;
 use std::alloc::Global;
@@ -30,17 +31,19 @@ pub struct Die {
     left: u64,
     stopped: bool,
     failures: u64,
+    tape: Option<Tape>,
 }
 
 impl Model for Die {
     ghost use Rattle.nand_die.specs.Stopping.{IsStop};
+    ghost use Rattle.nand_die.specs.Tape.{told_by, free_in, IsTapeOf};
     ghost use Rattle.nand_die.specs.DieValue.{DieValue, die_of};
 
     ghost Value = { DieValue };
 
-    ghost view = { λ d. die_of d.chip d.stop d.left d.stopped d.failures };
+    ghost view = { λ d. die_of d.chip d.stop d.left d.stopped d.failures (told_by d.tape) (free_in d.tape) };
 
-    ghost invariant = { λ d. IsStop d.chip.state.flash.geometry d.stop };
+    ghost invariant = { λ d. IsStop d.chip.state.flash.geometry d.stop × IsTapeOf d.chip.state.flash.geometry d.tape };
 }
 
 impl Die {
@@ -52,7 +55,7 @@ impl Die {
 
     // A die with no stop set.
     fn of(chip: Chip) -> Die
-        ensures { result ≡ die_of chip Stop.Before 0 false 0 }
+        ensures { result ≡ die_of chip Stop.Before 0 false 0 None 0 }
     {
         Die {
             chip,
@@ -60,6 +63,7 @@ impl Die {
             left: 0,
             stopped: false,
             failures: 0,
+            tape: None,
         }
     }
 
@@ -140,8 +144,17 @@ impl Die {
     /// - Else `SoundFaultPage` where the page has a sound record.
     pub fn set_faults(&mut self, faults: Vec<Fault>) -> Result<(), DieFault>
         ensures ok { OnOk result (self.new ≡ record {
-            state = self.old.state; faults = faults.items; asked = 0; changes = self.old.changes;
-            stop = self.old.stop; left = self.old.left; stopped = self.old.stopped; failures = self.old.failures }) }
+          state = self.old.state;
+          faults = faults.items;
+          asked = 0;
+          changes = self.old.changes;
+          stop = self.old.stop;
+          left = self.old.left;
+          stopped = self.old.stopped;
+          failures = self.old.failures;
+          recorded = self.old.recorded;
+          room = self.old.room;
+        }) }
         ensures left { OnOk result (ArePagesLeft self.old.state.flash.geometry faults.items) }
         ensures err { IfErr result (HasFirstWrong self.old.state.flash.geometry faults.items) }
         ensures kept { OnErr result (self.new ≡ self.old) }
@@ -160,10 +173,10 @@ impl Die {
     /// - `WrongLength` where torn bytes are not as long as a page.
     /// - Else `SoundFaultPage` where they have a sound record.
     pub fn set_stop(&mut self, nth_change: u64, stop: Stop) -> Result<(), DieFault>
-        ensures ok { OnOk result (self.new ≡ die_of (chip_of self.old) stop nth_change self.old.stopped self.old.failures) }
+        ensures ok { OnOk result (self.new ≡ die_of (chip_of self.old) stop nth_change self.old.stopped self.old.failures self.old.recorded self.old.room) }
         ensures fits { OnOk result (IsStop self.old.state.flash.geometry stop) }
         ensures err { IfErr result (IsWrongStop self.old.state.flash.geometry stop) }
-        ensures none { OnErr result (self.new ≡ die_of (chip_of self.old) self.old.stop 0 self.old.stopped self.old.failures) }
+        ensures none { OnErr result (self.new ≡ die_of (chip_of self.old) self.old.stop 0 self.old.stopped self.old.failures self.old.recorded self.old.room) }
     {
         self.left = 0;
         if let Stop::Torn(bytes) = &stop {
@@ -174,12 +187,32 @@ impl Die {
         Ok(())
     }
 
+    /// Begins a record in place of one before: its image is the die's as it is, and it has room for so many
+    /// programs and erases; one more ends it. What it tells is said in contracts alone. All memory is
+    /// taken here.
+    ///
+    /// # Errors
+    ///
+    /// `OutOfMemory` where a growth was refused. The die then tells no record.
+    pub fn record(&mut self, alloc: Global, room: u32) -> Result<(), DieFault>
+        ensures ok { OnOk result (self.new ≡ die_of (chip_of self.old) self.old.stop self.old.left self.old.stopped self.old.failures
+            (Some (record { image = self.old.state.flash.image; log = [] })) room) }
+        ensures none { OnErr result (self.new ≡ die_of (chip_of self.old) self.old.stop self.old.left self.old.stopped self.old.failures None 0) }
+        ensures err { IfErr result (λ fault. fault ≡ DieFault.OutOfMemory) }
+    {
+        self.tape = None;
+        let tape = Tape::new(alloc, self.chip.geometry(), self.chip.image(), room)?;
+        self.tape = Some(tape);
+        Ok(())
+    }
+
     // Fails in this cycle.
     fn fail(&mut self) -> Result<(), BusFault>
         ensures new { self.new ≡ failed_as self.old (chip_of self.old) self.old.left }
         ensures device { result ≡ Err BusFault.Device }
     {
         self.chip.give_up();
+        self.tape = None;
         self.stopped = true;
         self.failures = self.failures.saturating_add(1);
         Err(BusFault::Device)
@@ -188,7 +221,7 @@ impl Die {
     // Counts a program or an erase that a command does. Whether it is the one to stop at.
     fn comes(&mut self, code: u8) -> bool
         ensures is { result ≡ stops self.old (Command code) }
-        ensures new { self.new ≡ die_of (chip_of self.old) self.old.stop (if is_change (due_now self.old (Command code)) then self.old.left - 1 else self.old.left) self.old.stopped self.old.failures }
+        ensures new { self.new ≡ die_of (chip_of self.old) self.old.stop (if is_change (due_now self.old (Command code)) then self.old.left - 1 else self.old.left) self.old.stopped self.old.failures self.old.recorded self.old.room }
     {
         if !self.chip.confirms(code) {
             return false;
@@ -200,7 +233,7 @@ impl Die {
 
     // What the stop leaves.
     fn strike(&mut self, code: u8)
-        ensures { self.new ≡ die_of (left_by_stop self.old.stop (due_now self.old (Command code)) (chip_of self.old)) self.old.stop self.old.left self.old.stopped self.old.failures }
+        ensures { self.new ≡ die_of (left_by_stop self.old.stop (due_now self.old (Command code)) (chip_of self.old)) self.old.stop self.old.left self.old.stopped self.old.failures self.old.recorded self.old.room }
     {
         match &self.stop {
             Stop::Before => self.chip.miss(),
@@ -211,6 +244,36 @@ impl Die {
                 self.chip.tear(code, bytes.as_slice());
                 self.chip.miss();
             }
+        }
+    }
+}
+
+impl Die {
+    ghost use Rattle.nand_die.specs.ChipValue.{Acts};
+    ghost use Rattle.nand_die.specs.DieValue.{chip_of, done_as, due_now};
+
+    // Does a command. A program or an erase is noted in the record, if there is one.
+    fn run(&mut self, code: u8) -> Result<(), BusFault>
+        requires { self.old.stopped ≡ false }
+        ensures new { self.new ≡ done_as self.old (due_now self.old (Command code)) self.old.left }
+        ensures acts { Acts (due_now self.old (Command code)) (chip_of self.old) (chip_of self.new) result }
+    {
+        let geometry = self.chip.geometry();
+        match self.chip.job(code) {
+            Job::Program { row, page } => {
+                keep_page(&mut self.tape, &geometry, page);
+                let answer = self.chip.command(code);
+                let (passed, left) = (self.chip.passed(), self.chip.page(row));
+                note_program(&mut self.tape, &geometry, row, passed, left);
+                answer
+            }
+            Job::Erase { block } => {
+                let answer = self.chip.command(code);
+                let (passed, left) = (self.chip.passed(), self.chip.block(block));
+                note_erase(&mut self.tape, &geometry, block, passed, left);
+                answer
+            }
+            Job::Other => self.chip.command(code),
         }
     }
 }
@@ -226,6 +289,8 @@ impl Bus for Die {
 
     ghost calm = { λ d. is_calm d };
 
+    ghost recorded = { λ d. d.recorded };
+
     // The answer and the die after it follow from its value.
     ghost called = { λ old cycle answer out new. IsCall old cycle answer new };
 
@@ -237,7 +302,7 @@ impl Bus for Die {
             self.strike(code);
             return self.fail();
         }
-        self.chip.command(code)
+        self.run(code)
     }
 
     fn address(&mut self, byte: u8) -> Result<(), BusFault> {

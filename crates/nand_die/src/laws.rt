@@ -1,6 +1,6 @@
 //! What the definitions of this crate come to, as contracts of functions that do nothing: so each law
 //! is proved with the crate, and a caller of the function has it at hand.
-ghost use Rattle.nand_die.specs.Laws.{ProgramPassesLaw, ErasePassesLaw, ProgramAbuseLaw, EraseAbuseLaw, CountLaw, QuietLaw, NextPageLaw, NamedLaw, NoneMisnamedLaw, OneMisnamedLaw, NoneWrongLaw, OneWrongLaw};
+ghost use Rattle.nand_die.specs.Laws.{ProgramPassesLaw, ErasePassesLaw, ProgramAbuseLaw, EraseAbuseLaw, CountLaw, QuietLaw, NextPageLaw, NamedLaw, NoneMisnamedLaw, OneMisnamedLaw, NoneWrongLaw, OneWrongLaw, CalmLaw, StoppedLaw, RoomLaw};
 
 /// When a program or an erase of a die in memory passes, what counts as abuse, and that no other cycle
 /// changes a page. It does nothing. (This project.)
@@ -22,4 +22,12 @@ pub fn made_laws()
     ensures one_misnamed { OneMisnamedLaw }
     ensures none_wrong { NoneWrongLaw }
     ensures one_wrong { OneWrongLaw }
+{}
+
+/// That a die on which no stop is set does not fail, that one which has stopped stays so, and when a
+/// record ends. It does nothing. (This project.)
+pub fn stop_laws()
+    ensures calm { CalmLaw }
+    ensures stopped { StoppedLaw }
+    ensures room { RoomLaw }
 {}

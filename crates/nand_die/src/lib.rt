@@ -4,7 +4,7 @@
 //! - `Mark`: factory marks of a new die. `Fault`: programs and erases that are to fail. `Stop`: one at which the die stops for good.
 //!   `DieFault`: what is refused.
 //! - `CycleFuse`, `Garble`: buses for tests, which break down for a while and which turn bits of one byte that is put out.
-//! - `laws`: when a program or an erase fails, what counts as abuse, and what dies are made of, proved.
+//! - `laws`: when a program or an erase fails, what counts as abuse, when a die stops, and what dies are made of, proved.
 //!
 //! The commands are those of ONFI 1.0; the rules of turns, the marks and the faults are this project's.
 #![tactic(auto)]
@@ -21,6 +21,7 @@ mod fault;
 pub mod laws;
 mod make;
 mod strike;
+mod tape;
 
 pub use buses::{CycleFuse, Garble};
 pub use die::Die;

@@ -7,8 +7,7 @@ use Rattle.page_layout.specs.declared.geometry.Geometry.{Geometry}
 use Rattle.page_layout.specs.Page.{Page, Image, IsPage, IsImage, page}
 use Rattle.page_layout.specs.Sound.{record_of, is_filled, is_erased_page}
 use Rattle.page_layout.specs.Change.{IsUnsoundAt, IsErasedAt, ErasesIn, erased_page}
-use Rattle.page_layout.proofs.RecordLemmas.{is_filled-replicate}
-use Rattle.page_layout.proofs.StepLemmas.{erased_unsound}
+use Rattle.page_layout.proofs.RecordLemmas.{is_filled-replicate, erased_no_record}
 use Rattle.page_layout.proofs.ArrayLemmas.{unsound_at}
 
 filled_is : (xs : List ℕ) → is_filled xs ≡ true → xs ≡ replicate (length xs) 255
@@ -34,12 +33,12 @@ is_erased_is g p sized e =
 
 -- it has no record
 pub is_erased_unsound : (g : Geometry) (p : Page) → IsPage g p → is_erased_page p ≡ true → record_of p ≡ None
-is_erased_unsound g p sized e = ap record_of (is_erased_is g p sized e) ∙ erased_unsound g
+is_erased_unsound g p sized e = erased_no_record p e
 
 -- an erased row may be programmed with a new record
 pub erased_at_unsound : (g : Geometry) (image : Image) (row : ℕ) → IsImage g image → IsErasedAt image row → IsUnsoundAt image row
 erased_at_unsound g image row whole erased =
-    unsound_at image row erased.its erased.at (is_erased_unsound g erased.its (whole.pages row erased.its erased.at) erased.is)
+    unsound_at image row erased.its erased.at (erased_no_record erased.its erased.is)
 
 -- each row of a block after an erase that passed
 pub erases_erased : (g : Geometry) (block row : ℕ) (old new : Image) → ErasesIn g block old new → row / g.pages ≡ block → row < length old → IsErasedAt new row

@@ -20,7 +20,7 @@ use Rattle.page_layout.specs.Array.{marks, HasOneArray}
 use Rattle.page_layout.specs.Change.{IsUnsoundAt, FailsAt, LosesIn, Keeps, Writes, HoldsNone, ErasesIn, ProgramMeans, erased_page}
 use Rattle.page_layout.specs.Counter.{counted}
 use Rattle.page_layout.specs.StepLaws.{IsRefused}
-use Rattle.page_layout.specs.Flash.{Flash, Operation, Program, Erase, turn_at, page_at, no_page, may_program, may_erase, after_program, after_erase, with_block, after, Steps, Leads}
+use Rattle.page_layout.specs.Flash.{Flash, Operation, Program, Erase, page_at, no_page, may_program, may_erase, with_block, after, Steps, Leads}
 use Rattle.page_layout.proofs.ArrayLemmas.{unsound_at, forgets}
 use Rattle.page_layout.proofs.NewestLemmas.{Forgets}
 use Rattle.page_layout.proofs.StepLemmas.{failed_keeps, passed_writes, lost_keeps, failed_marks, passed_below, below_more, erased_unsound}
@@ -57,22 +57,9 @@ pub image-erase : (s t : Flash) (block : ℕ) (passed : Bool) (left : List Page)
 unfolding after
 image-erase s t block passed left h = ap (λ f. f.image) h.left
 
--- ---- what an operation makes of the turn of its block
+-- ---- operations that were due, and those that were not
 
--- one that was due
-pub program_turn : (old new : Flash) (row : ℕ) (p : Page) (passed : Bool) (left : Page) → Steps old (Program row p passed left) new → may_program old row ≡ true
-    → new.turns ≡ slice_set old.turns (row / old.geometry.pages) (after_program (turn_at old (row / old.geometry.pages)) true passed)
-unfolding after
-program_turn old new row p passed left steps due =
-    ap (λ f. f.turns) steps.left ∙ ap (λ b. slice_set old.turns (row / old.geometry.pages) (after_program (turn_at old (row / old.geometry.pages)) b passed)) due
-
-pub erase_turn : (old new : Flash) (block : ℕ) (passed : Bool) (left : List Page) → Steps old (Erase block passed left) new → may_erase old block ≡ true
-    → new.turns ≡ slice_set old.turns block (after_erase (turn_at old block) true passed)
-unfolding after
-erase_turn old new block passed left steps due =
-    ap (λ f. f.turns) steps.left ∙ ap (λ b. slice_set old.turns block (after_erase (turn_at old block) b passed)) due
-
--- is no abuse
+-- one that was due is no abuse
 pub program_fair : (old new : Flash) (row : ℕ) (p : Page) (passed : Bool) (left : Page) → Steps old (Program row p passed left) new → may_program old row ≡ true → new.abuse ≡ old.abuse
 unfolding after
 program_fair old new row p passed left steps due = ap (λ f. f.abuse) steps.left ∙ ap (λ b. if b then old.abuse else counted old.abuse) due

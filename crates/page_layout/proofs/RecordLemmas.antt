@@ -1,11 +1,12 @@
 -- The spare bytes of a record, its seal, and the page that is sound by them.
-use Rattle.std.proofs.Common.{◌≡◌, inl, inr, get_or, ℕ, zero, suc, ◌-◌, Bool, true, false, if◌then◌else◌, Option, List, [], ◌++◌, length, take, drop, replicate, Some, None, refl, ap, sym, ◌∙◌, subst, arith, length-append, append_assoc}
+use Rattle.std.proofs.Common.{◌≡◌, ◌⊎◌, inl, inr, get_or, ℕ, zero, suc, ◌-◌, Bool, true, false, if◌then◌else◌, Option, List, [], ◌∷◌, ◌++◌, length, take, drop, replicate, Some, None, refl, ap, sym, ◌∙◌, subst, arith, length-append, append_assoc}
 use Rattle.std.proofs.Math.Seq.{take-length}
 use Rattle.std.proofs.lemmas.List.{take_at, drop_at, drop-replicate}
 use Rattle.std.proofs.lemmas.List.Sums.{AllPass-from_list_all, list_all-from_AllPass}
-use Rattle.std.proofs.lemmas.Bool.{and_from, and_parts, cases_Bool, cases_eq, eqb-true, eq-eqb, ne_eqb, cond-true, cond-false}
+use Rattle.std.proofs.lemmas.Bool.{and_from, and_parts, and_left, and_right, cases_Bool, cases_eq, eqb-true, eq-eqb, ne_eqb, cond-true, cond-false}
 use Rattle.std.proofs.lemmas.Slice.Eq.{bytes_eq-Decides}
 use Rattle.std.specs.Prelude.{slice_range, slice_index, option_map, ◌&&◌, ◌==◌}
+use Rattle.std.specs.List.{list_all}
 use Rattle.std.specs.Str.{bytes_eq}
 use Rattle.byteorder.specs.Endian.{little_number}
 use Rattle.byteorder.specs.Numbers.{little_number-reads_back}
@@ -31,6 +32,35 @@ pub is_filled-replicate : (n : ℕ) → is_filled (replicate n 255) ≡ true
 unfolding is_filled
 is_filled-replicate zero = refl
 is_filled-replicate (suc n) = is_filled-replicate n
+
+-- ---- erased pages
+
+filled_at : (xs : List ℕ) (i : ℕ) → is_filled xs ≡ true → (get_or xs i 0 ≡ 255) ⊎ (get_or xs i 0 ≡ 0)
+unfolding is_filled
+filled_at [] i filled = inr refl
+filled_at (x ∷ xs) zero filled = inl (eqb-true x 255 (and_parts (x == 255) (list_all (λ b. b == 255) xs) filled).0)
+filled_at (x ∷ xs) (suc i) filled = filled_at xs i (and_parts (x == 255) (list_all (λ b. b == 255) xs) filled).1
+
+filled_no_version : (spare : List ℕ) → is_filled spare ≡ true → (slice_index spare 2 == 1) ≡ false
+filled_no_version spare filled = elim (filled_at spare 2 filled) [
+  | inl full ↦ rw full refl
+  | inr none ↦ rw none refl
+]
+
+-- a page that is erased has no record
+pub erased_no_record : (p : Page) → is_erased_page p ≡ true → record_of p ≡ None
+unfolding record_of
+erased_no_record p erased =
+    let spare : List ℕ = p.spare in
+    let filled : is_filled spare ≡ true = (and_parts (is_filled p.body) (is_filled spare) erased).1 in
+    let no_form : has_form_1 spare ≡ false =
+    and_left (is_filled (take 2 spare) && (slice_index spare 2 == 1) && is_filled (slice_range spare 20 24)) (is_filled (slice_range spare 32 (length spare)))
+    (and_left (is_filled (take 2 spare) && (slice_index spare 2 == 1)) (is_filled (slice_range spare 20 24))
+    (and_right (is_filled (take 2 spare)) (slice_index spare 2 == 1) (filled_no_version spare filled))) in
+    cond-false (has_form_1 spare && has_seal_1 p) (option_map (record_in spare) (kind_from (slice_index spare 3))) None
+    (and_left (has_form_1 spare) (has_seal_1 p) no_form)
+
+-- ---- records and their bytes
 
 kind_from-code_of : (k : Kind) → kind_from (code_of k) ≡ Some k
 kind_from-code_of kind.Sector = refl

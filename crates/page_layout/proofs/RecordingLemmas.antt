@@ -1,13 +1,13 @@
 -- Dies that stay whole, and what records tell of them.
-use Rattle.std.proofs.Common.{◌≡◌, ◌≢◌, ◌⊎◌, inl, inr, ℕ, ◌+◌, ◌*◌, ◌/◌, ◌<◌, ◌≤◌, Bool, List, [], ◌∷◌, ◌++◌, length, get_or, set, Option, Some, None, refl, sym, ◌∙◌, ap, subst, arith}
-use Rattle.std.specs.Prelude.{slice_get, slice_set, unwrap_or}
+use Rattle.std.proofs.Common.{◌≡◌, inl, inr, ℕ, ◌/◌, Bool, List, [], ◌∷◌, ◌++◌, length, get_or, set, Option, Some, None, refl, sym, ◌∙◌, ap, subst, arith}
+use Rattle.std.specs.Prelude.{slice_get, unwrap_or}
 use Rattle.std.proofs.lemmas.Bool.{cases_eq}
 use Rattle.std.proofs.lemmas.List.{length-set, append_assoc}
 use Rattle.std.proofs.lemmas.Option.{get_or_from_slice_get}
 use Rattle.page_layout.specs.declared.geometry.Geometry.{Geometry}
 use Rattle.page_layout.specs.Page.{Page, Image, IsPage, IsImage}
 use Rattle.page_layout.specs.Flash.{Flash, Operation, Program, Erase, no_page, after, with_block, Steps, Leads, IsWhole}
-use Rattle.page_layout.specs.Recording.{Recording, noted, Records, image_after, image_after_all, IsRecordOf, RecordStaysLaw, RecordsJoinLaw, RanOn, RanOnLaw}
+use Rattle.page_layout.specs.Recording.{Recording, noted, image_after, image_after_all, IsRecordOf, RecordStaysLaw, RecordsJoinLaw, RanOn, RanOnLaw}
 use Rattle.page_layout.specs.StepLaws.{WholeStaysLaw}
 use Rattle.page_layout.proofs.ArrayLemmas.{slice_get-set_same}
 use Rattle.page_layout.proofs.FlashLemmas.{geometry-Steps, image-program, image-erase, program_other, erase_loses, with_block-inside, inside}

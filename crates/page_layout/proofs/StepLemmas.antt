@@ -1,9 +1,8 @@
 -- What each operation of the die keeps.
-use Rattle.std.proofs.Common.{length-set, slice_get, ◌≡◌, inl, inr, ℕ, ◌+◌, ◌<◌, ◌≤◌, false, List, length, replicate, take, get_or, set, Option, Some, None, refl, ap, sym, ◌∙◌, subst, arith, map, zero, suc, add-zero, zero-add, ◌≢◌}
+use Rattle.std.proofs.Common.{length-set, slice_get, ◌≡◌, inl, inr, ℕ, ◌+◌, ◌<◌, ◌≤◌, List, length, replicate, get_or, set, Option, Some, None, refl, ap, sym, ◌∙◌, subst, arith, map, zero, suc, add-zero, zero-add, ◌≢◌}
 use Rattle.std.specs.List.{range_with_len}
-use Rattle.std.specs.Prelude.{slice_index, slice_range, option_map, ◌&&◌, ◌==◌}
-use Rattle.std.proofs.lemmas.Bool.{cases_eq, cases_lt, cond-false, and_left, and_right}
-use Rattle.std.proofs.lemmas.List.{get_or-replicate, get_or_past, get_or-set_same, get_or-set_other}
+use Rattle.std.proofs.lemmas.Bool.{cases_eq, cases_lt, and_from}
+use Rattle.std.proofs.lemmas.List.{get_or_past, get_or-set_same, get_or-set_other}
 use Rattle.page_layout.specs.declared.record.Record.{Record}
 use Rattle.page_layout.specs.declared.record.Key.{Key}
 use Rattle.page_layout.specs.declared.record.Key.TheVariants.{Sector}
@@ -18,7 +17,8 @@ use Rattle.page_layout.specs.Array.{marks, content_of_kind, HasOneArray, array_o
 use Rattle.page_layout.specs.Change.{IsUnsoundAt, FailsAt, LosesIn, ErasesIn, Keeps, Writes, HoldsNone, erased_page}
 use Rattle.page_layout.proofs.NewestLemmas.{newest-record, set_unsound, sequence_at-is, IsOf, Forgets}
 use Rattle.page_layout.proofs.LiveLemmas.{live_same, live_programmed}
-use Rattle.page_layout.specs.Sound.{has_form_1, has_seal_1, is_filled, record_in, kind_from}
+use Rattle.page_layout.specs.Sound.{is_filled}
+use Rattle.page_layout.proofs.RecordLemmas.{is_filled-replicate, erased_no_record}
 use Rattle.page_layout.proofs.LiveLemmas.{live_zero}
 use Rattle.page_layout.proofs.ArrayLemmas.{content-record, unsound_at, mark-same, mark-page, body_page, body_same, slice_get-set_other, slice_get-set_same, newest-other, forgets, marks-set, length-marks, IsNewer, newest_failed, sector_failed, newest_written, newest_unwritten, sector_written, sector_unwritten, newest_lost, sector_lost, OneArray_lost, OneArray_written, array-same}
 
@@ -203,17 +203,7 @@ none_live g block image one none = record {
 }
 
 pub erased_unsound : (g : Geometry) → record_of (erased_page g) ≡ None
-unfolding record_of
-erased_unsound g =
-    let spare : List ℕ = replicate g.spare_bytes 255 in
-    let third : slice_index spare 2 ≡ 255 = get_or-replicate g.spare_bytes 2 255 0 (omega (arith, g.limits.spare_size.least)) in
-    let other : (slice_index spare 2 == 1) ≡ false = ap (λ b. b == 1) third in
-    let no_form : has_form_1 spare ≡ false =
-    and_left (is_filled (take 2 spare) && (slice_index spare 2 == 1) && is_filled (slice_range spare 20 24)) (is_filled (slice_range spare 32 (length spare)))
-    (and_left (is_filled (take 2 spare) && (slice_index spare 2 == 1)) (is_filled (slice_range spare 20 24))
-    (and_right (is_filled (take 2 spare)) (slice_index spare 2 == 1) other)) in
-    cond-false (has_form_1 spare && has_seal_1 (erased_page g)) (option_map (record_in spare) (kind_from (slice_index spare 3))) None
-    (and_left (has_form_1 spare) (has_seal_1 (erased_page g)) no_form)
+erased_unsound g = erased_no_record (erased_page g) (and_from (is_filled (replicate g.data_bytes 255)) (is_filled (replicate g.spare_bytes 255)) (is_filled-replicate g.data_bytes) (is_filled-replicate g.spare_bytes))
 
 pub erased_loses : (g : Geometry) (block : ℕ) (old new : Image) → ErasesIn g block old new → LosesIn g.pages block old new
 erased_loses g block old new erased = record {

@@ -5,7 +5,7 @@ use Rattle.page_layout.specs.declared.record.Record.{Record}
 use Rattle.page_layout.specs.declared.record.Key.{Key}
 use Rattle.page_layout.specs.declared.geometry.Geometry.{Geometry}
 use Rattle.page_layout.specs.Geometry.{entries, translation_pages, table_pages, vmax, key_count}
-use Rattle.page_layout.specs.Page.{Page, Image, IsPage, IsImage}
+use Rattle.page_layout.specs.Page.{Page, Image, IsImage}
 use Rattle.page_layout.specs.Sound.{AreFill, IsSound, record_of, is_erased_page}
 use Rattle.page_layout.specs.Key.{key_of, key_eq}
 use Rattle.page_layout.specs.Newest.{newest, latest_below, IsNewest, Tells}
@@ -43,9 +43,9 @@ SoundLaw = (p : Page) (r : Record) → (record_of p ≡ Some r) ↔ IsSound p r
 abbrev pub ErasedLaw : Type 0
 ErasedLaw = (p : Page) → (is_erased_page p ≡ true) ↔ (AreFill p.body × AreFill p.spare)
 
--- no erased page of a die is sound
+-- no erased page is sound
 abbrev pub ErasedUnsoundLaw : Type 0
-ErasedUnsoundLaw = (g : Geometry) (p : Page) → IsPage g p → is_erased_page p ≡ true → record_of p ≡ None
+ErasedUnsoundLaw = (p : Page) → is_erased_page p ≡ true → record_of p ≡ None
 
 -- ---- the newest page of a key
 

@@ -1,5 +1,5 @@
 -- What the lawful operations of a die do to what its image means: the bridge from `Steps` to the laws of change.
-use Rattle.std.specs.Prelude.{◌≡◌, ◌≢◌, ℕ, ◌+◌, ◌/◌, ◌<◌, Bool, true, false, List, ◌++◌, length, slice_get, slice_set, Some}
+use Rattle.std.specs.Prelude.{◌≡◌, ◌≢◌, ℕ, ◌+◌, ◌/◌, ◌<◌, Bool, true, false, List, ◌++◌, length, slice_get, Some}
 use Rattle.page_layout.specs.declared.record.Record.{Record}
 use Rattle.page_layout.specs.declared.geometry.Geometry.{Geometry}
 use Rattle.page_layout.specs.Page.{Page, Image, IsImage}
@@ -8,7 +8,7 @@ use Rattle.page_layout.specs.Key.{key_of}
 use Rattle.page_layout.specs.OneArray.{AreBelow}
 use Rattle.page_layout.specs.Live.{IsKeyOf}
 use Rattle.page_layout.specs.Array.{marks, HasOneArray}
-use Rattle.page_layout.specs.Flash.{Flash, Operation, Program, Erase, turn_at, may_program, may_erase, after_program, after_erase, Steps, Leads, IsWhole}
+use Rattle.page_layout.specs.Flash.{Flash, Operation, Program, Erase, turn_at, may_program, may_erase, Steps, Leads, IsWhole}
 use Rattle.page_layout.specs.Counter.{counted}
 use Rattle.page_layout.specs.Change.{IsUnsoundAt, IsErasedAt, FailsAt, LosesIn, ErasesIn, HoldsNone, Keeps, Writes, ProgramMeans}
 
@@ -58,17 +58,47 @@ EraseBelowLaw = (old new : Flash) (block next : ℕ) (passed : Bool) (left : Lis
 
 -- ---- turns
 
--- a program that was due moves the turn of its block, as `after_program` says, and is no abuse
-abbrev pub ProgramTurnLaw : Type 0
-ProgramTurnLaw = (old new : Flash) (row : ℕ) (p : Page) (passed : Bool) (left : Page) → Steps old (Program row p passed left) new → may_program old row ≡ true → new.turns ≡ slice_set old.turns (row / old.geometry.pages) (after_program (turn_at old (row / old.geometry.pages)) true passed)
+-- The turns after an operation that named this block, where `next` is the page to come if it passes. One that was due and passed leaves
+-- that page next and the block as good as it was; one that was due and failed bars the block. One that was not due moves nothing, and
+-- no operation moves the turn of another block.
+pub record MovesTurn (old new : Flash) (block next : ℕ) (due passed : Bool) : Type 0 where
+  pub passes_next : due ≡ true → passed ≡ true → (turn_at new block).next ≡ next
+  pub passes_good : due ≡ true → passed ≡ true → (turn_at new block).barred ≡ false
+  pub fails_next : due ≡ true → passed ≡ false → (turn_at new block).next ≡ (turn_at old block).next
+  pub fails_barred : due ≡ true → passed ≡ false → (turn_at new block).barred ≡ true
+  pub refused_next : due ≡ false → (turn_at new block).next ≡ (turn_at old block).next
+  pub refused_barred : due ≡ false → (turn_at new block).barred ≡ (turn_at old block).barred
+  pub others : (other : ℕ) → other ≢ block → turn_at new other ≡ turn_at old other
 
+-- the counts of a block after a program, or an erase, that was asked of it, due or not
+pub record CountsProgram (old new : Flash) (block : ℕ) : Type 0 where
+  pub programs : (turn_at new block).programs ≡ counted (turn_at old block).programs
+  pub erases : (turn_at new block).erases ≡ (turn_at old block).erases
+
+pub record CountsErase (old new : Flash) (block : ℕ) : Type 0 where
+  pub programs : (turn_at new block).programs ≡ (turn_at old block).programs
+  pub erases : (turn_at new block).erases ≡ counted (turn_at old block).erases
+
+-- after a program that passed the next page of the block comes next
+abbrev pub ProgramTurnLaw : Type 0
+ProgramTurnLaw = (old new : Flash) (row : ℕ) (p : Page) (passed : Bool) (left : Page) → Steps old (Program row p passed left) new
+    → MovesTurn old new (row / old.geometry.pages) ((turn_at old (row / old.geometry.pages)).next + 1) (may_program old row) passed
+
+abbrev pub ProgramCountLaw : Type 0
+ProgramCountLaw = (old new : Flash) (row : ℕ) (p : Page) (passed : Bool) (left : Page) → row / old.geometry.pages < length old.turns → Steps old (Program row p passed left) new → CountsProgram old new (row / old.geometry.pages)
+
+-- one that was due is no abuse
 abbrev pub FairProgramLaw : Type 0
 FairProgramLaw = (old new : Flash) (row : ℕ) (p : Page) (passed : Bool) (left : Page) → Steps old (Program row p passed left) new → may_program old row ≡ true → new.abuse ≡ old.abuse
 
--- so does an erase
+-- after an erase that passed page 0 of the block comes next
 abbrev pub EraseTurnLaw : Type 0
-EraseTurnLaw = (old new : Flash) (block : ℕ) (passed : Bool) (left : List Page) → Steps old (Erase block passed left) new → may_erase old block ≡ true → new.turns ≡ slice_set old.turns block (after_erase (turn_at old block) true passed)
+EraseTurnLaw = (old new : Flash) (block : ℕ) (passed : Bool) (left : List Page) → Steps old (Erase block passed left) new → MovesTurn old new block 0 (may_erase old block) passed
 
+abbrev pub EraseCountLaw : Type 0
+EraseCountLaw = (old new : Flash) (block : ℕ) (passed : Bool) (left : List Page) → Steps old (Erase block passed left) new → CountsErase old new block
+
+-- one that was due is no abuse
 abbrev pub FairEraseLaw : Type 0
 FairEraseLaw = (old new : Flash) (block : ℕ) (passed : Bool) (left : List Page) → Steps old (Erase block passed left) new → may_erase old block ≡ true → new.abuse ≡ old.abuse
 

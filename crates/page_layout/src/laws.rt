@@ -2,9 +2,16 @@
 //! law is proved with the crate, and a caller of the function has it at hand.
 
 ghost use Rattle.page_layout.specs.Count.{SmallBlockLaw};
-ghost use Rattle.page_layout.specs.Laws.{WorthLaw, SectorEntryLaw, BlockEntryLaw, TableFitsLaw, SoundLaw, ErasedLaw, ErasedUnsoundLaw, NewestLaw, ScanLaw, HasNewestLaw, SectorLaw, ArrayLaw, KeysLaw, NoOtherKeyLaw, LiveSumLaw, RawBytesLaw, RawImageLaw, RawAgainLaw, GapLaw, PointerLaw, TopWearLaw, RowAgainLaw, WordAgainLaw};
-ghost use Rattle.page_layout.specs.ChangeLaws.{ProgramLaw, FailureLaw, EraseLaw, NoneLiveLaw, KeepsNothingLaw, KeepsTwiceLaw, KeepsThenWritesLaw, WritesThenKeepsLaw, ArrayKeptLaw, ArrayWrittenLaw, ArrayUnwrittenLaw};
-ghost use Rattle.page_layout.specs.StepLaws.{PassedStepLaw, FailedStepLaw, OutcomeStepLaw, FailsStepLaw, OtherRowsLaw, NextSequenceLaw, EraseStepLaw, LosesStepLaw, ClearedStepLaw, EraseBelowLaw, ProgramTurnLaw, FairProgramLaw, EraseTurnLaw, FairEraseLaw, RefusedProgramLaw, RefusedEraseLaw, ErasedRowLaw, ErasedBlockLaw, LogsLaw, GeometryStaysLaw, WholeStaysLaw};
+ghost use Rattle.page_layout.specs.Laws.{WorthLaw, SectorEntryLaw, BlockEntryLaw, TableFitsLaw, SoundLaw, ErasedLaw, ErasedUnsoundLaw, NewestLaw};
+ghost use Rattle.page_layout.specs.Laws.{ScanLaw, HasNewestLaw, SectorLaw, ArrayLaw, KeysLaw, NoOtherKeyLaw, LiveSumLaw, RawBytesLaw, RawImageLaw};
+ghost use Rattle.page_layout.specs.Laws.{RawAgainLaw, GapLaw, PointerLaw, TopWearLaw, RowAgainLaw, WordAgainLaw};
+ghost use Rattle.page_layout.specs.ChangeLaws.{ProgramLaw, FailureLaw, EraseLaw, NoneLiveLaw, KeepsNothingLaw, KeepsTwiceLaw, KeepsThenWritesLaw};
+ghost use Rattle.page_layout.specs.ChangeLaws.{WritesThenKeepsLaw, ArrayKeptLaw, ArrayWrittenLaw, ArrayUnwrittenLaw};
+ghost use Rattle.page_layout.specs.StepLaws.{PassedStepLaw, FailedStepLaw, OutcomeStepLaw, FailsStepLaw, OtherRowsLaw, NextSequenceLaw, EraseStepLaw};
+ghost use Rattle.page_layout.specs.StepLaws.{LosesStepLaw, ClearedStepLaw, EraseBelowLaw, ErasedRowLaw, ErasedBlockLaw, LogsLaw, GeometryStaysLaw};
+ghost use Rattle.page_layout.specs.StepLaws.{WholeStaysLaw};
+ghost use Rattle.page_layout.specs.StepLaws.{ProgramTurnLaw, ProgramCountLaw, FairProgramLaw, EraseTurnLaw, EraseCountLaw, FairEraseLaw};
+ghost use Rattle.page_layout.specs.StepLaws.{RefusedProgramLaw, RefusedEraseLaw};
 ghost use Rattle.page_layout.specs.Recording.{RecordStaysLaw, RecordsJoinLaw, RanOnLaw};
 
 /// What the derived numbers of a geometry are for.
@@ -104,11 +111,13 @@ pub fn record_told_laws()
     ensures ran_on { RanOnLaw }
 {}
 
-/// What an operation makes of the turn of its block and of the count of abuse, by whether it was due.
+/// What an operation makes of the turns of the blocks, of what was counted, and of the count of abuse, by whether it was due.
 pub fn turn_laws()
     ensures program { ProgramTurnLaw }
+    ensures program_count { ProgramCountLaw }
     ensures fair_program { FairProgramLaw }
     ensures erase { EraseTurnLaw }
+    ensures erase_count { EraseCountLaw }
     ensures fair_erase { FairEraseLaw }
     ensures refused_program { RefusedProgramLaw }
     ensures refused_erase { RefusedEraseLaw }

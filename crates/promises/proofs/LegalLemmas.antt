@@ -1,5 +1,6 @@
 -- Legal logs.
-use Rattle.std.proofs.Common.{◌≡◌, ◌<◌, ◌≤◌, ◌⊎◌, inl, inr, ◌+◌, ◌-◌, ◌*◌, ◌/◌, ◌%◌, ◌==◌, ℕ, Bool, true, false, not, ◌&&◌, List, [], ◌∷◌, ◌++◌, refl, sym, ◌∙◌, ap, subst, arith, get_or, length, take, drop, zero, suc, length-drop, length-take, if◌then◌else◌}
+use Rattle.std.proofs.Common.{◌≡◌, ◌<◌, ◌≤◌, ◌⊎◌, inl, inr, ◌+◌, ◌-◌, ◌*◌, ◌/◌, ◌%◌, ◌==◌, ℕ, Bool, true, false, not, ◌&&◌, List, [], ◌∷◌, ◌++◌, refl}
+use Rattle.std.proofs.Common.{sym, ◌∙◌, ap, subst, arith, get_or, length, take, drop, zero, suc, length-drop, length-take, if◌then◌else◌}
 use Rattle.std.specs.Prelude.{slice_get, Some}
 use Rattle.std.specs.List.{list_any}
 use Rattle.std.proofs.lemmas.List.{get_or_past, get_or-take, get_or-drop}
@@ -15,7 +16,8 @@ use Rattle.page_layout.specs.Change.{one_if}
 use Rattle.page_layout.specs.Flash.{Operation, Program, Erase, no_page}
 use Rattle.page_layout.proofs.BlockLemmas.{none_programmed}
 use Rattle.promises.specs.Log.{block_of, has_passed, erases_of, failed_in}
-use Rattle.promises.specs.Legal.{Account, no_account, account_at, accounts_of, noted, accounted, accounted_all, IsDue, LegalFrom, EmptyLaw, JoinLaw, AccountsLaw, OneMoreLaw, NoBadBlockLaw, NotTwiceLaw, OnErasedLaw, InOrderLaw}
+use Rattle.promises.specs.Legal.{Account, no_account, account_at, accounts_of, noted, accounted, accounted_all, IsDue, LegalFrom, EmptyLaw, JoinLaw}
+use Rattle.promises.specs.Legal.{AccountsLaw, OneMoreLaw, NoBadBlockLaw, NotTwiceLaw, OnErasedLaw, InOrderLaw}
 use Rattle.promises.proofs.AccountLemmas.{account_of, length-accounts_of, due_good, accounted-same, accounted-other, noted-barred}
 
 -- ---- lists of operations in a row
@@ -47,7 +49,7 @@ one_more pages accounts log op = (
 -- ---- one account
 
 -- a block that isn't barred is one of the blocks
-in_range : (accounts : List Account) (block : ℕ) → (account_at accounts block).barred ≡ false → block < length accounts
+pub in_range : (accounts : List Account) (block : ℕ) → (account_at accounts block).barred ≡ false → block < length accounts
 in_range accounts block good =
     elim (cases_lt block (length accounts)) [
       | inl lt ↦ lt
@@ -62,7 +64,7 @@ no_failure true same (inr e) = refl
 no_failure false same (inr e) = e
 
 -- a block that isn't barred after a legal log was not barred before it, and has not failed in it
-not_barred : (pages : ℕ) (accounts : List Account) (log : List Operation) (block : ℕ) → LegalFrom pages accounts log → (account_at (accounted_all pages accounts log) block).barred ≡ false
+pub not_barred : (pages : ℕ) (accounts : List Account) (log : List Operation) (block : ℕ) → LegalFrom pages accounts log → (account_at (accounted_all pages accounts log) block).barred ≡ false
     → ((account_at accounts block).barred ≡ false) × (failed_in pages log block ≡ false)
 not_barred pages accounts [] block h good = (good, refl)
 not_barred pages accounts (op ∷ log) block h good =
@@ -79,7 +81,7 @@ not_barred pages accounts (op ∷ log) block h good =
           (sym (ap (λ (a : Account). a.barred) same) ∙ later.0, or_from (not (has_passed op) && (block_of pages op == block)) (failed_in pages log block) (no_failure (has_passed op) (block_of pages op == block) (inr e.0)) later.1)
     ]
 
-first_block : (g : Geometry) (image : Image) (bad : ℕ → Bool) (block : ℕ) → (account_at (accounts_of g image bad) block).barred ≡ false → block < g.blocks
+pub first_block : (g : Geometry) (image : Image) (bad : ℕ → Bool) (block : ℕ) → (account_at (accounts_of g image bad) block).barred ≡ false → block < g.blocks
 first_block g image bad block good = subst (λ n. block < n) (length-accounts_of g image bad) (in_range (accounts_of g image bad) block good)
 
 pub no_bad_block : NoBadBlockLaw
@@ -92,9 +94,13 @@ no_bad_block g image bad before after op h =
 
 -- ---- next pages
 
-none_of : (n : ℕ) (b : Bool) → n + one_if b ≡ 0 → (n ≡ 0) × (b ≡ false)
+pub none_of : (n : ℕ) (b : Bool) → n + one_if b ≡ 0 → (n ≡ 0) × (b ≡ false)
 none_of n true h = absurd (omega arith)
 none_of n false h = (omega arith, refl)
+
+-- what a test of equality tells
+pub differs : (a b : ℕ) → (a == b) ≡ false → a ≡ b → ⊥
+differs a b is e = elim (eqb_tells a b) [ inl y ↦ let c : true ≡ false = sym y.0 ∙ is in cc | inr y ↦ y.1 e ]
 
 -- a program's block goes on, and no other block is touched
 next_after : (pages : ℕ) (accounts : List Account) (row : ℕ) (page left : Page) (passed : Bool) (block : ℕ) → IsDue pages accounts (Program row page passed left)
@@ -122,9 +128,6 @@ next_rises pages accounts (Erase other passed left ∷ log) block h none =
     let same = accounted-other pages accounts (Erase other passed left) block (λ e. differs other block n.1 e) in
     let rest = next_rises pages (accounted pages accounts (Erase other passed left)) log block h.1 n.0 in
     omega (arith, ap (λ (a : Account). a.next) same, rest)
-  where
-    differs : (a b : ℕ) → (a == b) ≡ false → a ≡ b → ⊥
-    differs a b is e = elim (eqb_tells a b) [ inl y ↦ let c : true ≡ false = sym y.0 ∙ is in cc | inr y ↦ y.1 e ]
 
 -- between two programs of one block
 rises_between : (pages : ℕ) (accounts : List Account) (between after : List Operation) (row later : ℕ) (p q left left' : Page) (passed passed' : Bool)
@@ -157,7 +160,7 @@ not_twice g image bad before between after row p q left left' passed passed' h =
 -- ---- the pages of the image
 
 -- the pages from `past_last` on are erased
-past_erased : (pages : List Page) (k : ℕ) (p : Page) → past_last pages ≤ k → slice_get pages k ≡ Some p → is_erased_page p ≡ true
+pub past_erased : (pages : List Page) (k : ℕ) (p : Page) → past_last pages ≤ k → slice_get pages k ≡ Some p → is_erased_page p ≡ true
 unfolding past_last
 past_erased [] k p le at = cc
 past_erased (x ∷ xs) zero p le at =
@@ -172,7 +175,7 @@ past_erased (x ∷ xs) (suc k) p le at =
     ]
 
 -- a row among the pages of its block
-in_block : (g : Geometry) (image : Image) (row : ℕ) (its : Page) → slice_get image row ≡ Some its → slice_get (block_pages g image (row / g.pages)) (row % g.pages) ≡ Some its
+pub in_block : (g : Geometry) (image : Image) (row : ℕ) (its : Page) → slice_get image row ≡ Some its → slice_get (block_pages g image (row / g.pages)) (row % g.pages) ≡ Some its
 in_block g image row its at =
     let block : ℕ = row / g.pages in
     let k : ℕ = row % g.pages in

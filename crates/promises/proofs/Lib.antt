@@ -1,9 +1,14 @@
 pub mod StepLemmas
+pub mod ReplyLemmas
 pub mod LogLemmas
+pub mod CountLemmas
+pub mod ShortLemmas
 pub mod AccountLemmas
 pub mod LegalLemmas
+pub mod NextLemmas
 pub mod RunLemmas
 pub mod StopLemmas
 pub mod StreamOnce
 pub mod StreamSome
 pub mod StreamLemmas
+pub mod WorkedLemmas

@@ -1,5 +1,6 @@
 -- Logs: what they count, which blocks they leave good, and where they lead.
-use Rattle.std.proofs.Common.{◌≡◌, ◌<◌, inl, inr, ◌+◌, ◌/◌, ◌^◌, ◌==◌, ℕ, Bool, true, false, not, ◌&&◌, ◌||◌, List, [], ◌∷◌, ◌++◌, refl, sym, ◌∙◌, ap, subst, arith, get_or, length, if◌then◌else◌}
+use Rattle.std.proofs.Common.{◌≡◌, ◌<◌, inl, inr, ◌+◌, ◌/◌, ◌^◌, ◌==◌, ℕ, Bool, true, false, not, ◌&&◌, ◌||◌, List, [], ◌∷◌, ◌++◌, refl, sym, ◌∙◌, ap}
+use Rattle.std.proofs.Common.{subst, arith, get_or, length, if◌then◌else◌}
 use Rattle.std.specs.Prelude.{slice_set}
 use Rattle.std.proofs.Math.Bool.{or_assoc}
 use Rattle.std.proofs.lemmas.List.{get_or-set_same, get_or-set_other, length-set}
@@ -7,8 +8,10 @@ use Rattle.std.proofs.lemmas.Bool.Decides.{eqb_tells}
 use Rattle.page_layout.specs.Change.{one_if}
 use Rattle.page_layout.specs.Page.{Page}
 use Rattle.page_layout.specs.Counter.{counted}
-use Rattle.page_layout.specs.Flash.{Flash, Operation, Program, Erase, Turn, no_turn, turn_at, after, after_program, after_erase, may_program, may_erase, Leads}
-use Rattle.promises.specs.Log.{block_of, has_passed, programs_in, erases_in, programs_of, erases_of, passed_erases_of, failed_in, CountsLaw, BadJoinLaw, BadStaysLaw, LeadsJoinLaw, CompleteLaw}
+use Rattle.page_layout.specs.Flash.{Flash, Operation, Program, Erase, Turn, no_turn, turn_at, after, after_program, after_erase, may_program}
+use Rattle.page_layout.specs.Flash.{may_erase, Leads}
+use Rattle.promises.specs.Log.{block_of, has_passed, programs_in, erases_in, programs_of, erases_of, passed_erases_of, failed_in, CountsLaw}
+use Rattle.promises.specs.Log.{BadJoinLaw, BadStaysLaw, CompleteLaw}
 
 -- ---- counts
 
@@ -62,10 +65,6 @@ bad_stays pages block bad xs ys h = bad_join pages block bad xs ys ∙ ap (λ b.
 
 -- ---- where a log leads
 
-pub leads_join : LeadsJoinLaw
-leads_join old mid new [] ys h k = subst (λ s. Leads s ys new) h k
-leads_join old mid new (op ∷ xs) ys h k = (h.0, h.1, leads_join h.0 mid new xs ys h.2 k)
-
 unfoldable pub after_all : Flash → List Operation → Flash
 after_all s [] = s
 after_all s (op ∷ log) = after_all (after s op) log
@@ -79,10 +78,6 @@ pub after-geometry : (s : Flash) (op : Operation) → (after s op).geometry ≡ 
 unfolding after
 after-geometry s (Program row page passed left) = refl
 after-geometry s (Erase block passed left) = refl
-
-pub leads-geometry : (old new : Flash) (log : List Operation) → Leads old log new → new.geometry ≡ old.geometry
-leads-geometry old new [] h = ap (λ (s : Flash). s.geometry) h
-leads-geometry old new (op ∷ log) h = leads-geometry h.0 new log h.2 ∙ (ap (λ (s : Flash). s.geometry) h.1.left ∙ after-geometry old op)
 
 -- ---- a log leaves nothing out
 

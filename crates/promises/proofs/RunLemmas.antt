@@ -2,7 +2,7 @@
 use Rattle.std.proofs.Common.{◌≡◌, [], ◌∷◌, ◌++◌, refl, sym, ◌∙◌, ap, subst, suc, append_assoc}
 use Rattle.promises.specs.Step.{ArrayRun}
 use Rattle.promises.specs.Run.{Device, state_of, Run, commands_of, replies_of, log_of, OneMoreEventLaw, RunJoinLaw, LastLaw, OneLogLaw, AnswersLaw, EachLaw, LogsLaw}
-use Rattle.promises.proofs.LogLemmas.{leads_join, leads-geometry}
+use Rattle.page_layout.proofs.FlashLemmas.{Leads-append, geometry-Leads}
 
 pub run_join : RunJoinLaw
 run_join old mid new [] ys h k = subst (λ d. Run d ys new) h k
@@ -17,12 +17,12 @@ last old new (e ∷ events) h = last e.left new events h.1
 
 pub one_log : OneLogLaw
 one_log old new [] h = ap (λ (d : Device). d.flash) h
-one_log old new (e ∷ events) h = leads_join old.flash e.left.flash new.flash e.piece (log_of events) h.0.leads (one_log e.left new events h.1)
+one_log old new (e ∷ events) h = Leads-append old.flash e.left.flash new.flash e.piece (log_of events) h.0.leads (one_log e.left new events h.1)
 
 pub answers : AnswersLaw
 answers old new [] h = ap state_of h
 answers old new (e ∷ events) h =
-    let same : e.left.flash.geometry ≡ old.flash.geometry = leads-geometry old.flash e.left.flash e.piece h.0.leads in
+    let same : e.left.flash.geometry ≡ old.flash.geometry = geometry-Leads old.flash e.left.flash e.piece h.0.leads in
     (state_of e.left, h.0.step, subst (λ g. ArrayRun g (state_of e.left) (commands_of events) (replies_of events) (state_of new)) same (answers e.left new events h.1))
 
 pub each : EachLaw

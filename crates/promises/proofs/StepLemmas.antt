@@ -1,24 +1,15 @@
 -- The step of the array.
-use Rattle.std.proofs.Common.{◌≡◌, ◌≢◌, ◌<◌, ◌≤◌, ℕ, Bool, true, false, List, [], ◌∷◌, refl, sym, ◌∙◌, ap, arith, suc, zero, length, replicate}
+use Rattle.std.proofs.Common.{◌≡◌, ◌≢◌, ◌<◌, ◌≤◌, ℕ, Bool, true, false, List, [], ◌∷◌, refl, sym, ◌∙◌, ap, arith, suc, length, replicate}
 use Rattle.std.specs.Prelude.{slice_get, slice_set, Some}
 use Rattle.std.proofs.lemmas.List.{length-set}
 use Rattle.page_layout.specs.declared.geometry.Geometry.{Geometry}
 use Rattle.page_layout.specs.Array.{zeros}
-use Rattle.promises.specs.Step.{State, Read, Write, Trim, Flush, Turn, Reply, Done, DoneWith, OutOfRange, ReadOnly, SequenceSpent, OutOfMemory, WriteStep, QuietStep, ArrayStep, KeepsSectors, BecomesReadOnly, OneReadLaw, ReadBackLaw, KeptLaw, ReadOnlyLaw, SectorCountLaw, NeverLaw, RepliesLaw, SixLaw, OtherBytesLaw, written_once}
+use Rattle.page_layout.proofs.ArrayLemmas.{slice_get-set_same, slice_get-set_other}
+use Rattle.promises.specs.Step.{State, Read, Write, Trim, Flush, Turn, Reply, Done, DoneWith, OutOfRange, ReadOnly, SequenceSpent, OutOfMemory}
+use Rattle.promises.specs.Step.{WriteStep, QuietStep, ArrayStep, KeepsSectors, BecomesReadOnly, OneReadLaw, ReadBackLaw, KeptLaw, ReadOnlyLaw}
+use Rattle.promises.specs.Step.{SectorCountLaw, NeverLaw, RepliesLaw, SixLaw, OtherBytesLaw, written_once}
 
 -- ---- lists
-
-get-set_other : {A : Type 0} (xs : List A) (i j : ℕ) (y : A) → j ≢ i → slice_get (slice_set xs i y) j ≡ slice_get xs j
-get-set_other [] i j y ne = refl
-get-set_other (x ∷ xs) zero zero y ne = absurd (ne refl)
-get-set_other (x ∷ xs) zero (suc j) y ne = refl
-get-set_other (x ∷ xs) (suc i) zero y ne = refl
-get-set_other (x ∷ xs) (suc i) (suc j) y ne = get-set_other xs i j y (λ e. ne (ap suc e))
-
-get-set_same : {A : Type 0} (xs : List A) (i : ℕ) (y : A) → i < length xs → slice_get (slice_set xs i y) i ≡ Some y
-get-set_same [] i y lt = absurd (omega arith)
-get-set_same (x ∷ xs) zero y lt = refl
-get-set_same (x ∷ xs) (suc i) y lt = get-set_same xs i y (omega arith)
 
 same_bytes : (a b : List ℕ) → Some a ≡ Some b → a ≡ b
 same_bytes a b e = cc
@@ -41,8 +32,8 @@ one_read g old new other sector _ _ h k = absurd h
 
 pub read_back : ReadBackLaw
 read_back g old new sector bytes size h = (
-  ap (λ xs. slice_get xs sector) h.array_is ∙ get-set_same old.array sector bytes (omega (arith, size, h.within)),
-  λ other ne. ap (λ xs. slice_get xs other) h.array_is ∙ get-set_other old.array sector other bytes ne,
+  ap (λ xs. slice_get xs sector) h.array_is ∙ slice_get-set_same old.array sector bytes (omega (arith, size, h.within)),
+  λ other ne. ap (λ xs. slice_get xs other) h.array_is ∙ slice_get-set_other old.array sector other bytes ne,
 )
 
 kept_write : (g : Geometry) (old new : State) (sector : ℕ) (bytes : List ℕ) (reply : Reply) → reply ≢ Done → WriteStep g old sector bytes reply new → new.array ≡ old.array
@@ -73,7 +64,7 @@ kept g old new Turn reply ne h = kept_quiet old new reply h
 
 -- ---- a device that is read-only
 
-not_both : (b : Bool) → b ≡ true → b ≡ false → ⊥
+pub not_both : (b : Bool) → b ≡ true → b ≡ false → ⊥
 not_both b t f = cc
 
 stays : (old new : State) → old.ro ≡ true → BecomesReadOnly old new → new ≡ old

@@ -7,7 +7,7 @@ use Rattle.page_layout.proofs.FlashLemmas.{Leads-append, geometry-Leads}
 use Rattle.page_layout.proofs.RecordingLemmas.{records_join}
 use Rattle.page_layout.specs.Flash.{Flash, Operation, Program, Erase, Steps, Leads, after}
 use Rattle.page_layout.specs.Recording.{Recording, Records, image_after, image_after_all}
-use Rattle.promises.specs.Stop.{Tears, LeftBy, StopsIn, MayLeave, LeavesOnly, NoOperationLaw, TornInOneLaw, BetweenLaw, StopsJoinLaw, ImageLaw}
+use Rattle.promises.specs.Stop.{Tears, LeftBy, StopsIn, LeavesOnly, NoOperationLaw, TornInOneLaw, BetweenLaw, StopsJoinLaw, ImageLaw}
 use Rattle.promises.proofs.LogLemmas.{after_all, leads_after, after-geometry}
 
 -- nothing was torn yet

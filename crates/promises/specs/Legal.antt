@@ -1,12 +1,12 @@
 -- Which logs are legal: a check of the list, by its own account of the blocks.
-use Rattle.std.specs.Prelude.{◌≡◌, ◌↔◌, ◌<◌, ℕ, ◌+◌, ◌/◌, ◌%◌, Bool, true, false, not, List, [], ◌∷◌, ◌++◌, map, get_or, slice_get, slice_set, Some}
+use Rattle.std.specs.Prelude.{◌≡◌, ◌↔◌, ◌<◌, ◌≤◌, ℕ, ◌+◌, ◌/◌, ◌%◌, Bool, true, false, not, List, [], ◌∷◌, ◌++◌, map, get_or, slice_get, slice_set, Some}
 use Rattle.std.specs.List.{range_with_len}
 use Rattle.page_layout.specs.declared.geometry.Geometry.{Geometry}
 use Rattle.page_layout.specs.Page.{Page, Image}
 use Rattle.page_layout.specs.Sound.{is_erased_page}
 use Rattle.page_layout.specs.Block.{block_pages, past_last}
 use Rattle.page_layout.specs.Flash.{Operation, Program, Erase}
-use Rattle.promises.specs.Log.{block_of, bad_of, erases_of}
+use Rattle.promises.specs.Log.{block_of, bad_of, programs_of, erases_of}
 
 -- the account of a block: its next page, and whether nothing more may be done in it
 pub record Account : Type 0 where
@@ -99,3 +99,31 @@ abbrev pub InOrderLaw : Type 0
 InOrderLaw = (g : Geometry) (image : Image) (bad : ℕ → Bool) (before between after : List Operation) (row later : ℕ) (p q left left' : Page) (passed passed' : Bool)
     → IsLegal g image bad (before ++ Program row p passed left ∷ (between ++ Program later q passed' left' ∷ after)) → later / g.pages ≡ row / g.pages → erases_of between (row / g.pages) ≡ 0
     → row % g.pages < later % g.pages
+
+-- ---- which page comes next
+
+-- no operation of the log names the block
+pub record LeavesAlone (pages : ℕ) (log : List Operation) (block : ℕ) : Type 0 where
+  pub programs : programs_of pages log block ≡ 0
+  pub erases : erases_of log block ≡ 0
+
+-- the row is one past the last of its block that isn't erased: it and those after it are erased, and the one before it isn't
+pub record IsFirstFree (g : Geometry) (image : Image) (row : ℕ) : Type 0 where
+  pub erased : (other : ℕ) (its : Page) → other / g.pages ≡ row / g.pages → row ≤ other → slice_get image other ≡ Some its → is_erased_page its ≡ true
+  pub last : (other : ℕ) (its : Page) → other / g.pages ≡ row / g.pages → other + 1 ≡ row → slice_get image other ≡ Some its → is_erased_page its ≡ false
+
+-- a block's first program is of the page one past its last that isn't erased in the image
+abbrev pub FirstPageLaw : Type 0
+FirstPageLaw = (g : Geometry) (image : Image) (bad : ℕ → Bool) (before after : List Operation) (row : ℕ) (p left : Page) (passed : Bool)
+    → IsLegal g image bad (before ++ Program row p passed left ∷ after) → LeavesAlone g.pages before (row / g.pages) → IsFirstFree g image row
+
+-- its first program after an erase is of page 0
+abbrev pub AfterEraseLaw : Type 0
+AfterEraseLaw = (g : Geometry) (image : Image) (bad : ℕ → Bool) (before between after : List Operation) (row : ℕ) (erased : List Page) (p left : Page) (passed passed' : Bool)
+    → IsLegal g image bad (before ++ Erase (row / g.pages) passed erased ∷ (between ++ Program row p passed' left ∷ after)) → LeavesAlone g.pages between (row / g.pages) → row % g.pages ≡ 0
+
+-- and its next program after a program is of the next page
+abbrev pub NextPageLaw : Type 0
+NextPageLaw = (g : Geometry) (image : Image) (bad : ℕ → Bool) (before between after : List Operation) (row later : ℕ) (p q left left' : Page) (passed passed' : Bool)
+    → IsLegal g image bad (before ++ Program row p passed left ∷ (between ++ Program later q passed' left' ∷ after)) → later / g.pages ≡ row / g.pages → LeavesAlone g.pages between (row / g.pages)
+    → later % g.pages ≡ row % g.pages + 1

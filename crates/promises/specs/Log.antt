@@ -1,14 +1,15 @@
 -- Logs of programs and erases: what they count, and which blocks they leave good.
-use Rattle.std.specs.Prelude.{◌≡◌, ◌⊎◌, ◌<◌, ℕ, ◌+◌, ◌/◌, ◌==◌, ◌&&◌, ◌||◌, not, Bool, true, false, List, [], ◌∷◌, ◌++◌, length, ◌^◌}
-use Rattle.std.specs.List.{list_all}
+use Rattle.std.specs.Prelude.{◌≡◌, ◌↔◌, ◌⊎◌, ◌<◌, ℕ, ◌+◌, ◌/◌, ◌==◌, ◌&&◌, ◌||◌, nat_le, not, Bool, true, false, List, [], ◌∷◌, ◌++◌, length, map}
+use Rattle.std.specs.Prelude.{sum_by, slice_get, Some, ◌^◌}
+use Rattle.std.specs.List.{list_all, range_with_len}
 use Rattle.page_layout.specs.declared.geometry.Geometry.{Geometry}
 use Rattle.page_layout.specs.Geometry.{need}
-use Rattle.page_layout.specs.Page.{Image}
+use Rattle.page_layout.specs.Page.{Page, Image}
 use Rattle.page_layout.specs.Sound.{is_erased_page}
 use Rattle.page_layout.specs.Block.{block_pages}
 use Rattle.page_layout.specs.Change.{one_if}
 use Rattle.page_layout.specs.Count.{blocks_that}
-use Rattle.page_layout.specs.Flash.{Operation, Program, Erase, Flash, Leads, turn_at}
+use Rattle.page_layout.specs.Flash.{Operation, Program, Erase, Flash, Leads, IsWhole, turn_at}
 
 -- the block that an operation names
 abbrev pub block_of : ℕ → Operation → ℕ
@@ -104,10 +105,6 @@ BadJoinLaw = (pages block : ℕ) (bad : ℕ → Bool) (xs ys : List Operation) �
 abbrev pub BadStaysLaw : Type 0
 BadStaysLaw = (pages block : ℕ) (bad : ℕ → Bool) (xs ys : List Operation) → bad_of pages bad xs block ≡ true → bad_of pages bad (xs ++ ys) block ≡ true
 
--- one log after another
-abbrev pub LeadsJoinLaw : Type 0
-LeadsJoinLaw = (old mid new : Flash) (xs ys : List Operation) → Leads old xs mid → Leads mid ys new → Leads old (xs ++ ys) new
-
 -- a log leaves nothing out: the die counts for each block what was asked for, and the log has it all
 pub record CountsAll (old new : Flash) (log : List Operation) (block : ℕ) : Type 0 where
   pub programs : (turn_at old block).programs + programs_of old.geometry.pages log block < 2 ^ 64 → (turn_at new block).programs ≡ (turn_at old block).programs + programs_of old.geometry.pages log block
@@ -115,3 +112,74 @@ pub record CountsAll (old new : Flash) (log : List Operation) (block : ℕ) : Ty
 
 abbrev pub CompleteLaw : Type 0
 CompleteLaw = (old new : Flash) (log : List Operation) (block : ℕ) → block < length old.turns → Leads old log new → CountsAll old new log block
+
+-- ---- what the counts are
+
+-- what a log counts in all is what it counts of each block, together
+pub record CountsEach (g : Geometry) (log : List Operation) : Type 0 where
+  pub programs : programs_in log ≡ sum_by (λ block. programs_of g.pages log block) (range_with_len 0 g.blocks)
+  pub erases : erases_in log ≡ sum_by (λ block. erases_of log block) (range_with_len 0 g.blocks)
+
+abbrev pub SumsLaw : Type 0
+SumsLaw = (old new : Flash) (log : List Operation) → IsWhole old → Leads old log new → CountsEach old.geometry log
+
+-- and so it is what the blocks of the die have counted since, where none of them stands at its top
+pub record CountsSince (old new : Flash) (log : List Operation) : Type 0 where
+  pub programs : ((block : ℕ) → (turn_at old block).programs + programs_of old.geometry.pages log block < 2 ^ 64)
+      → sum_by (λ block. (turn_at new block).programs) (range_with_len 0 old.geometry.blocks) ≡ sum_by (λ block. (turn_at old block).programs) (range_with_len 0 old.geometry.blocks) + programs_in log
+  pub erases : ((block : ℕ) → (turn_at old block).erases + erases_of log block < 2 ^ 64)
+      → sum_by (λ block. (turn_at new block).erases) (range_with_len 0 old.geometry.blocks) ≡ sum_by (λ block. (turn_at old block).erases) (range_with_len 0 old.geometry.blocks) + erases_in log
+
+abbrev pub SinceLaw : Type 0
+SinceLaw = (old new : Flash) (log : List Operation) → IsWhole old → Leads old log new → CountsSince old new log
+
+-- an operation of the log named the block and failed
+pub record HasFailed (pages : ℕ) (log : List Operation) (block : ℕ) : Type 0 where
+  pub before : List Operation
+  pub op : Operation
+  pub after : List Operation
+  pub log_is : log ≡ before ++ op ∷ after
+  pub names : block_of pages op ≡ block
+  pub fails : has_passed op ≡ false
+
+-- `failed_in` tells just that, whatever else the log has
+abbrev pub FailedLaw : Type 0
+FailedLaw = (pages block : ℕ) (log : List Operation) → (failed_in pages log block ≡ true) ↔ HasFailed pages log block
+
+-- each block is good or bad
+abbrev pub GoodLaw : Type 0
+GoodLaw = (g : Geometry) (bad : ℕ → Bool) (log : List Operation) → good_count g bad log + blocks_that g (bad_of g.pages bad log) ≡ g.blocks
+
+-- the pages of the block are erased
+abbrev pub AreErased : Geometry → Image → ℕ → Type 0
+AreErased g image block = (row : ℕ) (its : Page) → row / g.pages ≡ block → slice_get image row ≡ Some its → is_erased_page its ≡ true
+
+-- a block is free just where it is not bad and its pages are erased
+abbrev pub FreeLaw : Type 0
+FreeLaw = (g : Geometry) (bad : ℕ → Bool) (log : List Operation) (image : Image) (block : ℕ) → (free_of g bad log image block ≡ true) ↔ ((bad_of g.pages bad log block ≡ false) × AreErased g image block)
+
+-- ---- shortages worked out by hand, of a die of 24 blocks that needs 17
+
+-- the blocks from this one on were bad before
+abbrev pub bad_from : ℕ → ℕ → Bool
+bad_from first block = nat_le first block
+
+-- erases of these blocks, which failed
+abbrev pub failing : List ℕ → List Operation
+failing blocks = map (λ block. Erase block false []) blocks
+
+-- 5 blocks are good
+abbrev pub FewGoodLaw : Type 0
+FewGoodLaw = (g : Geometry) → g.blocks ≡ 24 → need g ≡ 17 → IsShort g (bad_from 5) [] [] false
+
+-- 21 blocks are good, and three failed in the call
+abbrev pub ThreeFailedLaw : Type 0
+ThreeFailedLaw = (g : Geometry) → g.blocks ≡ 24 → need g ≡ 17 → IsShort g (bad_from 24) [] (failing (1 ∷ 2 ∷ 3 ∷ [])) false
+
+-- the device was read-only before
+abbrev pub ReadOnlyBeforeLaw : Type 0
+ReadOnlyBeforeLaw = (g : Geometry) → IsShort g (bad_from 24) [] [] true
+
+-- No shortage: just 17 blocks are good, and two failed in the call, one of them twice. A third had failed before it.
+abbrev pub TwoFailedLaw : Type 0
+TwoFailedLaw = (g : Geometry) → g.blocks ≡ 24 → need g ≡ 17 → IsShort g (bad_from 20) (failing (0 ∷ [])) (failing (1 ∷ 2 ∷ 2 ∷ [])) false → ⊥

@@ -1,5 +1,5 @@
 -- What a device may answer to a command, and what its array of sectors is then.
-use Rattle.std.specs.Prelude.{◌≡◌, ◌≢◌, ◌<◌, ◌≤◌, ℕ, Bool, true, false, List, [], ◌∷◌, length, replicate, slice_get, slice_set, Some}
+use Rattle.std.specs.Prelude.{◌≡◌, ◌≢◌, ◌↔◌, ◌⊎◌, ◌<◌, ◌≤◌, ℕ, Bool, true, false, List, [], ◌∷◌, length, replicate, slice_get, slice_set, Some}
 use Rattle.page_layout.specs.declared.geometry.Geometry.{Geometry}
 use Rattle.page_layout.specs.Array.{zeros}
 
@@ -158,3 +158,46 @@ SixLaw = (g : Geometry) → g.data_bytes ≡ 64 → g.sectors ≡ 32 → ArrayRu
 -- and where the read gives anything else, it is no run
 abbrev pub OtherBytesLaw : Type 0
 OtherBytesLaw = (g : Geometry) (bytes : List ℕ) (new : State) → g.sectors ≡ 32 → bytes ≢ replicate 64 17 → ArrayRun g (blank g) (Write 5 (replicate 64 17) ∷ Read 5 ∷ []) (Done ∷ DoneWith bytes ∷ []) new → ⊥
+
+-- ---- which replies come at all
+
+-- the command names a sector past the last
+abbrev pub NamesPast : Geometry → Command → Type 0
+NamesPast g (Read sector) = g.sectors ≤ sector
+NamesPast g (Write sector bytes) = g.sectors ≤ sector
+NamesPast g (Trim sector) = g.sectors ≤ sector
+NamesPast g Flush = ⊥
+NamesPast g Turn = ⊥
+
+-- the replies of a read, of a write or a trim, of a flush or a turn
+abbrev pub AnswersRead : Reply → Type 0
+AnswersRead reply = ((bytes : List ℕ) × (reply ≡ DoneWith bytes)) ⊎ (reply ≡ OutOfRange)
+
+abbrev pub AnswersWrite : Reply → Type 0
+AnswersWrite reply = (reply ≡ Done) ⊎ (reply ≡ OutOfRange) ⊎ (reply ≡ ReadOnly) ⊎ (reply ≡ SequenceSpent) ⊎ (reply ≡ OutOfMemory)
+
+abbrev pub AnswersQuiet : Reply → Type 0
+AnswersQuiet reply = (reply ≡ Done) ⊎ (reply ≡ ReadOnly) ⊎ (reply ≡ SequenceSpent)
+
+abbrev pub MayAnswer : Command → Reply → Type 0
+MayAnswer (Read sector) reply = AnswersRead reply
+MayAnswer (Write sector bytes) reply = AnswersWrite reply
+MayAnswer (Trim sector) reply = AnswersWrite reply
+MayAnswer Flush reply = AnswersQuiet reply
+MayAnswer Turn reply = AnswersQuiet reply
+
+-- each command has one of its replies
+abbrev pub MayAnswerLaw : Type 0
+MayAnswerLaw = (g : Geometry) (old new : State) (command : Command) (reply : Reply) → ArrayStep g old command reply new → MayAnswer command reply
+
+-- `OutOfRange` comes just where the command names a sector past the last
+abbrev pub PastLaw : Type 0
+PastLaw = (g : Geometry) (old new : State) (command : Command) (reply : Reply) → ArrayStep g old command reply new → (reply ≡ OutOfRange) ↔ NamesPast g command
+
+-- after `ReadOnly` the device is read-only
+abbrev pub AfterReadOnlyLaw : Type 0
+AfterReadOnlyLaw = (g : Geometry) (old new : State) (command : Command) → ArrayStep g old command ReadOnly new → new.ro ≡ true
+
+-- a device that is read-only gives no other answer to what would change it
+abbrev pub RefusesLaw : Type 0
+RefusesLaw = (g : Geometry) (old new : State) (command : Command) (reply : Reply) → old.ro ≡ true → ((sector : ℕ) → command ≢ Read sector) → reply ≢ OutOfRange → ArrayStep g old command reply new → reply ≡ ReadOnly

@@ -1,5 +1,6 @@
 -- A stream of bytes as whole requests and a rest, and the bytes of the replies.
-use Rattle.std.specs.Prelude.{◌≡◌, ◌<◌, ◌≤◌, ◌⊎◌, ◌^◌, ◌↔◌, ◌==◌, ◌&&◌, ℕ, nat_le, Bool, false, List, [], ◌∷◌, ◌++◌, length, take, replicate, slice_index, Option, Some, None, if◌then◌else◌}
+use Rattle.std.specs.Prelude.{◌≡◌, ◌<◌, ◌≤◌, ◌⊎◌, ◌^◌, ◌↔◌, ◌==◌, ◌&&◌, ℕ, nat_le, Bool, false, List, [], ◌∷◌, ◌++◌, length, take, map, replicate}
+use Rattle.std.specs.Prelude.{slice_index, Option, Some, None, if◌then◌else◌}
 use Rattle.std.specs.List.{flat_map, AllByRecursion}
 use Rattle.std.specs.Int.{to_le_bytes, w32}
 use Rattle.promises.specs.Step.{Command, Reply, Done, DoneWith, OutOfRange, ReadOnly, SequenceSpent, OutOfMemory, Damaged, BusFault}
@@ -146,7 +147,7 @@ RepliesJoinLaw = (fs gs : List Request) (rs qs : List Reply) → length rs ≡ l
 abbrev pub OpLaw : Type 0
 OpLaw = (op : Op) (code : ℕ) → (op_from code ≡ Some op) ↔ (code ≡ op_code op)
 
--- ---- three streams worked out by hand, of a device with sectors of 64 bytes
+-- ---- streams worked out by hand, of a device with sectors of 64 bytes
 
 -- a read of sector 31 with tag 1
 abbrev pub read_31 : Request
@@ -168,3 +169,38 @@ BadHeaderLaw = Splits 64 (68 ∷ 88 ∷ 1 ∷ 0 ∷ replicate 8 0) [] BadFrame (
 -- eleven such bytes, and nothing is written
 abbrev pub ElevenLaw : Type 0
 ElevenLaw = Splits 64 (68 ∷ 88 ∷ 1 ∷ 0 ∷ replicate 7 0) [] Unfinished (68 ∷ 88 ∷ 1 ∷ 0 ∷ replicate 7 0) × (out_bytes [] [] Unfinished ≡ [])
+
+-- one request of each kind but a read that is done: a flush, a read of a sector past the last, a write past the last with its body, a
+-- trim, and a turn whose sector's number is not looked at
+abbrev pub five_requests : List Request
+five_requests = record { op = Flush; tag = 9; sector = 0; body = [] }
+    ∷ record { op = Read; tag = 7; sector = 32; body = [] }
+    ∷ record { op = Write; tag = 2; sector = 40; body = replicate 64 17 }
+    ∷ record { op = Trim; tag = 3; sector = 5; body = [] }
+    ∷ record { op = Turn; tag = 67305985; sector = 4294967295; body = [] } ∷ []
+
+abbrev pub five_stream : List ℕ
+five_stream = (68 ∷ 70 ∷ 4 ∷ 0 ∷ 9 ∷ 0 ∷ 0 ∷ 0 ∷ 0 ∷ 0 ∷ 0 ∷ 0 ∷ [])
+    ++ (68 ∷ 70 ∷ 1 ∷ 0 ∷ 7 ∷ 0 ∷ 0 ∷ 0 ∷ 32 ∷ 0 ∷ 0 ∷ 0 ∷ [])
+    ++ (68 ∷ 70 ∷ 2 ∷ 0 ∷ 2 ∷ 0 ∷ 0 ∷ 0 ∷ 40 ∷ 0 ∷ 0 ∷ 0 ∷ replicate 64 17)
+    ++ (68 ∷ 70 ∷ 3 ∷ 0 ∷ 3 ∷ 0 ∷ 0 ∷ 0 ∷ 5 ∷ 0 ∷ 0 ∷ 0 ∷ [])
+    ++ (68 ∷ 70 ∷ 5 ∷ 0 ∷ 1 ∷ 2 ∷ 3 ∷ 4 ∷ 255 ∷ 255 ∷ 255 ∷ 255 ∷ [])
+
+abbrev pub FiveLaw : Type 0
+FiveLaw = Splits 64 five_stream five_requests Boundary []
+
+-- what they tell a device
+abbrev pub FiveCommandsLaw : Type 0
+FiveCommandsLaw = map command_of five_requests ≡ (step.Flush ∷ step.Read 32 ∷ step.Write 40 (replicate 64 17) ∷ step.Trim 5 ∷ step.Turn ∷ [])
+
+-- what is written where a device has 32 sectors
+abbrev pub FiveOutLaw : Type 0
+FiveOutLaw = out_bytes five_requests (Done ∷ OutOfRange ∷ OutOfRange ∷ Done ∷ Done ∷ []) Boundary
+    ≡ ((100 ∷ 102 ∷ 4 ∷ 0 ∷ 9 ∷ 0 ∷ 0 ∷ 0 ∷ []) ++ (100 ∷ 102 ∷ 1 ∷ 1 ∷ 7 ∷ 0 ∷ 0 ∷ 0 ∷ []) ++ (100 ∷ 102 ∷ 2 ∷ 1 ∷ 2 ∷ 0 ∷ 0 ∷ 0 ∷ [])
+    ++ (100 ∷ 102 ∷ 3 ∷ 0 ∷ 3 ∷ 0 ∷ 0 ∷ 0 ∷ []) ++ (100 ∷ 102 ∷ 5 ∷ 0 ∷ 1 ∷ 2 ∷ 3 ∷ 4 ∷ []))
+
+-- each refusal but `OutOfRange`, as a reply to a flush with tag 9
+abbrev pub RefusalsLaw : Type 0
+RefusalsLaw = map (λ reply. reply_bytes (record { op = Flush; tag = 9; sector = 0; body = [] }) reply) (ReadOnly ∷ SequenceSpent ∷ OutOfMemory ∷ Damaged ∷ BusFault ∷ [])
+    ≡ ((100 ∷ 102 ∷ 4 ∷ 2 ∷ 9 ∷ 0 ∷ 0 ∷ 0 ∷ []) ∷ (100 ∷ 102 ∷ 4 ∷ 3 ∷ 9 ∷ 0 ∷ 0 ∷ 0 ∷ []) ∷ (100 ∷ 102 ∷ 4 ∷ 4 ∷ 9 ∷ 0 ∷ 0 ∷ 0 ∷ [])
+    ∷ (100 ∷ 102 ∷ 4 ∷ 5 ∷ 9 ∷ 0 ∷ 0 ∷ 0 ∷ []) ∷ (100 ∷ 102 ∷ 4 ∷ 6 ∷ 9 ∷ 0 ∷ 0 ∷ 0 ∷ []) ∷ [])

@@ -1,9 +1,13 @@
 //! What a reader would ask of the definitions first. Each function does nothing: its contract is the law.
 ghost use Rattle.promises.specs.Step.{OneReadLaw, ReadBackLaw, KeptLaw, ReadOnlyLaw, SectorCountLaw, NeverLaw, RepliesLaw, SixLaw, OtherBytesLaw};
-ghost use Rattle.promises.specs.Log.{CountsLaw, BadJoinLaw, BadStaysLaw, LeadsJoinLaw, CompleteLaw};
+ghost use Rattle.promises.specs.Log.{CountsLaw, BadJoinLaw, BadStaysLaw, CompleteLaw};
+ghost use Rattle.promises.specs.Step.{MayAnswerLaw, PastLaw, AfterReadOnlyLaw, RefusesLaw};
+ghost use Rattle.promises.specs.Log.{SumsLaw, SinceLaw, FailedLaw, GoodLaw, FreeLaw, FewGoodLaw, ThreeFailedLaw, ReadOnlyBeforeLaw, TwoFailedLaw};
 ghost use Rattle.promises.specs.Legal.{EmptyLaw, JoinLaw, AccountsLaw, OneMoreLaw, NoBadBlockLaw, NotTwiceLaw, OnErasedLaw, InOrderLaw};
+ghost use Rattle.promises.specs.Legal.{FirstPageLaw, AfterEraseLaw, NextPageLaw};
 ghost use Rattle.promises.specs.Run.{OneMoreEventLaw, RunJoinLaw, LastLaw, OneLogLaw, AnswersLaw, EachLaw, LogsLaw};
 ghost use Rattle.promises.specs.Stream.{OneWayLaw, SomeWayLaw, RepliesJoinLaw, OpLaw, CutShortLaw, CutShortOutLaw, BadHeaderLaw, ElevenLaw};
+ghost use Rattle.promises.specs.Stream.{FiveLaw, FiveCommandsLaw, FiveOutLaw, RefusalsLaw};
 ghost use Rattle.promises.specs.Stop.{NoOperationLaw, TornInOneLaw, BetweenLaw, StopsJoinLaw, ImageLaw};
 
 /// The step of the array: a read has one answer, what was written is read back, what isn't answered Done has changed no sector, and
@@ -18,20 +22,45 @@ pub fn step_laws()
     ensures as_many { RepliesLaw }
 {}
 
+/// Which replies come: to each command one of its own, `OutOfRange` just past the last sector; `ReadOnly` leaves the device read-only,
+/// and is all that such a device answers to what would change it. (This project.)
+pub fn reply_laws()
+    ensures may_answer { MayAnswerLaw }
+    ensures past { PastLaw }
+    ensures after_read_only { AfterReadOnlyLaw }
+    ensures refuses { RefusesLaw }
+{}
+
 /// A run of six commands with each kind of reply, worked out by hand; and one with another answer, which is none. (This project.)
 pub fn worked_run()
     ensures six { SixLaw }
     ensures other_bytes { OtherBytesLaw }
 {}
 
-/// Logs: counts and bad blocks of two in a row, where two in a row lead, and that a log leaves out nothing that the die counts.
-/// (This project.)
+/// Logs: counts and bad blocks of two in a row, and that a log leaves out nothing that the die counts. (This project.)
 pub fn log_laws()
     ensures counts { CountsLaw }
     ensures bad_join { BadJoinLaw }
     ensures bad_stays { BadStaysLaw }
-    ensures leads_join { LeadsJoinLaw }
     ensures complete { CompleteLaw }
+{}
+
+/// What a log's counts and words mean: the programs and erases of all blocks together, which the die counted; the
+/// blocks on which an operation failed; good ones, and free ones, which are good with erased pages alone. (This project.)
+pub fn count_laws()
+    ensures sums { SumsLaw }
+    ensures since { SinceLaw }
+    ensures failed { FailedLaw }
+    ensures good { GoodLaw }
+    ensures free { FreeLaw }
+{}
+
+/// Three shortages worked out by hand, and one case that is none. (This project.)
+pub fn worked_shortages()
+    ensures few_good { FewGoodLaw }
+    ensures three_failed { ThreeFailedLaw }
+    ensures read_only_before { ReadOnlyBeforeLaw }
+    ensures two_failed { TwoFailedLaw }
 {}
 
 /// Legal logs: two in a row, one more operation, and what the check is for: no bad block is touched, no page is programmed twice
@@ -45,6 +74,14 @@ pub fn legal_laws()
     ensures not_twice { NotTwiceLaw }
     ensures on_erased { OnErasedLaw }
     ensures in_order { InOrderLaw }
+{}
+
+/// Which page of a block is programmed next in a legal log: at first one past its last that isn't erased, after an erase page 0, after a
+/// program the next one. (ONFI 1.0: pages of a block are programmed in order.)
+pub fn next_page_laws()
+    ensures first { FirstPageLaw }
+    ensures after_erase { AfterEraseLaw }
+    ensures next { NextPageLaw }
 {}
 
 /// Runs: one more event, two in a row, the last device, the one log, and the answers as a run of the array. (This project.)
@@ -73,6 +110,15 @@ pub fn worked_streams()
     ensures cut_short_out { CutShortOutLaw }
     ensures bad_header { BadHeaderLaw }
     ensures eleven { ElevenLaw }
+{}
+
+/// A stream of five requests worked out by hand, with what they tell a device and what is written; and the bytes of each other refusal.
+/// (This project.)
+pub fn worked_requests()
+    ensures five { FiveLaw }
+    ensures commands { FiveCommandsLaw }
+    ensures out { FiveOutLaw }
+    ensures refusals { RefusalsLaw }
 {}
 
 /// Images that a stop may leave: torn in one operation or none, and of operations in a row those of either. (This project.)

@@ -1,7 +1,7 @@
 //! A block is collected: what counts is copied out of it, and it is erased.
 ghost use Rattle.std.specs.Prelude.{◌≡◌, ◌≢◌, ◌<◌, ◌≤◌, true, [], length, None, Ok, Err, OnOk, MatchResult};
 ghost use Rattle.std.specs.Option.{ForSome};
-ghost use Rattle.page_layout.specs.Counter.{HasRisen};
+ghost use Rattle.page_layout.specs.Counter.{HasRisen, counted};
 ghost use Rattle.page_layout.specs.Geometry.{vmax};
 ghost use Rattle.allocation.specs.State.{is_closed, live_at};
 ghost use Rattle.collection.specs.Safe.{IsSafe, IsIdle, ram, image_in};
@@ -51,11 +51,13 @@ impl<N: Nand> Engine<N> {
         ensures released { OnOk result (IsReleased block (ram self.old).blocks (ram self.new).blocks) }
         ensures fault { self.new.fault ≡ self.old.fault }
         ensures honest { N.honest self.new.nand ≡ N.honest self.old.nand }
+        ensures calm { N.calm self.new.nand ≡ N.calm self.old.nand }
         ensures failed { N.failed self.old.nand ≤ N.failed self.new.nand }
         ensures rose { result ≡ Err WriteFault.Bus → HasRisen (N.failed self.old.nand) (N.failed self.new.nand) }
         ensures keys { KeepsKeys self.old.mapping self.new.mapping }
         ensures refreshes { flushing ≡ true → Refreshes (ram self.old) (ram self.new) }
         ensures cost { CollectCosts flushing (ram self.old) (ram self.new) result }
+        ensures erases { OnOk result (N.erases self.new.nand ≡ counted (N.erases self.old.nand)) }
         ensures less_work { OnOk result (work_left (ram self.new) < work_left (ram self.old)) }
         ensures went { N.honest self.old.nand ≡ true → result ≢ Err WriteFault.Bus →
             Went (ram self.old) (N.flash self.old.nand) (ram self.new) (N.flash self.new.nand) }
@@ -116,10 +118,12 @@ impl<N: Nand> Engine<N> {
         ensures goes { GoesBut block (ram self.old) (ram self.new) }
         ensures released { OnOk result (IsReleased block (ram self.old).blocks (ram self.new).blocks) }
         ensures honest { N.honest self.new.nand ≡ N.honest self.old.nand }
+        ensures calm { N.calm self.new.nand ≡ N.calm self.old.nand }
         ensures failed { N.failed self.old.nand ≤ N.failed self.new.nand }
         ensures rose { self.old.fault ≡ None → result ≡ Err WriteFault.Bus → HasRisen (N.failed self.old.nand) (N.failed self.new.nand) }
         ensures keys { KeepsKeys self.old.mapping self.new.mapping }
         ensures refreshes { flushing ≡ true → Refreshes (ram self.old) (ram self.new) }
+        ensures erases { OnOk result (N.erases self.new.nand ≡ counted (N.erases self.old.nand)) }
         ensures cost { self.old.fault ≡ None → CollectCosts flushing (ram self.old) (ram self.new) result }
         ensures went { N.honest self.old.nand ≡ true → result ≢ Err WriteFault.Bus →
             Went (ram self.old) (N.flash self.old.nand) (ram self.new) (N.flash self.new.nand) }

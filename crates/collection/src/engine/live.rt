@@ -39,6 +39,7 @@ impl<N: Nand> Engine<N> {
         ensures memory { ram self.new ≡ ram self.old }
         ensures page { self.new.page ≡ self.old.page }
         ensures honest { N.honest self.new.nand ≡ N.honest self.old.nand }
+        ensures calm { N.calm self.new.nand ≡ N.calm self.old.nand }
         ensures programs { N.programs self.new.nand ≡ N.programs self.old.nand }
         ensures erases { N.erases self.new.nand ≡ N.erases self.old.nand }
         ensures failed { N.failed self.old.nand ≤ N.failed self.new.nand }
@@ -68,6 +69,7 @@ impl<N: Nand> Engine<N> {
         ensures safe { IsSafe N.flash self.new }
         ensures memory { ram self.new ≡ ram self.old }
         ensures honest { N.honest self.new.nand ≡ N.honest self.old.nand }
+        ensures calm { N.calm self.new.nand ≡ N.calm self.old.nand }
         ensures programs { N.programs self.new.nand ≡ N.programs self.old.nand }
         ensures erases { N.erases self.new.nand ≡ N.erases self.old.nand }
         ensures failed { N.failed self.old.nand ≤ N.failed self.new.nand }
@@ -99,6 +101,7 @@ impl<N: Nand> Engine<N> {
         ensures safe { IsSafe N.flash self.new }
         ensures memory { ram self.new ≡ ram self.old }
         ensures honest { N.honest self.new.nand ≡ N.honest self.old.nand }
+        ensures calm { N.calm self.new.nand ≡ N.calm self.old.nand }
         ensures programs { N.programs self.new.nand ≡ N.programs self.old.nand }
         ensures erases { N.erases self.new.nand ≡ N.erases self.old.nand }
         ensures failed { N.failed self.old.nand ≤ N.failed self.new.nand }
@@ -139,6 +142,7 @@ impl<N: Nand> Engine<N> {
         ensures safe { IsSafe N.flash self.new }
         ensures memory { ram self.new ≡ ram self.old }
         ensures honest { N.honest self.new.nand ≡ N.honest self.old.nand }
+        ensures calm { N.calm self.new.nand ≡ N.calm self.old.nand }
         ensures programs { N.programs self.new.nand ≡ N.programs self.old.nand }
         ensures erases { N.erases self.new.nand ≡ N.erases self.old.nand }
         ensures failed { N.failed self.old.nand ≤ N.failed self.new.nand }

@@ -10,7 +10,7 @@ ghost use Rattle.translation_pages.specs.TranslationPage.{entry_at};
 ghost use Rattle.collection.specs.Pages.{newest_row};
 ghost use Rattle.collection.specs.Safe.{IsSafe, IsBuffer, ram, image_in, page_in};
 ghost use Rattle.collection.specs.Truth.{IsTrue};
-ghost use Rattle.collection.specs.Looks.{IsPageOf, IsRead, GivesRow, GivesSector, IsReadFault};
+ghost use Rattle.collection.specs.Looks.{IsPageOf, IsRead, GivesRow, FindsRow, GivesSector, IsReadFault};
 
 use super::steps::read_sound;
 use super::{Buffer, Engine};
@@ -35,6 +35,7 @@ pub(crate) fn read_of<N: Nand>(
     ensures buffer { IsBuffer geometry.now buffer.new }
     ensures geometry { (N.flash nand.new).geometry ≡ (N.flash nand.old).geometry }
     ensures honest { N.honest nand.new ≡ N.honest nand.old }
+    ensures calm { N.calm nand.new ≡ N.calm nand.old }
     ensures reads { N.reads nand.new ≡ counted (N.reads nand.old) }
     ensures programs { N.programs nand.new ≡ N.programs nand.old }
     ensures erases { N.erases nand.new ≡ N.erases nand.old }
@@ -114,6 +115,7 @@ impl<N: Nand> Engine<N> {
         ensures memory { ram self.new ≡ ram self.old }
         ensures page { self.new.page ≡ self.old.page }
         ensures honest { N.honest self.new.nand ≡ N.honest self.old.nand }
+        ensures calm { N.calm self.new.nand ≡ N.calm self.old.nand }
         ensures reads { N.reads self.new.nand ≤ N.reads self.old.nand + 1 }
         ensures programs { N.programs self.new.nand ≡ N.programs self.old.nand }
         ensures erases { N.erases self.new.nand ≡ N.erases self.old.nand }
@@ -148,6 +150,7 @@ impl<N: Nand> Engine<N> {
         ensures memory { ram self.new ≡ ram self.old }
         ensures page { self.new.page ≡ self.old.page }
         ensures honest { N.honest self.new.nand ≡ N.honest self.old.nand }
+        ensures calm { N.calm self.new.nand ≡ N.calm self.old.nand }
         ensures reads { N.reads self.new.nand ≤ N.reads self.old.nand + 1 }
         ensures programs { N.programs self.new.nand ≡ N.programs self.old.nand }
         ensures erases { N.erases self.new.nand ≡ N.erases self.old.nand }
@@ -180,8 +183,10 @@ impl<N: Nand> Engine<N> {
     /// makes at most two page reads, and at most one where memory has the row; it programs and erases
     /// nothing, and memory stays as it is.
     ///
-    /// Whatever the die does, what it gives is zeros or the data area of the page in the page buffer,
-    /// which is sound and of the sector.
+    /// Whatever the die does, the row is the one that memory has, or else the one that the page in the
+    /// scratch buffer gives, a sound translation page; and what is given is zeros where there is no
+    /// row, and else the data area of the page in the page buffer, which is sound and of the sector,
+    /// or zeros where that is a trim.
     ///
     /// # Errors
     ///
@@ -196,6 +201,7 @@ impl<N: Nand> Engine<N> {
         ensures safe { IsSafe N.flash self.new }
         ensures memory { ram self.new ≡ ram self.old }
         ensures honest { N.honest self.new.nand ≡ N.honest self.old.nand }
+        ensures calm { N.calm self.new.nand ≡ N.calm self.old.nand }
         ensures reads { N.reads self.new.nand ≤ N.reads self.old.nand + 2 }
         ensures programs { N.programs self.new.nand ≡ N.programs self.old.nand }
         ensures erases { N.erases self.new.nand ≡ N.erases self.old.nand }
@@ -207,11 +213,9 @@ impl<N: Nand> Engine<N> {
         ensures unwritten { known self.old.mapping sector ≡ Some None → (result ≡ Ok None) × (self.new ≡ self.old) }
         ensures unmapped { known self.old.mapping sector ≡ None → slice_get self.old.directory (sector / entries self.old.geometry) ≡ Some None →
             (result ≡ Ok None) × (self.new ≡ self.old) }
-        ensures looked_up { known self.old.mapping sector ≡ None →
-            IfOk result (GivesRow self.old.geometry self.old.directory sector (page_in self.new.scratch)) }
+        ensures looked_up { IfOk result (FindsRow (ram self.old) sector (page_in self.new.scratch)) }
         ensures refused { OnErr result (out.new ≡ out.old) }
-        ensures checked { OnOk result (GivesSector self.old.geometry sector
-            (page self.new.page.body.items self.new.page.spare.items) out.new) }
+        ensures checked { IfOk result (λ row. GivesSector self.old.geometry sector row (page_in self.new.page) out.new) }
         ensures same { N.honest self.old.nand ≡ true → result ≢ Err WriteFault.Bus → N.flash self.new.nand ≡ N.flash self.old.nand }
         ensures truth { N.honest self.old.nand ≡ true → IsTrue None (ram self.old) (image_in N.flash self.old) →
             MatchResult result

@@ -58,6 +58,7 @@ impl<N: Nand> Engine<N> {
         ensures fault { self.new.fault ≡ self.old.fault }
         ensures page { self.new.page.body ≡ self.old.page.body }
         ensures honest { N.honest self.new.nand ≡ N.honest self.old.nand }
+        ensures calm { N.calm self.new.nand ≡ N.calm self.old.nand }
         ensures reads { N.reads self.new.nand ≡ N.reads self.old.nand }
         ensures erases { N.erases self.new.nand ≡ N.erases self.old.nand }
         ensures failed { N.failed self.old.nand ≤ N.failed self.new.nand }
@@ -120,6 +121,7 @@ impl<N: Nand> Engine<N> {
         ensures fault { self.new.fault ≡ self.old.fault }
         ensures page { self.new.page.body ≡ self.old.page.body }
         ensures honest { N.honest self.new.nand ≡ N.honest self.old.nand }
+        ensures calm { N.calm self.new.nand ≡ N.calm self.old.nand }
         ensures reads { N.reads self.new.nand ≡ N.reads self.old.nand }
         ensures erases { N.erases self.new.nand ≡ N.erases self.old.nand }
         ensures failed { N.failed self.old.nand ≤ N.failed self.new.nand }
@@ -200,6 +202,7 @@ impl<N: Nand> Engine<N> {
         ensures fault { self.new.fault ≡ fault_after self.old.fault result }
         ensures goes { GoesPut (ram self.old) (ram self.new) }
         ensures honest { N.honest self.new.nand ≡ N.honest self.old.nand }
+        ensures calm { N.calm self.new.nand ≡ N.calm self.old.nand }
         ensures reads { N.reads self.new.nand ≡ N.reads self.old.nand }
         ensures erases { N.erases self.new.nand ≡ N.erases self.old.nand }
         ensures failed { N.failed self.old.nand ≤ N.failed self.new.nand }

@@ -54,6 +54,7 @@ impl<N: Nand> Engine<N> {
         ensures safe { IsSafe N.flash self.new }
         ensures memory { ram self.new ≡ ram self.old }
         ensures honest { N.honest self.new.nand ≡ N.honest self.old.nand }
+        ensures calm { N.calm self.new.nand ≡ N.calm self.old.nand }
         ensures programs { N.programs self.new.nand ≡ N.programs self.old.nand }
         ensures erases { N.erases self.new.nand ≡ N.erases self.old.nand }
         ensures failed { N.failed self.old.nand ≤ N.failed self.new.nand }
@@ -88,6 +89,7 @@ impl<N: Nand> Engine<N> {
         ensures goes { Goes (ram self.old) (ram self.new) }
         ensures fault { self.new.fault ≡ self.old.fault }
         ensures honest { N.honest self.new.nand ≡ N.honest self.old.nand }
+        ensures calm { N.calm self.new.nand ≡ N.calm self.old.nand }
         ensures erases { N.erases self.new.nand ≡ N.erases self.old.nand }
         ensures failed { N.failed self.old.nand ≤ N.failed self.new.nand }
         ensures rose { result ≡ Err WriteFault.Bus → HasRisen (N.failed self.old.nand) (N.failed self.new.nand) }
@@ -118,6 +120,7 @@ impl<N: Nand> Engine<N> {
         ensures goes { Goes (ram self.old) (ram self.new) }
         ensures fault { self.new.fault ≡ self.old.fault }
         ensures honest { N.honest self.new.nand ≡ N.honest self.old.nand }
+        ensures calm { N.calm self.new.nand ≡ N.calm self.old.nand }
         ensures erases { N.erases self.new.nand ≡ N.erases self.old.nand }
         ensures failed { N.failed self.old.nand ≤ N.failed self.new.nand }
         ensures rose { result ≡ Err WriteFault.Bus → HasRisen (N.failed self.old.nand) (N.failed self.new.nand) }
@@ -159,6 +162,7 @@ impl<N: Nand> Engine<N> {
         ensures idle { OnOk result (IsIdle (ram self.new)) }
         ensures goes { Goes (ram self.old) (ram self.new) }
         ensures honest { N.honest self.new.nand ≡ N.honest self.old.nand }
+        ensures calm { N.calm self.new.nand ≡ N.calm self.old.nand }
         ensures erases { N.erases self.new.nand ≡ N.erases self.old.nand }
         ensures failed { N.failed self.old.nand ≤ N.failed self.new.nand }
         ensures rose { self.old.fault ≡ None → result ≡ Err WriteFault.Bus → HasRisen (N.failed self.old.nand) (N.failed self.new.nand) }

@@ -9,7 +9,7 @@ ghost use Rattle.collection.specs.Safe.{IsSafe, IsIdle, ram, image_in};
 ghost use Rattle.collection.specs.Truth as truth;
 ghost use Rattle.collection.specs.Log.{Went};
 ghost use Rattle.collection.specs.Results.{fault_after};
-ghost use Rattle.collection.specs.Collect.{KeepsKeys, Refreshes, GoesOn, HasRoom, RoomTells, IsRearranged, RoomRefused, RoomCounts};
+ghost use Rattle.collection.specs.Collect.{KeepsKeys, Refreshes, GoesOn, HasRoom, RestsOrErases, RoomTells, IsRearranged, RoomRefused, RoomCounts};
 ghost use Rattle.collection.specs.Room.{IsMade, IsWorth};
 
 use super::Engine;
@@ -62,11 +62,13 @@ impl<N: Nand> Engine<N> {
         ensures idle { OnOk result (IsIdle (ram self.new)) }
         ensures goes { GoesOn (ram self.old) (ram self.new) }
         ensures honest { N.honest self.new.nand ≡ N.honest self.old.nand }
+        ensures calm { N.calm self.new.nand ≡ N.calm self.old.nand }
         ensures failed { N.failed self.old.nand ≤ N.failed self.new.nand }
         ensures rose { result ≡ Err WriteFault.Bus → HasRisen (N.failed self.old.nand) (N.failed self.new.nand) }
         ensures keys { KeepsKeys self.old.mapping self.new.mapping }
         ensures refreshes { flushing ≡ true → Refreshes (ram self.old) (ram self.new) }
         ensures room { OnOk result (HasRoom (ram self.new)) }
+        ensures erases { OnOk result (RestsOrErases (ram self.old) (ram self.new) (N.erases self.old.nand) (N.erases self.new.nand)) }
         ensures tells { IfErr result (RoomTells (ram self.new)) }
         ensures went { N.honest self.old.nand ≡ true → result ≢ Err WriteFault.Bus →
             Went (ram self.old) (N.flash self.old.nand) (ram self.new) (N.flash self.new.nand) }
@@ -117,11 +119,13 @@ impl<N: Nand> Engine<N> {
         ensures idle { OnOk result (IsIdle (ram self.new)) }
         ensures goes { GoesOn (ram self.old) (ram self.new) }
         ensures honest { N.honest self.new.nand ≡ N.honest self.old.nand }
+        ensures calm { N.calm self.new.nand ≡ N.calm self.old.nand }
         ensures failed { N.failed self.old.nand ≤ N.failed self.new.nand }
         ensures rose { self.old.fault ≡ None → result ≡ Err WriteFault.Bus → HasRisen (N.failed self.old.nand) (N.failed self.new.nand) }
         ensures keys { KeepsKeys self.old.mapping self.new.mapping }
         ensures refreshes { flushing ≡ true → Refreshes (ram self.old) (ram self.new) }
         ensures room { OnOk result (HasRoom (ram self.new)) }
+        ensures erases { OnOk result (RestsOrErases (ram self.old) (ram self.new) (N.erases self.old.nand) (N.erases self.new.nand)) }
         ensures tells { self.old.fault ≡ None → IfErr result (RoomTells (ram self.new)) }
         ensures went { N.honest self.old.nand ≡ true → result ≢ Err WriteFault.Bus →
             Went (ram self.old) (N.flash self.old.nand) (ram self.new) (N.flash self.new.nand) }

@@ -73,6 +73,7 @@ impl<N: Nand> Engine<N> {
         ensures fault { self.new.fault ≡ self.old.fault }
         ensures page { self.new.page.body ≡ self.old.page.body }
         ensures honest { N.honest self.new.nand ≡ N.honest self.old.nand }
+        ensures calm { N.calm self.new.nand ≡ N.calm self.old.nand }
         ensures reads { N.reads self.new.nand ≡ N.reads self.old.nand }
         ensures erases { N.erases self.new.nand ≡ N.erases self.old.nand }
         ensures pin { (ram self.new).pin ≡ (ram self.old).pin }
@@ -109,6 +110,7 @@ impl<N: Nand> Engine<N> {
         ensures fault { self.new.fault ≡ self.old.fault }
         ensures page { self.new.page.body ≡ self.old.page.body }
         ensures honest { N.honest self.new.nand ≡ N.honest self.old.nand }
+        ensures calm { N.calm self.new.nand ≡ N.calm self.old.nand }
         ensures reads { N.reads self.new.nand ≡ N.reads self.old.nand }
         ensures erases { N.erases self.new.nand ≡ N.erases self.old.nand }
         ensures pin { (ram self.new).pin ≡ (ram self.old).pin }

@@ -15,6 +15,7 @@ ghost use Rattle.collection.specs.Truth as truth;
 ghost use Rattle.collection.specs.Log.{Went};
 ghost use Rattle.collection.specs.Live.{HoldsNoneIn, IsLivePage};
 ghost use Rattle.collection.specs.Results.{IsSame, IsKept, Refused, Goes, IsLastPage};
+ghost use Rattle.collection.specs.Whole.{erases_after};
 ghost use Rattle.collection.specs.Collect.{is_due, has_moved, is_marked, due_count, marks_after, IsLowestDue, HasNoneDue, Refreshes, KeepsKeys, GoesBut, HasCopied, HasWritten, HasErased, IsReleased, FaultCosts, HasMovedOnly, StepCosts, IsMovedOut, IsCopied, IsCopiedOr, IsEmptied, IsStepped};
 
 use super::Engine;
@@ -73,7 +74,12 @@ impl<N: Nand> Engine<N> {
     }
 
     // Copies the page in the page buffer, the newest of its key, out of its block.
-    pub(crate) fn copy_page(&mut self, found: &Record, row: u32, flushing: bool) -> Result<(), WriteFault>
+    pub(crate) fn copy_page(
+        &mut self,
+        found: &Record,
+        row: u32,
+        flushing: bool,
+    ) -> Result<(), WriteFault>
         requires safe { IsSafe N.flash self.old }
         requires key { IsKeyOf self.old.geometry (key_of found.now) }
         requires row { row < row_count self.old.geometry }
@@ -82,6 +88,7 @@ impl<N: Nand> Engine<N> {
         ensures goes { Goes (ram self.old) (ram self.new) }
         ensures fault { self.new.fault ≡ self.old.fault }
         ensures honest { N.honest self.new.nand ≡ N.honest self.old.nand }
+        ensures calm { N.calm self.new.nand ≡ N.calm self.old.nand }
         ensures erases { N.erases self.new.nand ≡ N.erases self.old.nand }
         ensures failed { N.failed self.old.nand ≤ N.failed self.new.nand }
         ensures rose { result ≡ Err WriteFault.Bus → HasRisen (N.failed self.old.nand) (N.failed self.new.nand) }
@@ -107,7 +114,12 @@ impl<N: Nand> Engine<N> {
 
     // Copies the first page of a closed block, from a page on, that is the newest of its key. Answers
     // that page, or none where there is none.
-    fn copy_lowest(&mut self, block: u32, first: u32, flushing: bool) -> Result<Option<u32>, WriteFault>
+    fn copy_lowest(
+        &mut self,
+        block: u32,
+        first: u32,
+        flushing: bool,
+    ) -> Result<Option<u32>, WriteFault>
         requires safe { IsSafe N.flash self.old }
         requires block { block < self.old.geometry.blocks }
         requires closed { is_closed (ram self.old).blocks block ≡ true }
@@ -116,6 +128,7 @@ impl<N: Nand> Engine<N> {
         ensures goes { Goes (ram self.old) (ram self.new) }
         ensures fault { self.new.fault ≡ self.old.fault }
         ensures honest { N.honest self.new.nand ≡ N.honest self.old.nand }
+        ensures calm { N.calm self.new.nand ≡ N.calm self.old.nand }
         ensures failed { N.failed self.old.nand ≤ N.failed self.new.nand }
         ensures rose { result ≡ Err WriteFault.Bus → HasRisen (N.failed self.old.nand) (N.failed self.new.nand) }
         ensures erases { N.erases self.new.nand ≡ N.erases self.old.nand }
@@ -165,6 +178,7 @@ impl<N: Nand> Engine<N> {
         ensures goes { Goes (ram self.old) (ram self.new) }
         ensures fault { self.new.fault ≡ self.old.fault }
         ensures honest { N.honest self.new.nand ≡ N.honest self.old.nand }
+        ensures calm { N.calm self.new.nand ≡ N.calm self.old.nand }
         ensures failed { N.failed self.old.nand ≤ N.failed self.new.nand }
         ensures rose { result ≡ Err WriteFault.Bus → HasRisen (N.failed self.old.nand) (N.failed self.new.nand) }
         ensures erases { N.erases self.new.nand ≡ N.erases self.old.nand }
@@ -202,6 +216,7 @@ impl<N: Nand> Engine<N> {
         ensures refused { OnErr result (ram self.new ≡ ram self.old) }
         ensures bus { IfErr result (λ fault. fault ≡ WriteFault.Bus) }
         ensures honest { N.honest self.new.nand ≡ N.honest self.old.nand }
+        ensures calm { N.calm self.new.nand ≡ N.calm self.old.nand }
         ensures failed { N.failed self.old.nand ≤ N.failed self.new.nand }
         ensures rose { result ≡ Err WriteFault.Bus → HasRisen (N.failed self.old.nand) (N.failed self.new.nand) }
         ensures reads { N.reads self.new.nand ≡ N.reads self.old.nand }
@@ -231,7 +246,12 @@ impl<N: Nand> Engine<N> {
     // One step of the collection of a closed block: its first page that is the newest of its key is
     // copied; with none left, the lowest translation page that has to be is written; with none left,
     // the block is erased.
-    pub(crate) fn collect_step(&mut self, block: u32, first: u32, flushing: bool) -> Result<Step, WriteFault>
+    pub(crate) fn collect_step(
+        &mut self,
+        block: u32,
+        first: u32,
+        flushing: bool,
+    ) -> Result<Step, WriteFault>
         requires safe { IsSafe N.flash self.old }
         requires block { block < self.old.geometry.blocks }
         requires closed { is_closed (ram self.old).blocks block ≡ true }
@@ -241,12 +261,14 @@ impl<N: Nand> Engine<N> {
         ensures goes_still { result ≢ Ok Step.Erased → Goes (ram self.old) (ram self.new) }
         ensures fault { self.new.fault ≡ self.old.fault }
         ensures honest { N.honest self.new.nand ≡ N.honest self.old.nand }
+        ensures calm { N.calm self.new.nand ≡ N.calm self.old.nand }
         ensures failed { N.failed self.old.nand ≤ N.failed self.new.nand }
         ensures rose { result ≡ Err WriteFault.Bus → HasRisen (N.failed self.old.nand) (N.failed self.new.nand) }
         ensures keys { KeepsKeys self.old.mapping self.new.mapping }
         ensures refreshes { flushing ≡ true → Refreshes (ram self.old) (ram self.new) }
         ensures idle { result ≡ Ok Step.Erased → IsIdle (ram self.new) }
         ensures released { result ≡ Ok Step.Erased → IsReleased block (ram self.old).blocks (ram self.new).blocks }
+        ensures erases { IfOk result (λ step. N.erases self.new.nand ≡ erases_after step (N.erases self.old.nand)) }
         ensures owed { result ≡ Err WriteFault.ReadOnly → (0 < live_at (ram self.old).blocks block) ⊎ (0 < due_count flushing (ram self.old)) }
         ensures cost { StepCosts flushing block first (ram self.old) (ram self.new) result }
         ensures went { N.honest self.old.nand ≡ true → result ≢ Err WriteFault.Bus →

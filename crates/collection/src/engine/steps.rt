@@ -28,6 +28,7 @@ pub(crate) fn program_record<N: Nand>(
     requires spare_whole { length spare.old ≡ geometry.now.spare_bytes }
     ensures geometry { (N.flash nand.new).geometry ≡ (N.flash nand.old).geometry }
     ensures honest { N.honest nand.new ≡ N.honest nand.old }
+    ensures calm { N.calm nand.new ≡ N.calm nand.old }
     ensures reads { N.reads nand.new ≡ N.reads nand.old }
     ensures erases { N.erases nand.new ≡ N.erases nand.old }
     ensures failed { N.failed nand.old ≤ N.failed nand.new }
@@ -58,6 +59,7 @@ pub(crate) fn read_sound<N: Nand>(
     requires spare_whole { length spare.old ≡ geometry.now.spare_bytes }
     ensures geometry { (N.flash nand.new).geometry ≡ (N.flash nand.old).geometry }
     ensures honest { N.honest nand.new ≡ N.honest nand.old }
+    ensures calm { N.calm nand.new ≡ N.calm nand.old }
     ensures reads { N.reads nand.new ≡ counted (N.reads nand.old) }
     ensures programs { N.programs nand.new ≡ N.programs nand.old }
     ensures erases { N.erases nand.new ≡ N.erases nand.old }

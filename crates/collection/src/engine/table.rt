@@ -29,6 +29,7 @@ impl<N: Nand> Engine<N> {
         ensures pin { (ram self.new).pin ≡ (ram self.old).pin }
         ensures fault { self.new.fault ≡ self.old.fault }
         ensures honest { N.honest self.new.nand ≡ N.honest self.old.nand }
+        ensures calm { N.calm self.new.nand ≡ N.calm self.old.nand }
         ensures reads { N.reads self.new.nand ≡ N.reads self.old.nand }
         ensures erases { N.erases self.new.nand ≡ N.erases self.old.nand }
         ensures failed { N.failed self.old.nand ≤ N.failed self.new.nand }
@@ -71,6 +72,7 @@ impl<N: Nand> Engine<N> {
         ensures mapping { self.new.mapping ≡ self.old.mapping }
         ensures pin { (ram self.new).pin ≡ (ram self.old).pin }
         ensures honest { N.honest self.new.nand ≡ N.honest self.old.nand }
+        ensures calm { N.calm self.new.nand ≡ N.calm self.old.nand }
         ensures reads { N.reads self.new.nand ≡ N.reads self.old.nand }
         ensures erases { N.erases self.new.nand ≡ N.erases self.old.nand }
         ensures failed { N.failed self.old.nand ≤ N.failed self.new.nand }

@@ -39,6 +39,7 @@ impl<N: Nand> Engine<N> {
         ensures fault { self.new.fault ≡ fault_after self.old.fault result }
         ensures goes { Goes (ram self.old) (ram self.new) }
         ensures honest { N.honest self.new.nand ≡ N.honest self.old.nand }
+        ensures calm { N.calm self.new.nand ≡ N.calm self.old.nand }
         ensures reads { N.reads self.new.nand ≡ N.reads self.old.nand }
         ensures erases { N.erases self.new.nand ≡ N.erases self.old.nand }
         ensures pin { (ram self.new).pin ≡ (ram self.old).pin }
@@ -80,6 +81,7 @@ impl<N: Nand> Engine<N> {
         ensures fault { self.new.fault ≡ fault_after self.old.fault result }
         ensures goes { Goes (ram self.old) (ram self.new) }
         ensures honest { N.honest self.new.nand ≡ N.honest self.old.nand }
+        ensures calm { N.calm self.new.nand ≡ N.calm self.old.nand }
         ensures reads { N.reads self.new.nand ≡ N.reads self.old.nand }
         ensures erases { N.erases self.new.nand ≡ N.erases self.old.nand }
         ensures pin { (ram self.new).pin ≡ (ram self.old).pin }

@@ -30,6 +30,7 @@ impl<N: Nand> Engine<N> {
         ensures safe { IsSafe N.flash self.new }
         ensures memory { ram self.new ≡ ram self.old }
         ensures honest { N.honest self.new.nand ≡ N.honest self.old.nand }
+        ensures calm { N.calm self.new.nand ≡ N.calm self.old.nand }
         ensures reads { N.reads self.new.nand ≤ N.reads self.old.nand + 1 }
         ensures programs { N.programs self.new.nand ≡ N.programs self.old.nand }
         ensures erases { N.erases self.new.nand ≡ N.erases self.old.nand }
@@ -62,6 +63,7 @@ impl<N: Nand> Engine<N> {
         ensures safe { IsSafe N.flash self.new }
         ensures memory { ram self.new ≡ ram self.old }
         ensures honest { N.honest self.new.nand ≡ N.honest self.old.nand }
+        ensures calm { N.calm self.new.nand ≡ N.calm self.old.nand }
         ensures reads { N.reads self.new.nand ≤ N.reads self.old.nand + 1 }
         ensures programs { N.programs self.new.nand ≡ N.programs self.old.nand }
         ensures erases { N.erases self.new.nand ≡ N.erases self.old.nand }
@@ -90,6 +92,7 @@ impl<N: Nand> Engine<N> {
         ensures goes { Goes (ram self.old) (ram self.new) }
         ensures fault { self.new.fault ≡ self.old.fault }
         ensures honest { N.honest self.new.nand ≡ N.honest self.old.nand }
+        ensures calm { N.calm self.new.nand ≡ N.calm self.old.nand }
         ensures reads { N.reads self.new.nand ≤ N.reads self.old.nand + 1 }
         ensures erases { N.erases self.new.nand ≡ N.erases self.old.nand }
         ensures pin { (ram self.new).pin ≡ (ram self.old).pin }
@@ -148,6 +151,7 @@ impl<N: Nand> Engine<N> {
         ensures fault { self.new.fault ≡ fault_after self.old.fault result }
         ensures goes { Goes (ram self.old) (ram self.new) }
         ensures honest { N.honest self.new.nand ≡ N.honest self.old.nand }
+        ensures calm { N.calm self.new.nand ≡ N.calm self.old.nand }
         ensures reads { N.reads self.new.nand ≤ N.reads self.old.nand + 1 }
         ensures erases { N.erases self.new.nand ≡ N.erases self.old.nand }
         ensures pin { (ram self.new).pin ≡ (ram self.old).pin }

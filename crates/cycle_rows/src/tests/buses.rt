@@ -104,12 +104,7 @@ const GARBLES: [(&str, u64, usize, u8, &[Call]); 5] = [
         1,
         3,
         0xFF,
-        &[
-            RESET,
-            IDENTIFY,
-            AT_20,
-            Call::Out(&[0x4F, 0x4E, 0x46, 0xB6]),
-        ],
+        &[RESET, IDENTIFY, AT_20, Call::Out(&[0x4F, 0x4E, 0x46, 0xB6])],
     ),
     (
         "a piece that is too short",
@@ -160,7 +155,7 @@ fn expect_out<B: Bus>(rt: &impl Abort, bus: &mut B, want: &[u8], row: &str) {
     assert_eq!(rt; &*out, want, "{row}");
 }
 
-fn call<B: Bus>(rt: &impl Abort, bus: &mut B, call: Call, row: &str) {
+fn make_call<B: Bus>(rt: &impl Abort, bus: &mut B, call: Call, row: &str) {
     match call {
         Call::Cycle(cycle, want) => {
             assert_eq!(rt; send(bus, cycle), want, "{cycle:?} at {row}");
@@ -174,7 +169,7 @@ fn call<B: Bus>(rt: &impl Abort, bus: &mut B, call: Call, row: &str) {
 
 fn call_each<B: Bus>(rt: &impl Abort, bus: &mut B, calls: &[Call], row: &str) {
     for next in calls {
-        call(rt, bus, *next, row);
+        make_call(rt, bus, *next, row);
     }
 }
 

@@ -166,7 +166,11 @@ const STOPS: [Row; 13] = [
         name: "torn bytes of another length",
         stops: &[
             (1, Halt::Before, SET),
-            (1, Halt::Torn(Left::Bytes(0, 95)), Err(DieFault::WrongLength)),
+            (
+                1,
+                Halt::Torn(Left::Bytes(0, 95)),
+                Err(DieFault::WrongLength),
+            ),
         ],
         operations: WORKS,
         changes: 1,
@@ -223,7 +227,12 @@ fn expect_pages(rt: &impl Abort, alloc: Global, die: &Die, row: &Row)
     let image = image_of(rt, alloc, die);
     for (at, page) in row.holds {
         let held = image.as_slice().get(*at * 96..*at * 96 + 96);
-        assert_eq!(rt; held, Some(bytes_of(*page).as_slice()), "row {at}, {}", row.name);
+        assert_eq!(rt;
+            held,
+            Some(bytes_of(*page).as_slice()),
+            "row {at}, {}",
+            row.name
+        );
     }
 }
 
@@ -243,3 +252,24 @@ fn stops_at_single_pages(rt: HostRuntime) {
         walk_stops(&rt, rt.alloc(), row);
     }
 }
+
+// A record with room for an operation, of one that is done and one more; then another.
+#[test]
+fn records_begin_and_end(rt: HostRuntime) {
+    let alloc = rt.alloc();
+    let geometry = small(&rt);
+    for room in [0, 1, 2] {
+        let mut die = new_die(&rt, alloc, geometry, &[]);
+        assert_eq!(rt; die.record(alloc, room), Ok(()), "room for {room}");
+        assert_eq!(rt; die.record(alloc, room), Ok(()), "room for {room} anew");
+        let die = after(&rt, die, geometry, "recorded", ROOM_FOR_ONE);
+        assert_eq!(rt; die.changes(), 2, "room for {room}");
+    }
+}
+
+const ROOM_FOR_ONE: &[Operation] = &[
+    Operation::Program(8, 0x11, 0x22, PASSED),
+    Operation::Erase(1, PASSED),
+    Operation::Read(8, 0xFF, 0xFF),
+    Operation::Failures(0),
+];

@@ -10,7 +10,7 @@ use certificate::{Certificate, read_certificate, write_certificate};
 use ftl_device::{Device, StartFault};
 use image_check::{Accepted, check};
 use mount::{format, mount};
-use nand_die::{Die, Fault};
+use nand_die::{Die, Fault, Mark};
 use onfi_cycles::{Bus, Driver, Nand};
 use page_layout::geometry::Geometry;
 use page_layout::source::PageSource;
@@ -23,34 +23,36 @@ pub fn small() -> Result<Geometry, Fail> {
     Ok(Geometry::new(64, 32, 8, 32, 32)?)
 }
 
-// Programs and erases that fail, counted from the first after a format, which makes two. The page is
-// left with so many bytes 00h: with none it stays as it was.
+// Programs and erases that fail, counted from the first after a format, which programs each table page
+// once. The page is left with so many bytes 00h: with none it stays as it was.
 fn faults_after_format(
     alloc: Global,
+    geometry: &Geometry,
     failing: &[u16],
     page_left: usize,
 ) -> Result<Vec<Fault>, Fail> {
     let mut faults = Vec::new(alloc);
     for nth in failing {
         faults.push(Fault {
-            nth_change: u64::from(*nth) + 2,
+            nth_change: u64::from(*nth) + u64::from(geometry.table_pages()),
             page_left: vec![in alloc; 0; page_left]?,
         })?;
     }
     Ok(faults)
 }
 
-// A new die, of which these programs and erases after its format fail.
+// A new die with these marks, of which these programs and erases after its format fail.
 fn new_die(
     alloc: Global,
     geometry: Geometry,
+    marks: &[Mark],
     failing: &[u16],
     page_left: usize,
 ) -> Result<Die, Fail>
     ensures { IfOk result (λ die. die.state.flash.geometry ≡ geometry) }
 {
-    let mut die = Die::new(alloc, geometry, &[])?;
-    die.set_faults(faults_after_format(alloc, failing, page_left)?)?;
+    let mut die = Die::new(alloc, geometry, marks)?;
+    die.set_faults(faults_after_format(alloc, &geometry, failing, page_left)?)?;
     Ok(die)
 }
 
@@ -78,13 +80,12 @@ pub fn unwired(driver: Driver<Recorder>) -> (Die, Vec<Cycle>) {
     (die, seen)
 }
 
-// Formats a die.
-fn format_die<N: Nand>(alloc: Global, nand: &mut N, geometry: &Geometry) -> Result<(), Fail>
+// Formats a die. How many blocks are good.
+fn format_die<N: Nand>(alloc: Global, nand: &mut N, geometry: &Geometry) -> Result<u32, Fail>
     requires { (N.flash nand.old).geometry ≡ geometry.now }
     ensures { (N.flash nand.new).geometry ≡ geometry.now }
 {
-    format(alloc, nand, geometry)?;
-    Ok(())
+    Ok(format(alloc, nand, geometry)?)
 }
 
 // A formatted die, of which these programs and erases after the format fail.
@@ -96,7 +97,7 @@ pub fn formatted(
 ) -> Result<Driver<Recorder>, Fail>
     ensures { IfOk result (λ driver. driver.geometry ≡ geometry) }
 {
-    let die = new_die(alloc, geometry, failing, page_left)?;
+    let die = new_die(alloc, geometry, &[], failing, page_left)?;
     let mut driver = wired(alloc, die, geometry)?;
     format_die(alloc, &mut driver, &geometry)?;
     Ok(driver)
@@ -111,10 +112,24 @@ pub fn formatted_die(
 ) -> Result<Driver<Die>, Fail>
     ensures { IfOk result (λ driver. driver.geometry ≡ geometry) }
 {
-    let die = new_die(alloc, geometry, failing, page_left)?;
-    let mut driver = driver_on(die, geometry)?;
-    format_die(alloc, &mut driver, &geometry)?;
+    let (driver, _) = marked_die(alloc, geometry, &[], failing, page_left)?;
     Ok(driver)
+}
+
+// The same with these marks, and how many blocks are good.
+pub fn marked_die(
+    alloc: Global,
+    geometry: Geometry,
+    marks: &[Mark],
+    failing: &[u16],
+    page_left: usize,
+) -> Result<(Driver<Die>, u32), Fail>
+    ensures { IfOk result (λ made. made.0.geometry ≡ geometry) }
+{
+    let die = new_die(alloc, geometry, marks, failing, page_left)?;
+    let mut driver = driver_on(die, geometry)?;
+    let good = format_die(alloc, &mut driver, &geometry)?;
+    Ok((driver, good))
 }
 
 // The certificate that a mount gives.
@@ -149,7 +164,7 @@ pub fn checked<'a, S: PageSource>(
 }
 
 // The device on a die that was accepted. Where memory was refused, it is started from what came back.
-fn start_on<N: Nand + Drop>(
+pub fn start_on<N: Nand + Drop>(
     alloc: Global,
     nand: N,
     accepted: Accepted<'_>,

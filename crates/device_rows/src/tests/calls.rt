@@ -5,20 +5,21 @@ use ftl_device::{Device, DeviceFault};
 use onfi_cycles::Nand;
 use std::process::Abort;
 
-// A write of a sector with 64 bytes of one, a read that gives such, a trim, or a flush.
+// A write of a sector with 64 bytes of one, a read that gives such, a trim, a flush, or a turn.
 #[derive(Clone, Copy, Debug)]
 pub enum Call {
     Write(u32, u8),
     Read(u32, u8),
     Trim(u32),
     Flush,
+    Turn,
 }
 
 impl Call {
     pub fn sector(self) -> u32 {
         match self {
             Call::Write(sector, _) | Call::Read(sector, _) | Call::Trim(sector) => sector,
-            Call::Flush => 0,
+            Call::Flush | Call::Turn => 0,
         }
     }
 
@@ -26,7 +27,7 @@ impl Call {
     pub fn byte(self) -> u8 {
         match self {
             Call::Write(_, byte) | Call::Read(_, byte) => byte,
-            Call::Trim(_) | Call::Flush => 0,
+            Call::Trim(_) | Call::Flush | Call::Turn => 0,
         }
     }
 }
@@ -105,6 +106,14 @@ fn flush<N: Nand>(device: &mut Device<N>) -> Result<(), DeviceFault>
     device.flush()
 }
 
+// Takes a turn.
+fn turn<N: Nand>(device: &mut Device<N>) -> Result<(), DeviceFault>
+    requires { IsDevice N.flash device.old }
+    ensures { IsDevice N.flash device.new }
+{
+    device.turn()
+}
+
 // Makes a call.
 pub fn make<N: Nand>(
     rt: &impl Abort,
@@ -120,6 +129,7 @@ pub fn make<N: Nand>(
         Call::Read(sector, byte) => read(rt, device, name, sector, byte),
         Call::Trim(sector) => trim(device, sector),
         Call::Flush => flush(device),
+        Call::Turn => turn(device),
     }
 }
 

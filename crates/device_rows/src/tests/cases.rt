@@ -1,13 +1,17 @@
 // Cases: a device, what it is asked, and all that is so then.
 ghost use Rattle.onfi_cycles.specs.Driver.{flash_by};
+ghost use Rattle.collection.specs.Safe.{IsSafe, IsIdle, ram};
 ghost use Rattle.ftl_device.specs.Device.{IsDevice};
-ghost use Rattle.std.specs.Prelude.{IfOk};
+ghost use Rattle.std.specs.Prelude.{◌≡◌, None, IfOk};
 
+use super::again::{Mounted, hold_mounted};
 use super::bench::{after_calls, formatted, recorded, small, unwired, wired};
 use super::calls::{Call, hold_call, hold_calls};
 use super::pages::{PageAt, hold_pages, hold_spare};
-use super::recorder::{Operation, Recorder, cycles_of};
+use super::recorder::{Cycle, Operation, Recorder, changes_of, cycles_of};
+use allocation::Blocks;
 use bad_blocks::Class;
+use collection::Engine;
 use ftl_device::{Device, DeviceFault};
 use mapping_cache::Mapping;
 use onfi_cycles::{Driver, Nand};
@@ -20,9 +24,22 @@ pub enum Step {
     Done(&'static [Call]),
     // Calls that are refused so.
     Refused(DeviceFault, &'static [Call]),
-    // So many writes of the sectors one after another, each with the count of those before it. All are
-    // done.
-    Round(u8),
+    // So many writes of a sector, each with the count of those before it, modulo 256. All are done.
+    Over(u32, u16),
+    // For each sector from 0 on, as many as this, a write with its number, and then the writes of
+    // `Over` of that sector.
+    Spread(u32, u32, u16),
+}
+
+// Which of the operations of its die a case tells, and whether it tells the pages.
+#[derive(Clone, Copy)]
+pub enum Told {
+    // All of them, and the pages.
+    All,
+    // Those that aren't page reads, and the pages.
+    Changes,
+    // None, and no pages.
+    Nothing,
 }
 
 // A cached sector: its number, the row of its page, and whether that is newer than what the translation
@@ -42,62 +59,100 @@ impl Cached {
     }
 }
 
+#[derive(Drop)]
 pub struct Case {
     pub name: &'static str,
-    // The first so many programs after the format fail.
+    // The programs and erases that fail, counted from the first after the format.
     pub failing: &'static [u16],
+    // So many bytes 00h are left by them: none, or those of a page.
+    pub page_left: usize,
     // What an earlier device with a cache of four was told.
     pub before: &'static [Call],
     pub capacity: u32,
     // The next sequence of the certificate, where it isn't what the mount said.
     pub next: Option<[u8; 8]>,
     pub steps: &'static [Step],
-    // The blocks from 1 to this one are grown bad. All others are good.
-    pub bad: u32,
-    pub free: u32,
     pub read_only: bool,
+    // The blocks that are collected then, the device given up for its engine, and whether in a flush.
+    pub collects: &'static [(u32, bool)],
+    // The blocks that are grown bad. All others are good.
+    pub bad: &'static [u16],
+    pub free: u32,
+    // The blocks that were erased, and how often. No others were.
+    pub worn: &'static [(u32, u32)],
     // The sectors that are cached. No others are.
     pub cached: &'static [u32],
     // The cached sectors from the least recently used one on, where the case tells of it.
     pub order: &'static [Cached],
-    // What the die was asked for since the start.
+    // What the die was asked for since the start, and how much the case tells of it.
     pub operations: &'static [Operation],
+    pub told: Told,
     // The pages of the die after the two of its format. All others are as an erase leaves them.
     pub pages: &'static [PageAt],
     // What the spare area of row 8 begins with, where the case tells of it.
     pub spare: &'static [u8],
+    pub mounted: Option<&'static Mounted>,
 }
 
 // A device on a new die where nothing fails, before it is asked anything.
 pub const QUIET: Case = Case {
     name: "quiet",
     failing: &[],
+    page_left: 0,
     before: &[],
     capacity: 4,
     next: None,
     steps: &[],
-    bad: 0,
-    free: 30,
     read_only: false,
+    collects: &[],
+    bad: &[],
+    free: 30,
+    worn: &[],
     cached: &[],
     order: &[],
     operations: &[],
+    told: Told::All,
     pages: &[],
     spare: &[],
+    mounted: None,
 };
 
-// The call of a round after so many.
-fn round_call(nth: u8) -> Call {
-    Call::Write(u32::from(nth) % 32, nth)
+// A write of a sector after so many.
+fn nth_write(sector: u32, nth: u16) -> Call {
+    Call::Write(sector, (nth % 256) as u8)
 }
 
-// Writes the sectors one after another.
-fn hold_round<N: Nand>(rt: &impl Abort, device: &mut Device<N>, name: &str, count: u8)
+// Writes a sector over and over.
+fn hold_over<N: Nand>(rt: &impl Abort, device: &mut Device<N>, name: &str, sector: u32, count: u16)
     requires { IsDevice N.flash device.old }
     ensures { IsDevice N.flash device.new }
 {
     for nth in 0..count {
-        hold_call(rt, device, name, round_call(nth), Ok(()));
+        hold_call(rt, device, name, nth_write(sector, nth), Ok(()));
+    }
+}
+
+// Writes the sectors from 0 on, and after each the other one over and over.
+fn hold_spread<N: Nand>(
+    rt: &impl Abort,
+    device: &mut Device<N>,
+    name: &str,
+    count: u32,
+    other: u32,
+    times: u16,
+)
+    requires { IsDevice N.flash device.old }
+    ensures { IsDevice N.flash device.new }
+{
+    for sector in 0..count {
+        hold_call(
+            rt,
+            device,
+            name,
+            Call::Write(sector, (sector % 256) as u8),
+            Ok(()),
+        );
+        hold_over(rt, device, name, other, times);
     }
 }
 
@@ -108,7 +163,10 @@ fn hold_step<N: Nand>(rt: &impl Abort, device: &mut Device<N>, name: &str, step:
     match step {
         Step::Done(calls) => hold_calls(rt, device, name, calls, Ok(())),
         Step::Refused(fault, calls) => hold_calls(rt, device, name, calls, Err(*fault)),
-        Step::Round(count) => hold_round(rt, device, name, *count),
+        Step::Over(sector, count) => hold_over(rt, device, name, *sector, *count),
+        Step::Spread(count, other, times) => {
+            hold_spread(rt, device, name, *count, *other, *times);
+        }
     }
 }
 
@@ -121,24 +179,31 @@ fn hold_steps<N: Nand>(rt: &impl Abort, device: &mut Device<N>, name: &str, step
     }
 }
 
-// A block is good.
-fn is_good<N: Nand>(rt: &impl Abort, device: &Device<N>, block: u32) -> bool
-    requires { IsDevice N.flash device.now }
-{
-    assert!(rt; block < device.engine.geometry.blocks());
-    device.engine.blocks.table().class(block) == Class::Good
+// A block is good, and was erased so often.
+pub fn row_of(rt: &impl Abort, blocks: &Blocks, block: u32) -> (bool, u32) {
+    assert!(rt; block < blocks.geometry().blocks());
+    let table = blocks.table();
+    (table.class(block) == Class::Good, table.wear(block))
 }
 
-// Just the blocks from 1 to this one are grown bad.
-fn hold_classes<N: Nand>(rt: &impl Abort, device: &Device<N>, name: &str, bad: u32)
-    requires { IsDevice N.flash device.now }
-{
-    for block in 0..device.engine.geometry.blocks() {
-        assert_eq!(rt;
-            is_good(rt, device, block),
-            block == 0 || block > bad,
-            "{name}: block {block}"
-        );
+// How often a block was erased, by a list of those that were.
+fn wear_in(worn: &[(u32, u32)], block: u32) -> u32 {
+    for (its, wear) in worn {
+        if *its == block {
+            return *wear;
+        }
+    }
+    0
+}
+
+// The blocks are as the case says.
+fn hold_blocks(rt: &impl Abort, blocks: &Blocks, case: &Case) {
+    let name = case.name;
+    assert_eq!(rt; blocks.free(), case.free, "{name}: free");
+    for block in 0..blocks.geometry().blocks() {
+        let is_bad = case.bad.contains(&((block % 65_536) as u16));
+        let want = (!is_bad, wear_in(case.worn, block));
+        assert_eq!(rt; row_of(rt, blocks, block), want, "{name}: block {block}");
     }
 }
 
@@ -165,14 +230,51 @@ fn hold_order(rt: &impl Abort, mapping: &mut Mapping, name: &str, order: &[Cache
     }
 }
 
-// The device's memory is what the case says.
-fn hold_memory<N: Nand>(rt: &impl Abort, device: &Device<N>, case: &Case)
-    requires { IsDevice N.flash device.now }
+// Collects blocks.
+fn collect_all<N: Nand>(
+    rt: &impl Abort,
+    engine: &mut Engine<N>,
+    blocks: &[(u32, bool)],
+) -> Result<(), Fail>
+    requires safe { IsSafe N.flash engine.old }
+    requires idle { engine.old.fault ≡ None → IsIdle (ram engine.old) }
+{
+    for its in blocks {
+        let (block, flushing) = *its;
+        assert!(rt; block < engine.geometry.blocks());
+        assert!(rt; engine.closed(block));
+        engine.collect(block, flushing)?;
+    }
+    Ok(())
+}
+
+// The device's memory is what the case says, after what is collected then. The die is given up.
+fn hold_memory<N: Nand + Drop>(rt: &impl Abort, device: Device<N>, case: &Case) -> Result<N, Fail>
+    requires { IsDevice N.flash device }
 {
     assert_eq!(rt; device.read_only(), case.read_only, "{}", case.name);
-    assert_eq!(rt; device.engine.blocks.free(), case.free, "{}", case.name);
-    hold_classes(rt, device, case.name, case.bad);
-    hold_cached(rt, &device.engine.mapping, case.name, case.cached);
+    let mut engine = device.into_engine();
+    collect_all(rt, &mut engine, case.collects)?;
+    hold_blocks(rt, &engine.blocks, case);
+    hold_cached(rt, &engine.mapping, case.name, case.cached);
+    hold_order(rt, &mut engine.mapping, case.name, case.order);
+    Ok(engine.into_nand())
+}
+
+// The die was asked for what the case tells of it, and for no more.
+fn hold_asked(rt: &impl Abort, alloc: Global, seen: &[Cycle], case: &Case) -> Result<(), Fail> {
+    let want = cycles_of(alloc, case.operations)?;
+    match case.told {
+        Told::All => assert_eq!(rt; seen, want.as_slice(), "{}", case.name),
+        Told::Changes => assert_eq!(rt;
+            changes_of(alloc, seen)?.as_slice(),
+            want.as_slice(),
+            "{}",
+            case.name
+        ),
+        Told::Nothing => {}
+    }
+    Ok(())
 }
 
 // The device did the operations of the case and no others, and none of them was illegal. Its die has the
@@ -184,13 +286,18 @@ fn hold_die(
     case: &Case,
 ) -> Result<(), Fail> {
     let (die, seen) = unwired(driver);
-    let want = cycles_of(alloc, case.operations)?;
-    assert_eq!(rt; seen.as_slice(), want.as_slice(), "{}", case.name);
     assert_eq!(rt; die.abuse(), 0, "{}", case.name);
+    hold_asked(rt, alloc, &seen, case)?;
     let geometry = small()?;
     let mut driver = wired(alloc, die, geometry)?;
-    hold_pages(rt, &mut driver, &geometry, case.name, case.pages)?;
-    hold_spare(rt, &mut driver, &geometry, case.name, case.spare)
+    if !matches!(case.told, Told::Nothing) {
+        hold_pages(rt, &mut driver, &geometry, case.name, case.pages)?;
+        hold_spare(rt, &mut driver, &geometry, case.name, case.spare)?;
+    }
+    match case.mounted {
+        Some(its) => hold_mounted(rt, alloc, driver, &geometry, case.name, its),
+        None => Ok(()),
+    }
 }
 
 // The device of a case.
@@ -198,7 +305,7 @@ fn device_of(rt: &impl Abort, alloc: Global, case: &Case) -> Result<Device<Drive
     ensures { IfOk result (IsDevice (flash_by (λ bus. bus.die.state))) }
 {
     let geometry = small()?;
-    let driver = formatted(alloc, geometry, case.failing, 0)?;
+    let driver = formatted(alloc, geometry, case.failing, case.page_left)?;
     let (driver, geometry) = after_calls(rt, alloc, driver, &geometry, case.before)?;
     recorded(rt, alloc, driver, &geometry, case.capacity, case.next)
 }
@@ -207,9 +314,8 @@ fn device_of(rt: &impl Abort, alloc: Global, case: &Case) -> Result<Device<Drive
 fn hold_case(rt: &impl Abort, alloc: Global, case: &Case) -> Result<(), Fail> {
     let mut device = device_of(rt, alloc, case)?;
     hold_steps(rt, &mut device, case.name, case.steps);
-    hold_memory(rt, &device, case);
-    hold_order(rt, &mut device.engine.mapping, case.name, case.order);
-    hold_die(rt, alloc, device.into_nand(), case)
+    let driver = hold_memory(rt, device, case)?;
+    hold_die(rt, alloc, driver, case)
 }
 
 // Runs the cases of a table.

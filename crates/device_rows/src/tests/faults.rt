@@ -7,7 +7,7 @@ use super::recorder::Operation::{Program, Programs, Read as ReadPage};
 use ftl_device::DeviceFault;
 use std::test::Fail;
 
-// The first programs after the format.
+// The first programs after the format, or as many blocks after block 0.
 const FIRST_27: [u16; 27] = [
     1, 2, 3, 4, 5, 6, 7, 8, 9, 10, 11, 12, 13, 14, 15, 16, 17, 18, 19, 20, 21, 22, 23, 24, 25, 26,
     27,
@@ -44,7 +44,7 @@ const TRIED_ELSEWHERE: [Case; 3] = [
         name: "one failed program",
         failing: &[1],
         steps: &[Done(&[Write(5, 0x77), Read(5, 0x77), Read(6, 0)])],
-        bad: 1,
+        bad: &[1],
         free: 29,
         cached: &[5, 6],
         operations: &[Program(8, 0xE1), Program(16, 0xE0), ReadPage(16)],
@@ -55,7 +55,7 @@ const TRIED_ELSEWHERE: [Case; 3] = [
         name: "two failed programs",
         failing: &[1, 2],
         steps: &[Done(&[Write(5, 0x77), Read(5, 0x77)])],
-        bad: 2,
+        bad: &[1, 2],
         free: 28,
         cached: &[5],
         operations: &[
@@ -71,7 +71,7 @@ const TRIED_ELSEWHERE: [Case; 3] = [
         name: "three failed programs",
         failing: &[1, 2, 3],
         steps: &[Done(&[Write(5, 0x77), Read(5, 0x77)])],
-        bad: 3,
+        bad: &[1, 2, 3],
         free: 27,
         cached: &[5],
         operations: &[
@@ -96,7 +96,7 @@ const FEW_BLOCKS: [Case; 2] = [
             Refused(FIVE_LEFT, &[Write(5, 0x78), Trim(5)]),
             Done(&[Read(5, 0x77), Read(6, 0)]),
         ],
-        bad: 27,
+        bad: &FIRST_27,
         free: 3,
         read_only: true,
         cached: &[5, 6],
@@ -113,7 +113,7 @@ const FEW_BLOCKS: [Case; 2] = [
             Done(&[Read(5, 0)]),
             Refused(ONE_LEFT, &[Write(5, 0x77), Trim(6)]),
         ],
-        bad: 31,
+        bad: &FIRST_31,
         free: 0,
         read_only: true,
         cached: &[5],

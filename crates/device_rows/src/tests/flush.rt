@@ -2,12 +2,14 @@
 ghost use Rattle.onfi_cycles.specs.Driver.{flash_by};
 ghost use Rattle.ftl_device.specs.Device.{IsDevice};
 
+use super::again::Mounted;
 use super::bench::{formatted, started};
 use super::calls::Call::{Flush, Read, Write};
 use super::calls::hold_call;
+use super::cases::Cached::{Clean, Dirty};
 use super::cases::Step::Done;
 use super::cases::{Case, QUIET, hold_cases};
-use super::pages::PageAt;
+use super::pages::{NO, PageAt};
 use super::recorder::Operation::{Program, Programs, Read as ReadPage};
 use ftl_device::{Device, DeviceFault};
 use onfi_cycles::Nand;
@@ -22,12 +24,12 @@ const ONE_BAD: [u8; 16] = [0, 0, 0, 0, 2, 0, 0, 0, 0, 0, 0, 0, 0, 0, 0, 0];
 
 // Sector 5 is in row 8.
 const AT_8: [u8; 16] = [
-    0xFF, 0xFF, 0xFF, 0xFF, 8, 0, 0, 0, 0xFF, 0xFF, 0xFF, 0xFF, 0xFF, 0xFF, 0xFF, 0xFF,
+    NO, NO, NO, NO, NO, 8, NO, NO, NO, NO, NO, NO, NO, NO, NO, NO,
 ];
 
 // The same in row 16.
 const AT_16: [u8; 16] = [
-    0xFF, 0xFF, 0xFF, 0xFF, 16, 0, 0, 0, 0xFF, 0xFF, 0xFF, 0xFF, 0xFF, 0xFF, 0xFF, 0xFF,
+    NO, NO, NO, NO, NO, 16, NO, NO, NO, NO, NO, NO, NO, NO, NO, NO,
 ];
 
 const FLUSHES: [Case; 4] = [
@@ -49,7 +51,7 @@ const FLUSHES: [Case; 4] = [
         operations: &[Program(8, 0xE0), Programs(2, 1, 3, 0xE0)],
         pages: &[
             PageAt::Sector(8, 5, 3, 0x5A),
-            PageAt::Second(2, 0, 4, AT_8),
+            PageAt::Translation(2, 0, 4, AT_8),
             PageAt::Table(3, 0, 5, NONE_BAD),
             PageAt::Table(4, 1, 6, NONE_BAD),
         ],
@@ -65,7 +67,7 @@ const FLUSHES: [Case; 4] = [
         operations: &[ReadPage(2), ReadPage(8)],
         pages: &[
             PageAt::Sector(8, 5, 3, 0x5A),
-            PageAt::Second(2, 0, 4, AT_8),
+            PageAt::Translation(2, 0, 4, AT_8),
             PageAt::Table(3, 0, 5, NONE_BAD),
             PageAt::Table(4, 1, 6, NONE_BAD),
         ],
@@ -76,13 +78,13 @@ const FLUSHES: [Case; 4] = [
         name: "a flush tells of a bad block",
         failing: &[1],
         steps: &[Done(&[Write(5, 0x5A), Flush])],
-        bad: 1,
+        bad: &[1],
         free: 29,
         cached: &[5],
         operations: &[Program(8, 0xE1), Program(16, 0xE0), Programs(2, 1, 3, 0xE0)],
         pages: &[
             PageAt::Sector(16, 5, 4, 0x5A),
-            PageAt::Second(2, 0, 5, AT_16),
+            PageAt::Translation(2, 0, 5, AT_16),
             PageAt::Table(3, 0, 6, ONE_BAD),
             PageAt::Table(4, 1, 7, NONE_BAD),
         ],
@@ -90,9 +92,117 @@ const FLUSHES: [Case; 4] = [
     },
 ];
 
+// Block 0 is grown bad, and here blocks 0 and 1 are.
+const ZERO_BAD: [u8; 16] = [2, 0, 0, 0, 0, 0, 0, 0, 0, 0, 0, 0, 0, 0, 0, 0];
+
+const TWO_BAD: [u8; 16] = [2, 0, 0, 0, 2, 0, 0, 0, 0, 0, 0, 0, 0, 0, 0, 0];
+
+// The table pages are written again, all of them, until none has failed: the page that was tried says
+// what was known as it was tried first.
+const FAILURES: [Case; 3] = [
+    Case {
+        name: "one failure in a flush",
+        failing: &[1],
+        steps: &[Done(&[Flush])],
+        bad: &[0],
+        operations: &[Program(2, 0xE1), Programs(8, 1, 4, 0xE0)],
+        pages: &[
+            PageAt::Table(8, 0, 4, NONE_BAD),
+            PageAt::Table(9, 1, 5, NONE_BAD),
+            PageAt::Table(10, 0, 6, ZERO_BAD),
+            PageAt::Table(11, 1, 7, NONE_BAD),
+        ],
+        mounted: Some(&Mounted {
+            capacity: 1,
+            next: 8,
+            stale: 0,
+            states: &[(0, 5, 0, 0, 0), (1, 2, 4, 2, 0)],
+            calls: &[Flush],
+        }),
+        ..QUIET
+    },
+    // The second fails as the first page of the second round has been written.
+    Case {
+        name: "two failures in a flush",
+        failing: &[2, 5],
+        steps: &[Done(&[Flush])],
+        bad: &[0, 1],
+        free: 29,
+        operations: &[
+            Programs(2, 1, 1, 0xE0),
+            Program(3, 0xE1),
+            Programs(8, 1, 2, 0xE0),
+            Program(10, 0xE1),
+            Programs(16, 1, 3, 0xE0),
+        ],
+        pages: &[
+            PageAt::Table(2, 0, 3, NONE_BAD),
+            PageAt::Table(8, 1, 5, NONE_BAD),
+            PageAt::Table(9, 0, 6, ZERO_BAD),
+            PageAt::Table(16, 1, 8, NONE_BAD),
+            PageAt::Table(17, 0, 9, TWO_BAD),
+            PageAt::Table(18, 1, 10, NONE_BAD),
+        ],
+        mounted: Some(&Mounted {
+            capacity: 1,
+            next: 11,
+            stale: 0,
+            states: &[(0, 5, 0, 0, 0), (1, 5, 0, 0, 0), (2, 2, 3, 2, 0)],
+            calls: &[Flush],
+        }),
+        ..QUIET
+    },
+    // The write-back before a write fails, and is tried in the next block with the next sequence. The
+    // sector takes the one after.
+    Case {
+        name: "a write-back fails",
+        failing: &[5],
+        steps: &[Done(&[
+            Write(0, 7),
+            Write(1, 7),
+            Write(2, 7),
+            Write(3, 7),
+            Write(16, 9),
+        ])],
+        bad: &[0],
+        free: 29,
+        cached: &[1, 2, 3, 16],
+        order: &[Clean(1, 9), Clean(2, 10), Clean(3, 11), Dirty(16, 12)],
+        operations: &[
+            Programs(8, 1, 4, 0xE0),
+            Program(2, 0xE1),
+            Program(16, 0xE0),
+            Program(12, 0xE0),
+        ],
+        pages: &[
+            PageAt::Sector(8, 0, 3, 7),
+            PageAt::Sector(9, 1, 4, 7),
+            PageAt::Sector(10, 2, 5, 7),
+            PageAt::Sector(11, 3, 6, 7),
+            PageAt::Translation(16, 0, 8, WRITTEN_BACK),
+            PageAt::Sector(12, 16, 9, 9),
+        ],
+        mounted: Some(&Mounted {
+            capacity: 1,
+            next: 10,
+            stale: 1,
+            states: &[(0, 3, 2, 2, 0), (1, 1, 5, 5, 0), (2, 2, 1, 1, 0)],
+            calls: &[Read(0, 7), Read(3, 7), Read(16, 9)],
+        }),
+        ..QUIET
+    },
+];
+
+const WRITTEN_BACK: [u8; 16] = [8, 9, 10, 11, NO, NO, NO, NO, NO, NO, NO, NO, NO, NO, NO, NO];
+
 #[test]
 fn flushes_write_all(rt: HostRuntime) -> Result<(), Fail> {
     hold_cases(&rt, rt.alloc(), &FLUSHES)
+}
+
+#[test]
+fn failures_are_told(rt: HostRuntime) -> Result<(), Fail> {
+    hold_cases(&rt, rt.alloc(), &FAILURES)
 }
 
 // 212 writes of the one sector.
@@ -117,7 +227,7 @@ const NO_LONGER: DeviceFault = DeviceFault::ReadOnly {
 #[test]
 fn two_failures_in_a_flush_end_the_writing(rt: HostRuntime) -> Result<(), Fail> {
     let geometry = Geometry::new(64, 32, 4, 64, 1)?;
-    let driver = formatted(rt.alloc(), geometry, &[219, 224], 0)?;
+    let driver = formatted(rt.alloc(), geometry, &[217, 222], 0)?;
     let mut device = started(rt.alloc(), driver, &geometry, 1)?;
     write_212(&rt, &mut device);
     hold_call(&rt, &mut device, "two failures", Flush, Ok(()));

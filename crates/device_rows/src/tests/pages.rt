@@ -7,63 +7,49 @@ use page_layout::source::PageSource;
 use std::process::Abort;
 use std::test::Fail;
 
+// An entry of a translation page without a row.
+pub const NO: u8 = 0xFF;
+
 // Pages that were programmed in blocks that were never erased.
 pub enum PageAt {
     // A row, the sector, the sequence, and the byte that its data area has throughout.
     Sector(u32, u32, u64, u8),
     // A row, the sector, and the sequence. The data area has bytes 00h.
     Trim(u32, u32, u64),
-    // A row, the number, the sequence, and the bytes of its first entries. The others are FFh.
+    // A row, the number, the sequence, and the row of each entry.
     Translation(u32, u32, u64, [u8; 16]),
     // A row, the number, the sequence, and the first bytes. The others are 00h.
     Table(u32, u32, u64, [u8; 16]),
-    // The same of a translation page with these bytes 16 to 31, and FFh in all others.
-    Second(u32, u32, u64, [u8; 16]),
-    // From row 8 and sequence 3 on, so many pages of the sectors one after another, each with the count
-    // of those before it for its byte.
-    Round(u8),
+    // A row with 00h in all its bytes.
+    Torn(u32),
 }
 
-// The record of a page and its data area.
+// The record of a page and its data area. Where it has no record, its spare area has the same bytes
+// throughout as its data area.
 #[derive(Clone, Copy)]
 struct Page {
-    record: Record,
+    record: Option<Record>,
     body: [u8; 64],
 }
 
 fn page_with(kind: Kind, number: u32, sequence: u64, body: [u8; 64]) -> Page {
-    let record = Record {
+    let record = Some(Record {
         kind,
         number,
         sequence,
         wear: 0,
-    };
+    });
     Page { record, body }
 }
 
-// The page of a round that stands in a row.
-fn page_of_round(count: u8, row: u32) -> Option<Page> {
-    for nth in 0..count {
-        if row == u32::from(nth) + 8 {
-            let sector = u32::from(nth) % 32;
-            let sequence = u64::from(nth) + 3;
-            return Some(page_with(Kind::Sector, sector, sequence, [nth; 64]));
-        }
-    }
-    None
-}
-
-// The data area of a translation page that begins with these entries.
+// The data area of a translation page with these entries, of four bytes each.
 fn translation_body(entries: &[u8; 16]) -> [u8; 64] {
     let mut body = [0xFF; 64];
-    body[..16].copy_from_slice(entries);
-    body
-}
-
-// The data area of a translation page with these bytes 16 to 31.
-fn second_body(entries: &[u8; 16]) -> [u8; 64] {
-    let mut body = [0xFF; 64];
-    body[16..32].copy_from_slice(entries);
+    for nth in 0..16usize {
+        if entries[nth] != NO {
+            body[4 * nth..4 * nth + 4].copy_from_slice(&[entries[nth], 0, 0, 0]);
+        }
+    }
     body
 }
 
@@ -74,40 +60,54 @@ fn table_body(first: &[u8; 16]) -> [u8; 64] {
     body
 }
 
-// The page of a row, if this is it.
-fn page_if_in(at: &PageAt, row: u32) -> Option<Page> {
-    match at {
-        PageAt::Sector(its, sector, sequence, byte) if *its == row => {
-            Some(page_with(Kind::Sector, *sector, *sequence, [*byte; 64]))
+impl PageAt {
+    fn row(&self) -> u32 {
+        match self {
+            PageAt::Sector(row, ..) | PageAt::Trim(row, ..) => *row,
+            PageAt::Translation(row, ..) | PageAt::Table(row, ..) | PageAt::Torn(row) => *row,
         }
-        PageAt::Trim(its, sector, sequence) if *its == row => {
-            Some(page_with(Kind::Trim, *sector, *sequence, [0; 64]))
+    }
+
+    fn page(&self) -> Page {
+        match self {
+            PageAt::Sector(_, n, sequence, byte) => page_with(
+                Kind::Sector,
+                *n,
+                *sequence,
+                [*byte; 64],
+            ),
+            PageAt::Trim(_, n, sequence) => page_with(Kind::Trim, *n, *sequence, [0; 64]),
+            PageAt::Translation(_, t, sequence, entries) => page_with(
+                Kind::Translation,
+                *t,
+                *sequence,
+                translation_body(entries),
+            ),
+            PageAt::Table(_, u, sequence, first) => page_with(
+                Kind::Table,
+                *u,
+                *sequence,
+                table_body(first),
+            ),
+            PageAt::Torn(_) => Page {
+                record: None,
+                body: [0; 64],
+            },
         }
-        PageAt::Translation(its, number, sequence, entries) if *its == row => {
-            let body = translation_body(entries);
-            Some(page_with(Kind::Translation, *number, *sequence, body))
-        }
-        PageAt::Table(its, number, sequence, first) if *its == row => {
-            Some(page_with(Kind::Table, *number, *sequence, table_body(first)))
-        }
-        PageAt::Second(its, number, sequence, entries) if *its == row => {
-            let body = second_body(entries);
-            Some(page_with(Kind::Translation, *number, *sequence, body))
-        }
-        PageAt::Round(count) => page_of_round(*count, row),
-        _ => None,
     }
 }
 
-// The page of this list that stands in a row.
-fn page_in(pages: &[PageAt], row: u32) -> Option<Page> {
+// The page of this list that stands in a row: else the row is as an erase leaves it.
+fn page_in(pages: &[PageAt], row: u32) -> Page {
     for at in pages {
-        let page = page_if_in(at, row);
-        if page.is_some() {
-            return page;
+        if at.row() == row {
+            return at.page();
         }
     }
-    None
+    Page {
+        record: None,
+        body: [0xFF; 64],
+    }
 }
 
 // Reads a page.
@@ -152,16 +152,14 @@ fn hold_row<S: PageSource>(
     let mut spare = [0; 32];
     read_areas(rt, source, geometry, row, &mut body, &mut spare)?;
     let record = record_of(rt, geometry, &body, &spare);
-    match page_in(pages, row) {
-        Some(page) => {
-            assert_eq!(rt; record, Some(page.record), "{name}: row {row}");
-            assert_eq!(rt; body, page.body, "{name}: row {row}");
-        }
-        None => assert_eq!(rt;
-            (body, spare),
-            ([0xFF; 64], [0xFF; 32]),
-            "{name}: row {row}"
-        ),
+    let page = page_in(pages, row);
+    assert_eq!(rt;
+        (record, body),
+        (page.record, page.body),
+        "{name}: row {row}"
+    );
+    if page.record.is_none() {
+        assert_eq!(rt; spare, [page.body[0]; 32], "{name}: row {row}");
     }
     Ok(())
 }

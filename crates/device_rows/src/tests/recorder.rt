@@ -75,7 +75,7 @@ impl Bus for Recorder {
     }
 }
 
-// Programs and page reads, of rows below 256. A program ends with its status byte.
+// Programs, page reads and erases, of rows below 256. A program and an erase end with their status byte.
 pub enum Operation {
     // A row, and the status byte.
     Program(u8, u8),
@@ -83,6 +83,8 @@ pub enum Operation {
     Programs(u8, u8, u8, u8),
     // A row.
     Read(u8),
+    // The row of a block's first page, and the status byte.
+    Erase(u8, u8),
 }
 
 // Adds the command and the address cycles that begin an operation on a row.
@@ -123,6 +125,19 @@ fn add_programs(
     Ok(())
 }
 
+// Adds the cycles of an erase.
+fn add_erase(cycles: &mut Vec<Cycle>, row: u8, status: u8) -> Result<(), AllocError> {
+    cycles.extend_from_slice(&[
+        Cycle::Command(0x60),
+        Cycle::Address(row),
+        Cycle::Address(0),
+        Cycle::Address(0),
+        Cycle::Command(0xD0),
+        Cycle::Command(0x70),
+        Cycle::Byte(status),
+    ])
+}
+
 // Adds the cycles of an operation.
 fn add_cycles(cycles: &mut Vec<Cycle>, operation: &Operation) -> Result<(), AllocError> {
     match operation {
@@ -134,6 +149,7 @@ fn add_cycles(cycles: &mut Vec<Cycle>, operation: &Operation) -> Result<(), Allo
             add_address(cycles, 0x00, *row)?;
             cycles.extend_from_slice(&[Cycle::Command(0x30), Cycle::Out(64), Cycle::Out(32)])
         }
+        Operation::Erase(row, status) => add_erase(cycles, *row, *status),
     }
 }
 
@@ -145,4 +161,19 @@ pub fn cycles_of(alloc: Global, operations: &[Operation]) -> Result<Vec<Cycle>, 
         add_cycles(&mut cycles, operation)?;
     }
     Ok(cycles)
+}
+
+// These cycles without those of page reads.
+pub fn changes_of(alloc: Global, cycles: &[Cycle]) -> Result<Vec<Cycle>, AllocError> {
+    let mut changes = Vec::new(alloc);
+    let mut reading = false;
+    for cycle in cycles {
+        if let Cycle::Command(code) = cycle {
+            reading = *code == 0x00 || *code == 0x30;
+        }
+        if !reading {
+            changes.push(*cycle)?;
+        }
+    }
+    Ok(changes)
 }

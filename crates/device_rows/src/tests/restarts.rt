@@ -154,7 +154,7 @@ const RESTARTS: [Case; 3] = [
             Done(&[Read(5, 0)]),
             Refused(DeviceFault::SequenceSpent, &[Write(5, 1)]),
         ],
-        bad: 1,
+        bad: &[1],
         cached: &[5],
         operations: &[Program(8, 0xE1)],
         ..QUIET

@@ -12,6 +12,7 @@ invariant-rounds g l = record {
   fault : l.engine.fault ≡ None;
   geometry : l.engine.geometry ≡ l.fn.engine.geometry;
   as_honest : g.N.PageSource.honest l.engine.nand ≡ g.N.PageSource.honest l.fn.engine.nand;
+  as_calm : g.N.PageSource.calm l.engine.nand ≡ g.N.PageSource.calm l.fn.engine.nand;
   faults : g.N.PageSource.failed l.fn.engine.nand ≤ g.N.PageSource.failed l.engine.nand;
   mapping : l.engine.mapping ≡ l.fn.engine.mapping;
   pin : (ram l.engine).pin ≡ (ram l.fn.engine).pin;

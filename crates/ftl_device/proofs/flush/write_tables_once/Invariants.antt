@@ -12,6 +12,7 @@ invariant-pages g l = record {
   fault : l.engine.fault ≡ None;
   geometry : l.engine.geometry ≡ l.initial.engine.geometry;
   as_honest : g.N.PageSource.honest l.engine.nand ≡ g.N.PageSource.honest l.initial.engine.nand;
+  as_calm : g.N.PageSource.calm l.engine.nand ≡ g.N.PageSource.calm l.initial.engine.nand;
   faults : g.N.PageSource.failed l.initial.engine.nand ≤ g.N.PageSource.failed l.engine.nand;
   mapping : l.engine.mapping ≡ l.initial.engine.mapping;
   pin : (ram l.engine).pin ≡ (ram l.initial.engine).pin;

@@ -3,13 +3,16 @@ use Rattle.std.proofs.lemmas.Result.{err_from_is_err_and}
 use Rattle.collection.specs.Safe.{ram}
 use Rattle.collection.proofs.Logs.{went_then}
 use Rattle.ftl_device.proofs.FlushLoops.{limits_then, engine_keeps, engine_refused}
-use Rattle.ftl_device.proofs.RoomLemmas.{never_rested, rescued_none, rescued_by, rescue_tells, rescue_fewer, rescue_not_bus, keeps_room, refused_room}
+use Rattle.ftl_device.proofs.RoomLemmas.{never_rested, rescued_none, rescued_by, rescue_tells, rescue_fewer, rescue_not_bus, keeps_room, refused_room, not_ailing, rescue_worked}
 use Rattle.ftl_device.proofs.turn.turn_ready.Goals as goal
 
 -- ---- no bad block has a newest page
 
 pub returns-then-not-needs_rescue-clause-rescued : goal.returns-then-not-needs_rescue-clause-rescued
 returns-then-not-needs_rescue-clause-rescued g c = λ honest w. rescued_none (ram c.args.engine.now) c.if-not-needs_rescue.ensures.none
+
+pub returns-then-not-needs_rescue-clause-worked : goal.returns-then-not-needs_rescue-clause-worked
+returns-then-not-needs_rescue-clause-worked g c = λ honest w some. absurd (not_ailing (ram c.args.engine.now).blocks c.if-not-needs_rescue.ensures.none some)
 
 -- ---- no room was made
 
@@ -74,3 +77,9 @@ returns-clause-rescued g c = λ honest w.
     let room = c.in_ok-make_room.ensures.truth honest w in
     let one = c.in_ok-rescue_one.ensures.truth (c.make_room.ensures.honest ∙ honest) c.in_ok-make_room.ensures.fault room.truth in
     rescued_by (ram c.args.engine.now) (ram c.make_room.new.engine) (ram c.rescue_one.new.self) _ _ _ _ c.requires.safe.memory c.make_room.ensures.safe.memory c.rescue_one.ensures.safe.memory c.in_ok-make_room.ensures.made.goes c.rescue_one.ensures.goes room one
+
+pub returns-clause-worked : goal.returns-clause-worked
+returns-clause-worked g c = λ honest w some.
+    let room = c.in_ok-make_room.ensures.truth honest w in
+    let one = c.in_ok-rescue_one.ensures.truth (c.make_room.ensures.honest ∙ honest) c.in_ok-make_room.ensures.fault room.truth in
+    rescue_worked (ram c.args.engine.now) (ram c.make_room.new.engine) (ram c.rescue_one.new.self) _ _ _ _ _ _ c.make_room.ensures.safe.memory c.rescue_one.ensures.safe.memory some c.in_ok-make_room.ensures.erases c.rescue_one.ensures.erases c.rescue_one.ensures.goes (c.in_ok-rescue_one.ensures.cost c.in_ok-make_room.ensures.fault) one

@@ -1,4 +1,4 @@
-use Rattle.mount.proofs.MountLaws.{accepted, tie}
+use Rattle.mount.proofs.MountLaws.{accepted, shared, tie}
 use Rattle.mount.proofs.laws.mount_laws.Goals as goal
 
 pub returns-clause-accepted : goal.returns-clause-accepted
@@ -6,3 +6,6 @@ returns-clause-accepted c = accepted
 
 pub returns-clause-tie : goal.returns-clause-tie
 returns-clause-tie c = tie
+
+pub returns-clause-shared : goal.returns-clause-shared
+returns-clause-shared c = shared

@@ -3,6 +3,7 @@ use Rattle.image_check.specs.Surveyed.{SurveysKeys}
 use Rattle.image_check.proofs.JudgeLemmas.{rising_length, stale_after}
 use Rattle.mount.specs.Mounted.{IsMounted}
 use Rattle.mount.proofs.MountLemmas.{parts_fit, mounted}
+use Rattle.mount.proofs.RefuseLemmas.{no_claim, stale_refused}
 use Rattle.mount.proofs.mount_image.mount_counted.Goals as goal
 
 pub overflow_cast-stale : goal.overflow_cast-stale
@@ -39,3 +40,14 @@ returns-clause-stale g c = λ honest.
     let stale = stale_after geo first (g.S.PageSource.flash c.show_pages.new.source) c.deref.result.now c.find_stale.new.stale.items same keys (c.in_ok-find_stale.ensures.stale (c.in_ok-shown.ensures.honest ∙ honest)) in
     let count = ap length stale in
     omega (arith, count, c.find_stale.new.stale.ok.0, c.len-stale.ensures)
+
+pub returns-then-stale-capacity-clause-err : goal.returns-then-stale-capacity-clause-err
+returns-then-stale-capacity-clause-err g c = λ honest.
+    let geo = c.args.geometry.now in
+    let first = g.S.PageSource.flash c.args.source.now in
+    let told = c.in_ok-shown.ensures.shown honest in
+    let keys : SurveysKeys geo first.image c.deref.result.now = subst (λ xs. SurveysKeys geo first.image xs) (sym c.deref.ensures.value) told.keys in
+    let same = c.in_ok-shown.ensures.same (λ e. cc) honest in
+    let stale = stale_after geo first (g.S.PageSource.flash c.show_pages.new.source) c.deref.result.now c.find_stale.new.stale.items same keys (c.in_ok-find_stale.ensures.stale (c.in_ok-shown.ensures.honest ∙ honest)) in
+    stale_refused geo c.args.capacity first.image c.find_stale.new.stale.items c.len-stale.result stale (omega (arith, c.find_stale.new.stale.ok.0, c.len-stale.ensures))
+    (omega (arith, c.if-stale-capacity.true)) (told.orderly c.args.capacity (no_claim geo))

@@ -3,7 +3,7 @@ use Rattle.std.proofs.lemmas.Result.{err_from_is_err_and}
 use Rattle.image_check.specs.Surveyed.{SurveysPairs}
 use Rattle.image_check.proofs.JudgeLemmas.{keys_after}
 use Rattle.mount.proofs.MountLemmas.{orderly_at, states_at, pairs_after, tables_of}
-use Rattle.mount.proofs.RefuseLemmas.{survey_refused, spent_refused}
+use Rattle.mount.proofs.RefuseLemmas.{no_claim, survey_refused, spent_refused}
 use Rattle.mount.proofs.mount_pages.show_pages.Goals as goal
 
 pub returns-in_err-blocks-clause-err : goal.returns-in_err-blocks-clause-err
@@ -20,7 +20,9 @@ returns-in_err-next-clause-err g c =
     let geo = c.args.geometry.now in
     let image = (g.S.PageSource.flash c.args.source.now).image in
     let pairs : SurveysPairs geo image c.deref.result.now = pairs_after geo image c.in_ok-survey.survey c.describe_blocks.new.survey c.deref.result.now (c.in_ok-survey.ensures.surveys honest) c.in_ok-blocks.ensures.permutation c.deref.ensures.value in
-    spent_refused geo capacity image _ c.in_err-next.ensures.err.0 (c.in_err-next.ensures.err.1 geo image pairs))
+    let s = c.in_ok-survey.survey in
+    let right = orderly_at geo s.geometry image s c.in_ok-survey.ensures.sized.geometry_is (c.in_ok-survey.ensures.surveys honest) c.in_ok-blocks.ensures.ok capacity (no_claim geo) in
+    spent_refused geo capacity image _ c.in_err-next.ensures.err.0 (c.in_err-next.ensures.err.1 geo image pairs) right)
 
 pub returns-clause-shown : goal.returns-clause-shown
 returns-clause-shown g c = λ honest.

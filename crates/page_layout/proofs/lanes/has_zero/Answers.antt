@@ -1,7 +1,6 @@
-use Rattle.std.proofs.Common.{◌∙◌, sym, ◌*◌, ◌+◌, ℕ, Bool, eqb, ◌/◌, length, arith, refl}
+use Rattle.std.proofs.Common.{◌∙◌, sym, ◌*◌, ◌+◌, eqb, ◌/◌, length, arith, refl}
 use Rattle.page_layout.proofs.LaneLemmas.{none_first, none_more, none_rest, one_in}
 use Rattle.page_layout.proofs.lanes.has_zero.Goals as goal
-
 
 pub loop-i-init : goal.loop-i-init
 loop-i-init c = none_first (λ b. eqb b 0) 0 c.args.bytes.now refl

@@ -1,4 +1,5 @@
-use Rattle.page_layout.proofs.FlashLemmas.{program_turn, program_fair, erase_turn, erase_fair, program_refused, erase_refused}
+use Rattle.page_layout.proofs.FlashLemmas.{program_fair, erase_fair, program_refused, erase_refused}
+use Rattle.page_layout.proofs.TurnLemmas.{program_turn, program_count, erase_turn, erase_count}
 use Rattle.page_layout.proofs.laws.turn_laws.Goals as goal
 
 pub returns-clause-program : goal.returns-clause-program
@@ -18,3 +19,9 @@ returns-clause-refused_program c = program_refused
 
 pub returns-clause-refused_erase : goal.returns-clause-refused_erase
 returns-clause-refused_erase c = erase_refused
+
+pub returns-clause-program_count : goal.returns-clause-program_count
+returns-clause-program_count c = program_count
+
+pub returns-clause-erase_count : goal.returns-clause-erase_count
+returns-clause-erase_count c = erase_count

@@ -1,5 +1,5 @@
-use Rattle.promises.proofs.LogLemmas.{counts, bad_join, bad_stays, leads_join, complete}
+use Rattle.promises.proofs.LogLemmas.{counts, bad_join, bad_stays, complete}
 use Rattle.promises.proofs.laws.log_laws.Goals as goal
 
 pub returns : goal.returns
-returns c = record { counts = counts; bad_join = bad_join; bad_stays = bad_stays; leads_join = leads_join; complete = complete }
+returns c = record { counts = counts; bad_join = bad_join; bad_stays = bad_stays; complete = complete }

@@ -1,5 +1,6 @@
 use Rattle.std.proofs.Common.{◌≡◌, ◌∙◌, Ok, Err, length, ap, sym, refl, arith}
 use Rattle.std.proofs.lemmas.Result.{err_from_is_err_and}
+use Rattle.page_layout.specs.Counter.{counted}
 use Rattle.collection.specs.Safe.{ram}
 use Rattle.collection.proofs.Costs.{not_bus}
 use Rattle.collection.proofs.Memory.{goes_same, goes_then}
@@ -7,7 +8,7 @@ use Rattle.collection.proofs.Logs.{went_same, went_then}
 use Rattle.collection.proofs.Looks.{none_from, ok_not_bus}
 use Rattle.collection.proofs.Puts.{refused_then}
 use Rattle.collection.proofs.Copies.{keys_same, keys_then, refreshes_same, refreshes_then}
-use Rattle.collection.proofs.Ledgers.{begun, stepped, still_goes, room_next, steps_fall, but_then, ends_erased, erased_by, emptied_by, emptied_then, collected_cost, less_work, counts_collected, thrifty_erased, thrifty_refused, refused_cost, refused_counts, closed_still, released_from, undamaged}
+use Rattle.collection.proofs.Ledgers.{begun, stepped, still_goes, still_erased, once_erased, room_next, steps_fall, but_then, ends_erased, erased_by, emptied_by, emptied_then, collected_cost, less_work, counts_collected, thrifty_erased, thrifty_refused, refused_cost, refused_counts, closed_still, released_from, undamaged}
 use Rattle.collection.specs.Whole.{next_of}
 use Rattle.collection.proofs.engine.Engine.collect_block.Goals as goal
 
@@ -17,6 +18,8 @@ steps-init g c = record {
   goes = goes_same (ram c.args.self.now);
   fault = refl;
   as_honest = refl;
+  as_calm = refl;
+  as_erased = refl;
   faults = omega arith;
   keys = keys_same c.args.self.now.mapping c.args.self.now.mapping refl;
   refreshes = λ on. refreshes_same (ram c.args.self.now) (ram c.args.self.now) refl refl;
@@ -39,6 +42,8 @@ steps-preserved g c =
       goes = goes_then old now new i.goes goes;
       fault = c.collect_step.ensures.fault ∙ i.fault;
       as_honest = c.collect_step.ensures.honest ∙ i.as_honest;
+      as_calm = c.collect_step.ensures.calm ∙ i.as_calm;
+      as_erased = still_erased _ c.in-Some.next c.in_ok-step.step _ _ is c.in_ok-step.ensures.erases ∙ i.as_erased;
       faults = omega (arith, i.faults, c.collect_step.ensures.failed);
       keys = keys_then _ _ _ i.keys c.collect_step.ensures.keys;
       refreshes = λ on. refreshes_then old now new i.goes.geometry (i.refreshes on) (c.collect_step.ensures.refreshes on);
@@ -70,6 +75,11 @@ returns-in_default-clause-released g c =
     let new = ram c.collect_step.new.self in
     let e = ends_erased _ c.in_ok-step.step (sym c.next_page-going_on.ensures ∙ none_from c.next_page-going_on.result c.in_default.not-Some) in
     released_from c.args.block old now new i.goes c.requires.block c.requires.closed (c.in_ok-step.ensures.released (ap Ok e))
+
+pub returns-in_default-clause-erases : goal.returns-in_default-clause-erases
+returns-in_default-clause-erases g c =
+    let e = ends_erased _ c.in_ok-step.step (sym c.next_page-going_on.ensures ∙ none_from c.next_page-going_on.result c.in_default.not-Some) in
+    once_erased c.in_ok-step.step _ _ e c.in_ok-step.ensures.erases ∙ ap counted c.steps.invariant.as_erased
 
 pub returns-in_default-clause-refreshes : goal.returns-in_default-clause-refreshes
 returns-in_default-clause-refreshes g c = λ on. refreshes_then _ _ _ c.steps.invariant.goes.geometry (c.steps.invariant.refreshes on) (c.collect_step.ensures.refreshes on)

@@ -14,6 +14,8 @@ invariant-steps g l = record {
   goes : Goes (ram l.fn.self) (ram l.self);
   fault : l.self.fault ≡ l.fn.self.fault;
   as_honest : g.N.PageSource.honest l.self.nand ≡ g.N.PageSource.honest l.fn.self.nand;
+  as_erased : g.N.PageSource.erases l.self.nand ≡ g.N.PageSource.erases l.fn.self.nand;
+  as_calm : g.N.PageSource.calm l.self.nand ≡ g.N.PageSource.calm l.fn.self.nand;
   faults : g.N.PageSource.failed l.fn.self.nand ≤ g.N.PageSource.failed l.self.nand;
   keys : KeepsKeys l.fn.self.mapping l.self.mapping;
   refreshes : l.flushing ≡ true → Refreshes (ram l.fn.self) (ram l.self);

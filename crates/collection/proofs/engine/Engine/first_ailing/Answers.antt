@@ -27,6 +27,7 @@ numbers-preserved g c =
       safe = c.first_live.ensures.safe;
       memory = c.first_live.ensures.memory ∙ i.memory;
       as_honest = c.first_live.ensures.honest ∙ i.as_honest;
+      as_calm = c.first_live.ensures.calm ∙ i.as_calm;
       as_programmed = c.first_live.ensures.programs ∙ i.as_programmed;
       as_erased = c.first_live.ensures.erases ∙ i.as_erased;
       faults = omega (arith, i.faults, c.first_live.ensures.failed);

@@ -10,6 +10,7 @@ invariant-numbers g l = record {
   safe : IsSafe g.N.PageSource.flash l.self;
   memory : ram l.self ≡ ram l.fn.self;
   as_honest : g.N.PageSource.honest l.self.nand ≡ g.N.PageSource.honest l.fn.self.nand;
+  as_calm : g.N.PageSource.calm l.self.nand ≡ g.N.PageSource.calm l.fn.self.nand;
   as_programmed : g.N.PageSource.programs l.self.nand ≡ g.N.PageSource.programs l.fn.self.nand;
   as_erased : g.N.PageSource.erases l.self.nand ≡ g.N.PageSource.erases l.fn.self.nand;
   faults : g.N.PageSource.failed l.fn.self.nand ≤ g.N.PageSource.failed l.self.nand;

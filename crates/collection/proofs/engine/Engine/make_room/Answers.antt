@@ -1,7 +1,7 @@
 use Rattle.collection.specs.Safe.{ram}
 use Rattle.collection.specs.Results.{fault_after}
 use Rattle.collection.proofs.Gates.{ram_noted, went_noted}
-use Rattle.collection.proofs.Noted.{on_noted, fresh_noted, made_noted, room_noted, counts_noted, tells_noted}
+use Rattle.collection.proofs.Noted.{on_noted, fresh_noted, made_noted, room_noted, erases_noted, counts_noted, tells_noted}
 use Rattle.collection.proofs.engine.Engine.make_room.Goals as goal
 
 pub returns-clause-safe : goal.returns-clause-safe
@@ -20,6 +20,9 @@ returns-clause-refreshes g c = λ on. rw c.noted.ensures.noted (fresh_noted _ _ 
 
 pub returns-clause-room : goal.returns-clause-room
 returns-clause-room g c = rw (c.noted.ensures.same, c.noted.ensures.noted) (room_noted _ (ram c.regain-answer.new.self) c.regain-answer.result c.regain-answer.ensures.room)
+
+pub returns-clause-erases : goal.returns-clause-erases
+returns-clause-erases g c = rw (c.noted.ensures.same, c.noted.ensures.noted) (erases_noted (ram c.args.self.now) (ram c.regain-answer.new.self) _ _ c.regain-answer.result c.regain-answer.ensures.erases)
 
 pub returns-clause-tells : goal.returns-clause-tells
 returns-clause-tells g c = λ none. rw (c.noted.ensures.same, c.noted.ensures.noted) (tells_noted (fault_after c.regain-answer.new.self.fault c.regain-answer.result) (ram c.regain-answer.new.self) c.regain-answer.result c.regain-answer.ensures.tells)

@@ -13,6 +13,7 @@ invariant-tries g l = record {
   fault : l.self.fault ≡ l.initial.self.fault;
   page : l.self.page.body ≡ l.initial.self.page.body;
   as_honest : g.N.PageSource.honest l.self.nand ≡ g.N.PageSource.honest l.initial.self.nand;
+  as_calm : g.N.PageSource.calm l.self.nand ≡ g.N.PageSource.calm l.initial.self.nand;
   as_read : g.N.PageSource.reads l.self.nand ≡ g.N.PageSource.reads l.initial.self.nand;
   as_erased : g.N.PageSource.erases l.self.nand ≡ g.N.PageSource.erases l.initial.self.nand;
   faults : g.N.PageSource.failed l.initial.self.nand ≤ g.N.PageSource.failed l.self.nand;

@@ -1,7 +1,17 @@
-use Rattle.std.proofs.Common.{slice_get, ap, sym, ◌∙◌}
+use Rattle.std.proofs.Common.{slice_get, Some, refl, ap, sym, subst, ◌∙◌}
 use Rattle.page_layout.specs.Page.{page}
-use Rattle.collection.proofs.Looks.{none_from, ok_not_bus, read_none, read_some}
+use Rattle.collection.specs.Safe.{ram, page_in}
+use Rattle.collection.specs.Looks.{FindsRow}
+use Rattle.collection.proofs.Looks.{none_from, ok_not_bus, read_none, read_some, gives_none, gives_some, finds_row}
 use Rattle.collection.proofs.engine.Engine.read_sector.Goals as goal
+
+pub returns-in_default-clause-looked_up : goal.returns-in_default-clause-looked_up
+returns-in_default-clause-looked_up g c =
+    let none = none_from c.in_ok-found.found c.in_default.not-Some in
+    rw (← none) (finds_row (ram c.args.self.now) c.args.sector (page_in c.row_of_sector.new.self.scratch) c.in_ok-found.found c.in_ok-found.ensures.hit c.in_ok-found.ensures.checked)
+
+pub returns-in_default-clause-checked : goal.returns-in_default-clause-checked
+returns-in_default-clause-checked g c = gives_none c.args.self.now.geometry c.args.sector _ (page_in c.row_of_sector.new.self.page) _ c.clear.ensures c.requires.whole
 
 pub returns-in_default-clause-truth : goal.returns-in_default-clause-truth
 returns-in_default-clause-truth g c = λ honest w. read_none c.args.self.now.geometry _ c.args.sector c.in_ok-found.found _ _ (c.in_ok-found.ensures.truth honest w) (none_from c.in_ok-found.found c.in_default.not-Some) c.clear.ensures c.requires.whole
@@ -10,3 +20,11 @@ pub returns-clause-truth : goal.returns-clause-truth
 returns-clause-truth g c = λ honest w.
     let read = ap (λ f. slice_get f.image c.in-Some.row) (sym (c.in_ok-found.ensures.same honest (ok_not_bus c.in_ok-found.found))) ∙ c.in_ok-written.ensures.page (c.row_of_sector.ensures.honest ∙ honest) in
     read_some c.args.self.now.geometry _ c.args.sector c.in-Some.row c.in_ok-found.found (page c.read_of.new.buffer.body.items c.read_of.new.buffer.spare.items) c.in_ok-written.written _ c.deref.result.now _ (c.in_ok-found.ensures.truth honest w) c.in-Some.is read c.in_ok-written.ensures.checked c.deref.ensures.value c.copy_sector.ensures.sector c.copy_sector.ensures.others c.requires.whole
+
+pub returns-clause-looked_up : goal.returns-clause-looked_up
+returns-clause-looked_up g c =
+    let found = finds_row (ram c.args.self.now) c.args.sector (page_in c.row_of_sector.new.self.scratch) c.in_ok-found.found c.in_ok-found.ensures.hit c.in_ok-found.ensures.checked in
+    subst (FindsRow (ram c.args.self.now) c.args.sector (page_in c.row_of_sector.new.self.scratch)) c.in-Some.is found
+
+pub returns-clause-checked : goal.returns-clause-checked
+returns-clause-checked g c = gives_some c.args.self.now.geometry c.args.sector c.in-Some.row (Some c.in-Some.row) (page_in c.read_of.new.buffer) c.in_ok-written.written _ c.deref.result.now _ refl c.in_ok-written.ensures.checked c.deref.ensures.value c.copy_sector.ensures.sector c.copy_sector.ensures.others c.requires.whole

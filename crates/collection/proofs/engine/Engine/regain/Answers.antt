@@ -5,7 +5,7 @@ use Rattle.collection.proofs.Costs.{not_bus}
 use Rattle.collection.proofs.Logs.{went_then}
 use Rattle.collection.proofs.Looks.{none_from, ok_not_bus}
 use Rattle.collection.proofs.Copies.{keys_then, refreshes_then}
-use Rattle.collection.proofs.Rooms.{on_then, rearranged_then, room_refused, funded_then, refused_room, made_none, made_some, final_counts}
+use Rattle.collection.proofs.Rooms.{on_then, erased_more, rearranged_then, room_refused, funded_then, refused_room, made_none, made_some, final_counts}
 use Rattle.collection.proofs.engine.Engine.regain.Goals as goal
 
 pub rounds-preserved : goal.rounds-preserved
@@ -21,6 +21,8 @@ rounds-preserved g c =
       goes = on_then c.in-Some.block old now new i.goes c.collect_block.ensures.goes worth.victim.closed;
       fault = c.collect_block.ensures.fault ∙ i.fault;
       as_honest = c.collect_block.ensures.honest ∙ i.as_honest;
+      erases = erased_more old now new _ _ _ i.erases c.in_ok-collect_block.ensures.erases;
+      as_calm = c.collect_block.ensures.calm ∙ i.as_calm;
       faults = omega (arith, i.faults, c.collect_block.ensures.failed);
       keys = keys_then _ _ _ i.keys c.collect_block.ensures.keys;
       refreshes = λ on. refreshes_then old now new i.goes.geometry (i.refreshes on) (c.collect_block.ensures.refreshes on);

@@ -4,7 +4,7 @@ use Rattle.allocation.specs.Counts.{counts_of}
 use Rattle.collection.specs.Safe.{IsSafe, IsIdle, ram, image_in}
 use Rattle.collection.specs.Truth.{IsTrue}
 use Rattle.collection.specs.Log.{Went}
-use Rattle.collection.specs.Collect.{KeepsKeys, Refreshes, GoesOn, IsRearranged}
+use Rattle.collection.specs.Collect.{KeepsKeys, Refreshes, GoesOn, RestsOrErases, IsRearranged}
 use Rattle.collection.specs.Room.{IsFundedOn}
 use Rattle.collection.specs.Whole.{work_left}
 use Rattle.collection.proofs.engine.Engine.regain.Given as goal
@@ -16,6 +16,8 @@ invariant-rounds g l = record {
   goes : GoesOn (ram l.fn.self) (ram l.self);
   fault : l.self.fault ≡ l.fn.self.fault;
   as_honest : g.N.PageSource.honest l.self.nand ≡ g.N.PageSource.honest l.fn.self.nand;
+  erases : RestsOrErases (ram l.fn.self) (ram l.self) (g.N.PageSource.erases l.fn.self.nand) (g.N.PageSource.erases l.self.nand);
+  as_calm : g.N.PageSource.calm l.self.nand ≡ g.N.PageSource.calm l.fn.self.nand;
   faults : g.N.PageSource.failed l.fn.self.nand ≤ g.N.PageSource.failed l.self.nand;
   keys : KeepsKeys l.fn.self.mapping l.self.mapping;
   refreshes : l.flushing ≡ true → Refreshes (ram l.fn.self) (ram l.self);

@@ -11,7 +11,7 @@ use Rattle.collection.proofs.Memory.{goes_then}
 use Rattle.collection.proofs.Puts.{refused_then}
 use Rattle.collection.proofs.WriteBacks.{read_went}
 use Rattle.collection.proofs.Lowest.{some_pages}
-use Rattle.collection.proofs.Rescues.{copied_as, rescued, none_rescued, goes_from, rescued_cost, unread_rescue, unread_refused}
+use Rattle.collection.proofs.Rescues.{copied_as, rescued, none_rescued, goes_from, rescued_cost, uncopied_cost, unfollowed_cost, unread_rescue, unread_refused}
 use Rattle.collection.proofs.engine.Engine.rescue.Goals as goal
 
 -- ---- the copy
@@ -53,6 +53,11 @@ returns-in_default-clause-truth g c = λ honest w.
     let still = ap (λ f. f.image) (c.in_ok-ailing.ensures.same honest (ok_not_bus _)) in
     none_rescued (ram c.args.self.now) (ram c.first_ailing.new.self) _ _ _ c.in_ok-ailing.ailing c.first_ailing.ensures.memory still w (c.in_ok-ailing.ensures.truth honest w) (none_from c.in_ok-ailing.ailing c.in_default.not-Some)
 
+pub returns-in_err-copy_page-clause-cost : goal.returns-in_err-copy_page-clause-cost
+returns-in_err-copy_page-clause-cost g c =
+    let p = err_from_is_err_and c.from_residual-in_err-copy_page.result c.from_residual-in_err-copy_page.ensures.1 in
+    rw (p.1, p.2) (uncopied_cost (ram c.args.self.now) (ram c.first_ailing.new.self) (ram c.copy_page.new.self) _ c.requires.safe.memory c.first_ailing.ensures.memory c.in_err-copy_page.ensures.cost)
+
 -- ---- its translation page follows
 
 pub follow_moved-requires-clause-key : goal.follow_moved-requires-clause-key
@@ -64,27 +69,32 @@ follow_moved-requires-clause-key g c =
 pub returns-in_err-follow_moved-clause-goes : goal.returns-in_err-follow_moved-clause-goes
 returns-in_err-follow_moved-clause-goes g c = goes_then (ram c.args.self.now) (ram c.copy_page.new.self) _ (goes_from (ram c.args.self.now) (ram c.first_ailing.new.self) (ram c.copy_page.new.self) c.first_ailing.ensures.memory c.copy_page.ensures.goes) c.follow_moved.ensures.goes
 
+pub returns-in_err-follow_moved-clause-cost : goal.returns-in_err-follow_moved-clause-cost
+returns-in_err-follow_moved-clause-cost g c =
+    let p = err_from_is_err_and c.from_residual-in_err-follow_moved.result c.from_residual-in_err-follow_moved.ensures.1 in
+    rw (p.1, p.2) (unfollowed_cost (ram c.args.self.now) (ram c.first_ailing.new.self) (ram c.copy_page.new.self) (ram c.follow_moved.new.self) _ c.requires.safe.memory c.first_ailing.ensures.memory c.in_ok-copy_page.ensures.cost c.in_err-follow_moved.ensures.cost)
+
 pub returns-in_err-follow_moved-clause-went : goal.returns-in_err-follow_moved-clause-went
 returns-in_err-follow_moved-clause-went g c =
     let p = err_from_is_err_and c.from_residual-in_err-follow_moved.result c.from_residual-in_err-follow_moved.ensures.1 in
     rw (p.1, p.2) (λ honest ne.
-        let first = read_went (ram c.args.self.now) (ram c.first_ailing.new.self) _ _ c.first_ailing.ensures.memory (c.in_ok-ailing.ensures.same honest (ok_not_bus _)) in
-        let copied = c.in_ok-copy_page.ensures.went (c.first_ailing.ensures.honest ∙ honest) (ok_not_bus _) in
-        let followed = c.in_err-follow_moved.ensures.went (c.copy_page.ensures.honest ∙ (c.first_ailing.ensures.honest ∙ honest)) (not_bus _ ne) in
-        went_then _ _ _ _ _ _ (ap (λ r. r.geometry) c.first_ailing.ensures.memory) first (went_then _ _ _ _ _ _ c.copy_page.ensures.goes.geometry copied followed))
+    let first = read_went (ram c.args.self.now) (ram c.first_ailing.new.self) _ _ c.first_ailing.ensures.memory (c.in_ok-ailing.ensures.same honest (ok_not_bus _)) in
+    let copied = c.in_ok-copy_page.ensures.went (c.first_ailing.ensures.honest ∙ honest) (ok_not_bus _) in
+    let followed = c.in_err-follow_moved.ensures.went (c.copy_page.ensures.honest ∙ (c.first_ailing.ensures.honest ∙ honest)) (not_bus _ ne) in
+    went_then _ _ _ _ _ _ (ap (λ r. r.geometry) c.first_ailing.ensures.memory) first (went_then _ _ _ _ _ _ c.copy_page.ensures.goes.geometry copied followed))
 
 pub returns-in_err-follow_moved-clause-truth : goal.returns-in_err-follow_moved-clause-truth
 returns-in_err-follow_moved-clause-truth g c =
     let p = err_from_is_err_and c.from_residual-in_err-follow_moved.result c.from_residual-in_err-follow_moved.ensures.1 in
     rw (p.1, p.2) (λ honest w.
-        let a = ram c.args.self.now in
-        let b = ram c.first_ailing.new.self in
-        let n = ram c.copy_page.new.self in
-        let y = (g.N.PageSource.flash c.copy_page.new.self.nand).image in
-        let still = ap (λ f. f.image) (c.in_ok-ailing.ensures.same honest (ok_not_bus _)) in
-        let now = c.first_ailing.ensures.honest ∙ honest in
-        let m = copied_as a b _ _ c.in-Some.row c.in-Some.found _ c.in_ok-ailing.ailing c.requires.safe.memory c.first_ailing.ensures.memory still w (c.in_ok-ailing.ensures.truth honest w) c.in-Some.is (λ r i. IsMovedOut c.in-Some.row r i n y) (c.in_ok-copy_page.ensures.truth now) in
-        refused_then a n (ram c.follow_moved.new.self) _ y _ (goes_from a b n c.first_ailing.ensures.memory c.copy_page.ensures.goes) c.follow_moved.ensures.goes.geometry _ m.same (c.in_err-follow_moved.ensures.truth (c.copy_page.ensures.honest ∙ now) m.same.truth))
+    let a = ram c.args.self.now in
+    let b = ram c.first_ailing.new.self in
+    let n = ram c.copy_page.new.self in
+    let y = (g.N.PageSource.flash c.copy_page.new.self.nand).image in
+    let still = ap (λ f. f.image) (c.in_ok-ailing.ensures.same honest (ok_not_bus _)) in
+    let now = c.first_ailing.ensures.honest ∙ honest in
+    let m = copied_as a b _ _ c.in-Some.row c.in-Some.found _ c.in_ok-ailing.ailing c.requires.safe.memory c.first_ailing.ensures.memory still w (c.in_ok-ailing.ensures.truth honest w) c.in-Some.is (λ r i. IsMovedOut c.in-Some.row r i n y) (c.in_ok-copy_page.ensures.truth now) in
+    refused_then a n (ram c.follow_moved.new.self) _ y _ (goes_from a b n c.first_ailing.ensures.memory c.copy_page.ensures.goes) c.follow_moved.ensures.goes.geometry _ m.same (c.in_err-follow_moved.ensures.truth (c.copy_page.ensures.honest ∙ now) m.same.truth))
 
 pub returns-clause-goes : goal.returns-clause-goes
 returns-clause-goes g c = goes_then (ram c.args.self.now) (ram c.copy_page.new.self) _ (goes_from (ram c.args.self.now) (ram c.first_ailing.new.self) (ram c.copy_page.new.self) c.first_ailing.ensures.memory c.copy_page.ensures.goes) c.follow_moved.ensures.goes

@@ -1,4 +1,4 @@
-use Rattle.std.proofs.Common.{◌≡◌, ap, subst, refl, arith, length, slice_index_or, Some, ◌<◌}
+use Rattle.std.proofs.Common.{◌≡◌, ◌∙◌, ap, subst, refl, arith, length, slice_index_or, Some, ◌<◌}
 use Rattle.std.proofs.lemmas.List.{with_items_is}
 use Rattle.std.proofs.lemmas.Option.{slice_get-get_or}
 use Rattle.std.specs.Vec.{with_items}
@@ -8,7 +8,10 @@ use Rattle.ftl_device.proofs.LoopLemmas.{running_none, running_more, all_told, a
 use Rattle.ftl_device.proofs.device.Device.run.Goals as goal
 
 pub loop-call-init : goal.loop-call-init
-loop-call-init g c = running_none g.N.PageSource.flash g.N.PageSource.honest g.N.PageSource.failed c.args.self.now c.args.calls.now c.requires.device c.requires.whole
+loop-call-init g c = record {
+  running = running_none g.N.PageSource.flash g.N.PageSource.honest g.N.PageSource.failed c.args.self.now c.args.calls.now c.requires.device c.requires.whole;
+  as_calm = refl;
+}
 
 pub loop-call-preserved : goal.loop-call-preserved
 loop-call-preserved g c =
@@ -30,16 +33,19 @@ loop-call-preserved g c =
       well = its.well;
       happened = its.happened;
     } in
-    running_more g.N.PageSource.flash g.N.PageSource.honest g.N.PageSource.failed c.args.self.now c.loop-call.self c.tell.new.self c.args.calls.now c.loop-call.calls c.loop-call.call-index
-    item after c.tell.result c.requires.device c.loop-call.invariant (slice_get-get_or c.loop-call.calls c.loop-call.call-index c.call-item.result below) below refl refl
+    record {
+      running = running_more g.N.PageSource.flash g.N.PageSource.honest g.N.PageSource.failed c.args.self.now c.loop-call.self c.tell.new.self c.args.calls.now c.loop-call.calls c.loop-call.call-index
+    item after c.tell.result c.requires.device c.loop-call.invariant.running (slice_get-get_or c.loop-call.calls c.loop-call.call-index c.call-item.result below) below refl refl
     c.tell.new.bytes (with_items_is item.bytes c.tell.new.bytes long) c.tell.ensures.room tells
-    (subst (λ bs. KeepsBytes (told after) c.tell.result bs c.tell.new.bytes) c.deref_mut.ensures.value c.tell.ensures.kept)
+    (subst (λ bs. KeepsBytes (told after) c.tell.result bs c.tell.new.bytes) c.deref_mut.ensures.value c.tell.ensures.kept);
+      as_calm = its.calm ∙ c.loop-call.invariant.as_calm;
+    }
 
 pub returns-clause-told : goal.returns-clause-told
-returns-clause-told g c = all_told g.N.PageSource.flash g.N.PageSource.honest g.N.PageSource.failed c.args.self.now c.loop-call.self c.args.calls.now c.loop-call.calls c.loop-call.call-index (omega (arith, c.loop-call-test.false)) c.loop-call.invariant
+returns-clause-told g c = all_told g.N.PageSource.flash g.N.PageSource.honest g.N.PageSource.failed c.args.self.now c.loop-call.self c.args.calls.now c.loop-call.calls c.loop-call.call-index (omega (arith, c.loop-call-test.false)) c.loop-call.invariant.running
 
 pub returns-clause-answered : goal.returns-clause-answered
-returns-clause-answered g c = all_answered g.N.PageSource.flash g.N.PageSource.honest g.N.PageSource.failed c.args.self.now c.loop-call.self c.args.calls.now c.loop-call.calls c.loop-call.call-index (omega (arith, c.loop-call-test.false)) c.loop-call.invariant
+returns-clause-answered g c = all_answered g.N.PageSource.flash g.N.PageSource.honest g.N.PageSource.failed c.args.self.now c.loop-call.self c.args.calls.now c.loop-call.calls c.loop-call.call-index (omega (arith, c.loop-call-test.false)) c.loop-call.invariant.running
 
 pub returns-clause-kept : goal.returns-clause-kept
-returns-clause-kept g c = all_kept g.N.PageSource.flash g.N.PageSource.honest g.N.PageSource.failed c.args.self.now c.loop-call.self c.args.calls.now c.loop-call.calls c.loop-call.call-index (omega (arith, c.loop-call-test.false)) c.loop-call.invariant
+returns-clause-kept g c = all_kept g.N.PageSource.flash g.N.PageSource.honest g.N.PageSource.failed c.args.self.now c.loop-call.self c.args.calls.now c.loop-call.calls c.loop-call.call-index (omega (arith, c.loop-call-test.false)) c.loop-call.invariant.running

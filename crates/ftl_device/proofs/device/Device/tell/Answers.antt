@@ -1,11 +1,12 @@
 use Rattle.promises.specs.Step as step
 use Rattle.page_layout.specs.Array.{zeros}
+use Rattle.collection.specs.Safe.{page_in}
 use Rattle.ftl_device.proofs.RunLemmas.{read_happened, changed, write_sound, quiet_sound}
 use Rattle.ftl_device.proofs.device.Device.tell.Goals as goal
 
 pub returns-in-Read-clause-happened : goal.returns-in-Read-clause-happened
 returns-in-Read-clause-happened g c = λ honest w ne.
-    rw c.in-Read.is (read_happened g.N.PageSource.flash c.args.self.now c.read.new.self c.read.result ne c.in-Read.sector c.read.new.out (c.read.ensures.step honest w ne) (c.read.ensures.same honest ne) c.read.ensures.memory c.read.ensures.faults)
+    rw c.in-Read.is (read_happened g.N.PageSource.flash c.args.self.now c.read.new.self c.read.result ne c.in-Read.sector c.read.new.out (page_in c.read.new.self.engine.scratch) (page_in c.read.new.self.engine.page) (c.read.ensures.step honest w ne) (c.read.ensures.same honest ne) c.read.ensures.memory c.read.ensures.faults)
 
 pub returns-in-Write-clause-happened : goal.returns-in-Write-clause-happened
 returns-in-Write-clause-happened g c = λ honest w ne.

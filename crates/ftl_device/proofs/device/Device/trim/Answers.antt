@@ -2,7 +2,7 @@ use Rattle.std.proofs.Common.{◌≡◌, ◌∙◌, Err, refl, sym, ap, subst}
 use Rattle.std.specs.Map.{keys_of}
 use Rattle.std.proofs.lemmas.Result.{err_from_is_err_and}
 use Rattle.collection.specs.Safe.{ram}
-use Rattle.ftl_device.proofs.CallLemmas.{well_ram, well_device, memory_only, mountable_after, recent_after}
+use Rattle.ftl_device.proofs.CallLemmas.{well_ram, well_device, memory_only, mountable_after, recent_after, went_after}
 use Rattle.ftl_device.proofs.MountableLemmas.{stale_law, restart_law}
 use Rattle.ftl_device.proofs.ShownLemmas.{shown_refused, shown_after}
 use Rattle.ftl_device.specs.Calls.{IsReady, HasCost, order_after}
@@ -61,3 +61,6 @@ pub returns-in_err-may_change-clause-unwritten : goal.returns-in_err-may_change-
 returns-in_err-may_change-clause-unwritten g c =
     let p = err_from_is_err_and c.from_residual.result c.from_residual.ensures.1 in
     rw (p.1, p.2) (λ e. absurd (never_memory (ram c.args.self.now.engine) c.args.self.now.read_only c.args.sector _ c.in_err-may_change.ensures.may_not e))
+
+pub returns-clause-went : goal.returns-clause-went
+returns-clause-went g c = λ honest. went_after g.N.PageSource.flash c.args.self.now.engine c.trim_ready-answer.new.engine c.finish.new.self.engine c.trim_ready-answer.result c.finish.result c.good-good.result c.finish.ensures.engine c.finish.ensures.answer (c.trim_ready-answer.ensures.went honest)

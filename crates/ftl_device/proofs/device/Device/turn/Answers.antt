@@ -1,7 +1,7 @@
 use Rattle.std.proofs.Common.{◌≡◌, true}
 use Rattle.std.proofs.lemmas.Result.{err_from_is_err_and}
 use Rattle.collection.specs.Safe.{ram, image_in}
-use Rattle.ftl_device.specs.Calls.{HasRescued}
+use Rattle.ftl_device.specs.Calls.{HasRescued, HasWorked}
 use Rattle.ftl_device.proofs.CallLemmas.{well_device, mountable_after}
 use Rattle.ftl_device.proofs.CostLemmas.{done_after}
 use Rattle.ftl_device.proofs.MountableLemmas.{restart_law}
@@ -29,3 +29,6 @@ returns-clause-shown g c = λ honest w ne log. flush_shown g.N.PageSource.flash 
 
 pub returns-clause-rescued : goal.returns-clause-rescued
 returns-clause-rescued g c = λ honest w. done_after (λ e. HasRescued (ram c.args.self.now.engine) (ram e)) c.turn_ready-answer.new.engine c.finish.new.self.engine c.turn_ready-answer.result c.finish.result c.good-good.result c.finish.ensures.engine c.finish.ensures.answer (c.turn_ready-answer.ensures.rescued honest w.truth)
+
+pub returns-clause-worked : goal.returns-clause-worked
+returns-clause-worked g c = λ honest w some. done_after (λ e. HasWorked (ram c.args.self.now.engine) (ram e) (g.N.PageSource.erases c.args.self.now.engine.nand) (g.N.PageSource.erases e.nand)) c.turn_ready-answer.new.engine c.finish.new.self.engine c.turn_ready-answer.result c.finish.result c.good-good.result c.finish.ensures.engine c.finish.ensures.answer (c.turn_ready-answer.ensures.worked honest w.truth some)

@@ -5,18 +5,25 @@ use Rattle.page_layout.specs.Geometry.{page_bytes}
 use Rattle.onfi_cycles.specs.Cycles.{Loading, address_due, to_phase}
 use Rattle.nand_die.specs.contracts.chip.Chip.{the_view}
 use Rattle.nand_die.specs.BusState.{phase_of}
+use Rattle.nand_die.specs.Stopping.{is_change}
 use Rattle.nand_die.specs.ChipValue.{ChipValue, in_state}
 use Rattle.nand_die.proofs.ActLemmas.{acts_moves, fields_whole}
 use Rattle.nand_die.proofs.chip.Chip.address.Goals as goal
 
-pub returns-in-Moves : goal.returns-in-Moves
-returns-in-Moves c =
+pub returns-in-Moves-clause-quiet : goal.returns-in-Moves-clause-quiet
+returns-in-Moves-clause-quiet c = rw (← c.self.view_is) (sym (ap is_change (c.in-Moves.ensures.due c.self.inside.register.items)))
+
+pub returns-in-Moves-clause-acts : goal.returns-in-Moves-clause-acts
+returns-in-Moves-clause-acts c =
     let i = c.self.inside in
     let r : List ℕ = i.register.items in
     rw (← c.self.view_is) (acts_moves (address_due i.geometry (phase_of r i.bus_state) c.args.byte) (the_view i) _ (phase_of r c.in-Moves.to) tt (sym (c.in-Moves.ensures.due r)) refl (fields_whole i c.self.invariant))
 
-pub returns-in-Loads : goal.returns-in-Loads
-returns-in-Loads c =
+pub returns-in-Loads-clause-quiet : goal.returns-in-Loads-clause-quiet
+returns-in-Loads-clause-quiet c = rw (← c.self.view_is) (sym (ap is_change (c.in-Loads.ensures.due c.self.inside.register.items)))
+
+pub returns-in-Loads-clause-acts : goal.returns-in-Loads-clause-acts
+returns-in-Loads-clause-acts c =
     let i = c.self.inside in
     let r : List ℕ = i.register.items in
     let d : ChipValue = the_view i in

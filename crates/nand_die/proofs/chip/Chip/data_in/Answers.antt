@@ -5,13 +5,22 @@ use Rattle.page_layout.specs.Geometry.{page_bytes}
 use Rattle.onfi_cycles.specs.Cycles.{Moves, Loading, data_in_due, to_phase, replaced}
 use Rattle.nand_die.specs.contracts.chip.Chip.{the_view}
 use Rattle.nand_die.specs.BusState.{phase_of}
+use Rattle.nand_die.specs.Stopping.{is_change}
 use Rattle.nand_die.specs.declared.bus_state.BusState.{BusState}
 use Rattle.nand_die.specs.ChipValue.{ChipValue, in_state}
 use Rattle.nand_die.proofs.ActLemmas.{acts_moves, fields_whole, load_in, replaced_so, written_length}
 use Rattle.nand_die.proofs.chip.Chip.data_in.Goals as goal
 
-pub returns-in-Ok : goal.returns-in-Ok
-returns-in-Ok c =
+pub returns-in-Ok-clause-quiet : goal.returns-in-Ok-clause-quiet
+returns-in-Ok-clause-quiet c =
+    let i = c.self.inside in
+    let r : List ℕ = i.register.items in
+    let bytes : List ℕ = c.args.bytes.now in
+    let h = c.in-Ok.ensures.ok in
+    rw (← c.self.view_is) (ap is_change (ap (λ (w : BusState). data_in_due i.geometry (phase_of r w) bytes) h.0 ∙ load_in i.geometry c.in-Ok.row c.in-Ok.column r bytes h.1))
+
+pub returns-in-Ok-clause-acts : goal.returns-in-Ok-clause-acts
+returns-in-Ok-clause-acts c =
     let i = c.self.inside in
     let r : List ℕ = i.register.items in
     let d : ChipValue = the_view i in

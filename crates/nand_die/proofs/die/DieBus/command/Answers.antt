@@ -2,7 +2,7 @@ use Rattle.std.proofs.Common.{◌≡◌, ◌∙◌, ap, sym, subst, ◌==◌, tr
 use Rattle.onfi_cycles.specs.Cycles.{Command, CycleStep, given_up, command_due}
 use Rattle.nand_die.specs.Stopping.{left_by_stop, is_change}
 use Rattle.nand_die.specs.DieValue.{DieValue, chip_of, due_now}
-use Rattle.nand_die.proofs.StopLemmas.{stop_phase, stop_geometry, both_true}
+use Rattle.nand_die.proofs.StopLemmas.{run_noted, stop_phase, stop_geometry, both_true}
 use Rattle.nand_die.proofs.die.DieBus.command.Goals as goal
 
 pub returns-then-comes-clause-cycle : goal.returns-then-comes-clause-cycle
@@ -22,3 +22,6 @@ returns-then-comes-clause-geometry c h =
     ap (λ (x : DieValue). x.state.flash.geometry) c.fail-then-comes.ensures.new
     ∙ (ap (λ (x : DieValue). x.state.flash.geometry) c.strike.ensures
     ∙ (ap (λ (x : DieValue). (left_by_stop x.stop (due_now x (Command code)) (chip_of x)).state.flash.geometry) c.if-comes.ensures.new ∙ stop_geometry s.stop (due_now s (Command code)) (chip_of s)))
+
+pub returns-clause-recorded : goal.returns-clause-recorded
+returns-clause-recorded c = run_noted c.args.self.now _ c.run.new.self c.args.code _ c.run.result c.if-comes.ensures.new c.run.ensures.new
