@@ -29,11 +29,11 @@ type Setting = (u64, Halt, Result<(), DieFault>);
 // of its rows hold.
 struct Row {
     name: &'static str,
-    stops: &'static [Setting],
+    stops: (Setting, Option<Setting>),
     operations: &'static [Operation],
     changes: u64,
     abuse: u64,
-    holds: &'static [(usize, Page)],
+    holds: &'static [(u8, Page)],
 }
 
 const PASSED: Result<Outcome, BusFault> = Ok(Outcome::Passed);
@@ -78,7 +78,7 @@ const WORKS: &[Operation] = &[
 const STOPS: [Row; 13] = [
     Row {
         name: "a program, before",
-        stops: &[(1, Halt::Before, SET)],
+        stops: ((1, Halt::Before, SET), None),
         operations: STOPPED_PROGRAM,
         changes: 1,
         abuse: 0,
@@ -86,7 +86,7 @@ const STOPS: [Row; 13] = [
     },
     Row {
         name: "a program, after",
-        stops: &[(1, Halt::After, SET)],
+        stops: ((1, Halt::After, SET), None),
         operations: STOPPED_PROGRAM,
         changes: 1,
         abuse: 0,
@@ -94,7 +94,7 @@ const STOPS: [Row; 13] = [
     },
     Row {
         name: "a program, torn",
-        stops: &[(1, TORN, SET)],
+        stops: ((1, TORN, SET), None),
         operations: STOPPED_PROGRAM,
         changes: 1,
         abuse: 0,
@@ -102,7 +102,7 @@ const STOPS: [Row; 13] = [
     },
     Row {
         name: "an erase, before",
-        stops: &[(3, Halt::Before, SET)],
+        stops: ((3, Halt::Before, SET), None),
         operations: STOPPED_ERASE,
         changes: 3,
         abuse: 0,
@@ -110,7 +110,7 @@ const STOPS: [Row; 13] = [
     },
     Row {
         name: "an erase, after",
-        stops: &[(3, Halt::After, SET)],
+        stops: ((3, Halt::After, SET), None),
         operations: STOPPED_ERASE,
         changes: 3,
         abuse: 0,
@@ -118,7 +118,7 @@ const STOPS: [Row; 13] = [
     },
     Row {
         name: "an erase, torn",
-        stops: &[(3, TORN, SET)],
+        stops: ((3, TORN, SET), None),
         operations: STOPPED_ERASE,
         changes: 3,
         abuse: 0,
@@ -126,7 +126,7 @@ const STOPS: [Row; 13] = [
     },
     Row {
         name: "an illegal program, torn",
-        stops: &[(2, TORN, SET)],
+        stops: ((2, TORN, SET), None),
         operations: &[
             Operation::Program(10, 0x11, 0x22, FAILED),
             Operation::Program(10, 0x11, 0x22, DEVICE),
@@ -137,7 +137,7 @@ const STOPS: [Row; 13] = [
     },
     Row {
         name: "an illegal program, after",
-        stops: &[(1, Halt::After, SET)],
+        stops: ((1, Halt::After, SET), None),
         operations: &[Operation::Program(10, 0x11, 0x22, DEVICE)],
         changes: 1,
         abuse: 1,
@@ -145,7 +145,7 @@ const STOPS: [Row; 13] = [
     },
     Row {
         name: "number 0 never comes",
-        stops: &[(0, Halt::Before, SET)],
+        stops: ((0, Halt::Before, SET), None),
         operations: WORKS,
         changes: 1,
         abuse: 0,
@@ -153,7 +153,7 @@ const STOPS: [Row; 13] = [
     },
     Row {
         name: "a later stop counts",
-        stops: &[(1, Halt::Before, SET), (2, TORN, SET)],
+        stops: ((1, Halt::Before, SET), Some((2, TORN, SET))),
         operations: &[
             Operation::Program(8, 0x11, 0x22, PASSED),
             Operation::Program(9, 0x11, 0x22, DEVICE),
@@ -164,14 +164,14 @@ const STOPS: [Row; 13] = [
     },
     Row {
         name: "torn bytes of another length",
-        stops: &[
+        stops: (
             (1, Halt::Before, SET),
-            (
+            Some((
                 1,
                 Halt::Torn(Left::Bytes(0, 95)),
                 Err(DieFault::WrongLength),
-            ),
-        ],
+            )),
+        ),
         operations: WORKS,
         changes: 1,
         abuse: 0,
@@ -179,10 +179,10 @@ const STOPS: [Row; 13] = [
     },
     Row {
         name: "torn bytes that are sound",
-        stops: &[
+        stops: (
             (1, Halt::Before, SET),
-            (1, Halt::Torn(Left::Sound), Err(DieFault::SoundFaultPage)),
-        ],
+            Some((1, Halt::Torn(Left::Sound), Err(DieFault::SoundFaultPage))),
+        ),
         operations: WORKS,
         changes: 1,
         abuse: 0,
@@ -190,10 +190,10 @@ const STOPS: [Row; 13] = [
     },
     Row {
         name: "a stop after a refused one",
-        stops: &[
+        stops: (
             (1, Halt::Torn(Left::Nothing), Err(DieFault::WrongLength)),
-            (1, TORN, SET),
-        ],
+            Some((1, TORN, SET)),
+        ),
         operations: STOPPED_PROGRAM,
         changes: 1,
         abuse: 0,
@@ -209,12 +209,24 @@ fn stop_of(rt: &impl Abort, alloc: Global, halt: Halt) -> Stop {
     }
 }
 
-fn set_each(rt: &impl Abort, alloc: Global, die: &mut Die, row: &Row)
+fn set_stop(rt: &impl Abort, alloc: Global, die: &mut Die, setting: Setting, row: &str)
     ensures { die.new.state.flash.geometry ≡ die.old.state.flash.geometry }
 {
-    for (nth_change, halt, want) in row.stops {
-        let stop = stop_of(rt, alloc, *halt);
-        assert_eq!(rt; die.set_stop(*nth_change, stop), *want, "{}", row.name);
+    let (nth_change, halt, want) = setting;
+    let stop = stop_of(rt, alloc, halt);
+    match die.set_stop(nth_change, stop) {
+        Ok(()) => assert_eq!(rt; want, SET, "{row}"),
+        Err(fault) => assert_eq!(rt; want, Err(fault), "{row}"),
+    }
+}
+
+fn set_stops(rt: &impl Abort, alloc: Global, die: &mut Die, row: &Row)
+    ensures { die.new.state.flash.geometry ≡ die.old.state.flash.geometry }
+{
+    let (first, second) = row.stops;
+    set_stop(rt, alloc, die, first, row.name);
+    if let Some(setting) = second {
+        set_stop(rt, alloc, die, setting, row.name);
     }
 }
 
@@ -226,7 +238,8 @@ fn expect_pages(rt: &impl Abort, alloc: Global, die: &Die, row: &Row)
 {
     let image = image_of(rt, alloc, die);
     for (at, page) in row.holds {
-        let held = image.as_slice().get(*at * 96..*at * 96 + 96);
+        let start = *at as usize * 96;
+        let held = image.as_slice().get(start..start + 96);
         assert_eq!(rt;
             held,
             Some(bytes_of(*page).as_slice()),
@@ -239,7 +252,7 @@ fn expect_pages(rt: &impl Abort, alloc: Global, die: &Die, row: &Row)
 fn walk_stops(rt: &impl Abort, alloc: Global, row: &Row) {
     let geometry = small(rt);
     let mut die = new_die(rt, alloc, geometry, &[]);
-    set_each(rt, alloc, &mut die, row);
+    set_stops(rt, alloc, &mut die, row);
     let die = after(rt, die, geometry, row.name, row.operations);
     assert_eq!(rt; die.changes(), row.changes, "{}", row.name);
     assert_eq!(rt; die.abuse(), row.abuse, "{}", row.name);
