@@ -14,7 +14,9 @@ use Rattle.block_server.specs.Checked.{IsServed}
 use Rattle.commands.specs.declared.text.ServeStop.{ServeStop}
 use Rattle.nand_die.specs.Made.{loaded_flash}
 use Rattle.image_check.specs.Agrees.{Agrees}
-use Rattle.image_check.specs.Refused.{IsFirstWrong}
+use Rattle.image_check.specs.Refused.{IsFirstWrong, IsRefusal}
+use Rattle.image_check.specs.declared.refusal.Refusal.{Refusal}
+use Rattle.image_check.specs.declared.refusal.Refusal.TheVariants as refusals
 use Rattle.command_words.specs.declared.words.ServeWords.{ServeWords}
 use Rattle.commands.specs.declared.text.CommandFault.{CommandFault}
 use Rattle.commands.specs.declared.text.CommandFault.TheVariants as fault
@@ -45,6 +47,13 @@ die_served flash honest failed nand given g capacity c u v b w result how after 
     bytes = bytes ∙ ap (λ (f : Flash). raw_bytes f.image) same;
   };
 }
+
+-- a die that counted no fault was refused for memory, or for the first part that fails
+pub read_through : (g : Geometry) (capacity : ℕ) (image : Image) (c : Claim) (r : Refusal) (was now most : ℕ) → IsRefusal g capacity image c r → (r ≡ refusals.Source → HasRisen was now) → now ≤ most → most ≡ 0
+    → (r ≡ refusals.OutOfMemory) ⊎ IsFirstWrong g capacity image c r
+read_through g capacity image c r was now most (inl (inl source)) rose le none = absurd (not_risen was now most (rose source) le none)
+read_through g capacity image c r was now most (inl (inr memory)) rose le none = inl memory
+read_through g capacity image c r was now most (inr wrong) rose le none = inr wrong
 
 -- ---- the command
 

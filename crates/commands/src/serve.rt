@@ -114,7 +114,11 @@ fn serve_die<'a, R: Read, W: Write>(
             nand.into_bus().die.image_into(image);
             Ok(Some(ServeStop::Fault(fault)))
         }
-        Err(RunFault::Refused { refusal, .. }) => Err(CommandFault::Check(refusal)),
+        Err(RunFault::Refused { refusal, nand }) => {
+            // The die counted no fault, so no page read failed.
+            let _ = nand.into_bus();
+            Err(CommandFault::Check(refusal))
+        }
         Err(RunFault::Start { .. }) => Err(CommandFault::Start),
     }
 }

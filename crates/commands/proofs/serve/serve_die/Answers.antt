@@ -1,7 +1,7 @@
 use Rattle.std.proofs.Common.{refl, ap, ◌∙◌}
 use Rattle.page_layout.specs.Flash.{Flash}
 use Rattle.onfi_cycles.specs.Driver.{flash_by}
-use Rattle.commands.proofs.ServeLemmas.{die_served}
+use Rattle.commands.proofs.ServeLemmas.{die_served, read_through}
 use Rattle.commands.proofs.serve.serve_die.Goals as goal
 
 pub returns-in-Ok-clause-ok : goal.returns-in-Ok-clause-ok
@@ -17,3 +17,8 @@ returns-in-Err-Serve-clause-ok g c =
     die_served (flash_by (λ bus. bus.die.state)) _ _ c.args.driver _ c.args.asked.now.geometry _ _ _ _ _ _ _ _ _ _ _
     its refl (c.into_bus-in-Err-Serve.ensures.counted refl) refl (c.into_bus-in-Err-Serve.ensures.flash refl) (ap (λ (f : Flash). f.geometry) (c.into_bus-in-Err-Serve.ensures.flash refl) ∙ its.sized)
     refl c.image_into-in-Err-Serve.ensures.pages c.image_into-in-Err-Serve.ensures.bytes
+
+pub returns-in-Err-Refused-clause-fault : goal.returns-in-Err-Refused-clause-fault
+returns-in-Err-Refused-clause-fault g c =
+    let its = rw c.in-Err-Refused.field-0-is at c.in-Err-Refused.ensures.fault in
+    read_through _ _ _ _ _ _ _ _ (its.1.refused refl) its.1.rose (c.into_bus-in-Err-Refused.ensures.counted refl) refl
