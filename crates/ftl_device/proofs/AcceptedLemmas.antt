@@ -1,5 +1,5 @@
 -- A run that begins with an accepted certificate.
-use Rattle.std.proofs.Common.{◌≡◌, ℕ, ◌+◌, ◌<◌, Bool, not, List, [], ◌∷◌, ◌++◌, ◌&&◌, ◌||◌, None, sym, ap, subst, ◌∙◌, arith}
+use Rattle.std.proofs.Common.{◌≡◌, ◌↔◌, ℕ, ◌+◌, ◌<◌, min, true, Bool, not, List, [], ◌∷◌, ◌++◌, ◌&&◌, ◌||◌, inl, inr, None, Result, Ok, Err, sym, ap, subst, ◌∙◌, arith}
 use Rattle.std.specs.List.{list_all}
 use Rattle.page_layout.specs.declared.geometry.Geometry.{Geometry}
 use Rattle.page_layout.specs.Page.{Image}
@@ -10,7 +10,8 @@ use Rattle.certificate.specs.Claim.{Claim}
 use Rattle.image_check.specs.Accepted.{Acceptance}
 use Rattle.image_check.specs.Agrees.{Agrees}
 use Rattle.promises.specs.Log as logs
-use Rattle.promises.specs.Log.{programs_in, failed_in}
+use Rattle.promises.specs.Log.{programs_in, failed_in, IsShort}
+use Rattle.promises.specs.Step.{Command}
 use Rattle.promises.specs.Legal.{Account, accounts_of, LegalFrom}
 use Rattle.promises.specs.Run as runs
 use Rattle.promises.specs.Run.{Event, log_of}
@@ -21,11 +22,16 @@ use Rattle.collection.specs.Log.{IsAccounted}
 use Rattle.ftl_device.specs.declared.device.Device.{Device}
 use Rattle.ftl_device.specs.declared.fault.DeviceFault.{DeviceFault}
 use Rattle.ftl_device.specs.declared.fault.DeviceFault.TheVariants.{OutOfRange, ReadOnly, SequenceSpent, OutOfMemory, Damaged, BusFault}
-use Rattle.ftl_device.specs.Begin.{begun_ram, is_bad_in, free_in, is_scarce}
+use Rattle.ftl_device.specs.Begin.{begun_ram, is_bad_in, wear_in, free_in, is_scarce}
 use Rattle.ftl_device.specs.Device.{IsAcceptedFor}
 use Rattle.ftl_device.specs.Calls.{stop_of, IsWell}
-use Rattle.ftl_device.specs.Counts.{is_bad_by, IsShortIn, IsShown}
-use Rattle.ftl_device.specs.Run.{Exchange, die_in, First, first_of, AreFair, HasRun, Ran, accepted_device, RanFrom}
+use Rattle.ftl_device.specs.Counts.{is_bad_by, IsShortIn, IsShown, IsLeft}
+use Rattle.ftl_device.specs.Run.{Exchange, die_in, First, first_of, IsFlushedOut, AreFair, HasRun, Ran, accepted_device, RanFrom}
+use Rattle.bad_blocks.specs.Table.{wear_at, most_wear}
+use Rattle.allocation.specs.Begun.{begun}
+use Rattle.std.proofs.lemmas.Option.{slice_get_within}
+use Rattle.ftl_device.specs.Flush.{ShowsBad}
+use Rattle.ftl_device.proofs.WearLemmas.{begun_wear}
 use Rattle.ftl_device.proofs.BlockLemmas.{given, good_same, bad_same, count_same}
 
 -- a device as it was started knows its image
@@ -34,10 +40,10 @@ started_well flash d g c stale is truth = record { going = ap (λ (r : Ram). sto
 
 -- ---- the same bad blocks
 
-abbrev first_by : Geometry → (ℕ → Bool) → ℕ → ℕ → First
-first_by g bad capacity next = record { geometry = g; capacity = capacity; bad = bad; next = next }
+abbrev first_by : Geometry → (ℕ → Bool) → (ℕ → ℕ) → ℕ → ℕ → First
+first_by g bad wear capacity next = record { geometry = g; capacity = capacity; bad = bad; wear = wear; next = next }
 
-module _ (g : Geometry) (p q : ℕ → Bool) (same : (b : ℕ) → b < g.blocks → p b ≡ q b) where
+module _ (g : Geometry) (p q : ℕ → Bool) (u v : ℕ → ℕ) (same : (b : ℕ) → b < g.blocks → p b ≡ q b) (worn : (b : ℕ) → b < g.blocks → u b ≡ min (v b) most_wear) where
   good_so : (log : List Operation) (b : ℕ) → b < g.blocks → logs.good_of g.pages p log b ≡ logs.good_of g.pages q log b
   good_so log b lt = ap (λ x. not (x || failed_in g.pages log b)) (same b lt)
 
@@ -55,22 +61,45 @@ module _ (g : Geometry) (p q : ℕ → Bool) (same : (b : ℕ) → b < g.blocks 
     failed_is = short.failed_is;
   }
 
-  shown_as : (next : ℕ) (log call : List Operation) (image : Image) (fault : DeviceFault) → IsShown g p next log call image fault → IsShown g q next log call image fault
-  shown_as next log call image OutOfRange shown = tt
-  shown_as next log call image (ReadOnly good wanted failed) shown = short_as log call image good wanted failed shown
-  shown_as next log call image SequenceSpent shown = shown
-  shown_as next log call image OutOfMemory shown = tt
-  shown_as next log call image Damaged shown = shown
-  shown_as next log call image BusFault shown = shown
+  scarce_as : (before call : List Operation) (ro : Bool) → IsShort g p before call ro → IsShort g q before call ro
+  scarce_as before call ro (inl few) = inl (omega (arith, good_as (before ++ call)))
+  scarce_as before call ro (inr more) = inr more
 
-  fair_as : (capacity next : ℕ) (old : runs.Device) (before : List Operation) (events : List Event) (calls : List Exchange) → AreFair (first_by g p capacity next) old before events calls → AreFair (first_by g q capacity next) old before events calls
+  left_as : (command : Command) (before call : List Operation) (ro : Bool) (result : Result (Unit {0}) DeviceFault) → IsLeft command g p before call ro result → IsLeft command g q before call ro result
+  left_as command before call ro (Ok done) left = elim left [ inl short ↦ inl (scarce_as before call ro short) | inr flushes ↦ inr flushes ]
+  left_as command before call ro (Err OutOfRange) left = tt
+  left_as command before call ro (Err (ReadOnly good wanted failed)) left = tt
+  left_as command before call ro (Err SequenceSpent) left = tt
+  left_as command before call ro (Err OutOfMemory) left = scarce_as before call ro left
+  left_as command before call ro (Err Damaged) left = tt
+  left_as command before call ro (Err BusFault) left = tt
+
+  shown_as : (next : ℕ) (before call : List Operation) (ro : Bool) (image : Image) (fault : DeviceFault) → IsShown g p next before call ro image fault → IsShown g q next before call ro image fault
+  shown_as next before call ro image OutOfRange shown = tt
+  shown_as next before call ro image (ReadOnly good wanted failed) shown = (short_as (before ++ call) call image good wanted failed shown.0, scarce_as before call ro shown.1)
+  shown_as next before call ro image SequenceSpent shown = shown
+  shown_as next before call ro image OutOfMemory shown = tt
+  shown_as next before call ro image Damaged shown = shown
+  shown_as next before call ro image BusFault shown = shown
+
+  flushed_as : (capacity next : ℕ) (log : List Operation) (image : Image) → IsFlushedOut (first_by g p u capacity next) log image → IsFlushedOut (first_by g q v capacity next) log image
+  flushed_as capacity next log image f = record {
+    anywhere = f.anywhere;
+    fresh = f.fresh;
+    bad = λ b lt. subst (λ x. ShowsBad g image b ↔ ((x || failed_in g.pages log b) ≡ true)) (same b lt) (f.bad b lt);
+    wear = λ b lt. omega (arith, f.wear b lt, worn b lt);
+  }
+
+  fair_as : (capacity next : ℕ) (old : runs.Device) (before : List Operation) (events : List Event) (calls : List Exchange) → AreFair (first_by g p u capacity next) old before events calls → AreFair (first_by g q v capacity next) old before events calls
   fair_as capacity next old before [] [] fair = tt
   fair_as capacity next old before [] (c ∷ calls) fair = fair
   fair_as capacity next old before (e ∷ events) [] fair = fair
   fair_as capacity next old before (e ∷ events) (c ∷ calls) fair =
       let its = fair.0 in (
         record {
-          shown = λ fault is. shown_as next (before ++ e.piece) e.piece e.left.flash.image fault (its.shown fault is);
+          shown = λ fault is. shown_as next before e.piece old.ro e.left.flash.image fault (its.shown fault is);
+          left = λ on. left_as c.command before e.piece old.ro c.result (its.left on);
+          flushed = λ is done. flushed_as capacity next (before ++ e.piece) e.left.flash.image (its.flushed is done);
           stale = its.stale;
           mountable = its.mountable;
         },
@@ -83,6 +112,11 @@ bad_begun : (g : Geometry) (capacity : ℕ) (image : Image) (c : Claim) (stale :
 bad_begun g capacity image c stale agrees b lt =
     let here = given g capacity image c b agrees lt in
     ap not (good_same g image c b here) ∙ sym (bad_same g image c b here)
+
+wear_begun : (g : Geometry) (capacity : ℕ) (image : Image) (c : Claim) → Agrees g capacity image c → (b : ℕ) → b < g.blocks → wear_at (begun g c.blocks).table b ≡ min (wear_in c b) most_wear
+wear_begun g capacity image c agrees b lt =
+    let state = agrees.wear.state b lt in
+    begun_wear g c.blocks b (slice_get_within c.blocks b state.0 state.1)
 
 -- what a run from a memory says, with the accounts that its log began with
 record RanWith {N : Type 0} (flash : N → Flash) (r : Ram) (old : runs.Device) (accounts : List Account) (calls : List Exchange) (new : Device N) : Type 0 where
@@ -107,7 +141,7 @@ ran_accepted {N} flash s a d new calls die is accepted scarce accounts ran =
         commands = there.run.commands;
         replies = there.run.replies;
         run = there.run.run;
-        fair = fair_as s.geometry (is_bad_by (begun_ram s.geometry c a.stale)) (is_bad_in c) (bad_begun s.geometry c.capacity s.image c a.stale accepted.accepted.agrees) c.capacity c.next first [] there.run.events calls there.run.fair;
+        fair = fair_as s.geometry (is_bad_by (begun_ram s.geometry c a.stale)) (is_bad_in c) (wear_at (begun s.geometry c.blocks).table) (wear_in c) (bad_begun s.geometry c.capacity s.image c a.stale accepted.accepted.agrees) (wear_begun s.geometry c.capacity s.image c accepted.accepted.agrees) c.capacity c.next first [] there.run.events calls there.run.fair;
       };
       legal = there.legal;
       next = there.next;

@@ -1,5 +1,5 @@
 -- Free, good and failed blocks, counted by the image and the log.
-use Rattle.std.proofs.Common.{◌≡◌, ◌≢◌, ℕ, zero, suc, ◌+◌, ◌*◌, ◌<◌, ◌≤◌, Bool, true, false, not, ◌==◌, ◌&&◌, ◌||◌, List, [], ◌∷◌, slice_get, get_or, Option, Some, None, IsSome, Result, Ok, Err, refl, sym, ap, subst, ◌∙◌, inl, inr, arith}
+use Rattle.std.proofs.Common.{◌≡◌, ◌≢◌, ℕ, zero, suc, ◌+◌, ◌*◌, ◌<◌, ◌≤◌, Bool, true, false, not, ◌==◌, ◌&&◌, ◌||◌, ◌⊎◌, List, [], ◌∷◌, ◌++◌, slice_get, get_or, Option, Some, None, IsSome, Result, Ok, Err, refl, sym, ap, subst, ◌∙◌, inl, inr, arith}
 use Rattle.std.specs.Prelude.{count_by, IfErr}
 use Rattle.std.specs.List.{list_all, range_with_len}
 use Rattle.std.proofs.lemmas.Bool.{cases_Bool, cases_lt, ne_eqb, eq-eqb}
@@ -19,7 +19,8 @@ use Rattle.allocation.specs.State as blocks
 use Rattle.allocation.specs.State.{State, IsSafe, free_count, pointer_at}
 use Rattle.allocation.proofs.TallyLemmas.{good_by_number}
 use Rattle.promises.specs.Log as logs
-use Rattle.promises.specs.Log.{programs_in, bad_of, failed_in, failed_count}
+use Rattle.promises.specs.Log.{programs_in, bad_of, failed_in, failed_count, IsShort}
+use Rattle.promises.specs.Step.{Command}
 use Rattle.image_check.proofs.LookLemmas.{block_page, block_short}
 use Rattle.collection.specs.State.{Ram}
 use Rattle.collection.specs.Safe.{IsRam}
@@ -28,7 +29,8 @@ use Rattle.collection.specs.Log.{Follows}
 use Rattle.ftl_device.specs.declared.fault.DeviceFault.{DeviceFault}
 use Rattle.ftl_device.specs.declared.fault.DeviceFault.TheVariants.{OutOfRange, ReadOnly, SequenceSpent, OutOfMemory, Damaged, BusFault}
 use Rattle.ftl_device.specs.Calls.{IsShortOf, Says}
-use Rattle.ftl_device.specs.Counts.{is_bad_by, IsShortIn, IsShown, FreeNowLaw, GoodNowLaw, BadNowLaw, ShortLaw}
+use Rattle.ftl_device.specs.Shortage.{LacksGood}
+use Rattle.ftl_device.specs.Counts.{is_bad_by, IsShortIn, IsShown, IsLeft, FreeNowLaw, GoodNowLaw, BadNowLaw, ShortLaw}
 use Rattle.ftl_device.proofs.BlockLemmas.{count_same, page_there}
 use Rattle.ftl_device.proofs.AccountLemmas.{bad_after, failed_good}
 
@@ -125,7 +127,7 @@ split_bits false false true is never = (let no : true ≡ false = never refl in 
 split_bits false false false is never = refl
 
 -- the good blocks before a log are those after it and those that failed in it
-failed_counted : (old new : Ram) (log : List Operation) → IsRam old → IsRam new → new.geometry ≡ old.geometry → Follows old.geometry.pages log old.blocks new.blocks → good_count old.blocks.table ≡ good_count new.blocks.table + failed_count old.geometry log
+pub failed_counted : (old new : Ram) (log : List Operation) → IsRam old → IsRam new → new.geometry ≡ old.geometry → Follows old.geometry.pages log old.blocks new.blocks → good_count old.blocks.table ≡ good_count new.blocks.table + failed_count old.geometry log
 failed_counted old new log safe safe' same follows =
     let n : ℕ = old.geometry.blocks in
     let old_size = safe.blocks.table_whole ∙ ap (λ (g : Geometry). g.blocks) safe.blocks_of in
@@ -175,17 +177,53 @@ module _ (g : Geometry) (bad : ℕ → Bool) (log : List Operation) (new : Ram) 
         failed_is = omega (arith, short.failed_is, short.good_is, fails);
       }
 
-  -- so is each refusal of a call that changes sectors
-  pub shown_in : (old : Ram) (call : List Operation) (next : ℕ) (result : Result (Unit {0}) DeviceFault) → IsRam old → IsRam new → old.geometry ≡ g → Follows g.pages call old.blocks new.blocks → IsTrue None new image → new.next ≡ next + programs_in log
-      → IfErr result (Says old new) → NoDamage result → result ≢ Err BusFault → IfErr result (IsShown g bad next log call image)
-  shown_in old call next (Ok done) safe safe' was follows w spent says sound ne = tt
-  shown_in old call next (Err OutOfRange) safe safe' was follows w spent says sound ne = tt
-  shown_in old call next (Err (ReadOnly good wanted failed)) safe safe' was follows w spent says sound ne = short_in old call good wanted failed safe safe' was follows w says
-  shown_in old call next (Err SequenceSpent) safe safe' was follows w spent says sound ne = sym spent ∙ says
-  shown_in old call next (Err OutOfMemory) safe safe' was follows w spent says sound ne = tt
-  shown_in old call next (Err Damaged) safe safe' was follows w spent says sound ne = sound
-  shown_in old call next (Err BusFault) safe safe' was follows w spent says sound ne = ne refl
+  -- fewer good blocks than are asked for, or three that failed
+  pub lacks_in : (old : Ram) (call : List Operation) → IsRam old → IsRam new → old.geometry ≡ g → Follows g.pages call old.blocks new.blocks → LacksGood old new → (logs.good_count g bad log < need g) ⊎ (2 < failed_count g call)
+  lacks_in old call safe safe' was follows lacks =
+      let many : good_count new.blocks.table ≡ logs.good_count g bad log = subst (λ (h : Geometry). good_count new.blocks.table ≡ logs.good_count h (is_bad_by new) []) same (good_now_law new safe') ∙ good_of_log in
+      let fails : good_count old.blocks.table ≡ good_count new.blocks.table + failed_count g call =
+      subst (λ (h : Geometry). good_count old.blocks.table ≡ good_count new.blocks.table + failed_count h call) was (failed_counted old new call safe safe' (same ∙ sym was) (subst (λ (h : Geometry). Follows h.pages call old.blocks new.blocks) (sym was) follows)) in
+      let needed : need old.geometry ≡ need g = ap need was in
+      elim lacks [ inl few ↦ inl (omega arith) | inr three ↦ inr (omega arith) ]
 
 pub short_law : ShortLaw
 short_law old new log image good wanted failed safe safe' same follows w short =
     short_in old.geometry (is_bad_by old) log new image same (λ b lt. bad_now_law old new log b safe.blocks_of follows lt) old log good wanted failed safe safe' refl follows w short
+
+-- ---- a shortage, before other logs
+
+module _ (old new : Ram) (call : List Operation) (safe : IsRam old) (safe' : IsRam new) (sized : new.geometry ≡ old.geometry) (follows : Follows old.geometry.pages call old.blocks new.blocks) where
+  bads : (b : ℕ) → b < old.geometry.blocks → is_bad_by new b ≡ bad_of old.geometry.pages (is_bad_by old) call b
+  bads b lt = bad_now_law old new call b safe.blocks_of follows lt
+
+  -- of the call alone
+  pub lacks_short : (ro : Bool) → LacksGood old new → IsShort old.geometry (is_bad_by old) [] call ro
+  lacks_short ro lacks = elim (lacks_in old.geometry (is_bad_by old) call new [] sized bads old call safe safe' refl follows lacks) [ inl few ↦ inl few | inr three ↦ inr (inl three) ]
+
+  module _ (bad : ℕ → Bool) (before : List Operation) (also : (b : ℕ) → b < old.geometry.blocks → is_bad_by new b ≡ bad_of old.geometry.pages bad (before ++ call) b) where
+    pub short_on : (ro : Bool) → IsShort old.geometry (is_bad_by old) [] call ro → IsShort old.geometry bad before call ro
+    short_on ro (inl few) =
+        let here : logs.good_count old.geometry (is_bad_by new) [] ≡ logs.good_count old.geometry (is_bad_by old) call = good_of_log old.geometry (is_bad_by old) call new [] sized bads in
+        let there : logs.good_count old.geometry (is_bad_by new) [] ≡ logs.good_count old.geometry bad (before ++ call) = good_of_log old.geometry bad (before ++ call) new [] sized also in
+        inl (omega (arith, here, there))
+    short_on ro (inr more) = inr more
+
+    -- so is each refusal of a call that changes sectors
+    pub shown_on : (next : ℕ) (ro : Bool) (image : Image) (result : Result (Unit {0}) DeviceFault) → IsTrue None new image → new.next ≡ next + programs_in (before ++ call)
+        → IfErr result (Says old new) → IfErr result (IsShown old.geometry (is_bad_by old) old.next [] call ro image) → NoDamage result → result ≢ Err BusFault → IfErr result (IsShown old.geometry bad next before call ro image)
+    shown_on next ro image (Ok done) w spent says shown sound ne = tt
+    shown_on next ro image (Err OutOfRange) w spent says shown sound ne = tt
+    shown_on next ro image (Err (ReadOnly good wanted failed)) w spent says shown sound ne = (short_in old.geometry bad (before ++ call) new image sized also old call good wanted failed safe safe' refl follows w says, short_on ro shown.1)
+    shown_on next ro image (Err SequenceSpent) w spent says shown sound ne = sym spent ∙ says
+    shown_on next ro image (Err OutOfMemory) w spent says shown sound ne = tt
+    shown_on next ro image (Err Damaged) w spent says shown sound ne = sound
+    shown_on next ro image (Err BusFault) w spent says shown sound ne = ne refl
+
+    pub left_on : (command : Command) (ro : Bool) (result : Result (Unit {0}) DeviceFault) → IsLeft command old.geometry (is_bad_by old) [] call ro result → IsLeft command old.geometry bad before call ro result
+    left_on command ro (Ok done) left = elim left [ inl short ↦ inl (short_on ro short) | inr flushes ↦ inr flushes ]
+    left_on command ro (Err OutOfRange) left = tt
+    left_on command ro (Err (ReadOnly good wanted failed)) left = tt
+    left_on command ro (Err SequenceSpent) left = tt
+    left_on command ro (Err OutOfMemory) left = short_on ro left
+    left_on command ro (Err Damaged) left = tt
+    left_on command ro (Err BusFault) left = tt

@@ -1,11 +1,12 @@
 -- What is true after a flush.
-use Rattle.std.proofs.Common.{◌≡◌, ◌≢◌, ◌↔◌, ℕ, ◌<◌, ◌≤◌, Bool, true, [], length, None, Result, Ok, Err, MatchResult, refl, sym, ap, subst, ◌∙◌, arith}
+use Rattle.std.proofs.Common.{◌≡◌, ◌≢◌, ◌↔◌, ℕ, ◌+◌, ◌<◌, ◌≤◌, min, Bool, true, List, [], inr, None, Result, Ok, Err, MatchResult, refl, sym, ap, subst, ◌∙◌}
 use Rattle.std.specs.Prelude.{OnOk, IfErr}
 use Rattle.page_layout.specs.declared.geometry.Geometry.{Geometry}
 use Rattle.page_layout.specs.Page.{Image}
-use Rattle.page_layout.specs.Flash.{Flash}
-use Rattle.bad_blocks.specs.Table.{good_count, wear_at}
-use Rattle.promises.specs.Log.{bad_of}
+use Rattle.page_layout.specs.Flash.{Flash, Operation}
+use Rattle.bad_blocks.specs.Table.{good_count, wear_at, most_wear}
+use Rattle.promises.specs.Log.{bad_of, passed_erases_of}
+use Rattle.promises.specs.Step.{Command}
 use Rattle.image_check.specs.Blocks.{erase_count}
 use Rattle.image_check.specs.Stale.{stale_sectors}
 use Rattle.image_check.specs.Mountable.{IsMountable}
@@ -14,11 +15,14 @@ use Rattle.collection.specs.State.{Ram}
 use Rattle.collection.specs.Safe.{IsRam, ram, image_in}
 use Rattle.collection.specs.Truth.{IsTrue}
 use Rattle.collection.specs.Log.{Went}
+use Rattle.collection.specs.declared.fault.WriteFault.TheVariants as engine_fault
 use Rattle.ftl_device.specs.declared.fault.CallFault.{CallFault}
+use Rattle.ftl_device.specs.declared.fault.CallFault.TheVariants as call
 use Rattle.ftl_device.specs.declared.fault.DeviceFault.{DeviceFault}
 use Rattle.ftl_device.specs.declared.fault.DeviceFault.TheVariants.{OutOfRange, ReadOnly, SequenceSpent, OutOfMemory, Damaged, BusFault}
 use Rattle.ftl_device.specs.Calls.{stop_of, KeepsArray, CallRefused, CallTells, standing_after, answer_of}
-use Rattle.ftl_device.specs.Counts.{is_bad_by, IsShown}
+use Rattle.ftl_device.specs.Counts.{is_bad_by, IsShown, IsLeft}
+use Rattle.ftl_device.specs.Shortage.{CallShort, FlushShort}
 use Rattle.ftl_device.specs.Flush.{IsFlushed, MayNotFlush, ShowsBad}
 use Rattle.ftl_device.proofs.CallLemmas.{well_ram}
 use Rattle.ftl_device.proofs.CountLemmas.{short_law, bad_now_law}
@@ -29,20 +33,37 @@ pub flush_well : (answer : Result (Unit {0}) CallFault) (result : Result (Unit {
 flush_well (Ok done) result good g before after r q fault is ne h = (ap stop_of fault, h.truth)
 flush_well (Err f) result good g before after r q fault is ne h = well_ram (Err f) result good 0 [] g before after r q fault is ne h
 
-pub flush_shown : {N : Type 0} (flash : N → Flash) (old e last : Engine N) (w : Went (ram old) (flash old.nand) (ram last) (flash last.nand)) (answer : Result (Unit {0}) CallFault) (result : Result (Unit {0}) DeviceFault) (good : ℕ) → last ≡ e → IsRam (ram old) → IsRam (ram e) → e.geometry ≡ old.geometry → good ≡ good_count (ram old).blocks.table
-    → result ≡ answer_of (ram last) good answer → CallTells (ram old) (ram e) answer → MatchResult answer (λ _. KeepsArray old.geometry (image_in flash old) (ram e) (image_in flash e)) (CallRefused old.geometry (image_in flash old) (ram e) (image_in flash e))
-    → result ≢ Err BusFault → IfErr result (IsShown old.geometry (is_bad_by (ram old)) old.next w.log w.log (image_in flash last))
-flush_shown flash old e last w (Ok done) result good same safe safe' sized many is tells so ne = subst (λ y. IfErr y (IsShown old.geometry (is_bad_by (ram old)) old.next w.log w.log (image_in flash last))) (sym is) tt
-flush_shown flash old e last w (Err f) result good same safe safe' sized many is tells so ne = shown_after flash old e last w 0 [] (Err f) result good same safe safe' sized many is tells so ne
+pub flush_shown : {N : Type 0} (flash : N → Flash) (old e last : Engine N) (w : Went (ram old) (flash old.nand) (ram last) (flash last.nand)) (ro : Bool) (answer : Result (Unit {0}) CallFault) (result : Result (Unit {0}) DeviceFault) (good : ℕ) → last ≡ e → IsRam (ram old) → IsRam (ram e) → e.geometry ≡ old.geometry → good ≡ good_count (ram old).blocks.table
+    → result ≡ answer_of (ram last) good answer → CallTells (ram old) (ram e) answer → ((fault : CallFault) → answer ≡ Err fault → CallShort (ram old) (ram e) answer) → MatchResult answer (λ _. KeepsArray old.geometry (image_in flash old) (ram e) (image_in flash e)) (CallRefused old.geometry (image_in flash old) (ram e) (image_in flash e))
+    → result ≢ Err BusFault → IfErr result (IsShown old.geometry (is_bad_by (ram old)) old.next [] w.log ro (image_in flash last))
+flush_shown flash old e last w ro (Ok done) result good same safe safe' sized many is tells lacks so ne = subst (λ y. IfErr y (IsShown old.geometry (is_bad_by (ram old)) old.next [] w.log ro (image_in flash last))) (sym is) tt
+flush_shown flash old e last w ro (Err f) result good same safe safe' sized many is tells lacks so ne = shown_after flash old e last w 0 [] ro (Err f) result good same safe safe' sized many is tells (lacks f refl) so ne
 
 -- where it was not to begin
-pub flush_refused : (r : Ram) (s : Flash) (w : Went r s r s) (ro : Bool) (fault : DeviceFault) → IsRam r → IsTrue None r s.image → stop_of r.fault ≡ None → MayNotFlush r ro fault → IsShown r.geometry (is_bad_by r) r.next w.log w.log s.image fault
+pub flush_refused : (r : Ram) (s : Flash) (w : Went r s r s) (ro : Bool) (fault : DeviceFault) → IsRam r → IsTrue None r s.image → stop_of r.fault ≡ None → MayNotFlush r ro fault → IsShown r.geometry (is_bad_by r) r.next [] w.log ro s.image fault
 flush_refused r s w ro OutOfRange safe truth going not = tt
-flush_refused r s w ro (ReadOnly good wanted failed) safe truth going not = short_law r r w.log s.image good wanted failed safe safe refl w.follows truth not.short
+flush_refused r s w ro (ReadOnly good wanted failed) safe truth going not = (short_law r r w.log s.image good wanted failed safe safe refl w.follows truth not.short, inr (inr not.closed))
 flush_refused r s w ro SequenceSpent safe truth going not = sym w.next ∙ not.last
 flush_refused r s w ro OutOfMemory safe truth going not = tt
 flush_refused r s w ro Damaged safe truth going not = (let no : ⊥ = cc in no)
 flush_refused r s w ro BusFault safe truth going not = (let no : ⊥ = cc in no)
+
+pub flush_left_refused : (command : Command) (r : Ram) (log : List Operation) (ro : Bool) (fault : DeviceFault) → MayNotFlush r ro fault → IsLeft command r.geometry (is_bad_by r) [] log ro (Err fault)
+flush_left_refused command r log ro OutOfRange not = absurd not
+flush_left_refused command r log ro (ReadOnly good wanted failed) not = tt
+flush_left_refused command r log ro SequenceSpent not = tt
+flush_left_refused command r log ro OutOfMemory not = absurd not
+flush_left_refused command r log ro Damaged not = tt
+flush_left_refused command r log ro BusFault not = tt
+
+-- what a refused flush lacks
+pub flush_lacks : (answer : Result (Unit {0}) CallFault) (a b : Ram) → FlushShort a b answer → (fault : CallFault) → answer ≡ Err fault → CallShort a b answer
+flush_lacks (Ok done) a b h fault is = (let no : ⊥ = cc in absurd no)
+flush_lacks (Err (call.Engine engine_fault.ReadOnly)) a b h fault is = h
+flush_lacks (Err (call.Engine engine_fault.SequenceSpent)) a b h fault is = tt
+flush_lacks (Err (call.Engine engine_fault.Damaged)) a b h fault is = tt
+flush_lacks (Err (call.Engine engine_fault.Bus)) a b h fault is = tt
+flush_lacks (Err call.OutOfMemory) a b h fault is = absurd h
 
 -- ---- where it was done
 
@@ -57,8 +78,10 @@ goes_anywhere g r image same s w f = λ capacity least most. subst (λ x. IsMoun
 pub is_fresh : (g : Geometry) (r : Ram) (image : Image) → r.geometry ≡ g → IsTrue None r image → IsFlushed r image → stale_sectors g image ≡ []
 is_fresh g r image same w f = subst (λ x. stale_sectors x image ≡ []) same (fresh_law r image w f)
 
-pub shows_wear : (g : Geometry) (r : Ram) (image : Image) → r.geometry ≡ g → IsRam r → IsTrue None r image → IsFlushed r image → (b : ℕ) → b < g.blocks → erase_count g image b ≡ wear_at r.blocks.table b
-shows_wear g r image same s w f = subst (λ (x : Geometry). (b : ℕ) → b < x.blocks → erase_count x image b ≡ wear_at r.blocks.table b) same (λ b lt. shown_wear_law r image b s w f lt)
+pub shows_wear : (old r : Ram) (s t : Flash) → r.geometry ≡ old.geometry → IsTrue None old s.image → IsRam r → IsTrue None r t.image → IsFlushed r t.image → (w : Went old s r t) (b : ℕ) → b < old.geometry.blocks → erase_count old.geometry t.image b ≡ min (wear_at old.blocks.table b + passed_erases_of w.log b) most_wear
+shows_wear old r s t same before safe truth f w b lt =
+    let here = subst (λ (x : Geometry). (k : ℕ) → k < x.blocks → erase_count x t.image k ≡ wear_at r.blocks.table k) same (λ k few. shown_wear_law r t.image k safe truth f few) in
+    here b lt ∙ w.wears.worn b (before.worn.most b)
 
 pub shows_bad : (old r : Ram) (s t : Flash) → r.geometry ≡ old.geometry → IsRam old → IsRam r → IsTrue None r t.image → IsFlushed r t.image → (w : Went old s r t) (b : ℕ) → b < old.geometry.blocks → ShowsBad old.geometry t.image b ↔ (bad_of old.geometry.pages (is_bad_by old) w.log b ≡ true)
 shows_bad old r s t same before safe truth f w b lt =

@@ -1,5 +1,5 @@
 -- What the steps of a flush keep, one after another.
-use Rattle.std.proofs.Common.{◌≡◌, inl, inr, ℕ, ◌+◌, ◌*◌, ◌/◌, ◌<◌, ◌≤◌, None, refl, sym, ap, subst, ◌∙◌, arith, Result, Err, Ok, OnOk, Option, Some}
+use Rattle.std.proofs.Common.{◌≡◌, inl, inr, ℕ, ◌+◌, ◌*◌, ◌/◌, ◌<◌, ◌≤◌, None, refl, sym, ap, subst, ◌∙◌, arith, Result, Err, Ok, OnOk}
 use Rattle.std.proofs.lemmas.Bool.{cases_eq}
 use Rattle.page_layout.specs.declared.geometry.Geometry.{Geometry}
 use Rattle.page_layout.specs.Page.{Image}
@@ -171,7 +171,7 @@ fails_by b c Bus h e = (let no : ⊥ = cc in absurd no)
 pub page_fails : (k most : ℕ) (a b c : Ram) (fault : WriteFault) → b.geometry ≡ a.geometry → k < most → KeepsTable a.blocks b.blocks → AddsPages k a b → PageCosts Meta b c (Err fault) → refused fault ≡ refused ReadOnly → FailsAmong most a c
 page_fails k most a b c fault same lt table used cost is = record { mid = b; geometry = same; pages = k; few = omega arith; fewer = table.fewer; used = used; out = fails_by b c fault cost is }
 
-free_most : (failures free left : ℕ) → NoneFree failures free left → free ≤ failures
+pub free_most : (failures free left : ℕ) → NoneFree failures free left → free ≤ failures
 free_most failures free left n = elim n.cases [ inl c ↦ omega (arith, c.1) | inr c ↦ omega (arith, c.1) ]
 
 -- in the first round

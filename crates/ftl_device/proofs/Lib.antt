@@ -22,3 +22,4 @@ pub mod LoopLemmas
 pub mod AcceptedLemmas
 pub mod RoomLemmas
 pub mod PrepareLemmas
+pub mod SpentLemmas

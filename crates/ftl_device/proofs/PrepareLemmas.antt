@@ -7,14 +7,17 @@ use Rattle.page_layout.specs.Flash.{Flash}
 use Rattle.bad_blocks.specs.Table.{good_count}
 use Rattle.collection.specs.declared.fault.WriteFault.{WriteFault}
 use Rattle.collection.specs.declared.fault.WriteFault.TheVariants.{ReadOnly, SequenceSpent, Damaged, Bus}
+use Rattle.mapping_cache.specs.declared.slot.Slot.{Slot}
+use Rattle.mapping_cache.specs.Mapping.{MappingState, HasLimitsOf, slot_of, loaded, loaded_by}
+use Rattle.collection.specs.declared.engine.Engine.{Engine}
 use Rattle.collection.specs.State.{Ram}
-use Rattle.collection.specs.Safe.{IsIdle}
+use Rattle.collection.specs.Safe.{IsIdle, ram, image_in}
 use Rattle.collection.specs.Truth.{IsTrue}
 use Rattle.collection.specs.Log.{Went}
 use Rattle.collection.specs.Looks.{IsReadFault}
 use Rattle.collection.specs.Settle.{HasNoMore}
 use Rattle.collection.specs.Pages.{newest_row}
-use Rattle.ftl_device.specs.declared.fault.CallFault.TheVariants.{Engine}
+use Rattle.ftl_device.specs.declared.fault.CallFault.TheVariants.{Engine as EngineFault}
 use Rattle.ftl_device.specs.Calls.{Tells, KeepsArray, IsFound, CallRefused, HasMadeRoom}
 use Rattle.ftl_device.proofs.RoomLemmas.{idle_kept, idle_found}
 
@@ -49,7 +52,7 @@ module _ (c d : Ram) (fault : Option WriteFault) (is : d ≡ record c { fault = 
 
   pub found_after : (result : Result (Option ℕ) WriteFault) (n : ℕ) (g : Geometry) (x : Image) (t u : Flash) → KeepsArray g x c t.image → (result ≢ Err Bus → u ≡ t)
       → MatchResult result (λ row. row ≡ newest_row t.image (Sector n)) (λ f. f ≡ Bus)
-      → MatchResult result (λ row. IsFound n row g x d u.image) (λ f. CallRefused g x d u.image (Engine f))
+      → MatchResult result (λ row. IsFound n row g x d u.image) (λ f. CallRefused g x d u.image (EngineFault f))
   found_after (Ok row) n g x t u keeps same row_is =
       let unread : u ≡ t = same (λ e. (let no : ⊥ = cc in no)) in
       subst (λ (s : Flash). IsFound n row g x d s.image) (sym unread) (record { keeps = record { truth = truth_found t.image keeps.truth; array = keeps.array }; row_is = row_is })
@@ -61,3 +64,29 @@ module _ (c d : Ram) (fault : Option WriteFault) (is : d ≡ record c { fault = 
   pub idle_after : (result : Result (Option ℕ) WriteFault) (a b : Ram) → HasMadeRoom a b → c.geometry ≡ b.geometry → HasNoMore b.mapping c.mapping → c.pin ≡ b.pin → OnOk result (IsIdle d)
   idle_after (Ok row) a b room same no_more pin = idle_found c d fault is (idle_kept b c same no_more pin room.idle)
   idle_after (Err f) a b room same no_more pin = tt
+
+-- ---- the entry is cached last
+
+loaded_limits : (m : MappingState) (n : ℕ) (row : Option ℕ) → HasLimitsOf m (loaded m n row)
+loaded_limits m n row = by (slot_of m n)
+  where
+    by : (slot : Option Slot) → HasLimitsOf m (loaded_by slot m n row)
+    by (Some s) = record { geometry = refl; capacity = refl }
+    by None = record { geometry = refl; capacity = refl }
+
+module _ {N : Type 0} (e f : Engine N) (n : ℕ) (row : Option ℕ) (is : f ≡ record e { mapping = loaded e.mapping n row }) where
+  pub limits_loaded : (m : MappingState) → HasLimitsOf m e.mapping → HasLimitsOf m f.mapping
+  limits_loaded m l =
+      let P : Engine N → Type 0 = λ x. HasLimitsOf m x.mapping in
+      let here = loaded_limits e.mapping n row in
+      subst P (sym is) (record { geometry = here.geometry ∙ l.geometry; capacity = here.capacity ∙ l.capacity })
+
+  pub went_loaded : (flash : N → Flash) (a : Ram) (s : Flash) → Went a s (ram e) (flash e.nand) → Went a s (ram f) (flash f.nand)
+  went_loaded flash a s w =
+      let P : Engine N → Type 0 = λ x. Went a s (ram x) (flash x.nand) in
+      subst P (sym is) (record { log = w.log; leads = w.leads; follows = w.follows; next = w.next; wears = w.wears })
+
+  pub keeps_loaded : (flash : N → Flash) (g : Geometry) (before : Image) → KeepsArray g before (ram e) (image_in flash e) → IsTrue None (ram f) (image_in flash e) → KeepsArray g before (ram f) (image_in flash f)
+  keeps_loaded flash g before kept truth =
+      let same : image_in flash f ≡ image_in flash e = ap (λ (x : Engine N). image_in flash x) is in
+      subst (λ i. KeepsArray g before (ram f) i) (sym same) (record { truth = truth; array = kept.array })

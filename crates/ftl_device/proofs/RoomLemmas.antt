@@ -1,30 +1,26 @@
 -- What making room leaves, and what no call moves.
-use Rattle.std.proofs.Common.{◌≡◌, ◌≢◌, ℕ, zero, suc, ◌+◌, ◌/◌, ◌<◌, ◌≤◌, ◌∙◌, inl, inr, Bool, true, false, not, ◌||◌, cond, List, [], ◌∷◌, length, get_or, replicate, count_by, Option, Some, None, Result, Ok, Err, OnOk, IfErr, MatchResult, refl, sym, ap, subst, arith}
-use Rattle.std.specs.Map.{keys_of}
+use Rattle.std.proofs.Common.{◌≡◌, ◌≢◌, ℕ, zero, suc, ◌+◌, ◌/◌, ◌<◌, ◌≤◌, ◌∙◌, inl, inr, Bool, true, false, not, ◌||◌, cond, List, [], ◌∷◌, length, get_or, replicate, Option, Some, None, Result, Ok, Err, OnOk, IfErr, refl, sym, ap, subst, arith}
 use Rattle.std.proofs.lemmas.List.{get_or-replicate}
 use Rattle.std.proofs.lemmas.List.Sums.{sum_by-cons}
 use Rattle.page_layout.specs.declared.geometry.Geometry.{Geometry}
 use Rattle.page_layout.specs.Page.{Image}
 use Rattle.page_layout.specs.Geometry.{entries, translation_pages}
-use Rattle.page_layout.specs.Array.{array_of}
 use Rattle.bad_blocks.specs.declared.table.TableRow.{TableRow}
-use Rattle.bad_blocks.specs.Table.{is_good, is_good_at, good_count, no_table_row}
-use Rattle.allocation.specs.State.{State, free_count, live_at, is_closed}
-use Rattle.mapping_cache.specs.Mapping.{MappingState, HasLimitsOf, CanLoad, per_page, pending, loaded}
+use Rattle.bad_blocks.specs.Table.{is_good, is_good_at, good_count}
+use Rattle.allocation.specs.State.{State, live_at, is_closed}
+use Rattle.mapping_cache.specs.Mapping.{per_page, loaded}
 use Rattle.collection.specs.declared.engine.Engine.{Engine}
 use Rattle.collection.specs.declared.fault.WriteFault.{WriteFault}
 use Rattle.collection.specs.declared.fault.WriteFault.TheVariants.{ReadOnly, SequenceSpent, Damaged, Bus}
 use Rattle.collection.specs.State.{Ram, Pin}
 use Rattle.collection.specs.Safe.{IsRam, IsIdle, is_shut, ram}
-use Rattle.collection.specs.Truth.{IsTrue}
 use Rattle.collection.specs.Settle.{HasNoMore}
-use Rattle.collection.specs.Results.{Goes, IsSame, Refused, fault_after}
-use Rattle.collection.specs.Collect.{GoesOn, KeepsKeys, Refreshes, IsFresh, IsUpToDate, HasRoom, RoomTells, RestsOrErases, IsRearranged, RoomRefused, IsAiling, HasAiling, HasNoneAiling, RescueCosts, IsRescued}
+use Rattle.collection.specs.Results.{Goes, fault_after}
+use Rattle.collection.specs.Collect.{GoesOn, KeepsKeys, Refreshes, IsUpToDate, HasRoom, RoomTells, RestsOrErases, IsRearranged, RoomRefused, IsAiling, HasAiling, HasNoneAiling, RescueCosts, IsRescued}
 use Rattle.ftl_device.specs.declared.fault.CallFault.{CallFault}
-use Rattle.ftl_device.specs.declared.fault.CallFault.TheVariants as call
 use Rattle.ftl_device.specs.declared.fault.CallFault.TheVariants.{Engine as EngineFault}
-use Rattle.ftl_device.specs.Calls.{Tells, CallTells, KeepsArray, CallRefused, HasMadeRoom, HasRescued, HasRested, HasWorked, standing_after}
-use Rattle.ftl_device.specs.Flush.{IsClean, KeepsClean}
+use Rattle.ftl_device.specs.Calls.{Tells, CallTells, KeepsArray, CallRefused, HasMadeRoom, HasRescued, HasRested, HasWorked}
+use Rattle.ftl_device.specs.Flush.{KeepsClean}
 use Rattle.ftl_device.proofs.ReadLemmas.{loaded_moves_none}
 
 -- ---- good blocks
@@ -133,7 +129,7 @@ when_done P (Err f) fault is h none = (let no : Some f ≡ None = sym is ∙ non
 
 -- ---- a turn
 
-goes_on : (b c : Ram) → IsRam b → Goes b c → GoesOn b c
+pub goes_on : (b c : Ram) → IsRam b → Goes b c → GoesOn b c
 goes_on b c s x = record { geometry = x.geometry; next = x.next; bad = λ k within bad. x.shut k within (shut_bad b.blocks k bad) }
   where
     shut_bad : (t : State) (k : ℕ) → is_good_at t.table k ≡ false → is_shut t k ≡ true

@@ -1,18 +1,20 @@
 -- A run goes on by one call.
-use Rattle.std.proofs.Common.{◌≡◌, ◌≢◌, ℕ, ◌+◌, ◌<◌, Bool, true, List, [], ◌∷◌, ◌++◌, map, Option, Some, Result, Ok, Err, refl, sym, ap, subst, ◌∙◌, arith, append_assoc}
-use Rattle.std.specs.Prelude.{IfErr}
+use Rattle.std.proofs.Common.{◌≡◌, ◌≢◌, ◌↔◌, ℕ, ◌+◌, ◌<◌, ◌≤◌, min, inl, inr, Bool, true, List, [], ◌∷◌, ◌++◌, Result, Ok, Err, refl, sym, ap, subst, ◌∙◌, arith, append_assoc}
+use Rattle.std.specs.Prelude.{IfErr, OnOk}
 use Rattle.std.proofs.lemmas.List.{map-append, append-nil}
 use Rattle.page_layout.specs.declared.geometry.Geometry.{Geometry}
 use Rattle.page_layout.specs.Page.{Image, Page}
 use Rattle.page_layout.specs.Flash.{Flash, Operation}
 use Rattle.page_layout.specs.Array.{array_of}
-use Rattle.bad_blocks.specs.Table.{wear_at}
+use Rattle.bad_blocks.specs.Table.{wear_at, most_wear}
 use Rattle.allocation.specs.State.{State}
 use Rattle.mapping_cache.specs.Mapping.{HasLimitsOf}
-use Rattle.image_check.specs.Stale.{is_stale}
+use Rattle.image_check.specs.Stale.{stale_sectors}
+use Rattle.image_check.specs.Blocks.{erase_count}
+use Rattle.image_check.specs.Mountable.{IsMountable}
 use Rattle.promises.specs.Step as step
 use Rattle.promises.specs.Step.{Reply, ArrayStep, WriteStep, ReadStep, QuietStep}
-use Rattle.promises.specs.Log.{programs_in, bad_of}
+use Rattle.promises.specs.Log.{programs_in, bad_of, passed_erases_of}
 use Rattle.promises.specs.Legal.{accounted_all}
 use Rattle.promises.specs.Run as runs
 use Rattle.promises.specs.Run.{Event, Run, Happens, state_of, commands_of, replies_of, log_of, last_of}
@@ -21,15 +23,16 @@ use Rattle.promises.proofs.LegalLemmas.{accounts_join, legal_append}
 use Rattle.promises.proofs.RunLemmas.{one_more_event, last, logs}
 use Rattle.collection.specs.State.{Ram}
 use Rattle.collection.specs.Safe.{IsRam, ram, image_in}
-use Rattle.collection.specs.Log.{IsAccounted, Follows, Went}
+use Rattle.collection.specs.Log.{IsAccounted, Follows, Wears, Went}
 use Rattle.ftl_device.specs.declared.device.Device.{Device}
 use Rattle.ftl_device.specs.declared.fault.DeviceFault.{DeviceFault}
 use Rattle.ftl_device.specs.declared.fault.DeviceFault.TheVariants.{OutOfRange, ReadOnly, SequenceSpent, OutOfMemory, Damaged, BusFault}
 use Rattle.ftl_device.specs.Calls.{IsWell, Says, state_in, reply_of, read_reply_of}
-use Rattle.ftl_device.specs.Counts.{is_bad_by, IsShown}
+use Rattle.ftl_device.specs.Counts.{is_bad_by, is_flush, IsShown, IsLeft}
 use Rattle.ftl_device.specs.Read.{LeavesRead, IsReadRefusal}
-use Rattle.ftl_device.specs.Run.{answer_to, reply_in, Exchange, needs_no_memory, die_in, First, first_of, IsFair, AreFair, HasRun, Ran, Happened}
-use Rattle.ftl_device.proofs.CountLemmas.{NoDamage, shown_in, bad_now_law}
+use Rattle.ftl_device.specs.Run.{answer_to, reply_in, Exchange, needs_no_memory, die_in, First, first_of, IsFlushedOut, IsFair, AreFair, HasRun, Ran, Happened}
+use Rattle.ftl_device.specs.Flush.{ShowsBad}
+use Rattle.ftl_device.proofs.CountLemmas.{NoDamage, shown_on, left_on, bad_now_law}
 use Rattle.ftl_device.proofs.CallLemmas.{mountable_after}
 
 -- ---- one call
@@ -63,14 +66,23 @@ went_none old new s t same kept = record {
   wears = record { worn = λ b most. (let e : wear_at new.blocks.table b ≡ wear_at old.blocks.table b = ap (λ (x : Ram). wear_at x.blocks.table b) same in omega arith) };
 }
 
-read_shown : (g : Geometry) (bad : ℕ → Bool) (next : ℕ) (log call : List Operation) (image : Image) (n : ℕ) (bytes : List ℕ) (s t : step.State) (result : Result (Unit {0}) DeviceFault) → IfErr result IsReadRefusal → ReadStep g s n (read_reply_of bytes result) t → result ≢ Err BusFault → IfErr result (IsShown g bad next log call image)
-read_shown g bad next log call image n bytes s t (Ok done) of_read is ne = tt
-read_shown g bad next log call image n bytes s t (Err OutOfRange) of_read is ne = tt
-read_shown g bad next log call image n bytes s t (Err (ReadOnly good wanted failed)) of_read is ne = absurd of_read
-read_shown g bad next log call image n bytes s t (Err SequenceSpent) of_read is ne = absurd of_read
-read_shown g bad next log call image n bytes s t (Err OutOfMemory) of_read is ne = tt
-read_shown g bad next log call image n bytes s t (Err Damaged) of_read is ne = is
-read_shown g bad next log call image n bytes s t (Err BusFault) of_read is ne = ne refl
+read_shown : (g : Geometry) (bad : ℕ → Bool) (next : ℕ) (before call : List Operation) (ro : Bool) (image : Image) (n : ℕ) (bytes : List ℕ) (s t : step.State) (result : Result (Unit {0}) DeviceFault) → IfErr result IsReadRefusal → ReadStep g s n (read_reply_of bytes result) t → result ≢ Err BusFault → IfErr result (IsShown g bad next before call ro image)
+read_shown g bad next before call ro image n bytes s t (Ok done) of_read is ne = tt
+read_shown g bad next before call ro image n bytes s t (Err OutOfRange) of_read is ne = tt
+read_shown g bad next before call ro image n bytes s t (Err (ReadOnly good wanted failed)) of_read is ne = absurd of_read
+read_shown g bad next before call ro image n bytes s t (Err SequenceSpent) of_read is ne = absurd of_read
+read_shown g bad next before call ro image n bytes s t (Err OutOfMemory) of_read is ne = tt
+read_shown g bad next before call ro image n bytes s t (Err Damaged) of_read is ne = is
+read_shown g bad next before call ro image n bytes s t (Err BusFault) of_read is ne = ne refl
+
+read_left : (g : Geometry) (bad : ℕ → Bool) (before call : List Operation) (ro : Bool) (n : ℕ) (result : Result (Unit {0}) DeviceFault) → ro ≡ true → IsLeft (step.Read n) g bad before call ro result
+read_left g bad before call ro n (Ok done) on = inl (inr (inr on))
+read_left g bad before call ro n (Err OutOfRange) on = tt
+read_left g bad before call ro n (Err (ReadOnly good wanted failed)) on = tt
+read_left g bad before call ro n (Err SequenceSpent) on = tt
+read_left g bad before call ro n (Err OutOfMemory) on = inr (inr on)
+read_left g bad before call ro n (Err Damaged) on = tt
+read_left g bad before call ro n (Err BusFault) on = tt
 
 no_memory : (result : Result (Unit {0}) DeviceFault) → IfErr result IsReadRefusal → result ≢ Err OutOfMemory
 no_memory (Ok done) of_read e = (let no : ⊥ = cc in no)
@@ -96,29 +108,39 @@ quiet_sound s t (Err Damaged) is = is
 quiet_sound s t (Err BusFault) is = tt
 
 module _ {N : Type 0} (flash : N → Flash) (old new : Device N) (result : Result (Unit {0}) DeviceFault) (ne : result ≢ Err BusFault) where
-  pub read_happened : (n : ℕ) (bytes : List ℕ) (p q : Page) → ReadStep old.engine.geometry (state_in flash old) n (read_reply_of bytes result) (state_in flash new) → flash new.engine.nand ≡ flash old.engine.nand → LeavesRead n result (ram old.engine) (ram new.engine) p q bytes → IfErr result IsReadRefusal → Happened flash old (record { command = step.Read n; result = result; bytes = bytes }) new
+  pub read_happened : (n : ℕ) (bytes : List ℕ) (p q : Page) → ReadStep old.engine.geometry (state_in flash old) n (read_reply_of bytes result) (state_in flash new) → flash new.engine.nand ≡ flash old.engine.nand → LeavesRead n result (ram old.engine) (ram new.engine) p q bytes → new.read_only ≡ old.read_only → IfErr result IsReadRefusal → Happened flash old (record { command = step.Read n; result = result; bytes = bytes }) new
   unfolding went_none
-  read_happened n bytes p q is kept leaves of_read = record {
+  read_happened n bytes p q is kept leaves flag of_read = record {
     step = is;
     went = went_none (ram old.engine) (ram new.engine) (flash old.engine.nand) (flash new.engine.nand) (leaves_mapping n result (ram old.engine) (ram new.engine) p q bytes leaves ne) kept;
     stale = λ old_entry. no_memory result of_read;
-    shown = λ bad next log bads spent. read_shown old.engine.geometry bad next log [] (image_in flash new.engine) n bytes (state_in flash old) (state_in flash new) result of_read is ne;
+    shown = λ bad next before bads spent. read_shown old.engine.geometry bad next before [] old.read_only (image_in flash new.engine) n bytes (state_in flash old) (state_in flash new) result of_read is ne;
+    flushed = λ is. (let no : ⊥ = cc in absurd no);
+    left = λ bad before bads on. read_left old.engine.geometry bad before [] old.read_only n result (sym flag ∙ on);
   }
 
-  module _ (safe : IsRam (ram old.engine)) (safe' : IsRam (ram new.engine)) (sized : new.engine.geometry ≡ old.engine.geometry) (well : IsWell flash new) (w : Went (ram old.engine) (flash old.engine.nand) (ram new.engine) (flash new.engine.nand)) (says : IfErr result (Says (ram old.engine) (ram new.engine))) where
-    shows : NoDamage result → (bad : ℕ → Bool) (next : ℕ) (log : List Operation) → ((b : ℕ) → b < old.engine.geometry.blocks → is_bad_by (ram new.engine) b ≡ bad_of old.engine.geometry.pages bad log b) → new.engine.next ≡ next + programs_in log
-        → IfErr result (IsShown old.engine.geometry bad next log w.log (image_in flash new.engine))
-    shows is bad next log bads spent =
-        shown_in old.engine.geometry bad log (ram new.engine) (image_in flash new.engine) sized bads (ram old.engine) w.log next result safe safe' refl w.follows well.truth spent says is ne
-
+  module _ (safe : IsRam (ram old.engine)) (safe' : IsRam (ram new.engine)) (sized : new.engine.geometry ≡ old.engine.geometry) (well : IsWell flash new) (w : Went (ram old.engine) (flash old.engine.nand) (ram new.engine) (flash new.engine.nand)) (says : IfErr result (Says (ram old.engine) (ram new.engine)))
+      (shown : IfErr result (IsShown old.engine.geometry (is_bad_by (ram old.engine)) old.engine.next [] w.log old.read_only (image_in flash new.engine))) where
     -- a call that may change sectors
-    pub changed : (command : step.Command) (bytes : List ℕ) → NoDamage result → (needs_no_memory old.engine.geometry (image_in flash old.engine) command ≡ true → result ≢ Err OutOfMemory) → ArrayStep old.engine.geometry (state_in flash old) command (answer_to command bytes result) (state_in flash new) → Happened flash old (record { command = command; result = result; bytes = bytes }) new
-    changed command bytes is stale whole = record {
+    pub changed : (command : step.Command) (bytes : List ℕ) → (is_flush command ≡ true → result ≡ Ok tt → IsFlushedOut (first_of (ram old.engine)) w.log (image_in flash new.engine)) → (new.read_only ≡ true → IsLeft command old.engine.geometry (is_bad_by (ram old.engine)) [] w.log old.read_only result) → NoDamage result → (needs_no_memory old.engine.geometry (image_in flash old.engine) command ≡ true → result ≢ Err OutOfMemory) → ArrayStep old.engine.geometry (state_in flash old) command (answer_to command bytes result) (state_in flash new) → Happened flash old (record { command = command; result = result; bytes = bytes }) new
+    changed command bytes flushed left is stale whole = record {
+      flushed = flushed;
       step = whole;
       went = w;
       stale = stale;
-      shown = shows is;
+      shown = λ bad next before also spent. shown_on (ram old.engine) (ram new.engine) w.log safe safe' sized w.follows bad before also next old.read_only (image_in flash new.engine) result well.truth spent says shown is ne;
+      left = λ bad before also on. left_on (ram old.engine) (ram new.engine) w.log safe safe' sized w.follows bad before also command old.read_only result (left on);
     }
+
+-- what a flush says of its image, where it was done
+pub flushed_out : {N : Type 0} (flash : N → Flash) (old new : Device N) (result : Result (Unit {0}) DeviceFault) (w : Went (ram old.engine) (flash old.engine.nand) (ram new.engine) (flash new.engine.nand)) → result ≡ Ok tt
+    → OnOk result ((capacity : ℕ) → 1 ≤ capacity → capacity ≤ 65536 → IsMountable old.engine.geometry capacity (image_in flash new.engine))
+    → OnOk result (stale_sectors old.engine.geometry (image_in flash new.engine) ≡ [])
+    → OnOk result ((log : Went (ram old.engine) (flash old.engine.nand) (ram new.engine) (flash new.engine.nand)) (b : ℕ) → b < old.engine.geometry.blocks → ShowsBad old.engine.geometry (image_in flash new.engine) b ↔ (bad_of old.engine.geometry.pages (is_bad_by (ram old.engine)) log.log b ≡ true))
+    → OnOk result ((log : Went (ram old.engine) (flash old.engine.nand) (ram new.engine) (flash new.engine.nand)) (b : ℕ) → b < old.engine.geometry.blocks → erase_count old.engine.geometry (image_in flash new.engine) b ≡ min (wear_at (ram old.engine).blocks.table b + passed_erases_of log.log b) most_wear)
+    → IsFlushedOut (first_of (ram old.engine)) w.log (image_in flash new.engine)
+flushed_out flash old new (Ok done) w is anywhere fresh bad wear = record { anywhere = anywhere; fresh = fresh; bad = bad w; wear = wear w }
+flushed_out flash old new (Err fault) w is anywhere fresh bad wear = (let no : ⊥ = cc in absurd no)
 
 -- ---- one more event
 
@@ -137,11 +159,27 @@ fair_more first old mid before total (e ∷ events) [] event x fair here all is 
 fair_more first old mid before total (e ∷ events) (y ∷ xs) event x fair here all is =
     (fair.0, fair_more first e.left mid (before ++ e.piece) total events xs event x fair.1 here (all ∙ sym (append_assoc before e.piece (log_of events))) is)
 
+-- a flush later in the run
+flushed_then : (a b c : Ram) (xs ys : List Operation) (image : Image) → b.geometry ≡ a.geometry → ((k : ℕ) → wear_at a.blocks.table k ≤ most_wear) → Wears xs a.blocks b.blocks
+    → ((k : ℕ) → k < b.geometry.blocks → is_bad_by c k ≡ bad_of b.geometry.pages (is_bad_by b) ys k) → ((k : ℕ) → k < b.geometry.blocks → is_bad_by c k ≡ bad_of b.geometry.pages (is_bad_by a) (xs ++ ys) k)
+    → IsFlushedOut (first_of b) ys image → IsFlushedOut (first_of a) (xs ++ ys) image
+flushed_then a b c xs ys image same most wears here there f = record {
+  anywhere = subst (λ (g : Geometry). (capacity : ℕ) → 1 ≤ capacity → capacity ≤ 65536 → IsMountable g capacity image) same f.anywhere;
+  fresh = subst (λ (g : Geometry). stale_sectors g image ≡ []) same f.fresh;
+  bad = subst (λ (g : Geometry). (k : ℕ) → k < g.blocks → ShowsBad g image k ↔ (bad_of g.pages (is_bad_by a) (xs ++ ys) k ≡ true)) same
+      (λ k lt. subst (λ v. ShowsBad b.geometry image k ↔ (v ≡ true)) (sym (here k lt) ∙ there k lt) (f.bad k lt));
+  wear = subst (λ (g : Geometry). (k : ℕ) → k < g.blocks → erase_count g image k ≡ min (wear_at a.blocks.table k + passed_erases_of (xs ++ ys) k) most_wear) same
+      (λ k lt.
+      let first : wear_at b.blocks.table k ≡ min (wear_at a.blocks.table k + passed_erases_of xs k) most_wear = wears.worn k (most k) in
+      let second : erase_count b.geometry image k ≡ min (wear_at b.blocks.table k + passed_erases_of ys k) most_wear = f.wear k lt in
+      omega (arith, (counts a.geometry.pages k xs ys).passed_erases_at));
+}
+
 -- with the last image, the last device and the last log
 module _ {N : Type 0} (flash : N → Flash) (old mid new : Device N) (done : List Exchange) (x : Exchange)
     (sized : mid.engine.geometry ≡ old.engine.geometry) (sized' : new.engine.geometry ≡ mid.engine.geometry)
     (die : (flash mid.engine.nand).geometry ≡ mid.engine.geometry) (die' : (flash new.engine.nand).geometry ≡ new.engine.geometry)
-    (limits : HasLimitsOf old.engine.mapping new.engine.mapping) (safe : IsRam (ram old.engine)) (safe' : IsRam (ram new.engine)) (well : IsWell flash new)
+    (limits : HasLimitsOf old.engine.mapping new.engine.mapping) (most : (b : ℕ) → wear_at (ram old.engine).blocks.table b ≤ most_wear) (safe : IsRam (ram old.engine)) (mid_safe : IsRam (ram mid.engine)) (safe' : IsRam (ram new.engine)) (well : IsWell flash new)
     (ran : Ran flash old done mid) (h : Happened flash mid x new) where
   event : Event
   event = record { command = x.command; reply = reply_in x; piece = h.went.log; left = die_in flash new }
@@ -152,6 +190,14 @@ module _ {N : Type 0} (flash : N → Flash) (old mid new : Device N) (done : Lis
 
   next : new.engine.next ≡ old.engine.next + programs_in (log_of ran.run.events ++ h.went.log)
   next = omega (arith, ran.next, h.went.next, (counts old.engine.geometry.pages 0 (log_of ran.run.events) h.went.log).programs)
+
+  wears : Wears (log_of ran.run.events ++ h.went.log) (ram old.engine).blocks (ram new.engine).blocks
+  wears = record {
+    worn = λ b few.
+        let first : wear_at (ram mid.engine).blocks.table b ≡ min (wear_at (ram old.engine).blocks.table b + passed_erases_of (log_of ran.run.events) b) most_wear = ran.wears.worn b few in
+        let second : wear_at (ram new.engine).blocks.table b ≡ min (wear_at (ram mid.engine).blocks.table b + passed_erases_of h.went.log b) most_wear = h.went.wears.worn b (omega arith) in
+        omega (arith, (counts old.engine.geometry.pages b (log_of ran.run.events) h.went.log).passed_erases_at);
+  }
 
   state_is : (d : Device N) → (flash d.engine.nand).geometry ≡ d.engine.geometry → state_of (die_in flash d) ≡ state_in flash d
   state_is d e = ap (λ (g : Geometry). let s : step.State = record { array = array_of g (image_in flash d.engine); ro = d.read_only } in s) e
@@ -167,17 +213,25 @@ module _ {N : Type 0} (flash : N → Flash) (old mid new : Device N) (done : Lis
         (subst (P mid.engine.geometry (state_in flash mid)) (sym (state_is new (die'))) h.step));
   }
 
+  -- the blocks that are bad by the log up to this event
+  bads_then : (g : Geometry) → g ≡ old.engine.geometry → (b : ℕ) → b < g.blocks → is_bad_by (ram new.engine) b ≡ bad_of g.pages (is_bad_by (ram old.engine)) (log_of ran.run.events ++ h.went.log) b
+  bads_then g same =
+      let Q : Geometry → Type 0 = λ k. (b : ℕ) → b < k.blocks → is_bad_by (ram new.engine) b ≡ bad_of k.pages (is_bad_by (ram old.engine)) (log_of ran.run.events ++ h.went.log) b in
+      let here : Q old.engine.geometry = λ b lt. bad_now_law (ram old.engine) (ram new.engine) (log_of ran.run.events ++ h.went.log) b safe.blocks_of follows lt in
+      subst Q (sym same) here
+
   fair : IsFair (first_of (ram old.engine)) (die_in flash mid) (log_of ran.run.events) event x
   unfolding event
   fair = record {
     shown = λ fault e.
-        let bads : (b : ℕ) → b < old.engine.geometry.blocks → is_bad_by (ram new.engine) b ≡ bad_of old.engine.geometry.pages (is_bad_by (ram old.engine)) (log_of ran.run.events ++ h.went.log) b =
-        λ b lt. bad_now_law (ram old.engine) (ram new.engine) (log_of ran.run.events ++ h.went.log) b safe.blocks_of follows lt in
-        let Q : Geometry → Type 0 = λ g. ((b : ℕ) → b < g.blocks → is_bad_by (ram new.engine) b ≡ bad_of g.pages (is_bad_by (ram old.engine)) (log_of ran.run.events ++ h.went.log) b)
-        → IfErr x.result (IsShown g (is_bad_by (ram old.engine)) old.engine.next (log_of ran.run.events ++ h.went.log) h.went.log (image_in flash new.engine)) in
-        let shows : Q mid.engine.geometry = λ there. h.shown (is_bad_by (ram old.engine)) old.engine.next (log_of ran.run.events ++ h.went.log) there next in
-        let here = subst Q sized shows bads in
-        subst (λ r. IfErr r (IsShown old.engine.geometry (is_bad_by (ram old.engine)) old.engine.next (log_of ran.run.events ++ h.went.log) h.went.log (image_in flash new.engine))) e here;
+        let here = h.shown (is_bad_by (ram old.engine)) old.engine.next (log_of ran.run.events) (bads_then mid.engine.geometry sized) next in
+        let there = subst (λ (g : Geometry). IfErr x.result (IsShown g (is_bad_by (ram old.engine)) old.engine.next (log_of ran.run.events) h.went.log mid.read_only (image_in flash new.engine))) sized here in
+        subst (λ r. IfErr r (IsShown old.engine.geometry (is_bad_by (ram old.engine)) old.engine.next (log_of ran.run.events) h.went.log mid.read_only (image_in flash new.engine))) e there;
+    left = λ on. subst (λ (g : Geometry). IsLeft x.command g (is_bad_by (ram old.engine)) (log_of ran.run.events) h.went.log mid.read_only x.result) sized (h.left (is_bad_by (ram old.engine)) (log_of ran.run.events) (bads_then mid.engine.geometry sized) on);
+    flushed = λ is done.
+        let its = h.flushed is done in
+        let mid_bad : (b : ℕ) → b < mid.engine.geometry.blocks → is_bad_by (ram new.engine) b ≡ bad_of mid.engine.geometry.pages (is_bad_by (ram mid.engine)) h.went.log b = λ b lt. bad_now_law (ram mid.engine) (ram new.engine) h.went.log b mid_safe.blocks_of h.went.follows lt in
+        flushed_then (ram old.engine) (ram mid.engine) (ram new.engine) (log_of ran.run.events) h.went.log (image_in flash new.engine) sized most ran.wears mid_bad (bads_then mid.engine.geometry sized) its;
     stale = λ old_entry e. h.stale (subst (λ (g : Geometry). needs_no_memory g (image_in flash mid.engine) x.command ≡ true) (sym sized) old_entry) e;
     mountable = λ most. mountable_after flash old.engine new new.engine refl (sized' ∙ sized) limits safe' well most;
   }
@@ -202,6 +256,7 @@ module _ {N : Type 0} (flash : N → Flash) (old mid new : Device N) (done : Lis
     run = run_more;
     follows = subst (λ l. Follows old.engine.geometry.pages l (ram old.engine).blocks (ram new.engine).blocks) log_is follows;
     next = next ∙ ap (λ l. old.engine.next + programs_in l) log_is;
+    wears = subst (λ l. Wears l (ram old.engine).blocks (ram new.engine).blocks) log_is wears;
   }
 
 pub ran_none : {N : Type 0} (flash : N → Flash) (old : Device N) → Ran flash old [] old
@@ -209,4 +264,5 @@ ran_none flash old = record {
   run = record { events = []; commands = refl; replies = refl; run = refl; fair = tt };
   follows = record { legal = λ accounts a. tt; accounted = λ accounts a. a };
   next = omega arith;
+  wears = record { worn = λ b few. omega arith };
 }

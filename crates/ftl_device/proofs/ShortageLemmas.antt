@@ -16,7 +16,7 @@ use Rattle.ftl_device.specs.declared.fault.CallFault.TheVariants as call
 use Rattle.ftl_device.specs.declared.fault.CallFault.TheVariants.{Engine}
 use Rattle.ftl_device.specs.Shortage.{HasUsed, HasFailed, LeavesFiveLaw, TablesLeaveLaw}
 
-used_from : (most : ℕ) (old new : Ram) → IsRam old → (u : HasUsed most old new) → Account old.geometry.pages (counts_of old.blocks) (counts_of new.blocks) u.data_pages u.meta_pages
+pub used_from : (most : ℕ) (old new : Ram) → IsRam old → (u : HasUsed most old new) → Account old.geometry.pages (counts_of old.blocks) (counts_of new.blocks) u.data_pages u.meta_pages
 used_from most old new s u =
     let start : Fits old.geometry.pages (counts_of old.blocks) = subst (λ (g : Geometry). Fits g.pages (counts_of old.blocks)) s.blocks_of (fits (free_count old.blocks) old.blocks s.blocks) in
     let all : Account old.geometry.pages (counts_of old.blocks) (counts_of new.blocks) (0 + u.data_pages) (0 + u.meta_pages) = u.account (counts_of old.blocks) 0 0 (no_page old.geometry.pages (counts_of old.blocks) start) in
@@ -24,13 +24,13 @@ used_from most old new s u =
     let m : 0 + u.meta_pages ≡ u.meta_pages = omega arith in
     subst (λ k. Account old.geometry.pages (counts_of old.blocks) (counts_of new.blocks) u.data_pages k) m (subst (λ k. Account old.geometry.pages (counts_of old.blocks) (counts_of new.blocks) k (0 + u.meta_pages)) d all)
 
-leaves : (most : ℕ) (old new : Ram) → most ≤ 2 → IsRam old → 9 ≤ free_count old.blocks → HasUsed most old new → (5 ≤ free_count new.blocks) ⊎ (3 + good_count new.blocks.table ≤ good_count old.blocks.table)
+pub leaves : (most : ℕ) (old new : Ram) → most ≤ 2 → IsRam old → 9 ≤ free_count old.blocks → HasUsed most old new → (5 ≤ free_count new.blocks) ⊎ (3 + good_count new.blocks.table ≤ good_count old.blocks.table)
 leaves most old new two s nine u =
     let few : u.data_pages + u.meta_pages + 1 ≤ old.geometry.pages = omega (arith, u.few, old.geometry.limits.page_count.least) in
     let opened = few_openings old.geometry.pages u.data_pages u.meta_pages (counts_of old.blocks) (counts_of new.blocks) (used_from most old new s u) few in
     elim (cases_lt (free_count new.blocks) 5) [ inl less ↦ inr (omega arith) | inr more ↦ inl more ]
 
-out : (old new : Ram) → IsRam old → 9 ≤ free_count old.blocks → HasFailed 1 old new → 3 + good_count new.blocks.table ≤ good_count old.blocks.table
+pub out : (old new : Ram) → IsRam old → 9 ≤ free_count old.blocks → HasFailed 1 old new → 3 + good_count new.blocks.table ≤ good_count old.blocks.table
 out old new s nine h =
     let few : h.used.data_pages + h.used.meta_pages + 2 ≤ old.geometry.pages = omega (arith, h.used.few, old.geometry.limits.page_count.least) in
     let gone = stuck h.stream old.geometry.pages h.out.failures h.used.data_pages h.used.meta_pages (counts_of old.blocks) (counts_of h.mid.blocks) (counts_of new.blocks) (used_from 1 old h.mid s h.used) few h.out.found in

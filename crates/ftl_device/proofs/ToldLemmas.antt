@@ -1,5 +1,5 @@
 -- Calls are told one after another.
-use Rattle.std.proofs.Common.{◌≡◌, ◌≢◌, ◌⊎◌, inl, inr, ℕ, ◌+◌, ◌-◌, ◌^◌, ◌<◌, ◌≤◌, Bool, true, List, [], ◌∷◌, ◌++◌, Option, Some, None, Result, Ok, Err, refl, sym, ap, subst, ◌∙◌, arith}
+use Rattle.std.proofs.Common.{◌≡◌, ◌≢◌, ◌⊎◌, inl, inr, ℕ, ◌-◌, ◌^◌, ◌<◌, ◌≤◌, Bool, true, List, [], ◌∷◌, ◌++◌, Option, Some, None, Result, Ok, Err, refl, sym, ap, subst, ◌∙◌, arith}
 use Rattle.std.specs.Prelude.{IfErr}
 use Rattle.std.specs.Option.{ForSome}
 use Rattle.std.specs.List.{AllByRecursion}
@@ -84,7 +84,7 @@ module _ {N : Type 0} (flash : N → Flash) (honest : N → Bool) (failed : N �
       let before = so_far.ran is_honest well parts.0 in
       let still : honest now.engine.nand ≡ true = so_far.honest_is ∙ is_honest in
       let now_well : IsWell flash new = tells.well still before.0 parts.1 in
-      (now_well, ran_more flash old now new xs x so_far.sized tells.sized so_far.device.engine.geometry tells.device.engine.geometry (limits_then old.engine.mapping now.engine.mapping new.engine.mapping so_far.limits tells.limits) safe.engine.memory tells.device.engine.memory now_well before.1 (tells.happened still before.0 parts.1))
+      (now_well, ran_more flash old now new xs x so_far.sized tells.sized so_far.device.engine.geometry tells.device.engine.geometry (limits_then old.engine.mapping now.engine.mapping new.engine.mapping so_far.limits tells.limits) well.truth.worn.most safe.engine.memory so_far.device.engine.memory tells.device.engine.memory now_well before.1 (tells.happened still before.0 parts.1))
 
   its_stop : (fault : DeviceFault) → x.result ≡ Err fault → Stops x.command fault → stop_of new.engine.fault ≡ Some fault
   its_stop fault is there = subst (λ r. IfErr r (λ f. Stops x.command f → stop_of new.engine.fault ≡ Some f)) is tells.stops there

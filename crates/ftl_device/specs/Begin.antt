@@ -44,6 +44,10 @@ no_block = record { class = 0; pointer = 0; live = 0; wear = 0 }
 abbrev pub is_bad_in : Claim → ℕ → Bool
 is_bad_in c block = not (is_good (get_or c.blocks block no_block))
 
+-- the erase counts that the certificate gives
+abbrev pub wear_in : Claim → ℕ → ℕ
+wear_in c block = (get_or c.blocks block no_block).wear
+
 -- how many blocks are free: neither bad by the certificate nor with a page programmed
 abbrev pub free_in : Geometry → Claim → Image → ℕ
 free_in g c image = logs.free_count g (is_bad_in c) [] image

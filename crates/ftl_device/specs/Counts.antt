@@ -1,5 +1,5 @@
 -- Free and good blocks as the image and the log show them, at every call.
-use Rattle.std.specs.Prelude.{◌≡◌, ℕ, ◌+◌, ◌-◌, ◌^◌, ◌<◌, not, Bool, [], List, None}
+use Rattle.std.specs.Prelude.{◌≡◌, ◌⊎◌, ℕ, ◌+◌, ◌-◌, ◌^◌, ◌<◌, ◌++◌, not, Bool, true, false, [], List, None, Result, Ok, Err}
 use Rattle.page_layout.specs.declared.geometry.Geometry.{Geometry}
 use Rattle.page_layout.specs.Page.{Image}
 use Rattle.page_layout.specs.Geometry.{need}
@@ -7,7 +7,8 @@ use Rattle.page_layout.specs.Flash.{Operation}
 use Rattle.bad_blocks.specs.Table.{is_good_at, good_count}
 use Rattle.allocation.specs.State.{free_count}
 use Rattle.promises.specs.Log as logs
-use Rattle.promises.specs.Log.{programs_in, bad_of, failed_count}
+use Rattle.promises.specs.Log.{programs_in, bad_of, failed_count, IsShort}
+use Rattle.promises.specs.Step.{Command, Read, Write, Trim, Flush, Turn}
 use Rattle.collection.specs.State.{Ram}
 use Rattle.collection.specs.Safe.{IsRam}
 use Rattle.collection.specs.Truth.{IsTrue}
@@ -36,14 +37,32 @@ pub record IsShortIn (g : Geometry) (bad : ℕ → Bool) (log call : List Operat
   pub wanted_is : wanted ≡ need g
   pub failed_is : failed ≡ failed_count g call
 
--- what a refusal shows of them: `next` was the next sequence as the log began
-abbrev pub IsShown : Geometry → (ℕ → Bool) → ℕ → (log call : List Operation) → Image → DeviceFault → Type 0
-IsShown g bad next log call image OutOfRange = Unit {0}
-IsShown g bad next log call image (ReadOnly good wanted failed) = IsShortIn g bad log call image good wanted failed
-IsShown g bad next log call image SequenceSpent = next + programs_in log ≡ 2 ^ 64 - 1
-IsShown g bad next log call image OutOfMemory = Unit {0}
-IsShown g bad next log call image Damaged = ⊥
-IsShown g bad next log call image BusFault = ⊥
+-- WHAT A REFUSAL SHOWS: `ReadOnly` comes only in a shortage, and has its counts. `next` was the next sequence as the log began, `before` is the
+-- log up to the call, `call` what the call added, and `ro` whether the device was read-only before it.
+abbrev pub IsShown : Geometry → (ℕ → Bool) → ℕ → (before call : List Operation) → Bool → Image → DeviceFault → Type 0
+IsShown g bad next before call ro image OutOfRange = Unit {0}
+IsShown g bad next before call ro image (ReadOnly good wanted failed) = IsShortIn g bad (before ++ call) call image good wanted failed × IsShort g bad before call ro
+IsShown g bad next before call ro image SequenceSpent = next + programs_in (before ++ call) ≡ 2 ^ 64 - 1
+IsShown g bad next before call ro image OutOfMemory = Unit {0}
+IsShown g bad next before call ro image Damaged = ⊥
+IsShown g bad next before call ro image BusFault = ⊥
+
+abbrev pub is_flush : Command → Bool
+is_flush (Read sector) = false
+is_flush (Write sector bytes) = false
+is_flush (Trim sector) = false
+is_flush Flush = true
+is_flush Turn = false
+
+-- WHEN A CALL LEAVES THE DEVICE READ-ONLY that isn't refused for it: in a shortage, or where it is a flush in which two blocks failed.
+abbrev pub IsLeft : Command → Geometry → (ℕ → Bool) → (before call : List Operation) → Bool → Result (Unit {0}) DeviceFault → Type 0
+IsLeft command g bad before call ro (Ok done) = IsShort g bad before call ro ⊎ ((is_flush command ≡ true) × (1 < failed_count g call))
+IsLeft command g bad before call ro (Err OutOfRange) = Unit {0}
+IsLeft command g bad before call ro (Err (ReadOnly good wanted failed)) = Unit {0}
+IsLeft command g bad before call ro (Err SequenceSpent) = Unit {0}
+IsLeft command g bad before call ro (Err OutOfMemory) = IsShort g bad before call ro
+IsLeft command g bad before call ro (Err Damaged) = Unit {0}
+IsLeft command g bad before call ro (Err BusFault) = Unit {0}
 
 -- ---- laws
 

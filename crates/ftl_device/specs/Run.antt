@@ -1,5 +1,5 @@
 -- A RUN OF A DEVICE: commands that it is told one after another, what it answered to each, and what its die held after each.
-use Rattle.std.specs.Prelude.{◌≡◌, ◌≢◌, ◌⊎◌, ℕ, ◌+◌, ◌<◌, ◌≤◌, Bool, true, List, [], ◌∷◌, ◌++◌, length, map, replicate, unwrap_or, Option, None, Some, IsSome, Result, Ok, Err, IfErr, OnErr}
+use Rattle.std.specs.Prelude.{◌≡◌, ◌≢◌, ◌⊎◌, ◌↔◌, ℕ, ◌+◌, ◌<◌, ◌≤◌, min, Bool, true, List, [], ◌∷◌, ◌++◌, length, map, replicate, unwrap_or, Option, None, Some, IsSome, Result, Ok, Err, IfErr, OnErr}
 use Rattle.std.specs.Option.{ForSome}
 use Rattle.std.specs.List.{AllByRecursion, AllZip}
 use Rattle.page_layout.specs.declared.geometry.Geometry.{Geometry}
@@ -8,17 +8,18 @@ use Rattle.page_layout.specs.Counter.{HasRisen}
 use Rattle.page_layout.specs.Flash.{Flash, Operation}
 use Rattle.mapping_cache.specs.Mapping.{HasLimitsOf}
 use Rattle.certificate.specs.Claim.{Claim}
-use Rattle.image_check.specs.Stale.{is_stale}
+use Rattle.image_check.specs.Stale.{is_stale, stale_sectors}
+use Rattle.image_check.specs.Blocks.{erase_count}
 use Rattle.image_check.specs.Mountable.{IsMountable}
 use Rattle.promises.specs.Step as step
 use Rattle.promises.specs.Step.{Reply, ArrayStep}
-use Rattle.promises.specs.Log.{programs_in, bad_of}
+use Rattle.promises.specs.Log.{programs_in, bad_of, passed_erases_of}
 use Rattle.promises.specs.Legal.{IsLegal}
 use Rattle.promises.specs.Run as runs
 use Rattle.promises.specs.Run.{Event, Run, commands_of, replies_of, log_of}
 use Rattle.collection.specs.State.{Ram}
 use Rattle.collection.specs.Safe.{ram, image_in}
-use Rattle.collection.specs.Log.{Follows, Went}
+use Rattle.collection.specs.Log.{Follows, Wears, Went}
 use Rattle.ftl_device.specs.declared.device.Device.{Device}
 use Rattle.ftl_device.specs.declared.fault.DeviceFault.{DeviceFault}
 use Rattle.ftl_device.specs.declared.fault.DeviceFault.TheVariants.{OutOfRange, ReadOnly, SequenceSpent, OutOfMemory, Damaged, BusFault}
@@ -26,9 +27,11 @@ use Rattle.ftl_device.specs.declared.run.Command.{Command}
 use Rattle.ftl_device.specs.declared.run.Command.TheVariants.{Read, Write, Trim, Flush, Turn}
 use Rattle.ftl_device.specs.declared.run.Call.{Call}
 use Rattle.ftl_device.specs.Device.{IsDevice}
-use Rattle.ftl_device.specs.Begin.{is_bad_in, free_in, is_scarce}
+use Rattle.ftl_device.specs.Begin.{is_bad_in, wear_in, free_in, is_scarce}
 use Rattle.ftl_device.specs.Calls.{state_in, reply_of, read_reply_of, stop_of, IsWell}
-use Rattle.ftl_device.specs.Counts.{is_bad_by, IsShown}
+use Rattle.bad_blocks.specs.Table.{wear_at, most_wear}
+use Rattle.ftl_device.specs.Flush.{ShowsBad}
+use Rattle.ftl_device.specs.Counts.{is_bad_by, is_flush, IsShown, IsLeft}
 
 -- ---- commands and replies
 
@@ -157,19 +160,31 @@ HaveKept old new = AllZip HasKept old new
 abbrev pub die_in : {N : Type 0} → (N → Flash) → Device N → runs.Device
 die_in flash d = record { flash = flash d.engine.nand; ro = d.read_only }
 
--- what a run begins with: the geometry, the capacity of the cached mapping table, the bad blocks and the next sequence
+-- what a run begins with: the geometry, the capacity of the cached mapping table, the bad blocks, the erase counts and the next sequence
 pub record First : Type 0 where
   pub geometry : Geometry
   pub capacity : ℕ
   pub bad : ℕ → Bool
+  pub wear : ℕ → ℕ
   pub next : ℕ
 
--- What is so of each event, where `before` is the log up to it. `ReadOnly` has fewer than five free blocks and its counts, and
--- `SequenceSpent` the last sequence, by the image and the one log; a command whose sector was stale in the image, or that names none, took no
--- memory; and afterwards the image has a certificate.
+-- WHAT A FLUSH IS WORTH that is done, where `log` leads up to its end: the image has a certificate at every capacity, no entry is stale, and it
+-- shows just the blocks as bad that were so before the log or failed in it, and erase counts that went up by the erases that passed.
+pub record IsFlushedOut (first : First) (log : List Operation) (image : Image) : Type 0 where
+  pub anywhere : (capacity : ℕ) → 1 ≤ capacity → capacity ≤ 65536 → IsMountable first.geometry capacity image
+  pub fresh : stale_sectors first.geometry image ≡ []
+  pub bad : (b : ℕ) → b < first.geometry.blocks → ShowsBad first.geometry image b ↔ (bad_of first.geometry.pages first.bad log b ≡ true)
+  pub wear : (b : ℕ) → b < first.geometry.blocks → erase_count first.geometry image b ≡ min (first.wear b + passed_erases_of log b) most_wear
+
+-- What is so of each event, where `before` is the log up to it. `ReadOnly` comes in a shortage, with fewer than five free blocks, and has its
+-- counts, and `SequenceSpent` the last sequence, by the image and the one log; a call that leaves the device read-only does so in a shortage,
+-- or is a flush in which two blocks failed; a command whose sector was stale in the image, or that names none, took no memory; and afterwards
+-- the image has a certificate.
 pub record IsFair (first : First) (old : runs.Device) (before : List Operation) (event : Event) (x : Exchange) : Type 0 where
-  pub shown : (fault : DeviceFault) → x.result ≡ Err fault → IsShown first.geometry first.bad first.next (before ++ event.piece) event.piece event.left.flash.image fault
+  pub shown : (fault : DeviceFault) → x.result ≡ Err fault → IsShown first.geometry first.bad first.next before event.piece old.ro event.left.flash.image fault
+  pub left : event.left.ro ≡ true → IsLeft x.command first.geometry first.bad before event.piece old.ro x.result
   pub stale : needs_no_memory first.geometry old.flash.image x.command ≡ true → x.result ≢ Err OutOfMemory
+  pub flushed : is_flush x.command ≡ true → x.result ≡ Ok tt → IsFlushedOut first (before ++ event.piece) event.left.flash.image
   pub mountable : first.capacity + first.geometry.pages ≤ 65536 → IsMountable first.geometry (first.capacity + first.geometry.pages) event.left.flash.image
 
 -- and so of all of them, each with the log up to it
@@ -191,17 +206,18 @@ pub record HasRun (first : First) (old new : runs.Device) (xs : List Exchange) :
 -- a run from a device as it is: its log is legal by accounts that agree with the memory, it leaves such accounts, and each program in it
 -- took the next sequence
 abbrev pub first_of : Ram → First
-first_of r = record { geometry = r.geometry; capacity = r.mapping.capacity; bad = is_bad_by r; next = r.next }
+first_of r = record { geometry = r.geometry; capacity = r.mapping.capacity; bad = is_bad_by r; wear = wear_at r.blocks.table; next = r.next }
 
 pub record Ran {N : Type 0} (flash : N → Flash) (old : Device N) (xs : List Exchange) (new : Device N) : Type 0 where
   pub run : HasRun (first_of (ram old.engine)) (die_in flash old) (die_in flash new) xs
   pub follows : Follows old.engine.geometry.pages (log_of run.events) (ram old.engine).blocks (ram new.engine).blocks
   pub next : new.engine.next ≡ old.engine.next + programs_in (log_of run.events)
+  pub wears : Wears (log_of run.events) (ram old.engine).blocks (ram new.engine).blocks
 
 -- a run from an accepted certificate: it begins with the image that was accepted, read-only just where fewer than five blocks are free in
 -- it; the log is legal for that image and the certificate's bad blocks
 abbrev pub accepted_first : Geometry → Claim → First
-accepted_first g c = record { geometry = g; capacity = c.capacity; bad = is_bad_in c; next = c.next }
+accepted_first g c = record { geometry = g; capacity = c.capacity; bad = is_bad_in c; wear = wear_in c; next = c.next }
 
 abbrev pub accepted_device : Flash → Claim → runs.Device
 accepted_device s c = record { flash = s; ro = is_scarce (free_in s.geometry c s.image) }
@@ -219,8 +235,11 @@ pub record Happened {N : Type 0} (flash : N → Flash) (old : Device N) (x : Exc
   pub step : ArrayStep old.engine.geometry (state_in flash old) x.command (reply_in x) (state_in flash new)
   pub went : Went (ram old.engine) (flash old.engine.nand) (ram new.engine) (flash new.engine.nand)
   pub stale : needs_no_memory old.engine.geometry (image_in flash old.engine) x.command ≡ true → x.result ≢ Err OutOfMemory
-  pub shown : (bad : ℕ → Bool) (next : ℕ) (log : List Operation) → ((b : ℕ) → b < old.engine.geometry.blocks → is_bad_by (ram new.engine) b ≡ bad_of old.engine.geometry.pages bad log b) → new.engine.next ≡ next + programs_in log
-      → IfErr x.result (IsShown old.engine.geometry bad next log went.log (image_in flash new.engine))
+  pub shown : (bad : ℕ → Bool) (next : ℕ) (before : List Operation) → ((b : ℕ) → b < old.engine.geometry.blocks → is_bad_by (ram new.engine) b ≡ bad_of old.engine.geometry.pages bad (before ++ went.log) b) → new.engine.next ≡ next + programs_in (before ++ went.log)
+      → IfErr x.result (IsShown old.engine.geometry bad next before went.log old.read_only (image_in flash new.engine))
+  pub left : (bad : ℕ → Bool) (before : List Operation) → ((b : ℕ) → b < old.engine.geometry.blocks → is_bad_by (ram new.engine) b ≡ bad_of old.engine.geometry.pages bad (before ++ went.log) b) → new.read_only ≡ true
+      → IsLeft x.command old.engine.geometry bad before went.log old.read_only x.result
+  pub flushed : is_flush x.command ≡ true → x.result ≡ Ok tt → IsFlushedOut (first_of (ram old.engine)) went.log (image_in flash new.engine)
 
 -- ONE CALL, as a run needs it: what holds whatever the die does, and then what is true of an honest die that gave every outcome.
 pub record Tells {N : Type 0} (flash : N → Flash) (honest : N → Bool) (failed : N → ℕ) (old : Device N) (x : Exchange) (new : Device N) : Type 0 where

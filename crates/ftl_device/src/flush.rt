@@ -4,25 +4,27 @@ ghost use Rattle.std.specs.Option.{ForSome};
 ghost use Rattle.std.specs.Map.{keys_of};
 ghost use Rattle.page_layout.specs.Counter.{HasRisen};
 ghost use Rattle.page_layout.specs.Geometry.{translation_pages, table_pages};
-ghost use Rattle.allocation.specs.State.{free_count};
+ghost use Rattle.budget.specs.Account.{IsFunded};
+ghost use Rattle.allocation.specs.Counts.{counts_of};
 ghost use Rattle.collection.specs.Safe.{IsSafe, IsIdle, ram, image_in};
 ghost use Rattle.collection.specs.Truth.{IsTrue};
 ghost use Rattle.collection.specs.Log.{Went};
 ghost use Rattle.collection.specs.Results.{KeepsTable, fault_after};
 ghost use Rattle.ftl_device.specs.Calls.{Tells, CallTells, KeepsArray, CallRefused, standing_after};
 ghost use Rattle.ftl_device.specs.Flush.{IsClean, KeepsClean, SpellsAll, KeepsTables, AddsPages, FailsAmong, RunsOut, IsFlushed, WritesTables, MayFlush, MayNotFlush};
+ghost use Rattle.ftl_device.specs.Shortage.{HasFunds, FlushCounts, FlushShort};
 ghost use Rattle.std.specs.Prelude.{◌↔◌};
 ghost use Rattle.page_layout.specs.Geometry.{need};
-ghost use Rattle.bad_blocks.specs.Table.{good_count, wear_at};
+ghost use Rattle.bad_blocks.specs.Table.{good_count, wear_at, most_wear};
 ghost use Rattle.mapping_cache.specs.Mapping.{HasLimitsOf};
 ghost use Rattle.promises.specs.Step.{ArrayStep, Flush};
-ghost use Rattle.promises.specs.Log.{bad_of};
+ghost use Rattle.promises.specs.Log.{bad_of, passed_erases_of};
 ghost use Rattle.image_check.specs.Blocks.{erase_count};
 ghost use Rattle.image_check.specs.Stale.{stale_sectors};
 ghost use Rattle.image_check.specs.Mountable.{IsMountable};
 ghost use Rattle.ftl_device.specs.Device.{IsDevice};
 ghost use Rattle.ftl_device.specs.Calls.{state_in, reply_of, stop_of, IsWell, Says};
-ghost use Rattle.ftl_device.specs.Counts.{is_bad_by, IsShown};
+ghost use Rattle.ftl_device.specs.Counts.{is_bad_by, IsShown, IsLeft};
 ghost use Rattle.ftl_device.specs.Flush.{ShowsBad};
 
 use crate::device::Device;
@@ -49,6 +51,9 @@ fn flush_translation<N: Nand>(engine: &mut Engine<N>, t: u32) -> Result<(), Writ
     ensures idle { engine.new.fault ≡ None → IsIdle (ram engine.new) }
     ensures clean { OnOk result (IsClean engine.old.geometry t engine.new.mapping) }
     ensures cleans { OnOk result (KeepsClean engine.old.geometry engine.old.mapping engine.new.mapping) }
+    ensures count { N.honest engine.old.nand ≡ true → IsTrue None (ram engine.old) (image_in N.flash engine.old) →
+        (failures : ℕ) → IsFunded engine.old.geometry.pages failures (counts_of (ram engine.old).blocks) →
+        FlushCounts failures (ram engine.old) (ram engine.new) result }
     ensures tells { Tells (ram engine.old) (ram engine.new) result }
     ensures went { N.honest engine.old.nand ≡ true → result ≢ Err WriteFault.Bus →
         Went (ram engine.old) (N.flash engine.old.nand) (ram engine.new) (N.flash engine.new.nand) }
@@ -80,6 +85,9 @@ fn flush_translations<N: Nand>(engine: &mut Engine<N>) -> Result<(), WriteFault>
     ensures limits { HasLimitsOf engine.old.mapping engine.new.mapping }
     ensures idle { engine.new.fault ≡ None → IsIdle (ram engine.new) }
     ensures clean { OnOk result ((t : ℕ) → t < translation_pages engine.old.geometry → IsClean engine.old.geometry t engine.new.mapping) }
+    ensures count { N.honest engine.old.nand ≡ true → IsTrue None (ram engine.old) (image_in N.flash engine.old) →
+        (failures : ℕ) → IsFunded engine.old.geometry.pages failures (counts_of (ram engine.old).blocks) →
+        FlushCounts failures (ram engine.old) (ram engine.new) result }
     ensures tells { Tells (ram engine.old) (ram engine.new) result }
     ensures went { N.honest engine.old.nand ≡ true → result ≢ Err WriteFault.Bus →
         Went (ram engine.old) (N.flash engine.old.nand) (ram engine.new) (N.flash engine.new.nand) }
@@ -173,6 +181,7 @@ pub(crate) fn flush_ready<N: Nand>(engine: &mut Engine<N>) -> Result<(), CallFau
     ensures limits { HasLimitsOf engine.old.mapping engine.new.mapping }
     ensures idle { engine.new.fault ≡ None → IsIdle (ram engine.new) }
     ensures clean { OnOk result ((t : ℕ) → t < translation_pages engine.old.geometry → IsClean engine.old.geometry t engine.new.mapping) }
+    ensures count { HasFunds (N.honest engine.old.nand) (ram engine.old) (image_in N.flash engine.old) → FlushShort (ram engine.old) (ram engine.new) result }
     ensures tells { CallTells (ram engine.old) (ram engine.new) result }
     ensures went { N.honest engine.old.nand ≡ true → result ≢ Err (CallFault.Engine WriteFault.Bus) →
         Went (ram engine.old) (N.flash engine.old.nand) (ram engine.new) (N.flash engine.new.nand) }
@@ -259,7 +268,11 @@ impl<N: Nand> Device<N> {
             IsWell N.flash self.new }
         ensures shown { N.honest self.old.engine.nand ≡ true → IsWell N.flash self.old → result ≢ Err DeviceFault.BusFault →
             (w : Went (ram self.old.engine) (N.flash self.old.engine.nand) (ram self.new.engine) (N.flash self.new.engine.nand)) →
-            IfErr result (IsShown self.old.engine.geometry (is_bad_by (ram self.old.engine)) self.old.engine.next w.log w.log (image_in N.flash self.new.engine)) }
+            IfErr result (IsShown self.old.engine.geometry (is_bad_by (ram self.old.engine)) self.old.engine.next [] w.log self.old.read_only (image_in N.flash self.new.engine)) }
+        ensures left { N.honest self.old.engine.nand ≡ true → IsWell N.flash self.old → result ≢ Err DeviceFault.BusFault →
+            (w : Went (ram self.old.engine) (N.flash self.old.engine.nand) (ram self.new.engine) (N.flash self.new.engine.nand)) →
+            self.new.read_only ≡ true →
+            IsLeft Flush self.old.engine.geometry (is_bad_by (ram self.old.engine)) [] w.log self.old.read_only result }
         ensures mountable { N.honest self.old.engine.nand ≡ true → IsWell N.flash self.old → result ≢ Err DeviceFault.BusFault →
             self.old.engine.mapping.capacity + self.old.engine.geometry.pages ≤ 65536 →
             IsMountable self.old.engine.geometry (self.old.engine.mapping.capacity + self.old.engine.geometry.pages) (image_in N.flash self.new.engine) }
@@ -274,8 +287,10 @@ impl<N: Nand> Device<N> {
             ShowsBad self.old.engine.geometry (image_in N.flash self.new.engine) b ↔
             (bad_of self.old.engine.geometry.pages (is_bad_by (ram self.old.engine)) w.log b ≡ true)) }
         ensures wear { N.honest self.old.engine.nand ≡ true → IsWell N.flash self.old → OnOk result
-            ((b : ℕ) → b < self.old.engine.geometry.blocks →
-            erase_count self.old.engine.geometry (image_in N.flash self.new.engine) b ≡ wear_at (ram self.new.engine).blocks.table b) }
+            ((w : Went (ram self.old.engine) (N.flash self.old.engine.nand) (ram self.new.engine) (N.flash self.new.engine.nand)) (b : ℕ) →
+            b < self.old.engine.geometry.blocks →
+            erase_count self.old.engine.geometry (image_in N.flash self.new.engine) b ≡
+            min (wear_at (ram self.old.engine).blocks.table b + passed_erases_of w.log b) most_wear) }
     {
         self.may_flush()?;
         let good = self.engine.blocks.good();

@@ -1,5 +1,5 @@
 //! A sector is made ready: its entry is cached before anything of it is programmed.
-ghost use Rattle.std.specs.Prelude.{◌≡◌, ◌≢◌, ◌<◌, ◌≤◌, true, length, Some, None, Ok, Err, IfOk, IfErr, IsSome, OnOk, OnErr, MatchResult};
+ghost use Rattle.std.specs.Prelude.{◌≡◌, ◌≢◌, ℕ, ◌<◌, ◌≤◌, true, length, Some, None, Ok, Err, IfOk, IfErr, IsSome, OnOk, OnErr, MatchResult};
 ghost use Rattle.std.specs.Option.{ForSome};
 ghost use Rattle.std.specs.Map.{keys_of};
 ghost use Rattle.page_layout.specs.Counter.{HasRisen};
@@ -14,10 +14,13 @@ ghost use Rattle.collection.specs.Log.{Went};
 ghost use Rattle.collection.specs.Settle.{HasNoMore};
 ghost use Rattle.collection.specs.Looks.{FindsRow, IsReadFault};
 ghost use Rattle.collection.specs.Results.{IsSame, Refused, fault_after};
-ghost use Rattle.collection.specs.Collect.{KeepsKeys, RestsOrErases, IsRearranged, RoomRefused};
+ghost use Rattle.collection.specs.Collect.{KeepsKeys, RestsOrErases, IsRearranged, RoomRefused, RoomCounts};
 ghost use Rattle.ftl_device.specs.Calls.{Tells, IsFound, CallTells, standing_after, KeepsArray, HoldsSector, CallRefused, IsMostRecent, HasMadeRoom, HasMadePlace, IsReady, HasCost, order_after};
+ghost use Rattle.budget.specs.Account.{IsFunded};
+ghost use Rattle.allocation.specs.Counts.{counts_of};
 ghost use Rattle.ftl_device.specs.Flush.{KeepsClean};
 ghost use Rattle.ftl_device.specs.Read.{IsLookedUp};
+ghost use Rattle.ftl_device.specs.Shortage.{HasFunds, PlaceCosts, RoomCosts, CallRoomCosts};
 
 use crate::fault::CallFault;
 use collection::{Engine, WriteFault};
@@ -46,6 +49,9 @@ pub(crate) fn make_room<N: Nand>(engine: &mut Engine<N>, flushing: bool) -> Resu
         MatchResult result
         (λ _. IsRearranged (ram engine.old) (image_in N.flash engine.old) (ram engine.new) (image_in N.flash engine.new))
         (RoomRefused (ram engine.old) (image_in N.flash engine.old) (ram engine.new) (image_in N.flash engine.new)) }
+    ensures count { N.honest engine.old.nand ≡ true → IsTrue None (ram engine.old) (image_in N.flash engine.old) →
+        (failures : ℕ) → IsFunded engine.old.geometry.pages failures (counts_of (ram engine.old).blocks) →
+        RoomCounts failures (ram engine.old) (ram engine.new) result }
 {
     engine.make_room(flushing)
 }
@@ -67,6 +73,7 @@ fn make_place<N: Nand>(engine: &mut Engine<N>, sector: u32) -> Result<(), WriteF
     ensures pin { (ram engine.new).pin ≡ (ram engine.old).pin }
     ensures no_more { HasNoMore engine.old.mapping engine.new.mapping }
     ensures cost { OnOk result (HasMadePlace sector (ram engine.old) (ram engine.new)) }
+    ensures costs { PlaceCosts (ram engine.old) (ram engine.new) result }
     ensures tells { Tells (ram engine.old) (ram engine.new) result }
     ensures went { N.honest engine.old.nand ≡ true → result ≢ Err WriteFault.Bus →
         Went (ram engine.old) (N.flash engine.old.nand) (ram engine.new) (N.flash engine.new.nand) }
@@ -138,6 +145,8 @@ fn prepare<N: Nand>(engine: &mut Engine<N>, sector: u32) -> Result<Option<u32>, 
     ensures limits { HasLimitsOf engine.old.mapping engine.new.mapping }
     ensures idle { OnOk result (IsIdle (ram engine.new)) }
     ensures cost { OnOk result (IsReady sector (ram engine.old) (ram engine.new)) }
+    ensures costs { RoomCosts (HasFunds (N.honest engine.old.nand) (ram engine.old) (image_in N.flash engine.old)) 1
+        (ram engine.old) (ram engine.new) result }
     ensures tells { Tells (ram engine.old) (ram engine.new) result }
     ensures went { N.honest engine.old.nand ≡ true → result ≢ Err WriteFault.Bus →
         Went (ram engine.old) (N.flash engine.old.nand) (ram engine.new) (N.flash engine.new.nand) }
@@ -174,6 +183,8 @@ fn make_ready<N: Nand>(engine: &mut Engine<N>, sector: u32) -> Result<(), CallFa
     ensures cached { IsSome (slot_of engine.old.mapping sector) → result ≢ Err CallFault.OutOfMemory }
     ensures limits { HasLimitsOf engine.old.mapping engine.new.mapping }
     ensures idle { engine.new.fault ≡ None → IsIdle (ram engine.new) }
+    ensures costs { CallRoomCosts (HasFunds (N.honest engine.old.nand) (ram engine.old) (image_in N.flash engine.old)) 1
+        (ram engine.old) (ram engine.new) result }
     ensures tells { CallTells (ram engine.old) (ram engine.new) result }
     ensures went { N.honest engine.old.nand ≡ true → result ≢ Err (CallFault.Engine WriteFault.Bus) →
         Went (ram engine.old) (N.flash engine.old.nand) (ram engine.new) (N.flash engine.new.nand) }
@@ -213,6 +224,8 @@ pub(crate) fn write_ready<N: Nand>(
     ensures cached { IsSome (slot_of engine.old.mapping sector) → result ≢ Err CallFault.OutOfMemory }
     ensures limits { HasLimitsOf engine.old.mapping engine.new.mapping }
     ensures idle { engine.new.fault ≡ None → IsIdle (ram engine.new) }
+    ensures costs { CallRoomCosts (HasFunds (N.honest engine.old.nand) (ram engine.old) (image_in N.flash engine.old)) 2
+        (ram engine.old) (ram engine.new) result }
     ensures tells { CallTells (ram engine.old) (ram engine.new) result }
     ensures went { N.honest engine.old.nand ≡ true → result ≢ Err (CallFault.Engine WriteFault.Bus) →
         Went (ram engine.old) (N.flash engine.old.nand) (ram engine.new) (N.flash engine.new.nand) }
@@ -247,6 +260,8 @@ pub(crate) fn trim_ready<N: Nand>(engine: &mut Engine<N>, sector: u32) -> Result
     ensures cached { IsSome (slot_of engine.old.mapping sector) → result ≢ Err CallFault.OutOfMemory }
     ensures limits { HasLimitsOf engine.old.mapping engine.new.mapping }
     ensures idle { engine.new.fault ≡ None → IsIdle (ram engine.new) }
+    ensures costs { CallRoomCosts (HasFunds (N.honest engine.old.nand) (ram engine.old) (image_in N.flash engine.old)) 2
+        (ram engine.old) (ram engine.new) result }
     ensures tells { CallTells (ram engine.old) (ram engine.new) result }
     ensures went { N.honest engine.old.nand ≡ true → result ≢ Err (CallFault.Engine WriteFault.Bus) →
         Went (ram engine.old) (N.flash engine.old.nand) (ram engine.new) (N.flash engine.new.nand) }

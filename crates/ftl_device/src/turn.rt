@@ -1,5 +1,5 @@
 //! A turn: a page is rescued from a bad block.
-ghost use Rattle.std.specs.Prelude.{◌≡◌, ◌≢◌, ◌+◌, ◌-◌, ◌≤◌, ◌^◌, true, false, Err, None, IfErr, OnOk, MatchResult};
+ghost use Rattle.std.specs.Prelude.{◌≡◌, ◌≢◌, ◌+◌, ◌-◌, ◌≤◌, ◌^◌, true, false, [], Err, None, IfErr, OnOk, MatchResult};
 ghost use Rattle.std.specs.Option.{ForSome};
 ghost use Rattle.page_layout.specs.Counter.{HasRisen};
 ghost use Rattle.page_layout.specs.Geometry.{need};
@@ -13,7 +13,9 @@ ghost use Rattle.collection.specs.Log.{Went};
 ghost use Rattle.collection.specs.Collect.{HasAiling};
 ghost use Rattle.ftl_device.specs.Device.{IsDevice};
 ghost use Rattle.ftl_device.specs.Calls.{state_in, reply_of, stop_of, IsWell, Says, CallTells, standing_after, KeepsArray, CallRefused, HasRescued, HasRested, HasWorked};
-ghost use Rattle.ftl_device.specs.Counts.{is_bad_by, IsShown};
+ghost use Rattle.ftl_device.specs.Counts.{is_bad_by, IsShown, IsLeft};
+ghost use Rattle.allocation.specs.State.{free_count};
+ghost use Rattle.ftl_device.specs.Shortage.{HasFunds, CallShort};
 
 use crate::device::Device;
 use crate::fault::{CallFault, DeviceFault};
@@ -36,6 +38,8 @@ fn turn_ready<N: Nand>(engine: &mut Engine<N>) -> Result<(), CallFault>
     ensures memory { result ≢ Err CallFault.OutOfMemory }
     ensures limits { HasLimitsOf engine.old.mapping engine.new.mapping }
     ensures idle { engine.new.fault ≡ None → IsIdle (ram engine.new) }
+    ensures count { HasFunds (N.honest engine.old.nand) (ram engine.old) (image_in N.flash engine.old) →
+        5 ≤ free_count (ram engine.old).blocks → CallShort (ram engine.old) (ram engine.new) result }
     ensures tells { CallTells (ram engine.old) (ram engine.new) result }
     ensures rested { HasRested (ram engine.old) (ram engine.new) }
     ensures went { N.honest engine.old.nand ≡ true → result ≢ Err (CallFault.Engine WriteFault.Bus) →
@@ -103,7 +107,11 @@ impl<N: Nand> Device<N> {
             IsWell N.flash self.new }
         ensures shown { N.honest self.old.engine.nand ≡ true → IsWell N.flash self.old → result ≢ Err DeviceFault.BusFault →
             (w : Went (ram self.old.engine) (N.flash self.old.engine.nand) (ram self.new.engine) (N.flash self.new.engine.nand)) →
-            IfErr result (IsShown self.old.engine.geometry (is_bad_by (ram self.old.engine)) self.old.engine.next w.log w.log (image_in N.flash self.new.engine)) }
+            IfErr result (IsShown self.old.engine.geometry (is_bad_by (ram self.old.engine)) self.old.engine.next [] w.log self.old.read_only (image_in N.flash self.new.engine)) }
+        ensures left { N.honest self.old.engine.nand ≡ true → IsWell N.flash self.old → result ≢ Err DeviceFault.BusFault →
+            (w : Went (ram self.old.engine) (N.flash self.old.engine.nand) (ram self.new.engine) (N.flash self.new.engine.nand)) →
+            self.new.read_only ≡ true →
+            IsLeft Turn self.old.engine.geometry (is_bad_by (ram self.old.engine)) [] w.log self.old.read_only result }
         ensures mountable { N.honest self.old.engine.nand ≡ true → IsWell N.flash self.old → result ≢ Err DeviceFault.BusFault →
             self.old.engine.mapping.capacity + self.old.engine.geometry.pages ≤ 65536 →
             IsMountable self.old.engine.geometry (self.old.engine.mapping.capacity + self.old.engine.geometry.pages) (image_in N.flash self.new.engine) }

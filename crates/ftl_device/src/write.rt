@@ -1,5 +1,5 @@
 //! Sectors are written and trimmed.
-ghost use Rattle.std.specs.Prelude.{◌≡◌, ◌≢◌, ◌↔◌, ◌+◌, ◌-◌, ◌<◌, ◌≤◌, ◌^◌, true, false, length, Ok, Err, Some, None, IsOk, IfErr, IsSome, OnOk, MatchOption};
+ghost use Rattle.std.specs.Prelude.{◌≡◌, ◌≢◌, ◌↔◌, ◌+◌, ◌-◌, ◌<◌, ◌≤◌, ◌^◌, true, false, [], length, Ok, Err, Some, None, IsOk, IfErr, IsSome, OnOk, MatchOption};
 ghost use Rattle.std.specs.Option.{ForSome};
 ghost use Rattle.std.specs.Map.{keys_of};
 ghost use Rattle.page_layout.specs.Counter.{HasRisen};
@@ -14,7 +14,7 @@ ghost use Rattle.collection.specs.Safe.{IsSafe, IsIdle, ram, image_in};
 ghost use Rattle.collection.specs.Log.{Went};
 ghost use Rattle.ftl_device.specs.Device.{IsDevice};
 ghost use Rattle.ftl_device.specs.Calls.{state_in, reply_of, stop_of, IsWell, Says, CallTells, standing_after, MayChange, MayNot, answer_of, IsMostRecent, IsReady, HasCost, order_after};
-ghost use Rattle.ftl_device.specs.Counts.{is_bad_by, IsShown};
+ghost use Rattle.ftl_device.specs.Counts.{is_bad_by, IsShown, IsLeft};
 
 use crate::device::Device;
 use crate::fault::{CallFault, DeviceFault};
@@ -179,7 +179,11 @@ impl<N: Nand> Device<N> {
             is_stale self.old.engine.geometry (image_in N.flash self.old.engine) sector ≡ true → result ≢ Err DeviceFault.OutOfMemory }
         ensures shown { N.honest self.old.engine.nand ≡ true → IsWell N.flash self.old → result ≢ Err DeviceFault.BusFault →
             (w : Went (ram self.old.engine) (N.flash self.old.engine.nand) (ram self.new.engine) (N.flash self.new.engine.nand)) →
-            IfErr result (IsShown self.old.engine.geometry (is_bad_by (ram self.old.engine)) self.old.engine.next w.log w.log (image_in N.flash self.new.engine)) }
+            IfErr result (IsShown self.old.engine.geometry (is_bad_by (ram self.old.engine)) self.old.engine.next [] w.log self.old.read_only (image_in N.flash self.new.engine)) }
+        ensures left { N.honest self.old.engine.nand ≡ true → IsWell N.flash self.old → result ≢ Err DeviceFault.BusFault →
+            (w : Went (ram self.old.engine) (N.flash self.old.engine.nand) (ram self.new.engine) (N.flash self.new.engine.nand)) →
+            self.new.read_only ≡ true →
+            IsLeft (Write sector body.now) self.old.engine.geometry (is_bad_by (ram self.old.engine)) [] w.log self.old.read_only result }
         ensures mountable { N.honest self.old.engine.nand ≡ true → IsWell N.flash self.old → result ≢ Err DeviceFault.BusFault →
             self.old.engine.mapping.capacity + self.old.engine.geometry.pages ≤ 65536 →
             IsMountable self.old.engine.geometry (self.old.engine.mapping.capacity + self.old.engine.geometry.pages) (image_in N.flash self.new.engine) }
@@ -241,7 +245,11 @@ impl<N: Nand> Device<N> {
             is_stale self.old.engine.geometry (image_in N.flash self.old.engine) sector ≡ true → result ≢ Err DeviceFault.OutOfMemory }
         ensures shown { N.honest self.old.engine.nand ≡ true → IsWell N.flash self.old → result ≢ Err DeviceFault.BusFault →
             (w : Went (ram self.old.engine) (N.flash self.old.engine.nand) (ram self.new.engine) (N.flash self.new.engine.nand)) →
-            IfErr result (IsShown self.old.engine.geometry (is_bad_by (ram self.old.engine)) self.old.engine.next w.log w.log (image_in N.flash self.new.engine)) }
+            IfErr result (IsShown self.old.engine.geometry (is_bad_by (ram self.old.engine)) self.old.engine.next [] w.log self.old.read_only (image_in N.flash self.new.engine)) }
+        ensures left { N.honest self.old.engine.nand ≡ true → IsWell N.flash self.old → result ≢ Err DeviceFault.BusFault →
+            (w : Went (ram self.old.engine) (N.flash self.old.engine.nand) (ram self.new.engine) (N.flash self.new.engine.nand)) →
+            self.new.read_only ≡ true →
+            IsLeft (Trim sector) self.old.engine.geometry (is_bad_by (ram self.old.engine)) [] w.log self.old.read_only result }
         ensures mountable { N.honest self.old.engine.nand ≡ true → IsWell N.flash self.old → result ≢ Err DeviceFault.BusFault →
             self.old.engine.mapping.capacity + self.old.engine.geometry.pages ≤ 65536 →
             IsMountable self.old.engine.geometry (self.old.engine.mapping.capacity + self.old.engine.geometry.pages) (image_in N.flash self.new.engine) }

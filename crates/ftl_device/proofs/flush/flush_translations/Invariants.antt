@@ -1,12 +1,15 @@
 use Rattle.std.proofs.Common.{◌≡◌, ◌<◌, ◌≤◌, ℕ, true, None}
 use Rattle.std.specs.Map.{keys_of}
 use Rattle.bad_blocks.specs.Table.{good_count}
+use Rattle.budget.specs.Account.{IsFunded}
+use Rattle.allocation.specs.Counts.{counts_of}
 use Rattle.collection.specs.Safe.{IsSafe, IsIdle, ram, image_in}
 use Rattle.collection.specs.Truth.{IsTrue}
 use Rattle.collection.specs.Log.{Went}
 use Rattle.mapping_cache.specs.Mapping.{HasLimitsOf}
 use Rattle.ftl_device.specs.Calls.{KeepsArray}
 use Rattle.ftl_device.specs.Flush.{IsClean}
+use Rattle.ftl_device.specs.Shortage.{FlushFunded}
 use Rattle.ftl_device.proofs.flush.flush_translations.Given as goal
 
 abbrev pub invariant-translations : goal.invariant-translations
@@ -22,6 +25,7 @@ invariant-translations g l = record {
   idle : IsIdle (ram l.engine);
   clean : (t : ℕ) → t < l.t → IsClean l.initial.engine.geometry t l.engine.mapping;
   fewer : good_count (ram l.engine).blocks.table ≤ good_count (ram l.initial.engine).blocks.table;
+  count : g.N.PageSource.honest l.initial.engine.nand ≡ true → IsTrue None (ram l.initial.engine) (image_in g.N.PageSource.flash l.initial.engine) → (failures : ℕ) → IsFunded l.initial.engine.geometry.pages failures (counts_of (ram l.initial.engine).blocks) → FlushFunded failures (ram l.initial.engine) (ram l.engine);
   went : g.N.PageSource.honest l.initial.engine.nand ≡ true → Went (ram l.initial.engine) (g.N.PageSource.flash l.initial.engine.nand) (ram l.engine) (g.N.PageSource.flash l.engine.nand);
   truth : g.N.PageSource.honest l.initial.engine.nand ≡ true → IsTrue None (ram l.initial.engine) (image_in g.N.PageSource.flash l.initial.engine) → KeepsArray l.initial.engine.geometry (image_in g.N.PageSource.flash l.initial.engine) (ram l.engine) (image_in g.N.PageSource.flash l.engine);
 }

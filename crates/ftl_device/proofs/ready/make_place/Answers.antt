@@ -2,6 +2,7 @@ use Rattle.std.proofs.Common.{◌∙◌, sym}
 use Rattle.collection.specs.Safe.{ram}
 use Rattle.ftl_device.proofs.ReadyLemmas.{least_page, place_made}
 use Rattle.ftl_device.proofs.CostLemmas.{place_there, place_taken}
+use Rattle.ftl_device.proofs.SpentLemmas.{place_free, place_costs}
 use Rattle.ftl_device.proofs.ready.make_place.Goals as goal
 
 pub write_back-requires-clause-page : goal.write_back-requires-clause-page
@@ -15,3 +16,12 @@ returns-then-can_load-clause-cost g c = place_there c.args.sector (ram c.args.en
 
 pub returns-in-Some-clause-cost : goal.returns-in-Some-clause-cost
 returns-in-Some-clause-cost g c = place_taken c.write_back.result c.args.sector (ram c.args.engine.now) (ram c.write_back.new.self) (λ can. let no : ⊥ = cc (c.can_load.ensures.1 can) in no) c.write_back.ensures.goes.geometry (c.write_back.ensures.cost c.requires.going)
+
+pub returns-then-can_load-clause-costs : goal.returns-then-can_load-clause-costs
+returns-then-can_load-clause-costs g c = place_free (ram c.args.engine.now)
+
+pub returns-in-Some-clause-costs : goal.returns-in-Some-clause-costs
+returns-in-Some-clause-costs g c = place_costs c.write_back.result (ram c.args.engine.now) (ram c.write_back.new.self) (c.write_back.ensures.cost c.requires.going)
+
+pub returns-in-None-clause-costs : goal.returns-in-None-clause-costs
+returns-in-None-clause-costs g c = place_free (ram c.args.engine.now)

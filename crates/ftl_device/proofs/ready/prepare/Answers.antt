@@ -1,4 +1,4 @@
-use Rattle.std.proofs.Common.{◌≡◌, ◌∙◌, ap}
+use Rattle.std.proofs.Common.{◌∙◌}
 use Rattle.std.proofs.lemmas.Result.{err_from_is_err_and}
 use Rattle.collection.specs.Safe.{ram, image_in}
 use Rattle.collection.proofs.Logs.{went_then}
@@ -8,6 +8,8 @@ use Rattle.ftl_device.proofs.ReadyLemmas.{place_stays}
 use Rattle.ftl_device.proofs.CostLemmas.{ready_found}
 use Rattle.ftl_device.proofs.PrepareLemmas.{tells_then, tells_found, went_found, found_after, idle_after}
 use Rattle.ftl_device.proofs.ReadLemmas.{finds_noted}
+use Rattle.ftl_device.specs.Shortage.{HasFunds}
+use Rattle.ftl_device.proofs.SpentLemmas.{after_room, room_refused, place_refused, found_costs}
 use Rattle.ftl_device.proofs.ready.prepare.Goals as goal
 
 pub returns-clause-place : goal.returns-clause-place
@@ -63,3 +65,18 @@ returns-in_err-make_room-clause-truth g c =
 
 pub returns-clause-checked : goal.returns-clause-checked
 returns-clause-checked g c = finds_noted c.find_row.result (ram c.make_place.new.engine) (ram c.find_row.new.engine) c.args.sector _ _ c.find_row.ensures.memory c.find_row.ensures.checked
+
+pub returns-clause-costs : goal.returns-clause-costs
+returns-clause-costs g c = found_costs (HasFunds (g.N.PageSource.honest c.args.engine.now.nand) (ram c.args.engine.now) (image_in g.N.PageSource.flash c.args.engine.now)) c.find_row.result (ram c.args.engine.now) (ram c.make_room.new.engine) (ram c.make_place.new.engine) (ram c.find_row.new.engine) _
+    (after_room (HasFunds (g.N.PageSource.honest c.args.engine.now.nand) (ram c.args.engine.now) (image_in g.N.PageSource.flash c.args.engine.now)) (ram c.args.engine.now) (ram c.make_room.new.engine) c.make_room.ensures.safe.memory c.in_ok-make_room.ensures.made (λ k. c.in_ok-make_room.ensures.count k.0 k.1 0 k.2)) c.in_ok-make_place.ensures.costs c.find_row.ensures.memory c.find_row.ensures.faults
+
+pub returns-in_err-make_place-clause-costs : goal.returns-in_err-make_place-clause-costs
+returns-in_err-make_place-clause-costs g c =
+    let p = err_from_is_err_and c.from_residual-in_err-make_place.result c.from_residual-in_err-make_place.ensures.1 in
+    rw (p.1, p.2) (place_refused (HasFunds (g.N.PageSource.honest c.args.engine.now.nand) (ram c.args.engine.now) (image_in g.N.PageSource.flash c.args.engine.now)) _ (ram c.args.engine.now) (ram c.make_room.new.engine) (ram c.make_place.new.engine)
+    (after_room (HasFunds (g.N.PageSource.honest c.args.engine.now.nand) (ram c.args.engine.now) (image_in g.N.PageSource.flash c.args.engine.now)) (ram c.args.engine.now) (ram c.make_room.new.engine) c.make_room.ensures.safe.memory c.in_ok-make_room.ensures.made (λ k. c.in_ok-make_room.ensures.count k.0 k.1 0 k.2)) c.in_err-make_place.ensures.costs)
+
+pub returns-in_err-make_room-clause-costs : goal.returns-in_err-make_room-clause-costs
+returns-in_err-make_room-clause-costs g c =
+    let p = err_from_is_err_and c.from_residual.result c.from_residual.ensures.1 in
+    rw (p.1, p.2) (room_refused (HasFunds (g.N.PageSource.honest c.args.engine.now.nand) (ram c.args.engine.now) (image_in g.N.PageSource.flash c.args.engine.now)) _ (ram c.args.engine.now) (ram c.make_room.new.engine) c.in_err-make_room.ensures.tells (λ k. c.in_err-make_room.ensures.count k.0 k.1 0 k.2))

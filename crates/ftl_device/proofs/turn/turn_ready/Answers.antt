@@ -1,9 +1,10 @@
-use Rattle.std.proofs.Common.{◌∙◌, ap}
+use Rattle.std.proofs.Common.{◌∙◌, inr}
 use Rattle.std.proofs.lemmas.Result.{err_from_is_err_and}
 use Rattle.collection.specs.Safe.{ram}
 use Rattle.collection.proofs.Logs.{went_then}
 use Rattle.ftl_device.proofs.FlushLoops.{limits_then, engine_keeps, engine_refused}
 use Rattle.ftl_device.proofs.RoomLemmas.{never_rested, rescued_none, rescued_by, rescue_tells, rescue_fewer, rescue_not_bus, keeps_room, refused_room, not_ailing, rescue_worked}
+use Rattle.ftl_device.proofs.SpentLemmas.{rescue_short, rescue_stuck, unroomed_short}
 use Rattle.ftl_device.proofs.turn.turn_ready.Goals as goal
 
 -- ---- no bad block has a newest page
@@ -83,3 +84,21 @@ returns-clause-worked g c = λ honest w some.
     let room = c.in_ok-make_room.ensures.truth honest w in
     let one = c.in_ok-rescue_one.ensures.truth (c.make_room.ensures.honest ∙ honest) c.in_ok-make_room.ensures.fault room.truth in
     rescue_worked (ram c.args.engine.now) (ram c.make_room.new.engine) (ram c.rescue_one.new.self) _ _ _ _ _ _ c.make_room.ensures.safe.memory c.rescue_one.ensures.safe.memory some c.in_ok-make_room.ensures.erases c.rescue_one.ensures.erases c.rescue_one.ensures.goes (c.in_ok-rescue_one.ensures.cost c.in_ok-make_room.ensures.fault) one
+
+-- ---- the count
+
+pub returns-then-not-needs_rescue-clause-count : goal.returns-then-not-needs_rescue-clause-count
+returns-then-not-needs_rescue-clause-count g c = λ known five. inr five
+
+pub returns-in_err-make_room-clause-count : goal.returns-in_err-make_room-clause-count
+returns-in_err-make_room-clause-count g c =
+    let p = err_from_is_err_and c.from_residual.result c.from_residual.ensures.1 in
+    rw (p.1, p.2) (λ known five. unroomed_short _ (ram c.args.engine.now) (ram c.make_room.new.engine) (c.in_err-make_room.ensures.count known.0 known.1 0 known.2))
+
+pub returns-in_err-rescue_one-clause-count : goal.returns-in_err-rescue_one-clause-count
+returns-in_err-rescue_one-clause-count g c =
+    let p = err_from_is_err_and c.from_residual-in_err-rescue_one.result c.from_residual-in_err-rescue_one.ensures.1 in
+    rw (p.1, p.2) (λ known five. rescue_stuck (ram c.args.engine.now) (ram c.make_room.new.engine) (ram c.rescue_one.new.self) c.requires.safe.memory c.make_room.ensures.safe.memory c.rescue_one.ensures.safe.memory c.in_ok-make_room.ensures.made c.rescue_one.ensures.goes (c.in_ok-make_room.ensures.count known.0 known.1 0 known.2) _ (c.in_err-rescue_one.ensures.cost c.in_ok-make_room.ensures.fault))
+
+pub returns-clause-count : goal.returns-clause-count
+returns-clause-count g c = λ known five. rescue_short (ram c.args.engine.now) (ram c.make_room.new.engine) (ram c.rescue_one.new.self) c.requires.safe.memory c.make_room.ensures.safe.memory c.rescue_one.ensures.safe.memory c.in_ok-make_room.ensures.made c.rescue_one.ensures.goes (c.in_ok-make_room.ensures.count known.0 known.1 0 known.2) _ (c.in_ok-rescue_one.ensures.cost c.in_ok-make_room.ensures.fault)

@@ -35,9 +35,9 @@ loop-call-preserved g c =
     } in
     record {
       running = running_more g.N.PageSource.flash g.N.PageSource.honest g.N.PageSource.failed c.args.self.now c.loop-call.self c.tell.new.self c.args.calls.now c.loop-call.calls c.loop-call.call-index
-    item after c.tell.result c.requires.device c.loop-call.invariant.running (slice_get-get_or c.loop-call.calls c.loop-call.call-index c.call-item.result below) below refl refl
-    c.tell.new.bytes (with_items_is item.bytes c.tell.new.bytes long) c.tell.ensures.room tells
-    (subst (λ bs. KeepsBytes (told after) c.tell.result bs c.tell.new.bytes) c.deref_mut.ensures.value c.tell.ensures.kept);
+          item after c.tell.result c.requires.device c.loop-call.invariant.running (slice_get-get_or c.loop-call.calls c.loop-call.call-index c.call-item.result below) below refl refl
+          c.tell.new.bytes (with_items_is item.bytes c.tell.new.bytes long) c.tell.ensures.room tells
+          (subst (λ bs. KeepsBytes (told after) c.tell.result bs c.tell.new.bytes) c.deref_mut.ensures.value c.tell.ensures.kept);
       as_calm = its.calm ∙ c.loop-call.invariant.as_calm;
     }
 

@@ -1,29 +1,29 @@
 use Rattle.promises.specs.Step as step
 use Rattle.page_layout.specs.Array.{zeros}
 use Rattle.collection.specs.Safe.{page_in}
-use Rattle.ftl_device.proofs.RunLemmas.{read_happened, changed, write_sound, quiet_sound}
+use Rattle.ftl_device.proofs.RunLemmas.{read_happened, changed, write_sound, quiet_sound, flushed_out}
 use Rattle.ftl_device.proofs.device.Device.tell.Goals as goal
 
 pub returns-in-Read-clause-happened : goal.returns-in-Read-clause-happened
 returns-in-Read-clause-happened g c = λ honest w ne.
-    rw c.in-Read.is (read_happened g.N.PageSource.flash c.args.self.now c.read.new.self c.read.result ne c.in-Read.sector c.read.new.out (page_in c.read.new.self.engine.scratch) (page_in c.read.new.self.engine.page) (c.read.ensures.step honest w ne) (c.read.ensures.same honest ne) c.read.ensures.memory c.read.ensures.faults)
+    rw c.in-Read.is (read_happened g.N.PageSource.flash c.args.self.now c.read.new.self c.read.result ne c.in-Read.sector c.read.new.out (page_in c.read.new.self.engine.scratch) (page_in c.read.new.self.engine.page) (c.read.ensures.step honest w ne) (c.read.ensures.same honest ne) c.read.ensures.memory c.read.ensures.read_only c.read.ensures.faults)
 
 pub returns-in-Write-clause-happened : goal.returns-in-Write-clause-happened
 returns-in-Write-clause-happened g c = λ honest w ne.
-    rw c.in-Write.is (changed g.N.PageSource.flash c.args.self.now c.write.new.self c.write.result ne c.requires.device.engine.memory c.write.ensures.device.engine.memory c.write.ensures.geometry (c.write.ensures.well honest w ne) (c.write.ensures.went honest ne) c.write.ensures.says
-    (step.Write c.in-Write.sector c.in-Write.body.now) c.args.bytes.now (write_sound _ _ _ c.in-Write.sector c.in-Write.body.now c.write.result (c.write.ensures.step honest w ne)) (c.write.ensures.stale honest w) (c.write.ensures.step honest w ne))
+    rw c.in-Write.is (changed g.N.PageSource.flash c.args.self.now c.write.new.self c.write.result ne c.requires.device.engine.memory c.write.ensures.device.engine.memory c.write.ensures.geometry (c.write.ensures.well honest w ne) (c.write.ensures.went honest ne) c.write.ensures.says (c.write.ensures.shown honest w ne (c.write.ensures.went honest ne))
+    (step.Write c.in-Write.sector c.in-Write.body.now) c.args.bytes.now (λ is. (let no : ⊥ = cc in absurd no)) (c.write.ensures.left honest w ne (c.write.ensures.went honest ne)) (write_sound _ _ _ c.in-Write.sector c.in-Write.body.now c.write.result (c.write.ensures.step honest w ne)) (c.write.ensures.stale honest w) (c.write.ensures.step honest w ne))
 
 pub returns-in-Trim-clause-happened : goal.returns-in-Trim-clause-happened
 returns-in-Trim-clause-happened g c = λ honest w ne.
-    rw c.in-Trim.is (changed g.N.PageSource.flash c.args.self.now c.trim.new.self c.trim.result ne c.requires.device.engine.memory c.trim.ensures.device.engine.memory c.trim.ensures.geometry (c.trim.ensures.well honest w ne) (c.trim.ensures.went honest ne) c.trim.ensures.says
-    (step.Trim c.in-Trim.sector) c.args.bytes.now (write_sound _ _ _ c.in-Trim.sector (zeros c.args.self.now.engine.geometry) c.trim.result (c.trim.ensures.step honest w ne)) (c.trim.ensures.stale honest w) (c.trim.ensures.step honest w ne))
+    rw c.in-Trim.is (changed g.N.PageSource.flash c.args.self.now c.trim.new.self c.trim.result ne c.requires.device.engine.memory c.trim.ensures.device.engine.memory c.trim.ensures.geometry (c.trim.ensures.well honest w ne) (c.trim.ensures.went honest ne) c.trim.ensures.says (c.trim.ensures.shown honest w ne (c.trim.ensures.went honest ne))
+    (step.Trim c.in-Trim.sector) c.args.bytes.now (λ is. (let no : ⊥ = cc in absurd no)) (c.trim.ensures.left honest w ne (c.trim.ensures.went honest ne)) (write_sound _ _ _ c.in-Trim.sector (zeros c.args.self.now.engine.geometry) c.trim.result (c.trim.ensures.step honest w ne)) (c.trim.ensures.stale honest w) (c.trim.ensures.step honest w ne))
 
 pub returns-in-Flush-clause-happened : goal.returns-in-Flush-clause-happened
 returns-in-Flush-clause-happened g c = λ honest w ne.
-    rw c.in-Flush.is (changed g.N.PageSource.flash c.args.self.now c.flush.new.self c.flush.result ne c.requires.device.engine.memory c.flush.ensures.device.engine.memory c.flush.ensures.geometry (c.flush.ensures.well honest w ne) (c.flush.ensures.went honest ne) c.flush.ensures.says
-    step.Flush c.args.bytes.now (quiet_sound _ _ c.flush.result (c.flush.ensures.step honest w ne)) (λ none. c.flush.ensures.memory) (c.flush.ensures.step honest w ne))
+    rw c.in-Flush.is (changed g.N.PageSource.flash c.args.self.now c.flush.new.self c.flush.result ne c.requires.device.engine.memory c.flush.ensures.device.engine.memory c.flush.ensures.geometry (c.flush.ensures.well honest w ne) (c.flush.ensures.went honest ne) c.flush.ensures.says (c.flush.ensures.shown honest w ne (c.flush.ensures.went honest ne))
+    step.Flush c.args.bytes.now (λ is done. flushed_out g.N.PageSource.flash c.args.self.now c.flush.new.self c.flush.result (c.flush.ensures.went honest ne) done (c.flush.ensures.anywhere honest w) (c.flush.ensures.fresh honest w) (c.flush.ensures.bad honest w) (c.flush.ensures.wear honest w)) (c.flush.ensures.left honest w ne (c.flush.ensures.went honest ne)) (quiet_sound _ _ c.flush.result (c.flush.ensures.step honest w ne)) (λ none. c.flush.ensures.memory) (c.flush.ensures.step honest w ne))
 
 pub returns-in-Turn-clause-happened : goal.returns-in-Turn-clause-happened
 returns-in-Turn-clause-happened g c = λ honest w ne.
-    rw c.in-Turn.is (changed g.N.PageSource.flash c.args.self.now c.turn.new.self c.turn.result ne c.requires.device.engine.memory c.turn.ensures.device.engine.memory c.turn.ensures.geometry (c.turn.ensures.well honest w ne) (c.turn.ensures.went honest ne) c.turn.ensures.says
-    step.Turn c.args.bytes.now (quiet_sound _ _ c.turn.result (c.turn.ensures.step honest w ne)) (λ none. c.turn.ensures.memory) (c.turn.ensures.step honest w ne))
+    rw c.in-Turn.is (changed g.N.PageSource.flash c.args.self.now c.turn.new.self c.turn.result ne c.requires.device.engine.memory c.turn.ensures.device.engine.memory c.turn.ensures.geometry (c.turn.ensures.well honest w ne) (c.turn.ensures.went honest ne) c.turn.ensures.says (c.turn.ensures.shown honest w ne (c.turn.ensures.went honest ne))
+    step.Turn c.args.bytes.now (λ is. (let no : ⊥ = cc in absurd no)) (c.turn.ensures.left honest w ne (c.turn.ensures.went honest ne)) (quiet_sound _ _ c.turn.result (c.turn.ensures.step honest w ne)) (λ none. c.turn.ensures.memory) (c.turn.ensures.step honest w ne))

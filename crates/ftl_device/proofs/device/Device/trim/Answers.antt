@@ -1,12 +1,15 @@
 use Rattle.std.proofs.Common.{◌≡◌, ◌∙◌, Err, refl, sym, ap, subst}
 use Rattle.std.specs.Map.{keys_of}
 use Rattle.std.proofs.lemmas.Result.{err_from_is_err_and}
-use Rattle.collection.specs.Safe.{ram}
+use Rattle.collection.specs.Safe.{ram, image_in}
 use Rattle.ftl_device.proofs.CallLemmas.{well_ram, well_device, memory_only, mountable_after, recent_after, went_after}
 use Rattle.ftl_device.proofs.MountableLemmas.{stale_law, restart_law}
-use Rattle.ftl_device.proofs.ShownLemmas.{shown_refused, shown_after}
+use Rattle.ftl_device.proofs.ShownLemmas.{shown_refused, shown_after, left_after, left_refused}
 use Rattle.ftl_device.specs.Calls.{IsReady, HasCost, order_after}
 use Rattle.ftl_device.proofs.CostLemmas.{done_after, closed_is, spent_is, never_memory}
+use Rattle.promises.specs.Step as step
+use Rattle.ftl_device.specs.Shortage.{HasFunds}
+use Rattle.ftl_device.proofs.SpentLemmas.{funded_begun, call_short}
 use Rattle.ftl_device.proofs.device.Device.trim.Goals as goal
 
 pub returns-clause-well : goal.returns-clause-well
@@ -25,7 +28,7 @@ pub returns-in_err-may_change-clause-mountable : goal.returns-in_err-may_change-
 returns-in_err-may_change-clause-mountable g c = λ honest w ne most. restart_law (ram c.args.self.now.engine) _ c.requires.device.engine.memory w.truth most
 
 pub returns-clause-shown : goal.returns-clause-shown
-returns-clause-shown g c = λ honest w ne log. shown_after g.N.PageSource.flash c.args.self.now.engine c.trim_ready-answer.new.engine c.finish.new.self.engine log c.args.sector _ c.trim_ready-answer.result c.finish.result c.good-good.result c.finish.ensures.engine c.requires.device.engine.memory c.trim_ready-answer.ensures.safe.memory c.trim_ready-answer.ensures.geometry c.good-good.ensures c.finish.ensures.answer c.trim_ready-answer.ensures.tells (c.trim_ready-answer.ensures.truth honest w.truth) ne
+returns-clause-shown g c = λ honest w ne log. shown_after g.N.PageSource.flash c.args.self.now.engine c.trim_ready-answer.new.engine c.finish.new.self.engine log c.args.sector _ c.args.self.now.read_only c.trim_ready-answer.result c.finish.result c.good-good.result c.finish.ensures.engine c.requires.device.engine.memory c.trim_ready-answer.ensures.safe.memory c.trim_ready-answer.ensures.geometry c.good-good.ensures c.finish.ensures.answer c.trim_ready-answer.ensures.tells (call_short (HasFunds (g.N.PageSource.honest c.args.self.now.engine.nand) (ram c.args.self.now.engine) (image_in g.N.PageSource.flash c.args.self.now.engine)) c.trim_ready-answer.result (ram c.args.self.now.engine) (ram c.trim_ready-answer.new.engine) c.requires.device.engine.memory c.trim_ready-answer.ensures.costs (honest, w.truth, funded_begun (ram c.args.self.now.engine) c.args.self.now.read_only c.requires.device.read_only c.in_ok-may_change.ensures.may.writable)) (c.trim_ready-answer.ensures.truth honest w.truth) ne
 
 pub returns-in_err-may_change-clause-shown : goal.returns-in_err-may_change-clause-shown
 returns-in_err-may_change-clause-shown g c = λ honest w ne log.
@@ -64,3 +67,13 @@ returns-in_err-may_change-clause-unwritten g c =
 
 pub returns-clause-went : goal.returns-clause-went
 returns-clause-went g c = λ honest. went_after g.N.PageSource.flash c.args.self.now.engine c.trim_ready-answer.new.engine c.finish.new.self.engine c.trim_ready-answer.result c.finish.result c.good-good.result c.finish.ensures.engine c.finish.ensures.answer (c.trim_ready-answer.ensures.went honest)
+
+pub returns-clause-left : goal.returns-clause-left
+returns-clause-left g c = λ honest w ne log on. left_after g.N.PageSource.flash (step.Trim c.args.sector) c.args.self.now.engine c.trim_ready-answer.new.engine c.finish.new.self.engine log c.args.self.now.read_only c.finish.new.self.read_only c.trim_ready-answer.result c.finish.result c.good-good.result
+    c.finish.ensures.engine c.finish.ensures.answer c.requires.device.engine.memory c.finish.ensures.device.engine.memory c.trim_ready-answer.ensures.geometry c.finish.ensures.device.read_only on
+    (call_short (HasFunds (g.N.PageSource.honest c.args.self.now.engine.nand) (ram c.args.self.now.engine) (image_in g.N.PageSource.flash c.args.self.now.engine)) c.trim_ready-answer.result (ram c.args.self.now.engine) (ram c.trim_ready-answer.new.engine) c.requires.device.engine.memory c.trim_ready-answer.ensures.costs (honest, w.truth, funded_begun (ram c.args.self.now.engine) c.args.self.now.read_only c.requires.device.read_only c.in_ok-may_change.ensures.may.writable))
+
+pub returns-in_err-may_change-clause-left : goal.returns-in_err-may_change-clause-left
+returns-in_err-may_change-clause-left g c = λ honest w ne log on.
+    let p = err_from_is_err_and c.from_residual.result c.from_residual.ensures.1 in
+    rw (p.1, p.2) (left_refused (step.Trim c.args.sector) (ram c.args.self.now.engine) log.log c.args.self.now.read_only c.args.sector _ c.in_err-may_change.ensures.may_not)
