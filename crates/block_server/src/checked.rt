@@ -30,13 +30,18 @@ pub enum RunFault<N> {
 /// Checks that the certificate agrees with what the die holds, starts a device from it, and serves
 /// requests until their stream ends; then the die comes back.
 ///
-/// **If the certificate is accepted, the die holds just one array of sectors. Over every list of requests
-/// and failing programs and erases, each answer is that array's, the die holds that array after each, no
-/// page is programmed twice between erases, and no block that the certificate gives as bad, or that has
-/// failed, is programmed or erased. A write is refused only with fewer than five free blocks, by the
-/// image and the log, with the last sequence given out, or for memory, while reads give the array's
-/// sectors.** It is said where the die is honest and answered every operation, so that no reply is
-/// `BusFault`, which comes only where the die's count of faults rose or stands at 2^64 - 1.
+/// **If the checker accepts an image and its certificate, the image holds exactly one array of sectors;
+/// over every later list of commands, turns and chip failures each answer is that array's, the die holds
+/// that array after each, no page is programmed twice between erases, no bad block is programmed or
+/// erased, and writes are refused only by a named shortage while reads stay right.**
+///
+/// The shortage: after the call fewer than `Geometry::need` blocks are good, or more than two failed in
+/// it, or the device was read-only before it, by the image and the log; fewer than five blocks are free
+/// then. The other refusals of a write are `SequenceSpent`, with the last sequence given out, and
+/// `OutOfMemory`. Bad are the blocks that the certificate gives as bad, and those that have failed since.
+///
+/// It is said where the die is honest and answered every operation, so that no reply is `BusFault`, which
+/// comes only where the die's count of faults rose or stands at 2^64 - 1.
 ///
 /// # Errors
 ///
