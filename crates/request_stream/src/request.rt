@@ -18,11 +18,7 @@ pub enum Next {
 }
 
 // Reads what follows a header that was read.
-fn read_body<R: Read>(
-    reader: &mut R,
-    header: Header,
-    body: &mut [u8],
-) -> Result<Next, ServeFault>
+fn read_body<R: Read>(reader: &mut R, header: Header, body: &mut [u8]) -> Result<Next, ServeFault>
     ensures { ReadsBody (length body.new) header (R.remaining reader.old) (R.remaining reader.new) body.new result }
 {
     if header.op != Op::Write {
