@@ -15,6 +15,8 @@ use collection::Engine;
 use ftl_device::{Device, DeviceFault};
 use mapping_cache::Mapping;
 use onfi_cycles::{Driver, Nand};
+use page_layout::geometry::Geometry;
+use page_layout::source::PageSource;
 use std::alloc::Global;
 use std::process::Abort;
 use std::test::Fail;
@@ -277,6 +279,23 @@ fn hold_asked(rt: &impl Abort, alloc: Global, seen: &[Cycle], case: &Case) -> Re
     Ok(())
 }
 
+// The die has the pages of the case, where it tells of them.
+fn hold_all_pages<S: PageSource>(
+    rt: &impl Abort,
+    source: &mut S,
+    geometry: &Geometry,
+    case: &Case,
+) -> Result<(), Fail>
+    requires { (S.flash source.old).geometry ≡ geometry.now }
+    ensures { (S.flash source.new).geometry ≡ geometry.now }
+{
+    if matches!(case.told, Told::Nothing) {
+        return Ok(());
+    }
+    hold_pages(rt, source, geometry, case.name, case.pages)?;
+    hold_spare(rt, source, geometry, case.name, case.spare)
+}
+
 // The device did the operations of the case and no others, and none of them was illegal. Its die has the
 // pages of the case.
 fn hold_die(
@@ -290,10 +309,7 @@ fn hold_die(
     hold_asked(rt, alloc, &seen, case)?;
     let geometry = small()?;
     let mut driver = wired(alloc, die, geometry)?;
-    if !matches!(case.told, Told::Nothing) {
-        hold_pages(rt, &mut driver, &geometry, case.name, case.pages)?;
-        hold_spare(rt, &mut driver, &geometry, case.name, case.spare)?;
-    }
+    hold_all_pages(rt, &mut driver, &geometry, case)?;
     match case.mounted {
         Some(its) => hold_mounted(rt, alloc, driver, &geometry, case.name, its),
         None => Ok(()),

@@ -9,7 +9,7 @@ use certificate::Certificate;
 use ftl_device::{Call, Command, Device, DeviceFault};
 use image_check::check;
 use nand_die::Die;
-use onfi_cycles::{Driver, Nand};
+use onfi_cycles::{Bus, Driver, Nand};
 use page_layout::geometry::Geometry;
 use std::alloc::Global;
 use std::process::Abort;
@@ -139,8 +139,8 @@ fn run_on_die(
     }
 }
 
-// Tells a list to a device on a die in memory that is mounted, and gives the die up: it counts no
-// failures of the device, so that no answer is its fault.
+// Tells a list to a device on a die in memory that is mounted, and gives the die up. The die has
+// counted no failures of its own, so that no answer is its fault.
 fn tell(
     rt: &impl Abort,
     alloc: Global,
@@ -155,7 +155,9 @@ fn tell(
     let certificate = mounted(alloc, &mut driver, geometry, 4)?;
     let device = run_on_die(alloc, driver, geometry, &certificate, calls)?;
     hold_writable(rt, &device);
-    Ok(device.into_nand().into_bus())
+    let die = device.into_nand().into_bus();
+    assert!(rt; die.failures() == 0);
+    Ok(die)
 }
 
 // A command has its answer and its bytes.

@@ -195,6 +195,7 @@ pub fn hold_spare<S: PageSource>(
     first: &[u8],
 ) -> Result<(), Fail>
     requires { (S.flash source.old).geometry ≡ geometry.now }
+    ensures { (S.flash source.new).geometry ≡ geometry.now }
 {
     let mut body = [0; 64];
     let mut spare = [0; 32];

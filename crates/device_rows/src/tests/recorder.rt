@@ -44,7 +44,7 @@ impl Bus for Recorder {
 
     ghost honest = { λ _. false };
 
-    ghost failed = { λ _. 0 };
+    ghost failed = { λ bus. bus.die.failures };
 
     fn command(&mut self, code: u8) -> Result<(), BusFault> {
         self.note(Cycle::Command(code));
@@ -71,7 +71,7 @@ impl Bus for Recorder {
     }
 
     fn failures(&self) -> u64 {
-        0
+        self.die.failures()
     }
 }
 
