@@ -8,10 +8,24 @@ MiB of the image a second. It has to end with status 0, or with 1 where `--refus
 
 import os
 import sys
+import time
+
+
+def memory_of(child):
+    """The most memory in KiB that the program held so far, 0 before it has taken this one's place."""
+    try:
+        if os.readlink(f"/proc/{child}/exe") == os.readlink("/proc/self/exe"):
+            return 0
+        with open(f"/proc/{child}/status", encoding="ascii") as status:
+            return next((int(line.split()[1]) for line in status if line.startswith("VmHWM")), 0)
+    except OSError:
+        return 0
 
 
 def run(command, wanted):
-    """Seconds of a processor, and the most memory in KiB, of a command whose output is thrown away."""
+    """Seconds of a processor, and the most memory in KiB, of a command whose output is thrown away.
+
+    The memory is looked at while it runs: what the system tells at its end counts the process that it was made from."""
     child = os.fork()
     if child == 0:
         null = os.open(os.devnull, os.O_WRONLY)
@@ -19,10 +33,16 @@ def run(command, wanted):
         if wanted != 0:
             os.dup2(null, 2)
         os.execvp(command[0], command)
-    _, status, usage = os.wait4(child, 0)
+    most = 0
+    while True:
+        ended, status, usage = os.wait4(child, os.WNOHANG)
+        if ended:
+            break
+        most = max(most, memory_of(child))
+        time.sleep(0.001)
     if os.waitstatus_to_exitcode(status) != wanted:
         sys.exit(f"{command[0]} ended with status {os.waitstatus_to_exitcode(status)}")
-    return usage.ru_utime + usage.ru_stime, usage.ru_maxrss
+    return usage.ru_utime + usage.ru_stime, most
 
 
 def least(repeats, command, wanted=0):
