@@ -1,15 +1,14 @@
 #!/usr/bin/env python3
-"""Measures how many programs a write costs, and holds the program against the model.
+"""Measures how many programs a write costs: `nandctl serve` takes 100,000 writes to uniformly random sectors of 50, 70 and 90
+per cent of the largest array of a die.
 
-    bench/write_amplification.py [--try]
+    bench/write_amplification.py PROGRAM [--model]
 
-It runs the program in bench/write_amplification_program.txt over the crates, in a folder of its own: 100,000 writes
-to uniformly random sectors of 50, 70 and 90 per cent of the largest array of a die. With --try nothing is proved
-before. `bench/device_model.py` makes the same writes, and the programs and erases have to be the same."""
+Programs are read off the next sequences of the image with each sector written once, and of the image after the 100,000. With
+--model `device_model.py` makes the same writes, and its programs have to be the same."""
 
 import math
-import os
-import shutil
+import struct
 import subprocess
 import sys
 import tempfile
@@ -17,45 +16,63 @@ from pathlib import Path
 
 from device_model import Geometry, formatted
 
-TOP = Path(__file__).resolve().parent.parent
-NAME = "bench_writes"
-USES = "page_layout onfi_cycles nand_die image_check mount bad_blocks allocation collection ftl_device anyhow"
+DATA, SPARE, PAGES, BLOCKS = 4096, 128, 64, 128
 WRITES = 100_000
+ARRAYS = [(50, 3358), (70, 4701), (90, 6045)]
 
 
-def run_program(text, uses, lines, is_tried):
-    """The words of each of so many lines that a program prints which uses these crates. With `is_tried` it isn't proved before."""
-    command = ["rt", "try", "--seconds", "3000"] if is_tried else ["rt", "run"]
-    with tempfile.TemporaryDirectory() as folder:
-        folder = Path(folder)
-        left = shutil.ignore_patterns("out") if is_tried else None
-        shutil.copytree(TOP / "crates", folder / "crates", symlinks=True, ignore=left)
-        listed = (TOP / "crates.txt").read_text()
-        (folder / "crates.txt").write_text(f"{listed}{NAME}: {uses}\n")
-        crate = folder / "crates" / NAME
-        (crate / "src").mkdir(parents=True)
-        shutil.copy(TOP / "bench" / text, crate / "src" / "main.rt")
-        (crate / "specs").mkdir()
-        (crate / "specs" / "Lib.antt").write_text("")
-        subprocess.run(["git", "init", "-q", folder], check=True)
-        done = subprocess.run(command, cwd=crate, env=os.environ, capture_output=True, text=True)
-        rows = [line.split() for line in done.stdout.splitlines() if line[:1].isdigit()]
-        if len(rows) != lines:
-            sys.exit(done.stdout + done.stderr)
-        return rows
-
-
-def run_model(sectors, capacity):
-    """Programs and erases of the same writes."""
-    device, _ = formatted(Geometry(4096, 128, 64, 128, sectors), capacity)
-    for sector in range(sectors):
-        assert device.write(sector, 0) == "Done"
-    programs, erases = device.next, sum(device.wear)
+def sectors_of(count):
+    """Uniformly random sectors, by a plain generator that the model uses too."""
     state = 20_260_101
     for _ in range(WRITES):
         state = (state * 6_364_136_223_846_793_005 + 1_442_695_040_888_963_407) % 2**64
-        assert device.write((state >> 33) % sectors, 0) == "Done"
-    return device.next - programs, sum(device.wear) - erases
+        yield (state >> 33) % count
+
+
+def requests(sectors):
+    body = bytes(DATA)
+    for tag, sector in enumerate(sectors):
+        yield b"DF" + struct.pack("<BBII", 2, 0, tag, sector) + body
+
+
+def serve(program, geometry, capacity, folder, sectors):
+    """The next sequence after these writes on a fresh die."""
+    name = lambda file: str(Path(folder) / file)
+    subprocess.run([program, "format", geometry, name("fresh"), name("image")], check=True, stdout=subprocess.DEVNULL)
+    mount = [program, "mount", geometry, str(capacity), name("image"), name("certificate")]
+    subprocess.run(mount, check=True, stdout=subprocess.DEVNULL)
+    words = [program, "serve", geometry, str(capacity), name("image"), name("certificate"), name("image")]
+    with open(name("replies"), "wb") as replies:
+        run = subprocess.Popen(words, stdin=subprocess.PIPE, stdout=replies)
+        for request in requests(sectors):
+            run.stdin.write(request)
+        run.stdin.close()
+        if run.wait() != 0:
+            sys.exit("the server ended with another status than 0")
+    if any(Path(name("replies")).read_bytes()[3::8]):
+        sys.exit("a write was refused")
+    subprocess.run([*mount[:3], str(capacity + PAGES), *mount[4:]], check=True, stdout=subprocess.DEVNULL)
+    return struct.unpack_from("<Q", Path(name("certificate")).read_bytes(), 32)[0]
+
+
+def measured(program, count, capacity):
+    """Programs of the random writes."""
+    geometry = f"{DATA},{SPARE},{PAGES},{BLOCKS},{count}"
+    with tempfile.TemporaryDirectory() as folder:
+        Path(folder, "fresh").write_bytes(b"\xff" * ((DATA + SPARE) * PAGES * BLOCKS))
+        first = serve(program, geometry, capacity, folder, range(count))
+        last = serve(program, geometry, capacity, folder, [*range(count), *sectors_of(count)])
+    return last - first
+
+
+def modelled(count, capacity):
+    device, _ = formatted(Geometry(DATA, SPARE, PAGES, BLOCKS, count), capacity)
+    for sector in range(count):
+        assert device.write(sector, 0) == "Done"
+    programs = device.next
+    for sector in sectors_of(count):
+        assert device.write(sector, 0) == "Done"
+    return device.next - programs
 
 
 def greedy_limit(pages):
@@ -72,17 +89,18 @@ def greedy_limit(pages):
 
 
 def main(words):
-    rows = run_program("write_amplification_program.txt", USES, 6, words == ["--try"])
-    print("part sectors  cache  programs  a write  erases  greedy limit")
-    for row in rows:
-        part, sectors, capacity, programs, erases = map(int, row[:5])
-        wanted = run_model(sectors, capacity)
-        if wanted != (programs, erases):
-            sys.exit(f"{part} {capacity}: {programs} programs and {erases} erases, and {wanted} of the model")
+    program = str(Path(words[0]).resolve())
+    print("part sectors  cache  programs  a write  greedy limit")
+    for part, count in ARRAYS:
         # Nine blocks are kept free, and one is open for translation pages.
-        limit = greedy_limit(sectors / (64 * (128 - 9 - 1)))
-        times = programs / WRITES
-        print(f"{part:3}% {sectors:7} {capacity:6} {programs:9} {times:8.2f} {erases:7} {limit:10.2f}     {'#' * round(10 * times)}")
+        limit = greedy_limit(count / (PAGES * (BLOCKS - 9 - 1)))
+        for capacity in (256, count):
+            programs = measured(program, count, capacity)
+            if "--model" in words and modelled(count, capacity) != programs:
+                sys.exit(f"{part} {capacity}: {programs} programs, and others of the model")
+            times = programs / WRITES
+            bar = "#" * round(10 * times)
+            print(f"{part:3}% {count:7} {capacity:6} {programs:9} {times:8.2f} {limit:13.2f}     {bar}", flush=True)
 
 
 if __name__ == "__main__":

@@ -51,8 +51,7 @@ fn each_length_and_place(rt: HostRuntime) {
 // A reader that gives its bytes in pieces, and fails at the read after a number of them.
 #[derive(Drop)]
 struct Pieces<'a> {
-    bytes: &'a [u8],
-    at: usize,
+    left: &'a [u8],
     piece: usize,
     reads_left: usize,
     fault: ErrorKind,
@@ -64,20 +63,11 @@ impl Read for Pieces<'_> {
             return Err(io::Error::from(self.fault));
         }
         self.reads_left -= 1;
-        let mut given = 0;
-        for place in buf.iter_mut() {
-            let at = self.at;
-            let Some(byte) = self.bytes.get(at) else {
-                break;
-            };
-            if given >= self.piece || at >= self.bytes.len() {
-                break;
-            }
-            *place = *byte;
-            self.at = at + 1;
-            given += 1;
-        }
-        Ok(given)
+        let n = buf.len().min(self.piece).min(self.left.len());
+        let (now, later) = self.left.split_at(n);
+        buf[..n].copy_from_slice(now);
+        self.left = later;
+        Ok(n)
     }
 }
 
@@ -86,7 +76,7 @@ type Streamed = (usize, usize, usize, Option<Refusal>);
 
 const MANY: usize = 1_000_000;
 
-const STREAMED: [Streamed; 12] = [
+const STREAMED: [Streamed; 14] = [
     (24576, 1, MANY, None),
     (24576, 95, MANY, None),
     (24576, 96, MANY, None),
@@ -95,6 +85,8 @@ const STREAMED: [Streamed; 12] = [
     (24575, 96, MANY, Some(Refusal::WrongLength)),
     (24577, 96, MANY, Some(Refusal::WrongLength)),
     (24577, 1, MANY, Some(Refusal::WrongLength)),
+    (24584, 1, MANY, Some(Refusal::WrongLength)),
+    (24584, 24584, MANY, Some(Refusal::WrongLength)),
     (0, 96, MANY, Some(Refusal::WrongLength)),
     (24576, 96, 0, Some(Refusal::Source)),
     (24576, 64, 300, Some(Refusal::Source)),
@@ -112,15 +104,16 @@ fn hold_streamed(
     let certificate = certificate_of(alloc, &FORMATTED_CLAIM)?;
     let (length, piece, reads_left, answer) = *row;
     let mut reader = Pieces {
-        bytes: bytes.get(..length).unwrap_or(&[]),
-        at: 0,
+        left: bytes.get(..length).unwrap_or(&[]),
         piece,
         reads_left,
         fault,
     };
     let checked = check_stream(alloc, &mut reader, &geometry, 4, &certificate);
     assert!(rt; checked.err() == answer, "{row:?}");
-    assert!(rt; reader.at <= 24577, "{row:?}");
+    // At most one byte past the image is read.
+    let left = reader.left.len();
+    assert!(rt; length <= left.saturating_add(24577), "{row:?}");
     Ok(())
 }
 
@@ -128,7 +121,7 @@ fn hold_streamed(
 fn streams_are_answered(rt: HostRuntime) -> Result<(), Fail> {
     let geometry = Geometry::new(64, 32, 8, 32, 32)?;
     let mut bytes = image_of(rt.alloc(), &geometry, &FORMATTED_PAGES)?;
-    bytes.push(0xFF)?;
+    bytes.extend_from_slice(&[0xFF; 8])?;
     for row in &STREAMED {
         hold_streamed(&rt, rt.alloc(), &bytes, row, ErrorKind::BrokenPipe)?;
         hold_streamed(&rt, rt.alloc(), &bytes, row, ErrorKind::Interrupted)?;
@@ -142,8 +135,7 @@ fn another_capacity_is_told_first(rt: HostRuntime) -> Result<(), Fail> {
     let geometry = Geometry::new(64, 32, 8, 32, 32)?;
     let certificate = certificate_of(rt.alloc(), &FORMATTED_CLAIM)?;
     let mut reader = Pieces {
-        bytes: &[],
-        at: 0,
+        left: &[],
         piece: 1,
         reads_left: 0,
         fault: ErrorKind::BrokenPipe,
