@@ -60,7 +60,7 @@ fn replies<B: Bus + Drop>(
     input: &[u8],
 ) -> Result<Vec<u8>, Fail>
     requires same { (B.die bus).flash.geometry ≡ geometry }
-    requires asked { sizes_of geometry ≡ accepted.entry.claim.sizes }
+    requires asked { sizes_of geometry ≡ accepted.claim.sizes }
 {
     let driver = match Driver::new(bus, geometry) {
         Ok(driver) => driver,
