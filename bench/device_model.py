@@ -2,7 +2,7 @@
 
 Written from the rules of docs/ alone. It keeps no bytes: a page is its key, its sequence, the erase
 count of its block when it was programmed, and what it tells (a byte of a sector, a list of rows, a list
-of blocks). `bench/device_rows.py` prints from it what the tests of devices expect.
+of blocks). `bench/device_expected.py` prints from it what the tests of devices expect.
 """
 
 from collections import OrderedDict

@@ -3,7 +3,7 @@ use Rattle.std.proofs.Common.{◌≡◌, ℕ, suc, ◌+◌, ◌-◌, ◌*◌, �
 use Rattle.std.proofs.Math.Nat.{suc-mul, mul-le-mul_left, mul_comm, add-mul}
 use Rattle.budget.specs.declared.stream.Stream.TheVariants.{Data, Meta}
 use Rattle.budget.specs.Put.{Put, NoneFree}
-use Rattle.budget.specs.Account.{Opened}
+use Rattle.budget.specs.Spending.{Opened}
 use Rattle.budget.specs.Laws.{NoPageLaw, OnePageLaw, OpeningsLaw, MetaOpeningsLaw, StuckLaw, CollectedLaw}
 use Rattle.budget.proofs.PutLemmas.{put_opens, put_stays, put_pays}
 

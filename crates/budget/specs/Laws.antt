@@ -9,7 +9,7 @@ use Rattle.page_layout.specs.Count.{blocks_that}
 use Rattle.budget.specs.declared.stream.Stream.{Stream}
 use Rattle.budget.specs.Counts.{Counts, left_of, used, Fits, TakesOne, FailsOne, Erased}
 use Rattle.budget.specs.Put.{Tries, StreamPut, FindsNone}
-use Rattle.budget.specs.Account.{Account, data_of, meta_of, Collected, Stuck, IsFunded}
+use Rattle.budget.specs.Spending.{Spending, data_of, meta_of, Collected, Stuck, IsFunded}
 
 -- ---- one page with its retries
 
@@ -32,26 +32,26 @@ NoTryLaw = (stream : Stream) (failures : ℕ) (old now : Counts) → Tries strea
 -- ---- some pages
 
 abbrev pub NoPageLaw : Type 0
-NoPageLaw = (pages : ℕ) (s : Counts) → Fits pages s → Account pages s s 0 0
+NoPageLaw = (pages : ℕ) (s : Counts) → Fits pages s → Spending pages s s 0 0
 
 abbrev pub OnePageLaw : Type 0
-OnePageLaw = (stream : Stream) (pages failures data_pages meta_pages : ℕ) (first now new : Counts) → Account pages first now data_pages meta_pages → StreamPut stream pages failures now new → Account pages first new (data_pages + data_of stream) (meta_pages + meta_of stream)
+OnePageLaw = (stream : Stream) (pages failures data_pages meta_pages : ℕ) (first now new : Counts) → Spending pages first now data_pages meta_pages → StreamPut stream pages failures now new → Spending pages first new (data_pages + data_of stream) (meta_pages + meta_of stream)
 
 -- less than a block of pages opens at most two blocks, and one more for each failure
 abbrev pub OpeningsLaw : Type 0
-OpeningsLaw = (pages data_pages meta_pages : ℕ) (first now : Counts) → Account pages first now data_pages meta_pages → data_pages + meta_pages + 1 ≤ pages → first.free + now.good ≤ now.free + first.good + 2
+OpeningsLaw = (pages data_pages meta_pages : ℕ) (first now : Counts) → Spending pages first now data_pages meta_pages → data_pages + meta_pages + 1 ≤ pages → first.free + now.good ≤ now.free + first.good + 2
 
 -- pages of the meta stream alone open at most as many blocks as they fill, and one more for each failure
 abbrev pub MetaOpeningsLaw : Type 0
-MetaOpeningsLaw = (pages meta_pages blocks : ℕ) (first now : Counts) → Account pages first now 0 meta_pages → now.meta_left + meta_pages < (blocks + 1) * pages → first.free + now.good ≤ now.free + first.good + blocks
+MetaOpeningsLaw = (pages meta_pages blocks : ℕ) (first now : Counts) → Spending pages first now 0 meta_pages → now.meta_left + meta_pages < (blocks + 1) * pages → first.free + now.good ≤ now.free + first.good + blocks
 
 -- a page that finds no free block, with less than a block of pages before it
 abbrev pub StuckLaw : Type 0
-StuckLaw = (stream : Stream) (pages failures data_pages meta_pages : ℕ) (first now new : Counts) → Account pages first now data_pages meta_pages → data_pages + meta_pages + 2 ≤ pages → FindsNone stream failures now new → Stuck first new
+StuckLaw = (stream : Stream) (pages failures data_pages meta_pages : ℕ) (first now new : Counts) → Spending pages first now data_pages meta_pages → data_pages + meta_pages + 2 ≤ pages → FindsNone stream failures now new → Stuck first new
 
 -- less than a block of pages, and then the block that they were copied from is erased or fails
 abbrev pub CollectedLaw : Type 0
-CollectedLaw = (pages failures data_pages meta_pages : ℕ) (first now new : Counts) → Account pages first now data_pages meta_pages → data_pages + meta_pages + 1 ≤ pages → Erased failures now new → Fits pages new → Collected pages first new
+CollectedLaw = (pages failures data_pages meta_pages : ℕ) (first now new : Counts) → Spending pages first now data_pages meta_pages → data_pages + meta_pages + 1 ≤ pages → Erased failures now new → Fits pages new → Collected pages first new
 
 -- ---- collections until nine blocks are free
 

@@ -1,5 +1,5 @@
 pub mod Stream
 pub mod Counts
 pub mod Put
-pub mod Account
+pub mod Spending
 pub mod Laws

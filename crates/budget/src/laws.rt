@@ -1,4 +1,24 @@
-ghost use Rattle.budget.specs.Laws.{FirstTryLaw, FailedTryLaw, PassedTryLaw, NoTryLaw, NoPageLaw, OnePageLaw, OpeningsLaw, MetaOpeningsLaw, StuckLaw, CollectedLaw, FundedLaw, PutFundedLaw, CollectedFundedLaw, FreeLeftLaw, NeverStuckLaw, NineLaw, FallsLaw, CopiesFitLaw, TouchedLaw};
+ghost use Rattle.budget.specs.Laws.{
+  FirstTryLaw,
+  FailedTryLaw,
+  PassedTryLaw,
+  NoTryLaw,
+  NoPageLaw,
+  OnePageLaw,
+  OpeningsLaw,
+  MetaOpeningsLaw,
+  StuckLaw,
+  CollectedLaw,
+  FundedLaw,
+  PutFundedLaw,
+  CollectedFundedLaw,
+  FreeLeftLaw,
+  NeverStuckLaw,
+  NineLaw,
+  FallsLaw,
+  CopiesFitLaw,
+  TouchedLaw,
+};
 
 /// What a page costs that is tried again after each failure.
 pub fn put_laws()

@@ -8,7 +8,7 @@ use Rattle.budget.specs.declared.stream.Stream.{Stream}
 use Rattle.budget.specs.declared.stream.Stream.TheVariants.{Data, Meta}
 use Rattle.budget.specs.Counts.{Counts, Fits, Erased}
 use Rattle.budget.specs.Put.{StreamPut}
-use Rattle.budget.specs.Account.{data_of, meta_of, Collected, Stuck}
+use Rattle.budget.specs.Spending.{data_of, meta_of, Collected, Stuck}
 use Rattle.budget.proofs.AccountLemmas.{no_page, one_page, collected, stuck}
 use Rattle.budget.proofs.CopyLemmas.{copies_fit}
 use Rattle.allocation.specs.State.{live_at, free_count, is_closed}
@@ -22,7 +22,26 @@ use Rattle.collection.specs.Truth.{IsTrue}
 use Rattle.collection.specs.Cost.{HasPut}
 use Rattle.collection.specs.Live.{HoldsNoneIn}
 use Rattle.collection.specs.Results.{Goes, Refused}
-use Rattle.collection.specs.Collect.{is_due, due_count, HasCopied, HasWritten, HasErased, HasProgrammed, HasCollected, StreamRunsOut, IsCopied, IsEmptied, IsThrifty, FaultCosts, CollectCosts, CollectCounts, StepCosts, IsStepped, GoesBut, IsReleased}
+use Rattle.collection.specs.Collect.{
+  is_due,
+  due_count,
+  HasCopied,
+  HasWritten,
+  HasErased,
+  HasProgrammed,
+  HasCollected,
+  StreamRunsOut,
+  IsCopied,
+  IsEmptied,
+  IsThrifty,
+  FaultCosts,
+  CollectCosts,
+  CollectCounts,
+  StepCosts,
+  IsStepped,
+  GoesBut,
+  IsReleased,
+}
 use Rattle.bad_blocks.specs.declared.table.TableRow.{TableRow}
 use Rattle.bad_blocks.specs.Table.{most_wear}
 use Rattle.collection.specs.Whole.{next_of, erases_after, step_within, busy_of, work_left, IsSoFar, IsUnderWay}

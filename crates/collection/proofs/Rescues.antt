@@ -12,7 +12,7 @@ use Rattle.collection.specs.Safe.{IsRam, is_shut}
 use Rattle.collection.specs.declared.fault.WriteFault.{WriteFault}
 use Rattle.collection.specs.declared.fault.WriteFault.TheVariants.{ReadOnly, SequenceSpent, Damaged, Bus}
 use Rattle.budget.specs.declared.stream.Stream.TheVariants.{Meta}
-use Rattle.budget.specs.Account.{data_of, meta_of}
+use Rattle.budget.specs.Spending.{data_of, meta_of}
 use Rattle.budget.proofs.AccountLemmas.{no_page}
 use Rattle.allocation.specs.Counts.{counts_of}
 use Rattle.allocation.specs.Laws.{IsLeftButLive}
@@ -23,7 +23,21 @@ use Rattle.collection.specs.Looks.{IsReadFault}
 use Rattle.collection.specs.Results.{IsSame, Goes, Refused}
 use Rattle.collection.specs.Truth.{IsTrue}
 use Rattle.collection.specs.Live.{NotAt, HoldsNoneIn, FindsFirst, IsFirstLive, IsFoundIn, IsLivePage}
-use Rattle.collection.specs.Collect.{IsAiling, HasNoneAiling, IsFirstAiling, FindsAiling, IsMovedOut, HasCopied, HasProgrammed, StreamRunsOut, StreamSpends, FaultCosts, FollowCosts, RescueCosts, IsRescued}
+use Rattle.collection.specs.Collect.{
+  IsAiling,
+  HasNoneAiling,
+  IsFirstAiling,
+  FindsAiling,
+  IsMovedOut,
+  HasCopied,
+  HasProgrammed,
+  StreamRunsOut,
+  StreamSpends,
+  FaultCosts,
+  FollowCosts,
+  RescueCosts,
+  IsRescued,
+}
 use Rattle.std.proofs.Math.Nat.{div-lt_iff_lt-mul}
 use Rattle.collection.proofs.Finds.{none_all}
 use Rattle.collection.proofs.Puts.{same_then}

@@ -1,5 +1,39 @@
 -- Collections one after another, until there is room.
-use Rattle.std.proofs.Common.{◌≡◌, ◌≢◌, ◌⊎◌, inl, inr, ℕ, ◌+◌, ◌/◌, ◌<◌, ◌≤◌, ◌^◌, Bool, true, false, not, ◌||◌, List, [], ◌∷◌, count_by, Option, Some, None, Result, Ok, Err, MatchOption, refl, ap, sym, ◌∙◌, subst, arith}
+use Rattle.std.proofs.Common.{
+  ◌≡◌,
+  ◌≢◌,
+  ◌⊎◌,
+  inl,
+  inr,
+  ℕ,
+  ◌+◌,
+  ◌/◌,
+  ◌<◌,
+  ◌≤◌,
+  ◌^◌,
+  Bool,
+  true,
+  false,
+  not,
+  ◌||◌,
+  List,
+  [],
+  ◌∷◌,
+  count_by,
+  Option,
+  Some,
+  None,
+  Result,
+  Ok,
+  Err,
+  MatchOption,
+  refl,
+  ap,
+  sym,
+  ◌∙◌,
+  subst,
+  arith,
+}
 use Rattle.std.proofs.lemmas.Bool.{cases_lt, eqb-true}
 use Rattle.std.specs.Prelude.{IfErr}
 use Rattle.page_layout.specs.declared.geometry.Geometry.{Geometry}
@@ -13,7 +47,7 @@ use Rattle.page_layout.specs.Newest.{newest}
 use Rattle.page_layout.proofs.CountLemmas.{bit, count_by-cons}
 use Rattle.bad_blocks.specs.Table.{is_good, is_good_at}
 use Rattle.budget.specs.Counts.{Fits}
-use Rattle.budget.specs.Account.{Collected, IsFunded}
+use Rattle.budget.specs.Spending.{Collected, IsFunded}
 use Rattle.budget.proofs.RoomLemmas.{collected_funded, never_stuck}
 use Rattle.allocation.specs.State.{State, live_at, free_count, is_closed}
 use Rattle.allocation.specs.Step.{IsVictim}
@@ -27,7 +61,19 @@ use Rattle.collection.specs.Safe.{IsRam, is_shut}
 use Rattle.collection.specs.Pages.{newest_row}
 use Rattle.collection.specs.Truth.{IsTrue}
 use Rattle.collection.specs.Results.{IsSame, Leaves, Refused}
-use Rattle.collection.specs.Collect.{GoesOn, GoesBut, RestsOrErases, CollectCosts, CollectCounts, HasNoneWorth, RoomTells, IsRearranged, RoomRefused, HasRegained, RoomCounts}
+use Rattle.collection.specs.Collect.{
+  GoesOn,
+  GoesBut,
+  RestsOrErases,
+  CollectCosts,
+  CollectCounts,
+  HasNoneWorth,
+  RoomTells,
+  IsRearranged,
+  RoomRefused,
+  HasRegained,
+  RoomCounts,
+}
 use Rattle.collection.specs.Room.{IsMade, IsWorth, IsFundedOn}
 use Rattle.collection.proofs.Blocks.{left_then}
 use Rattle.collection.proofs.Copies.{exact_at}

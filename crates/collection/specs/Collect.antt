@@ -1,5 +1,38 @@
 -- What a collection of a block does, step by step and as a whole.
-use Rattle.std.specs.Prelude.{◌≡◌, ◌≢◌, ◌⊎◌, ℕ, ◌+◌, ◌-◌, ◌*◌, ◌/◌, ◌<◌, ◌≤◌, ◌==◌, ◌^◌, ◌||◌, ◌&&◌, min, Bool, true, false, not, List, [], length, slice_set, get_or, count_by, Option, Some, None, IsSome, Result, Ok, Err}
+use Rattle.std.specs.Prelude.{
+  ◌≡◌,
+  ◌≢◌,
+  ◌⊎◌,
+  ℕ,
+  ◌+◌,
+  ◌-◌,
+  ◌*◌,
+  ◌/◌,
+  ◌<◌,
+  ◌≤◌,
+  ◌==◌,
+  ◌^◌,
+  ◌||◌,
+  ◌&&◌,
+  min,
+  Bool,
+  true,
+  false,
+  not,
+  List,
+  [],
+  length,
+  slice_set,
+  get_or,
+  count_by,
+  Option,
+  Some,
+  None,
+  IsSome,
+  Result,
+  Ok,
+  Err,
+}
 use Rattle.std.specs.List.{range_with_len}
 use Rattle.std.specs.Map.{keys_of}
 use Rattle.page_layout.specs.Page.{Image}
@@ -15,7 +48,7 @@ use Rattle.bad_blocks.specs.Table.{is_good_at, wear_at, most_wear}
 use Rattle.budget.specs.declared.stream.Stream.{Stream}
 use Rattle.budget.specs.declared.stream.Stream.TheVariants.{Meta}
 use Rattle.budget.specs.Counts.{Erased}
-use Rattle.budget.specs.Account.{Account, Collected, Stuck, IsFunded}
+use Rattle.budget.specs.Spending.{Spending, Collected, Stuck, IsFunded}
 use Rattle.mapping_cache.specs.Mapping.{MappingState, HasLimitsOf, per_page, pending, slot_of, moved_row, moved_in}
 use Rattle.allocation.specs.State.{State, live_at, is_closed, is_free, free_count}
 use Rattle.allocation.specs.Step.{erased, without}
@@ -183,7 +216,7 @@ IsStepped block old before new after step.Erased = IsEmptied block old before ne
 
 -- so many pages were programmed in each stream, each with its failures
 pub record HasProgrammed (first now : Ram) (data_pages meta_pages : ℕ) : Type 0 where
-  pub account : Account first.geometry.pages (counts_of first.blocks) (counts_of now.blocks) data_pages meta_pages
+  pub account : Spending first.geometry.pages (counts_of first.blocks) (counts_of now.blocks) data_pages meta_pages
   pub next : now.next + (counts_of now.blocks).good ≡ first.next + (data_pages + meta_pages) + (counts_of first.blocks).good
 
 -- So far so many pages were copied and so many translation pages written back. As many more have to be written as are due, and with them

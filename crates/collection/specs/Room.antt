@@ -3,7 +3,7 @@ use Rattle.std.specs.Prelude.{◌≡◌, ◌⊎◌, ℕ, ◌+◌, ◌≤◌, Lis
 use Rattle.page_layout.specs.declared.record.Record.{Record}
 use Rattle.page_layout.specs.Geometry.{need, vmax}
 use Rattle.bad_blocks.specs.Table.{good_count}
-use Rattle.budget.specs.Account.{IsFunded}
+use Rattle.budget.specs.Spending.{IsFunded}
 use Rattle.allocation.specs.State.{free_count, live_at}
 use Rattle.allocation.specs.Step.{IsVictim}
 use Rattle.allocation.specs.Counts.{counts_of, IsLiveExact}

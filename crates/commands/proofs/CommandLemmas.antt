@@ -15,19 +15,19 @@ use Rattle.commands.specs.Serve.{DoesServe, IsUnstarted}
 use Rattle.commands.specs.Commands.{Does, Obeys}
 use Rattle.commands.specs.Files.{Gives, Left, Leaves}
 use Rattle.commands.specs.Inputs.{IsUnread}
-use Rattle.commands.specs.Sector.{DoesSector, IsAsked}
+use Rattle.commands.specs.Sector.{DoesSector, AsksForNumber}
 use Rattle.commands.specs.Show.{DoesShow}
 use Rattle.command_words.specs.Words.{IsOrder}
 
 -- a file that was not read ends the command
 pub unread_does : (gives : Gives) (words : ImageWords) (g : Geometry) (n : ℕ) (before after : Option (List ℕ)) (fault : CommandFault)
-    → IsAsked words g n → Keeps before after → IsUnread gives words.image.now fault → DoesSector gives words before after (Err fault)
+    → AsksForNumber words g n → Keeps before after → IsUnread gives words.image.now fault → DoesSector gives words before after (Err fault)
 unread_does gives words g n before after (fault.Read path) asked keeps unread = (keeps, unread.0, unread.1, (g, n, asked))
 unread_does gives words g n before after fault.OutOfMemory asked keeps unread = (keeps, inl (g, n, asked, unread))
 unread_does gives words g n before after _ asked keeps unread = absurd unread
 
 pub unread_shows : (gives : Gives) (words : ImageWords) (g : Geometry) (n : ℕ) (before after : Option (List ℕ)) (fault : CommandFault)
-    → IsAsked words g n → Keeps before after → IsUnread gives words.image.now fault → DoesShow gives words before after (Err fault)
+    → AsksForNumber words g n → Keeps before after → IsUnread gives words.image.now fault → DoesShow gives words before after (Err fault)
 unread_shows gives words g n before after (fault.Read path) asked keeps unread = (keeps, unread.0, unread.1, (g, n, asked))
 unread_shows gives words g n before after fault.OutOfMemory asked keeps unread = (keeps, (g, n, asked, unread))
 unread_shows gives words g n before after _ asked keeps unread = absurd unread

@@ -8,7 +8,7 @@ use Rattle.image_check.specs.Stale.{stale_count}
 use Rattle.commands.specs.declared.mount_image.Mounted.{Mounted}
 use Rattle.commands.specs.declared.text.CommandFault.{CommandFault}
 use Rattle.command_words.specs.declared.words.CertificateWords.{CertificateWords}
-use Rattle.commands.specs.Check.{IsAsked, IsUnprinted}
+use Rattle.commands.specs.Check.{AsksForCapacity, IsUnprinted}
 use Rattle.commands.specs.Files.{Gives, IsUnstored, Left, Leaves, with_store, written}
 use Rattle.commands.specs.Mount.{DoesMount, HasCertificate, IsMountedAs, IsUncertified, mounted_line, stored_as}
 
@@ -20,13 +20,13 @@ stops gives words before after result stop is leaves because =
     subst P (sym is) (inl (leaves, because))
 
 -- the certificate that was made is the image's
-pub certified : (gives : Gives) (words : CertificateWords) (g : Geometry) (capacity : ℕ) (bytes : List ℕ) (m : Mounted) → IsAsked words g capacity → gives words.image.now (Ok bytes)
+pub certified : (gives : Gives) (words : CertificateWords) (g : Geometry) (capacity : ℕ) (bytes : List ℕ) (m : Mounted) → AsksForCapacity words g capacity → gives words.image.now (Ok bytes)
     → (is : IsMountedAs g capacity bytes m) → HasCertificate gives words g capacity bytes is.claim
 certified gives words g capacity bytes m asked given is = record { asked = asked; image = given; certified = is.certified }
 
 -- the storing, where it failed
 pub unstored : (gives : Gives) (words : CertificateWords) (g : Geometry) (capacity : ℕ) (bytes spelled : List ℕ) (m : Mounted) (before after : Left) (result : Result (Unit {0}) CommandFault)
-    (stop : CommandFault) → IsAsked words g capacity → gives words.image.now (Ok bytes) → IsMountedAs g capacity bytes m → spelled ≡ m.written.items → result ≡ Err stop
+    (stop : CommandFault) → AsksForCapacity words g capacity → gives words.image.now (Ok bytes) → IsMountedAs g capacity bytes m → spelled ≡ m.written.items → result ≡ Err stop
     → IsUnstored words.certificate.now spelled before.stores after.stores stop → Keeps before.out after.out → DoesMount gives words before after result
 unstored gives words g capacity bytes spelled m before after result stop asked given mounted same is failed keeps =
     let P : Result (Unit {0}) CommandFault → Type 0 = λ r. DoesMount gives words before after r in
@@ -35,7 +35,7 @@ unstored gives words g capacity bytes spelled m before after result stop asked g
 
 -- the printing, after all that came before it
 pub prints : (gives : Gives) (words : CertificateWords) (g : Geometry) (capacity : ℕ) (bytes spelled : List ℕ) (m : Mounted) (before after : Left) (result : Result (Unit {0}) CommandFault)
-    → IsAsked words g capacity → gives words.image.now (Ok bytes) → IsMountedAs g capacity bytes m → spelled ≡ m.written.items
+    → AsksForCapacity words g capacity → gives words.image.now (Ok bytes) → IsMountedAs g capacity bytes m → spelled ≡ m.written.items
     → after.stores ≡ with_store before.stores (written words.certificate.now spelled)
     → OnOk result (Appends before.out after.out (mounted_line m.next m.good m.stale)) → IfErr result IsUnprinted → DoesMount gives words before after result
 prints gives words g capacity bytes spelled m before after result asked given mounted same stored ok failed = go result ok failed

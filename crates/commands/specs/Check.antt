@@ -21,7 +21,7 @@ use Rattle.commands.specs.Inputs.{IsUnread}
 use Rattle.command_words.specs.Numbers.{SpellsGeometry, number_of}
 
 -- the words are numbers, those of a geometry and of a capacity
-pub record IsAsked (words : CertificateWords) (g : Geometry) (capacity : ℕ) : Type 0 where
+pub record AsksForCapacity (words : CertificateWords) (g : Geometry) (capacity : ℕ) : Type 0 where
   pub numbers : GeometryNumbers
   pub geometry : SpellsGeometry words.geometry.now numbers
   pub capacity_is : number_of words.capacity.now ≡ Some capacity
@@ -48,7 +48,7 @@ IsOpened gives path known = IfSome known (λ bytes. gives path (Ok bytes))
 
 -- and the image's file was opened, and the certificate's read
 pub record HasFiles (gives : Gives) (words : CertificateWords) (g : Geometry) (capacity : ℕ) (known : Option (List ℕ)) (written : List ℕ) : Type 0 where
-  pub asked : IsAsked words g capacity
+  pub asked : AsksForCapacity words g capacity
   pub image : IsOpened gives words.image.now known
   pub certificate : gives words.certificate.now (Ok written)
 
@@ -101,8 +101,8 @@ IsKept _ before after = Keeps before after
 abbrev pub IsCheckFault : Gives → CertificateWords → CommandFault → Type 0
 IsCheckFault gives words stop =
     IsUnasked words stop
-    ⊎ ((g : Geometry) × (capacity : ℕ) × IsAsked words g capacity × IsUnread gives words.image.now stop)
-    ⊎ ((g : Geometry) × (capacity : ℕ) × (known : Option (List ℕ)) × IsAsked words g capacity × IsOpened gives words.image.now known × IsUnread gives words.certificate.now stop)
+    ⊎ ((g : Geometry) × (capacity : ℕ) × AsksForCapacity words g capacity × IsUnread gives words.image.now stop)
+    ⊎ ((g : Geometry) × (capacity : ℕ) × (known : Option (List ℕ)) × AsksForCapacity words g capacity × IsOpened gives words.image.now known × IsUnread gives words.certificate.now stop)
     ⊎ ((g : Geometry) × (capacity : ℕ) × (known : Option (List ℕ)) × (written : List ℕ) × HasFiles gives words g capacity known written × IsNoCertificate written stop)
     ⊎ ((g : Geometry) × (capacity : ℕ) × (known : Option (List ℕ)) × (written : List ℕ) × (c : Claim) × HasFiles gives words g capacity known written × IsSpelled c written × IsUnheld g capacity words.image.now known c stop)
     ⊎ ((g : Geometry) × (capacity : ℕ) × (known : Option (List ℕ)) × (written : List ℕ) × (c : Claim) × HasFiles gives words g capacity known written × IsSpelled c written × IfSome known (λ bytes. IsHeld g capacity bytes c) × IsUnprinted stop)

@@ -14,7 +14,7 @@ use Rattle.commands.specs.declared.mount_image.Mounted.{Mounted}
 use Rattle.commands.specs.declared.text.CommandFault.{CommandFault}
 use Rattle.commands.specs.declared.text.CommandFault.TheVariants as fault
 use Rattle.command_words.specs.declared.words.CertificateWords.{CertificateWords}
-use Rattle.commands.specs.Check.{IsAsked, IsUnasked, IsUnprinted, IsWhole}
+use Rattle.commands.specs.Check.{AsksForCapacity, IsUnasked, IsUnprinted, IsWhole}
 use Rattle.commands.specs.Files.{Gives, IsUnstored, Left, Leaves, Stored, with_store, written}
 use Rattle.commands.specs.Inputs.{IsUnread}
 
@@ -50,7 +50,7 @@ mounted_line next good stale = codes "mounted next " ++ (decimal next ++ (codes 
 
 -- the words are numbers, the image's file was read, and it has this certificate
 pub record HasCertificate (gives : Gives) (words : CertificateWords) (g : Geometry) (capacity : ℕ) (bytes : List ℕ) (c : Claim) : Type 0 where
-  pub asked : IsAsked words g capacity
+  pub asked : AsksForCapacity words g capacity
   pub image : gives words.image.now (Ok bytes)
   pub certified : IsCertified g capacity bytes c
 
@@ -63,8 +63,8 @@ stored_as words c = written words.certificate.now (certificate_bytes c)
 abbrev pub IsUncertified : Gives → CertificateWords → CommandFault → Type 0
 IsUncertified gives words stop =
     IsUnasked words stop
-    ⊎ ((g : Geometry) × (capacity : ℕ) × IsAsked words g capacity × IsUnread gives words.image.now stop)
-    ⊎ ((g : Geometry) × (capacity : ℕ) × (bytes : List ℕ) × IsAsked words g capacity × gives words.image.now (Ok bytes) × IsUnmounted g capacity bytes stop)
+    ⊎ ((g : Geometry) × (capacity : ℕ) × AsksForCapacity words g capacity × IsUnread gives words.image.now stop)
+    ⊎ ((g : Geometry) × (capacity : ℕ) × (bytes : List ℕ) × AsksForCapacity words g capacity × gives words.image.now (Ok bytes) × IsUnmounted g capacity bytes stop)
 
 -- What the command came to, with the stores and the bytes of standard output before and after. Where there is no
 -- certificate nothing is stored and nothing printed; where it was not stored nothing is printed; where the line was not

@@ -51,7 +51,7 @@ IsUnprinted print.OutOfMemory before after = Keeps before after
 -- ---- the command
 
 -- the words are numbers, those of a geometry
-pub record IsAsked (words : ImageWords) (g : Geometry) (n : ℕ) : Type 0 where
+pub record AsksForNumber (words : ImageWords) (g : Geometry) (n : ℕ) : Type 0 where
   pub numbers : GeometryNumbers
   pub geometry : SpellsGeometry words.geometry.now numbers
   pub sector : number_of words.number.now ≡ Some n
@@ -59,7 +59,7 @@ pub record IsAsked (words : ImageWords) (g : Geometry) (n : ℕ) : Type 0 where
 
 -- and the file holds an image of it; `gives` tells what a load of a path may answer
 pub record HasImage (gives : Gives) (words : ImageWords) (g : Geometry) (n : ℕ) (bytes : List ℕ) : Type 0 where
-  pub asked : IsAsked words g n
+  pub asked : AsksForNumber words g n
   pub given : gives words.image.now (Ok bytes)
   pub whole : length bytes ≡ row_count g * page_bytes g
 
@@ -74,14 +74,14 @@ DoesSector gives words before after (Err (fault.BadNumber word)) = Keeps before 
 DoesSector gives words before after (Err (fault.Geometry broken)) = Keeps before after
     × ((numbers : GeometryNumbers) × (n : ℕ) × SpellsGeometry words.geometry.now numbers × (number_of words.number.now ≡ Some n)
     × IsFirstFault numbers.data_bytes numbers.spare_bytes numbers.pages numbers.blocks numbers.sectors broken)
-DoesSector gives words before after (Err (fault.Read path)) = Keeps before after × (path.now ≡ words.image.now) × gives words.image.now (Err file.Failed) × ((g : Geometry) × (n : ℕ) × IsAsked words g n)
+DoesSector gives words before after (Err (fault.Read path)) = Keeps before after × (path.now ≡ words.image.now) × gives words.image.now (Err file.Failed) × ((g : Geometry) × (n : ℕ) × AsksForNumber words g n)
 DoesSector gives words before after (Err fault.WrongLength) = Keeps before after
-    × ((g : Geometry) × (n : ℕ) × (bytes : List ℕ) × IsAsked words g n × gives words.image.now (Ok bytes) × (length bytes ≢ row_count g * page_bytes g))
+    × ((g : Geometry) × (n : ℕ) × (bytes : List ℕ) × AsksForNumber words g n × gives words.image.now (Ok bytes) × (length bytes ≢ row_count g * page_bytes g))
 DoesSector gives words before after (Err (fault.Sector refused)) = Keeps before after
     × ((g : Geometry) × (n : ℕ) × (bytes : List ℕ) × HasImage gives words g n bytes × IsUnreadable g (raw_image g bytes) n refused)
 DoesSector gives words before after (Err (fault.Write path)) = (path.now ≡ codes "-")
     × ((g : Geometry) × (n : ℕ) × (bytes : List ℕ) × HasImage gives words g n bytes × IsReadable g (raw_image g bytes) n)
 DoesSector gives words before after (Err fault.OutOfMemory) = Keeps before after
-    × (((g : Geometry) × (n : ℕ) × IsAsked words g n × gives words.image.now (Err file.OutOfMemory))
+    × (((g : Geometry) × (n : ℕ) × AsksForNumber words g n × gives words.image.now (Err file.OutOfMemory))
     ⊎ ((g : Geometry) × (n : ℕ) × (bytes : List ℕ) × HasImage gives words g n bytes × IsReadable g (raw_image g bytes) n))
 DoesSector gives words before after (Err _) = ⊥

@@ -26,7 +26,7 @@ use Rattle.commands.specs.declared.text.CommandFault.{CommandFault}
 use Rattle.commands.specs.declared.text.CommandFault.TheVariants as fault
 use Rattle.commands.specs.declared.text.ServeStop.{ServeStop}
 use Rattle.commands.specs.declared.text.ServeStop.TheVariants as stop
-use Rattle.commands.specs.Check.{HasFiles, IsAsked, IsNoCertificate, IsSpelled, IsUnasked, IsWhole}
+use Rattle.commands.specs.Check.{HasFiles, AsksForCapacity, IsNoCertificate, IsSpelled, IsUnasked, IsWhole}
 use Rattle.commands.specs.Files.{Gives, Left, Leaves, Stored, with_store, written, unwritten}
 use Rattle.commands.specs.Inputs.{IsUnread}
 
@@ -98,8 +98,8 @@ pub record HasClaim (gives : Gives) (words : ServeWords) (g : Geometry) (capacit
 abbrev pub IsUnstarted : Gives → ServeWords → CommandFault → Type 0
 IsUnstarted gives words stopped =
     IsUnasked (checked_words words) stopped
-    ⊎ ((g : Geometry) × (capacity : ℕ) × IsAsked (checked_words words) g capacity × IsUnread gives words.image.now stopped)
-    ⊎ ((g : Geometry) × (capacity : ℕ) × (bytes : List ℕ) × IsAsked (checked_words words) g capacity × gives words.image.now (Ok bytes) × IsUnread gives words.certificate.now stopped)
+    ⊎ ((g : Geometry) × (capacity : ℕ) × AsksForCapacity (checked_words words) g capacity × IsUnread gives words.image.now stopped)
+    ⊎ ((g : Geometry) × (capacity : ℕ) × (bytes : List ℕ) × AsksForCapacity (checked_words words) g capacity × gives words.image.now (Ok bytes) × IsUnread gives words.certificate.now stopped)
     ⊎ ((g : Geometry) × (capacity : ℕ) × (bytes written : List ℕ) × HasFiles gives (checked_words words) g capacity (Some bytes) written × IsNoCertificate written stopped)
     ⊎ ((g : Geometry) × (capacity : ℕ) × (bytes : List ℕ) × (c : Claim) × HasClaim gives words g capacity bytes c × IsUnserved g capacity bytes c stopped)
 

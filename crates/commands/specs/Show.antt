@@ -1,5 +1,29 @@
 -- What a page shows of itself, and the command `show`.
-use Rattle.std.specs.Prelude.{◌≡◌, ◌≢◌, ◌⊎◌, ◌<◌, ◌≤◌, ◌*◌, ℕ, Bool, true, false, List, [], ◌∷◌, ◌++◌, length, codes, slice_get, Option, Some, None, Result, Ok, Err}
+use Rattle.std.specs.Prelude.{
+  ◌≡◌,
+  ◌≢◌,
+  ◌⊎◌,
+  ◌<◌,
+  ◌≤◌,
+  ◌*◌,
+  ℕ,
+  Bool,
+  true,
+  false,
+  List,
+  [],
+  ◌∷◌,
+  ◌++◌,
+  length,
+  codes,
+  slice_get,
+  Option,
+  Some,
+  None,
+  Result,
+  Ok,
+  Err,
+}
 use Rattle.std.specs.Io.KnownBytes.{Appends, Keeps}
 use Rattle.std.specs.Fmt.{decimal}
 use Rattle.page_layout.specs.declared.geometry.Geometry.{Geometry}
@@ -22,7 +46,7 @@ use Rattle.commands.specs.declared.text.CommandFault.TheVariants as fault
 use Rattle.command_words.specs.declared.words.ImageWords.{ImageWords}
 use Rattle.command_words.specs.Numbers.{SpellsGeometry, number_of}
 use Rattle.commands.specs.Files.{Gives}
-use Rattle.commands.specs.Sector.{IsAsked, HasImage}
+use Rattle.commands.specs.Sector.{AsksForNumber, HasImage}
 
 -- its record where it has one, else whether it is erased
 abbrev pub shown_by : Option Record → Bool → Shown
@@ -66,13 +90,13 @@ DoesShow gives words before after (Err (fault.BadNumber word)) = Keeps before af
 DoesShow gives words before after (Err (fault.Geometry broken)) = Keeps before after
     × ((numbers : GeometryNumbers) × (row : ℕ) × SpellsGeometry words.geometry.now numbers × (number_of words.number.now ≡ Some row)
     × IsFirstFault numbers.data_bytes numbers.spare_bytes numbers.pages numbers.blocks numbers.sectors broken)
-DoesShow gives words before after (Err (fault.Read path)) = Keeps before after × (path.now ≡ words.image.now) × gives words.image.now (Err file.Failed) × ((g : Geometry) × (row : ℕ) × IsAsked words g row)
+DoesShow gives words before after (Err (fault.Read path)) = Keeps before after × (path.now ≡ words.image.now) × gives words.image.now (Err file.Failed) × ((g : Geometry) × (row : ℕ) × AsksForNumber words g row)
 DoesShow gives words before after (Err fault.WrongLength) = Keeps before after
-    × ((g : Geometry) × (row : ℕ) × (bytes : List ℕ) × IsAsked words g row × gives words.image.now (Ok bytes) × (length bytes ≢ row_count g * page_bytes g))
+    × ((g : Geometry) × (row : ℕ) × (bytes : List ℕ) × AsksForNumber words g row × gives words.image.now (Ok bytes) × (length bytes ≢ row_count g * page_bytes g))
 DoesShow gives words before after (Err fault.RowRange) = Keeps before after
     × ((g : Geometry) × (row : ℕ) × (bytes : List ℕ) × HasImage gives words g row bytes × (row_count g ≤ row))
 DoesShow gives words before after (Err (fault.Write path)) = (path.now ≡ codes "-")
     × ((g : Geometry) × (row : ℕ) × (bytes : List ℕ) × HasImage gives words g row bytes × (row < row_count g))
 DoesShow gives words before after (Err fault.OutOfMemory) = Keeps before after
-    × ((g : Geometry) × (row : ℕ) × IsAsked words g row × gives words.image.now (Err file.OutOfMemory))
+    × ((g : Geometry) × (row : ℕ) × AsksForNumber words g row × gives words.image.now (Err file.OutOfMemory))
 DoesShow gives words before after (Err _) = ⊥

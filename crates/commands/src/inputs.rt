@@ -3,7 +3,7 @@ ghost use Rattle.std.specs.Prelude.{◌≡◌, ℕ, List, Result, Some, None, If
 ghost use Rattle.page_layout.specs.Faults.{HasNumbers};
 ghost use Rattle.command_words.specs.declared.numbers.GeometryNumbers.{GeometryNumbers};
 ghost use Rattle.commands.specs.declared.files.FileFault.{FileFault};
-ghost use Rattle.commands.specs.Check.{IsAsked, IsUnasked};
+ghost use Rattle.commands.specs.Check.{AsksForCapacity, IsUnasked};
 ghost use Rattle.commands.specs.Inputs.{IsBadGeometry, IsBadNumber, IsUnread};
 ghost use Rattle.command_words.specs.Numbers.{SpellsGeometry, number_of};
 
@@ -82,7 +82,7 @@ pub struct CacheAsked {
 /// The first of this order: `BadNumber` where a word writes no numbers, `Geometry` where they are no
 /// geometry, `Capacity` where the capacity is not from 1 to 65536.
 pub fn cache_asked<'a>(words: &CertificateWords<'a>) -> Result<CacheAsked, CommandFault<'a>>
-    ensures ok { IfOk result (λ asked. IsAsked words.now asked.geometry asked.capacity) }
+    ensures ok { IfOk result (λ asked. AsksForCapacity words.now asked.geometry asked.capacity) }
     ensures fault { IfErr result (IsUnasked words.now) }
 {
     let numbers = numbers_at(words.geometry)?;

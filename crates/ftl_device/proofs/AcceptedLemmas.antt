@@ -1,5 +1,32 @@
 -- A run that begins with an accepted certificate.
-use Rattle.std.proofs.Common.{◌≡◌, ◌↔◌, ℕ, ◌+◌, ◌<◌, min, true, Bool, not, List, [], ◌∷◌, ◌++◌, ◌&&◌, ◌||◌, inl, inr, None, Result, Ok, Err, sym, ap, subst, ◌∙◌, arith}
+use Rattle.std.proofs.Common.{
+  ◌≡◌,
+  ◌↔◌,
+  ℕ,
+  ◌+◌,
+  ◌<◌,
+  min,
+  true,
+  Bool,
+  not,
+  List,
+  [],
+  ◌∷◌,
+  ◌++◌,
+  ◌&&◌,
+  ◌||◌,
+  inl,
+  inr,
+  None,
+  Result,
+  Ok,
+  Err,
+  sym,
+  ap,
+  subst,
+  ◌∙◌,
+  arith,
+}
 use Rattle.std.specs.List.{list_all}
 use Rattle.page_layout.specs.declared.geometry.Geometry.{Geometry}
 use Rattle.page_layout.specs.Page.{Image}
@@ -90,7 +117,7 @@ module _ (g : Geometry) (p q : ℕ → Bool) (u v : ℕ → ℕ) (same : (b : �
     wear = λ b lt. omega (arith, f.wear b lt, worn b lt);
   }
 
-  fair_as : (capacity next : ℕ) (old : runs.Device) (before : List Operation) (events : List Event) (calls : List Exchange) → AreFair (first_by g p u capacity next) old before events calls → AreFair (first_by g q v capacity next) old before events calls
+  fair_as : (capacity next : ℕ) (old : runs.DeviceView) (before : List Operation) (events : List Event) (calls : List Exchange) → AreFair (first_by g p u capacity next) old before events calls → AreFair (first_by g q v capacity next) old before events calls
   fair_as capacity next old before [] [] fair = tt
   fair_as capacity next old before [] (c ∷ calls) fair = fair
   fair_as capacity next old before (e ∷ events) [] fair = fair
@@ -119,7 +146,7 @@ wear_begun g capacity image c agrees b lt =
     begun_wear g c.blocks b (slice_get_within c.blocks b state.0 state.1)
 
 -- what a run from a memory says, with the accounts that its log began with
-record RanWith {N : Type 0} (flash : N → Flash) (r : Ram) (old : runs.Device) (accounts : List Account) (calls : List Exchange) (new : Device N) : Type 0 where
+record RanWith {N : Type 0} (flash : N → Flash) (r : Ram) (old : runs.DeviceView) (accounts : List Account) (calls : List Exchange) (new : Device N) : Type 0 where
   pub run : HasRun (first_of r) old (die_in flash new) calls
   pub legal : LegalFrom r.geometry.pages accounts (log_of run.events)
   pub next : new.engine.next ≡ r.next + programs_in (log_of run.events)
@@ -128,9 +155,9 @@ pub ran_accepted : {N : Type 0} (flash : N → Flash) (s : Flash) (a : Acceptanc
     → IsAccounted (accounts_of s.geometry s.image (is_bad_in a.claim)) (ram d.engine).blocks → Ran flash d calls new → RanFrom flash s a.claim calls new
 ran_accepted {N} flash s a d new calls die is accepted scarce accounts ran =
     let c = a.claim in
-    let first : runs.Device = accepted_device s c in
+    let first : runs.DeviceView = accepted_device s c in
     let its = accounts_of s.geometry s.image (is_bad_in c) in
-    let as_device : Flash → Bool → runs.Device = λ f ro. record { flash = f; ro = ro } in
+    let as_device : Flash → Bool → runs.DeviceView = λ f ro. record { flash = f; ro = ro } in
     let begins : die_in flash d ≡ first = ap (λ f. as_device f d.read_only) die ∙ ap (as_device s) scarce in
     let whole : RanWith flash (ram d.engine) (die_in flash d) its calls new = record { run = ran.run; legal = ran.follows.legal its accounts; next = ran.next } in
     let there : RanWith flash (begun_ram s.geometry c a.stale) first its calls new =

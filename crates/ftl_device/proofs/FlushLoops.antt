@@ -7,7 +7,7 @@ use Rattle.page_layout.specs.Geometry.{entries, translation_pages, table_pages}
 use Rattle.page_layout.specs.Array.{array_of}
 use Rattle.bad_blocks.specs.Table.{good_count}
 use Rattle.budget.specs.Counts.{Counts, Fits}
-use Rattle.budget.specs.Account.{Account}
+use Rattle.budget.specs.Spending.{Spending}
 use Rattle.budget.specs.Put.{StreamPut, NoneFree}
 use Rattle.budget.proofs.AccountLemmas.{no_page, one_page, few_meta_openings}
 use Rattle.std.proofs.Math.Nat.{mul-le-mul_right, mul_comm}
@@ -64,9 +64,9 @@ pub pages_more : (k : ℕ) (a b c : Ram) → b.geometry ≡ a.geometry → AddsP
 pages_more k a b c same x h = record {
   account = λ first pages acc.
       let put = subst (λ (g : Geometry). StreamPut Meta g.pages h.failures (counts_of b.blocks) (counts_of c.blocks)) same h.put in
-      let all : Account a.geometry.pages first (counts_of c.blocks) 0 (pages + k + 1) = one_page Meta a.geometry.pages h.failures 0 (pages + k) first (counts_of b.blocks) (counts_of c.blocks) (x.account first pages acc) put in
+      let all : Spending a.geometry.pages first (counts_of c.blocks) 0 (pages + k + 1) = one_page Meta a.geometry.pages h.failures 0 (pages + k) first (counts_of b.blocks) (counts_of c.blocks) (x.account first pages acc) put in
       let e : pages + k + 1 ≡ pages + (k + 1) = omega arith in
-      subst (λ n. Account a.geometry.pages first (counts_of c.blocks) 0 n) e all;
+      subst (λ n. Spending a.geometry.pages first (counts_of c.blocks) 0 n) e all;
 }
 
 pub tables_none : (r : Ram) (image : Image) → IsTrue None r image → KeepsTables 0 r image r image
@@ -114,7 +114,7 @@ keeps_cleaned (Err fault) g a b c t k x = tt
 pub record HasRounds (good : ℕ) (old new : Ram) : Type 0 where
   pub rounds : ℕ
   pub few : rounds + good ≤ good_count old.blocks.table + 1
-  pub account : Account old.geometry.pages (counts_of old.blocks) (counts_of new.blocks) 0 (rounds * table_pages old.geometry)
+  pub account : Spending old.geometry.pages (counts_of old.blocks) (counts_of new.blocks) 0 (rounds * table_pages old.geometry)
 
 -- where that many blocks are good, the newest table pages spell the table
 pub record SpellsWhere (good : ℕ) (g : Geometry) (before : Image) (new : Ram) (after : Image) : Type 0 where
@@ -124,16 +124,16 @@ pub record SpellsWhere (good : ℕ) (g : Geometry) (before : Image) (new : Ram) 
 pub first_round : (good : ℕ) (a b : Ram) → IsRam a → good ≡ good_count a.blocks.table → AddsPages (table_pages a.geometry) a b → HasRounds good a b
 first_round good a b s is x =
     let fits_here : Fits a.geometry.pages (counts_of a.blocks) = subst (λ (g : Geometry). Fits g.pages (counts_of a.blocks)) s.blocks_of (fits (free_count a.blocks) a.blocks s.blocks) in
-    let all : Account a.geometry.pages (counts_of a.blocks) (counts_of b.blocks) 0 (0 + table_pages a.geometry) = x.account (counts_of a.blocks) 0 (no_page a.geometry.pages (counts_of a.blocks) fits_here) in
+    let all : Spending a.geometry.pages (counts_of a.blocks) (counts_of b.blocks) 0 (0 + table_pages a.geometry) = x.account (counts_of a.blocks) 0 (no_page a.geometry.pages (counts_of a.blocks) fits_here) in
     let e : 0 + table_pages a.geometry ≡ 1 * table_pages a.geometry = omega arith in
-    record { rounds = 1; few = omega arith; account = subst (λ n. Account a.geometry.pages (counts_of a.blocks) (counts_of b.blocks) 0 n) e all }
+    record { rounds = 1; few = omega arith; account = subst (λ n. Spending a.geometry.pages (counts_of a.blocks) (counts_of b.blocks) 0 n) e all }
 
 pub next_round : (good now : ℕ) (a b c : Ram) → b.geometry ≡ a.geometry → now ≡ good_count b.blocks.table → now < good → HasRounds good a b → AddsPages (table_pages b.geometry) b c → HasRounds now a c
 next_round good now a b c same is lt h x =
-    let more = subst (λ (g : Geometry). (first : Counts) (pages : ℕ) → Account g.pages first (counts_of b.blocks) 0 pages → Account g.pages first (counts_of c.blocks) 0 (pages + table_pages g)) same x.account in
-    let all : Account a.geometry.pages (counts_of a.blocks) (counts_of c.blocks) 0 (h.rounds * table_pages a.geometry + table_pages a.geometry) = more (counts_of a.blocks) (h.rounds * table_pages a.geometry) h.account in
+    let more = subst (λ (g : Geometry). (first : Counts) (pages : ℕ) → Spending g.pages first (counts_of b.blocks) 0 pages → Spending g.pages first (counts_of c.blocks) 0 (pages + table_pages g)) same x.account in
+    let all : Spending a.geometry.pages (counts_of a.blocks) (counts_of c.blocks) 0 (h.rounds * table_pages a.geometry + table_pages a.geometry) = more (counts_of a.blocks) (h.rounds * table_pages a.geometry) h.account in
     let e : h.rounds * table_pages a.geometry + table_pages a.geometry ≡ (h.rounds + 1) * table_pages a.geometry = omega arith in
-    record { rounds = h.rounds + 1; few = omega (arith, h.few); account = subst (λ n. Account a.geometry.pages (counts_of a.blocks) (counts_of c.blocks) 0 n) e all }
+    record { rounds = h.rounds + 1; few = omega (arith, h.few); account = subst (λ n. Spending a.geometry.pages (counts_of a.blocks) (counts_of c.blocks) 0 n) e all }
 
 pub last_round : (good : ℕ) (a b : Ram) → HasRounds good a b → good_count b.blocks.table ≤ good → WritesTables a b
 last_round good a b h ge =
@@ -178,7 +178,7 @@ free_most failures free left n = elim n.cases [ inl c ↦ omega (arith, c.1) | i
 pub first_fails : (a c : Ram) → IsRam a → FailsAmong (table_pages a.geometry) a c → RunsOut a c
 first_fails a c s h =
     let fits_here : Fits a.geometry.pages (counts_of a.blocks) = subst (λ (g : Geometry). Fits g.pages (counts_of a.blocks)) s.blocks_of (fits (free_count a.blocks) a.blocks s.blocks) in
-    let all : Account a.geometry.pages (counts_of a.blocks) (counts_of h.mid.blocks) 0 (0 + h.pages) = h.used.account (counts_of a.blocks) 0 (no_page a.geometry.pages (counts_of a.blocks) fits_here) in
+    let all : Spending a.geometry.pages (counts_of a.blocks) (counts_of h.mid.blocks) 0 (0 + h.pages) = h.used.account (counts_of a.blocks) 0 (no_page a.geometry.pages (counts_of a.blocks) fits_here) in
     let few = table_fits a.geometry in
     let left : (counts_of h.mid.blocks).meta_left < a.geometry.pages = all.meta_open in
     let room : (1 + 1) * a.geometry.pages ≡ a.geometry.pages + a.geometry.pages = omega arith in
@@ -189,8 +189,8 @@ first_fails a c s h =
 -- in a later one
 pub later_fails : (good now : ℕ) (a b c : Ram) → b.geometry ≡ a.geometry → now ≡ good_count b.blocks.table → now < good → HasRounds good a b → FailsAmong (table_pages b.geometry) b c → RunsOut a c
 later_fails good now a b c same is lt r h =
-    let more = subst (λ (g : Geometry). (first : Counts) (pages : ℕ) → Account g.pages first (counts_of b.blocks) 0 pages → Account g.pages first (counts_of h.mid.blocks) 0 (pages + h.pages)) same h.used.account in
-    let all : Account a.geometry.pages (counts_of a.blocks) (counts_of h.mid.blocks) 0 (r.rounds * table_pages a.geometry + h.pages) = more (counts_of a.blocks) (r.rounds * table_pages a.geometry) r.account in
+    let more = subst (λ (g : Geometry). (first : Counts) (pages : ℕ) → Spending g.pages first (counts_of b.blocks) 0 pages → Spending g.pages first (counts_of h.mid.blocks) 0 (pages + h.pages)) same h.used.account in
+    let all : Spending a.geometry.pages (counts_of a.blocks) (counts_of h.mid.blocks) 0 (r.rounds * table_pages a.geometry + h.pages) = more (counts_of a.blocks) (r.rounds * table_pages a.geometry) r.account in
     let sized : table_pages b.geometry ≡ table_pages a.geometry = ap table_pages same in
     let few = table_fits a.geometry in
     let swapped : table_pages a.geometry * r.rounds ≤ a.geometry.pages * r.rounds = mul-le-mul_right r.rounds few in

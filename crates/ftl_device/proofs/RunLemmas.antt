@@ -1,5 +1,32 @@
 -- A run goes on by one call.
-use Rattle.std.proofs.Common.{◌≡◌, ◌≢◌, ◌↔◌, ℕ, ◌+◌, ◌<◌, ◌≤◌, min, inl, inr, Bool, true, List, [], ◌∷◌, ◌++◌, Result, Ok, Err, refl, sym, ap, subst, ◌∙◌, arith, append_assoc}
+use Rattle.std.proofs.Common.{
+  ◌≡◌,
+  ◌≢◌,
+  ◌↔◌,
+  ℕ,
+  ◌+◌,
+  ◌<◌,
+  ◌≤◌,
+  min,
+  inl,
+  inr,
+  Bool,
+  true,
+  List,
+  [],
+  ◌∷◌,
+  ◌++◌,
+  Result,
+  Ok,
+  Err,
+  refl,
+  sym,
+  ap,
+  subst,
+  ◌∙◌,
+  arith,
+  append_assoc,
+}
 use Rattle.std.specs.Prelude.{IfErr, OnOk}
 use Rattle.std.proofs.lemmas.List.{map-append, append-nil}
 use Rattle.page_layout.specs.declared.geometry.Geometry.{Geometry}
@@ -150,9 +177,9 @@ follows_then pages xs ys a b c before after = record {
   accounted = λ accounts s. rw (accounts_join pages accounts xs ys) (after.accounted (accounted_all pages accounts xs) (before.accounted accounts s));
 }
 
-fair_more : (first : First) (old mid : runs.Device) (before total : List Operation) (events : List Event) (xs : List Exchange) (event : Event) (x : Exchange) → AreFair first old before events xs → mid ≡ last_of old events → total ≡ before ++ log_of events → IsFair first mid total event x → AreFair first old before (events ++ event ∷ []) (xs ++ x ∷ [])
+fair_more : (first : First) (old mid : runs.DeviceView) (before total : List Operation) (events : List Event) (xs : List Exchange) (event : Event) (x : Exchange) → AreFair first old before events xs → mid ≡ last_of old events → total ≡ before ++ log_of events → IsFair first mid total event x → AreFair first old before (events ++ event ∷ []) (xs ++ x ∷ [])
 fair_more first old mid before total [] [] event x fair here all is =
-    let P : runs.Device → List Operation → Type 0 = λ d l. IsFair first d l event x in
+    let P : runs.DeviceView → List Operation → Type 0 = λ d l. IsFair first d l event x in
     (subst (λ d. P d before) here (subst (P mid) (all ∙ append-nil before) is), tt)
 fair_more first old mid before total [] (y ∷ xs) event x fair here all is = absurd fair
 fair_more first old mid before total (e ∷ events) [] event x fair here all is = absurd fair

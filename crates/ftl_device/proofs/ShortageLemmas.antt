@@ -4,7 +4,7 @@ use Rattle.std.proofs.lemmas.Bool.{cases_lt}
 use Rattle.page_layout.specs.declared.geometry.Geometry.{Geometry}
 use Rattle.bad_blocks.specs.Table.{good_count}
 use Rattle.budget.specs.Counts.{Fits}
-use Rattle.budget.specs.Account.{Account}
+use Rattle.budget.specs.Spending.{Spending}
 use Rattle.budget.proofs.AccountLemmas.{no_page, few_openings, stuck}
 use Rattle.allocation.specs.State.{free_count}
 use Rattle.allocation.specs.Counts.{counts_of}
@@ -16,13 +16,13 @@ use Rattle.ftl_device.specs.declared.fault.CallFault.TheVariants as call
 use Rattle.ftl_device.specs.declared.fault.CallFault.TheVariants.{Engine}
 use Rattle.ftl_device.specs.Shortage.{HasUsed, HasFailed, LeavesFiveLaw, TablesLeaveLaw}
 
-pub used_from : (most : ℕ) (old new : Ram) → IsRam old → (u : HasUsed most old new) → Account old.geometry.pages (counts_of old.blocks) (counts_of new.blocks) u.data_pages u.meta_pages
+pub used_from : (most : ℕ) (old new : Ram) → IsRam old → (u : HasUsed most old new) → Spending old.geometry.pages (counts_of old.blocks) (counts_of new.blocks) u.data_pages u.meta_pages
 used_from most old new s u =
     let start : Fits old.geometry.pages (counts_of old.blocks) = subst (λ (g : Geometry). Fits g.pages (counts_of old.blocks)) s.blocks_of (fits (free_count old.blocks) old.blocks s.blocks) in
-    let all : Account old.geometry.pages (counts_of old.blocks) (counts_of new.blocks) (0 + u.data_pages) (0 + u.meta_pages) = u.account (counts_of old.blocks) 0 0 (no_page old.geometry.pages (counts_of old.blocks) start) in
+    let all : Spending old.geometry.pages (counts_of old.blocks) (counts_of new.blocks) (0 + u.data_pages) (0 + u.meta_pages) = u.account (counts_of old.blocks) 0 0 (no_page old.geometry.pages (counts_of old.blocks) start) in
     let d : 0 + u.data_pages ≡ u.data_pages = omega arith in
     let m : 0 + u.meta_pages ≡ u.meta_pages = omega arith in
-    subst (λ k. Account old.geometry.pages (counts_of old.blocks) (counts_of new.blocks) u.data_pages k) m (subst (λ k. Account old.geometry.pages (counts_of old.blocks) (counts_of new.blocks) k (0 + u.meta_pages)) d all)
+    subst (λ k. Spending old.geometry.pages (counts_of old.blocks) (counts_of new.blocks) u.data_pages k) m (subst (λ k. Spending old.geometry.pages (counts_of old.blocks) (counts_of new.blocks) k (0 + u.meta_pages)) d all)
 
 pub leaves : (most : ℕ) (old new : Ram) → most ≤ 2 → IsRam old → 9 ≤ free_count old.blocks → HasUsed most old new → (5 ≤ free_count new.blocks) ⊎ (3 + good_count new.blocks.table ≤ good_count old.blocks.table)
 leaves most old new two s nine u =

@@ -6,7 +6,7 @@ use Rattle.bad_blocks.specs.Table.{good_count}
 use Rattle.budget.specs.declared.stream.Stream.{Stream}
 use Rattle.budget.specs.declared.stream.Stream.TheVariants.{Data, Meta}
 use Rattle.budget.specs.Counts.{Counts, Fits}
-use Rattle.budget.specs.Account.{Account, IsFunded, data_of, meta_of}
+use Rattle.budget.specs.Spending.{Spending, IsFunded, data_of, meta_of}
 use Rattle.std.proofs.Math.Nat.{mul-le-mul_right}
 use Rattle.budget.proofs.AccountLemmas.{one_page, few_openings, stuck}
 use Rattle.budget.proofs.RoomLemmas.{funded, put_funded}
@@ -28,7 +28,21 @@ use Rattle.ftl_device.specs.declared.fault.CallFault.TheVariants.{Engine}
 use Rattle.ftl_device.specs.Begin.{is_scarce}
 use Rattle.ftl_device.specs.Calls.{Tells, HasMadeRoom}
 use Rattle.ftl_device.specs.Flush.{WritesTables, RunsOut}
-use Rattle.ftl_device.specs.Shortage.{HasUsed, HasFailed, LacksGood, AfterRoom, UsesRoom, FailsRoom, PlaceCosts, RoomCosts, CallRoomCosts, CallShort, FlushFunded, FlushCounts, FlushShort}
+use Rattle.ftl_device.specs.Shortage.{
+  HasUsed,
+  HasFailed,
+  LacksGood,
+  AfterRoom,
+  UsesRoom,
+  FailsRoom,
+  PlaceCosts,
+  RoomCosts,
+  CallRoomCosts,
+  CallShort,
+  FlushFunded,
+  FlushCounts,
+  FlushShort,
+}
 use Rattle.ftl_device.proofs.RoomLemmas.{good_fewer, goes_on}
 use Rattle.ftl_device.proofs.FlushLoops.{free_most}
 use Rattle.ftl_device.proofs.ShortageLemmas.{used_from, leaves, out, tables_leave}
@@ -64,7 +78,7 @@ used_then j k most a b c same few u v = record {
   meta_pages = u.meta_pages + v.meta_pages;
   few = omega (arith, u.few, v.few);
   account = λ first d m acc.
-      let P : Geometry → Type 0 = λ g. Account g.pages first (counts_of b.blocks) (d + u.data_pages) (m + u.meta_pages) → Account g.pages first (counts_of c.blocks) (d + u.data_pages + v.data_pages) (m + u.meta_pages + v.meta_pages) in
+      let P : Geometry → Type 0 = λ g. Spending g.pages first (counts_of b.blocks) (d + u.data_pages) (m + u.meta_pages) → Spending g.pages first (counts_of c.blocks) (d + u.data_pages + v.data_pages) (m + u.meta_pages + v.meta_pages) in
       let step : P a.geometry = subst P same (v.account first (d + u.data_pages) (m + u.meta_pages)) in
       let e : d + (u.data_pages + v.data_pages) ≡ d + u.data_pages + v.data_pages = omega arith in
       let f : m + (u.meta_pages + v.meta_pages) ≡ m + u.meta_pages + v.meta_pages = omega arith in
@@ -77,7 +91,7 @@ used_after most a b c is u = record {
   data_pages = u.data_pages;
   meta_pages = u.meta_pages;
   few = u.few;
-  account = λ first d m acc. subst (λ (s : State). Account a.geometry.pages first (counts_of s) (d + u.data_pages) (m + u.meta_pages)) (sym is) (u.account first d m acc);
+  account = λ first d m acc. subst (λ (s : State). Spending a.geometry.pages first (counts_of s) (d + u.data_pages) (m + u.meta_pages)) (sym is) (u.account first d m acc);
 }
 
 pub failed_at : (most : ℕ) (stream : Stream) (a c : Ram) → HasRunOut stream a c → HasFailed most a c
@@ -297,13 +311,13 @@ five_free r ro flag off = elim (cases_lt (free_count r.blocks) 5) [
 
 -- ---- a turn
 
-account_leaves : (a b : Ram) (d m : ℕ) → d + m ≤ 2 → 9 ≤ free_count a.blocks → Account a.geometry.pages (counts_of a.blocks) (counts_of b.blocks) d m → (5 ≤ free_count b.blocks) ⊎ (3 + good_count b.blocks.table ≤ good_count a.blocks.table)
+account_leaves : (a b : Ram) (d m : ℕ) → d + m ≤ 2 → 9 ≤ free_count a.blocks → Spending a.geometry.pages (counts_of a.blocks) (counts_of b.blocks) d m → (5 ≤ free_count b.blocks) ⊎ (3 + good_count b.blocks.table ≤ good_count a.blocks.table)
 account_leaves a b d m two nine acc =
     let few : d + m + 1 ≤ a.geometry.pages = omega (arith, a.geometry.limits.page_count.least) in
     let opened = few_openings a.geometry.pages d m (counts_of a.blocks) (counts_of b.blocks) acc few in
     elim (cases_lt (free_count b.blocks) 5) [ inl less ↦ inr (omega arith) | inr more ↦ inl more ]
 
-account_out : (stream : Stream) (a b c : Ram) (d m : ℕ) → d + m ≤ 1 → 9 ≤ free_count a.blocks → Account a.geometry.pages (counts_of a.blocks) (counts_of b.blocks) d m → HasRunOut stream b c → 3 + good_count c.blocks.table ≤ good_count a.blocks.table
+account_out : (stream : Stream) (a b c : Ram) (d m : ℕ) → d + m ≤ 1 → 9 ≤ free_count a.blocks → Spending a.geometry.pages (counts_of a.blocks) (counts_of b.blocks) d m → HasRunOut stream b c → 3 + good_count c.blocks.table ≤ good_count a.blocks.table
 account_out stream a b c d m one nine acc h =
     let few : d + m + 2 ≤ a.geometry.pages = omega (arith, a.geometry.limits.page_count.least) in
     let gone = stuck stream a.geometry.pages h.failures d m (counts_of a.blocks) (counts_of b.blocks) (counts_of c.blocks) acc few h.found in

@@ -5,7 +5,7 @@ use Rattle.page_layout.specs.Page.{Image}
 use Rattle.page_layout.specs.Geometry.{entries, translation_pages, table_pages}
 use Rattle.bad_blocks.specs.Table.{wear_at, good_count}
 use Rattle.budget.specs.Counts.{Counts}
-use Rattle.budget.specs.Account.{Account}
+use Rattle.budget.specs.Spending.{Spending}
 use Rattle.mapping_cache.specs.Mapping.{MappingState, pending}
 use Rattle.allocation.specs.State.{free_count}
 use Rattle.allocation.specs.Counts.{counts_of}
@@ -40,7 +40,7 @@ pub record KeepsClean (g : Geometry) (old new : MappingState) : Type 0 where
 
 -- so many pages more were programmed in the meta stream than before
 pub record AddsPages (count : ℕ) (old new : Ram) : Type 0 where
-  pub account : (first : Counts) (pages : ℕ) → Account old.geometry.pages first (counts_of old.blocks) 0 pages → Account old.geometry.pages first (counts_of new.blocks) 0 (pages + count)
+  pub account : (first : Counts) (pages : ℕ) → Spending old.geometry.pages first (counts_of old.blocks) 0 pages → Spending old.geometry.pages first (counts_of new.blocks) 0 (pages + count)
 
 -- the array is as it was, and where no block has failed the newest of the first so many table pages spell the table
 pub record KeepsTables (count : ℕ) (old : Ram) (before : Image) (new : Ram) (after : Image) : Type 0 where
@@ -71,7 +71,7 @@ RunsOut old new = free_count old.blocks + 2 * good_count new.blocks.table ≤ 2 
 pub record WritesTables (old new : Ram) : Type 0 where
   pub rounds : ℕ
   pub few : rounds + good_count new.blocks.table ≤ good_count old.blocks.table + 1
-  pub account : Account old.geometry.pages (counts_of old.blocks) (counts_of new.blocks) 0 (rounds * table_pages old.geometry)
+  pub account : Spending old.geometry.pages (counts_of old.blocks) (counts_of new.blocks) 0 (rounds * table_pages old.geometry)
   pub openings : free_count old.blocks + 2 * good_count new.blocks.table ≤ free_count new.blocks + 2 * good_count old.blocks.table + 1
 
 -- ---- the device around it

@@ -1,5 +1,34 @@
 -- A RUN OF A DEVICE: commands that it is told one after another, what it answered to each, and what its die held after each.
-use Rattle.std.specs.Prelude.{◌≡◌, ◌≢◌, ◌⊎◌, ◌↔◌, ℕ, ◌+◌, ◌<◌, ◌≤◌, min, Bool, true, List, [], ◌∷◌, ◌++◌, length, map, replicate, unwrap_or, Option, None, Some, IsSome, Result, Ok, Err, IfErr, OnErr}
+use Rattle.std.specs.Prelude.{
+  ◌≡◌,
+  ◌≢◌,
+  ◌⊎◌,
+  ◌↔◌,
+  ℕ,
+  ◌+◌,
+  ◌<◌,
+  ◌≤◌,
+  min,
+  Bool,
+  true,
+  List,
+  [],
+  ◌∷◌,
+  ◌++◌,
+  length,
+  map,
+  replicate,
+  unwrap_or,
+  Option,
+  None,
+  Some,
+  IsSome,
+  Result,
+  Ok,
+  Err,
+  IfErr,
+  OnErr,
+}
 use Rattle.std.specs.Option.{ForSome}
 use Rattle.std.specs.List.{AllByRecursion, AllZip}
 use Rattle.page_layout.specs.declared.geometry.Geometry.{Geometry}
@@ -157,7 +186,7 @@ HaveKept old new = AllZip HasKept old new
 -- ---- the run
 
 -- a device between two commands
-abbrev pub die_in : {N : Type 0} → (N → Flash) → Device N → runs.Device
+abbrev pub die_in : {N : Type 0} → (N → Flash) → Device N → runs.DeviceView
 die_in flash d = record { flash = flash d.engine.nand; ro = d.read_only }
 
 -- what a run begins with: the geometry, the capacity of the cached mapping table, the bad blocks, the erase counts and the next sequence
@@ -180,7 +209,7 @@ pub record IsFlushedOut (first : First) (log : List Operation) (image : Image) :
 -- counts, and `SequenceSpent` the last sequence, by the image and the one log; a call that leaves the device read-only does so in a shortage,
 -- or is a flush in which two blocks failed; a command whose sector was stale in the image, or that names none, took no memory; and afterwards
 -- the image has a certificate.
-pub record IsFair (first : First) (old : runs.Device) (before : List Operation) (event : Event) (x : Exchange) : Type 0 where
+pub record IsFair (first : First) (old : runs.DeviceView) (before : List Operation) (event : Event) (x : Exchange) : Type 0 where
   pub shown : (fault : DeviceFault) → x.result ≡ Err fault → IsShown first.geometry first.bad first.next before event.piece old.ro event.left.flash.image fault
   pub left : event.left.ro ≡ true → IsLeft x.command first.geometry first.bad before event.piece old.ro x.result
   pub stale : needs_no_memory first.geometry old.flash.image x.command ≡ true → x.result ≢ Err OutOfMemory
@@ -188,7 +217,7 @@ pub record IsFair (first : First) (old : runs.Device) (before : List Operation) 
   pub mountable : first.capacity + first.geometry.pages ≤ 65536 → IsMountable first.geometry (first.capacity + first.geometry.pages) event.left.flash.image
 
 -- and so of all of them, each with the log up to it
-abbrev pub AreFair : First → runs.Device → List Operation → List Event → List Exchange → Type 0
+abbrev pub AreFair : First → runs.DeviceView → List Operation → List Event → List Exchange → Type 0
 AreFair first old before [] [] = Unit {0}
 AreFair first old before [] (x ∷ xs) = ⊥
 AreFair first old before (event ∷ events) [] = ⊥
@@ -196,7 +225,7 @@ AreFair first old before (event ∷ events) (x ∷ xs) = IsFair first old before
 
 -- THE RUN: its commands are those that were told, its replies those that were answered; each piece of the log leads from one image to the
 -- next, each reply is a step from the one array to the next, and each event is fair.
-pub record HasRun (first : First) (old new : runs.Device) (xs : List Exchange) : Type 0 where
+pub record HasRun (first : First) (old new : runs.DeviceView) (xs : List Exchange) : Type 0 where
   pub events : List Event
   pub commands : commands_of events ≡ commands_in xs
   pub replies : replies_of events ≡ replies_in xs
@@ -219,7 +248,7 @@ pub record Ran {N : Type 0} (flash : N → Flash) (old : Device N) (xs : List Ex
 abbrev pub accepted_first : Geometry → Claim → First
 accepted_first g c = record { geometry = g; capacity = c.capacity; bad = is_bad_in c; wear = wear_in c; next = c.next }
 
-abbrev pub accepted_device : Flash → Claim → runs.Device
+abbrev pub accepted_device : Flash → Claim → runs.DeviceView
 accepted_device s c = record { flash = s; ro = is_scarce (free_in s.geometry c s.image) }
 
 pub record RanFrom {N : Type 0} (flash : N → Flash) (s : Flash) (c : Claim) (xs : List Exchange) (new : Device N) : Type 0 where

@@ -6,7 +6,7 @@ use Rattle.bad_blocks.specs.Table.{good_count}
 use Rattle.budget.specs.declared.stream.Stream.{Stream}
 use Rattle.budget.specs.Counts.{Counts}
 use Rattle.budget.specs.declared.stream.Stream.TheVariants.{Meta}
-use Rattle.budget.specs.Account.{Account, IsFunded}
+use Rattle.budget.specs.Spending.{Spending, IsFunded}
 use Rattle.allocation.specs.State.{free_count}
 use Rattle.allocation.specs.Counts.{counts_of}
 use Rattle.collection.specs.declared.fault.WriteFault.{WriteFault}
@@ -26,7 +26,7 @@ pub record HasUsed (most : ℕ) (old new : Ram) : Type 0 where
   pub data_pages : ℕ
   pub meta_pages : ℕ
   pub few : data_pages + meta_pages ≤ most
-  pub account : (first : Counts) (d m : ℕ) → Account old.geometry.pages first (counts_of old.blocks) d m → Account old.geometry.pages first (counts_of new.blocks) (d + data_pages) (m + meta_pages)
+  pub account : (first : Counts) (d m : ℕ) → Spending old.geometry.pages first (counts_of old.blocks) d m → Spending old.geometry.pages first (counts_of new.blocks) (d + data_pages) (m + meta_pages)
 
 -- and then a page found no block
 pub record HasFailed (most : ℕ) (old new : Ram) : Type 0 where

@@ -4,14 +4,26 @@ ghost use Rattle.std.specs.Option.{ForSome};
 ghost use Rattle.std.specs.Map.{keys_of};
 ghost use Rattle.page_layout.specs.Counter.{HasRisen};
 ghost use Rattle.page_layout.specs.Geometry.{translation_pages, table_pages};
-ghost use Rattle.budget.specs.Account.{IsFunded};
+ghost use Rattle.budget.specs.Spending.{IsFunded};
 ghost use Rattle.allocation.specs.Counts.{counts_of};
 ghost use Rattle.collection.specs.Safe.{IsSafe, IsIdle, ram, image_in};
 ghost use Rattle.collection.specs.Truth.{IsTrue};
 ghost use Rattle.collection.specs.Log.{Went};
 ghost use Rattle.collection.specs.Results.{KeepsTable, fault_after};
 ghost use Rattle.ftl_device.specs.Calls.{Tells, CallTells, KeepsArray, CallRefused, standing_after};
-ghost use Rattle.ftl_device.specs.Flush.{IsClean, KeepsClean, SpellsAll, KeepsTables, AddsPages, FailsAmong, RunsOut, IsFlushed, WritesTables, MayFlush, MayNotFlush};
+ghost use Rattle.ftl_device.specs.Flush.{
+  IsClean,
+  KeepsClean,
+  SpellsAll,
+  KeepsTables,
+  AddsPages,
+  FailsAmong,
+  RunsOut,
+  IsFlushed,
+  WritesTables,
+  MayFlush,
+  MayNotFlush,
+};
 ghost use Rattle.ftl_device.specs.Shortage.{HasFunds, FlushCounts, FlushShort};
 ghost use Rattle.std.specs.Prelude.{◌↔◌};
 ghost use Rattle.page_layout.specs.Geometry.{need};

@@ -1,5 +1,36 @@
 -- From the bytes that the survey keeps to the newest table pages of the image.
-use Rattle.std.proofs.Common.{◌≡◌, ℕ, suc, ◌+◌, ◌-◌, ◌*◌, ◌/◌, ◌%◌, ◌<◌, ◌≤◌, Bool, true, false, List, [], ◌∷◌, length, get_or, Option, Some, None, refl, sym, ap, subst, ◌∙◌, inl, inr, arith, slice_get}
+use Rattle.std.proofs.Common.{
+  ◌≡◌,
+  ℕ,
+  suc,
+  ◌+◌,
+  ◌-◌,
+  ◌*◌,
+  ◌/◌,
+  ◌%◌,
+  ◌<◌,
+  ◌≤◌,
+  Bool,
+  true,
+  false,
+  List,
+  [],
+  ◌∷◌,
+  length,
+  get_or,
+  Option,
+  Some,
+  None,
+  refl,
+  sym,
+  ap,
+  subst,
+  ◌∙◌,
+  inl,
+  inr,
+  arith,
+  slice_get,
+}
 use Rattle.std.specs.Prelude.{slice_index, slice_range, is_some, not, IsSome}
 use Rattle.std.specs.Int.{w32, from_le_bytes, div_ceil}
 use Rattle.std.proofs.lemmas.Bool.{cases_order, cases_lt, lt-ltb, le-ltb}
@@ -34,7 +65,7 @@ use Rattle.certificate.specs.Claim.{Claim}
 use Rattle.image_check.specs.declared.refusal.Refusal.TheVariants as refusals
 use Rattle.image_check.specs.Blocks.{body_in, table_body, word_of_block, IsBodyOf, IsTableOf}
 use Rattle.image_check.specs.Surveyed.{SurveysKeys, SurveysTables}
-use Rattle.image_check.specs.Agrees.{IsFormatted, HasTables}
+use Rattle.image_check.specs.Agrees.{HasNewestTable, HasTables}
 use Rattle.image_check.specs.Refused.{IsUnformatted, IsWrong, Tables}
 use Rattle.image_check.proofs.PartLemmas.{surveyed_row}
 
@@ -63,7 +94,7 @@ there_more g items n i d h at within some = record {
   ];
 }
 
-pub formatted_of : (g : Geometry) (image : Image) (items : List Latest) (u : ℕ) → AreThere g items (table_pages g) → SurveysKeys g image items → u < table_pages g → IsFormatted image u
+pub formatted_of : (g : Geometry) (image : Image) (items : List Latest) (u : ℕ) → AreThere g items (table_pages g) → SurveysKeys g image items → u < table_pages g → HasNewestTable image u
 formatted_of g image items u h keys within =
     let e = h.each u within in
     record { row = e.0; newest_is = sym (surveyed_row g image items (g.sectors + (translation_pages g + u)) (Table u) Never keys.whole keys.noted within refl) ∙ e.1 }
@@ -101,7 +132,7 @@ unfolding table_body
 table_is image u row e = ap (body_in image) e
 
 -- what the survey keeps of a table page is the page
-pub body_kept : (g : Geometry) (image : Image) (items : List Latest) (bytes : List ℕ) (u at size : ℕ) (body : List ℕ) → SurveysTables g image items bytes → IsFormatted image u → u < table_pages g → at ≡ u * g.data_bytes → size ≡ g.data_bytes → body ≡ slice_range bytes at (at + size) → at + size ≤ length bytes → IsBodyOf g image u body
+pub body_kept : (g : Geometry) (image : Image) (items : List Latest) (bytes : List ℕ) (u at size : ℕ) (body : List ℕ) → SurveysTables g image items bytes → HasNewestTable image u → u < table_pages g → at ≡ u * g.data_bytes → size ≡ g.data_bytes → body ≡ slice_range bytes at (at + size) → at + size ≤ length bytes → IsBodyOf g image u body
 unfolding table_body
 body_kept g image items bytes u at size body h formatted within place is_size is room = record {
   same = λ i l.
@@ -186,7 +217,7 @@ taken_more g image u old new body size h kept page others = record {
 -- ---- all of them
 
 -- what is known once all pages are read
-pub tables_hold : (g : Geometry) (image : Image) (rows : List TableRow) → ((v : ℕ) → v < table_pages g → IsFormatted image v) → AreTaken g image (table_pages g) rows → HasTables g image
+pub tables_hold : (g : Geometry) (image : Image) (rows : List TableRow) → ((v : ℕ) → v < table_pages g → HasNewestTable image v) → AreTaken g image (table_pages g) rows → HasTables g image
 tables_hold g image rows formatted taken = record {
   formatted = formatted;
   formed = taken.formed;
@@ -213,7 +244,7 @@ table_of g image rows size h = record {
       h.taken (b / entries g) (b % entries g) (in_pages g.blocks (entries g) b some l) (omega arith) ∙ ap (table.table_word rows) parts;
 }
 
-pub tables_damaged : (g : Geometry) (capacity : ℕ) (image : Image) (claim : Claim) (u : ℕ) (rows : List TableRow) (body : List ℕ) (fault : TableFault) → ((v : ℕ) → v < table_pages g → IsFormatted image v) → AreTaken g image u rows → u < table_pages g → IsBodyOf g image u body → table.IsFirstWrong (entries g) g.blocks u body fault → IsWrong g capacity image claim Tables (refusals.TableDamaged u)
+pub tables_damaged : (g : Geometry) (capacity : ℕ) (image : Image) (claim : Claim) (u : ℕ) (rows : List TableRow) (body : List ℕ) (fault : TableFault) → ((v : ℕ) → v < table_pages g → HasNewestTable image v) → AreTaken g image u rows → u < table_pages g → IsBodyOf g image u body → table.IsFirstWrong (entries g) g.blocks u body fault → IsWrong g capacity image claim Tables (refusals.TableDamaged u)
 tables_damaged g capacity image claim u rows body fault formatted taken within kept wrong = record {
   part_is = refl;
   fails = λ (all : HasTables g image). damaged_of g image u body fault kept wrong (all.formed u within);

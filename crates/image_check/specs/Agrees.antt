@@ -32,12 +32,12 @@ pub record AreInRange (g : Geometry) (marks : List (Option Record)) : Type 0 whe
   pub in_range : (row : ℕ) (r : Record) → get_or marks row None ≡ Some r → IsKeyOf g (key_of r)
 
 -- d: every table page has a newest page, and it is well formed
-pub record IsFormatted (image : Image) (u : ℕ) : Type 0 where
+pub record HasNewestTable (image : Image) (u : ℕ) : Type 0 where
   pub row : ℕ
   pub newest_is : newest (marks image) (Table u) ≡ Some row
 
 pub record HasTables (g : Geometry) (image : Image) : Type 0 where
-  pub formatted : (u : ℕ) → u < table_pages g → IsFormatted image u
+  pub formatted : (u : ℕ) → u < table_pages g → HasNewestTable image u
   pub formed : (u : ℕ) → u < table_pages g → IsWellFormed (entries g) g.blocks u (table_body image u)
 
 -- e: each directory row is that of its key's newest page, or none

@@ -7,7 +7,7 @@ ghost use Rattle.page_layout.specs.Geometry.{key_count, table_pages};
 ghost use Rattle.page_layout.specs.Limits.{IsDataSize};
 ghost use Rattle.certificate.specs.Claim.{Claim};
 ghost use Rattle.image_check.specs.Blocks.{IsBodyOf, IsTableOf};
-ghost use Rattle.image_check.specs.Agrees.{IsFormatted, HasTables};
+ghost use Rattle.image_check.specs.Agrees.{HasNewestTable, HasTables};
 ghost use Rattle.image_check.specs.Surveyed.{SurveysKeys, SurveysTables};
 ghost use Rattle.image_check.specs.Refused.{IsUnformatted, IsWrong, Tables, IsJudgement, IsOfImage};
 
@@ -20,7 +20,7 @@ use page_layout::newest::Latest;
 // Whether each table page has a newest page. It has none where it has no sound page, or where two share its greatest sequence.
 fn is_formatted(geometry: &Geometry, newest: &[Latest]) -> bool
     requires { length newest.now ≡ key_count geometry.now }
-    ensures yes { result ≡ true → (image : Image) → SurveysKeys geometry.now image newest.now → (u : ℕ) → u < table_pages geometry.now → IsFormatted image u }
+    ensures yes { result ≡ true → (image : Image) → SurveysKeys geometry.now image newest.now → (u : ℕ) → u < table_pages geometry.now → HasNewestTable image u }
     ensures no { result ≡ false → (image : Image) → SurveysKeys geometry.now image newest.now → AreDistinct (marks image) → IsUnformatted geometry.now image }
 {
     let first = geometry.sectors() + geometry.translation_pages();
@@ -38,7 +38,7 @@ fn bytes_of(survey: &Survey, page: u32) -> &[u8]
     requires within { page < table_pages survey.now.geometry }
     ensures size { length result.now ≡ survey.now.geometry.data_bytes }
     ensures whole { IsDataSize (length result.now) }
-    ensures kept { (image : Image) → SurveysTables survey.now.geometry image survey.now.newest.items survey.now.tables.items → IsFormatted image page → IsBodyOf survey.now.geometry image page result.now }
+    ensures kept { (image : Image) → SurveysTables survey.now.geometry image survey.now.newest.items survey.now.tables.items → HasNewestTable image page → IsBodyOf survey.now.geometry image page result.now }
 {
     let size = survey.geometry.data_bytes();
     let at = page as usize * size;

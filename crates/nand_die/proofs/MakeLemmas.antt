@@ -1,11 +1,58 @@
 -- What a die is made of.
-use Rattle.std.proofs.Common.{◌≡◌, ◌≢◌, ◌⊎◌, inl, inr, ℕ, zero, suc, ◌+◌, ◌*◌, ◌<◌, ◌≤◌, ◌==◌, Bool, true, false, ◌||◌, List, [], ◌∷◌, ◌++◌, take, drop, length, map, replicate, refl, sym, ◌∙◌, ap, subst, arith, get_or, if◌then◌else◌, Some}
+use Rattle.std.proofs.Common.{
+  ◌≡◌,
+  ◌≢◌,
+  ◌⊎◌,
+  inl,
+  inr,
+  ℕ,
+  zero,
+  suc,
+  ◌+◌,
+  ◌*◌,
+  ◌<◌,
+  ◌≤◌,
+  ◌==◌,
+  Bool,
+  true,
+  false,
+  ◌||◌,
+  List,
+  [],
+  ◌∷◌,
+  ◌++◌,
+  take,
+  drop,
+  length,
+  map,
+  replicate,
+  refl,
+  sym,
+  ◌∙◌,
+  ap,
+  subst,
+  arith,
+  get_or,
+  if◌then◌else◌,
+  Some,
+}
 use Rattle.std.specs.Prelude.{slice_set, slice_get, Contains}
 use Rattle.std.specs.List.{range_with_len, list_any}
 use Rattle.std.proofs.Math.Nat.{mul-le-mul_right}
 use Rattle.std.proofs.lemmas.Bool.{cases_lt, cases_eq, both_ways, eq-eqb, ne_eqb}
 use Rattle.std.proofs.lemmas.Option.{slice_get-get_or, slice_get_within, same_Some}
-use Rattle.std.proofs.lemmas.List.{get_or-set_same, get_or-set_other, length-set, set-set, map-append, take-set-le, drop-set-add, ext_get_or, take_more, take_more_set}
+use Rattle.std.proofs.lemmas.List.{
+  get_or-set_same,
+  get_or-set_other,
+  length-set,
+  set-set,
+  map-append,
+  take-set-le,
+  drop-set-add,
+  ext_get_or,
+  take_more,
+  take_more_set,
+}
 use Rattle.std.proofs.lemmas.List.Folds.{list_any-append}
 use Rattle.std.proofs.lemmas.List.FromFn.{length-map-range_with_len, get_or-map-range_with_len, map-range_with_len_more}
 use Rattle.page_layout.specs.declared.geometry.Geometry.{Geometry}
@@ -13,12 +60,24 @@ use Rattle.page_layout.specs.Geometry.{row_count, page_bytes}
 use Rattle.page_layout.specs.Page.{Page, page}
 use Rattle.page_layout.specs.Raw.{raw_image}
 use Rattle.page_layout.specs.Change.{erased_page}
-use Rattle.page_layout.specs.Flash.{Turn, no_page, no_turn}
+use Rattle.page_layout.specs.Flash.{TurnState, no_page, no_turn}
 use Rattle.onfi_cycles.specs.Cycles.{page_of}
 use Rattle.nand_die.specs.declared.fault.Mark.{Mark}
 use Rattle.nand_die.specs.declared.change.BlockTurn.{BlockTurn}
 use Rattle.nand_die.specs.Turns.{turn_of}
-use Rattle.nand_die.specs.Made.{IsMisnamed, AreNames, IsFirstMisnamed, is_named, first_turn, first_turns, barred_turn, marked_row, with_mark, new_page, new_image}
+use Rattle.nand_die.specs.Made.{
+  IsMisnamed,
+  AreNames,
+  IsFirstMisnamed,
+  is_named,
+  first_turn,
+  first_turns,
+  barred_turn,
+  marked_row,
+  with_mark,
+  new_page,
+  new_image,
+}
 use Rattle.nand_die.proofs.PagesLemmas.{page_written, page_read, part_length, blank_image}
 
 -- ---- lists made from a function of their places
@@ -105,7 +164,7 @@ new_turns_so g turns n t is turn e = ap (map turn_of) is ∙ (all n ∙ (ap (rep
     all (suc k) = ap (λ ts. turn_of t ∷ ts) (all k)
 
 -- one more turn was found
-pub found_more : (f : ℕ → Turn) (turns : List BlockTurn) (k : ℕ) (t : BlockTurn) → k < length turns → turn_of t ≡ f k → map turn_of (take k turns) ≡ map f (range_with_len 0 k)
+pub found_more : (f : ℕ → TurnState) (turns : List BlockTurn) (k : ℕ) (t : BlockTurn) → k < length turns → turn_of t ≡ f k → map turn_of (take k turns) ≡ map f (range_with_len 0 k)
     → map turn_of (take (k + 1) (slice_set turns k t)) ≡ map f (range_with_len 0 (k + 1))
 found_more f turns k t lt is before =
     ap (map turn_of) (take_more_set turns k t lt) ∙ (map-append turn_of (take k turns) (t ∷ []) ∙ (ap (λ ts. ts ++ turn_of t ∷ []) before
@@ -119,8 +178,8 @@ named_here false b e = ap (λ x. x || false) e
 pub turns_more : (g : Geometry) (next : ℕ → ℕ) (names : List ℕ) (block : ℕ) → block < g.blocks
     → slice_set (first_turns g next names) block (barred_turn (get_or (first_turns g next names) block no_turn)) ≡ first_turns g next (names ++ block ∷ [])
 turns_more g next names block lt =
-    let f : ℕ → Turn = λ k. first_turn (next k) (is_named names k) in
-    let h : ℕ → Turn = λ k. first_turn (next k) (is_named (names ++ block ∷ []) k) in
+    let f : ℕ → TurnState = λ k. first_turn (next k) (is_named names k) in
+    let h : ℕ → TurnState = λ k. first_turn (next k) (is_named (names ++ block ∷ []) k) in
     let test : (k : ℕ) → is_named (names ++ block ∷ []) k ≡ (is_named names k || ((block == k) || false)) = λ k. list_any-append (λ n. n == k) names (block ∷ []) in
     let there : get_or (first_turns g next names) block no_turn ≡ f block = get_or-map-range_with_len f 0 g.blocks block block no_turn lt (omega arith) in
     let here : h block ≡ barred_turn (get_or (first_turns g next names) block no_turn)
@@ -156,17 +215,17 @@ named_contains names block c = at names c.0 c.1 c.2
     at (n ∷ ns) (suc k) lt e = or_right (n == block) (is_named ns block) (at ns k (omega arith) e)
 
 -- the first k names were taken: none of them is misnamed, and these are the turns
-pub record Named (g : Geometry) (next : ℕ → ℕ) (names : List ℕ) (k : ℕ) (turns : List Turn) : Type 0 where
+pub record Named (g : Geometry) (next : ℕ → ℕ) (names : List ℕ) (k : ℕ) (turns : List TurnState) : Type 0 where
   pub turns_so : turns ≡ first_turns g next (take k names)
   pub right : (at other : ℕ) → at < k → ¬ IsMisnamed g names at other
 
-pub named_none : (g : Geometry) (next : ℕ → ℕ) (names : List ℕ) (turns : List Turn) → turns ≡ first_turns g next [] → Named g next names 0 turns
+pub named_none : (g : Geometry) (next : ℕ → ℕ) (names : List ℕ) (turns : List TurnState) → turns ≡ first_turns g next [] → Named g next names 0 turns
 named_none g next names turns e = record { turns_so = e; right = λ at other lt. absurd (omega (arith, lt)) }
 
 barred_is : (g : Geometry) (next : ℕ → ℕ) (names : List ℕ) (block : ℕ) → block < g.blocks → (get_or (first_turns g next names) block no_turn).barred ≡ is_named names block
-barred_is g next names block lt = ap (λ (t : Turn). t.barred) (get_or-map-range_with_len (λ k. first_turn (next k) (is_named names k)) 0 g.blocks block block no_turn lt (omega arith))
+barred_is g next names block lt = ap (λ (t : TurnState). t.barred) (get_or-map-range_with_len (λ k. first_turn (next k) (is_named names k)) 0 g.blocks block block no_turn lt (omega arith))
 
-pub named_more : (g : Geometry) (next : ℕ → ℕ) (names : List ℕ) (k block n : ℕ) (old new : List Turn) → Named g next names k old → k < length names → block ≡ get_or names k block → n ≡ g.blocks
+pub named_more : (g : Geometry) (next : ℕ → ℕ) (names : List ℕ) (k block n : ℕ) (old new : List TurnState) → Named g next names k old → k < length names → block ≡ get_or names k block → n ≡ g.blocks
     → block < n → (get_or old block no_turn).barred ≡ false → new ≡ slice_set old block (barred_turn (get_or old block no_turn)) → Named g next names (k + 1) new
 named_more g next names k block n old new before lt is e within free so =
     let here : block < g.blocks = omega (arith, e, within) in
@@ -188,11 +247,11 @@ named_more g next names k block n old new before lt is e within free so =
     }
 
 -- all of them
-pub named_all : (g : Geometry) (next : ℕ → ℕ) (names : List ℕ) (k : ℕ) (turns : List Turn) → Named g next names k turns → length names ≤ k → AreNames g names
+pub named_all : (g : Geometry) (next : ℕ → ℕ) (names : List ℕ) (k : ℕ) (turns : List TurnState) → Named g next names k turns → length names ≤ k → AreNames g names
 named_all g next names k turns named le at other bad = named.right at other (omega (arith, le, slice_get_within names at other bad.here)) bad
 
 -- the next one is misnamed
-pub named_stop : (g : Geometry) (next : ℕ → ℕ) (names : List ℕ) (k block n : ℕ) (turns : List Turn) → Named g next names k turns → k < length names → block ≡ get_or names k block → n ≡ g.blocks
+pub named_stop : (g : Geometry) (next : ℕ → ℕ) (names : List ℕ) (k block n : ℕ) (turns : List TurnState) → Named g next names k turns → k < length names → block ≡ get_or names k block → n ≡ g.blocks
     → (n ≤ block) ⊎ ((get_or turns block no_turn).barred ≡ true) → IsFirstMisnamed g names block
 named_stop g next names k block n turns named lt is e why = record {
   at = k;

@@ -8,7 +8,7 @@ use Rattle.page_layout.specs.Geometry.{row_count}
 use Rattle.page_layout.specs.Page.{Page}
 use Rattle.page_layout.specs.Raw.{raw_image}
 use Rattle.page_layout.specs.Counter.{counted}
-use Rattle.page_layout.specs.Flash.{Flash, Turn, Program, Erase, after, turn_at, may_program, may_erase, no_turn, after_program, after_erase, with_block}
+use Rattle.page_layout.specs.Flash.{Flash, TurnState, Program, Erase, after, turn_at, may_program, may_erase, no_turn, after_program, after_erase, with_block}
 use Rattle.nand_die.specs.Turns.{turn_of, flash_of}
 use Rattle.nand_die.specs.declared.change.BlockTurn.{BlockTurn}
 
@@ -20,10 +20,10 @@ pub may_here : (g : Geometry) (bytes : List ℕ) (turns : List BlockTurn) (abuse
     → may_program (flash_of g bytes turns abuse) row ≡ (not t.barred && (t.next == row % g.pages))
 may_here g bytes turns abuse row block t at lt read =
     ap (λ b. not (turn_at (flash_of g bytes turns abuse) b).barred && ((turn_at (flash_of g bytes turns abuse) b).next == row % g.pages)) at
-    ∙ ap (λ (u : Turn). not u.barred && (u.next == row % g.pages)) (turn_here g bytes turns abuse block t lt read)
+    ∙ ap (λ (u : TurnState). not u.barred && (u.next == row % g.pages)) (turn_here g bytes turns abuse block t lt read)
 
 -- the flash with this image, these turns and this abuse
-abbrev flash_with : Geometry → List Page → List Turn → ℕ → Flash
+abbrev flash_with : Geometry → List Page → List TurnState → ℕ → Flash
 flash_with g image turns abuse = record { geometry = g; image = image; turns = turns; abuse = abuse }
 
 pub programs_so : (g : Geometry) (bytes bytes' : List ℕ) (turns : List BlockTurn) (abuse row block : ℕ) (t new : BlockTurn) (page left : Page) (legal passed : Bool)
@@ -52,7 +52,7 @@ erases_so g bytes bytes' turns abuse block t new left legal passed lt read is_ne
     let old : Flash = flash_of g bytes turns abuse in
     let image : List Page = with_block g.pages block left (raw_image g bytes) in
     let turn : turn_at old block ≡ turn_of t = turn_here g bytes turns abuse block t lt read in
-    let may : legal ≡ may_erase old block = is_legal ∙ ap (λ (u : Turn). not u.barred) (sym turn) in
+    let may : legal ≡ may_erase old block = is_legal ∙ ap (λ (u : TurnState). not u.barred) (sym turn) in
     let e_turns : map turn_of (slice_set turns block new) ≡ slice_set (map turn_of turns) block (after_erase (turn_at old block) (may_erase old block) passed)
     = map-set turn_of turns block new ∙ ap (slice_set (map turn_of turns) block) (is_new ∙ (ap (λ u. after_erase u legal passed) (sym turn) ∙ ap (λ b. after_erase (turn_at old block) b passed) may)) in
     ap (λ i. flash_with g i (map turn_of (slice_set turns block new)) (if legal then abuse else counted abuse)) written

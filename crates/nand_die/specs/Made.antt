@@ -1,5 +1,29 @@
 -- Dies as they are made: with factory marks, or of an image and a list of bad blocks.
-use Rattle.std.specs.Prelude.{◌≡◌, ◌≢◌, ◌⊎◌, ℕ, ◌+◌, ◌-◌, ◌*◌, ◌<◌, ◌≤◌, ◌==◌, Bool, true, false, List, length, map, slice_get, slice_set, get_or, take, Contains, Some, if◌then◌else◌}
+use Rattle.std.specs.Prelude.{
+  ◌≡◌,
+  ◌≢◌,
+  ◌⊎◌,
+  ℕ,
+  ◌+◌,
+  ◌-◌,
+  ◌*◌,
+  ◌<◌,
+  ◌≤◌,
+  ◌==◌,
+  Bool,
+  true,
+  false,
+  List,
+  length,
+  map,
+  slice_get,
+  slice_set,
+  get_or,
+  take,
+  Contains,
+  Some,
+  if◌then◌else◌,
+}
 use Rattle.std.specs.List.{range_with_len, list_any}
 use Rattle.page_layout.specs.declared.geometry.Geometry.{Geometry}
 use Rattle.page_layout.specs.Geometry.{row_count, page_bytes}
@@ -8,7 +32,7 @@ use Rattle.page_layout.specs.Raw.{raw_image}
 use Rattle.page_layout.specs.Sound.{is_erased_page}
 use Rattle.page_layout.specs.Block.{block_pages, past_last}
 use Rattle.page_layout.specs.Change.{erased_page}
-use Rattle.page_layout.specs.Flash.{Flash, Turn, no_page}
+use Rattle.page_layout.specs.Flash.{Flash, TurnState, no_page}
 use Rattle.nand_die.specs.declared.fault.Mark.{Mark}
 use Rattle.nand_die.specs.declared.fault.DieFault.{DieFault}
 use Rattle.nand_die.specs.declared.fault.DieFault.TheVariants.{WrongLength, BadMark, OutOfMemory, SoundFaultPage}
@@ -44,15 +68,15 @@ is_named names block = list_any (λ n. n == block) names
 -- ---- the turns of blocks of which nothing was asked
 
 -- of a block of which nothing was asked: its next page, and whether it is bad
-abbrev pub first_turn : ℕ → Bool → Turn
+abbrev pub first_turn : ℕ → Bool → TurnState
 first_turn next bad = record { next = next; barred = bad; programs = 0; erases = 0 }
 
 -- the same block, in which nothing more may be done
-abbrev pub barred_turn : Turn → Turn
+abbrev pub barred_turn : TurnState → TurnState
 barred_turn t = record { next = t.next; barred = true; programs = t.programs; erases = t.erases }
 
 -- these are the next pages, and the blocks of the list are bad
-abbrev pub first_turns : Geometry → (ℕ → ℕ) → List ℕ → List Turn
+abbrev pub first_turns : Geometry → (ℕ → ℕ) → List ℕ → List TurnState
 first_turns g next names = map (λ block. first_turn (next block) (is_named names block)) (range_with_len 0 g.blocks)
 
 -- ---- a new die

@@ -4,12 +4,12 @@ use Rattle.page_layout.specs.declared.geometry.Geometry.{Geometry}
 use Rattle.page_layout.specs.Page.{Page}
 use Rattle.page_layout.specs.Raw.{raw_image}
 use Rattle.page_layout.specs.Change.{erased_page}
-use Rattle.page_layout.specs.Flash.{Flash, Turn}
+use Rattle.page_layout.specs.Flash.{Flash, TurnState}
 use Rattle.onfi_cycles.specs.Cycles.{page_of}
 use Rattle.nand_die.specs.declared.change.BlockTurn.{BlockTurn}
 
 -- the turn that a block's fields say
-abbrev pub turn_of : BlockTurn → Turn
+abbrev pub turn_of : BlockTurn → TurnState
 turn_of t = record { next = t.next; barred = t.barred; programs = t.programs; erases = t.erases }
 
 -- the flash that a die's fields say

@@ -1,7 +1,8 @@
 -- What stands in a flash: its pages, and the turn of each block. Programs and erases, and the law of each: ONFI's, that a page is programmed
 -- and a block erased as a whole, with this project's rules of turns: the pages of a block are programmed by rising number, each once between
 -- two erases, and a bad or failed block is left alone.
-use Rattle.std.specs.Prelude.{◌≡◌, ◌⊎◌, ℕ, Bool, true, false, not, ◌&&◌, ◌||◌, ◌==◌, ◌+◌, ◌*◌, ◌/◌, ◌%◌, ◌<◌, ◌≤◌, List, [], ◌∷◌, ◌++◌, length, take, drop, replicate, slice_set, get_or, None, if◌then◌else◌}
+use Rattle.std.specs.Prelude.{◌≡◌, ◌⊎◌, ℕ, Bool, true, false, not, ◌&&◌, ◌||◌, ◌==◌, ◌+◌, ◌*◌, ◌/◌, ◌%◌, ◌<◌, ◌≤◌, List, [], ◌∷◌, ◌++◌, length, take,
+    drop, replicate, slice_set, get_or, None, if◌then◌else◌}
 use Rattle.page_layout.specs.declared.geometry.Geometry.{Geometry}
 use Rattle.page_layout.specs.Page.{Page, Image, IsImage, IsPage, page}
 use Rattle.page_layout.specs.Sound.{record_of}
@@ -9,7 +10,7 @@ use Rattle.page_layout.specs.Change.{erased_page}
 use Rattle.page_layout.specs.Counter.{counted}
 
 -- whose turn it is in a block: its next page, whether it is bad or has failed, and what was asked of it
-pub record Turn : Type 0 where
+pub record TurnState : Type 0 where
   pub next : ℕ
   pub barred : Bool
   pub programs : ℕ
@@ -20,7 +21,7 @@ pub record Turn : Type 0 where
 pub record Flash : Type 0 where
   pub geometry : Geometry
   pub image : Image
-  pub turns : List Turn
+  pub turns : List TurnState
   pub abuse : ℕ
 
 -- a program of a page or an erase of a block, as it was asked for, with what it left
@@ -29,7 +30,7 @@ pub data Operation : Type 0 where
   Erase : (block : ℕ) (passed : Bool) (left : List Page) → Operation
 
 -- the turn of a block that there is not
-abbrev pub no_turn : Turn
+abbrev pub no_turn : TurnState
 no_turn = record { next = 0; barred = true; programs = 0; erases = 0 }
 
 -- the page of a row that there is not
@@ -37,7 +38,7 @@ abbrev pub no_page : Page
 no_page = page [] []
 
 -- the turn of a block
-abbrev pub turn_at : Flash → ℕ → Turn
+abbrev pub turn_at : Flash → ℕ → TurnState
 turn_at s block = get_or s.turns block no_turn
 
 -- the page of a row
@@ -58,7 +59,7 @@ may_erase s block = not (turn_at s block).barred
 
 -- The turn of a block after a program in it. One that was due moves the next page on where it passed, and leaves the block failed where
 -- it failed. Each is counted.
-abbrev pub after_program : Turn → Bool → Bool → Turn
+abbrev pub after_program : TurnState → Bool → Bool → TurnState
 after_program t legal passed = record {
   next = if legal && passed then t.next + 1 else t.next;
   barred = t.barred || (legal && not passed);
@@ -67,7 +68,7 @@ after_program t legal passed = record {
 }
 
 -- The same of an erase, after which page 0 is the next one.
-abbrev pub after_erase : Turn → Bool → Bool → Turn
+abbrev pub after_erase : TurnState → Bool → Bool → TurnState
 after_erase t legal passed = record {
   next = if legal && passed then 0 else t.next;
   barred = t.barred || (legal && not passed);

@@ -8,7 +8,7 @@ use Rattle.std.proofs.lemmas.Bool.Decides.{eqb_tells}
 use Rattle.page_layout.specs.Change.{one_if}
 use Rattle.page_layout.specs.Page.{Page}
 use Rattle.page_layout.specs.Counter.{counted}
-use Rattle.page_layout.specs.Flash.{Flash, Operation, Program, Erase, Turn, no_turn, turn_at, after, after_program, after_erase, may_program}
+use Rattle.page_layout.specs.Flash.{Flash, Operation, Program, Erase, TurnState, no_turn, turn_at, after, after_program, after_erase, may_program}
 use Rattle.page_layout.specs.Flash.{may_erase, Leads}
 use Rattle.promises.specs.Log.{block_of, has_passed, programs_in, erases_in, programs_of, erases_of, passed_erases_of, failed_in, CountsLaw}
 use Rattle.promises.specs.Log.{BadJoinLaw, BadStaysLaw, CompleteLaw}
@@ -90,7 +90,7 @@ after-length s (Erase block passed left) = length-set s.turns _ _
 counted_where : Bool → ℕ → ℕ
 counted_where b n = if b then counted n else n
 
-turn-same : (s : Flash) (block : ℕ) (turn : Turn) → block < length s.turns → get_or (slice_set s.turns block turn) block no_turn ≡ turn
+turn-same : (s : Flash) (block : ℕ) (turn : TurnState) → block < length s.turns → get_or (slice_set s.turns block turn) block no_turn ≡ turn
 turn-same s block turn lt = get_or-set_same s.turns block turn no_turn lt
 
 programs_after : (s : Flash) (row : ℕ) (page left : Page) (passed : Bool) (block : ℕ) → block < length s.turns
@@ -98,40 +98,40 @@ programs_after : (s : Flash) (row : ℕ) (page left : Page) (passed : Bool) (blo
 unfolding after counted_where
 programs_after s row page left passed block lt =
     let at : ℕ = row / s.geometry.pages in
-    let turn : Turn = after_program (turn_at s at) (may_program s row) passed in
+    let turn : TurnState = after_program (turn_at s at) (may_program s row) passed in
     elim (eqb_tells at block) [
       | inl e ↦
           let here : get_or (slice_set s.turns at turn) block no_turn ≡ turn = ap (λ n. get_or (slice_set s.turns at turn) n no_turn) (sym e.1) ∙ turn-same s at turn (subst (λ n. n < length s.turns) (sym e.1) lt) in
-          ap (λ (t : Turn). t.programs) here ∙ (ap (λ n. counted (turn_at s n).programs) e.1 ∙ ap (λ b. if b then counted (turn_at s block).programs else (turn_at s block).programs) (sym e.0))
+          ap (λ (t : TurnState). t.programs) here ∙ (ap (λ n. counted (turn_at s n).programs) e.1 ∙ ap (λ b. if b then counted (turn_at s block).programs else (turn_at s block).programs) (sym e.0))
       | inr e ↦
           let other : get_or (slice_set s.turns at turn) block no_turn ≡ turn_at s block = get_or-set_other s.turns at block turn no_turn (λ x. e.1 (sym x)) in
-          ap (λ (t : Turn). t.programs) other ∙ ap (λ b. if b then counted (turn_at s block).programs else (turn_at s block).programs) (sym e.0)
+          ap (λ (t : TurnState). t.programs) other ∙ ap (λ b. if b then counted (turn_at s block).programs else (turn_at s block).programs) (sym e.0)
     ]
 
 programs_erased : (s : Flash) (other : ℕ) (left : List Page) (passed : Bool) (block : ℕ) → block < length s.turns
     → (turn_at (after s (Erase other passed left)) block).programs ≡ (turn_at s block).programs
 unfolding after
 programs_erased s other left passed block lt =
-    let turn : Turn = after_erase (turn_at s other) (may_erase s other) passed in
+    let turn : TurnState = after_erase (turn_at s other) (may_erase s other) passed in
     elim (eqb_tells other block) [
       | inl e ↦
           let here : get_or (slice_set s.turns other turn) block no_turn ≡ turn = ap (λ n. get_or (slice_set s.turns other turn) n no_turn) (sym e.1) ∙ turn-same s other turn (subst (λ n. n < length s.turns) (sym e.1) lt) in
-          ap (λ (t : Turn). t.programs) here ∙ ap (λ n. (turn_at s n).programs) e.1
-      | inr e ↦ ap (λ (t : Turn). t.programs) (get_or-set_other s.turns other block turn no_turn (λ x. e.1 (sym x)))
+          ap (λ (t : TurnState). t.programs) here ∙ ap (λ n. (turn_at s n).programs) e.1
+      | inr e ↦ ap (λ (t : TurnState). t.programs) (get_or-set_other s.turns other block turn no_turn (λ x. e.1 (sym x)))
     ]
 
 erases_after : (s : Flash) (other : ℕ) (left : List Page) (passed : Bool) (block : ℕ) → block < length s.turns
     → (turn_at (after s (Erase other passed left)) block).erases ≡ counted_where (other == block) (turn_at s block).erases
 unfolding after counted_where
 erases_after s other left passed block lt =
-    let turn : Turn = after_erase (turn_at s other) (may_erase s other) passed in
+    let turn : TurnState = after_erase (turn_at s other) (may_erase s other) passed in
     elim (eqb_tells other block) [
       | inl e ↦
           let here : get_or (slice_set s.turns other turn) block no_turn ≡ turn = ap (λ n. get_or (slice_set s.turns other turn) n no_turn) (sym e.1) ∙ turn-same s other turn (subst (λ n. n < length s.turns) (sym e.1) lt) in
-          ap (λ (t : Turn). t.erases) here ∙ (ap (λ n. counted (turn_at s n).erases) e.1 ∙ ap (λ b. if b then counted (turn_at s block).erases else (turn_at s block).erases) (sym e.0))
+          ap (λ (t : TurnState). t.erases) here ∙ (ap (λ n. counted (turn_at s n).erases) e.1 ∙ ap (λ b. if b then counted (turn_at s block).erases else (turn_at s block).erases) (sym e.0))
       | inr e ↦
           let same : get_or (slice_set s.turns other turn) block no_turn ≡ turn_at s block = get_or-set_other s.turns other block turn no_turn (λ x. e.1 (sym x)) in
-          ap (λ (t : Turn). t.erases) same ∙ ap (λ b. if b then counted (turn_at s block).erases else (turn_at s block).erases) (sym e.0)
+          ap (λ (t : TurnState). t.erases) same ∙ ap (λ b. if b then counted (turn_at s block).erases else (turn_at s block).erases) (sym e.0)
     ]
 
 erases_programmed : (s : Flash) (row : ℕ) (page left : Page) (passed : Bool) (block : ℕ) → block < length s.turns
@@ -139,12 +139,12 @@ erases_programmed : (s : Flash) (row : ℕ) (page left : Page) (passed : Bool) (
 unfolding after
 erases_programmed s row page left passed block lt =
     let at : ℕ = row / s.geometry.pages in
-    let turn : Turn = after_program (turn_at s at) (may_program s row) passed in
+    let turn : TurnState = after_program (turn_at s at) (may_program s row) passed in
     elim (eqb_tells at block) [
       | inl e ↦
           let here : get_or (slice_set s.turns at turn) block no_turn ≡ turn = ap (λ n. get_or (slice_set s.turns at turn) n no_turn) (sym e.1) ∙ turn-same s at turn (subst (λ n. n < length s.turns) (sym e.1) lt) in
-          ap (λ (t : Turn). t.erases) here ∙ ap (λ n. (turn_at s n).erases) e.1
-      | inr e ↦ ap (λ (t : Turn). t.erases) (get_or-set_other s.turns at block turn no_turn (λ x. e.1 (sym x)))
+          ap (λ (t : TurnState). t.erases) here ∙ ap (λ n. (turn_at s n).erases) e.1
+      | inr e ↦ ap (λ (t : TurnState). t.erases) (get_or-set_other s.turns at block turn no_turn (λ x. e.1 (sym x)))
     ]
 
 -- one more, below the top

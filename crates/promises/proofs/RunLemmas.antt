@@ -1,7 +1,8 @@
 -- Runs of a device.
 use Rattle.std.proofs.Common.{◌≡◌, [], ◌∷◌, ◌++◌, refl, sym, ◌∙◌, ap, subst, suc, append_assoc}
 use Rattle.promises.specs.Step.{ArrayRun}
-use Rattle.promises.specs.Run.{Device, state_of, Run, commands_of, replies_of, log_of, OneMoreEventLaw, RunJoinLaw, LastLaw, OneLogLaw, AnswersLaw, EachLaw, LogsLaw}
+use Rattle.promises.specs.Run.{DeviceView, state_of, Run, commands_of, replies_of, log_of, OneMoreEventLaw, RunJoinLaw, LastLaw, OneLogLaw, AnswersLaw,
+    EachLaw, LogsLaw}
 use Rattle.page_layout.proofs.FlashLemmas.{Leads-append, geometry-Leads}
 
 pub run_join : RunJoinLaw
@@ -16,7 +17,7 @@ last old new [] h = h
 last old new (e ∷ events) h = last e.left new events h.1
 
 pub one_log : OneLogLaw
-one_log old new [] h = ap (λ (d : Device). d.flash) h
+one_log old new [] h = ap (λ (d : DeviceView). d.flash) h
 one_log old new (e ∷ events) h = Leads-append old.flash e.left.flash new.flash e.piece (log_of events) h.0.leads (one_log e.left new events h.1)
 
 pub answers : AnswersLaw

@@ -7,12 +7,12 @@ use Rattle.page_layout.specs.Flash.{Flash, Operation, Leads}
 use Rattle.promises.specs.Step.{State, Command, Reply, ArrayStep, ArrayRun}
 
 -- a device between two commands: its die, and whether it is read-only
-pub record Device : Type 0 where
+pub record DeviceView : Type 0 where
   pub flash : Flash
   pub ro : Bool
 
 -- the array that the die's image holds
-abbrev pub state_of : Device → State
+abbrev pub state_of : DeviceView → State
 state_of d = record { array = array_of d.flash.geometry d.flash.image; ro = d.ro }
 
 -- a command, its reply, the piece of the log that came in it, and the device afterwards
@@ -20,15 +20,15 @@ pub record Event : Type 0 where
   pub command : Command
   pub reply : Reply
   pub piece : List Operation
-  pub left : Device
+  pub left : DeviceView
 
 -- the piece leads the die from the one image to the next, and the reply is a step from the one array to the next
-pub record Happens (old : Device) (event : Event) : Type 0 where
+pub record Happens (old : DeviceView) (event : Event) : Type 0 where
   pub leads : Leads old.flash event.piece event.left.flash
   pub step : ArrayStep old.flash.geometry (state_of old) event.command event.reply (state_of event.left)
 
 -- A RUN: one event after another
-abbrev pub Run : Device → List Event → Device → Type 0
+abbrev pub Run : DeviceView → List Event → DeviceView → Type 0
 Run old [] new = new ≡ old
 Run old (event ∷ events) new = Happens old event × Run event.left events new
 
@@ -46,7 +46,7 @@ abbrev pub log_of : List Event → List Operation
 log_of events = flat_map (λ (e : Event). e.piece) events
 
 -- the device after the last event
-abbrev pub last_of : Device → List Event → Device
+abbrev pub last_of : DeviceView → List Event → DeviceView
 last_of device [] = device
 last_of device (event ∷ events) = last_of event.left events
 
@@ -54,23 +54,23 @@ last_of device (event ∷ events) = last_of event.left events
 
 -- a run goes on by one event
 abbrev pub OneMoreEventLaw : Type 0
-OneMoreEventLaw = (old mid : Device) (events : List Event) (event : Event) → Run old events mid → Happens mid event → Run old (events ++ event ∷ []) event.left
+OneMoreEventLaw = (old mid : DeviceView) (events : List Event) (event : Event) → Run old events mid → Happens mid event → Run old (events ++ event ∷ []) event.left
 
 -- one run after another
 abbrev pub RunJoinLaw : Type 0
-RunJoinLaw = (old mid new : Device) (xs ys : List Event) → Run old xs mid → Run mid ys new → Run old (xs ++ ys) new
+RunJoinLaw = (old mid new : DeviceView) (xs ys : List Event) → Run old xs mid → Run mid ys new → Run old (xs ++ ys) new
 
 -- it ends in its last device
 abbrev pub LastLaw : Type 0
-LastLaw = (old new : Device) (events : List Event) → Run old events new → new ≡ last_of old events
+LastLaw = (old new : DeviceView) (events : List Event) → Run old events new → new ≡ last_of old events
 
 -- its pieces are one log, which leads the die from the first image to the last
 abbrev pub OneLogLaw : Type 0
-OneLogLaw = (old new : Device) (events : List Event) → Run old events new → Leads old.flash (log_of events) new.flash
+OneLogLaw = (old new : DeviceView) (events : List Event) → Run old events new → Leads old.flash (log_of events) new.flash
 
 -- its replies answer its commands, from the array of the first image to that of the last
 abbrev pub AnswersLaw : Type 0
-AnswersLaw = (old new : Device) (events : List Event) → Run old events new → ArrayRun old.flash.geometry (state_of old) (commands_of events) (replies_of events) (state_of new)
+AnswersLaw = (old new : DeviceView) (events : List Event) → Run old events new → ArrayRun old.flash.geometry (state_of old) (commands_of events) (replies_of events) (state_of new)
 
 -- as many replies and images as commands
 abbrev pub EachLaw : Type 0

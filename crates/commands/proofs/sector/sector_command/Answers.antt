@@ -1,14 +1,14 @@
 use Rattle.std.proofs.Common.{true, false, ◌≡◌, inr, Err, Result, refl, rules, subst, sym, ap, ◌∙◌, length}
 use Rattle.commands.specs.declared.text.CommandFault.{CommandFault}
 use Rattle.commands.specs.declared.sector.PrintFault.{PrintFault}
-use Rattle.commands.specs.Sector.{DoesSector, HasImage, IsAsked, IsPrintFault, IsUnprinted}
+use Rattle.commands.specs.Sector.{DoesSector, HasImage, AsksForNumber, IsPrintFault, IsUnprinted}
 use Rattle.commands.proofs.CommandLemmas.{unread_does}
 use Rattle.commands.proofs.ImageLemmas.{line_in, readable_in, unreadable_in}
 use Rattle.commands.proofs.sector.sector_command.Goals as goal
 
 pub returns-in_err-bytes-clause-does : goal.returns-in_err-bytes-clause-does
 returns-in_err-bytes-clause-does g c =
-    let asked : IsAsked c.args.words c.in_ok-geometry.geometry c.in_ok-sector.sector =
+    let asked : AsksForNumber c.args.words c.in_ok-geometry.geometry c.in_ok-sector.sector =
     record { numbers = c.in_ok-numbers.numbers; geometry = c.in_ok-numbers.ensures.ok; sector = c.in_ok-sector.ensures.ok; valid = c.in_ok-geometry.ensures.ok } in
     let is : c.from_residual-in_err-bytes.result ≡ Err c.in_err-bytes.field-0.0 = search rules in
     let P : Result (Unit {0}) CommandFault → Type 0 = λ r. DoesSector (g.F.FileStore.gives c.args.files.now) c.args.words (g.W.Write.contents c.args.out.now) (g.W.Write.contents c.args.out.now) r in
@@ -16,7 +16,7 @@ returns-in_err-bytes-clause-does g c =
 
 pub returns-in-Err-clause-does : goal.returns-in-Err-clause-does
 returns-in-Err-clause-does g c =
-    let asked : IsAsked c.args.words c.in_ok-geometry.geometry c.in_ok-sector.sector =
+    let asked : AsksForNumber c.args.words c.in_ok-geometry.geometry c.in_ok-sector.sector =
     record { numbers = c.in_ok-numbers.numbers; geometry = c.in_ok-numbers.ensures.ok; sector = c.in_ok-sector.ensures.ok; valid = c.in_ok-geometry.ensures.ok } in
     (search rules, (c.in_ok-geometry.geometry, c.in_ok-sector.sector, c.in_ok-bytes.bytes.items, asked, c.in_ok-bytes.ensures.ok, λ whole. let taken : false ≡ true = c.in-Err.ensures.accepted.1 (ap length c.deref.ensures.value ∙ whole) in cc))
 

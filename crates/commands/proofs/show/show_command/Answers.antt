@@ -1,7 +1,7 @@
 use Rattle.std.proofs.Common.{true, false, ◌≡◌, Err, Result, refl, rules, subst, sym, ap, ◌∙◌, length}
 use Rattle.commands.specs.declared.text.CommandFault.{CommandFault}
 use Rattle.commands.specs.declared.show.ShowFault.{ShowFault}
-use Rattle.commands.specs.Sector.{HasImage, IsAsked}
+use Rattle.commands.specs.Sector.{HasImage, AsksForNumber}
 use Rattle.commands.specs.Show.{DoesShow, IsShowFault}
 use Rattle.commands.proofs.CommandLemmas.{unread_shows}
 use Rattle.commands.proofs.ImageLemmas.{in_rows, past_rows, shows_in}
@@ -9,7 +9,7 @@ use Rattle.commands.proofs.show.show_command.Goals as goal
 
 pub returns-in_err-bytes-clause-does : goal.returns-in_err-bytes-clause-does
 returns-in_err-bytes-clause-does g c =
-    let asked : IsAsked c.args.words c.in_ok-geometry.geometry c.in_ok-row.row =
+    let asked : AsksForNumber c.args.words c.in_ok-geometry.geometry c.in_ok-row.row =
     record { numbers = c.in_ok-numbers.numbers; geometry = c.in_ok-numbers.ensures.ok; sector = c.in_ok-row.ensures.ok; valid = c.in_ok-geometry.ensures.ok } in
     let is : c.from_residual-in_err-bytes.result ≡ Err c.in_err-bytes.field-0.0 = search rules in
     let P : Result (Unit {0}) CommandFault → Type 0 = λ r. DoesShow (g.F.FileStore.gives c.args.files.now) c.args.words (g.W.Write.contents c.args.out.now) (g.W.Write.contents c.args.out.now) r in
@@ -17,7 +17,7 @@ returns-in_err-bytes-clause-does g c =
 
 pub returns-in-Err-clause-does : goal.returns-in-Err-clause-does
 returns-in-Err-clause-does g c =
-    let asked : IsAsked c.args.words c.in_ok-geometry.geometry c.in_ok-row.row =
+    let asked : AsksForNumber c.args.words c.in_ok-geometry.geometry c.in_ok-row.row =
     record { numbers = c.in_ok-numbers.numbers; geometry = c.in_ok-numbers.ensures.ok; sector = c.in_ok-row.ensures.ok; valid = c.in_ok-geometry.ensures.ok } in
     (search rules, (c.in_ok-geometry.geometry, c.in_ok-row.row, c.in_ok-bytes.bytes.items, asked, c.in_ok-bytes.ensures.ok, λ whole. let taken : false ≡ true = c.in-Err.ensures.accepted.1 (ap length c.deref.ensures.value ∙ whole) in cc))
 

@@ -1,7 +1,7 @@
 use Rattle.std.proofs.Common.{◌≡◌, ◌<◌, ◌≤◌, ℕ, true, None}
 use Rattle.std.specs.Map.{keys_of}
 use Rattle.bad_blocks.specs.Table.{good_count}
-use Rattle.budget.specs.Account.{IsFunded}
+use Rattle.budget.specs.Spending.{IsFunded}
 use Rattle.allocation.specs.Counts.{counts_of}
 use Rattle.collection.specs.Safe.{IsSafe, IsIdle, ram, image_in}
 use Rattle.collection.specs.Truth.{IsTrue}

@@ -2,8 +2,8 @@ use Rattle.std.proofs.Common.{◌≡◌, ◌+◌, ◌*◌, get_or, sym, ◌∙�
 use Rattle.std.proofs.lemmas.Grind.{common_steps}
 use Rattle.page_layout.specs.Flash.{Flash, page_at, no_page}
 use Rattle.mount.specs.Fresh.{is_page_used, is_used, IsFirst}
-use Rattle.mount.specs.Look.{look_of, is_look_used}
-use Rattle.mount.specs.declared.format_survey.Look.{Look}
+use Rattle.mount.specs.PageLook.{look_of, is_look_used}
+use Rattle.mount.specs.declared.format_survey.PageLook.{PageLook}
 use Rattle.mount.proofs.SurveyLemmas.{is_used-block, first_used-block}
 use Rattle.mount.proofs.format_survey.survey_block.Goals as goal
 
@@ -31,7 +31,7 @@ returns-clause-first g c = λ h.
     subst (λ (f : Flash). IsFirst (λ row. is_page_used marked (page_at f row)) (first_row + 1) last_row c.in_ok-inner.inner) same2 (c.in_ok-inner.ensures.first h2) in
     let found : IsFirst (is_used geometry flash.image) first_row (last_row + 1) c.first_of_block-used.result =
     c.first_of_block-used.ensures.first (is_used geometry flash.image)
-    (is_used-block geometry flash.image block first_row marked is (omega arith) (omega (arith, geometry.limits.page_count.least)) ∙ ap (λ (l : Look). is_look_used marked l) (sym first))
+    (is_used-block geometry flash.image block first_row marked is (omega arith) (omega (arith, geometry.limits.page_count.least)) ∙ ap (λ (l : PageLook). is_look_used marked l) (sym first))
     (first_used-block geometry flash.image block (first_row + 1) last_row marked c.in_ok-inner.inner is (omega arith) (omega arith) inner)
-    (is_used-block geometry flash.image block last_row marked is (omega (arith, geometry.limits.page_count.least)) (omega arith) ∙ ap (λ (l : Look). is_look_used marked l) (sym last)) in
+    (is_used-block geometry flash.image block last_row marked is (omega (arith, geometry.limits.page_count.least)) (omega arith) ∙ ap (λ (l : PageLook). is_look_used marked l) (sym last)) in
     rw (← last_is, ← first_is) found

@@ -1,6 +1,6 @@
 use Rattle.std.proofs.Common.{◌∙◌, ap, sym, subst, ◌<◌, length, not, ◌&&◌, get_or, false}
 use Rattle.std.proofs.lemmas.List.{get_or_default}
-use Rattle.page_layout.specs.Flash.{Turn, block_at}
+use Rattle.page_layout.specs.Flash.{TurnState, block_at}
 use Rattle.nand_die.specs.declared.change.BlockTurn.{BlockTurn}
 use Rattle.nand_die.specs.Turns.{flash_of, left_block}
 use Rattle.nand_die.proofs.StepLemmas.{erases_so, turn_here}
@@ -13,7 +13,7 @@ returns-clause-legal c abuse =
     let t : BlockTurn = get_or c.args.turns.now block none in
     let in_turns : block < length c.args.turns.now = subst (λ n. block < n) (sym c.requires.blocks) c.requires.in_range in
     c.change_of-change.ensures.legal
-    ∙ sym (ap (λ (u : Turn). not u.barred) (turn_here c.args.geometry.now c.args.bytes.now c.args.turns.now abuse block t in_turns (get_or_default c.args.turns.now block none t in_turns)))
+    ∙ sym (ap (λ (u : TurnState). not u.barred) (turn_here c.args.geometry.now c.args.bytes.now c.args.turns.now abuse block t in_turns (get_or_default c.args.turns.now block none t in_turns)))
 
 pub returns-clause-passed : goal.returns-clause-passed
 returns-clause-passed c = c.change_of-change.ensures.passed ∙ ap (λ b. b && not c.args.strike.comes) (sym c.change_of-change.ensures.legal)

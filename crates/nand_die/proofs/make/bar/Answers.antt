@@ -1,7 +1,7 @@
 use Rattle.std.proofs.Common.{◌≡◌, ◌∙◌, ap, sym, ◌<◌, length, map, get_or, true, false, arith}
 use Rattle.std.specs.Prelude.{slice_set}
 use Rattle.std.proofs.lemmas.List.{get_or-map, map-set}
-use Rattle.page_layout.specs.Flash.{Turn, no_turn}
+use Rattle.page_layout.specs.Flash.{TurnState, no_turn}
 use Rattle.nand_die.specs.declared.change.BlockTurn.{BlockTurn}
 use Rattle.nand_die.specs.Turns.{turn_of}
 use Rattle.nand_die.specs.Made.{barred_turn}
@@ -16,6 +16,6 @@ returns-clause-ok c =
     let lt : block < length turns = omega arith in
     let here : get_or (map turn_of turns) block no_turn ≡ turn_of t = get_or-map turn_of turns block none no_turn lt in (
       lt,
-      ap (λ (u : Turn). u.barred) here ∙ c.if-turn.false,
+      ap (λ (u : TurnState). u.barred) here ∙ c.if-turn.false,
       map-set turn_of turns block (record { next = t.next; barred = true; programs = t.programs; erases = t.erases }) ∙ ap (λ u. slice_set (map turn_of turns) block (barred_turn u)) (sym here),
     )

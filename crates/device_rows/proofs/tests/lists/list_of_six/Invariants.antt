@@ -1,5 +1,0 @@
-use Rattle.ftl_device.specs.Run.{AreWhole}
-use Rattle.device_rows.proofs.tests.lists.list_of_six.Given as goal
-
-abbrev pub invariant-loop-command : goal.invariant-loop-command
-invariant-loop-command g l = AreWhole l.geometry l.calls.items

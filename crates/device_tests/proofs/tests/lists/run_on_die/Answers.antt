@@ -1,0 +1,46 @@
+use Rattle.std.proofs.Common.{◌≡◌, ◌≢◌, ◌⊎◌, inl, inr, ℕ, ◌≤◌, Result, Ok, Err, refl, sym, ap, subst, ◌∙◌}
+use Rattle.page_layout.specs.declared.geometry.Geometry.{Geometry}
+use Rattle.page_layout.specs.Page.{IsImage}
+use Rattle.page_layout.specs.Counter.{HasRisen}
+use Rattle.page_layout.specs.Flash.{Flash}
+use Rattle.certificate.specs.Claim.{Claim}
+use Rattle.image_check.specs.Accepted.{Acceptance, IsAcceptance}
+use Rattle.image_check.specs.declared.refusal.Refusal.{Refusal}
+use Rattle.image_check.specs.declared.refusal.Refusal.TheVariants.{Source}
+use Rattle.collection.proofs.Costs.{risen_over}
+use Rattle.onfi_cycles.specs.Driver.{flash_by}
+use Rattle.ftl_device.specs.Device.{IsAcceptedFor}
+use Rattle.ftl_device.specs.Run.{RanFrom, exchanges_of}
+use Rattle.device_tests.proofs.tests.lists.run_on_die.Goals as goal
+
+-- what was accepted for the image before the reads is so for that after them
+accepted_for : (s t : Flash) (g : Geometry) (capacity : ℕ) (c : Claim) (a : Acceptance) → t ≡ s → s.geometry ≡ g → IsImage g s.image → IsAcceptance g capacity s.image c a → IsAcceptedFor t a
+accepted_for s t g capacity c a same sized whole is =
+    let cap : capacity ≡ a.claim.capacity = sym (ap (λ (x : Claim). x.capacity) is.claim_is ∙ is.agrees.asked.capacity_same) in
+    let here : IsAcceptance g a.claim.capacity s.image a.claim a = subst (λ n. IsAcceptance g n s.image a.claim a) cap (subst (λ (x : Claim). IsAcceptance g capacity s.image x a) (sym is.claim_is) is) in
+    let P : Geometry → Flash → Type 0 = λ h f. IsImage h f.image × IsAcceptance h a.claim.capacity f.image a.claim a in
+    let both : P s.geometry s = subst (λ h. P h s) (sym sized) (whole, here) in
+    let there : P t.geometry t = subst (λ (f : Flash). P f.geometry f) (sym same) both in
+    record { whole = there.0; accepted = there.1 }
+
+risen_since : {A : Type 0} (a b c : ℕ) → a ≤ b → A ⊎ HasRisen b c → A ⊎ HasRisen a c
+risen_since a b c le (inl x) = inl x
+risen_since a b c le (inr risen) = inr (risen_over a b c le risen)
+
+abbrev accepted_as : Acceptance → Result Acceptance Refusal
+accepted_as a = Ok a
+
+not_refused : (a : Acceptance) (e : Refusal) → accepted_as a ≢ Err e
+not_refused a e is = (let never : ⊥ = cc in never)
+
+pub returns-in-Ok : goal.returns-in-Ok
+returns-in-Ok c =
+    let its = c.in_ok-accepted.ensures in
+    let same = its.same (not_refused c.in_ok-accepted.accepted Source) refl in
+    let accepted = accepted_for (flash_by (λ die. die.state) c.args.driver) (flash_by (λ die. die.state) c.check.new.source) c.args.geometry.now 4 c.args.certificate.now c.in_ok-accepted.accepted same c.requires.same (its.whole refl) (its.ok refl) in
+    record {
+      rose = risen_since c.args.driver.failures c.check.new.source.failures c.in-Ok.device.engine.nand.failures its.failed (c.in-Ok.ensures.rose);
+      ran = λ known.
+          subst (λ s. RanFrom (flash_by (λ die. die.state)) s c.args.certificate.now (exchanges_of c.run_accepted.new.calls) c.in-Ok.device) same
+          (subst (λ k. RanFrom (flash_by (λ die. die.state)) (flash_by (λ die. die.state) c.check.new.source) k (exchanges_of c.run_accepted.new.calls) c.in-Ok.device) its.accepted.0 (c.in-Ok.ensures.ran refl accepted known));
+    }
