@@ -1,6 +1,6 @@
 -- What is true whatever the die does stays true.
-use Rattle.std.proofs.Common.{◌≡◌, ◌≢◌, inl, inr, ℕ, ◌+◌, ◌-◌, ◌<◌, ◌≤◌, min, Bool, true, false, cond, not, ltb, ◌&&◌, ◌||◌, ◌==◌, eqb, List, length,
-    get_or, set, Option, Some, None, refl, ap, sym, subst, ◌∙◌, arith, get_or-set_other, get_or-set_same}
+use Rattle.std.proofs.Common.{◌≡◌, ◌≢◌, inl, inr, ℕ, ◌+◌, ◌-◌, ◌<◌, ◌≤◌, min, Bool, true, false, cond, not, ltb, ◌&&◌, ◌||◌, ◌==◌, eqb, List, length}
+use Rattle.std.proofs.Common.{get_or, set, Option, Some, None, refl, ap, sym, subst, ◌∙◌, arith, get_or-set_other, get_or-set_same}
 use Rattle.std.specs.Prelude.{nat_lt, MatchOption}
 use Rattle.std.specs.Bool.{then_some}
 use Rattle.std.specs.List.{range_with_len}

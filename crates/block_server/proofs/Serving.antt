@@ -1,6 +1,6 @@
 -- How a session goes on, and how it ends.
-use Rattle.std.proofs.Common.{◌≡◌, ◌≢◌, ◌≤◌, ◌<◌, ◌+◌, ℕ, Bool, false, List, [], ◌∷◌, ◌++◌, Option, Some, None, Result, Ok, Err, map, length, sym,
-    subst, ap, ◌∙◌, refl, append_assoc, append-nil, length-append, arith, inl, inr, lit<}
+use Rattle.std.proofs.Common.{◌≡◌, ◌≢◌, ◌≤◌, ◌<◌, ◌+◌, ℕ, Bool, false, List, [], ◌∷◌, ◌++◌, Option, Some, None, Result, Ok, Err, map, length, sym}
+use Rattle.std.proofs.Common.{subst, ap, ◌∙◌, refl, append_assoc, append-nil, length-append, arith, inl, inr, lit<}
 use Rattle.std.specs.Prelude.{IfSome}
 use Rattle.std.specs.List.{flat_map, AllByRecursion}
 use Rattle.std.proofs.lemmas.List.{map-append, take_at, length-map}
@@ -9,8 +9,8 @@ use Rattle.std.proofs.KnownBytes.{Appends-trans, Appends-nil, Consumes-trans, Co
 use Rattle.page_layout.specs.Flash.{Flash}
 use Rattle.promises.specs.Step as step
 use Rattle.promises.specs.Step.{Reply}
-use Rattle.promises.specs.Stream.{Request, IsRequest, IsBeginning, IsRest, Splits, command_of, is_header, request_bytes, reply_bytes, replies_bytes,
-    out_bytes, last_bytes}
+use Rattle.promises.specs.Stream.{Request, IsRequest, IsBeginning, IsRest, Splits, command_of, is_header, request_bytes, reply_bytes, replies_bytes}
+use Rattle.promises.specs.Stream.{out_bytes, last_bytes}
 use Rattle.promises.specs.declared.stream.End.{End}
 use Rattle.promises.specs.declared.stream.End.TheVariants.{Boundary, Unfinished, BadFrame}
 use Rattle.promises.proofs.StreamLemmas.{replies_join}

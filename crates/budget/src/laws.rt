@@ -1,24 +1,6 @@
-ghost use Rattle.budget.specs.Laws.{
-  FirstTryLaw,
-  FailedTryLaw,
-  PassedTryLaw,
-  NoTryLaw,
-  NoPageLaw,
-  OnePageLaw,
-  OpeningsLaw,
-  MetaOpeningsLaw,
-  StuckLaw,
-  CollectedLaw,
-  FundedLaw,
-  PutFundedLaw,
-  CollectedFundedLaw,
-  FreeLeftLaw,
-  NeverStuckLaw,
-  NineLaw,
-  FallsLaw,
-  CopiesFitLaw,
-  TouchedLaw,
-};
+ghost use Rattle.budget.specs.Laws.{FirstTryLaw, FailedTryLaw, PassedTryLaw, NoTryLaw, NoPageLaw, OnePageLaw, OpeningsLaw, MetaOpeningsLaw, StuckLaw};
+ghost use Rattle.budget.specs.Laws.{CollectedLaw, FundedLaw, PutFundedLaw, CollectedFundedLaw, FreeLeftLaw, NeverStuckLaw, NineLaw, FallsLaw};
+ghost use Rattle.budget.specs.Laws.{CopiesFitLaw, TouchedLaw};
 
 /// What a page costs that is tried again after each failure.
 pub fn put_laws()

@@ -1,28 +1,6 @@
 -- One attempt to program a page, by its outcome.
-use Rattle.std.proofs.Common.{
-  ◌≡◌,
-  ◌≢◌,
-  ℕ,
-  ◌+◌,
-  ◌-◌,
-  ◌/◌,
-  ◌<◌,
-  ◌^◌,
-  true,
-  List,
-  length,
-  slice_get,
-  Option,
-  Some,
-  None,
-  refl,
-  ap,
-  sym,
-  ◌∙◌,
-  subst,
-  arith,
-  get_or-set_same,
-}
+use Rattle.std.proofs.Common.{◌≡◌, ◌≢◌, ℕ, ◌+◌, ◌-◌, ◌/◌, ◌<◌, ◌^◌, true, List, length, slice_get, Option, Some, None, refl, ap, sym, ◌∙◌, subst}
+use Rattle.std.proofs.Common.{arith, get_or-set_same}
 use Rattle.std.specs.Option.{ForSome}
 use Rattle.page_layout.specs.declared.geometry.Geometry.{Geometry}
 use Rattle.page_layout.specs.declared.record.Record.{Record}
@@ -50,21 +28,8 @@ use Rattle.collection.specs.Safe.{IsRam}
 use Rattle.collection.specs.Cost.{moved_live, FailsTry, PassesTry}
 use Rattle.collection.specs.Log.{Went}
 use Rattle.collection.specs.Results.{CanProgram, IsStep, MayPut, IsKept, IsPut, GoesPut, last_record}
-use Rattle.collection.proofs.Blocks.{
-  IsMade,
-  IsTaken,
-  taken_at,
-  block_of_taken,
-  taken_table,
-  taken_pointer,
-  failed_bad,
-  made_taken,
-  made_failed,
-  made_passed,
-  moved_pointer,
-  counts_failed,
-  counts_passed,
-}
+use Rattle.collection.proofs.Blocks.{IsMade, IsTaken, taken_at, block_of_taken, taken_table, taken_pointer, failed_bad, made_taken, made_failed}
+use Rattle.collection.proofs.Blocks.{made_passed, moved_pointer, counts_failed, counts_passed}
 use Rattle.collection.proofs.Memory.{Ticks, made_ram, made_goes, table_kept, table_failed}
 use Rattle.collection.proofs.Wears.{wear_retired, moved_table}
 use Rattle.collection.proofs.Truths.{can_program, row_in_block, true_failed, true_passed}

@@ -1,31 +1,6 @@
 -- A sector is moved, and its translation page follows.
-use Rattle.std.proofs.Common.{
-  ◌≡◌,
-  ◌≢◌,
-  inl,
-  inr,
-  ℕ,
-  ◌/◌,
-  ◌==◌,
-  true,
-  false,
-  List,
-  [],
-  ◌∷◌,
-  nat_eq,
-  Option,
-  Some,
-  None,
-  IsSome,
-  Result,
-  Ok,
-  Err,
-  refl,
-  ap,
-  sym,
-  ◌∙◌,
-  subst,
-}
+use Rattle.std.proofs.Common.{◌≡◌, ◌≢◌, inl, inr, ℕ, ◌/◌, ◌==◌, true, false, List, [], ◌∷◌, nat_eq, Option, Some, None, IsSome, Result, Ok, Err}
+use Rattle.std.proofs.Common.{refl, ap, sym, ◌∙◌, subst}
 use Rattle.std.specs.Prelude.{OnOk}
 use Rattle.std.specs.Map.{lookup, keys_of}
 use Rattle.std.proofs.lemmas.Map.Made.{IsSome-lookup_same_keys}

@@ -22,26 +22,8 @@ use Rattle.collection.specs.Truth.{IsTrue}
 use Rattle.collection.specs.Cost.{HasPut}
 use Rattle.collection.specs.Live.{HoldsNoneIn}
 use Rattle.collection.specs.Results.{Goes, Refused}
-use Rattle.collection.specs.Collect.{
-  is_due,
-  due_count,
-  HasCopied,
-  HasWritten,
-  HasErased,
-  HasProgrammed,
-  HasCollected,
-  StreamRunsOut,
-  IsCopied,
-  IsEmptied,
-  IsThrifty,
-  FaultCosts,
-  CollectCosts,
-  CollectCounts,
-  StepCosts,
-  IsStepped,
-  GoesBut,
-  IsReleased,
-}
+use Rattle.collection.specs.Collect.{is_due, due_count, HasCopied, HasWritten, HasErased, HasProgrammed, HasCollected, StreamRunsOut, IsCopied}
+use Rattle.collection.specs.Collect.{IsEmptied, IsThrifty, FaultCosts, CollectCosts, CollectCounts, StepCosts, IsStepped, GoesBut, IsReleased}
 use Rattle.bad_blocks.specs.declared.table.TableRow.{TableRow}
 use Rattle.bad_blocks.specs.Table.{most_wear}
 use Rattle.collection.specs.Whole.{next_of, erases_after, step_within, busy_of, work_left, IsSoFar, IsUnderWay}

@@ -1,32 +1,6 @@
 -- Where the newest page of a sector is.
-use Rattle.std.proofs.Common.{
-  true,
-  false,
-  is_some,
-  ◌≡◌,
-  ◌≢◌,
-  ℕ,
-  ◌+◌,
-  ◌/◌,
-  ◌%◌,
-  ◌<◌,
-  List,
-  length,
-  replicate,
-  slice_get,
-  Option,
-  Some,
-  None,
-  Result,
-  Ok,
-  Err,
-  refl,
-  ap,
-  sym,
-  ◌∙◌,
-  subst,
-  arith,
-}
+use Rattle.std.proofs.Common.{true, false, is_some, ◌≡◌, ◌≢◌, ℕ, ◌+◌, ◌/◌, ◌%◌, ◌<◌, List, length, replicate, slice_get, Option, Some, None, Result}
+use Rattle.std.proofs.Common.{Ok, Err, refl, ap, sym, ◌∙◌, subst, arith}
 use Rattle.std.specs.Option.{ForSome}
 use Rattle.std.specs.Prelude.{MatchResult, IfOk, OnErr}
 use Rattle.page_layout.specs.declared.geometry.Geometry.{Geometry}

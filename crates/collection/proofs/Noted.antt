@@ -7,24 +7,8 @@ use Rattle.collection.specs.declared.fault.WriteFault.TheVariants.{ReadOnly, Seq
 use Rattle.allocation.specs.State.{free_count}
 use Rattle.collection.specs.State.{Ram}
 use Rattle.collection.specs.Results.{Refused, fault_after}
-use Rattle.collection.specs.Collect.{
-  GoesBut,
-  GoesOn,
-  Refreshes,
-  HasNoneWorth,
-  HasRoom,
-  CollectCosts,
-  IsEmptied,
-  IsRearranged,
-  RoomRefused,
-  RestsOrErases,
-  RoomTells,
-  RoomCounts,
-  StreamRunsOut,
-  StreamSpends,
-  RescueCosts,
-  IsRescued,
-}
+use Rattle.collection.specs.Collect.{GoesBut, GoesOn, Refreshes, HasNoneWorth, HasRoom, CollectCosts, IsEmptied, IsRearranged, RoomRefused}
+use Rattle.collection.specs.Collect.{RestsOrErases, RoomTells, RoomCounts, StreamRunsOut, StreamSpends, RescueCosts, IsRescued}
 use Rattle.collection.proofs.Gates.{true_noted, same_noted, refused_noted}
 
 module _ (fault : Option WriteFault) (b : Ram) where

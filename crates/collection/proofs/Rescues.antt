@@ -23,21 +23,8 @@ use Rattle.collection.specs.Looks.{IsReadFault}
 use Rattle.collection.specs.Results.{IsSame, Goes, Refused}
 use Rattle.collection.specs.Truth.{IsTrue}
 use Rattle.collection.specs.Live.{NotAt, HoldsNoneIn, FindsFirst, IsFirstLive, IsFoundIn, IsLivePage}
-use Rattle.collection.specs.Collect.{
-  IsAiling,
-  HasNoneAiling,
-  IsFirstAiling,
-  FindsAiling,
-  IsMovedOut,
-  HasCopied,
-  HasProgrammed,
-  StreamRunsOut,
-  StreamSpends,
-  FaultCosts,
-  FollowCosts,
-  RescueCosts,
-  IsRescued,
-}
+use Rattle.collection.specs.Collect.{IsAiling, HasNoneAiling, IsFirstAiling, FindsAiling, IsMovedOut, HasCopied, HasProgrammed, StreamRunsOut}
+use Rattle.collection.specs.Collect.{StreamSpends, FaultCosts, FollowCosts, RescueCosts, IsRescued}
 use Rattle.std.proofs.Math.Nat.{div-lt_iff_lt-mul}
 use Rattle.collection.proofs.Finds.{none_all}
 use Rattle.collection.proofs.Puts.{same_then}

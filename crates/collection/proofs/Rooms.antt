@@ -1,39 +1,6 @@
 -- Collections one after another, until there is room.
-use Rattle.std.proofs.Common.{
-  ◌≡◌,
-  ◌≢◌,
-  ◌⊎◌,
-  inl,
-  inr,
-  ℕ,
-  ◌+◌,
-  ◌/◌,
-  ◌<◌,
-  ◌≤◌,
-  ◌^◌,
-  Bool,
-  true,
-  false,
-  not,
-  ◌||◌,
-  List,
-  [],
-  ◌∷◌,
-  count_by,
-  Option,
-  Some,
-  None,
-  Result,
-  Ok,
-  Err,
-  MatchOption,
-  refl,
-  ap,
-  sym,
-  ◌∙◌,
-  subst,
-  arith,
-}
+use Rattle.std.proofs.Common.{◌≡◌, ◌≢◌, ◌⊎◌, inl, inr, ℕ, ◌+◌, ◌/◌, ◌<◌, ◌≤◌, ◌^◌, Bool, true, false, not, ◌||◌, List, [], ◌∷◌, count_by, Option}
+use Rattle.std.proofs.Common.{Some, None, Result, Ok, Err, MatchOption, refl, ap, sym, ◌∙◌, subst, arith}
 use Rattle.std.proofs.lemmas.Bool.{cases_lt, eqb-true}
 use Rattle.std.specs.Prelude.{IfErr}
 use Rattle.page_layout.specs.declared.geometry.Geometry.{Geometry}
@@ -61,19 +28,8 @@ use Rattle.collection.specs.Safe.{IsRam, is_shut}
 use Rattle.collection.specs.Pages.{newest_row}
 use Rattle.collection.specs.Truth.{IsTrue}
 use Rattle.collection.specs.Results.{IsSame, Leaves, Refused}
-use Rattle.collection.specs.Collect.{
-  GoesOn,
-  GoesBut,
-  RestsOrErases,
-  CollectCosts,
-  CollectCounts,
-  HasNoneWorth,
-  RoomTells,
-  IsRearranged,
-  RoomRefused,
-  HasRegained,
-  RoomCounts,
-}
+use Rattle.collection.specs.Collect.{GoesOn, GoesBut, RestsOrErases, CollectCosts, CollectCounts, HasNoneWorth, RoomTells, IsRearranged, RoomRefused}
+use Rattle.collection.specs.Collect.{HasRegained, RoomCounts}
 use Rattle.collection.specs.Room.{IsMade, IsWorth, IsFundedOn}
 use Rattle.collection.proofs.Blocks.{left_then}
 use Rattle.collection.proofs.Copies.{exact_at}

@@ -1,33 +1,6 @@
 -- What an attempt to program makes of what the engine knows of the image, where the die is honest.
-use Rattle.std.proofs.Common.{
-  ◌≡◌,
-  ◌≢◌,
-  inl,
-  inr,
-  ℕ,
-  ◌+◌,
-  ◌*◌,
-  ◌/◌,
-  ◌<◌,
-  ◌≤◌,
-  ◌^◌,
-  true,
-  false,
-  List,
-  length,
-  get_or,
-  slice_get,
-  Option,
-  Some,
-  None,
-  IsSome,
-  refl,
-  ap,
-  sym,
-  ◌∙◌,
-  subst,
-  arith,
-}
+use Rattle.std.proofs.Common.{◌≡◌, ◌≢◌, inl, inr, ℕ, ◌+◌, ◌*◌, ◌/◌, ◌<◌, ◌≤◌, ◌^◌, true, false, List, length, get_or, slice_get, Option, Some, None}
+use Rattle.std.proofs.Common.{IsSome, refl, ap, sym, ◌∙◌, subst, arith}
 use Rattle.std.specs.Option.{ForSome}
 use Rattle.std.proofs.lemmas.Bool.{cases_eq}
 use Rattle.std.proofs.lemmas.Nat.{div-mul-add}

@@ -1,43 +1,6 @@
 -- What `clap` makes of the words.
-use Rattle.std.proofs.Common.{
-  IsSomeAnd,
-  ◌⊎◌,
-  inl,
-  inr,
-  take,
-  ◌-◌,
-  arith,
-  drop,
-  length,
-  subst,
-  ◌≤◌,
-  ◌<◌,
-  ◌+◌,
-  append_assoc,
-  ◌++◌,
-  is_some,
-  fold,
-  ◌≡◌,
-  ◌==◌,
-  ◌||◌,
-  ℕ,
-  Bool,
-  true,
-  false,
-  List,
-  [],
-  ◌∷◌,
-  codes,
-  refl,
-  ap,
-  sym,
-  ◌∙◌,
-  Option,
-  Some,
-  None,
-  cond,
-  option_map,
-}
+use Rattle.std.proofs.Common.{IsSomeAnd, ◌⊎◌, inl, inr, take, ◌-◌, arith, drop, length, subst, ◌≤◌, ◌<◌, ◌+◌, append_assoc, ◌++◌, is_some, fold, ◌≡◌}
+use Rattle.std.proofs.Common.{◌==◌, ◌||◌, ℕ, Bool, true, false, List, [], ◌∷◌, codes, refl, ap, sym, ◌∙◌, Option, Some, None, cond, option_map}
 use Rattle.std.specs.List.{list_any}
 use Rattle.std.proofs.lemmas.List.{append-nil, take_all, length-append}
 use Rattle.std.specs.Option.{option_map_or}
@@ -50,53 +13,12 @@ use Rattle.clap.specs.Matches.{first_value, subcommand_name_of}
 use Rattle.clap.specs.declared.parser.matches.ArgMatches.{ArgMatches}
 use Rattle.clap.proofs.WalkLemmas.{first_value-rows}
 use Rattle.clap.specs.Lexer.{long_of, short_of}
-use Rattle.clap.specs.Walk.{
-  first_of,
-  rows_of,
-  rows_after,
-  Held,
-  Names,
-  Row,
-  Rule,
-  Text,
-  Waiting,
-  Walk,
-  idle,
-  value,
-  trailing,
-  after_step,
-  arg_by_index,
-  long_or_other,
-  plain_word,
-  short_or_plain,
-  subcommand_met,
-  subcommand_or_other,
-  to_positional,
-  walk,
-  walked,
-  word_met,
-  finished,
-  nothing_held,
-  settled,
-  walk_from,
-}
+use Rattle.clap.specs.Walk.{first_of, rows_of, rows_after, Held, Names, Row, Rule, Text, Waiting, Walk, idle, value, trailing, after_step}
+use Rattle.clap.specs.Walk.{arg_by_index, long_or_other, plain_word, short_or_plain, subcommand_met, subcommand_or_other, to_positional, walk}
+use Rattle.clap.specs.Walk.{walked, word_met, finished, nothing_held, settled, walk_from}
 use Rattle.clap.specs.Simple.{Shape, is_simple, built, built_leaf, entered, names_of, inherited, subcommand_of, subcommand_rows_of}
-use Rattle.clap.specs.Faults.{
-  bundle_fault,
-  check_fault,
-  defaults_fault,
-  entered_fault,
-  fault_of,
-  flag_word_fault,
-  is_simple_and_free,
-  level_fault,
-  other_fault,
-  settle_fault,
-  step_fault,
-  turn_fault,
-  word_fault,
-  walk_fault,
-}
+use Rattle.clap.specs.Faults.{bundle_fault, check_fault, defaults_fault, entered_fault, fault_of, flag_word_fault, is_simple_and_free, level_fault}
+use Rattle.clap.specs.Faults.{other_fault, settle_fault, step_fault, turn_fault, word_fault, walk_fault}
 use Rattle.clap.specs.Kinds.{Kinds, or_else}
 use Rattle.clap.specs.Values.{reading_of}
 use Rattle.clap.specs.declared.builder.value_parser.ValueParser.TheVariants.{String}
@@ -107,36 +29,9 @@ use Rattle.clap.proofs.OnLiterals.{clap_on_literals}
 use Rattle.command_words.specs.declared.words.Order.{Order}
 use Rattle.command_words.specs.declared.words.Order.TheVariants as order
 use Rattle.command_words.specs.declared.words.Places.{Places}
-use Rattle.command_words.specs.Words.{
-  AreFound,
-  CommandName,
-  Sector,
-  Show,
-  Format,
-  Check,
-  Mount,
-  Serve,
-  Size,
-  Three,
-  Four,
-  Five,
-  HasAll,
-  IsNamed,
-  IsOrder,
-  certificate_words,
-  file_words,
-  grammar,
-  image_words,
-  is_option,
-  name_of,
-  order_words,
-  places,
-  serve_by,
-  serve_words,
-  size_of,
-  texts,
-  words_wanted,
-}
+use Rattle.command_words.specs.Words.{AreFound, CommandName, Sector, Show, Format, Check, Mount, Serve, Size, Three, Four, Five, HasAll, IsNamed}
+use Rattle.command_words.specs.Words.{IsOrder, certificate_words, file_words, grammar, image_words, is_option, name_of, order_words, places}
+use Rattle.command_words.specs.Words.{serve_by, serve_words, size_of, texts, words_wanted}
 
 -- the grammar is one of which `clap` tells what it makes of all words
 pub simple_grammar : is_simple_and_free grammar ≡ true

@@ -4,22 +4,8 @@ ghost use Rattle.std.specs.List.{list_any};
 ghost use Rattle.clap.specs.declared.builder.command.Command.{out-Command};
 ghost use Rattle.clap.specs.Words.{app_of, first_of, found_of, rows_of, fault_of, rule_of, subcommand_of, subcommand_rows_of, with_subcommand};
 ghost use Rattle.command_words.specs.declared.words.Order.{Order};
-ghost use Rattle.command_words.specs.Words.{
-  AreFound,
-  CommandName,
-  HasAll,
-  IsNamed,
-  IsOrder,
-  certificate_words,
-  file_words,
-  image_words,
-  name_of,
-  order_words,
-  places,
-  serve_words,
-  size_of,
-  texts,
-};
+ghost use Rattle.command_words.specs.Words.{AreFound, CommandName, HasAll, IsNamed, IsOrder, certificate_words, file_words, image_words, name_of};
+ghost use Rattle.command_words.specs.Words.{order_words, places, serve_words, size_of, texts};
 
 use clap::error::ErrorKind;
 use clap::{Arg, ArgAction, ArgMatches, Command};

@@ -18,26 +18,9 @@ use Rattle.request_stream.specs.declared.reply.ServeFault.TheVariants as server
 use Rattle.commands.specs.declared.text.ServeStop.{ServeStop}
 use Rattle.commands.specs.declared.text.ServeStop.TheVariants as stop
 use Rattle.commands.specs.declared.text.CommandFault.{CommandFault}
-use Rattle.commands.specs.declared.text.CommandFault.TheVariants.{
-  NoSuchCommand,
-  BadNumber,
-  Geometry,
-  Capacity,
-  WrongLength,
-  RowRange,
-  OutOfMemory,
-  Sector,
-  Die,
-  Format,
-  Certificate,
-  Check,
-  Mount,
-  Start,
-  Serve,
-  ServeUnstored,
-  Read,
-  Write,
-}
+use Rattle.commands.specs.declared.text.CommandFault.TheVariants.{NoSuchCommand, BadNumber, Geometry, Capacity, WrongLength, RowRange, OutOfMemory}
+use Rattle.commands.specs.declared.text.CommandFault.TheVariants.{Sector, Die, Format, Certificate, Check, Mount, Start, Serve, ServeUnstored, Read}
+use Rattle.commands.specs.declared.text.CommandFault.TheVariants.{Write}
 
 -- the number and the name of a limit that is broken
 abbrev pub geometry_words : GeometryFault → List ℕ

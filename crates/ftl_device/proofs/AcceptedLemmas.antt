@@ -1,32 +1,6 @@
 -- A run that begins with an accepted certificate.
-use Rattle.std.proofs.Common.{
-  ◌≡◌,
-  ◌↔◌,
-  ℕ,
-  ◌+◌,
-  ◌<◌,
-  min,
-  true,
-  Bool,
-  not,
-  List,
-  [],
-  ◌∷◌,
-  ◌++◌,
-  ◌&&◌,
-  ◌||◌,
-  inl,
-  inr,
-  None,
-  Result,
-  Ok,
-  Err,
-  sym,
-  ap,
-  subst,
-  ◌∙◌,
-  arith,
-}
+use Rattle.std.proofs.Common.{◌≡◌, ◌↔◌, ℕ, ◌+◌, ◌<◌, min, true, Bool, not, List, [], ◌∷◌, ◌++◌, ◌&&◌, ◌||◌, inl, inr, None, Result, Ok, Err, sym, ap}
+use Rattle.std.proofs.Common.{subst, ◌∙◌, arith}
 use Rattle.std.specs.List.{list_all}
 use Rattle.page_layout.specs.declared.geometry.Geometry.{Geometry}
 use Rattle.page_layout.specs.Page.{Image}

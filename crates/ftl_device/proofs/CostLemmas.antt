@@ -1,34 +1,6 @@
 -- What a call that is done programs, which sectors it leaves cached, and what the first checks answer.
-use Rattle.std.proofs.Common.{
-  ◌≡◌,
-  ℕ,
-  ◌+◌,
-  ◌-◌,
-  ◌<◌,
-  ◌≤◌,
-  ◌∙◌,
-  true,
-  false,
-  Bool,
-  eqb,
-  List,
-  [],
-  ◌∷◌,
-  take,
-  Option,
-  Some,
-  None,
-  IsSome,
-  Result,
-  Ok,
-  Err,
-  OnOk,
-  refl,
-  sym,
-  ap,
-  subst,
-  arith,
-}
+use Rattle.std.proofs.Common.{◌≡◌, ℕ, ◌+◌, ◌-◌, ◌<◌, ◌≤◌, ◌∙◌, true, false, Bool, eqb, List, [], ◌∷◌, take, Option, Some, None, IsSome, Result, Ok}
+use Rattle.std.proofs.Common.{Err, OnOk, refl, sym, ap, subst, arith}
 use Rattle.std.specs.Option.{option_map, option_map_or}
 use Rattle.std.specs.Map.{keys_of, lookup_entry, remove_entry}
 use Rattle.std.proofs.lemmas.Bool.{cond-true, cond-false}

@@ -1,35 +1,6 @@
 -- A list of calls is told one after another.
-use Rattle.std.proofs.Common.{
-  ◌≡◌,
-  ℕ,
-  zero,
-  suc,
-  ◌+◌,
-  ◌<◌,
-  ◌≤◌,
-  Bool,
-  List,
-  [],
-  ◌∷◌,
-  ◌++◌,
-  length,
-  map,
-  take,
-  set,
-  slice_get,
-  Some,
-  None,
-  IsSome,
-  Result,
-  Ok,
-  unwrap_or,
-  refl,
-  sym,
-  ap,
-  subst,
-  ◌∙◌,
-  arith,
-}
+use Rattle.std.proofs.Common.{◌≡◌, ℕ, zero, suc, ◌+◌, ◌<◌, ◌≤◌, Bool, List, [], ◌∷◌, ◌++◌, length, map, take, set, slice_get, Some, None, IsSome}
+use Rattle.std.proofs.Common.{Result, Ok, unwrap_or, refl, sym, ap, subst, ◌∙◌, arith}
 use Rattle.std.specs.List.{AllByRecursion}
 use Rattle.std.proofs.lemmas.List.{take_more_set, take_all, map-append}
 use Rattle.page_layout.specs.declared.geometry.Geometry.{Geometry}
@@ -38,22 +9,8 @@ use Rattle.ftl_device.specs.declared.device.Device.{Device}
 use Rattle.ftl_device.specs.declared.fault.DeviceFault.{DeviceFault}
 use Rattle.ftl_device.specs.declared.run.Call.{Call}
 use Rattle.ftl_device.specs.Device.{IsDevice}
-use Rattle.ftl_device.specs.Run.{
-  command_of,
-  told,
-  Exchange,
-  exchange_of,
-  exchanges_of,
-  HasRoom,
-  IsWhole,
-  AreWhole,
-  AreAnswered,
-  KeepsBytes,
-  HasKept,
-  HaveKept,
-  Tells,
-  WasTold,
-}
+use Rattle.ftl_device.specs.Run.{command_of, told, Exchange, exchange_of, exchanges_of, HasRoom, IsWhole, AreWhole, AreAnswered, KeepsBytes, HasKept}
+use Rattle.ftl_device.specs.Run.{HaveKept, Tells, WasTold}
 use Rattle.ftl_device.proofs.ToldLemmas.{all_more, told_none, told_more}
 
 -- ---- lists

@@ -1,35 +1,6 @@
 -- What an engine knows of an image makes it mountable.
-use Rattle.std.proofs.Common.{
-  ◌≡◌,
-  inl,
-  inr,
-  ℕ,
-  ◌+◌,
-  ◌/◌,
-  ◌<◌,
-  ◌≤◌,
-  ◌∙◌,
-  Bool,
-  true,
-  false,
-  not,
-  eqb,
-  List,
-  [],
-  ◌∷◌,
-  ◌++◌,
-  ◌⊎◌,
-  length-append,
-  Option,
-  Some,
-  None,
-  IsSome,
-  refl,
-  sym,
-  ap,
-  subst,
-  arith,
-}
+use Rattle.std.proofs.Common.{◌≡◌, inl, inr, ℕ, ◌+◌, ◌/◌, ◌<◌, ◌≤◌, ◌∙◌, Bool, true, false, not, eqb, List, [], ◌∷◌, ◌++◌, ◌⊎◌, length-append}
+use Rattle.std.proofs.Common.{Option, Some, None, IsSome, refl, sym, ap, subst, arith}
 use Rattle.std.specs.Prelude.{count_by}
 use Rattle.std.specs.Map.{keys_of, lookup}
 use Rattle.std.specs.List.{range_with_len}

@@ -1,36 +1,6 @@
 -- A sector is made ready: the place that its entry finds.
-use Rattle.std.proofs.Common.{
-  ◌≡◌,
-  ◌≢◌,
-  ℕ,
-  zero,
-  suc,
-  ◌-◌,
-  ◌/◌,
-  ◌<◌,
-  ◌∙◌,
-  true,
-  false,
-  eqb,
-  List,
-  [],
-  ◌∷◌,
-  length,
-  map,
-  slice_get,
-  Option,
-  Some,
-  None,
-  IsSome,
-  Result,
-  Ok,
-  Err,
-  OnOk,
-  refl,
-  sym,
-  ap,
-  subst,
-}
+use Rattle.std.proofs.Common.{◌≡◌, ◌≢◌, ℕ, zero, suc, ◌-◌, ◌/◌, ◌<◌, ◌∙◌, true, false, eqb, List, [], ◌∷◌, length, map, slice_get, Option, Some}
+use Rattle.std.proofs.Common.{None, IsSome, Result, Ok, Err, OnOk, refl, sym, ap, subst}
 use Rattle.std.specs.Prelude.{slice_set}
 use Rattle.std.specs.List.{IsDistinct}
 use Rattle.std.specs.Option.{ForSome, option_map, option_map_or}

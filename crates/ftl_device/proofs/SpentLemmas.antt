@@ -28,21 +28,8 @@ use Rattle.ftl_device.specs.declared.fault.CallFault.TheVariants.{Engine}
 use Rattle.ftl_device.specs.Begin.{is_scarce}
 use Rattle.ftl_device.specs.Calls.{Tells, HasMadeRoom}
 use Rattle.ftl_device.specs.Flush.{WritesTables, RunsOut}
-use Rattle.ftl_device.specs.Shortage.{
-  HasUsed,
-  HasFailed,
-  LacksGood,
-  AfterRoom,
-  UsesRoom,
-  FailsRoom,
-  PlaceCosts,
-  RoomCosts,
-  CallRoomCosts,
-  CallShort,
-  FlushFunded,
-  FlushCounts,
-  FlushShort,
-}
+use Rattle.ftl_device.specs.Shortage.{HasUsed, HasFailed, LacksGood, AfterRoom, UsesRoom, FailsRoom, PlaceCosts, RoomCosts, CallRoomCosts, CallShort}
+use Rattle.ftl_device.specs.Shortage.{FlushFunded, FlushCounts, FlushShort}
 use Rattle.ftl_device.proofs.RoomLemmas.{good_fewer, goes_on}
 use Rattle.ftl_device.proofs.FlushLoops.{free_most}
 use Rattle.ftl_device.proofs.ShortageLemmas.{used_from, leaves, out, tables_leave}

@@ -1,28 +1,6 @@
 -- What the calls of a device promise.
-use Rattle.std.specs.Prelude.{
-  ◌≡◌,
-  ◌⊎◌,
-  ℕ,
-  ◌+◌,
-  ◌-◌,
-  ◌<◌,
-  ◌≤◌,
-  ◌^◌,
-  Bool,
-  true,
-  false,
-  List,
-  [],
-  slice_get,
-  slice_set,
-  Option,
-  Some,
-  None,
-  IsSome,
-  Result,
-  Ok,
-  Err,
-}
+use Rattle.std.specs.Prelude.{◌≡◌, ◌⊎◌, ℕ, ◌+◌, ◌-◌, ◌<◌, ◌≤◌, ◌^◌, Bool, true, false, List, [], slice_get, slice_set, Option, Some, None, IsSome}
+use Rattle.std.specs.Prelude.{Result, Ok, Err}
 use Rattle.std.specs.Map.{keys_of}
 use Rattle.page_layout.specs.declared.geometry.Geometry.{Geometry}
 use Rattle.page_layout.specs.declared.record.Key.TheVariants.{Sector}

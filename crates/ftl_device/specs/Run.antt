@@ -1,34 +1,6 @@
 -- A RUN OF A DEVICE: commands that it is told one after another, what it answered to each, and what its die held after each.
-use Rattle.std.specs.Prelude.{
-  ◌≡◌,
-  ◌≢◌,
-  ◌⊎◌,
-  ◌↔◌,
-  ℕ,
-  ◌+◌,
-  ◌<◌,
-  ◌≤◌,
-  min,
-  Bool,
-  true,
-  List,
-  [],
-  ◌∷◌,
-  ◌++◌,
-  length,
-  map,
-  replicate,
-  unwrap_or,
-  Option,
-  None,
-  Some,
-  IsSome,
-  Result,
-  Ok,
-  Err,
-  IfErr,
-  OnErr,
-}
+use Rattle.std.specs.Prelude.{◌≡◌, ◌≢◌, ◌⊎◌, ◌↔◌, ℕ, ◌+◌, ◌<◌, ◌≤◌, min, Bool, true, List, [], ◌∷◌, ◌++◌, length, map, replicate, unwrap_or, Option}
+use Rattle.std.specs.Prelude.{None, Some, IsSome, Result, Ok, Err, IfErr, OnErr}
 use Rattle.std.specs.Option.{ForSome}
 use Rattle.std.specs.List.{AllByRecursion, AllZip}
 use Rattle.page_layout.specs.declared.geometry.Geometry.{Geometry}

@@ -11,19 +11,8 @@ ghost use Rattle.collection.specs.Truth.{IsTrue};
 ghost use Rattle.collection.specs.Log.{Went};
 ghost use Rattle.collection.specs.Results.{KeepsTable, fault_after};
 ghost use Rattle.ftl_device.specs.Calls.{Tells, CallTells, KeepsArray, CallRefused, standing_after};
-ghost use Rattle.ftl_device.specs.Flush.{
-  IsClean,
-  KeepsClean,
-  SpellsAll,
-  KeepsTables,
-  AddsPages,
-  FailsAmong,
-  RunsOut,
-  IsFlushed,
-  WritesTables,
-  MayFlush,
-  MayNotFlush,
-};
+ghost use Rattle.ftl_device.specs.Flush.{IsClean, KeepsClean, SpellsAll, KeepsTables, AddsPages, FailsAmong, RunsOut, IsFlushed, WritesTables};
+ghost use Rattle.ftl_device.specs.Flush.{MayFlush, MayNotFlush};
 ghost use Rattle.ftl_device.specs.Shortage.{HasFunds, FlushCounts, FlushShort};
 ghost use Rattle.std.specs.Prelude.{◌↔◌};
 ghost use Rattle.page_layout.specs.Geometry.{need};

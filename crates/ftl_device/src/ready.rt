@@ -15,21 +15,8 @@ ghost use Rattle.collection.specs.Settle.{HasNoMore};
 ghost use Rattle.collection.specs.Looks.{FindsRow, IsReadFault};
 ghost use Rattle.collection.specs.Results.{IsSame, Refused, fault_after};
 ghost use Rattle.collection.specs.Collect.{KeepsKeys, RestsOrErases, IsRearranged, RoomRefused, RoomCounts};
-ghost use Rattle.ftl_device.specs.Calls.{
-  Tells,
-  IsFound,
-  CallTells,
-  standing_after,
-  KeepsArray,
-  HoldsSector,
-  CallRefused,
-  IsMostRecent,
-  HasMadeRoom,
-  HasMadePlace,
-  IsReady,
-  HasCost,
-  order_after,
-};
+ghost use Rattle.ftl_device.specs.Calls.{Tells, IsFound, CallTells, standing_after, KeepsArray, HoldsSector, CallRefused, IsMostRecent, HasMadeRoom};
+ghost use Rattle.ftl_device.specs.Calls.{HasMadePlace, IsReady, HasCost, order_after};
 ghost use Rattle.budget.specs.Spending.{IsFunded};
 ghost use Rattle.allocation.specs.Counts.{counts_of};
 ghost use Rattle.ftl_device.specs.Flush.{KeepsClean};

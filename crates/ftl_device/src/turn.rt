@@ -12,20 +12,8 @@ ghost use Rattle.collection.specs.Truth.{IsTrue};
 ghost use Rattle.collection.specs.Log.{Went};
 ghost use Rattle.collection.specs.Collect.{HasAiling};
 ghost use Rattle.ftl_device.specs.Device.{IsDevice};
-ghost use Rattle.ftl_device.specs.Calls.{
-  state_in,
-  reply_of,
-  stop_of,
-  IsWell,
-  Says,
-  CallTells,
-  standing_after,
-  KeepsArray,
-  CallRefused,
-  HasRescued,
-  HasRested,
-  HasWorked,
-};
+ghost use Rattle.ftl_device.specs.Calls.{state_in, reply_of, stop_of, IsWell, Says, CallTells, standing_after, KeepsArray, CallRefused, HasRescued};
+ghost use Rattle.ftl_device.specs.Calls.{HasRested, HasWorked};
 ghost use Rattle.ftl_device.specs.Counts.{is_bad_by, IsShown, IsLeft};
 ghost use Rattle.allocation.specs.State.{free_count};
 ghost use Rattle.ftl_device.specs.Shortage.{HasFunds, CallShort};

@@ -1,27 +1,6 @@
 //! Sectors are written and trimmed.
-ghost use Rattle.std.specs.Prelude.{
-  ◌≡◌,
-  ◌≢◌,
-  ◌↔◌,
-  ◌+◌,
-  ◌-◌,
-  ◌<◌,
-  ◌≤◌,
-  ◌^◌,
-  true,
-  false,
-  [],
-  length,
-  Ok,
-  Err,
-  Some,
-  None,
-  IsOk,
-  IfErr,
-  IsSome,
-  OnOk,
-  MatchOption,
-};
+ghost use Rattle.std.specs.Prelude.{◌≡◌, ◌≢◌, ◌↔◌, ◌+◌, ◌-◌, ◌<◌, ◌≤◌, ◌^◌, true, false, [], length, Ok, Err, Some, None, IsOk, IfErr, IsSome, OnOk};
+ghost use Rattle.std.specs.Prelude.{MatchOption};
 ghost use Rattle.std.specs.Option.{ForSome};
 ghost use Rattle.std.specs.Map.{keys_of};
 ghost use Rattle.page_layout.specs.Counter.{HasRisen};
@@ -35,22 +14,8 @@ ghost use Rattle.image_check.specs.Mountable.{IsMountable};
 ghost use Rattle.collection.specs.Safe.{IsSafe, IsIdle, ram, image_in};
 ghost use Rattle.collection.specs.Log.{Went};
 ghost use Rattle.ftl_device.specs.Device.{IsDevice};
-ghost use Rattle.ftl_device.specs.Calls.{
-  state_in,
-  reply_of,
-  stop_of,
-  IsWell,
-  Says,
-  CallTells,
-  standing_after,
-  MayChange,
-  MayNot,
-  answer_of,
-  IsMostRecent,
-  IsReady,
-  HasCost,
-  order_after,
-};
+ghost use Rattle.ftl_device.specs.Calls.{state_in, reply_of, stop_of, IsWell, Says, CallTells, standing_after, MayChange, MayNot, answer_of};
+ghost use Rattle.ftl_device.specs.Calls.{IsMostRecent, IsReady, HasCost, order_after};
 ghost use Rattle.ftl_device.specs.Counts.{is_bad_by, IsShown, IsLeft};
 
 use crate::device::Device;

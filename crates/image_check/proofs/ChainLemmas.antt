@@ -6,27 +6,8 @@ use Rattle.page_layout.specs.Page.{Image}
 use Rattle.certificate.specs.Claim.{Claim}
 use Rattle.image_check.specs.declared.refusal.Refusal.{Refusal}
 use Rattle.image_check.specs.Agrees.{Agrees}
-use Rattle.image_check.specs.Refused.{
-  Part,
-  Asked,
-  Numbers,
-  Sequences,
-  Tables,
-  Directory,
-  Sectors,
-  BadSet,
-  States,
-  Live,
-  Wear,
-  Next,
-  Fresh,
-  Holds,
-  order,
-  HoldBetween,
-  FailsFrom,
-  IsWrong,
-  IsFirstWrong,
-}
+use Rattle.image_check.specs.Refused.{Part, Asked, Numbers, Sequences, Tables, Directory, Sectors, BadSet, States, Live, Wear, Next, Fresh, Holds}
+use Rattle.image_check.specs.Refused.{order, HoldBetween, FailsFrom, IsWrong, IsFirstWrong}
 
 -- the part at a place of the order
 part_at : ℕ → Part

@@ -1,35 +1,6 @@
 -- One page more of a pass.
-use Rattle.std.proofs.Common.{
-  ◌≡◌,
-  ℕ,
-  ◌+◌,
-  ◌<◌,
-  ◌≤◌,
-  Bool,
-  false,
-  zero,
-  suc,
-  replicate,
-  List,
-  length,
-  refl,
-  arith,
-  ap,
-  sym,
-  subst,
-  ◌∙◌,
-  Option,
-  Some,
-  None,
-  Result,
-  Ok,
-  Err,
-  IfOk,
-  IfErr,
-  OnOk,
-  get_or,
-  slice_get,
-}
+use Rattle.std.proofs.Common.{◌≡◌, ℕ, ◌+◌, ◌<◌, ◌≤◌, Bool, false, zero, suc, replicate, List, length, refl, arith, ap, sym, subst, ◌∙◌, Option, Some}
+use Rattle.std.proofs.Common.{None, Result, Ok, Err, IfOk, IfErr, OnOk, get_or, slice_get}
 use Rattle.page_layout.specs.declared.geometry.Geometry.{Geometry}
 use Rattle.page_layout.specs.declared.record.Record.{Record}
 use Rattle.page_layout.specs.Page.{Page, Image, IsImage}

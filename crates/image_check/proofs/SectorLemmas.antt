@@ -1,34 +1,6 @@
 -- What a scan of all pages tells of a sector.
-use Rattle.std.proofs.Common.{
-  ◌≡◌,
-  ℕ,
-  zero,
-  suc,
-  ◌+◌,
-  ◌<◌,
-  ◌≤◌,
-  ◌↔◌,
-  ◌⊎◌,
-  inl,
-  inr,
-  true,
-  false,
-  List,
-  length,
-  replicate,
-  get_or,
-  Option,
-  Some,
-  None,
-  ltb,
-  cond,
-  arith,
-  sym,
-  ap,
-  ◌∙◌,
-  refl,
-  subst,
-}
+use Rattle.std.proofs.Common.{◌≡◌, ℕ, zero, suc, ◌+◌, ◌<◌, ◌≤◌, ◌↔◌, ◌⊎◌, inl, inr, true, false, List, length, replicate, get_or, Option, Some, None}
+use Rattle.std.proofs.Common.{ltb, cond, arith, sym, ap, ◌∙◌, refl, subst}
 use Rattle.std.specs.Prelude.{slice_get, IsSome, is_some}
 use Rattle.std.proofs.lemmas.Bool.{cond_both, cases_eq, cases_lt, ltb-true, ltb-false}
 use Rattle.page_layout.specs.declared.geometry.Geometry.{Geometry}

@@ -1,36 +1,6 @@
 -- Sound pages that share a sequence are neighbours once the pairs are sorted.
-use Rattle.std.proofs.Common.{
-  ◌≡◌,
-  ◌≢◌,
-  ℕ,
-  zero,
-  suc,
-  ◌+◌,
-  ◌-◌,
-  ◌<◌,
-  ◌≤◌,
-  ◌&&◌,
-  eqb,
-  eq-eqb,
-  List,
-  [],
-  ◌∷◌,
-  ◌++◌,
-  length,
-  get_or,
-  Option,
-  Some,
-  None,
-  refl,
-  sym,
-  ap,
-  subst,
-  ◌∙◌,
-  arith,
-  inl,
-  inr,
-  All,
-}
+use Rattle.std.proofs.Common.{◌≡◌, ◌≢◌, ℕ, zero, suc, ◌+◌, ◌-◌, ◌<◌, ◌≤◌, ◌&&◌, eqb, eq-eqb, List, [], ◌∷◌, ◌++◌, length, get_or, Option, Some, None}
+use Rattle.std.proofs.Common.{refl, sym, ap, subst, ◌∙◌, arith, inl, inr, All}
 use Rattle.std.specs.Prelude.{Contains, IfSome, IfNone, IsPermutation, IsSorted, Bool, true, false}
 use Rattle.std.specs.Ordering.{ordering_then, is_lt, nat_cmp}
 use Rattle.std.specs.Cmp.{nat_cmp_is}

@@ -1,44 +1,6 @@
 -- The state of a block, from what its pages showed and what the table says of it.
-use Rattle.std.proofs.Common.{
-  ◌≡◌,
-  ℕ,
-  zero,
-  suc,
-  ◌+◌,
-  ◌-◌,
-  ◌*◌,
-  ◌/◌,
-  ◌%◌,
-  ◌<◌,
-  ◌≤◌,
-  Bool,
-  true,
-  false,
-  cond,
-  eqb,
-  ◌&&◌,
-  ◌||◌,
-  max,
-  min,
-  List,
-  [],
-  ◌∷◌,
-  ◌++◌,
-  length,
-  length-append,
-  get_or,
-  Some,
-  refl,
-  sym,
-  ap,
-  subst,
-  ◌∙◌,
-  ◌⊎◌,
-  inl,
-  inr,
-  arith,
-  slice_get,
-}
+use Rattle.std.proofs.Common.{◌≡◌, ℕ, zero, suc, ◌+◌, ◌-◌, ◌*◌, ◌/◌, ◌%◌, ◌<◌, ◌≤◌, Bool, true, false, cond, eqb, ◌&&◌, ◌||◌, max, min, List, []}
+use Rattle.std.proofs.Common.{◌∷◌, ◌++◌, length, length-append, get_or, Some, refl, sym, ap, subst, ◌∙◌, ◌⊎◌, inl, inr, arith, slice_get}
 use Rattle.std.specs.Prelude.{All, not, nat_le, nat_lt}
 use Rattle.std.specs.List.{list_all, list_any, range_with_len}
 use Rattle.std.proofs.lemmas.Bool.{cases_order, cases_lt, lt-ltb, eqb-true, and_parts, not-true, not-false}
@@ -61,27 +23,9 @@ use Rattle.bad_blocks.specs.Table.{no_table_row}
 use Rattle.certificate.specs.declared.block_state.BlockState.{BlockState}
 use Rattle.certificate.specs.Spelling.{FitsBlock}
 use Rattle.image_check.specs.declared.look.Look.{Look}
-use Rattle.image_check.specs.Blocks.{
-  word_of_block,
-  table_class,
-  table_wear,
-  is_factory,
-  is_grown,
-  is_good,
-  is_free,
-  is_partial,
-  is_of_data,
-  sequence_of_last,
-  same_test,
-  is_no_rival,
-  is_open,
-  class,
-  pointer,
-  erase_count,
-  block_state,
-  AreStates,
-  IsTableOf,
-}
+use Rattle.image_check.specs.Blocks.{word_of_block, table_class, table_wear, is_factory, is_grown, is_good, is_free, is_partial, is_of_data}
+use Rattle.image_check.specs.Blocks.{sequence_of_last, same_test, is_no_rival, is_open, class, pointer, erase_count, block_state, AreStates}
+use Rattle.image_check.specs.Blocks.{IsTableOf}
 use Rattle.image_check.specs.Survey.{look_of, HasLooks, AreLiveCounts}
 use Rattle.image_check.specs.Agrees.{AreInRange}
 use Rattle.image_check.specs.States.{is_partial_seen, class_seen, pointer_seen, state_seen, IsPartialAt, IsReached, IsTop}

@@ -1,38 +1,6 @@
 -- One page more in each part of the survey.
-use Rattle.std.proofs.Common.{
-  ◌≡◌,
-  ◌≢◌,
-  ℕ,
-  suc,
-  ◌+◌,
-  ◌<◌,
-  ◌≤◌,
-  Bool,
-  true,
-  false,
-  List,
-  [],
-  ◌++◌,
-  length,
-  get_or,
-  set,
-  length-set,
-  Option,
-  Some,
-  None,
-  refl,
-  sym,
-  ap,
-  subst,
-  ◌∙◌,
-  arith,
-  inl,
-  inr,
-  slice_get,
-  replicate,
-  get_or-set_same,
-  get_or-set_other,
-}
+use Rattle.std.proofs.Common.{◌≡◌, ◌≢◌, ℕ, suc, ◌+◌, ◌<◌, ◌≤◌, Bool, true, false, List, [], ◌++◌, length, get_or, set, length-set, Option, Some}
+use Rattle.std.proofs.Common.{None, refl, sym, ap, subst, ◌∙◌, arith, inl, inr, slice_get, replicate, get_or-set_same, get_or-set_other}
 use Rattle.std.proofs.lemmas.Bool.{cases_order}
 use Rattle.std.proofs.lemmas.List.{length-replicate, get_or-replicate, get_or_default}
 use Rattle.std.proofs.lemmas.Option.{slice_get_within}

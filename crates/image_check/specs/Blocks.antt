@@ -1,29 +1,6 @@
 -- The state of each block, as an image shows it.
-use Rattle.std.specs.Prelude.{
-  ◌≡◌,
-  ◌<◌,
-  ℕ,
-  ◌*◌,
-  ◌/◌,
-  ◌%◌,
-  ◌==◌,
-  ◌&&◌,
-  ◌||◌,
-  max,
-  min,
-  not,
-  nat_le,
-  Bool,
-  if◌then◌else◌,
-  List,
-  [],
-  length,
-  Option,
-  Some,
-  None,
-  slice_get,
-  slice_index,
-}
+use Rattle.std.specs.Prelude.{◌≡◌, ◌<◌, ℕ, ◌*◌, ◌/◌, ◌%◌, ◌==◌, ◌&&◌, ◌||◌, max, min, not, nat_le, Bool, if◌then◌else◌, List, [], length, Option}
+use Rattle.std.specs.Prelude.{Some, None, slice_get, slice_index}
 use Rattle.std.specs.List.{list_all, list_any, range_with_len}
 use Rattle.page_layout.specs.declared.geometry.Geometry.{Geometry}
 use Rattle.page_layout.specs.declared.record.Key.TheVariants.{Table}

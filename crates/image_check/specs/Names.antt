@@ -1,25 +1,9 @@
 -- How a refusal is called.
 use Rattle.std.specs.Prelude.{ℕ, List, codes}
 use Rattle.image_check.specs.declared.refusal.Refusal.{Refusal}
-use Rattle.image_check.specs.declared.refusal.Refusal.TheVariants.{
-  GeometryDiffers,
-  SequenceRepeated,
-  NotNewest,
-  NoSuchRecord,
-  DirectoryWrong,
-  NumberRange,
-  BlockState,
-  BadSetWrong,
-  LiveWrong,
-  WearWrong,
-  NextSequence,
-  TooStale,
-  NotFormatted,
-  TableDamaged,
-  Source,
-  OutOfMemory,
-  WrongLength,
-}
+use Rattle.image_check.specs.declared.refusal.Refusal.TheVariants.{GeometryDiffers, SequenceRepeated, NotNewest, NoSuchRecord, DirectoryWrong}
+use Rattle.image_check.specs.declared.refusal.Refusal.TheVariants.{NumberRange, BlockState, BadSetWrong, LiveWrong, WearWrong, NextSequence}
+use Rattle.image_check.specs.declared.refusal.Refusal.TheVariants.{TooStale, NotFormatted, TableDamaged, Source, OutOfMemory, WrongLength}
 
 -- the refusal's name, without what it names
 abbrev pub name_of : Refusal → List ℕ

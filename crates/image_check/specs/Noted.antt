@@ -1,30 +1,7 @@
 -- What one pass over the pages notes of stale entries, by the rows that a certificate has. An entry is looked at when the page of the
 -- certificate's directory row passes, and compared with the certificate's row of the sector: whether those rows are right is known at the end.
-use Rattle.std.specs.Prelude.{
-  ◌≡◌,
-  ℕ,
-  ◌-◌,
-  ◌/◌,
-  ◌%◌,
-  ◌^◌,
-  ◌==◌,
-  ◌&&◌,
-  not,
-  min,
-  nat_lt,
-  Bool,
-  true,
-  if◌then◌else◌,
-  List,
-  length,
-  take,
-  count_by,
-  get_or,
-  is_some,
-  Option,
-  Some,
-  None,
-}
+use Rattle.std.specs.Prelude.{◌≡◌, ℕ, ◌-◌, ◌/◌, ◌%◌, ◌^◌, ◌==◌, ◌&&◌, not, min, nat_lt, Bool, true, if◌then◌else◌, List, length, take, count_by}
+use Rattle.std.specs.Prelude.{get_or, is_some, Option, Some, None}
 use Rattle.page_layout.specs.declared.geometry.Geometry.{Geometry}
 use Rattle.page_layout.specs.declared.record.Key.TheVariants.{Translation}
 use Rattle.page_layout.specs.Geometry.{entries}

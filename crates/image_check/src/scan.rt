@@ -1,28 +1,6 @@
 //! The plain scan: one sector of an image, found by a look at every page.
-ghost use Rattle.std.specs.Prelude.{
-  ◌≡◌,
-  ◌≢◌,
-  ◌+◌,
-  ◌^◌,
-  ◌≤◌,
-  ◌<◌,
-  ℕ,
-  ◌↔◌,
-  Bool,
-  true,
-  Err,
-  OnOk,
-  OnErr,
-  length,
-  IfOk,
-  IfErr,
-  unwrap_or,
-  option_copied,
-  IfSome,
-  IsSome,
-  IsTrue,
-  Some,
-};
+ghost use Rattle.std.specs.Prelude.{◌≡◌, ◌≢◌, ◌+◌, ◌^◌, ◌≤◌, ◌<◌, ℕ, ◌↔◌, Bool, true, Err, OnOk, OnErr, length, IfOk, IfErr, unwrap_or};
+ghost use Rattle.std.specs.Prelude.{option_copied, IfSome, IsSome, IsTrue, Some};
 ghost use Rattle.page_layout.specs.Counter.{HasRisen};
 ghost use Rattle.page_layout.specs.Page.{Image, IsImage, page};
 ghost use Rattle.page_layout.specs.Newest.{latest_below, sequence_of};

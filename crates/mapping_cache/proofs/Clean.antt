@@ -1,52 +1,10 @@
 -- The loop that makes some sectors' entries clean.
-use Rattle.std.proofs.Common.{
-  ◌≡◌,
-  ℕ,
-  ◌+◌,
-  ◌-◌,
-  ◌*◌,
-  ◌/◌,
-  ◌%◌,
-  ◌<◌,
-  ◌≤◌,
-  ◌∙◌,
-  Bool,
-  true,
-  false,
-  ◌&&◌,
-  eqb,
-  leb,
-  ltb,
-  List,
-  [],
-  ◌∷◌,
-  map,
-  Some,
-  None,
-  refl,
-  sym,
-  ap,
-  subst,
-  arith,
-  if◌then◌else◌,
-}
+use Rattle.std.proofs.Common.{◌≡◌, ℕ, ◌+◌, ◌-◌, ◌*◌, ◌/◌, ◌%◌, ◌<◌, ◌≤◌, ◌∙◌, Bool, true, false, ◌&&◌, eqb, leb, ltb, List, [], ◌∷◌, map, Some, None}
+use Rattle.std.proofs.Common.{refl, sym, ap, subst, arith, if◌then◌else◌}
 use Rattle.std.specs.List.{IsDistinct, AllByRecursion}
 use Rattle.std.specs.Map.{keys_of, lookup, set_value}
-use Rattle.std.proofs.lemmas.Bool.{
-  eqb-true,
-  eqb-false,
-  eq-eqb,
-  ne_eqb,
-  cond-true,
-  cond-false,
-  and_parts,
-  and_from,
-  leb-true,
-  ltb-true,
-  le-leb,
-  lt-ltb,
-  false≢true,
-}
+use Rattle.std.proofs.lemmas.Bool.{eqb-true, eqb-false, eq-eqb, ne_eqb, cond-true, cond-false, and_parts, and_from, leb-true, ltb-true, le-leb}
+use Rattle.std.proofs.lemmas.Bool.{lt-ltb, false≢true}
 use Rattle.std.proofs.lemmas.Nat.{div-mul-add, mod_below, div-add-mod'}
 use Rattle.std.proofs.lemmas.Bool.Decides.{nat_tests}
 use Rattle.std.proofs.lemmas.Map.{NonePasses, none_passes_from_lookup}

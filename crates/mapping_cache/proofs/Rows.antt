@@ -1,41 +1,6 @@
 -- The rows that a translation page lacks, and how they are written into it.
-use Rattle.std.proofs.Common.{
-  ◌≡◌,
-  ◌≢◌,
-  ℕ,
-  zero,
-  suc,
-  ◌+◌,
-  ◌-◌,
-  ◌*◌,
-  ◌/◌,
-  ◌%◌,
-  ◌<◌,
-  ◌≤◌,
-  ◌∙◌,
-  Bool,
-  true,
-  false,
-  cond,
-  eqb,
-  List,
-  [],
-  ◌∷◌,
-  ◌++◌,
-  Option,
-  Some,
-  None,
-  unwrap_or,
-  is_some,
-  refl,
-  sym,
-  ap,
-  subst,
-  ◌⊎◌,
-  inl,
-  inr,
-  arith,
-}
+use Rattle.std.proofs.Common.{◌≡◌, ◌≢◌, ℕ, zero, suc, ◌+◌, ◌-◌, ◌*◌, ◌/◌, ◌%◌, ◌<◌, ◌≤◌, ◌∙◌, Bool, true, false, cond, eqb, List, [], ◌∷◌, ◌++◌}
+use Rattle.std.proofs.Common.{Option, Some, None, unwrap_or, is_some, refl, sym, ap, subst, ◌⊎◌, inl, inr, arith}
 use Rattle.std.specs.List.{IsDistinct, AllByRecursion, cons_option}
 use Rattle.std.specs.Option.{ForSome, option_map, option_and_then}
 use Rattle.std.specs.Map.{keys_of, lookup}
@@ -50,22 +15,8 @@ use Rattle.page_layout.specs.declared.geometry.Geometry.{Geometry}
 use Rattle.page_layout.specs.Geometry.{row_count}
 use Rattle.page_layout.specs.Word.{IsRow}
 use Rattle.mapping_cache.specs.declared.slot.Slot.{Slot}
-use Rattle.mapping_cache.specs.Mapping.{
-  MappingState,
-  IsMapping,
-  per_page,
-  slot_of,
-  moved_row,
-  pending_by,
-  dirty_row,
-  pending,
-  dirty_from,
-  moved_in,
-  some_rows,
-  lacking,
-  AreRowsOf,
-  AreLacking,
-}
+use Rattle.mapping_cache.specs.Mapping.{MappingState, IsMapping, per_page, slot_of, moved_row, pending_by, dirty_row, pending, dirty_from, moved_in}
+use Rattle.mapping_cache.specs.Mapping.{some_rows, lacking, AreRowsOf, AreLacking}
 use Rattle.mapping_cache.proofs.Entries.{by_test, eqb_self, IsDistinct-filter}
 use Rattle.mapping_cache.proofs.Clean.{passes_from_keys, of_page_at, in_page_at}
 use Rattle.mapping_cache.proofs.Steps.{pending-at, known-pending}

@@ -1,44 +1,7 @@
 -- What each step of the mapping does to the rows that it knows.
-use Rattle.std.proofs.Common.{
-  ◌≡◌,
-  ◌≢◌,
-  ℕ,
-  suc,
-  ◌+◌,
-  ◌-◌,
-  ◌/◌,
-  ◌<◌,
-  ◌≤◌,
-  ◌∙◌,
-  Bool,
-  true,
-  false,
-  not,
-  cond,
-  eqb,
-  List,
-  [],
-  ◌∷◌,
-  length,
-  take,
-  map,
-  Option,
-  Some,
-  None,
-  refl,
-  sym,
-  ap,
-  subst,
-  ◌⊎◌,
-  inl,
-  inr,
-  arith,
-  unwrap_or,
-  IsSome,
-  length-append,
-  take_all,
-  length-take,
-}
+use Rattle.std.proofs.Common.{◌≡◌, ◌≢◌, ℕ, suc, ◌+◌, ◌-◌, ◌/◌, ◌<◌, ◌≤◌, ◌∙◌, Bool, true, false, not, cond, eqb, List, [], ◌∷◌, length, take, map}
+use Rattle.std.proofs.Common.{Option, Some, None, refl, sym, ap, subst, ◌⊎◌, inl, inr, arith, unwrap_or, IsSome, length-append, take_all}
+use Rattle.std.proofs.Common.{length-take}
 use Rattle.std.specs.Cmp.{nat_eq_equiv}
 use Rattle.std.specs.List.{IsDistinct}
 use Rattle.std.specs.Option.{ForSome, option_map}
@@ -49,46 +12,11 @@ use Rattle.std.proofs.lemmas.Map.Entries.{lookup-filter-keys}
 use Rattle.page_layout.specs.declared.geometry.Geometry.{Geometry}
 use Rattle.lru.specs.LruCache.{last_entry}
 use Rattle.mapping_cache.specs.declared.slot.Slot.{Slot}
-use Rattle.mapping_cache.specs.Mapping.{
-  MappingState,
-  IsMapping,
-  IsEntryOf,
-  CanMove,
-  per_page,
-  slot_of,
-  moved_row,
-  known_by,
-  pending_by,
-  known,
-  pending,
-  new_slot,
-  without,
-  inserted,
-  used,
-  with_dirty,
-  dropped,
-  with_moved,
-  clean_entry,
-  cleaned,
-}
-use Rattle.mapping_cache.proofs.Entries.{
-  by_test,
-  one_key,
-  eqb_self,
-  IsDistinct-take,
-  IsDistinct-filter,
-  IsDistinct-first,
-  IsDistinct-last,
-  IsDistinct-promoted,
-  lookup-promoted,
-  length-promoted,
-  lookup-take_none,
-  lookup-front,
-  lookup-last,
-  filter-without,
-  length-filter,
-  length-filter_less,
-}
+use Rattle.mapping_cache.specs.Mapping.{MappingState, IsMapping, IsEntryOf, CanMove, per_page, slot_of, moved_row, known_by, pending_by, known}
+use Rattle.mapping_cache.specs.Mapping.{pending, new_slot, without, inserted, used, with_dirty, dropped, with_moved, clean_entry, cleaned}
+use Rattle.mapping_cache.proofs.Entries.{by_test, one_key, eqb_self, IsDistinct-take, IsDistinct-filter, IsDistinct-first, IsDistinct-last}
+use Rattle.mapping_cache.proofs.Entries.{IsDistinct-promoted, lookup-promoted, length-promoted, lookup-take_none, lookup-front, lookup-last}
+use Rattle.mapping_cache.proofs.Entries.{filter-without, length-filter, length-filter_less}
 
 -- what a state knows goes by the slot and the moved row
 pub known-same : (m' m : MappingState) (n : ℕ) → slot_of m' n ≡ slot_of m n → moved_row m' n ≡ moved_row m n → known m' n ≡ known m n

@@ -1,36 +1,6 @@
 -- What contracts see of the cached mapping table.
-use Rattle.std.specs.Prelude.{
-  ◌≡◌,
-  ℕ,
-  ◌-◌,
-  ◌*◌,
-  ◌/◌,
-  ◌<◌,
-  ◌≤◌,
-  ◌==◌,
-  false,
-  true,
-  List,
-  [],
-  ◌∷◌,
-  ◌++◌,
-  length,
-  take,
-  map,
-  filter,
-  Option,
-  Some,
-  None,
-  nat_eq,
-  option_map,
-  option_and_then,
-  not,
-  ◌+◌,
-  nat_le,
-  nat_lt,
-  ◌&&◌,
-  if◌then◌else◌,
-}
+use Rattle.std.specs.Prelude.{◌≡◌, ℕ, ◌-◌, ◌*◌, ◌/◌, ◌<◌, ◌≤◌, ◌==◌, false, true, List, [], ◌∷◌, ◌++◌, length, take, map, filter, Option, Some, None}
+use Rattle.std.specs.Prelude.{nat_eq, option_map, option_and_then, not, ◌+◌, nat_le, nat_lt, ◌&&◌, if◌then◌else◌}
 use Rattle.std.specs.List.{IsDistinct, AllByRecursion, filter_map, range_with_len}
 use Rattle.std.specs.Option.{ForSome}
 use Rattle.std.specs.Map.{keys_of, lookup, set_value}

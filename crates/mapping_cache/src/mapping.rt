@@ -1,38 +1,5 @@
-ghost use Rattle.std.specs.Prelude.{
-  ◌≡◌,
-  ◌≢◌,
-  ◌↔◌,
-  ℕ,
-  ◌+◌,
-  ◌-◌,
-  ◌*◌,
-  ◌/◌,
-  ◌^◌,
-  ◌<◌,
-  ◌≤◌,
-  ◌==◌,
-  [],
-  ◌∷◌,
-  ◌++◌,
-  Some,
-  None,
-  List,
-  Option,
-  length,
-  take,
-  nat_eq,
-  is_some,
-  unwrap_or,
-  true,
-  false,
-  IsTrue,
-  IsSome,
-  IsOk,
-  IfOk,
-  OnOk,
-  OnErr,
-  map,
-};
+ghost use Rattle.std.specs.Prelude.{◌≡◌, ◌≢◌, ◌↔◌, ℕ, ◌+◌, ◌-◌, ◌*◌, ◌/◌, ◌^◌, ◌<◌, ◌≤◌, ◌==◌, [], ◌∷◌, ◌++◌, Some, None, List, Option, length, take};
+ghost use Rattle.std.specs.Prelude.{nat_eq, is_some, unwrap_or, true, false, IsTrue, IsSome, IsOk, IfOk, OnOk, OnErr, map};
 ghost use Rattle.std.specs.Option.{ForSome};
 ghost use Rattle.std.specs.Map.{keys_of, lookup};
 ghost use Rattle.lru.specs.LruCache.{lru_cache, last_entry};
@@ -166,27 +133,8 @@ fn clean_sectors(cache: &mut LruCache<u32, Slot>, first: u32, count: u32)
 impl Mapping {
     ghost use Rattle.page_layout.specs.Geometry.{translation_pages, row_count};
     ghost use Rattle.translation_pages.specs.TranslationPage.{entry_at};
-    ghost use Rattle.mapping_cache.specs.Mapping.{
-      IsMapping,
-      IsEntryOf,
-      HasLimitsOf,
-      per_page,
-      slot_of,
-      moved_row,
-      known,
-      pending,
-      CanLoad,
-      CanMove,
-      used,
-      loaded,
-      dropped,
-      with_dirty,
-      with_moved,
-      cleaned,
-      lacking,
-      moved_in,
-      AreLacking,
-    };
+    ghost use Rattle.mapping_cache.specs.Mapping.{IsMapping, IsEntryOf, HasLimitsOf, per_page, slot_of, moved_row, known, pending, CanLoad, CanMove};
+    ghost use Rattle.mapping_cache.specs.Mapping.{used, loaded, dropped, with_dirty, with_moved, cleaned, lacking, moved_in, AreLacking};
 
     /// An empty mapping of a die, with room for so many cached sectors and for a moved sector for
     /// each page of a block.

@@ -1,33 +1,6 @@
 -- The pages of a block, one by one.
-use Rattle.std.proofs.Common.{
-  ◌≡◌,
-  ◌⊎◌,
-  inl,
-  inr,
-  ℕ,
-  zero,
-  suc,
-  ◌+◌,
-  ◌-◌,
-  ◌*◌,
-  ◌/◌,
-  ◌%◌,
-  ◌<◌,
-  ◌≤◌,
-  Bool,
-  true,
-  false,
-  List,
-  [],
-  ◌∷◌,
-  length,
-  drop,
-  get_or,
-  refl,
-  ◌∙◌,
-  ap,
-  arith,
-}
+use Rattle.std.proofs.Common.{◌≡◌, ◌⊎◌, inl, inr, ℕ, zero, suc, ◌+◌, ◌-◌, ◌*◌, ◌/◌, ◌%◌, ◌<◌, ◌≤◌, Bool, true, false, List, [], ◌∷◌, length, drop}
+use Rattle.std.proofs.Common.{get_or, refl, ◌∙◌, ap, arith}
 use Rattle.std.specs.Prelude.{is_some, not}
 use Rattle.std.specs.List.{list_any}
 use Rattle.std.proofs.Math.Nat.{mul-le-mul, div-mul-le_self}

@@ -11,30 +11,8 @@ use Rattle.image_check.specs.Agrees.{Agrees}
 use Rattle.image_check.specs.Mountable.{IsMountable}
 use Rattle.image_check.specs.Stale.{stale_sectors, stale_count}
 use Rattle.image_check.specs.Surveyed.{Surveys}
-use Rattle.image_check.specs.Refused.{
-  Part,
-  Asked,
-  Numbers,
-  Sequences,
-  Tables,
-  Directory,
-  Sectors,
-  BadSet,
-  States,
-  Live,
-  Wear,
-  Next,
-  Fresh,
-  Holds,
-  Says,
-  order,
-  part_of,
-  HoldBetween,
-  FailsFrom,
-  IsMemory,
-  IsStop,
-  IsOfImage,
-}
+use Rattle.image_check.specs.Refused.{Part, Asked, Numbers, Sequences, Tables, Directory, Sectors, BadSet, States, Live, Wear, Next, Fresh, Holds}
+use Rattle.image_check.specs.Refused.{Says, order, part_of, HoldBetween, FailsFrom, IsMemory, IsStop, IsOfImage}
 use Rattle.mount.specs.Mounted.{Shows, IsAfter, IsSpent, Refuses, IsOfMounting}
 
 -- each part of the agreement

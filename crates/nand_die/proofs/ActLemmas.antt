@@ -1,47 +1,7 @@
 -- What a die does is a case of the protocol.
-use Rattle.std.proofs.Common.{
-  ◌≡◌,
-  ◌⊎◌,
-  inl,
-  inr,
-  ℕ,
-  zero,
-  suc,
-  ◌+◌,
-  ◌*◌,
-  ◌<◌,
-  ◌≤◌,
-  ◌==◌,
-  Bool,
-  true,
-  false,
-  not,
-  ◌&&◌,
-  List,
-  [],
-  ◌∷◌,
-  ◌++◌,
-  take,
-  drop,
-  length,
-  refl,
-  sym,
-  ◌∙◌,
-  ap,
-  subst,
-  arith,
-  get_or,
-  if◌then◌else◌,
-  nat_lt,
-  Ok,
-  Err,
-  length-drop,
-  length-append,
-  append_assoc,
-  None,
-  Some,
-  Option,
-}
+use Rattle.std.proofs.Common.{◌≡◌, ◌⊎◌, inl, inr, ℕ, zero, suc, ◌+◌, ◌*◌, ◌<◌, ◌≤◌, ◌==◌, Bool, true, false, not, ◌&&◌, List, [], ◌∷◌, ◌++◌, take}
+use Rattle.std.proofs.Common.{drop, length, refl, sym, ◌∙◌, ap, subst, arith, get_or, if◌then◌else◌, nat_lt, Ok, Err, length-drop, length-append}
+use Rattle.std.proofs.Common.{append_assoc, None, Some, Option}
 use Rattle.std.specs.Prelude.{is_some}
 use Rattle.std.proofs.lemmas.List.{get_or-set_same, length-map, length-take-le, length-replicate, get_or-take, get_or-drop, drop-drop}
 use Rattle.std.proofs.lemmas.Option.{slice_get-get_or}
@@ -53,41 +13,11 @@ use Rattle.page_layout.specs.Raw.{IsRaw}
 use Rattle.page_layout.specs.Sound.{record_of}
 use Rattle.page_layout.specs.Change.{erased_page}
 use Rattle.page_layout.specs.Counter.{counted}
-use Rattle.page_layout.specs.Flash.{
-  Flash,
-  Program,
-  Erase,
-  Steps,
-  IsLawfulProgram,
-  IsLawfulErase,
-  IsWhole,
-  after,
-  page_at,
-  block_at,
-  may_program,
-  may_erase,
-  no_page,
-}
+use Rattle.page_layout.specs.Flash.{Flash, Program, Erase, Steps, IsLawfulProgram, IsLawfulErase, IsWhole, after, page_at, block_at, may_program}
+use Rattle.page_layout.specs.Flash.{may_erase, no_page}
 use Rattle.page_layout.proofs.RawLemmas.{raw_image_whole}
-use Rattle.onfi_cycles.specs.Cycles.{
-  Phase,
-  Due,
-  Moves,
-  Resets,
-  Programs,
-  Erases,
-  Refuses,
-  Ready,
-  NoOutput,
-  Loading,
-  page_of,
-  replaced,
-  data_in_due,
-  FailsBy,
-  to_phase,
-  given_up,
-  status_of,
-}
+use Rattle.onfi_cycles.specs.Cycles.{Phase, Due, Moves, Resets, Programs, Erases, Refuses, Ready, NoOutput, Loading, page_of, replaced, data_in_due}
+use Rattle.onfi_cycles.specs.Cycles.{FailsBy, to_phase, given_up, status_of}
 use Rattle.onfi_cycles.specs.declared.nand.BusFault.{BusFault}
 use Rattle.onfi_cycles.specs.declared.nand.BusFault.TheVariants.{NoReset, UnknownCommand, OutOfTurn, AddressRange, ColumnRange, Device}
 use Rattle.nand_die.specs.declared.fault.Fault.{Fault}

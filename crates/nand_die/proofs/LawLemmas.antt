@@ -11,19 +11,8 @@ use Rattle.nand_die.specs.declared.fault.Fault.{Fault}
 use Rattle.nand_die.specs.Faults.{left_by}
 use Rattle.nand_die.specs.Turns.{left_page}
 use Rattle.nand_die.specs.ChipValue.{fault_next, erase_passes}
-use Rattle.nand_die.specs.Laws.{
-  ProgramPassesLaw,
-  ErasePassesLaw,
-  ProgramAbuseLaw,
-  EraseAbuseLaw,
-  CountLaw,
-  QuietLaw,
-  NamedLaw,
-  NoneMisnamedLaw,
-  OneMisnamedLaw,
-  NoneWrongLaw,
-  OneWrongLaw,
-}
+use Rattle.nand_die.specs.Laws.{ProgramPassesLaw, ErasePassesLaw, ProgramAbuseLaw, EraseAbuseLaw, CountLaw, QuietLaw, NamedLaw, NoneMisnamedLaw}
+use Rattle.nand_die.specs.Laws.{OneMisnamedLaw, NoneWrongLaw, OneWrongLaw}
 use Rattle.nand_die.proofs.LeftLemmas.{refused_block}
 use Rattle.nand_die.proofs.MakeLemmas.{contains_named, named_contains}
 use Rattle.std.proofs.lemmas.Option.{same_Some}

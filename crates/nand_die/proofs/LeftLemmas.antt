@@ -1,32 +1,6 @@
 -- What an erase that failed leaves in its block.
-use Rattle.std.proofs.Common.{
-  ◌≡◌,
-  ℕ,
-  zero,
-  suc,
-  ◌+◌,
-  ◌*◌,
-  ◌<◌,
-  ◌≤◌,
-  Bool,
-  true,
-  false,
-  List,
-  ◌∷◌,
-  ◌++◌,
-  take,
-  drop,
-  length,
-  refl,
-  sym,
-  ◌∙◌,
-  ap,
-  arith,
-  get_or,
-  lt-ltb,
-  nat_lt,
-  if◌then◌else◌,
-}
+use Rattle.std.proofs.Common.{◌≡◌, ℕ, zero, suc, ◌+◌, ◌*◌, ◌<◌, ◌≤◌, Bool, true, false, List, ◌∷◌, ◌++◌, take, drop, length, refl, sym, ◌∙◌, ap}
+use Rattle.std.proofs.Common.{arith, get_or, lt-ltb, nat_lt, if◌then◌else◌}
 use Rattle.std.specs.Prelude.{slice_set}
 use Rattle.std.proofs.Math.Seq.{drop-cons, set-append_seam}
 use Rattle.std.proofs.lemmas.List.{length-take-le, take-append-drop, drop-drop}

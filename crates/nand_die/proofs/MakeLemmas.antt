@@ -1,58 +1,13 @@
 -- What a die is made of.
-use Rattle.std.proofs.Common.{
-  ◌≡◌,
-  ◌≢◌,
-  ◌⊎◌,
-  inl,
-  inr,
-  ℕ,
-  zero,
-  suc,
-  ◌+◌,
-  ◌*◌,
-  ◌<◌,
-  ◌≤◌,
-  ◌==◌,
-  Bool,
-  true,
-  false,
-  ◌||◌,
-  List,
-  [],
-  ◌∷◌,
-  ◌++◌,
-  take,
-  drop,
-  length,
-  map,
-  replicate,
-  refl,
-  sym,
-  ◌∙◌,
-  ap,
-  subst,
-  arith,
-  get_or,
-  if◌then◌else◌,
-  Some,
-}
+use Rattle.std.proofs.Common.{◌≡◌, ◌≢◌, ◌⊎◌, inl, inr, ℕ, zero, suc, ◌+◌, ◌*◌, ◌<◌, ◌≤◌, ◌==◌, Bool, true, false, ◌||◌, List, [], ◌∷◌, ◌++◌, take}
+use Rattle.std.proofs.Common.{drop, length, map, replicate, refl, sym, ◌∙◌, ap, subst, arith, get_or, if◌then◌else◌, Some}
 use Rattle.std.specs.Prelude.{slice_set, slice_get, Contains}
 use Rattle.std.specs.List.{range_with_len, list_any}
 use Rattle.std.proofs.Math.Nat.{mul-le-mul_right}
 use Rattle.std.proofs.lemmas.Bool.{cases_lt, cases_eq, both_ways, eq-eqb, ne_eqb}
 use Rattle.std.proofs.lemmas.Option.{slice_get-get_or, slice_get_within, same_Some}
-use Rattle.std.proofs.lemmas.List.{
-  get_or-set_same,
-  get_or-set_other,
-  length-set,
-  set-set,
-  map-append,
-  take-set-le,
-  drop-set-add,
-  ext_get_or,
-  take_more,
-  take_more_set,
-}
+use Rattle.std.proofs.lemmas.List.{get_or-set_same, get_or-set_other, length-set, set-set, map-append, take-set-le, drop-set-add, ext_get_or}
+use Rattle.std.proofs.lemmas.List.{take_more, take_more_set}
 use Rattle.std.proofs.lemmas.List.Folds.{list_any-append}
 use Rattle.std.proofs.lemmas.List.FromFn.{length-map-range_with_len, get_or-map-range_with_len, map-range_with_len_more}
 use Rattle.page_layout.specs.declared.geometry.Geometry.{Geometry}
@@ -65,19 +20,8 @@ use Rattle.onfi_cycles.specs.Cycles.{page_of}
 use Rattle.nand_die.specs.declared.fault.Mark.{Mark}
 use Rattle.nand_die.specs.declared.change.BlockTurn.{BlockTurn}
 use Rattle.nand_die.specs.Turns.{turn_of}
-use Rattle.nand_die.specs.Made.{
-  IsMisnamed,
-  AreNames,
-  IsFirstMisnamed,
-  is_named,
-  first_turn,
-  first_turns,
-  barred_turn,
-  marked_row,
-  with_mark,
-  new_page,
-  new_image,
-}
+use Rattle.nand_die.specs.Made.{IsMisnamed, AreNames, IsFirstMisnamed, is_named, first_turn, first_turns, barred_turn, marked_row, with_mark}
+use Rattle.nand_die.specs.Made.{new_page, new_image}
 use Rattle.nand_die.proofs.PagesLemmas.{page_written, page_read, part_length, blank_image}
 
 -- ---- lists made from a function of their places

@@ -1,36 +1,6 @@
 -- The next page of a block of an image.
-use Rattle.std.proofs.Common.{
-  ◌≡◌,
-  inl,
-  inr,
-  ℕ,
-  zero,
-  suc,
-  ◌+◌,
-  ◌-◌,
-  ◌*◌,
-  ◌<◌,
-  ◌≤◌,
-  Bool,
-  true,
-  false,
-  ◌||◌,
-  List,
-  [],
-  ◌∷◌,
-  take,
-  drop,
-  length,
-  refl,
-  sym,
-  ◌∙◌,
-  ap,
-  subst,
-  arith,
-  length-drop,
-  get_or,
-  if◌then◌else◌,
-}
+use Rattle.std.proofs.Common.{◌≡◌, inl, inr, ℕ, zero, suc, ◌+◌, ◌-◌, ◌*◌, ◌<◌, ◌≤◌, Bool, true, false, ◌||◌, List, [], ◌∷◌, take, drop, length, refl}
+use Rattle.std.proofs.Common.{sym, ◌∙◌, ap, subst, arith, length-drop, get_or, if◌then◌else◌}
 use Rattle.std.specs.List.{list_any}
 use Rattle.std.proofs.lemmas.Bool.{cases_Bool, cases_lt, cases_order, both_ways, not-true, not-false}
 use Rattle.std.proofs.lemmas.List.{length-take-le, get_or-take, get_or-drop}

@@ -1,33 +1,6 @@
 -- What a stop leaves of a die.
-use Rattle.std.proofs.Common.{
-  ◌≡◌,
-  inl,
-  inr,
-  ℕ,
-  ◌-◌,
-  Bool,
-  true,
-  false,
-  not,
-  List,
-  [],
-  ◌∷◌,
-  refl,
-  sym,
-  ◌∙◌,
-  ap,
-  subst,
-  ◌==◌,
-  ◌&&◌,
-  ◌||◌,
-  if◌then◌else◌,
-  Ok,
-  Err,
-  Option,
-  Some,
-  None,
-  arith,
-}
+use Rattle.std.proofs.Common.{◌≡◌, inl, inr, ℕ, ◌-◌, Bool, true, false, not, List, [], ◌∷◌, refl, sym, ◌∙◌, ap, subst, ◌==◌, ◌&&◌, ◌||◌}
+use Rattle.std.proofs.Common.{if◌then◌else◌, Ok, Err, Option, Some, None, arith}
 use Rattle.std.specs.Prelude.{Result, OnOk}
 use Rattle.std.proofs.lemmas.Bool.{eqb-true, eq-eqb, ne_eqb}
 use Rattle.page_layout.specs.declared.geometry.Geometry.{Geometry}
@@ -40,30 +13,8 @@ use Rattle.onfi_cycles.specs.Spelling.{refused}
 use Rattle.onfi_cycles.specs.Recorded.{Notes}
 use Rattle.nand_die.specs.Tape.{next_record}
 use Rattle.nand_die.specs.Laws.{CalmLaw, StoppedLaw, RoomLaw}
-use Rattle.onfi_cycles.specs.Cycles.{
-  Phase,
-  Unreset,
-  Ready,
-  Taking,
-  Confirming,
-  Loading,
-  NoOutput,
-  DieState,
-  Cycle,
-  Command,
-  Address,
-  DataIn,
-  DataOut,
-  Due,
-  Moves,
-  Resets,
-  Programs,
-  Erases,
-  Refuses,
-  FailsBy,
-  command_due,
-  given_up,
-}
+use Rattle.onfi_cycles.specs.Cycles.{Phase, Unreset, Ready, Taking, Confirming, Loading, NoOutput, DieState, Cycle, Command, Address, DataIn}
+use Rattle.onfi_cycles.specs.Cycles.{DataOut, Due, Moves, Resets, Programs, Erases, Refuses, FailsBy, command_due, given_up}
 use Rattle.nand_die.specs.declared.fault.Stop.{Stop}
 use Rattle.nand_die.specs.declared.fault.Stop.TheVariants.{Before, After, Torn}
 use Rattle.nand_die.specs.BusState.{IsProtocolFault}

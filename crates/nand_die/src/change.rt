@@ -1,26 +1,6 @@
 // What a program or an erase does to the pages and to the turns of the blocks.
-ghost use Rattle.std.specs.Prelude.{
-  ◌≡◌,
-  ◌<◌,
-  ◌-◌,
-  ◌^◌,
-  ◌+◌,
-  ◌*◌,
-  ◌/◌,
-  ◌%◌,
-  ℕ,
-  List,
-  true,
-  not,
-  ◌&&◌,
-  ◌==◌,
-  length,
-  take,
-  drop,
-  slice_set,
-  get_or,
-  if◌then◌else◌,
-};
+ghost use Rattle.std.specs.Prelude.{◌≡◌, ◌<◌, ◌-◌, ◌^◌, ◌+◌, ◌*◌, ◌/◌, ◌%◌, ℕ, List, true, not, ◌&&◌, ◌==◌, length, take, drop, slice_set, get_or};
+ghost use Rattle.std.specs.Prelude.{if◌then◌else◌};
 ghost use Rattle.page_layout.specs.Geometry.{row_count, page_bytes};
 ghost use Rattle.page_layout.specs.Raw.{raw_image, IsRaw};
 ghost use Rattle.page_layout.specs.Counter.{counted};

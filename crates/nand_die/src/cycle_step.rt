@@ -2,39 +2,11 @@
 ghost use Rattle.std.specs.Prelude.{◌≡◌, ◌<◌, ◌≤◌, ◌+◌, ℕ, List, length as count, IfSome, IfNone, IfOk, IfErr};
 ghost use Rattle.page_layout.specs.declared.geometry.Geometry.{Geometry};
 ghost use Rattle.page_layout.specs.Geometry.{row_count, page_bytes};
-ghost use Rattle.onfi_cycles.specs.Cycles.{
-  Phase,
-  Purpose,
-  Refuses,
-  ForIdentity,
-  column_of,
-  row_of,
-  not_due,
-  command_due',
-  command_due,
-  address_due,
-  address_for,
-  data_in_due,
-  page_address_due,
-  row_address_due,
-  column_address_due,
-};
-ghost use Rattle.nand_die.specs.BusState.{
-  phase_of,
-  purpose_of,
-  address_bytes,
-  command_step_due,
-  address_step_due,
-  page_progress_due,
-  row_progress_due,
-  column_progress_due,
-  IfComplete,
-  IsProtocolFault,
-  IsWithin,
-  IsCommandStepWithin,
-  IsAddressStepWithin,
-  IsProgressWithin,
-};
+ghost use Rattle.onfi_cycles.specs.Cycles.{Phase, Purpose, Refuses, ForIdentity, column_of, row_of, not_due, command_due', command_due, address_due};
+ghost use Rattle.onfi_cycles.specs.Cycles.{address_for, data_in_due, page_address_due, row_address_due, column_address_due};
+ghost use Rattle.nand_die.specs.BusState.{phase_of, purpose_of, address_bytes, command_step_due, address_step_due, page_progress_due};
+ghost use Rattle.nand_die.specs.BusState.{row_progress_due, column_progress_due, IfComplete, IsProtocolFault, IsWithin, IsCommandStepWithin};
+ghost use Rattle.nand_die.specs.BusState.{IsAddressStepWithin, IsProgressWithin};
 
 use crate::array::page_length;
 use crate::bus_state::{

@@ -1,22 +1,7 @@
 //! What the definitions of this crate come to, as contracts of functions that do nothing: so each law
 //! is proved with the crate, and a caller of the function has it at hand.
-ghost use Rattle.nand_die.specs.Laws.{
-  ProgramPassesLaw,
-  ErasePassesLaw,
-  ProgramAbuseLaw,
-  EraseAbuseLaw,
-  CountLaw,
-  QuietLaw,
-  NextPageLaw,
-  NamedLaw,
-  NoneMisnamedLaw,
-  OneMisnamedLaw,
-  NoneWrongLaw,
-  OneWrongLaw,
-  CalmLaw,
-  StoppedLaw,
-  RoomLaw,
-};
+ghost use Rattle.nand_die.specs.Laws.{ProgramPassesLaw, ErasePassesLaw, ProgramAbuseLaw, EraseAbuseLaw, CountLaw, QuietLaw, NextPageLaw, NamedLaw};
+ghost use Rattle.nand_die.specs.Laws.{NoneMisnamedLaw, OneMisnamedLaw, NoneWrongLaw, OneWrongLaw, CalmLaw, StoppedLaw, RoomLaw};
 
 /// When a program or an erase of a die in memory passes, what counts as abuse, and that no other cycle
 /// changes a page. It does nothing. (This project.)

@@ -1,24 +1,8 @@
 -- Cycles that are all due and end in no operation lead the die to a phase.
 use Rattle.std.proofs.Common.{◌≡◌, List, [], ◌∷◌, ◌++◌, refl, sym, ◌∙◌, ap, subst, inl, inr}
 use Rattle.page_layout.specs.declared.geometry.Geometry.{Geometry}
-use Rattle.onfi_cycles.specs.Cycles.{
-  DieState,
-  Phase,
-  Ready,
-  NoOutput,
-  Cycle,
-  Does,
-  FailsBy,
-  Due,
-  Moves,
-  Resets,
-  Programs,
-  Erases,
-  Refuses,
-  due_of,
-  to_phase,
-  given_up,
-}
+use Rattle.onfi_cycles.specs.Cycles.{DieState, Phase, Ready, NoOutput, Cycle, Does, FailsBy, Due, Moves, Resets, Programs, Erases, Refuses, due_of}
+use Rattle.onfi_cycles.specs.Cycles.{to_phase, given_up}
 use Rattle.onfi_cycles.specs.Spelling.{Taken, FailsIn}
 use Rattle.onfi_cycles.specs.declared.nand.BusFault.{BusFault}
 use Rattle.onfi_cycles.specs.declared.nand.BusFault.TheVariants.{NoReset, UnknownCommand, OutOfTurn, AddressRange, ColumnRange, Device}

@@ -1,42 +1,7 @@
 -- What the cycles of a program, an erase and a read ask for, one after another.
-use Rattle.std.proofs.Common.{
-  ◌≡◌,
-  ℕ,
-  Bool,
-  true,
-  false,
-  Result,
-  Ok,
-  Err,
-  List,
-  [],
-  ◌∷◌,
-  ◌++◌,
-  refl,
-  sym,
-  ◌∙◌,
-  ap,
-  subst,
-  ◌+◌,
-  ◌*◌,
-  ◌/◌,
-  ◌%◌,
-  ◌<◌,
-  ◌≤◌,
-  drop,
-  take,
-  length,
-  arith,
-  lt-ltb,
-  length-append,
-  length-drop,
-  zero-add,
-  add-zero,
-  if◌then◌else◌,
-  replicate,
-  inl,
-  inr,
-}
+use Rattle.std.proofs.Common.{◌≡◌, ℕ, Bool, true, false, Result, Ok, Err, List, [], ◌∷◌, ◌++◌, refl, sym, ◌∙◌, ap, subst, ◌+◌, ◌*◌, ◌/◌, ◌%◌, ◌<◌}
+use Rattle.std.proofs.Common.{◌≤◌, drop, take, length, arith, lt-ltb, length-append, length-drop, zero-add, add-zero, if◌then◌else◌, replicate, inl}
+use Rattle.std.proofs.Common.{inr}
 use Rattle.std.proofs.Math.Seq.{take-append_seam, drop-append_seam}
 use Rattle.std.proofs.lemmas.List.{drop_all, length-replicate, append-nil, take_all}
 use Rattle.std.proofs.lemmas.Bool.{le-leb}
@@ -52,60 +17,12 @@ use Rattle.onfi_cycles.specs.declared.nand.Outcome.{Outcome}
 use Rattle.onfi_cycles.specs.declared.nand.Outcome.TheVariants.{Passed, Failed}
 use Rattle.onfi_cycles.specs.Outcomes.{outcome_of}
 use Rattle.onfi_cycles.specs.Driver.{Operated, Broke, Fetched, Read, IsReady}
-use Rattle.onfi_cycles.specs.Cycles.{
-  DieState,
-  Phase,
-  Ready,
-  Taking,
-  Confirming,
-  Loading,
-  Output,
-  NoOutput,
-  PageOut,
-  StatusOut,
-  ForProgram,
-  ForRead,
-  ForErase,
-  Due,
-  Moves,
-  Resets,
-  Refuses,
-  Erases,
-  Programs,
-  Cycle,
-  Command,
-  Address,
-  DataIn,
-  DataOut,
-  command_due,
-  address_due,
-  data_in_due,
-  data_out_due,
-  page_of,
-  row_of,
-  replaced,
-  Does,
-  to_phase,
-  given_up,
-  status_of,
-  IsCounted,
-  CycleStep,
-  bytes_out,
-}
-use Rattle.onfi_cycles.specs.Spelling.{
-  Taken,
-  FailsIn,
-  Spells,
-  done,
-  row_address,
-  page_address,
-  load_cycles,
-  confirm_cycles,
-  fetch_cycles,
-  read_cycles,
-  program_cycles,
-  erase_cycles,
-}
+use Rattle.onfi_cycles.specs.Cycles.{DieState, Phase, Ready, Taking, Confirming, Loading, Output, NoOutput, PageOut, StatusOut, ForProgram, ForRead}
+use Rattle.onfi_cycles.specs.Cycles.{ForErase, Due, Moves, Resets, Refuses, Erases, Programs, Cycle, Command, Address, DataIn, DataOut, command_due}
+use Rattle.onfi_cycles.specs.Cycles.{address_due, data_in_due, data_out_due, page_of, row_of, replaced, Does, to_phase, given_up, status_of}
+use Rattle.onfi_cycles.specs.Cycles.{IsCounted, CycleStep, bytes_out}
+use Rattle.onfi_cycles.specs.Spelling.{Taken, FailsIn, Spells, done, row_address, page_address, load_cycles, confirm_cycles, fetch_cycles}
+use Rattle.onfi_cycles.specs.Spelling.{read_cycles, program_cycles, erase_cycles}
 use Rattle.onfi_cycles.specs.declared.nand.BusFault.{BusFault}
 use Rattle.onfi_cycles.specs.declared.nand.BusFault.TheVariants.{AddressRange, ColumnRange, Device}
 use Rattle.onfi_cycles.specs.Laws.{Ends, ProgramSpelling, EraseSpelling, ReadSpelling}

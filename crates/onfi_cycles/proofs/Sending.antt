@@ -1,32 +1,6 @@
 -- Lists of cycles that are sent one after another.
-use Rattle.std.proofs.Common.{
-  ◌≡◌,
-  ℕ,
-  List,
-  [],
-  ◌∷◌,
-  ◌++◌,
-  refl,
-  sym,
-  ◌∙◌,
-  ap,
-  subst,
-  ◌<◌,
-  ◌≤◌,
-  ◌⊎◌,
-  inl,
-  inr,
-  arith,
-  suc,
-  ◌+◌,
-  drop,
-  get_or,
-  length,
-  add-one,
-  Result,
-  Ok,
-  Err,
-}
+use Rattle.std.proofs.Common.{◌≡◌, ℕ, List, [], ◌∷◌, ◌++◌, refl, sym, ◌∙◌, ap, subst, ◌<◌, ◌≤◌, ◌⊎◌, inl, inr, arith, suc, ◌+◌, drop, get_or, length}
+use Rattle.std.proofs.Common.{add-one, Result, Ok, Err}
 use Rattle.std.specs.Prelude.{IfErr}
 use Rattle.std.proofs.Math.Seq.{drop-cons}
 use Rattle.page_layout.specs.Counter.{HasRisen}

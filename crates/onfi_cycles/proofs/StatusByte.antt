@@ -2,27 +2,8 @@
 use Rattle.std.proofs.Common.{◌≡◌, ℕ, ◌+◌, Bool, List, sym, ◌∙◌, ap, get_or, true, false, length, drop}
 use Rattle.std.specs.Prelude.{nat_le, if◌then◌else◌}
 use Rattle.page_layout.specs.Geometry.{page_bytes}
-use Rattle.onfi_cycles.specs.Cycles.{
-  DieState,
-  Phase,
-  Output,
-  NoOutput,
-  PageOut,
-  StatusOut,
-  IdentityOut,
-  Unreset,
-  Ready,
-  Taking,
-  Confirming,
-  Loading,
-  DataOut,
-  CycleStep,
-  Does,
-  Moves,
-  Refuses,
-  data_out_due,
-  bytes_out,
-}
+use Rattle.onfi_cycles.specs.Cycles.{DieState, Phase, Output, NoOutput, PageOut, StatusOut, IdentityOut, Unreset, Ready, Taking, Confirming, Loading}
+use Rattle.onfi_cycles.specs.Cycles.{DataOut, CycleStep, Does, Moves, Refuses, data_out_due, bytes_out}
 use Rattle.onfi_cycles.specs.Spelling.{done}
 use Rattle.onfi_cycles.specs.declared.nand.BusFault.TheVariants.{ColumnRange}
 

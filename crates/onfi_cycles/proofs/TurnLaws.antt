@@ -4,47 +4,10 @@ use Rattle.std.proofs.lemmas.Bool.{ne_eqb}
 use Rattle.page_layout.specs.declared.geometry.Geometry.{Geometry}
 use Rattle.onfi_cycles.specs.declared.nand.BusFault.{BusFault}
 use Rattle.onfi_cycles.specs.declared.nand.BusFault.TheVariants.{NoReset, UnknownCommand, OutOfTurn, AddressRange, ColumnRange, Device}
-use Rattle.onfi_cycles.specs.Cycles.{
-  DieState,
-  Phase,
-  Unreset,
-  Ready,
-  Taking,
-  Confirming,
-  Loading,
-  Output,
-  PageOut,
-  Purpose,
-  ForRead,
-  ForProgram,
-  ForErase,
-  ForReadColumn,
-  ForWriteColumn,
-  ForIdentity,
-  Command,
-  Address,
-  DataIn,
-  DataOut,
-  Does,
-  FailsBy,
-  Due,
-  Moves,
-  Resets,
-  Programs,
-  Erases,
-  Refuses,
-  due_of,
-  command_due,
-  command_due',
-  address_due,
-  data_in_due,
-  data_out_due,
-  is_known,
-  not_due,
-  page_of,
-  given_up,
-  to_phase,
-}
+use Rattle.onfi_cycles.specs.Cycles.{DieState, Phase, Unreset, Ready, Taking, Confirming, Loading, Output, PageOut, Purpose, ForRead, ForProgram}
+use Rattle.onfi_cycles.specs.Cycles.{ForErase, ForReadColumn, ForWriteColumn, ForIdentity, Command, Address, DataIn, DataOut, Does, FailsBy, Due}
+use Rattle.onfi_cycles.specs.Cycles.{Moves, Resets, Programs, Erases, Refuses, due_of, command_due, command_due', address_due, data_in_due}
+use Rattle.onfi_cycles.specs.Cycles.{data_out_due, is_known, not_due, page_of, given_up, to_phase}
 use Rattle.onfi_cycles.specs.Laws.{ResetLaw, NoResetLaw, UnknownLaw, TakenLaw, RefusedLaw, GivenUpLaw}
 
 pub reset_law : ResetLaw

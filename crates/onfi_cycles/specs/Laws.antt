@@ -6,23 +6,8 @@ use Rattle.page_layout.specs.Page.{page}
 use Rattle.page_layout.specs.Flash.{Flash, Operation, Program, Erase, Steps, page_at, block_at}
 use Rattle.onfi_cycles.specs.declared.nand.BusFault.{BusFault}
 use Rattle.onfi_cycles.specs.declared.nand.BusFault.TheVariants.{NoReset, UnknownCommand, Device}
-use Rattle.onfi_cycles.specs.Cycles.{
-  DieState,
-  Phase,
-  Unreset,
-  Ready,
-  StatusOut,
-  Cycle,
-  Command,
-  CycleStep,
-  due_of,
-  Resets,
-  Refuses,
-  is_known,
-  given_up,
-  to_phase,
-  status_of,
-}
+use Rattle.onfi_cycles.specs.Cycles.{DieState, Phase, Unreset, Ready, StatusOut, Cycle, Command, CycleStep, due_of, Resets, Refuses, is_known}
+use Rattle.onfi_cycles.specs.Cycles.{given_up, to_phase, status_of}
 use Rattle.onfi_cycles.specs.Spelling.{Taken, done, refused, program_cycles, erase_cycles, read_cycles}
 use Rattle.onfi_cycles.specs.Driver.{IsReady}
 

@@ -4,17 +4,8 @@ ghost use Rattle.page_layout.specs.Geometry.{row_count};
 ghost use Rattle.page_layout.specs.Page.{page};
 ghost use Rattle.page_layout.specs.Flash.{Program, Erase, page_at, block_at, IsWhole};
 ghost use Rattle.onfi_cycles.specs.Cycles.{Command, Address, DataOut, Ready, StatusOut, Confirming, ForRead, IsCounted};
-ghost use Rattle.onfi_cycles.specs.Spelling.{
-  Spells,
-  load_cycles,
-  confirm_cycles,
-  program_cycles,
-  erase_cycles,
-  read_cycles,
-  fetch_cycles,
-  page_address,
-  row_address,
-};
+ghost use Rattle.onfi_cycles.specs.Spelling.{Spells, load_cycles, confirm_cycles, program_cycles, erase_cycles, read_cycles, fetch_cycles};
+ghost use Rattle.onfi_cycles.specs.Spelling.{page_address, row_address};
 ghost use Rattle.onfi_cycles.specs.Driver.{IsReady, Operated, Read};
 ghost use Rattle.onfi_cycles.specs.Sent.{Sends, Operates};
 ghost use Rattle.onfi_cycles.specs.Recorded.{Calls};

@@ -1,6 +1,6 @@
 -- What the operations of a die do to the array of sectors.
-use Rattle.std.proofs.Common.{◌≡◌, ◌≢◌, ◌⊎◌, inl, inr, ℕ, ◌+◌, ◌/◌, ◌<◌, zero, suc, List, [], ◌∷◌, length, map, get_or, set, Option, Some, None, refl,
-    ap, sym, ◌∙◌, subst, arith}
+use Rattle.std.proofs.Common.{◌≡◌, ◌≢◌, ◌⊎◌, inl, inr, ℕ, ◌+◌, ◌/◌, ◌<◌, zero, suc, List, [], ◌∷◌, length, map, get_or, set, Option, Some, None}
+use Rattle.std.proofs.Common.{refl, ap, sym, ◌∙◌, subst, arith}
 use Rattle.std.specs.Prelude.{slice_get, option_map, IsSome, ◌↔◌}
 use Rattle.std.specs.List.{range_with_len}
 use Rattle.std.proofs.lemmas.Bool.{cases_eq, cases_lt}
@@ -25,8 +25,8 @@ use Rattle.page_layout.specs.OneArray.{AreDistinct, AreBelow}
 use Rattle.page_layout.specs.Live.{IsKeyOf}
 use Rattle.page_layout.specs.Array.{marks, zeros, content, content_of_kind, content_of_record, content_at, sector_of, array_of, ReadsAs, IsArray, HasOneArray}
 use Rattle.page_layout.specs.Change.{IsUnsoundAt, LosesIn, HoldsNone}
-use Rattle.page_layout.proofs.NewestLemmas.{newest-record, newest-is, newest_from, newest_some, newest_programmed, newest_other_key, newest_forgets,
-    set_unsound, Forgets, sequence_at_past}
+use Rattle.page_layout.proofs.NewestLemmas.{newest-record, newest-is, newest_from, newest_some, newest_programmed, newest_other_key, newest_forgets}
+use Rattle.page_layout.proofs.NewestLemmas.{set_unsound, Forgets, sequence_at_past}
 
 -- ---- marks
 

@@ -1,6 +1,6 @@
 -- Bytes looked at in lanes: a chunk by its mask, and a list chunk by chunk.
-use Rattle.std.proofs.Common.{◌≡◌, ℕ, ◌+◌, ◌*◌, Bool, true, false, ◌||◌, ◌&&◌, cond, eqb, not, List, [], ◌∷◌, length, take, drop, map, refl, sym, ap,
-    ◌∙◌, arith, take-append-drop, length-drop, ◌-◌}
+use Rattle.std.proofs.Common.{◌≡◌, ℕ, ◌+◌, ◌*◌, Bool, true, false, ◌||◌, ◌&&◌, cond, eqb, not, List, [], ◌∷◌, length, take, drop, map, refl, sym, ap}
+use Rattle.std.proofs.Common.{◌∙◌, arith, take-append-drop, length-drop, ◌-◌}
 use Rattle.std.proofs.Math.Seq.{take-length}
 use Rattle.std.specs.List.{list_any, list_all}
 use Rattle.std.proofs.lemmas.Bool.Decides.{nat_tests}

@@ -1,6 +1,6 @@
 -- How many newest pages a block holds.
-use Rattle.std.proofs.Common.{◌≡◌, ◌≢◌, inl, inr, ℕ, ◌+◌, ◌*◌, ◌/◌, ◌<◌, ◌≤◌, Bool, true, false, eqb, List, [], ◌∷◌, ◌++◌, length, map, get_or, set,
-    Option, Some, None, refl, ap, sym, ◌∙◌, arith, length-append}
+use Rattle.std.proofs.Common.{◌≡◌, ◌≢◌, inl, inr, ℕ, ◌+◌, ◌*◌, ◌/◌, ◌<◌, ◌≤◌, Bool, true, false, eqb, List, [], ◌∷◌, ◌++◌, length, map, get_or, set}
+use Rattle.std.proofs.Common.{Option, Some, None, refl, ap, sym, ◌∙◌, arith, length-append}
 use Rattle.std.specs.Prelude.{count_by, sum_by}
 use Rattle.std.specs.List.{range_with_len}
 use Rattle.std.proofs.lemmas.Bool.{cases_lt, eq-eqb}
@@ -14,8 +14,8 @@ use Rattle.page_layout.specs.Key.{key_of, key_eq}
 use Rattle.page_layout.specs.Newest.{newest, sequence_at}
 use Rattle.page_layout.specs.Live.{first_keys, keys, IsKeyOf, is_in_block, live}
 use Rattle.page_layout.proofs.KeyLemmas.{key_eq-same, key_eq-other, cases_key}
-use Rattle.page_layout.proofs.CountLemmas.{bit, count_by-cons, count_by-append, count_by-same, count_by-map, count_by_none, count_in_range,
-    count_in_range_is, count_in_range_over, sum_of_counts, Finds, pigeonhole}
+use Rattle.page_layout.proofs.CountLemmas.{bit, count_by-cons, count_by-append, count_by-same, count_by-map, count_by_none, count_in_range}
+use Rattle.page_layout.proofs.CountLemmas.{count_in_range_is, count_in_range_over, sum_of_counts, Finds, pigeonhole}
 use Rattle.page_layout.proofs.NewestLemmas.{newest_programmed, newest_other_key}
 
 -- ---- each key once

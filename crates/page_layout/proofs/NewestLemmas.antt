@@ -10,8 +10,8 @@ use Rattle.page_layout.specs.Greatest.{IsGreatest}
 use Rattle.page_layout.specs.Newest.{sequence_of, sequence_at, IsNewest, newest, latest_below, Tells}
 use Rattle.page_layout.specs.OneArray.{AreDistinct}
 use Rattle.page_layout.proofs.KeyLemmas.{key_eq-same, key_eq-other, cases_key}
-use Rattle.page_layout.proofs.GreatestLemmas.{NoneFrom, IsInjective, best_describes, some_greatest, greatest-is, greatest_from, greatest_same,
-    IsGreatest-same, IsGreatest-lost, IsGreatest-found}
+use Rattle.page_layout.proofs.GreatestLemmas.{NoneFrom, IsInjective, best_describes, some_greatest, greatest-is, greatest_from, greatest_same}
+use Rattle.page_layout.proofs.GreatestLemmas.{IsGreatest-same, IsGreatest-lost, IsGreatest-found}
 
 -- ---- the sequence of a record
 

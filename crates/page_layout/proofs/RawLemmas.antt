@@ -1,6 +1,6 @@
 -- The pages of a raw image.
-use Rattle.std.proofs.Common.{◌≡◌, ◌≤◌, ◌<◌, ℕ, ◌+◌, ◌*◌, ◌-◌, zero, suc, List, [], ◌∷◌, ◌++◌, length, refl, map, take, drop, Some, length-drop,
-    length-append, append_assoc, get_or, ap, sym, ◌∙◌, subst, arith}
+use Rattle.std.proofs.Common.{◌≡◌, ◌≤◌, ◌<◌, ℕ, ◌+◌, ◌*◌, ◌-◌, zero, suc, List, [], ◌∷◌, ◌++◌, length, refl, map, take, drop, Some, length-drop}
+use Rattle.std.proofs.Common.{length-append, append_assoc, get_or, ap, sym, ◌∙◌, subst, arith}
 use Rattle.std.specs.Prelude.{slice_get, slice_range, slice_index}
 use Rattle.std.specs.List.{range_with_len, concat}
 use Rattle.std.proofs.Math.Nat.{mul-le-mul_right, zero-mul}

@@ -1,6 +1,6 @@
 -- The spare bytes of a record, its seal, and the page that is sound by them.
-use Rattle.std.proofs.Common.{◌≡◌, ◌⊎◌, inl, inr, get_or, ℕ, zero, suc, ◌-◌, Bool, true, false, if◌then◌else◌, Option, List, [], ◌∷◌, ◌++◌, length,
-    take, drop, replicate, Some, None, refl, ap, sym, ◌∙◌, subst, arith, length-append, append_assoc}
+use Rattle.std.proofs.Common.{◌≡◌, ◌⊎◌, inl, inr, get_or, ℕ, zero, suc, ◌-◌, Bool, true, false, if◌then◌else◌, Option, List, [], ◌∷◌, ◌++◌, length}
+use Rattle.std.proofs.Common.{take, drop, replicate, Some, None, refl, ap, sym, ◌∙◌, subst, arith, length-append, append_assoc}
 use Rattle.std.proofs.Math.Seq.{take-length}
 use Rattle.std.proofs.lemmas.List.{take_at, drop_at, drop-replicate}
 use Rattle.std.proofs.lemmas.List.Sums.{AllPass-from_list_all, list_all-from_AllPass}
@@ -17,8 +17,8 @@ use Rattle.page_layout.specs.declared.record.Record.{Record}
 use Rattle.page_layout.specs.declared.record.Kind.{Kind}
 use Rattle.page_layout.specs.declared.record.Kind.TheVariants as kind
 use Rattle.page_layout.specs.Page.{page}
-use Rattle.page_layout.specs.Sound.{AreFill, IsSound, seal_1, is_erased_page, kind_from, code_of, is_filled, has_form_1, has_seal_1, record_in,
-    spelled, record_of, head_of, Fits}
+use Rattle.page_layout.specs.Sound.{AreFill, IsSound, seal_1, is_erased_page, kind_from, code_of, is_filled, has_form_1, has_seal_1, record_in}
+use Rattle.page_layout.specs.Sound.{spelled, record_of, head_of, Fits}
 use Rattle.page_layout.specs.declared.record.Key.{Key}
 use Rattle.page_layout.specs.Page.{Page}
 use Rattle.page_layout.specs.Newest.{sequence_of}

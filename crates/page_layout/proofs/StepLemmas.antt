@@ -1,6 +1,6 @@
 -- What each operation of the die keeps.
-use Rattle.std.proofs.Common.{length-set, slice_get, ◌≡◌, inl, inr, ℕ, ◌+◌, ◌<◌, ◌≤◌, List, length, replicate, get_or, set, Option, Some, None, refl,
-    ap, sym, ◌∙◌, subst, arith, map, zero, suc, add-zero, zero-add, ◌≢◌}
+use Rattle.std.proofs.Common.{length-set, slice_get, ◌≡◌, inl, inr, ℕ, ◌+◌, ◌<◌, ◌≤◌, List, length, replicate, get_or, set, Option, Some, None, refl}
+use Rattle.std.proofs.Common.{ap, sym, ◌∙◌, subst, arith, map, zero, suc, add-zero, zero-add, ◌≢◌}
 use Rattle.std.specs.List.{range_with_len}
 use Rattle.std.proofs.lemmas.Bool.{cases_eq, cases_lt, and_from}
 use Rattle.std.proofs.lemmas.List.{get_or_past, get_or-set_same, get_or-set_other}
@@ -21,9 +21,10 @@ use Rattle.page_layout.proofs.LiveLemmas.{live_same, live_programmed}
 use Rattle.page_layout.specs.Sound.{is_filled}
 use Rattle.page_layout.proofs.RecordLemmas.{is_filled-replicate, erased_no_record}
 use Rattle.page_layout.proofs.LiveLemmas.{live_zero}
-use Rattle.page_layout.proofs.ArrayLemmas.{content-record, unsound_at, mark-same, mark-page, body_page, body_same, slice_get-set_other,
-    slice_get-set_same, newest-other, forgets, marks-set, length-marks, IsNewer, newest_failed, sector_failed, newest_written, newest_unwritten,
-    sector_written, sector_unwritten, newest_lost, sector_lost, OneArray_lost, OneArray_written, array-same}
+use Rattle.page_layout.proofs.ArrayLemmas.{content-record, unsound_at, mark-same, mark-page, body_page, body_same, slice_get-set_other}
+use Rattle.page_layout.proofs.ArrayLemmas.{slice_get-set_same, newest-other, forgets, marks-set, length-marks, IsNewer, newest_failed, sector_failed}
+use Rattle.page_layout.proofs.ArrayLemmas.{newest_written, newest_unwritten, sector_written, sector_unwritten, newest_lost, sector_lost}
+use Rattle.page_layout.proofs.ArrayLemmas.{OneArray_lost, OneArray_written, array-same}
 
 pub Keeps-refl : (g : Geometry) (image : Image) → HasOneArray g image → Keeps g image image
 Keeps-refl g image one = record {

@@ -1,6 +1,6 @@
 -- What the pages of one block show by themselves: its write pointer, its wear, and whether it must be bad.
-use Rattle.std.specs.Prelude.{◌≡◌, ◌⊎◌, ◌<◌, ◌≤◌, ℕ, ◌+◌, ◌*◌, ◌&&◌, max, not, Bool, true, false, if◌then◌else◌, List, [], ◌∷◌, count_by, slice_get,
-    slice_range, Option, Some, None, is_some}
+use Rattle.std.specs.Prelude.{◌≡◌, ◌⊎◌, ◌<◌, ◌≤◌, ℕ, ◌+◌, ◌*◌, ◌&&◌, max, not, Bool, true, false, if◌then◌else◌, List, [], ◌∷◌, count_by, slice_get}
+use Rattle.std.specs.Prelude.{slice_range, Option, Some, None, is_some}
 use Rattle.std.specs.List.{list_any, fold}
 use Rattle.page_layout.specs.declared.record.Record.{Record}
 use Rattle.page_layout.specs.declared.record.Kind.{Kind}

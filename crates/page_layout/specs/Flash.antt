@@ -1,8 +1,8 @@
 -- What stands in a flash: its pages, and the turn of each block. Programs and erases, and the law of each: ONFI's, that a page is programmed
 -- and a block erased as a whole, with this project's rules of turns: the pages of a block are programmed by rising number, each once between
 -- two erases, and a bad or failed block is left alone.
-use Rattle.std.specs.Prelude.{◌≡◌, ◌⊎◌, ℕ, Bool, true, false, not, ◌&&◌, ◌||◌, ◌==◌, ◌+◌, ◌*◌, ◌/◌, ◌%◌, ◌<◌, ◌≤◌, List, [], ◌∷◌, ◌++◌, length, take,
-    drop, replicate, slice_set, get_or, None, if◌then◌else◌}
+use Rattle.std.specs.Prelude.{◌≡◌, ◌⊎◌, ℕ, Bool, true, false, not, ◌&&◌, ◌||◌, ◌==◌, ◌+◌, ◌*◌, ◌/◌, ◌%◌, ◌<◌, ◌≤◌, List, [], ◌∷◌, ◌++◌, length, take}
+use Rattle.std.specs.Prelude.{drop, replicate, slice_set, get_or, None, if◌then◌else◌}
 use Rattle.page_layout.specs.declared.geometry.Geometry.{Geometry}
 use Rattle.page_layout.specs.Page.{Page, Image, IsImage, IsPage, page}
 use Rattle.page_layout.specs.Sound.{record_of}

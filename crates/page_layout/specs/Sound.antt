@@ -2,8 +2,8 @@
 -- The spare bytes of version 1, this project's format: 0 and 1 are FFh; 2 is the version, 1; 3 is the kind's code; 4 to 7 are the number,
 -- 8 to 15 the sequence and 16 to 19 the wear, each lowest byte first; 20 to 23 are FFh; 24 to 31 are the seal, the first 8 bytes of SHA-256
 -- (FIPS 180-4) over the data area and spare bytes 0 to 23; all from 32 on are FFh.
-use Rattle.std.specs.Prelude.{◌≡◌, ℕ, ◌==◌, ◌&&◌, All, Bool, if◌then◌else◌, List, length, ◌++◌, take, slice_index, slice_range, Option, Some, None,
-    option_map, replicate, ◌∷◌, ◌<◌, ◌^◌}
+use Rattle.std.specs.Prelude.{◌≡◌, ℕ, ◌==◌, ◌&&◌, All, Bool, if◌then◌else◌, List, length, ◌++◌, take, slice_index, slice_range, Option, Some, None}
+use Rattle.std.specs.Prelude.{option_map, replicate, ◌∷◌, ◌<◌, ◌^◌}
 use Rattle.std.specs.List.{list_all}
 use Rattle.std.specs.Str.{bytes_eq}
 use Rattle.byteorder.specs.Endian.{little_number, little_bytes}

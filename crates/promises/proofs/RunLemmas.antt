@@ -1,8 +1,8 @@
 -- Runs of a device.
 use Rattle.std.proofs.Common.{◌≡◌, [], ◌∷◌, ◌++◌, refl, sym, ◌∙◌, ap, subst, suc, append_assoc}
 use Rattle.promises.specs.Step.{ArrayRun}
-use Rattle.promises.specs.Run.{DeviceView, state_of, Run, commands_of, replies_of, log_of, OneMoreEventLaw, RunJoinLaw, LastLaw, OneLogLaw, AnswersLaw,
-    EachLaw, LogsLaw}
+use Rattle.promises.specs.Run.{DeviceView, state_of, Run, commands_of, replies_of, log_of, OneMoreEventLaw, RunJoinLaw, LastLaw, OneLogLaw}
+use Rattle.promises.specs.Run.{AnswersLaw, EachLaw, LogsLaw}
 use Rattle.page_layout.proofs.FlashLemmas.{Leads-append, geometry-Leads}
 
 pub run_join : RunJoinLaw

@@ -2,8 +2,8 @@
 use Rattle.std.proofs.Common.{◌≡◌, ◌⊎◌, inl, inr, ℕ, [], ◌∷◌, ◌++◌, refl, sym, ◌∙◌, ap, arith, append_assoc, lit<, lit≤}
 use Rattle.std.specs.Prelude.{Some, None}
 use Rattle.std.proofs.lemmas.Bool.Decides.{eqb_tells}
-use Rattle.promises.specs.Stream.{Request, op_code, op_from, reply_bytes, replies_bytes, RepliesJoinLaw, OpLaw, CutShortLaw, CutShortOutLaw,
-    BadHeaderLaw, ElevenLaw}
+use Rattle.promises.specs.Stream.{Request, op_code, op_from, reply_bytes, replies_bytes, RepliesJoinLaw, OpLaw, CutShortLaw, CutShortOutLaw}
+use Rattle.promises.specs.Stream.{BadHeaderLaw, ElevenLaw}
 use Rattle.promises.specs.declared.stream.Op.{Op}
 use Rattle.promises.specs.declared.stream.Op.TheVariants.{Read, Write, Trim, Flush, Turn}
 

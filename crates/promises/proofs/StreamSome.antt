@@ -1,6 +1,7 @@
 -- Every stream of bytes is requests and a rest.
-use Rattle.std.proofs.Common.{◌≡◌, ◌<◌, ◌≤◌, ◌+◌, ◌^◌, ◌==◌, ◌&&◌, nat_le, ℕ, Bool, List, [], ◌∷◌, ◌++◌, length, take, drop, get_or, refl, zero, suc,
-    sym, ap, ◌∙◌, subst, arith, rules, inl, inr, append_assoc, length-drop, length-take-le, take-append-drop, get_or-drop, true, false, slice_index}
+use Rattle.std.proofs.Common.{◌≡◌, ◌<◌, ◌≤◌, ◌+◌, ◌^◌, ◌==◌, ◌&&◌, nat_le, ℕ, Bool, List, [], ◌∷◌, ◌++◌, length, take, drop, get_or, refl, zero, suc}
+use Rattle.std.proofs.Common.{sym, ap, ◌∙◌, subst, arith, rules, inl, inr, append_assoc, length-drop, length-take-le, take-append-drop, get_or-drop}
+use Rattle.std.proofs.Common.{true, false, slice_index}
 use Rattle.std.proofs.lemmas.Bool.{cases_lt}
 use Rattle.std.specs.Int.{from_le_bytes, to_le_bytes, w32}
 use Rattle.std.proofs.lemmas.Nat.{le_bytes_4}

@@ -1,6 +1,6 @@
 -- Laws of the layout of a translation page.
-use Rattle.std.proofs.Common.{◌≡◌, ◌≢◌, ℕ, zero, suc, ◌+◌, ◌*◌, ◌^◌, ◌<◌, ◌≤◌, ◌∙◌, true, eqb, List, [], ◌∷◌, ◌++◌, length, get_or, set, All, Option,
-    Some, None, slice_get, refl, sym, ap, inl, inr, arith, length-set}
+use Rattle.std.proofs.Common.{◌≡◌, ◌≢◌, ℕ, zero, suc, ◌+◌, ◌*◌, ◌^◌, ◌<◌, ◌≤◌, ◌∙◌, true, eqb, List, [], ◌∷◌, ◌++◌, length, get_or, set, All, Option}
+use Rattle.std.proofs.Common.{Some, None, slice_get, refl, sym, ap, inl, inr, arith, length-set}
 use Rattle.std.specs.Int.{w32, to_le_bytes, from_le_bytes}
 use Rattle.std.proofs.lemmas.Nat.{le_bytes_4, from_le_bytes-to_le_bytes_4}
 use Rattle.std.proofs.lemmas.List.{append_cancel_left}

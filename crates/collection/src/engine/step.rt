@@ -1,34 +1,6 @@
 //! A block is collected step by step.
-ghost use Rattle.std.specs.Prelude.{
-  ◌≡◌,
-  ◌≢◌,
-  ◌⊎◌,
-  ◌+◌,
-  ◌*◌,
-  ◌/◌,
-  ◌<◌,
-  ◌≤◌,
-  ◌↔◌,
-  true,
-  false,
-  [],
-  length,
-  replicate,
-  slice_set,
-  get_or,
-  Some,
-  None,
-  Ok,
-  Err,
-  IfOk,
-  IfErr,
-  IfSome,
-  IsTrue,
-  OnOk,
-  OnErr,
-  MatchResult,
-  MatchOption,
-};
+ghost use Rattle.std.specs.Prelude.{◌≡◌, ◌≢◌, ◌⊎◌, ◌+◌, ◌*◌, ◌/◌, ◌<◌, ◌≤◌, ◌↔◌, true, false, [], length, replicate, slice_set, get_or, Some, None};
+ghost use Rattle.std.specs.Prelude.{Ok, Err, IfOk, IfErr, IfSome, IsTrue, OnOk, OnErr, MatchResult, MatchOption};
 ghost use Rattle.std.specs.Option.{ForSome};
 ghost use Rattle.std.specs.Bool.{OnTrue, OnFalse};
 ghost use Rattle.page_layout.specs.Counter.{HasRisen, counted};
@@ -45,30 +17,9 @@ ghost use Rattle.collection.specs.Log.{Went};
 ghost use Rattle.collection.specs.Live.{HoldsNoneIn, IsLivePage};
 ghost use Rattle.collection.specs.Results.{IsSame, IsKept, Refused, Goes, IsLastPage};
 ghost use Rattle.collection.specs.Whole.{erases_after};
-ghost use Rattle.collection.specs.Collect.{
-  is_due,
-  has_moved,
-  is_marked,
-  due_count,
-  marks_after,
-  IsLowestDue,
-  HasNoneDue,
-  Refreshes,
-  KeepsKeys,
-  GoesBut,
-  HasCopied,
-  HasWritten,
-  HasErased,
-  IsReleased,
-  FaultCosts,
-  HasMovedOnly,
-  StepCosts,
-  IsMovedOut,
-  IsCopied,
-  IsCopiedOr,
-  IsEmptied,
-  IsStepped,
-};
+ghost use Rattle.collection.specs.Collect.{is_due, has_moved, is_marked, due_count, marks_after, IsLowestDue, HasNoneDue, Refreshes, KeepsKeys};
+ghost use Rattle.collection.specs.Collect.{GoesBut, HasCopied, HasWritten, HasErased, IsReleased, FaultCosts, HasMovedOnly, StepCosts, IsMovedOut};
+ghost use Rattle.collection.specs.Collect.{IsCopied, IsCopiedOr, IsEmptied, IsStepped};
 
 use super::Engine;
 use crate::fault::WriteFault;

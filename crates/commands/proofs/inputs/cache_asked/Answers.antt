@@ -1,10 +1,8 @@
 use Rattle.std.proofs.Common.{inl, inr, arith}
 use Rattle.std.proofs.lemmas.Bool.Decides.{nat_tests}
 use Rattle.commands.proofs.inputs.cache_asked.Goals as goal
-use Rattle.commands.proofs.inputs.cache_asked.Goals.{
-  then-capacity-eq0-via-then-capacity-eq0,
-  then-capacity-eq0-via-else-capacity-eq0+then-capacity-gt-MOST_CAPACITY,
-}
+use Rattle.commands.proofs.inputs.cache_asked.Goals.{then-capacity-eq0-via-then-capacity-eq0}
+use Rattle.commands.proofs.inputs.cache_asked.Goals.{then-capacity-eq0-via-else-capacity-eq0+then-capacity-gt-MOST_CAPACITY}
 
 pub returns-then-capacity-eq0-clause-fault : goal.returns-then-capacity-eq0-clause-fault
 returns-then-capacity-eq0-clause-fault c = (

@@ -3,18 +3,8 @@ use Rattle.std.proofs.lemmas.Result.{err_from_is_err_and}
 use Rattle.collection.specs.Safe.{ram}
 use Rattle.collection.proofs.Logs.{went_then}
 use Rattle.ftl_device.proofs.FlushLoops.{limits_then, engine_keeps, engine_refused}
-use Rattle.ftl_device.proofs.RoomLemmas.{
-  never_rested,
-  rescued_none,
-  rescued_by,
-  rescue_tells,
-  rescue_fewer,
-  rescue_not_bus,
-  keeps_room,
-  refused_room,
-  not_ailing,
-  rescue_worked,
-}
+use Rattle.ftl_device.proofs.RoomLemmas.{never_rested, rescued_none, rescued_by, rescue_tells, rescue_fewer, rescue_not_bus, keeps_room}
+use Rattle.ftl_device.proofs.RoomLemmas.{refused_room, not_ailing, rescue_worked}
 use Rattle.ftl_device.proofs.SpentLemmas.{rescue_short, rescue_stuck, unroomed_short}
 use Rattle.ftl_device.proofs.turn.turn_ready.Goals as goal
 

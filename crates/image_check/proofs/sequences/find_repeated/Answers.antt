@@ -1,11 +1,7 @@
 use Rattle.std.proofs.Common.{◌+◌, sym, subst, ◌∙◌, arith, refl}
 use Rattle.image_check.proofs.SequenceLemmas.{Looked, looked_kept, looked_found, looked_apart, looked_end, looked_some, looked_none, found_of, none_of}
-use Rattle.image_check.proofs.sequences.find_repeated.Goals.{
-  then-first-second+in-Some,
-  then-first-second+in_default-2,
-  then-first-second+in_default,
-  else-first-second,
-}
+use Rattle.image_check.proofs.sequences.find_repeated.Goals.{then-first-second+in-Some, then-first-second+in_default-2, then-first-second+in_default}
+use Rattle.image_check.proofs.sequences.find_repeated.Goals.{else-first-second}
 use Rattle.image_check.proofs.sequences.find_repeated.Goals as goal
 
 pub loop-i-preserved : goal.loop-i-preserved

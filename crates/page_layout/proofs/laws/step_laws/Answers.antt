@@ -1,6 +1,6 @@
 use Rattle.page_layout.proofs.ErasedLemmas.{erased_at_unsound, erases_erased}
-use Rattle.page_layout.proofs.FlashLemmas.{Leads-append, geometry-Leads, program_writes, program_keeps, program_means, program_fails, program_other,
-    program_next, erase_keeps, erase_loses, erase_erases, erase_below}
+use Rattle.page_layout.proofs.FlashLemmas.{Leads-append, geometry-Leads, program_writes, program_keeps, program_means, program_fails, program_other}
+use Rattle.page_layout.proofs.FlashLemmas.{program_next, erase_keeps, erase_loses, erase_erases, erase_below}
 use Rattle.page_layout.proofs.RecordingLemmas.{whole_leads}
 use Rattle.page_layout.proofs.laws.step_laws.Goals as goal
 

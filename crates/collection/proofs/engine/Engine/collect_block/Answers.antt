@@ -8,30 +8,9 @@ use Rattle.collection.proofs.Logs.{went_same, went_then}
 use Rattle.collection.proofs.Looks.{none_from, ok_not_bus}
 use Rattle.collection.proofs.Puts.{refused_then}
 use Rattle.collection.proofs.Copies.{keys_same, keys_then, refreshes_same, refreshes_then}
-use Rattle.collection.proofs.Ledgers.{
-  begun,
-  stepped,
-  still_goes,
-  still_erased,
-  once_erased,
-  room_next,
-  steps_fall,
-  but_then,
-  ends_erased,
-  erased_by,
-  emptied_by,
-  emptied_then,
-  collected_cost,
-  less_work,
-  counts_collected,
-  thrifty_erased,
-  thrifty_refused,
-  refused_cost,
-  refused_counts,
-  closed_still,
-  released_from,
-  undamaged,
-}
+use Rattle.collection.proofs.Ledgers.{begun, stepped, still_goes, still_erased, once_erased, room_next, steps_fall, but_then, ends_erased, erased_by}
+use Rattle.collection.proofs.Ledgers.{emptied_by, emptied_then, collected_cost, less_work, counts_collected, thrifty_erased, thrifty_refused}
+use Rattle.collection.proofs.Ledgers.{refused_cost, refused_counts, closed_still, released_from, undamaged}
 use Rattle.collection.specs.Whole.{next_of}
 use Rattle.collection.proofs.engine.Engine.collect_block.Goals as goal
 

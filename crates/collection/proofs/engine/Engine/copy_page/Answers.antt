@@ -3,18 +3,8 @@ use Rattle.std.proofs.lemmas.Result.{err_from_is_err_and}
 use Rattle.page_layout.specs.Key.{key_of}
 use Rattle.budget.specs.Stream.{stream_of}
 use Rattle.collection.specs.Safe.{ram, page_in}
-use Rattle.collection.proofs.Copies.{
-  may_copy,
-  moved_out,
-  marked_at,
-  last_marked,
-  goes_marked,
-  cost_marked,
-  refreshes_marked,
-  moved_marked,
-  pin_marked,
-  only_marked,
-}
+use Rattle.collection.proofs.Copies.{may_copy, moved_out, marked_at, last_marked, goes_marked, cost_marked, refreshes_marked, moved_marked}
+use Rattle.collection.proofs.Copies.{pin_marked, only_marked}
 use Rattle.collection.proofs.Follows.{moved_only}
 use Rattle.collection.proofs.engine.Engine.copy_page.Goals as goal
 

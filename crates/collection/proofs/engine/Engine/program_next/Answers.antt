@@ -12,25 +12,8 @@ use Rattle.collection.specs.Safe.{ram}
 use Rattle.collection.specs.Results.{IsStep}
 use Rattle.collection.proofs.Programs.{at_outcome, buffer_spare}
 use Rattle.collection.proofs.Memory.{taken_outside}
-use Rattle.collection.proofs.Attempts.{
-  taken_by,
-  taken_good,
-  next_record,
-  step_others,
-  asked_ram,
-  asked_goes,
-  failed_ram,
-  failed_goes,
-  failed_cost,
-  failed_went,
-  failed_kept,
-  passed_ram,
-  passed_goes,
-  passed_cost,
-  passed_went,
-  passed_put,
-  may_program,
-}
+use Rattle.collection.proofs.Attempts.{taken_by, taken_good, next_record, step_others, asked_ram, asked_goes, failed_ram, failed_goes, failed_cost}
+use Rattle.collection.proofs.Attempts.{failed_went, failed_kept, passed_ram, passed_goes, passed_cost, passed_went, passed_put, may_program}
 use Rattle.collection.proofs.engine.Engine.program_next.Goals as goal
 
 pub retire-requires-clause-good : goal.retire-requires-clause-good

@@ -12,18 +12,8 @@ use Rattle.ftl_device.specs.Flush.{ShowsBad}
 use Rattle.ftl_device.proofs.CallLemmas.{well_device, mountable_after}
 use Rattle.ftl_device.proofs.CostLemmas.{done_after}
 use Rattle.ftl_device.proofs.MountableLemmas.{restart_law}
-use Rattle.ftl_device.proofs.FlushCalls.{
-  flush_well,
-  flush_shown,
-  flush_refused,
-  flush_left_refused,
-  flush_lacks,
-  worth,
-  goes_anywhere,
-  is_fresh,
-  shows_wear,
-  shows_bad,
-}
+use Rattle.ftl_device.proofs.FlushCalls.{flush_well, flush_shown, flush_refused, flush_left_refused, flush_lacks, worth, goes_anywhere, is_fresh}
+use Rattle.ftl_device.proofs.FlushCalls.{shows_wear, shows_bad}
 use Rattle.promises.specs.Step as step
 use Rattle.ftl_device.proofs.ShownLemmas.{flush_left_after}
 use Rattle.ftl_device.proofs.SpentLemmas.{funded_begun}

@@ -1,19 +1,8 @@
 use Rattle.std.proofs.Common.{sym, ◌∙◌}
 use Rattle.mapping_cache.specs.View.{mapping_state}
 use Rattle.mapping_cache.proofs.Entries.{none_from}
-use Rattle.mapping_cache.proofs.Steps.{
-  IsMapping-used,
-  known-used,
-  pending-used,
-  known-kept,
-  slot_of-used,
-  not_moved,
-  moved_here,
-  IsMapping-inserted,
-  known-inserted,
-  known-inserted_other,
-  pending-inserted,
-}
+use Rattle.mapping_cache.proofs.Steps.{IsMapping-used, known-used, pending-used, known-kept, slot_of-used, not_moved, moved_here, IsMapping-inserted}
+use Rattle.mapping_cache.proofs.Steps.{known-inserted, known-inserted_other, pending-inserted}
 use Rattle.mapping_cache.proofs.mapping.Mapping.load.Goals as goal
 
 pub invariant_of-self : goal.invariant_of-self

@@ -1,14 +1,7 @@
 use Rattle.std.proofs.Common.{arith}
 use Rattle.mapping_cache.specs.View.{mapping_state}
-use Rattle.mapping_cache.proofs.Steps.{
-  length-without,
-  length-with_moved,
-  IsMapping-with_moved,
-  known-with_moved,
-  pending-with_moved,
-  known-with_moved_other,
-  pending-with_moved_other,
-}
+use Rattle.mapping_cache.proofs.Steps.{length-without, length-with_moved, IsMapping-with_moved, known-with_moved, pending-with_moved}
+use Rattle.mapping_cache.proofs.Steps.{known-with_moved_other, pending-with_moved_other}
 use Rattle.mapping_cache.proofs.mapping.Mapping.move_entry.Goals as goal
 
 pub list_sector-requires : goal.list_sector-requires

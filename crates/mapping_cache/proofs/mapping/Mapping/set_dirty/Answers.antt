@@ -1,14 +1,8 @@
 use Rattle.std.proofs.Common.{◌≡◌, subst, ap, ◌∙◌, rules}
 use Rattle.std.specs.Map.{keys_of}
 use Rattle.mapping_cache.specs.Mapping.{IsMapping, with_dirty}
-use Rattle.mapping_cache.proofs.Steps.{
-  keys-with_dirty,
-  known-with_dirty,
-  pending-with_dirty,
-  known-with_dirty_other,
-  pending-with_dirty_other,
-  IsMapping-with_dirty,
-}
+use Rattle.mapping_cache.proofs.Steps.{keys-with_dirty, known-with_dirty, pending-with_dirty, known-with_dirty_other, pending-with_dirty_other}
+use Rattle.mapping_cache.proofs.Steps.{IsMapping-with_dirty}
 use Rattle.mapping_cache.specs.View.{mapping_state}
 use Rattle.mapping_cache.proofs.mapping.Mapping.set_dirty.Goals as goal
 
