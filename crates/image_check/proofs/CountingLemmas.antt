@@ -10,9 +10,9 @@ use Rattle.std.proofs.lemmas.List.FromFn.{get_or-map-range_with_len, length-map-
 use Rattle.page_layout.specs.declared.geometry.Geometry.{Geometry}
 use Rattle.page_layout.specs.declared.record.Key.{Key}
 use Rattle.page_layout.specs.declared.record.Key.TheVariants.{Sector, Translation, Table}
-use Rattle.page_layout.specs.declared.newest.Latest.{Latest}
+use Rattle.image_check.specs.declared.newest.Newest.{Newest}
 use Rattle.page_layout.specs.Geometry.{row_count, translation_pages, table_pages, key_count}
-use Rattle.page_layout.specs.Greatest.{place_of}
+use Rattle.image_check.specs.Newest.{place_in}
 use Rattle.page_layout.specs.Page.{Image}
 use Rattle.page_layout.specs.Newest.{newest}
 use Rattle.page_layout.specs.Live.{IsKeyOf, keys, is_in_block, live}
@@ -72,10 +72,10 @@ count_same p q (x ∷ xs) (y ∷ ys) n h =
     count_by-cons p x xs ∙ (rw (first, rest) (sym (count_by-cons q y ys)))
 
 -- the survey's count of a block is the live count
-pub live_counted : (g : Geometry) (image : Image) (items : List Latest) (b : ℕ) → length image ≡ row_count g → HasNewest g (marks image) (row_count g) items → count_by (λ latest. is_in_block g.pages b (place_of latest)) items ≡ live g (marks image) b
+pub live_counted : (g : Geometry) (image : Image) (items : List Newest) (b : ℕ) → length image ≡ row_count g → HasNewest g (marks image) (row_count g) items → count_by (λ latest. is_in_block g.pages b (place_in latest)) items ≡ live g (marks image) b
 unfolding live
 live_counted g image items b whole h =
-    count_same (λ (latest : Latest). is_in_block g.pages b (place_of latest)) (λ (key : Key). is_in_block g.pages b (newest (marks image) key)) items (keys g) (h.size ∙ sym (length-keys g))
+    count_same (λ (latest : Newest). is_in_block g.pages b (place_in latest)) (λ (key : Key). is_in_block g.pages b (newest (marks image) key)) items (keys g) (h.size ∙ sym (length-keys g))
     (λ i d e k. let at = key_at g i e (omega (arith, h.size)) in ap (λ row. is_in_block g.pages b row) (surveyed_row g image items i (get_or (keys g) i e) d whole h at.of at.index))
 
 -- ---- the loop
@@ -88,25 +88,25 @@ take_more p (x ∷ xs) (suc i) d l =
     count_by-cons p x (take (suc i) xs) ∙ (ap (λ k. bit (p x) + k) rest ∙ (omega (arith, count_by-cons p x (take i xs))))
 
 -- the first i keys are counted
-pub record IsCounted (pages : ℕ) (newest : List Latest) (i : ℕ) (counts : List ℕ) : Type 0 where
-  pub counted : (b : ℕ) → b < length counts → get_or counts b 0 ≡ count_by (λ latest. is_in_block pages b (place_of latest)) (take i newest)
+pub record IsCounted (pages : ℕ) (newest : List Newest) (i : ℕ) (counts : List ℕ) : Type 0 where
+  pub counted : (b : ℕ) → b < length counts → get_or counts b 0 ≡ count_by (λ latest. is_in_block pages b (place_in latest)) (take i newest)
   pub bounded : (b : ℕ) → get_or counts b 0 ≤ i
 
-pub counted_start : (pages : ℕ) (newest : List Latest) (counts : List ℕ) → ((b : ℕ) → get_or counts b 0 ≡ 0) → IsCounted pages newest 0 counts
+pub counted_start : (pages : ℕ) (newest : List Newest) (counts : List ℕ) → ((b : ℕ) → get_or counts b 0 ≡ 0) → IsCounted pages newest 0 counts
 counted_start pages newest counts empty = record { counted = λ b k. empty b; bounded = λ b. let z = empty b in omega arith }
 
 -- the next key adds nothing to the block
-stays : (pages : ℕ) (newest : List Latest) (i b : ℕ) (l : Latest) (row : Option ℕ) → i < length newest → l ≡ get_or newest i l → row ≡ place_of l → is_in_block pages b row ≡ false → count_by (λ latest. is_in_block pages b (place_of latest)) (take (i + 1) newest) ≡ count_by (λ latest. is_in_block pages b (place_of latest)) (take i newest)
+stays : (pages : ℕ) (newest : List Newest) (i b : ℕ) (l : Newest) (row : Option ℕ) → i < length newest → l ≡ get_or newest i l → row ≡ place_in l → is_in_block pages b row ≡ false → count_by (λ latest. is_in_block pages b (place_in latest)) (take (i + 1) newest) ≡ count_by (λ latest. is_in_block pages b (place_in latest)) (take i newest)
 stays pages newest i b l row within at is out =
-    let p : Latest → Bool = λ latest. is_in_block pages b (place_of latest) in
+    let p : Newest → Bool = λ latest. is_in_block pages b (place_in latest) in
     let none : p (get_or newest i l) ≡ false = ap p (sym at) ∙ (ap (is_in_block pages b) (sym is) ∙ out) in
     let one : i + 1 ≡ suc i = omega arith in
     let more = take_more p newest i l within in
     rw one (more ∙ rw none (omega arith))
 
-adds : (pages : ℕ) (newest : List Latest) (i b : ℕ) (l : Latest) (row : Option ℕ) → i < length newest → l ≡ get_or newest i l → row ≡ place_of l → is_in_block pages b row ≡ true → count_by (λ latest. is_in_block pages b (place_of latest)) (take (i + 1) newest) ≡ count_by (λ latest. is_in_block pages b (place_of latest)) (take i newest) + 1
+adds : (pages : ℕ) (newest : List Newest) (i b : ℕ) (l : Newest) (row : Option ℕ) → i < length newest → l ≡ get_or newest i l → row ≡ place_in l → is_in_block pages b row ≡ true → count_by (λ latest. is_in_block pages b (place_in latest)) (take (i + 1) newest) ≡ count_by (λ latest. is_in_block pages b (place_in latest)) (take i newest) + 1
 adds pages newest i b l row within at is hit =
-    let p : Latest → Bool = λ latest. is_in_block pages b (place_of latest) in
+    let p : Newest → Bool = λ latest. is_in_block pages b (place_in latest) in
     let one_hit : p (get_or newest i l) ≡ true = ap p (sym at) ∙ (ap (is_in_block pages b) (sym is) ∙ hit) in
     let one : i + 1 ≡ suc i = omega arith in
     let more = take_more p newest i l within in
@@ -115,24 +115,24 @@ adds pages newest i b l row within at is hit =
 other_eqb : (m n : ℕ) → m ≢ n → eqb m n ≡ false
 other_eqb m n ne = (elim (eqb m n) as (λ b. (b ≡ true → m ≡ n) → b ≡ false) [ true ↦ λ h. absurd (ne (h refl)) | false ↦ λ h. refl ]) (eqb-true m n)
 
-pub counted_none : (pages : ℕ) (newest : List Latest) (i : ℕ) (counts : List ℕ) (l : Latest) → IsCounted pages newest i counts → i < length newest → l ≡ get_or newest i l → None ≡ place_of l → IsCounted pages newest (i + 1) counts
+pub counted_none : (pages : ℕ) (newest : List Newest) (i : ℕ) (counts : List ℕ) (l : Newest) → IsCounted pages newest i counts → i < length newest → l ≡ get_or newest i l → None ≡ place_in l → IsCounted pages newest (i + 1) counts
 counted_none pages newest i counts l h within at is = record {
   counted = λ b k. h.counted b k ∙ sym (stays pages newest i b l None within at is refl);
   bounded = λ b. let x = h.bounded b in omega arith;
 }
 
-pub counted_past : (pages : ℕ) (newest : List Latest) (i row : ℕ) (counts : List ℕ) (l : Latest) → IsCounted pages newest i counts → i < length newest → l ≡ get_or newest i l → Some row ≡ place_of l → length counts ≤ row / pages → IsCounted pages newest (i + 1) counts
+pub counted_past : (pages : ℕ) (newest : List Newest) (i row : ℕ) (counts : List ℕ) (l : Newest) → IsCounted pages newest i counts → i < length newest → l ≡ get_or newest i l → Some row ≡ place_in l → length counts ≤ row / pages → IsCounted pages newest (i + 1) counts
 counted_past pages newest i row counts l h within at is past = record {
   counted = λ b k. h.counted b k ∙ sym (stays pages newest i b l (Some row) within at is (other_eqb (row / pages) b (λ e. absurd (omega arith))));
   bounded = λ b. let x = h.bounded b in omega arith;
 }
 
-elsewhere : (pages : ℕ) (newest : List Latest) (i row block b : ℕ) (counts : List ℕ) (l : Latest) (n : ℕ) → IsCounted pages newest i counts → i < length newest → l ≡ get_or newest i l → Some row ≡ place_of l → block ≡ row / pages → b ≢ block → b < length counts
-    → get_or (set counts block n) b 0 ≡ count_by (λ latest. is_in_block pages b (place_of latest)) (take (i + 1) newest)
+elsewhere : (pages : ℕ) (newest : List Newest) (i row block b : ℕ) (counts : List ℕ) (l : Newest) (n : ℕ) → IsCounted pages newest i counts → i < length newest → l ≡ get_or newest i l → Some row ≡ place_in l → block ≡ row / pages → b ≢ block → b < length counts
+    → get_or (set counts block n) b 0 ≡ count_by (λ latest. is_in_block pages b (place_in latest)) (take (i + 1) newest)
 elsewhere pages newest i row block b counts l n h within at is place ne k =
     get_or-set_other counts block b n 0 ne ∙ (h.counted b k ∙ sym (stays pages newest i b l (Some row) within at is (other_eqb (row / pages) b (λ e. ne (sym e ∙ sym place)))))
 
-pub counted_set : (pages : ℕ) (newest : List Latest) (i row block : ℕ) (counts : List ℕ) (l : Latest) (n : ℕ) → IsCounted pages newest i counts → i < length newest → l ≡ get_or newest i l → Some row ≡ place_of l → block ≡ row / pages → block < length counts → n ≡ get_or counts block 0 + 1 → IsCounted pages newest (i + 1) (set counts block n)
+pub counted_set : (pages : ℕ) (newest : List Newest) (i row block : ℕ) (counts : List ℕ) (l : Newest) (n : ℕ) → IsCounted pages newest i counts → i < length newest → l ≡ get_or newest i l → Some row ≡ place_in l → block ≡ row / pages → block < length counts → n ≡ get_or counts block 0 + 1 → IsCounted pages newest (i + 1) (set counts block n)
 counted_set pages newest i row block counts l n h within at is place in_counts sum = record {
   counted = λ b k. elim (cases_order b block) [
     | inl same ↦
@@ -149,5 +149,5 @@ counted_set pages newest i row block counts l n h within at is place in_counts s
   ];
 }
 
-pub counts_are : (g : Geometry) (image : Image) (items : List Latest) (counts : List ℕ) → SurveysKeys g image items → length counts ≡ g.blocks → ((b : ℕ) → b < length counts → get_or counts b 0 ≡ count_by (λ latest. is_in_block g.pages b (place_of latest)) items) → AreLiveCounts g image counts
+pub counts_are : (g : Geometry) (image : Image) (items : List Newest) (counts : List ℕ) → SurveysKeys g image items → length counts ≡ g.blocks → ((b : ℕ) → b < length counts → get_or counts b 0 ≡ count_by (λ latest. is_in_block g.pages b (place_in latest)) items) → AreLiveCounts g image counts
 counts_are g image items counts keys size h = record { count = λ b l. h b (omega arith) ∙ live_counted g image items b keys.whole keys.noted }

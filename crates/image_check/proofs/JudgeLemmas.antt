@@ -2,7 +2,7 @@
 use Rattle.std.proofs.Common.{◌≡◌, ℕ, zero, suc, ◌-◌, ◌<◌, ◌≤◌, List, [], Bool, length, get_or, refl, sym, ap, subst, ◌∙◌, inl, inr, arith}
 use Rattle.std.specs.Prelude.{IsPermutation}
 use Rattle.page_layout.specs.declared.geometry.Geometry.{Geometry}
-use Rattle.page_layout.specs.declared.newest.Latest.{Latest}
+use Rattle.image_check.specs.declared.newest.Newest.{Newest}
 use Rattle.page_layout.specs.Geometry.{row_count}
 use Rattle.page_layout.specs.Page.{Image, IsImage}
 use Rattle.page_layout.specs.Array.{marks}
@@ -41,18 +41,18 @@ sorted_of image old new h others moved = record {
   pairs = record { whole = h.whole; moved = subst (λ ps. IsPermutation ps new.pairs.items) h.survey.pairs moved };
 }
 
-pub rows_hold : (g k : Geometry) (capacity : ℕ) (image : Image) (items : List Latest) (c : Claim) (passed : List Bool) → k ≡ g → SurveysKeys g image items → HasPassed (marks image) (row_count g) c.sectors passed
+pub rows_hold : (g k : Geometry) (capacity : ℕ) (image : Image) (items : List Newest) (c : Claim) (passed : List Bool) → k ≡ g → SurveysKeys g image items → HasPassed (marks image) (row_count g) c.sectors passed
     → ((capacity : ℕ) (image : Image) → SurveysKeys k image items → HasPassed (marks image) (row_count k) c.sectors passed → HoldBetween k capacity image c 4 6) → HoldBetween g capacity image c 4 6
 rows_hold g k capacity image items c passed e keys passes h =
     (subst (λ x. (capacity : ℕ) (image : Image) → SurveysKeys x image items → HasPassed (marks image) (row_count x) c.sectors passed → HoldBetween x capacity image c 4 6) e h) capacity image keys passes
 
-pub rows_fail : (g k : Geometry) (capacity : ℕ) (image : Image) (items : List Latest) (c : Claim) (passed : List Bool) (r : Refusal) → k ≡ g → SurveysKeys g image items → HasPassed (marks image) (row_count g) c.sectors passed → AreDistinct (marks image)
+pub rows_fail : (g k : Geometry) (capacity : ℕ) (image : Image) (items : List Newest) (c : Claim) (passed : List Bool) (r : Refusal) → k ≡ g → SurveysKeys g image items → HasPassed (marks image) (row_count g) c.sectors passed → AreDistinct (marks image)
     → ((capacity : ℕ) (image : Image) → SurveysKeys k image items → HasPassed (marks image) (row_count k) c.sectors passed → AreDistinct (marks image) → FailsFrom k capacity image c 4 r) → FailsFrom g capacity image c 4 r
 rows_fail g k capacity image items c passed r e keys passes distinct h =
     (subst (λ x. (capacity : ℕ) (image : Image) → SurveysKeys x image items → HasPassed (marks image) (row_count x) c.sectors passed → AreDistinct (marks image) → FailsFrom x capacity image c 4 r) e h) capacity image keys passes distinct
 
 -- the states that were made are those of the blocks
-pub states_known : (g k : Geometry) (image : Image) (s : Survey) (newest : List Latest) (looks : List Look) (counts given : List ℕ) (rows : List TableRow) (states : List BlockState) → k ≡ g → IsSorted g image s → AreInRange g (marks image) → IsTableOf g image rows → newest ≡ s.newest.items → looks ≡ s.looks.items → given ≡ counts
+pub states_known : (g k : Geometry) (image : Image) (s : Survey) (newest : List Newest) (looks : List Look) (counts given : List ℕ) (rows : List TableRow) (states : List BlockState) → k ≡ g → IsSorted g image s → AreInRange g (marks image) → IsTableOf g image rows → newest ≡ s.newest.items → looks ≡ s.looks.items → given ≡ counts
     → ((image : Image) → SurveysKeys k image newest → AreLiveCounts k image counts)
     → ((g : Geometry) (image : Image) → AreInRange g (marks image) → HasLooks g image (row_count g) looks → IsTableOf g image rows → AreLiveCounts g image given → AreStates g image states) → AreStates g image states
 states_known g k image s newest looks counts given rows states e sorted numbers table same_newest same_looks same_counts live make =
@@ -85,7 +85,7 @@ numbers_any g image h = numbers_of g 0 image (no_claim g) (h (no_claim g))
 pub surveys_of : (g : Geometry) (first now : Flash) (s : Survey) → now ≡ first → IsImage g now.image → IsSurvey g first.image (row_count g) s → Surveys g first.image s
 surveys_of g first now s same whole h = record { whole = sym (ap (λ (f : Flash). length f.image) same) ∙ whole.rows; survey = h }
 
-pub keys_after : (g : Geometry) (image : Image) (s new : Survey) (given : List Latest) → Surveys g image s → new ≡ record s { pairs = new.pairs } → given ≡ new.newest.items → SurveysKeys g image given
+pub keys_after : (g : Geometry) (image : Image) (s new : Survey) (given : List Newest) → Surveys g image s → new ≡ record s { pairs = new.pairs } → given ≡ new.newest.items → SurveysKeys g image given
 keys_after g image s new given h others same =
     subst (λ xs. SurveysKeys g image xs) (sym (same ∙ ap (λ (x : Survey). x.newest.items) others)) (record { whole = h.whole; noted = h.survey.newest })
 
@@ -123,5 +123,5 @@ rising_length n xs h = elim (cases_lt 0 (length xs)) [
   | inr none ↦ omega arith
 ]
 
-pub stale_after : (g : Geometry) (first now : Flash) (newest : List Latest) (stale : List ℕ) → now ≡ first → SurveysKeys g first.image newest → (SurveysKeys g now.image newest → stale ≡ stale_sectors g now.image) → stale ≡ stale_sectors g first.image
+pub stale_after : (g : Geometry) (first now : Flash) (newest : List Newest) (stale : List ℕ) → now ≡ first → SurveysKeys g first.image newest → (SurveysKeys g now.image newest → stale ≡ stale_sectors g now.image) → stale ≡ stale_sectors g first.image
 stale_after g first now newest stale same keys h = (subst (λ (f : Flash). SurveysKeys g f.image newest → stale ≡ stale_sectors g f.image) same h) keys

@@ -1,4 +1,5 @@
 pub mod SectorLemmas
+pub mod TellLemmas
 pub mod SurveyLemmas
 pub mod LookLemmas
 pub mod TableLemmas

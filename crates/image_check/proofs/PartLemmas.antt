@@ -8,8 +8,8 @@ use Rattle.page_layout.specs.declared.geometry.Geometry.{Geometry}
 use Rattle.page_layout.specs.declared.record.Record.{Record}
 use Rattle.page_layout.specs.declared.record.Key.{Key}
 use Rattle.page_layout.specs.declared.record.Key.TheVariants.{Sector, Translation, Table}
-use Rattle.page_layout.specs.declared.newest.Latest.{Latest}
-use Rattle.page_layout.specs.declared.newest.Latest.TheVariants.{Never}
+use Rattle.image_check.specs.declared.newest.Newest.{Newest}
+use Rattle.image_check.specs.Newest.{place_in, blank}
 use Rattle.page_layout.specs.Geometry.{row_count, translation_pages, table_pages}
 use Rattle.page_layout.specs.Greatest.{place_of}
 use Rattle.page_layout.specs.Page.{Image}
@@ -27,6 +27,7 @@ use Rattle.image_check.specs.declared.refusal.Refusal.TheVariants as refusals
 use Rattle.image_check.specs.Survey.{index_of, HasNewest, HasOutside, IsFirstOutside, pair_of, pairs_below, HasPassed, IsPageOf, AreClaimed}
 use Rattle.image_check.specs.Agrees.{AreInRange, AreNewest, IsDirectory}
 use Rattle.image_check.specs.Refused.{IsDirectoryWrong, IsWrong, Numbers, Directory, Sectors}
+use Rattle.image_check.proofs.TellLemmas.{tells_place}
 use Rattle.image_check.proofs.SurveyLemmas.{newest_at}
 
 pub mark_within : (ms : List (Option Record)) (row : ℕ) (r : Record) → get_or ms row None ≡ Some r → row < length ms
@@ -91,40 +92,40 @@ next_needs g image pairs next is h = subst (λ ps. All (λ (p : ℕ × ℕ). p.0
 -- ---- newest rows
 
 -- the row that the survey has for a key is that of its newest page
-pub surveyed_row : (g : Geometry) (image : Image) (items : List Latest) (i : ℕ) (key : Key) (d : Latest) → length image ≡ row_count g → HasNewest g (marks image) (row_count g) items → IsKeyOf g key → i ≡ index_of g key → place_of (get_or items i d) ≡ newest (marks image) key
+pub surveyed_row : (g : Geometry) (image : Image) (items : List Newest) (i : ℕ) (key : Key) (d : Newest) → length image ≡ row_count g → HasNewest g (marks image) (row_count g) items → IsKeyOf g key → i ≡ index_of g key → place_in (get_or items i d) ≡ newest (marks image) key
 surveyed_row g image items i key d whole h within at =
     let rows : row_count g ≡ length (marks image) = sym (length-marks image ∙ whole) in
-    ap place_of (newest_at g (marks image) (row_count g) i items key d h within at ∙ ap (λ n. latest_below (marks image) key n) rows) ∙ sym (latest-newest (marks image) key)
+    tells_place (get_or items i d) (latest_below (marks image) key (row_count g)) (newest_at g (marks image) (row_count g) i items key d h within at) ∙ (ap (λ n. place_of (latest_below (marks image) key n)) rows ∙ sym (latest-newest (marks image) key))
 
 -- each sector's row is that of the survey
-pub sectors_hold : (g : Geometry) (image : Image) (items : List Latest) (rows : List (Option ℕ)) → length image ≡ row_count g → HasNewest g (marks image) (row_count g) items → ((n : ℕ) → n < g.sectors → slice_get rows n ≡ Some (place_of (get_or items n Never))) → AreNewest g image rows
+pub sectors_hold : (g : Geometry) (image : Image) (items : List Newest) (rows : List (Option ℕ)) → length image ≡ row_count g → HasNewest g (marks image) (row_count g) items → ((n : ℕ) → n < g.sectors → slice_get rows n ≡ Some (place_in (get_or items n blank))) → AreNewest g image rows
 sectors_hold g image items rows whole h same = record {
-  newest_is = λ n k. same n k ∙ ap Some (surveyed_row g image items n (Sector n) Never whole h k refl);
+  newest_is = λ n k. same n k ∙ ap Some (surveyed_row g image items n (Sector n) blank whole h k refl);
 }
 
 -- the directory's rows are those of the survey
-pub directory_holds : (g : Geometry) (image : Image) (items : List Latest) (rows : List (Option ℕ)) → length image ≡ row_count g → HasNewest g (marks image) (row_count g) items
-    → ((i : ℕ) → i < translation_pages g + table_pages g → slice_get rows i ≡ Some (place_of (get_or items (g.sectors + i) Never))) → IsDirectory g image rows
+pub directory_holds : (g : Geometry) (image : Image) (items : List Newest) (rows : List (Option ℕ)) → length image ≡ row_count g → HasNewest g (marks image) (row_count g) items
+    → ((i : ℕ) → i < translation_pages g + table_pages g → slice_get rows i ≡ Some (place_in (get_or items (g.sectors + i) blank))) → IsDirectory g image rows
 directory_holds g image items rows whole h same = record {
-  translation = λ t k. same t (omega arith) ∙ ap Some (surveyed_row g image items (g.sectors + t) (Translation t) Never whole h k refl);
-  table = λ u k. same (translation_pages g + u) (omega arith) ∙ ap Some (surveyed_row g image items (g.sectors + (translation_pages g + u)) (Table u) Never whole h k refl);
+  translation = λ t k. same t (omega arith) ∙ ap Some (surveyed_row g image items (g.sectors + t) (Translation t) blank whole h k refl);
+  table = λ u k. same (translation_pages g + u) (omega arith) ∙ ap Some (surveyed_row g image items (g.sectors + (translation_pages g + u)) (Table u) blank whole h k refl);
 }
 
 some_same : (a b : Option ℕ) → Some a ≡ Some b → a ≡ b
 some_same a b e = cc
 
-pub record Surveyed (g : Geometry) (image : Image) (items : List Latest) : Type 0 where
+pub record Surveyed (g : Geometry) (image : Image) (items : List Newest) : Type 0 where
   pub whole : length image ≡ row_count g
   pub noted : HasNewest g (marks image) (row_count g) items
 
 -- a row that differs from the survey's isn't the newest
-pub differs : (g : Geometry) (image : Image) (items : List Latest) (rows : List (Option ℕ)) (place i : ℕ) (key : Key) (d : Latest) (claimed : Option ℕ) → Surveyed g image items → IsKeyOf g key → i ≡ index_of g key → slice_get rows place ≡ Some claimed → place_of (get_or items i d) ≢ claimed → slice_get rows place ≢ Some (newest (marks image) key)
+pub differs : (g : Geometry) (image : Image) (items : List Newest) (rows : List (Option ℕ)) (place i : ℕ) (key : Key) (d : Newest) (claimed : Option ℕ) → Surveyed g image items → IsKeyOf g key → i ≡ index_of g key → slice_get rows place ≡ Some claimed → place_in (get_or items i d) ≢ claimed → slice_get rows place ≢ Some (newest (marks image) key)
 differs g image items rows place i key d claimed h within at is ne e =
     let row = surveyed_row g image items i key d h.whole h.noted within at in
     ne (row ∙ some_same (newest (marks image) key) claimed (sym e ∙ is))
 
 -- the same for a row of the directory
-pub directory_differs : (g : Geometry) (image : Image) (items : List Latest) (rows : List (Option ℕ)) (place i : ℕ) (d : Latest) (claimed : Option ℕ) → Surveyed g image items → place < translation_pages g + table_pages g → i ≡ g.sectors + place → slice_get rows place ≡ Some claimed → place_of (get_or items i d) ≢ claimed → IsDirectoryWrong g image rows place
+pub directory_differs : (g : Geometry) (image : Image) (items : List Newest) (rows : List (Option ℕ)) (place i : ℕ) (d : Newest) (claimed : Option ℕ) → Surveyed g image items → place < translation_pages g + table_pages g → i ≡ g.sectors + place → slice_get rows place ≡ Some claimed → place_in (get_or items i d) ≢ claimed → IsDirectoryWrong g image rows place
 directory_differs g image items rows place i d claimed h within at is ne = elim (cases_lt place (translation_pages g)) [
   | inl below ↦ inl (below, differs g image items rows place i (Translation place) d claimed h below at is ne)
   | inr above ↦
@@ -145,16 +146,16 @@ numbers_wrong g capacity image claim outside row h is =
     }
 
 -- a row of the directory that is the survey's isn't wrong
-directory_right : (g : Geometry) (image : Image) (items : List Latest) (rows : List (Option ℕ)) (place : ℕ) → Surveyed g image items → slice_get rows place ≡ Some (place_of (get_or items (g.sectors + place) Never)) → IsDirectoryWrong g image rows place → ⊥
-directory_right g image items rows place h same (inl w) = w.1 (same ∙ ap Some (surveyed_row g image items (g.sectors + place) (Translation place) Never h.whole h.noted w.0 refl))
-directory_right g image items rows place h same (inr w) = w.3 (same ∙ ap Some (surveyed_row g image items (g.sectors + place) (Table w.0) Never h.whole h.noted w.1 (ap (λ k. g.sectors + k) w.2)))
+directory_right : (g : Geometry) (image : Image) (items : List Newest) (rows : List (Option ℕ)) (place : ℕ) → Surveyed g image items → slice_get rows place ≡ Some (place_in (get_or items (g.sectors + place) blank)) → IsDirectoryWrong g image rows place → ⊥
+directory_right g image items rows place h same (inl w) = w.1 (same ∙ ap Some (surveyed_row g image items (g.sectors + place) (Translation place) blank h.whole h.noted w.0 refl))
+directory_right g image items rows place h same (inr w) = w.3 (same ∙ ap Some (surveyed_row g image items (g.sectors + place) (Table w.0) blank h.whole h.noted w.1 (ap (λ k. g.sectors + k) w.2)))
 
 directory_fails : (g : Geometry) (image : Image) (rows : List (Option ℕ)) (place : ℕ) → IsDirectoryWrong g image rows place → IsDirectory g image rows → ⊥
 directory_fails g image rows place (inl w) all = w.1 (all.translation place w.0)
 directory_fails g image rows place (inr w) all = w.3 (ap (λ k. slice_get rows k) w.2 ∙ all.table w.0 w.1)
 
-pub directory_wrong : (g : Geometry) (capacity : ℕ) (image : Image) (items : List Latest) (c : Claim) (place i : ℕ) (d : Latest) (claimed : Option ℕ) → Surveyed g image items → place < translation_pages g + table_pages g → i ≡ g.sectors + place → slice_get c.directory place ≡ Some claimed → place_of (get_or items i d) ≢ claimed
-    → ((j : ℕ) → j < place → slice_get c.directory j ≡ Some (place_of (get_or items (g.sectors + j) Never))) → IsWrong g capacity image c Directory (refusals.DirectoryWrong place)
+pub directory_wrong : (g : Geometry) (capacity : ℕ) (image : Image) (items : List Newest) (c : Claim) (place i : ℕ) (d : Newest) (claimed : Option ℕ) → Surveyed g image items → place < translation_pages g + table_pages g → i ≡ g.sectors + place → slice_get c.directory place ≡ Some claimed → place_in (get_or items i d) ≢ claimed
+    → ((j : ℕ) → j < place → slice_get c.directory j ≡ Some (place_in (get_or items (g.sectors + j) blank))) → IsWrong g capacity image c Directory (refusals.DirectoryWrong place)
 directory_wrong g capacity image items c place i d claimed h within at is ne earlier =
     let w = directory_differs g image items c.directory place i d claimed h within at is ne in
     record {
@@ -216,8 +217,8 @@ has_newest marks n row distinct h none =
     let e : newest marks (Sector n) ≡ Some found.0 = newest_from marks (Sector n) found.0 found.1 in
     let clash : None ≡ Some found.0 = sym none ∙ e in cc
 
-pub not_newest : (g : Geometry) (capacity : ℕ) (image : Image) (items : List Latest) (c : Claim) (n : ℕ) (d : Latest) (seen claimed : Option ℕ) → Surveyed g image items → AreDistinct (marks image) → AreClaimed (length c.sectors) (marks image) c.sectors → length c.sectors ≡ g.sectors → n < g.sectors → slice_get c.sectors n ≡ Some claimed → seen ≡ place_of (get_or items n d) → seen ≢ claimed
-    → ((m : ℕ) → m < n → slice_get c.sectors m ≡ Some (place_of (get_or items m Never))) → IsWrong g capacity image c Sectors (refusals.NotNewest n (unwrap_or seen 0))
+pub not_newest : (g : Geometry) (capacity : ℕ) (image : Image) (items : List Newest) (c : Claim) (n : ℕ) (d : Newest) (seen claimed : Option ℕ) → Surveyed g image items → AreDistinct (marks image) → AreClaimed (length c.sectors) (marks image) c.sectors → length c.sectors ≡ g.sectors → n < g.sectors → slice_get c.sectors n ≡ Some claimed → seen ≡ place_in (get_or items n d) → seen ≢ claimed
+    → ((m : ℕ) → m < n → slice_get c.sectors m ≡ Some (place_in (get_or items m blank))) → IsWrong g capacity image c Sectors (refusals.NotNewest n (unwrap_or seen 0))
 not_newest g capacity image items c n d seen claimed h distinct claims size within at is ne earlier =
     by_newest (newest (marks image) (Sector n)) seen refl (is ∙ surveyed_row g image items n (Sector n) d h.whole h.noted within refl) claimed ne at
   where
@@ -229,7 +230,7 @@ not_newest g capacity image items c n d seen claimed h distinct claims size with
         within = within;
         newest_is = is;
         claimed = λ e. ne' (let both : Some claim ≡ Some (Some row) = sym at' ∙ e in cc);
-        before = λ m l. earlier m l ∙ ap Some (surveyed_row g image items m (Sector m) Never h.whole h.noted (omega arith) refl);
+        before = λ m l. earlier m l ∙ ap Some (surveyed_row g image items m (Sector m) blank h.whole h.noted (omega arith) refl);
         there = claims;
       };
     }

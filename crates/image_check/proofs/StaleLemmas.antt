@@ -13,10 +13,9 @@ use Rattle.std.proofs.lemmas.List.{get_or_append_left, append_assoc}
 use Rattle.std.proofs.lemmas.Grind.{div_ceil_times}
 use Rattle.page_layout.specs.declared.geometry.Geometry.{Geometry}
 use Rattle.page_layout.specs.declared.record.Key.TheVariants.{Sector, Translation}
-use Rattle.page_layout.specs.declared.newest.Latest.{Latest}
-use Rattle.page_layout.specs.declared.newest.Latest.TheVariants.{Never}
+use Rattle.image_check.specs.declared.newest.Newest.{Newest}
 use Rattle.page_layout.specs.Geometry.{entries, translation_pages}
-use Rattle.page_layout.specs.Greatest.{place_of}
+use Rattle.image_check.specs.Newest.{place_in, blank}
 use Rattle.page_layout.specs.Page.{Image}
 use Rattle.page_layout.specs.Flash.{Flash}
 use Rattle.page_layout.specs.Newest.{newest}
@@ -161,26 +160,26 @@ place_of_sector each t n low high =
 pub record AreEntries (g : Geometry) (image : Image) (t : ℕ) (body : List ℕ) : Type 0 where
   pub entry : (i : ℕ) → i < entries g → entry_at body i ≡ entry_in image i (newest (marks image) (Translation t))
 
-pub entries_are : (g : Geometry) (image : Image) (items : List Latest) (t i : ℕ) (latest d : Latest) (body : List ℕ) → SurveysKeys g image items → t < translation_pages g → i ≡ g.sectors + t → latest ≡ get_or items i d → ((k : ℕ) → k < entries g → entry_at body k ≡ entry_in image k (place_of latest)) → AreEntries g image t body
+pub entries_are : (g : Geometry) (image : Image) (items : List Newest) (t i : ℕ) (latest d : Newest) (body : List ℕ) → SurveysKeys g image items → t < translation_pages g → i ≡ g.sectors + t → latest ≡ get_or items i d → ((k : ℕ) → k < entries g → entry_at body k ≡ entry_in image k (place_in latest)) → AreEntries g image t body
 entries_are g image items t i latest d body keys within at is h = record {
-  entry = λ k l. h k l ∙ ap (entry_in image k) (ap place_of is ∙ surveyed_row g image items i (Translation t) d keys.whole keys.noted within at);
+  entry = λ k l. h k l ∙ ap (entry_in image k) (ap place_in is ∙ surveyed_row g image items i (Translation t) d keys.whole keys.noted within at);
 }
 
 -- the same of a source that keeps its pages
-pub entries_read : (g : Geometry) (first now : Flash) (items : List Latest) (t i : ℕ) (latest d : Latest) (body : List ℕ) → SurveysKeys g first.image items → t < translation_pages g → i ≡ g.sectors + t → latest ≡ get_or items i d → now ≡ first → ((k : ℕ) → k < entries g → entry_at body k ≡ entry_in now.image k (place_of latest)) → AreEntries g first.image t body
+pub entries_read : (g : Geometry) (first now : Flash) (items : List Newest) (t i : ℕ) (latest d : Newest) (body : List ℕ) → SurveysKeys g first.image items → t < translation_pages g → i ≡ g.sectors + t → latest ≡ get_or items i d → now ≡ first → ((k : ℕ) → k < entries g → entry_at body k ≡ entry_in now.image k (place_in latest)) → AreEntries g first.image t body
 entries_read g first now items t i latest d body keys within at is same h =
-    entries_are g first.image items t i latest d body keys within at is (λ k l. h k l ∙ ap (λ (f : Flash). entry_in f.image k (place_of latest)) same)
+    entries_are g first.image items t i latest d body keys within at is (λ k l. h k l ∙ ap (λ (f : Flash). entry_in f.image k (place_in latest)) same)
 
 -- the test of a sector by its page is that by the image
-stale_test : (g : Geometry) (image : Image) (items : List Latest) (t n : ℕ) (body : List ℕ) → SurveysKeys g image items → AreEntries g image t body → t * entries g ≤ n → n < t * entries g + entries g → n < g.sectors
-    → not (same_row (entry_at body (n - t * entries g)) (place_of (get_or items n Never))) ≡ is_stale g image n
+stale_test : (g : Geometry) (image : Image) (items : List Newest) (t n : ℕ) (body : List ℕ) → SurveysKeys g image items → AreEntries g image t body → t * entries g ≤ n → n < t * entries g + entries g → n < g.sectors
+    → not (same_row (entry_at body (n - t * entries g)) (place_in (get_or items n blank))) ≡ is_stale g image n
 unfolding is_stale entry_of
 stale_test g image items t n body keys h low high within =
     let place = place_of_sector (entries g) t n low high in
-    let row : place_of (get_or items n Never) ≡ newest (marks image) (Sector n) = surveyed_row g image items n (Sector n) Never keys.whole keys.noted within refl in
+    let row : place_in (get_or items n blank) ≡ newest (marks image) (Sector n) = surveyed_row g image items n (Sector n) blank keys.whole keys.noted within refl in
     let entry : entry_at body (n - t * entries g) ≡ entry_in image (n % entries g) (newest (marks image) (Translation (n / entries g))) =
     h.entry (n - t * entries g) (omega arith) ∙ (ap (λ i. entry_in image i (newest (marks image) (Translation t))) (sym place.entry) ∙ ap (λ k. entry_in image (n % entries g) (newest (marks image) (Translation k))) (sym place.page)) in
-    ap (λ e. not (same_row e (place_of (get_or items n Never)))) entry ∙ ap (λ r. not (same_row (entry_in image (n % entries g) (newest (marks image) (Translation (n / entries g)))) r)) row
+    ap (λ e. not (same_row e (place_in (get_or items n blank)))) entry ∙ ap (λ r. not (same_row (entry_in image (n % entries g) (newest (marks image) (Translation (n / entries g)))) r)) row
 
 -- ---- all of them
 
@@ -191,13 +190,13 @@ pub record AreStaleBelow (g : Geometry) (image : Image) (n : ℕ) (stale : List 
 pub stale_start : (g : Geometry) (image : Image) (stale : List ℕ) → stale ≡ [] → AreStaleBelow g image 0 stale
 stale_start g image stale e = record { is = e }
 
-pub stale_more : (g : Geometry) (image : Image) (items : List Latest) (t first end : ℕ) (body old new : List ℕ) → SurveysKeys g image items → AreEntries g image t body → first ≡ t * entries g → first ≤ end → end ≤ g.sectors → end ≤ first + entries g → AreStaleBelow g image first old
-    → new ≡ old ++ filter (λ n. not (same_row (entry_at body (n - first)) (place_of (get_or items n Never)))) (range_with_len first (end - first)) → AreStaleBelow g image end new
+pub stale_more : (g : Geometry) (image : Image) (items : List Newest) (t first end : ℕ) (body old new : List ℕ) → SurveysKeys g image items → AreEntries g image t body → first ≡ t * entries g → first ≤ end → end ≤ g.sectors → end ≤ first + entries g → AreStaleBelow g image first old
+    → new ≡ old ++ filter (λ n. not (same_row (entry_at body (n - first)) (place_in (get_or items n blank)))) (range_with_len first (end - first)) → AreStaleBelow g image end new
 stale_more g image items t first end body old new keys h at order within short before is =
-    let p : ℕ → Bool = λ n. not (same_row (entry_at body (n - first)) (place_of (get_or items n Never))) in
+    let p : ℕ → Bool = λ n. not (same_row (entry_at body (n - first)) (place_in (get_or items n blank))) in
     let same : filter p (range_with_len first (end - first)) ≡ filter (is_stale g image) (range_with_len first (end - first)) =
     filter_same p (is_stale g image) first (end - first) (λ k low high.
-    ap (λ (f : ℕ). not (same_row (entry_at body (k - f)) (place_of (get_or items k Never)))) at ∙ stale_test g image items t k body keys h (omega arith) (omega arith) (omega arith)) in
+    ap (λ (f : ℕ). not (same_row (entry_at body (k - f)) (place_in (get_or items k blank)))) at ∙ stale_test g image items t k body keys h (omega arith) (omega arith) (omega arith)) in
     let start : first ≡ 0 + first = omega arith in
     let size : first + (end - first) ≡ end = omega arith in
     let joined : filter (is_stale g image) (range_with_len 0 first) ++ filter (is_stale g image) (range_with_len first (end - first)) ≡ filter (is_stale g image) (range_with_len 0 end) =

@@ -19,7 +19,10 @@ use Rattle.page_layout.proofs.GreatestLemmas.{best-suc}
 use Rattle.page_layout.proofs.NewestLemmas.{sequence_at-none, sequence_at-key, sequence_at-other}
 use Rattle.page_layout.proofs.KeyLemmas.{cases_key}
 use Rattle.std.proofs.Common.{All}
-use Rattle.image_check.specs.Sector.{IsBelow}
+use Rattle.certificate.specs.Spelling.{IsRowOf}
+use Rattle.image_check.specs.declared.newest.Newest.{Newest}
+use Rattle.image_check.specs.Newest.{Tells, place_in, blank}
+use Rattle.image_check.proofs.TellLemmas.{IsNext, tells_place}
 use Rattle.image_check.specs.Survey.{index_of, HasNewest, HasOutside, pair_of, pairs_below, HasPassed}
 
 -- ---- by key
@@ -49,44 +52,46 @@ index_within g (Sector n) h = omega arith
 index_within g (Translation t) h = omega arith
 index_within g (Table u) h = omega arith
 
-pub newest_none : (g : Geometry) (marks : List (Option Record)) (row : ℕ) (items : List Latest) → HasNewest g marks row items → get_or marks row None ≡ None → HasNewest g marks (row + 1) items
+-- what is said of a key stays with a page that is not of it
+still : (g : Geometry) (marks : List (Option Record)) (row : ℕ) (key : Key) (items : List Newest) → Tells (get_or items (index_of g key) blank) (latest_below marks key row) → sequence_at marks key row ≡ None → Tells (get_or items (index_of g key) blank) (latest_below marks key (row + 1))
+still g marks row key items h none = subst (λ l. Tells (get_or items (index_of g key) blank) l) (sym (latest_other marks key row none)) h
+
+pub newest_none : (g : Geometry) (marks : List (Option Record)) (row : ℕ) (items : List Newest) → HasNewest g marks row items → get_or marks row None ≡ None → HasNewest g marks (row + 1) items
 newest_none g marks row items h e = record {
   size = h.size;
-  at = λ key within. h.at key within ∙ sym (latest_other marks key row (sequence_at-none marks key row e));
+  at = λ key within. still g marks row key items (h.at key within) (sequence_at-none marks key row e);
 }
 
-pub newest_outside : (g : Geometry) (marks : List (Option Record)) (row : ℕ) (items : List Latest) (r : Record) → HasNewest g marks row items → get_or marks row None ≡ Some r → (¬ IsKeyOf g (key_of r)) → HasNewest g marks (row + 1) items
+pub newest_outside : (g : Geometry) (marks : List (Option Record)) (row : ℕ) (items : List Newest) (r : Record) → HasNewest g marks row items → get_or marks row None ≡ Some r → (¬ IsKeyOf g (key_of r)) → HasNewest g marks (row + 1) items
 newest_outside g marks row items r h e outside = record {
   size = h.size;
   at = λ key within.
       let ne : key_of r ≢ key = λ same. outside (subst (λ k. IsKeyOf g k) (sym same) within) in
-      h.at key within ∙ sym (latest_other marks key row (sequence_at-other marks key row r e ne));
+      still g marks row key items (h.at key within) (sequence_at-other marks key row r e ne);
 }
 
 -- the key that the page is of
-newest_of_key : (g : Geometry) (marks : List (Option Record)) (row i : ℕ) (items : List Latest) (r : Record) (d : Latest) → HasNewest g marks row items → get_or marks row None ≡ Some r → IsKeyOf g (key_of r) → i ≡ index_of g (key_of r) → i < length items
-    → get_or (set items i (step (get_or items i d) row (Some r.sequence))) (index_of g (key_of r)) Never ≡ latest_below marks (key_of r) (row + 1)
-newest_of_key g marks row i items r d h e within at in_items =
-    let new : Latest = step (get_or items i d) row (Some r.sequence) in
-    let read : get_or items i d ≡ latest_below marks (key_of r) row = get_or_default items i d Never in_items ∙ (ap (λ j. get_or items j Never) at ∙ h.at (key_of r) within) in
-    let first : get_or (set items i new) (index_of g (key_of r)) Never ≡ new = ap (λ j. get_or (set items i new) j Never) (sym at) ∙ get_or-set_same items i new Never in_items in
-    let second : new ≡ step (latest_below marks (key_of r) row) row (Some r.sequence) = ap (λ l. step l row (Some r.sequence)) read in
-    let third : step (latest_below marks (key_of r) row) row (Some r.sequence) ≡ latest_below marks (key_of r) (row + 1) = sym (latest_more marks (key_of r) row ∙ ap (step (latest_below marks (key_of r) row) row) (sequence_at-key marks row r e)) in
-    first ∙ second ∙ third
+newest_of_key : (g : Geometry) (marks : List (Option Record)) (row i : ℕ) (items : List Newest) (r : Record) (d new : Newest) → HasNewest g marks row items → get_or marks row None ≡ Some r → IsKeyOf g (key_of r) → i ≡ index_of g (key_of r) → i < length items → IsNext (get_or items i d) row r.sequence new
+    → Tells (get_or (set items i new) (index_of g (key_of r)) blank) (latest_below marks (key_of r) (row + 1))
+newest_of_key g marks row i items r d new h e within at in_items next =
+    let old : Latest = latest_below marks (key_of r) row in
+    let read : get_or items i d ≡ get_or items (index_of g (key_of r)) blank = get_or_default items i d blank in_items ∙ ap (λ j. get_or items j blank) at in
+    let told : Tells new (step old row (Some r.sequence)) = next old (subst (λ x. Tells x old) (sym read) (h.at (key_of r) within)) in
+    let here : get_or (set items i new) (index_of g (key_of r)) blank ≡ new = ap (λ j. get_or (set items i new) j blank) (sym at) ∙ get_or-set_same items i new blank in_items in
+    let more : step old row (Some r.sequence) ≡ latest_below marks (key_of r) (row + 1) = sym (latest_more marks (key_of r) row ∙ ap (step old row) (sequence_at-key marks row r e)) in
+    subst (λ l. Tells (get_or (set items i new) (index_of g (key_of r)) blank) l) more (subst (λ x. Tells x (step old row (Some r.sequence))) (sym here) told)
 
-pub newest_set : (g : Geometry) (marks : List (Option Record)) (row i : ℕ) (items : List Latest) (r : Record) (d : Latest) → HasNewest g marks row items → get_or marks row None ≡ Some r → IsKeyOf g (key_of r) → i ≡ index_of g (key_of r)
-    → HasNewest g marks (row + 1) (set items i (step (get_or items i d) row (Some r.sequence)))
-newest_set g marks row i items r d h e within at =
+pub newest_set : (g : Geometry) (marks : List (Option Record)) (row i : ℕ) (items : List Newest) (r : Record) (d new : Newest) → HasNewest g marks row items → get_or marks row None ≡ Some r → IsKeyOf g (key_of r) → i ≡ index_of g (key_of r) → IsNext (get_or items i d) row r.sequence new → HasNewest g marks (row + 1) (set items i new)
+newest_set g marks row i items r d new h e within at next =
     let in_items : i < length items = omega (arith, index_within g (key_of r) within, h.size, at) in
-    let new : Latest = step (get_or items i d) row (Some r.sequence) in
     record {
       size = length-set items i new ∙ h.size;
       at = λ key k.
           elim (cases_key (key_of r) key) [
-            | inl same ↦ subst (λ (x : Key). get_or (set items i new) (index_of g x) Never ≡ latest_below marks x (row + 1)) same (newest_of_key g marks row i items r d h e within at in_items)
+            | inl same ↦ subst (λ (x : Key). Tells (get_or (set items i new) (index_of g x) blank) (latest_below marks x (row + 1))) same (newest_of_key g marks row i items r d new h e within at in_items next)
             | inr ne ↦
                 let apart : index_of g key ≢ i = λ eq. index_apart g (key_of r) key within k ne (sym at ∙ sym eq) in
-                get_or-set_other items i (index_of g key) new Never apart ∙ (h.at key k ∙ sym (latest_other marks key row (sequence_at-other marks key row r e ne)))
+                still g marks row key (set items i new) (subst (λ x. Tells x (latest_below marks key row)) (sym (get_or-set_other items i (index_of g key) new blank apart)) (h.at key k)) (sequence_at-other marks key row r e ne)
           ];
     }
 
@@ -110,10 +115,10 @@ pub outside_found : (g : Geometry) (marks : List (Option Record)) (row : ℕ) (x
 outside_found g marks row x h e outside = record { at = record { found = x; here = e; outside = outside }; before = h }
 
 -- what the item of a key says
-pub newest_at : (g : Geometry) (marks : List (Option Record)) (rows i : ℕ) (items : List Latest) (key : Key) (d : Latest) → HasNewest g marks rows items → IsKeyOf g key → i ≡ index_of g key → get_or items i d ≡ latest_below marks key rows
+pub newest_at : (g : Geometry) (marks : List (Option Record)) (rows i : ℕ) (items : List Newest) (key : Key) (d : Newest) → HasNewest g marks rows items → IsKeyOf g key → i ≡ index_of g key → Tells (get_or items i d) (latest_below marks key rows)
 newest_at g marks rows i items key d h within at =
     let in_items : i < length items = omega (arith, index_within g key within, h.size, at) in
-    get_or_default items i d Never in_items ∙ (ap (λ j. get_or items j Never) at ∙ h.at key within)
+    subst (λ x. Tells x (latest_below marks key rows)) (sym (get_or_default items i d blank in_items ∙ ap (λ j. get_or items j blank) at)) (h.at key within)
 
 -- ---- sequences
 
@@ -131,10 +136,12 @@ pub latest_start : (ms : List (Option Record)) (key : Key) → latest_below ms k
 unfolding latest_below best
 latest_start ms key = refl
 
-pub newest_start : (g : Geometry) (ms : List (Option Record)) (items : List Latest) → items ≡ replicate (key_count g) Never → HasNewest g ms 0 items
-newest_start g ms items e = record {
-  size = ap length e ∙ length-replicate (key_count g) Never;
-  at = λ key within. ap (λ xs. get_or xs (index_of g key) Never) e ∙ (get_or-replicate (key_count g) (index_of g key) Never Never (index_within g key within) ∙ sym (latest_start ms key));
+pub newest_start : (g : Geometry) (ms : List (Option Record)) (items : List Newest) (x : Newest) → Tells x Never → items ≡ replicate (key_count g) x → HasNewest g ms 0 items
+newest_start g ms items x none e = record {
+  size = ap length e ∙ length-replicate (key_count g) x;
+  at = λ key within.
+      let here : get_or items (index_of g key) blank ≡ x = ap (λ xs. get_or xs (index_of g key) blank) e ∙ get_or-replicate (key_count g) (index_of g key) x blank (index_within g key within) in
+      subst (λ l. Tells (get_or items (index_of g key) blank) l) (sym (latest_start ms key)) (subst (λ y. Tells y Never) (sym here) none);
 }
 
 pub outside_start : (g : Geometry) (ms : List (Option Record)) → HasOutside g ms 0 None
@@ -215,5 +222,7 @@ none_claimed ms row sector claims r claim e of_key claimed ne n at =
 
 -- ---- rows
 
-pub below_start : (n : ℕ) → All (λ l. IsBelow 0 l) (replicate n Never)
-below_start n k d l = let e : get_or (replicate n Never) k d ≡ Never = get_or-replicate n k Never d (omega (arith, length-replicate n Never)) in subst (λ x. IsBelow 0 x) (sym e) tt
+pub below_start : (n : ℕ) (x : Newest) → Tells x Never → All (λ y. IsRowOf 0 (place_in y)) (replicate n x)
+below_start n x none k d l =
+    let e : get_or (replicate n x) k d ≡ x = get_or-replicate n k x d (omega (arith, length-replicate n x)) in
+    subst (λ y. IsRowOf 0 (place_in y)) (sym e) (subst (λ o. IsRowOf 0 o) (sym (tells_place x Never none)) tt)

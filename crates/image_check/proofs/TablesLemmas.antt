@@ -14,8 +14,8 @@ use Rattle.page_layout.specs.declared.geometry.Geometry.{Geometry}
 use Rattle.page_layout.specs.declared.record.Key.{Key}
 use Rattle.page_layout.specs.declared.record.Key.TheVariants.{Table}
 use Rattle.page_layout.specs.declared.record.Record.{Record}
-use Rattle.page_layout.specs.declared.newest.Latest.{Latest}
-use Rattle.page_layout.specs.declared.newest.Latest.TheVariants.{Never}
+use Rattle.image_check.specs.declared.newest.Newest.{Newest}
+use Rattle.image_check.specs.Newest.{place_in, blank}
 use Rattle.page_layout.specs.Geometry.{entries, translation_pages, table_pages, row_count}
 use Rattle.page_layout.specs.Greatest.{place_of}
 use Rattle.page_layout.specs.Limits.{IsDataSize}
@@ -42,32 +42,32 @@ use Rattle.image_check.proofs.PartLemmas.{surveyed_row}
 -- ---- whether there are all of them
 
 -- the first n table pages have newest pages
-pub record AreThere (g : Geometry) (items : List Latest) (n : ℕ) : Type 0 where
-  pub each : (u : ℕ) → u < n → (row : ℕ) × (place_of (get_or items (g.sectors + (translation_pages g + u)) Never) ≡ Some row)
+pub record AreThere (g : Geometry) (items : List Newest) (n : ℕ) : Type 0 where
+  pub each : (u : ℕ) → u < n → (row : ℕ) × (place_in (get_or items (g.sectors + (translation_pages g + u)) blank) ≡ Some row)
 
-pub there_start : (g : Geometry) (items : List Latest) → AreThere g items 0
+pub there_start : (g : Geometry) (items : List Newest) → AreThere g items 0
 there_start g items = record { each = λ u l. absurd (omega arith) }
 
 some_of : (o : Option ℕ) → (o ≡ None → ⊥) → (row : ℕ) × (o ≡ Some row)
 some_of None h = absurd (h refl)
 some_of (Some row) h = (row, refl)
 
-pub there_more : (g : Geometry) (items : List Latest) (n i : ℕ) (d : Latest) → AreThere g items n → i ≡ g.sectors + (translation_pages g + n) → i < length items → (place_of (get_or items i d) ≡ None → ⊥) → AreThere g items (n + 1)
+pub there_more : (g : Geometry) (items : List Newest) (n i : ℕ) (d : Newest) → AreThere g items n → i ≡ g.sectors + (translation_pages g + n) → i < length items → (place_in (get_or items i d) ≡ None → ⊥) → AreThere g items (n + 1)
 there_more g items n i d h at within some = record {
   each = λ u l. elim (cases_order u n) [
     | inl same ↦
-        let here = some_of (place_of (get_or items i d)) some in
+        let here = some_of (place_in (get_or items i d)) some in
         let place : i ≡ g.sectors + (translation_pages g + u) = at ∙ ap (λ k. g.sectors + (translation_pages g + k)) (sym same) in
-        (here.0, ap place_of (ap (λ j. get_or items j Never) (sym place) ∙ get_or_default items i Never d within) ∙ here.1)
+        (here.0, ap place_in (ap (λ j. get_or items j blank) (sym place) ∙ get_or_default items i blank d within) ∙ here.1)
     | inr (inl below) ↦ h.each u below
     | inr (inr above) ↦ absurd (omega arith)
   ];
 }
 
-pub formatted_of : (g : Geometry) (image : Image) (items : List Latest) (u : ℕ) → AreThere g items (table_pages g) → SurveysKeys g image items → u < table_pages g → HasNewestTable image u
+pub formatted_of : (g : Geometry) (image : Image) (items : List Newest) (u : ℕ) → AreThere g items (table_pages g) → SurveysKeys g image items → u < table_pages g → HasNewestTable image u
 formatted_of g image items u h keys within =
     let e = h.each u within in
-    record { row = e.0; newest_is = sym (surveyed_row g image items (g.sectors + (translation_pages g + u)) (Table u) Never keys.whole keys.noted within refl) ∙ e.1 }
+    record { row = e.0; newest_is = sym (surveyed_row g image items (g.sectors + (translation_pages g + u)) (Table u) blank keys.whole keys.noted within refl) ∙ e.1 }
 
 -- under distinct sequences a key with no newest page has no sound page
 none_newest : (marks : List (Option Record)) (key : Key) → AreDistinct marks → newest marks key ≡ None → (row : ℕ) → sequence_at marks key row ≡ None
@@ -80,7 +80,7 @@ none_newest marks key distinct none row = by_sequence (sequence_at marks key row
         let some : IsSome (newest marks key) = subst (λ k. IsSome (newest marks k)) its.of_key (newest_some marks row its.its distinct its.is) in
         absurd (let clash : false ≡ true = sym (ap is_some none) ∙ some in cc)
 
-pub unformatted_of : (g : Geometry) (image : Image) (items : List Latest) (u i : ℕ) (d : Latest) → SurveysKeys g image items → u < table_pages g → i ≡ g.sectors + (translation_pages g + u) → place_of (get_or items i d) ≡ None → AreDistinct (marks image) → IsUnformatted g image
+pub unformatted_of : (g : Geometry) (image : Image) (items : List Newest) (u i : ℕ) (d : Newest) → SurveysKeys g image items → u < table_pages g → i ≡ g.sectors + (translation_pages g + u) → place_in (get_or items i d) ≡ None → AreDistinct (marks image) → IsUnformatted g image
 unformatted_of g image items u i d keys within at none distinct = record {
   page = u;
   within = within;
@@ -102,7 +102,7 @@ unfolding table_body
 table_is image u row e = ap (body_in image) e
 
 -- what the survey keeps of a table page is the page
-pub body_kept : (g : Geometry) (image : Image) (items : List Latest) (bytes : List ℕ) (u at size : ℕ) (body : List ℕ) → SurveysTables g image items bytes → HasNewestTable image u → u < table_pages g → at ≡ u * g.data_bytes → size ≡ g.data_bytes → body ≡ slice_range bytes at (at + size) → at + size ≤ length bytes → IsBodyOf g image u body
+pub body_kept : (g : Geometry) (image : Image) (items : List Newest) (bytes : List ℕ) (u at size : ℕ) (body : List ℕ) → SurveysTables g image items bytes → HasNewestTable image u → u < table_pages g → at ≡ u * g.data_bytes → size ≡ g.data_bytes → body ≡ slice_range bytes at (at + size) → at + size ≤ length bytes → IsBodyOf g image u body
 unfolding table_body
 body_kept g image items bytes u at size body h formatted within place is_size is room = record {
   same = λ i l.
@@ -248,7 +248,7 @@ row_some (Some row) b e t f = absurd cc
 pub data_size : (g : Geometry) (n : ℕ) → n ≡ g.data_bytes → IsDataSize n
 data_size g n e = subst IsDataSize (sym e) g.limits.data_size
 
-pub keys_of : (g : Geometry) (image : Image) (items given : List Latest) (bytes : List ℕ) → SurveysTables g image items bytes → given ≡ items → SurveysKeys g image given
+pub keys_of : (g : Geometry) (image : Image) (items given : List Newest) (bytes : List ℕ) → SurveysTables g image items bytes → given ≡ items → SurveysKeys g image given
 keys_of g image items given bytes h e = subst (λ xs. SurveysKeys g image xs) (sym e) (record { whole = h.whole; noted = h.noted })
 
 pub room_of : (u pages at size each total : ℕ) → u < pages → at ≡ u * each → size ≤ each → total ≡ pages * each → at + size ≤ total

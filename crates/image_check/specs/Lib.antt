@@ -4,6 +4,7 @@ pub mod Stale
 pub mod Agrees
 pub mod Mountable
 pub mod Names
+pub mod Newest
 pub mod Survey
 pub mod Pairs
 pub mod Surveyed

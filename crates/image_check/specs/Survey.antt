@@ -6,8 +6,6 @@ use Rattle.page_layout.specs.declared.geometry.Geometry.{Geometry}
 use Rattle.page_layout.specs.declared.record.Record.{Record}
 use Rattle.page_layout.specs.declared.record.Key.{Key}
 use Rattle.page_layout.specs.declared.record.Key.TheVariants.{Sector, Translation, Table}
-use Rattle.page_layout.specs.declared.newest.Latest.{Latest}
-use Rattle.page_layout.specs.declared.newest.Latest.TheVariants.{Never}
 use Rattle.page_layout.specs.Greatest.{place_of}
 use Rattle.page_layout.specs.Geometry.{translation_pages, table_pages, key_count}
 use Rattle.page_layout.specs.Page.{Page, Image, body_at}
@@ -18,6 +16,8 @@ use Rattle.page_layout.specs.Live.{IsKeyOf, live}
 use Rattle.page_layout.specs.Array.{marks}
 use Rattle.page_layout.specs.Block.{block_pages, is_broken, has_gap, written, wear_in, top_wear, has_data_kind, begins_data, sequence_in, last_sequence}
 use Rattle.image_check.specs.declared.look.Look.{Look}
+use Rattle.image_check.specs.declared.newest.Newest.{Newest}
+use Rattle.image_check.specs.Newest.{Tells, blank}
 
 -- ---- by key
 
@@ -28,9 +28,9 @@ index_of g (Translation t) = g.sectors + t
 index_of g (Table u) = g.sectors + (translation_pages g + u)
 
 -- what the first rows say of the newest page of each key
-pub record HasNewest (g : Geometry) (marks : List (Option Record)) (rows : ℕ) (items : List Latest) : Type 0 where
+pub record HasNewest (g : Geometry) (marks : List (Option Record)) (rows : ℕ) (items : List Newest) : Type 0 where
   pub size : length items ≡ key_count g
-  pub at : (key : Key) → IsKeyOf g key → get_or items (index_of g key) Never ≡ latest_below marks key rows
+  pub at : (key : Key) → IsKeyOf g key → Tells (get_or items (index_of g key) blank) (latest_below marks key rows)
 
 -- ---- numbers
 

@@ -1,5 +1,4 @@
 //! What is noted of each page as it passes.
-ghost use Rattle.page_layout.specs.Greatest.{place_of};
 ghost use Rattle.std.specs.Prelude.{◌≡◌, ◌≢◌, true, false, ℕ, ◌+◌, ◌*◌, ◌<◌, ◌≤◌, ◌++◌, List, All, length, get_or, slice_get, MatchOption, Option};
 ghost use Rattle.std.specs.Prelude.{Some, None, vec_len, vec_capacity};
 ghost use Rattle.page_layout.specs.declared.record.Record.{Record};
@@ -8,14 +7,15 @@ ghost use Rattle.page_layout.specs.Geometry.{key_count, row_count, table_pages};
 ghost use Rattle.page_layout.specs.Sound.{record_of, is_erased_page};
 ghost use Rattle.page_layout.specs.Live.{IsKeyOf};
 ghost use Rattle.page_layout.specs.Array.{marks};
-ghost use Rattle.image_check.specs.Sector.{IsBelow};
+ghost use Rattle.certificate.specs.Spelling.{IsRowOf};
+ghost use Rattle.image_check.specs.Newest.{place_in};
 ghost use Rattle.image_check.specs.Survey.{index_of, HasNewest, HasOutside, pair_of, HasPassed, HasLooks, HasTableBytes};
 
 use crate::look::Look;
+use crate::newest::Newest;
 use crate::parts::same_row;
 use certificate::Certificate;
 use page_layout::geometry::Geometry;
-use page_layout::newest::Latest;
 use page_layout::record::{Key, Record};
 
 // The place of a key, where its number is in range.
@@ -36,20 +36,21 @@ pub(crate) fn index_of(geometry: &Geometry, key: Key) -> Option<usize>
 #[tactic(auto, using(crate::proofs::SurveyLemmas::newest_none, crate::proofs::SurveyLemmas::newest_outside, crate::proofs::SurveyLemmas::newest_set))]
 pub(crate) fn note_newest(
     geometry: &Geometry,
-    newest: &mut [Latest],
+    newest: &mut [Newest],
     row: u32,
     found: Option<Record>,
 )
+    requires row_in { row < row_count geometry.now }
     requires size { length newest.old ≡ key_count geometry.now }
-    requires within { All (λ latest. IsBelow row latest) newest.old }
+    requires within { All (λ x. IsRowOf row (place_in x)) newest.old }
     ensures newest { (ms : List (Option Record)) → HasNewest geometry.now ms row newest.old → get_or ms row None ≡ found → HasNewest geometry.now ms (row + 1) newest.new }
-    ensures within { All (λ latest. IsBelow (row + 1) latest) newest.new }
+    ensures within { All (λ x. IsRowOf (row + 1) (place_in x)) newest.new }
 {
     let Some(found) = found else {
         return;
     };
     if let Some(index) = index_of(geometry, found.key()) {
-        newest[index] = newest[index].step(row, Some(found.sequence));
+        newest[index] = newest[index].step(row, found.sequence);
     }
 }
 
@@ -126,22 +127,11 @@ pub(crate) fn note_look(
     *look = look.step(page == 0, erased, found);
 }
 
-// Whether the row holds the newest page.
-fn is_newest(latest: Latest, row: u32) -> bool
-    ensures yes { result ≡ true → place_of latest ≡ Some row }
-    ensures no { result ≡ false → place_of latest ≢ Some row }
-{
-    match latest {
-        Latest::Once(place, _) => place == row,
-        _ => false,
-    }
-}
-
 // Keeps the data area of a table page that is the newest of its key so far.
 pub(crate) fn note_table(
     geometry: &Geometry,
     tables: &mut [u8],
-    newest: &[Latest],
+    newest: &[Newest],
     row: u32,
     found: Option<Record>,
     body: &[u8],
@@ -161,7 +151,7 @@ pub(crate) fn note_table(
     let Some(index) = index_of(geometry, key) else {
         return;
     };
-    if is_newest(newest[index], row) {
+    if same_row(newest[index].row(), Some(row)) {
         let data_bytes = geometry.data_bytes();
         let at = number as usize * data_bytes;
         tables[at..at + data_bytes].copy_from_slice(body);

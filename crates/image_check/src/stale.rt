@@ -3,28 +3,27 @@ ghost use Rattle.std.specs.Prelude.{◌≡◌, ◌≢◌, true, Err, ℕ, ◌+�
 ghost use Rattle.std.specs.List.{range_with_len};
 ghost use Rattle.page_layout.specs.Counter.{HasRisen};
 ghost use Rattle.page_layout.specs.Geometry.{row_count, key_count, entries, translation_pages};
-ghost use Rattle.page_layout.specs.Greatest.{place_of};
 ghost use Rattle.page_layout.specs.Page.{Image, IsImage};
-ghost use Rattle.page_layout.specs.declared.newest.Latest.TheVariants.{Never};
+ghost use Rattle.certificate.specs.Spelling.{IsRowOf};
 ghost use Rattle.translation_pages.specs.TranslationPage.{entry_at};
-ghost use Rattle.image_check.specs.Sector.{IsBelow};
+ghost use Rattle.image_check.specs.Newest.{place_in, blank};
 ghost use Rattle.translation_pages.specs.Entry.{entry_in};
 ghost use Rattle.image_check.specs.Stale.{same_row, stale_sectors};
 ghost use Rattle.image_check.specs.Surveyed.{SurveysKeys};
 ghost use Rattle.image_check.specs.Refused.{IsStop};
 ghost use Rattle.image_check.specs.Rising.{IsRisingBelow};
 
+use crate::newest::Newest;
 use crate::parts::same_row;
 use crate::refusal::Refusal;
 use page_layout::geometry::Geometry;
-use page_layout::newest::Latest;
 use page_layout::source::{PageSource, SourceFault};
 use std::alloc::AllocError;
 use translation_pages::entry;
 
 // Notes which sectors from `first` up to `end` differ from their entries in this translation page.
 fn note_stale(
-    newest: &[Latest],
+    newest: &[Newest],
     first: u32,
     end: u32,
     page: &[u8],
@@ -33,7 +32,7 @@ fn note_stale(
     requires order { first ≤ end }
     requires sectors { end ≤ length newest.now }
     requires entries { 4 * (end - first) ≤ length page.now }
-    ensures noted { OnOk result (stale.new.items ≡ stale.old.items ++ filter (λ n. not (same_row (entry_at page.now (n - first)) (place_of (get_or newest.now n Never)))) (range_with_len first (end - first))) }
+    ensures noted { OnOk result (stale.new.items ≡ stale.old.items ++ filter (λ n. not (same_row (entry_at page.now (n - first)) (place_in (get_or newest.now n blank)))) (range_with_len first (end - first))) }
     ensures rising { OnOk result (IsRisingBelow first stale.old.items → IsRisingBelow end stale.new.items) }
 {
     for sector in first..end {
@@ -49,15 +48,15 @@ fn note_stale(
 fn read_translation<S: PageSource>(
     source: &mut S,
     geometry: &Geometry,
-    latest: Latest,
+    latest: Newest,
     body: &mut [u8],
     spare: &mut [u8],
 ) -> Result<(), SourceFault>
     requires same_geometry { (S.flash source.old).geometry ≡ geometry.now }
-    requires within { IsBelow (row_count geometry.now) latest }
+    requires within { IsRowOf (row_count geometry.now) (place_in latest) }
     requires body_whole { length body.old ≡ geometry.now.data_bytes }
     requires spare_whole { length spare.old ≡ geometry.now.spare_bytes }
-    ensures entries { OnOk result (S.honest source.old ≡ true → (i : ℕ) → i < entries geometry.now → entry_at body.new i ≡ entry_in (S.flash source.old).image i (place_of latest)) }
+    ensures entries { OnOk result (S.honest source.old ≡ true → (i : ℕ) → i < entries geometry.now → entry_at body.new i ≡ entry_in (S.flash source.old).image i (place_in latest)) }
     ensures same { OnOk result (S.honest source.old ≡ true → S.flash source.new ≡ S.flash source.old) }
     ensures geometry { (S.flash source.new).geometry ≡ (S.flash source.old).geometry }
     ensures honest { S.honest source.new ≡ S.honest source.old }
@@ -85,14 +84,14 @@ fn read_translation<S: PageSource>(
 pub fn find_stale<S: PageSource>(
     source: &mut S,
     geometry: &Geometry,
-    newest: &[Latest],
+    newest: &[Newest],
     body: &mut [u8],
     spare: &mut [u8],
     stale: &mut Vec<u32>,
 ) -> Result<(), Refusal>
     requires same_geometry { (S.flash source.old).geometry ≡ geometry.now }
     requires newest { length newest.now ≡ key_count geometry.now }
-    requires within { All (λ latest. IsBelow (row_count geometry.now) latest) newest.now }
+    requires within { All (λ x. IsRowOf (row_count geometry.now) (place_in x)) newest.now }
     requires body_whole { length body.old ≡ geometry.now.data_bytes }
     requires spare_whole { length spare.old ≡ geometry.now.spare_bytes }
     requires empty { stale.old.items ≡ [] }

@@ -1,8 +1,8 @@
 //! What one pass over the pages of a die shows, fed page by page.
 use crate::look::Look;
+use crate::newest::Newest;
 use crate::notes::{note_look, note_newest, note_number, note_sequence, note_table};
 use page_layout::geometry::Geometry;
-use page_layout::newest::Latest;
 use page_layout::record::{Record, is_erased, read_record};
 use std::alloc::{AllocError, Global};
 
@@ -12,7 +12,7 @@ pub struct Survey {
     pub(crate) geometry: Geometry,
     /// What is known of the newest page of each key: of the sectors, then of the translation pages, then of the table
     /// pages.
-    pub newest: Vec<Latest>,
+    pub newest: Vec<Newest>,
     // a row whose number is out of range
     pub(crate) outside: Option<u32>,
     /// The sequence and the row of each sound page.
@@ -40,7 +40,7 @@ impl Survey {
         let table_bytes = geometry.table_pages() as usize * geometry.data_bytes();
         Ok(Survey {
             geometry: *geometry,
-            newest: vec![in alloc; Latest::Never; keys as usize]?,
+            newest: vec![in alloc; Newest::never(); keys as usize]?,
             outside: None,
             pairs: Vec::with_capacity(alloc, geometry.rows() as usize)?,
             looks: vec![in alloc; Look::unseen(); geometry.blocks() as usize]?,

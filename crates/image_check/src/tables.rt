@@ -11,14 +11,14 @@ ghost use Rattle.image_check.specs.Agrees.{HasNewestTable, HasTables};
 ghost use Rattle.image_check.specs.Surveyed.{SurveysKeys, SurveysTables};
 ghost use Rattle.image_check.specs.Refused.{IsUnformatted, IsWrong, Tables, IsJudgement, IsOfImage};
 
+use crate::newest::Newest;
 use crate::refusal::Refusal;
 use crate::survey::Survey;
 use bad_blocks::{Table, read_table_page};
 use page_layout::geometry::Geometry;
-use page_layout::newest::Latest;
 
 // Whether each table page has a newest page. It has none where it has no sound page, or where two share its greatest sequence.
-fn is_formatted(geometry: &Geometry, newest: &[Latest]) -> bool
+fn is_formatted(geometry: &Geometry, newest: &[Newest]) -> bool
     requires { length newest.now ≡ key_count geometry.now }
     ensures yes { result ≡ true → (image : Image) → SurveysKeys geometry.now image newest.now → (u : ℕ) → u < table_pages geometry.now → HasNewestTable image u }
     ensures no { result ≡ false → (image : Image) → SurveysKeys geometry.now image newest.now → AreDistinct (marks image) → IsUnformatted geometry.now image }

@@ -5,25 +5,18 @@ use Rattle.std.proofs.Math.Nat.{mul-le-mul}
 use Rattle.std.proofs.lemmas.Bool.{eqb-true}
 use Rattle.std.proofs.lemmas.Option.{get_or_from_slice_get}
 use Rattle.page_layout.specs.declared.geometry.Geometry.{Geometry}
-use Rattle.page_layout.specs.declared.newest.Latest.{Latest}
-use Rattle.page_layout.specs.declared.newest.Latest.TheVariants.{Never, Once, Tied}
 use Rattle.page_layout.specs.Geometry.{row_count}
-use Rattle.page_layout.specs.Greatest.{place_of}
 use Rattle.page_layout.specs.Word.{no_row, row_of_word, word_of_row}
 use Rattle.certificate.specs.Parts.{IsRowWord}
 use Rattle.certificate.specs.Spelling.{IsRowOf}
-use Rattle.image_check.specs.Sector.{IsBelow}
+use Rattle.image_check.specs.declared.newest.Newest.{Newest}
+use Rattle.image_check.specs.Newest.{place_in, blank}
 use Rattle.mount.specs.Shown.{HasWords}
 
 few_rows : (g : Geometry) → row_count g < no_row
 few_rows g =
     let most : g.blocks * g.pages ≤ 4096 * 256 = mul-le-mul g.limits.block_count.most g.limits.page_count.most in
     omega arith
-
-place_below : (rows : ℕ) (latest : Latest) → IsBelow rows latest → IsRowOf rows (place_of latest)
-place_below rows Never h = tt
-place_below rows (Once row t) h = h
-place_below rows (Tied a b t) h = tt
 
 -- a row's word is read back
 word_read : (rows : ℕ) (o : Option ℕ) → rows < no_row → IsRowOf rows o → row_of_word (word_of_row o) ≡ o
@@ -38,22 +31,22 @@ slice_get-map f [] i x e = absurd cc
 slice_get-map f (y ∷ ys) zero x e = let same : y ≡ x = cc in ap (λ z. Some (f z)) same
 slice_get-map f (y ∷ ys) (suc i) x e = slice_get-map f ys i x e
 
-row_below : (g : Geometry) (newest : List Latest) (i : ℕ) → All (λ latest. IsBelow (row_count g) latest) newest → i < length newest → IsRowOf (row_count g) (place_of (get_or newest i Never))
-row_below g newest i within l = place_below (row_count g) (get_or newest i Never) (within i Never l)
+row_below : (g : Geometry) (newest : List Newest) (i : ℕ) → All (λ x. IsRowOf (row_count g) (place_in x)) newest → i < length newest → IsRowOf (row_count g) (place_in (get_or newest i blank))
+row_below g newest i within l = within i blank l
 
 -- the row that a word stands for is that of the key's newest page
-pub row_told : (g : Geometry) (newest : List Latest) (first n : ℕ) (words : List ℕ) (i : ℕ) → HasWords newest first n words → All (λ latest. IsBelow (row_count g) latest) newest → first + n ≤ length newest → i < n → slice_get (map row_of_word words) i ≡ Some (place_of (get_or newest (first + i) Never))
+pub row_told : (g : Geometry) (newest : List Newest) (first n : ℕ) (words : List ℕ) (i : ℕ) → HasWords newest first n words → All (λ x. IsRowOf (row_count g) (place_in x)) newest → first + n ≤ length newest → i < n → slice_get (map row_of_word words) i ≡ Some (place_in (get_or newest (first + i) blank))
 row_told g newest first n words i h within room l =
     let few = few_rows g in
-    slice_get-map row_of_word words i _ (h.word i l) ∙ ap Some (word_read (row_count g) (place_of (get_or newest (first + i) Never)) few (row_below g newest (first + i) within (omega arith)))
+    slice_get-map row_of_word words i _ (h.word i l) ∙ ap Some (word_read (row_count g) (place_in (get_or newest (first + i) blank)) few (row_below g newest (first + i) within (omega arith)))
 
 -- each word is that of a row, or of none
-pub words_fit : (g : Geometry) (newest : List Latest) (first n : ℕ) (words : List ℕ) → HasWords newest first n words → All (λ latest. IsBelow (row_count g) latest) newest → first + n ≤ length newest → All (IsRowWord (row_count g)) words
+pub words_fit : (g : Geometry) (newest : List Newest) (first n : ℕ) (words : List ℕ) → HasWords newest first n words → All (λ x. IsRowOf (row_count g) (place_in x)) newest → first + n ≤ length newest → All (IsRowWord (row_count g)) words
 words_fit g newest first n words h within room = λ k d l.
     let size = h.size in
     let few = few_rows g in
     let at = first + k in
-    let row = place_of (get_or newest at Never) in
+    let row = place_in (get_or newest at blank) in
     let is : get_or words k d ≡ word_of_row row = get_or_from_slice_get words k (word_of_row row) d (h.word k (omega arith)) in
     let below : IsRowOf (row_count g) row = row_below g newest at within (omega arith) in
     subst (IsRowWord (row_count g)) (sym is) (subst (IsRowOf (row_count g)) (sym (word_read (row_count g) row few below)) below)

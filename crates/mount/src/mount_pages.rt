@@ -13,16 +13,15 @@ ghost use Rattle.mount.specs.Mounted.{IsNextSequence, IsSpent, Refuses, IsOfMoun
 ghost use Rattle.mount.specs.Shown.{IsShownSized, IsShown};
 
 use certificate::BlockState;
-use image_check::{Refusal, Survey, describe_blocks};
+use image_check::{Newest, Refusal, Survey, describe_blocks};
 use page_layout::geometry::Geometry;
-use page_layout::newest::Latest;
 use page_layout::source::PageSource;
 use std::alloc::Global;
 
 #[derive(Drop)]
 pub(crate) struct Shown {
     // for each key what is known of its newest page
-    pub(crate) newest: Vec<Latest>,
+    pub(crate) newest: Vec<Newest>,
     pub(crate) blocks: Vec<BlockState>,
     // the sequence that the next program takes
     pub(crate) next: u64,

@@ -9,4 +9,4 @@ returns-in-Some-index_of-clause-newest c = λ ms h e.
     let both = c.in-Some-index_of.ensures in
     let g = c.args.geometry.now in
     let within = subst (λ k. IsKeyOf g k) c.key.ensures both.0 in
-    rw c.step.ensures (newest_set g ms c.args.row c.in-Some-index_of.index c.args.newest.now c.in-Some.found _ h (e ∙ c.in-Some.is) within (both.1 ∙ ap (index_of g) c.key.ensures))
+    newest_set g ms c.args.row c.in-Some-index_of.index c.args.newest.now c.in-Some.found _ _ h (e ∙ c.in-Some.is) within (both.1 ∙ ap (index_of g) c.key.ensures) c.step.ensures.next

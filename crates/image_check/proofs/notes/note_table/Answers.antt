@@ -1,8 +1,9 @@
-use Rattle.std.proofs.Common.{◌+◌, length, ap, sym, subst, ◌∙◌}
+use Rattle.std.proofs.Common.{◌+◌, [], length, get_or, ap, sym, subst, ◌∙◌}
 use Rattle.page_layout.specs.declared.record.Key.TheVariants.{Table}
 use Rattle.page_layout.specs.Live.{IsKeyOf}
 use Rattle.page_layout.specs.Array.{marks}
-use Rattle.page_layout.specs.Greatest.{place_of}
+use Rattle.page_layout.specs.Newest.{latest_below}
+use Rattle.image_check.proofs.TellLemmas.{tells_place}
 use Rattle.image_check.proofs.SurveyLemmas.{newest_at}
 use Rattle.image_check.proofs.TableLemmas.{table_stays, table_old, table_new, none_unsound, none_other, none_beside}
 use Rattle.image_check.proofs.notes.note_table.Goals as goal
@@ -18,22 +19,24 @@ returns-in_default-index_of c = λ image p h n is e b.
     let g = c.args.geometry.now in
     table_stays g image c.args.row c.args.tables.now h (λ u k. none_other image c.args.row p c.in-Some.found c.key-key.result is (sym c.in-Some.is ∙ e) c.key-key.ensures u (λ x. c.in_default-index_of.ensures (subst (λ y. IsKeyOf g y) (sym x ∙ c.in-Table.is) k)))
 
-pub returns-then-is_newest : goal.returns-then-is_newest
-returns-then-is_newest c = λ image p h n is e b.
+pub returns-then-same_row : goal.returns-then-same_row
+returns-then-same_row c = λ image p h n is e b.
     let g = c.args.geometry.now in
     let v = c.in-Table.number in
-    let at = newest_at g (marks image) (c.args.row + 1) c.in-Some-index_of.index c.args.newest.now (Table v) _ n c.in-Some-index_of.ensures.0 c.in-Some-index_of.ensures.1 in
+    let at = newest_at g (marks image) (c.args.row + 1) c.in-Some-index_of.index c.args.newest.now (Table v) (record { row = 0; sequence = [] }) n c.in-Some-index_of.ensures.0 c.in-Some-index_of.ensures.1 in
+    let told = tells_place (get_or c.args.newest.now c.in-Some-index_of.index (record { row = 0; sequence = [] })) (latest_below (marks image) (Table v) (c.args.row + 1)) at in
     rw c.data_bytes-data_bytes.ensures (
     table_new g image c.args.row v c.args.tables.now c.copy_from_slice.new.self p h c.in-Some-index_of.ensures.0
     (none_beside image c.args.row p c.in-Some.found c.key-key.result v is (sym c.in-Some.is ∙ e) c.key-key.ensures c.in-Table.is)
-    (ap place_of (sym at) ∙ c.is_newest.ensures.yes c.if-is_newest.true) is (c.copy_from_slice.ensures.after ∙ b) (ap length c.copy_from_slice.ensures.after ∙ c.requires.body_whole)
+    (sym told ∙ (sym c.row.ensures ∙ c.same_row.ensures.yes c.if-same_row.true)) is (c.copy_from_slice.ensures.after ∙ b) (ap length c.copy_from_slice.ensures.after ∙ c.requires.body_whole)
     )
 
-pub returns-else-is_newest : goal.returns-else-is_newest
-returns-else-is_newest c = λ image p h n is e b.
+pub returns-else-same_row : goal.returns-else-same_row
+returns-else-same_row c = λ image p h n is e b.
     let g = c.args.geometry.now in
     let v = c.in-Table.number in
-    let at = newest_at g (marks image) (c.args.row + 1) c.in-Some-index_of.index c.args.newest.now (Table v) _ n c.in-Some-index_of.ensures.0 c.in-Some-index_of.ensures.1 in
+    let at = newest_at g (marks image) (c.args.row + 1) c.in-Some-index_of.index c.args.newest.now (Table v) (record { row = 0; sequence = [] }) n c.in-Some-index_of.ensures.0 c.in-Some-index_of.ensures.1 in
+    let told = tells_place (get_or c.args.newest.now c.in-Some-index_of.index (record { row = 0; sequence = [] })) (latest_below (marks image) (Table v) (c.args.row + 1)) at in
     table_old g image c.args.row v c.args.tables.now h
     (none_beside image c.args.row p c.in-Some.found c.key-key.result v is (sym c.in-Some.is ∙ e) c.key-key.ensures c.in-Table.is)
-    (λ x. c.is_newest.ensures.no c.if-is_newest.false (ap place_of at ∙ x))
+    (λ x. c.same_row.ensures.no c.if-same_row.false (c.row.ensures ∙ (told ∙ x)))
