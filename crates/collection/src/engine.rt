@@ -38,8 +38,8 @@ pub struct Buffer {
 /// used for.
 ///
 /// Contracts see the memory as a `Ram`, and the die by its `Flash`. Once a `put`, `write_back`,
-/// `make_room`, `write_sector` or `trim_sector` was refused, each of these answers the same fault ever
-/// after.
+/// `collect`, `make_room`, `rescue_one`, `write_sector`, `trim_sector` or `write_table` was refused,
+/// each of these answers the same fault ever after.
 ///
 /// Source: the DFTL paper, for the directory, the cached mapping table and the two streams; the rest
 /// is this project's.

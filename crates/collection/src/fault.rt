@@ -4,10 +4,10 @@ ghost use Rattle.collection.specs.Faults.{number_of};
 
 use thiserror::Error;
 
-/// Why a call of the engine was refused. The first fault of a `put`, `write_back`, `make_room`,
-/// `write_sector` or `trim_sector` stands: each of these answers it again from then on, and asks
-/// nothing of the die. `row_of_sector`, `read_sector` and `cache_sector` neither note a fault nor heed
-/// the one that stands. (This project.)
+/// Why a call of the engine was refused. The first fault of a `put`, `write_back`, `collect`,
+/// `make_room`, `rescue_one`, `write_sector`, `trim_sector` or `write_table` stands: each of these
+/// answers it again from then on, and asks nothing of the die. `row_of_sector`, `read_sector` and
+/// `cache_sector` neither note a fault nor heed the one that stands. (This project.)
 #[derive(Clone, Copy, Debug, PartialEq, Eq, Error)]
 pub enum WriteFault {
     /// There are too few free blocks.

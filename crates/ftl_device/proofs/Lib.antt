@@ -23,3 +23,5 @@ pub mod AcceptedLemmas
 pub mod RoomLemmas
 pub mod PrepareLemmas
 pub mod SpentLemmas
+pub mod EndLemmas
+pub mod ChangeLemmas

@@ -1,5 +1,5 @@
 //! A sector is made ready: its entry is cached before anything of it is programmed.
-ghost use Rattle.std.specs.Prelude.{◌≡◌, ◌≢◌, ℕ, ◌<◌, ◌≤◌, true, length, Some, None, Ok, Err, IfOk, IfErr, IsSome, OnOk, OnErr, MatchResult};
+ghost use Rattle.std.specs.Prelude.{◌≡◌, ◌≢◌, ℕ, ◌<◌, ◌≤◌, true, length, Some, None, Ok, Err, IfOk, IfErr, IsSome, OnOk, MatchResult};
 ghost use Rattle.std.specs.Option.{ForSome};
 ghost use Rattle.std.specs.Map.{keys_of};
 ghost use Rattle.page_layout.specs.Counter.{HasRisen};
@@ -15,13 +15,14 @@ ghost use Rattle.collection.specs.Settle.{HasNoMore};
 ghost use Rattle.collection.specs.Looks.{FindsRow, IsReadFault};
 ghost use Rattle.collection.specs.Results.{IsSame, Refused, fault_after};
 ghost use Rattle.collection.specs.Collect.{KeepsKeys, RestsOrErases, IsRearranged, RoomRefused, RoomCounts};
-ghost use Rattle.ftl_device.specs.Calls.{Tells, IsFound, CallTells, standing_after, KeepsArray, HoldsSector, CallRefused, IsMostRecent, HasMadeRoom};
-ghost use Rattle.ftl_device.specs.Calls.{HasMadePlace, IsReady, HasCost, order_after};
+ghost use Rattle.ftl_device.specs.Calls.{Tells, IsFound, KeepsArray, HoldsSector, CallRefused, HasMadeRoom};
+ghost use Rattle.ftl_device.specs.Calls.{HasMadePlace, IsReady, HasCost};
 ghost use Rattle.budget.specs.Spending.{IsFunded};
 ghost use Rattle.allocation.specs.Counts.{counts_of};
 ghost use Rattle.ftl_device.specs.Flush.{KeepsClean};
 ghost use Rattle.ftl_device.specs.Read.{IsLookedUp};
-ghost use Rattle.ftl_device.specs.Shortage.{HasFunds, PlaceCosts, RoomCosts, CallRoomCosts};
+ghost use Rattle.ftl_device.specs.Shortage.{HasFunds, PlaceCosts, RoomCosts};
+ghost use Rattle.ftl_device.specs.Changes.{Ends, Readies, HasLookedUp};
 
 use crate::fault::CallFault;
 use collection::{Engine, WriteFault};
@@ -167,28 +168,11 @@ fn make_ready<N: Nand>(engine: &mut Engine<N>, sector: u32) -> Result<(), CallFa
     requires going { engine.old.fault ≡ None }
     requires idle { IsIdle (ram engine.old) }
     requires sector { sector < engine.old.geometry.sectors }
-    ensures safe { IsSafe N.flash engine.new }
-    ensures fault { engine.new.fault ≡ standing_after result }
-    ensures geometry { engine.new.geometry ≡ engine.old.geometry }
-    ensures honest { N.honest engine.new.nand ≡ N.honest engine.old.nand }
-    ensures calm { N.calm engine.new.nand ≡ N.calm engine.old.nand }
-    ensures failed { N.failed engine.old.nand ≤ N.failed engine.new.nand }
-    ensures rose { result ≡ Err (CallFault.Engine WriteFault.Bus) → HasRisen (N.failed engine.old.nand) (N.failed engine.new.nand) }
+    ensures ends { Ends N.flash N.honest N.calm N.failed engine.old result engine.new }
+    ensures readies { Readies N.flash N.honest sector 1 engine.old result engine.new }
     ensures holds { OnOk result (IsSome (slot_of engine.new.mapping sector)) }
-    ensures recent { OnOk result (IsMostRecent sector engine.new.mapping) }
     ensures checked { OnOk result (IsLookedUp sector (ram engine.new) (page_in engine.new.scratch)) }
-    ensures keys { OnOk result (keys_of engine.new.mapping.cached ≡ order_after engine.old.mapping sector) }
     ensures cost { OnOk result (IsReady sector (ram engine.old) (ram engine.new)) }
-    ensures unwritten { result ≡ Err CallFault.OutOfMemory → IsReady sector (ram engine.old) (ram engine.new) }
-    ensures same_keys { result ≡ Err CallFault.OutOfMemory → keys_of engine.new.mapping.cached ≡ keys_of engine.old.mapping.cached }
-    ensures cached { IsSome (slot_of engine.old.mapping sector) → result ≢ Err CallFault.OutOfMemory }
-    ensures limits { HasLimitsOf engine.old.mapping engine.new.mapping }
-    ensures idle { engine.new.fault ≡ None → IsIdle (ram engine.new) }
-    ensures costs { CallRoomCosts (HasFunds (N.honest engine.old.nand) (ram engine.old) (image_in N.flash engine.old)) 1
-        (ram engine.old) (ram engine.new) result }
-    ensures tells { CallTells (ram engine.old) (ram engine.new) result }
-    ensures went { N.honest engine.old.nand ≡ true → result ≢ Err (CallFault.Engine WriteFault.Bus) →
-        Went (ram engine.old) (N.flash engine.old.nand) (ram engine.new) (N.flash engine.new.nand) }
     ensures truth { N.honest engine.old.nand ≡ true → IsTrue None (ram engine.old) (image_in N.flash engine.old) →
         MatchResult result
         (λ _. KeepsArray engine.old.geometry (image_in N.flash engine.old) (ram engine.new) (image_in N.flash engine.new))
@@ -210,26 +194,10 @@ pub(crate) fn write_ready<N: Nand>(
     requires idle { IsIdle (ram engine.old) }
     requires sector { sector < engine.old.geometry.sectors }
     requires body { length body.now ≡ engine.old.geometry.data_bytes }
-    ensures safe { IsSafe N.flash engine.new }
-    ensures fault { engine.new.fault ≡ standing_after result }
-    ensures geometry { engine.new.geometry ≡ engine.old.geometry }
-    ensures honest { N.honest engine.new.nand ≡ N.honest engine.old.nand }
-    ensures calm { N.calm engine.new.nand ≡ N.calm engine.old.nand }
-    ensures failed { N.failed engine.old.nand ≤ N.failed engine.new.nand }
-    ensures rose { result ≡ Err (CallFault.Engine WriteFault.Bus) → HasRisen (N.failed engine.old.nand) (N.failed engine.new.nand) }
-    ensures recent { OnOk result (IsMostRecent sector engine.new.mapping) }
-    ensures keys { OnOk result (keys_of engine.new.mapping.cached ≡ order_after engine.old.mapping sector) }
+    ensures ends { Ends N.flash N.honest N.calm N.failed engine.old result engine.new }
+    ensures readies { Readies N.flash N.honest sector 2 engine.old result engine.new }
     ensures cost { OnOk result (HasCost sector (ram engine.old) (ram engine.new)) }
-    ensures unwritten { result ≡ Err CallFault.OutOfMemory → IsReady sector (ram engine.old) (ram engine.new) }
-    ensures same_keys { result ≡ Err CallFault.OutOfMemory → keys_of engine.new.mapping.cached ≡ keys_of engine.old.mapping.cached }
-    ensures cached { IsSome (slot_of engine.old.mapping sector) → result ≢ Err CallFault.OutOfMemory }
-    ensures limits { HasLimitsOf engine.old.mapping engine.new.mapping }
-    ensures idle { engine.new.fault ≡ None → IsIdle (ram engine.new) }
-    ensures costs { CallRoomCosts (HasFunds (N.honest engine.old.nand) (ram engine.old) (image_in N.flash engine.old)) 2
-        (ram engine.old) (ram engine.new) result }
-    ensures tells { CallTells (ram engine.old) (ram engine.new) result }
-    ensures went { N.honest engine.old.nand ≡ true → result ≢ Err (CallFault.Engine WriteFault.Bus) →
-        Went (ram engine.old) (N.flash engine.old.nand) (ram engine.new) (N.flash engine.new.nand) }
+    ensures checked { OnOk result (HasLookedUp sector (ram engine.old) (ram engine.new) (page_in engine.new.scratch)) }
     ensures truth { N.honest engine.old.nand ≡ true → IsTrue None (ram engine.old) (image_in N.flash engine.old) →
         MatchResult result
         (λ _. HoldsSector engine.old.geometry sector body.now (image_in N.flash engine.old) (ram engine.new) (image_in N.flash engine.new))
@@ -246,26 +214,10 @@ pub(crate) fn trim_ready<N: Nand>(engine: &mut Engine<N>, sector: u32) -> Result
     requires going { engine.old.fault ≡ None }
     requires idle { IsIdle (ram engine.old) }
     requires sector { sector < engine.old.geometry.sectors }
-    ensures safe { IsSafe N.flash engine.new }
-    ensures fault { engine.new.fault ≡ standing_after result }
-    ensures geometry { engine.new.geometry ≡ engine.old.geometry }
-    ensures honest { N.honest engine.new.nand ≡ N.honest engine.old.nand }
-    ensures calm { N.calm engine.new.nand ≡ N.calm engine.old.nand }
-    ensures failed { N.failed engine.old.nand ≤ N.failed engine.new.nand }
-    ensures rose { result ≡ Err (CallFault.Engine WriteFault.Bus) → HasRisen (N.failed engine.old.nand) (N.failed engine.new.nand) }
-    ensures recent { OnOk result (IsMostRecent sector engine.new.mapping) }
-    ensures keys { OnOk result (keys_of engine.new.mapping.cached ≡ order_after engine.old.mapping sector) }
+    ensures ends { Ends N.flash N.honest N.calm N.failed engine.old result engine.new }
+    ensures readies { Readies N.flash N.honest sector 2 engine.old result engine.new }
     ensures cost { OnOk result (HasCost sector (ram engine.old) (ram engine.new)) }
-    ensures unwritten { result ≡ Err CallFault.OutOfMemory → IsReady sector (ram engine.old) (ram engine.new) }
-    ensures same_keys { result ≡ Err CallFault.OutOfMemory → keys_of engine.new.mapping.cached ≡ keys_of engine.old.mapping.cached }
-    ensures cached { IsSome (slot_of engine.old.mapping sector) → result ≢ Err CallFault.OutOfMemory }
-    ensures limits { HasLimitsOf engine.old.mapping engine.new.mapping }
-    ensures idle { engine.new.fault ≡ None → IsIdle (ram engine.new) }
-    ensures costs { CallRoomCosts (HasFunds (N.honest engine.old.nand) (ram engine.old) (image_in N.flash engine.old)) 2
-        (ram engine.old) (ram engine.new) result }
-    ensures tells { CallTells (ram engine.old) (ram engine.new) result }
-    ensures went { N.honest engine.old.nand ≡ true → result ≢ Err (CallFault.Engine WriteFault.Bus) →
-        Went (ram engine.old) (N.flash engine.old.nand) (ram engine.new) (N.flash engine.new.nand) }
+    ensures checked { OnOk result (HasLookedUp sector (ram engine.old) (ram engine.new) (page_in engine.new.scratch)) }
     ensures truth { N.honest engine.old.nand ≡ true → IsTrue None (ram engine.old) (image_in N.flash engine.old) →
         MatchResult result
         (λ _. HoldsSector engine.old.geometry sector (zeros engine.old.geometry) (image_in N.flash engine.old) (ram engine.new) (image_in N.flash engine.new))

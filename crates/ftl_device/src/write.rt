@@ -1,22 +1,14 @@
 //! Sectors are written and trimmed.
-ghost use Rattle.std.specs.Prelude.{◌≡◌, ◌≢◌, ◌↔◌, ◌+◌, ◌-◌, ◌<◌, ◌≤◌, ◌^◌, true, false, [], length, Ok, Err, Some, None, IsOk, IfErr, IsSome, OnOk};
+ghost use Rattle.std.specs.Prelude.{◌≡◌, ◌-◌, ◌<◌, ◌≤◌, ◌^◌, length, Ok, Err, Some, None, IsOk, IfErr, OnOk};
 ghost use Rattle.std.specs.Prelude.{MatchOption};
-ghost use Rattle.std.specs.Option.{ForSome};
-ghost use Rattle.std.specs.Map.{keys_of};
-ghost use Rattle.page_layout.specs.Counter.{HasRisen};
 ghost use Rattle.page_layout.specs.Geometry.{need};
 ghost use Rattle.bad_blocks.specs.Table.{good_count};
-ghost use Rattle.mapping_cache.specs.Mapping.{HasLimitsOf, slot_of};
 ghost use Rattle.allocation.specs.State.{free_count};
-ghost use Rattle.promises.specs.Step.{ArrayStep, Write, Trim};
-ghost use Rattle.image_check.specs.Stale.{is_stale};
-ghost use Rattle.image_check.specs.Mountable.{IsMountable};
-ghost use Rattle.collection.specs.Safe.{IsSafe, IsIdle, ram, image_in};
-ghost use Rattle.collection.specs.Log.{Went};
+ghost use Rattle.promises.specs.Step.{Write, Trim};
+ghost use Rattle.collection.specs.Safe.{IsSafe, IsIdle, ram};
 ghost use Rattle.ftl_device.specs.Device.{IsDevice};
-ghost use Rattle.ftl_device.specs.Calls.{state_in, reply_of, stop_of, IsWell, Says, CallTells, standing_after, MayChange, MayNot, answer_of};
-ghost use Rattle.ftl_device.specs.Calls.{IsMostRecent, IsReady, HasCost, order_after};
-ghost use Rattle.ftl_device.specs.Counts.{is_bad_by, IsShown, IsLeft};
+ghost use Rattle.ftl_device.specs.Calls.{stop_of, standing_after, MayChange, MayNot, answer_of};
+ghost use Rattle.ftl_device.specs.Changes.{Changes};
 
 use crate::device::Device;
 use crate::fault::{CallFault, DeviceFault};
@@ -142,53 +134,7 @@ impl<N: Nand> Device<N> {
         requires body { length body.now ≡ self.old.engine.geometry.data_bytes }
         ensures device { IsDevice N.flash self.new }
         ensures geometry { self.new.engine.geometry ≡ self.old.engine.geometry }
-        ensures limits { HasLimitsOf self.old.engine.mapping self.new.engine.mapping }
-        ensures honest { N.honest self.new.engine.nand ≡ N.honest self.old.engine.nand }
-        ensures calm { N.calm self.new.engine.nand ≡ N.calm self.old.engine.nand }
-        ensures failed { N.failed self.old.engine.nand ≤ N.failed self.new.engine.nand }
-
-        // When it is refused, whatever the die does.
-        ensures stopped { ForSome (stop_of self.old.engine.fault) (λ fault. (result ≡ Err fault) × (self.new ≡ self.old)) }
-        ensures past { stop_of self.old.engine.fault ≡ None → (result ≡ Err DeviceFault.OutOfRange) ↔ (self.old.engine.geometry.sectors ≤ sector) }
-        ensures untouched { result ≡ Err DeviceFault.OutOfRange → self.new ≡ self.old }
-        ensures closed { self.old.read_only ≡ true → self.new ≡ self.old }
-        ensures read_only { stop_of self.old.engine.fault ≡ None → sector < self.old.engine.geometry.sectors → self.old.read_only ≡ true →
-            result ≡ Err (DeviceFault.ReadOnly (good_count (ram self.old.engine).blocks.table) (need self.old.engine.geometry) 0) }
-        ensures spent { stop_of self.old.engine.fault ≡ None → sector < self.old.engine.geometry.sectors → self.old.read_only ≡ false →
-            self.old.engine.next ≡ 2 ^ 64 - 1 → (result ≡ Err DeviceFault.SequenceSpent) × (self.new ≡ self.old) }
-        ensures says { IfErr result (Says (ram self.old.engine) (ram self.new.engine)) }
-        ensures rose { stop_of self.old.engine.fault ≡ None → result ≡ Err DeviceFault.BusFault →
-            HasRisen (N.failed self.old.engine.nand) (N.failed self.new.engine.nand) }
-        ensures standing { ForSome (stop_of self.new.engine.fault) (λ fault. result ≡ Err fault) }
-        ensures cached { IsSome (slot_of self.old.engine.mapping sector) → result ≢ Err DeviceFault.OutOfMemory }
-
-        // What it programs, and which sectors it leaves cached, whatever the die does.
-        ensures recent { OnOk result (IsMostRecent sector self.new.engine.mapping) }
-        ensures keys { OnOk result (keys_of self.new.engine.mapping.cached ≡ order_after self.old.engine.mapping sector) }
-        ensures cost { OnOk result (HasCost sector (ram self.old.engine) (ram self.new.engine)) }
-        ensures unwritten { result ≡ Err DeviceFault.OutOfMemory → IsReady sector (ram self.old.engine) (ram self.new.engine) }
-        ensures same_keys { result ≡ Err DeviceFault.OutOfMemory →
-            keys_of self.new.engine.mapping.cached ≡ keys_of self.old.engine.mapping.cached }
-
-        // What is true of an honest die.
-        ensures went { N.honest self.old.engine.nand ≡ true → result ≢ Err DeviceFault.BusFault →
-            Went (ram self.old.engine) (N.flash self.old.engine.nand) (ram self.new.engine) (N.flash self.new.engine.nand) }
-        ensures step { N.honest self.old.engine.nand ≡ true → IsWell N.flash self.old → result ≢ Err DeviceFault.BusFault →
-            ArrayStep self.old.engine.geometry (state_in N.flash self.old) (Write sector body.now) (reply_of result) (state_in N.flash self.new) }
-        ensures well { N.honest self.old.engine.nand ≡ true → IsWell N.flash self.old → result ≢ Err DeviceFault.BusFault →
-            IsWell N.flash self.new }
-        ensures stale { N.honest self.old.engine.nand ≡ true → IsWell N.flash self.old →
-            is_stale self.old.engine.geometry (image_in N.flash self.old.engine) sector ≡ true → result ≢ Err DeviceFault.OutOfMemory }
-        ensures shown { N.honest self.old.engine.nand ≡ true → IsWell N.flash self.old → result ≢ Err DeviceFault.BusFault →
-            (w : Went (ram self.old.engine) (N.flash self.old.engine.nand) (ram self.new.engine) (N.flash self.new.engine.nand)) →
-            IfErr result (IsShown self.old.engine.geometry (is_bad_by (ram self.old.engine)) self.old.engine.next [] w.log self.old.read_only (image_in N.flash self.new.engine)) }
-        ensures left { N.honest self.old.engine.nand ≡ true → IsWell N.flash self.old → result ≢ Err DeviceFault.BusFault →
-            (w : Went (ram self.old.engine) (N.flash self.old.engine.nand) (ram self.new.engine) (N.flash self.new.engine.nand)) →
-            self.new.read_only ≡ true →
-            IsLeft (Write sector body.now) self.old.engine.geometry (is_bad_by (ram self.old.engine)) [] w.log self.old.read_only result }
-        ensures mountable { N.honest self.old.engine.nand ≡ true → IsWell N.flash self.old → result ≢ Err DeviceFault.BusFault →
-            self.old.engine.mapping.capacity + self.old.engine.geometry.pages ≤ 65536 →
-            IsMountable self.old.engine.geometry (self.old.engine.mapping.capacity + self.old.engine.geometry.pages) (image_in N.flash self.new.engine) }
+        ensures changes { Changes N.flash N.honest N.calm N.failed sector (Write sector body.now) self.old result self.new }
     {
         self.may_change(sector)?;
         let good = self.engine.blocks.good();
@@ -208,53 +154,7 @@ impl<N: Nand> Device<N> {
         requires device { IsDevice N.flash self.old }
         ensures device { IsDevice N.flash self.new }
         ensures geometry { self.new.engine.geometry ≡ self.old.engine.geometry }
-        ensures limits { HasLimitsOf self.old.engine.mapping self.new.engine.mapping }
-        ensures honest { N.honest self.new.engine.nand ≡ N.honest self.old.engine.nand }
-        ensures calm { N.calm self.new.engine.nand ≡ N.calm self.old.engine.nand }
-        ensures failed { N.failed self.old.engine.nand ≤ N.failed self.new.engine.nand }
-
-        // When it is refused, whatever the die does.
-        ensures stopped { ForSome (stop_of self.old.engine.fault) (λ fault. (result ≡ Err fault) × (self.new ≡ self.old)) }
-        ensures past { stop_of self.old.engine.fault ≡ None → (result ≡ Err DeviceFault.OutOfRange) ↔ (self.old.engine.geometry.sectors ≤ sector) }
-        ensures untouched { result ≡ Err DeviceFault.OutOfRange → self.new ≡ self.old }
-        ensures closed { self.old.read_only ≡ true → self.new ≡ self.old }
-        ensures read_only { stop_of self.old.engine.fault ≡ None → sector < self.old.engine.geometry.sectors → self.old.read_only ≡ true →
-            result ≡ Err (DeviceFault.ReadOnly (good_count (ram self.old.engine).blocks.table) (need self.old.engine.geometry) 0) }
-        ensures spent { stop_of self.old.engine.fault ≡ None → sector < self.old.engine.geometry.sectors → self.old.read_only ≡ false →
-            self.old.engine.next ≡ 2 ^ 64 - 1 → (result ≡ Err DeviceFault.SequenceSpent) × (self.new ≡ self.old) }
-        ensures says { IfErr result (Says (ram self.old.engine) (ram self.new.engine)) }
-        ensures rose { stop_of self.old.engine.fault ≡ None → result ≡ Err DeviceFault.BusFault →
-            HasRisen (N.failed self.old.engine.nand) (N.failed self.new.engine.nand) }
-        ensures standing { ForSome (stop_of self.new.engine.fault) (λ fault. result ≡ Err fault) }
-        ensures cached { IsSome (slot_of self.old.engine.mapping sector) → result ≢ Err DeviceFault.OutOfMemory }
-
-        // What it programs, and which sectors it leaves cached, whatever the die does.
-        ensures recent { OnOk result (IsMostRecent sector self.new.engine.mapping) }
-        ensures keys { OnOk result (keys_of self.new.engine.mapping.cached ≡ order_after self.old.engine.mapping sector) }
-        ensures cost { OnOk result (HasCost sector (ram self.old.engine) (ram self.new.engine)) }
-        ensures unwritten { result ≡ Err DeviceFault.OutOfMemory → IsReady sector (ram self.old.engine) (ram self.new.engine) }
-        ensures same_keys { result ≡ Err DeviceFault.OutOfMemory →
-            keys_of self.new.engine.mapping.cached ≡ keys_of self.old.engine.mapping.cached }
-
-        // What is true of an honest die.
-        ensures went { N.honest self.old.engine.nand ≡ true → result ≢ Err DeviceFault.BusFault →
-            Went (ram self.old.engine) (N.flash self.old.engine.nand) (ram self.new.engine) (N.flash self.new.engine.nand) }
-        ensures step { N.honest self.old.engine.nand ≡ true → IsWell N.flash self.old → result ≢ Err DeviceFault.BusFault →
-            ArrayStep self.old.engine.geometry (state_in N.flash self.old) (Trim sector) (reply_of result) (state_in N.flash self.new) }
-        ensures well { N.honest self.old.engine.nand ≡ true → IsWell N.flash self.old → result ≢ Err DeviceFault.BusFault →
-            IsWell N.flash self.new }
-        ensures stale { N.honest self.old.engine.nand ≡ true → IsWell N.flash self.old →
-            is_stale self.old.engine.geometry (image_in N.flash self.old.engine) sector ≡ true → result ≢ Err DeviceFault.OutOfMemory }
-        ensures shown { N.honest self.old.engine.nand ≡ true → IsWell N.flash self.old → result ≢ Err DeviceFault.BusFault →
-            (w : Went (ram self.old.engine) (N.flash self.old.engine.nand) (ram self.new.engine) (N.flash self.new.engine.nand)) →
-            IfErr result (IsShown self.old.engine.geometry (is_bad_by (ram self.old.engine)) self.old.engine.next [] w.log self.old.read_only (image_in N.flash self.new.engine)) }
-        ensures left { N.honest self.old.engine.nand ≡ true → IsWell N.flash self.old → result ≢ Err DeviceFault.BusFault →
-            (w : Went (ram self.old.engine) (N.flash self.old.engine.nand) (ram self.new.engine) (N.flash self.new.engine.nand)) →
-            self.new.read_only ≡ true →
-            IsLeft (Trim sector) self.old.engine.geometry (is_bad_by (ram self.old.engine)) [] w.log self.old.read_only result }
-        ensures mountable { N.honest self.old.engine.nand ≡ true → IsWell N.flash self.old → result ≢ Err DeviceFault.BusFault →
-            self.old.engine.mapping.capacity + self.old.engine.geometry.pages ≤ 65536 →
-            IsMountable self.old.engine.geometry (self.old.engine.mapping.capacity + self.old.engine.geometry.pages) (image_in N.flash self.new.engine) }
+        ensures changes { Changes N.flash N.honest N.calm N.failed sector (Trim sector) self.old result self.new }
     {
         self.may_change(sector)?;
         let good = self.engine.blocks.good();

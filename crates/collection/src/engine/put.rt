@@ -57,6 +57,7 @@ impl<N: Nand> Engine<N> {
         ensures goes { GoesPut (ram self.old) (ram self.new) }
         ensures fault { self.new.fault ≡ self.old.fault }
         ensures page { self.new.page.body ≡ self.old.page.body }
+        ensures scratch { self.new.scratch ≡ self.old.scratch }
         ensures honest { N.honest self.new.nand ≡ N.honest self.old.nand }
         ensures calm { N.calm self.new.nand ≡ N.calm self.old.nand }
         ensures reads { N.reads self.new.nand ≡ N.reads self.old.nand }
@@ -120,6 +121,7 @@ impl<N: Nand> Engine<N> {
         ensures goes { GoesPut (ram self.old) (ram self.new) }
         ensures fault { self.new.fault ≡ self.old.fault }
         ensures page { self.new.page.body ≡ self.old.page.body }
+        ensures scratch { self.new.scratch ≡ self.old.scratch }
         ensures honest { N.honest self.new.nand ≡ N.honest self.old.nand }
         ensures calm { N.calm self.new.nand ≡ N.calm self.old.nand }
         ensures reads { N.reads self.new.nand ≡ N.reads self.old.nand }
@@ -178,8 +180,8 @@ impl<N: Nand> Engine<N> {
     ///
     /// # Errors
     ///
-    /// Each stands: `put`, `write_back`, `make_room`, `write_sector` and `trim_sector` answer it again
-    /// from then on, and change nothing.
+    /// Each stands: `put`, `write_back`, `collect`, `make_room`, `rescue_one`, `write_sector`,
+    /// `trim_sector` and `write_table` answer it again from then on, and change nothing.
     ///
     /// - `ReadOnly` where the stream has no block open and none is free: each that was free has
     ///   failed in this call, and the open one if there was one. The array is as it was.

@@ -46,6 +46,7 @@ impl<N: Nand> Engine<N> {
         ensures settles { Settles (key_from kind number) row (ram self.old) (ram self.new) }
         ensures nand { self.new.nand ≡ self.old.nand }
         ensures page { self.new.page ≡ self.old.page }
+        ensures scratch { self.new.scratch ≡ self.old.scratch }
     {
         match kind {
             Kind::Sector | Kind::Trim => set_row(&mut self.mapping, number, row),
@@ -72,6 +73,7 @@ impl<N: Nand> Engine<N> {
         ensures goes { Goes (ram self.old) (ram self.new) }
         ensures fault { self.new.fault ≡ self.old.fault }
         ensures page { self.new.page.body ≡ self.old.page.body }
+        ensures scratch { self.new.scratch ≡ self.old.scratch }
         ensures honest { N.honest self.new.nand ≡ N.honest self.old.nand }
         ensures calm { N.calm self.new.nand ≡ N.calm self.old.nand }
         ensures reads { N.reads self.new.nand ≡ N.reads self.old.nand }
@@ -109,6 +111,7 @@ impl<N: Nand> Engine<N> {
         ensures goes { Goes (ram self.old) (ram self.new) }
         ensures fault { self.new.fault ≡ self.old.fault }
         ensures page { self.new.page.body ≡ self.old.page.body }
+        ensures scratch { self.new.scratch ≡ self.old.scratch }
         ensures honest { N.honest self.new.nand ≡ N.honest self.old.nand }
         ensures calm { N.calm self.new.nand ≡ N.calm self.old.nand }
         ensures reads { N.reads self.new.nand ≡ N.reads self.old.nand }

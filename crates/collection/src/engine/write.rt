@@ -48,6 +48,7 @@ impl<N: Nand> Engine<N> {
         ensures keys { keys_of self.new.mapping.cached ≡ keys_of self.old.mapping.cached }
         ensures no_more { HasNoMore self.old.mapping self.new.mapping }
         ensures page { self.old.fault ≡ None → self.new.page.body.items ≡ body.now }
+        ensures scratch { self.new.scratch ≡ self.old.scratch }
         ensures programmed { OnOk result (IsLastPage Kind.Sector sector (ram self.new) (page_in self.new.page)) }
         ensures cost { self.old.fault ≡ None → PageCosts Data (ram self.old) (ram self.new) result }
         ensures went { N.honest self.old.nand ≡ true → result ≢ Err WriteFault.Bus →
@@ -90,6 +91,7 @@ impl<N: Nand> Engine<N> {
         ensures keys { keys_of self.new.mapping.cached ≡ keys_of self.old.mapping.cached }
         ensures no_more { HasNoMore self.old.mapping self.new.mapping }
         ensures page { self.old.fault ≡ None → self.new.page.body.items ≡ zeros self.old.geometry }
+        ensures scratch { self.new.scratch ≡ self.old.scratch }
         ensures programmed { OnOk result (IsLastPage Kind.Trim sector (ram self.new) (page_in self.new.page)) }
         ensures cost { self.old.fault ≡ None → PageCosts Data (ram self.old) (ram self.new) result }
         ensures went { N.honest self.old.nand ≡ true → result ≢ Err WriteFault.Bus →

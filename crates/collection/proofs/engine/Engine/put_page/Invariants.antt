@@ -12,6 +12,7 @@ invariant-tries g l = record {
   goes : GoesPut (ram l.initial.self) (ram l.self);
   fault : l.self.fault ≡ l.initial.self.fault;
   page : l.self.page.body ≡ l.initial.self.page.body;
+  scratch : l.self.scratch ≡ l.initial.self.scratch;
   as_honest : g.N.PageSource.honest l.self.nand ≡ g.N.PageSource.honest l.initial.self.nand;
   as_calm : g.N.PageSource.calm l.self.nand ≡ g.N.PageSource.calm l.initial.self.nand;
   as_read : g.N.PageSource.reads l.self.nand ≡ g.N.PageSource.reads l.initial.self.nand;

@@ -10,13 +10,17 @@ returns-in-Read-clause-happened g c = λ honest w ne.
 
 pub returns-in-Write-clause-happened : goal.returns-in-Write-clause-happened
 returns-in-Write-clause-happened g c = λ honest w ne.
-    rw c.in-Write.is (changed g.N.PageSource.flash c.args.self.now c.write.new.self c.write.result ne c.requires.device.engine.memory c.write.ensures.device.engine.memory c.write.ensures.geometry (c.write.ensures.well honest w ne) (c.write.ensures.went honest ne) c.write.ensures.says (c.write.ensures.shown honest w ne (c.write.ensures.went honest ne))
-    (step.Write c.in-Write.sector c.in-Write.body.now) c.args.bytes.now (λ is. (let no : ⊥ = cc in absurd no)) (c.write.ensures.left honest w ne (c.write.ensures.went honest ne)) (write_sound _ _ _ c.in-Write.sector c.in-Write.body.now c.write.result (c.write.ensures.step honest w ne)) (c.write.ensures.stale honest w) (c.write.ensures.step honest w ne))
+    let logs = c.write.ensures.changes.logs honest ne in
+    let means = c.write.ensures.changes.means honest w ne in
+    rw c.in-Write.is (changed g.N.PageSource.flash c.args.self.now c.write.new.self c.write.result ne c.requires.device.engine.memory c.write.ensures.device.engine.memory c.write.ensures.geometry means.well logs.went c.write.ensures.changes.refuses.says (logs.shown w)
+    (step.Write c.in-Write.sector c.in-Write.body.now) c.args.bytes.now (λ is. (let no : ⊥ = cc in absurd no)) (logs.left w) (write_sound _ _ _ c.in-Write.sector c.in-Write.body.now c.write.result means.step) (c.write.ensures.changes.stale honest w) means.step)
 
 pub returns-in-Trim-clause-happened : goal.returns-in-Trim-clause-happened
 returns-in-Trim-clause-happened g c = λ honest w ne.
-    rw c.in-Trim.is (changed g.N.PageSource.flash c.args.self.now c.trim.new.self c.trim.result ne c.requires.device.engine.memory c.trim.ensures.device.engine.memory c.trim.ensures.geometry (c.trim.ensures.well honest w ne) (c.trim.ensures.went honest ne) c.trim.ensures.says (c.trim.ensures.shown honest w ne (c.trim.ensures.went honest ne))
-    (step.Trim c.in-Trim.sector) c.args.bytes.now (λ is. (let no : ⊥ = cc in absurd no)) (c.trim.ensures.left honest w ne (c.trim.ensures.went honest ne)) (write_sound _ _ _ c.in-Trim.sector (zeros c.args.self.now.engine.geometry) c.trim.result (c.trim.ensures.step honest w ne)) (c.trim.ensures.stale honest w) (c.trim.ensures.step honest w ne))
+    let logs = c.trim.ensures.changes.logs honest ne in
+    let means = c.trim.ensures.changes.means honest w ne in
+    rw c.in-Trim.is (changed g.N.PageSource.flash c.args.self.now c.trim.new.self c.trim.result ne c.requires.device.engine.memory c.trim.ensures.device.engine.memory c.trim.ensures.geometry means.well logs.went c.trim.ensures.changes.refuses.says (logs.shown w)
+    (step.Trim c.in-Trim.sector) c.args.bytes.now (λ is. (let no : ⊥ = cc in absurd no)) (logs.left w) (write_sound _ _ _ c.in-Trim.sector (zeros c.args.self.now.engine.geometry) c.trim.result means.step) (c.trim.ensures.changes.stale honest w) means.step)
 
 pub returns-in-Flush-clause-happened : goal.returns-in-Flush-clause-happened
 returns-in-Flush-clause-happened g c = λ honest w ne.

@@ -1,0 +1,273 @@
+-- A device's call that changes a sector, from the engine's.
+use Rattle.std.proofs.Common.{◌≡◌, ◌≢◌, ℕ, ◌<◌, ◌≤◌, ◌∙◌, Bool, true, false, None, Option, Some, List, Result, Ok, Err, OnOk, MatchResult, refl, sym, ap, subst, arith}
+use Rattle.std.specs.Prelude.{IfErr}
+use Rattle.std.specs.Option.{ForSome}
+use Rattle.std.specs.Map.{keys_of}
+use Rattle.std.proofs.lemmas.Bool.{lt-ltb}
+use Rattle.page_layout.specs.declared.geometry.Geometry.{Geometry}
+use Rattle.page_layout.specs.Page.{Image}
+use Rattle.page_layout.specs.Flash.{Flash}
+use Rattle.page_layout.specs.Array.{array_of}
+use Rattle.page_layout.specs.Counter.{HasRisen}
+use Rattle.bad_blocks.specs.Table.{good_count}
+use Rattle.allocation.specs.State.{free_count}
+use Rattle.promises.specs.Step.{State, Command, Reply, WriteStep, ArrayStep}
+use Rattle.collection.specs.declared.engine.Engine.{Engine}
+use Rattle.collection.specs.declared.fault.WriteFault.TheVariants as engine_fault
+use Rattle.collection.specs.State.{Ram}
+use Rattle.collection.specs.Safe.{ram, image_in, page_in}
+use Rattle.collection.specs.Truth.{IsTrue}
+use Rattle.collection.proofs.Logs.{went_same}
+use Rattle.ftl_device.specs.declared.device.Device.{Device}
+use Rattle.ftl_device.specs.declared.fault.CallFault.{CallFault}
+use Rattle.ftl_device.specs.declared.fault.CallFault.TheVariants as call
+use Rattle.ftl_device.specs.declared.fault.DeviceFault.{DeviceFault}
+use Rattle.ftl_device.specs.declared.fault.DeviceFault.TheVariants.{OutOfRange, ReadOnly, SequenceSpent, OutOfMemory, Damaged, BusFault}
+use Rattle.ftl_device.specs.Begin.{is_scarce}
+use Rattle.ftl_device.specs.Device.{IsDevice}
+use Rattle.ftl_device.specs.Calls.{state_in, reply_of, stop_of, Says, CallTells, CallRefused, HoldsSector, standing_after, answer_of, MayChange, MayNot, IsBeyond, IsMostRecent, HasCost, order_after}
+use Rattle.ftl_device.specs.Shortage.{HasFunds, CallShort}
+use Rattle.ftl_device.specs.Changes.{Ends, Readies, HasLookedUp, Refuses, RefusesSector, ProgramsSector, Logs, Means, Changes}
+use Rattle.ftl_device.proofs.CallLemmas.{well_ram, well_device, memory_only, mountable_after, went_after, done_too}
+use Rattle.ftl_device.proofs.CostLemmas.{closed_is, spent_is, never_memory}
+use Rattle.ftl_device.proofs.MountableLemmas.{stale_law, restart_law}
+use Rattle.ftl_device.proofs.ShownLemmas.{shown_refused, shown_after, left_after, left_refused}
+use Rattle.ftl_device.proofs.SpentLemmas.{funded_begun, call_short}
+
+abbrev refusal : DeviceFault → Result (Unit {0}) DeviceFault
+refusal fault = Err fault
+
+-- ---- what the engine's answer says of the device's
+
+pub says_of : (answer : Result (Unit {0}) CallFault) (old new : Ram) → new.fault ≡ standing_after answer → CallTells old new answer → IfErr (answer_of new (good_count old.blocks.table) answer) (Says old new)
+says_of (Ok done) old new stands tells = tt
+says_of (Err (call.Engine engine_fault.ReadOnly)) old new stands tells = record { scarce = tells.0; good_is = refl; wanted_is = refl; failed_is = omega (arith, tells.1) }
+says_of (Err (call.Engine engine_fault.SequenceSpent)) old new stands tells = tells
+says_of (Err (call.Engine engine_fault.Damaged)) old new stands tells = ap stop_of stands
+says_of (Err (call.Engine engine_fault.Bus)) old new stands tells = ap stop_of stands
+says_of (Err call.OutOfMemory) old new stands tells = tt
+
+no_stop : (stop : Option DeviceFault) (fault : DeviceFault) (P : Type 0) → stop ≡ None → stop ≡ Some fault → P
+no_stop stop fault P none some = (let no : ⊥ = cc in absurd no)
+
+pub standing_of : (answer : Result (Unit {0}) CallFault) (new : Ram) (good : ℕ) → new.fault ≡ standing_after answer → ForSome (stop_of new.fault) (λ fault. answer_of new good answer ≡ Err fault)
+standing_of (Ok done) new good stands fault is = no_stop (stop_of new.fault) fault (answer_of new good (Ok done) ≡ Err fault) (ap stop_of stands) is
+standing_of (Err (call.Engine engine_fault.ReadOnly)) new good stands fault is = no_stop (stop_of new.fault) fault _ (ap stop_of stands) is
+standing_of (Err (call.Engine engine_fault.SequenceSpent)) new good stands fault is = no_stop (stop_of new.fault) fault _ (ap stop_of stands) is
+standing_of (Err (call.Engine engine_fault.Damaged)) new good stands fault is = ap Err (let same : Some Damaged ≡ Some fault = sym (ap stop_of stands) ∙ is in cc)
+standing_of (Err (call.Engine engine_fault.Bus)) new good stands fault is = ap Err (let same : Some BusFault ≡ Some fault = sym (ap stop_of stands) ∙ is in cc)
+standing_of (Err call.OutOfMemory) new good stands fault is = no_stop (stop_of new.fault) fault _ (ap stop_of stands) is
+
+pub rose_of : (P : Type 0) (answer : Result (Unit {0}) CallFault) (new : Ram) (good : ℕ) → (answer ≡ Err (call.Engine engine_fault.Bus) → P) → answer_of new good answer ≡ Err BusFault → P
+rose_of P (Ok done) new good rose e = (let no : ⊥ = cc in absurd no)
+rose_of P (Err (call.Engine engine_fault.ReadOnly)) new good rose e = (let no : ⊥ = cc in absurd no)
+rose_of P (Err (call.Engine engine_fault.SequenceSpent)) new good rose e = (let no : ⊥ = cc in absurd no)
+rose_of P (Err (call.Engine engine_fault.Damaged)) new good rose e = (let no : ⊥ = cc in absurd no)
+rose_of P (Err (call.Engine engine_fault.Bus)) new good rose e = rose refl
+rose_of P (Err call.OutOfMemory) new good rose e = (let no : ⊥ = cc in absurd no)
+
+pub not_past : (answer : Result (Unit {0}) CallFault) (new : Ram) (good : ℕ) → answer_of new good answer ≡ Err OutOfRange → ⊥
+not_past (Ok done) new good e = (let no : ⊥ = cc in no)
+not_past (Err (call.Engine engine_fault.ReadOnly)) new good e = (let no : ⊥ = cc in no)
+not_past (Err (call.Engine engine_fault.SequenceSpent)) new good e = (let no : ⊥ = cc in no)
+not_past (Err (call.Engine engine_fault.Damaged)) new good e = (let no : ⊥ = cc in no)
+not_past (Err (call.Engine engine_fault.Bus)) new good e = (let no : ⊥ = cc in no)
+not_past (Err call.OutOfMemory) new good e = (let no : ⊥ = cc in no)
+
+-- a step of the array
+module _ (g h : Geometry) (n : ℕ) (bytes : List ℕ) (before after : Image) (old new : Ram) (ro on : Bool) (good : ℕ) (within : n < g.sectors) (writable : ro ≡ false) (flag : on ≡ is_scarce (free_count new.blocks)) (same : h ≡ g) where
+  abbrev state_now : State
+  state_now = record { array = array_of h after; ro = on }
+
+  abbrev state_was : State
+  state_was = record { array = array_of g before; ro = ro }
+
+  array_now : (xs : List (List ℕ)) → array_of g after ≡ xs → array_of h after ≡ xs
+  array_now xs is = ap (λ x. array_of x after) same ∙ is
+
+  pub step_of : (answer : Result (Unit {0}) CallFault) → CallTells old new answer → MatchResult answer (λ _. HoldsSector g n bytes before new after) (CallRefused g before new after) → answer_of new good answer ≢ Err BusFault → WriteStep g state_was n bytes (reply_of (answer_of new good answer)) state_now
+  step_of (Ok done) tells is ne = record { within = within; writable = writable; array_is = array_now _ is.array }
+  step_of (Err (call.Engine engine_fault.ReadOnly)) tells is ne = record { within = within; becomes = record { array_is = array_now _ is.array; read_only = flag ∙ lt-ltb (free_count new.blocks) 5 tells.0 } }
+  step_of (Err (call.Engine engine_fault.SequenceSpent)) tells is ne = record { within = within; keeps = record { writable = writable; array_is = array_now _ is.array } }
+  step_of (Err (call.Engine engine_fault.Damaged)) tells is ne = absurd is
+  step_of (Err (call.Engine engine_fault.Bus)) tells is ne = absurd (ne refl)
+  step_of (Err call.OutOfMemory) tells is ne = record { within = within; keeps = record { writable = writable; array_is = array_now _ is.array } }
+
+-- a call that was made was neither stopped nor read-only as it began
+module _ {N : Type 0} (failed : N → ℕ) (old new : Device N) (going : old.engine.fault ≡ None) (writable : old.read_only ≡ false) where
+  pub refuses_made : (answer : Result (Unit {0}) CallFault) → new.engine.fault ≡ standing_after answer → CallTells (ram old.engine) (ram new.engine) answer → (answer ≡ Err (call.Engine engine_fault.Bus) → HasRisen (failed old.engine.nand) (failed new.engine.nand))
+      → Refuses failed old (answer_of (ram new.engine) (good_count (ram old.engine).blocks.table) answer) new
+  refuses_made answer stands tells rose = record {
+    stopped = λ fault is. no_stop (stop_of old.engine.fault) fault _ (ap stop_of going) is;
+    closed = λ on. (let off : old.read_only ≡ false = writable in let no : ⊥ = cc in absurd no);
+    says = says_of answer (ram old.engine) (ram new.engine) stands tells;
+    rose = λ begun e. rose_of _ answer (ram new.engine) (good_count (ram old.engine).blocks.table) rose e;
+    standing = standing_of answer (ram new.engine) (good_count (ram old.engine).blocks.table) stands;
+  }
+
+-- ---- the call was made
+
+module _ {N : Type 0} (flash : N → Flash) (honest calm : N → Bool) (failed : N → ℕ) (n : ℕ) (bytes : List ℕ) (command : Command) (old new : Device N) (device : IsDevice flash old) (device' : IsDevice flash new) (may : MayChange (ram old.engine) old.read_only n)
+    (takes : (reply : Reply) (s : State) → WriteStep old.engine.geometry (state_in flash old) n bytes reply s → ArrayStep old.engine.geometry (state_in flash old) command reply s) where
+  abbrev good_then : ℕ
+  good_then = good_count (ram old.engine).blocks.table
+
+  abbrev Holds : Engine N → Result (Unit {0}) CallFault → Type 0
+  Holds e answer = honest old.engine.nand ≡ true → IsTrue None (ram old.engine) (image_in flash old.engine) → MatchResult answer (λ _. HoldsSector old.engine.geometry n bytes (image_in flash old.engine) (ram e) (image_in flash e)) (CallRefused old.engine.geometry (image_in flash old.engine) (ram e) (image_in flash e))
+
+  module _ (answer : Result (Unit {0}) CallFault) (ends : Ends flash honest calm failed old.engine answer new.engine) (readies : Readies flash honest n 2 old.engine answer new.engine) (cost : OnOk answer (HasCost n (ram old.engine) (ram new.engine)))
+      (checked : OnOk answer (HasLookedUp n (ram old.engine) (ram new.engine) (page_in new.engine.scratch))) (truth : Holds new.engine answer) where
+    abbrev replied : Result (Unit {0}) DeviceFault
+    replied = answer_of (ram new.engine) good_then answer
+
+    refuses_sector_done : RefusesSector n old replied new
+    refuses_sector_done = record {
+      past = λ going. ((λ e. absurd (not_past answer (ram new.engine) good_then e)), (λ past. absurd (omega (arith, may.within, past))));
+      untouched = λ e. absurd (not_past answer (ram new.engine) good_then e);
+      read_only = λ going within on. (let off : old.read_only ≡ false = may.writable in let no : ⊥ = cc in absurd no);
+      spent = λ going within off last. absurd (omega (arith, may.sequence, last));
+      cached = λ some e. readies.cached some (memory_only answer replied good_then (ram new.engine) refl e);
+    }
+
+    programs_done : ProgramsSector n old replied new
+    programs_done = record {
+      recent = done_too (IsMostRecent n new.engine.mapping) answer good_then (ram new.engine) readies.recent;
+      keys = done_too (keys_of new.engine.mapping.cached ≡ order_after old.engine.mapping n) answer good_then (ram new.engine) readies.keys;
+      cost = done_too (HasCost n (ram old.engine) (ram new.engine)) answer good_then (ram new.engine) cost;
+      checked = done_too (HasLookedUp n (ram old.engine) (ram new.engine) (page_in new.engine.scratch)) answer good_then (ram new.engine) checked;
+      unwritten = λ e. readies.unwritten (memory_only answer replied good_then (ram new.engine) refl e);
+      same_keys = λ e. readies.same_keys (memory_only answer replied good_then (ram new.engine) refl e);
+    }
+
+    short : honest old.engine.nand ≡ true → IsTrue None (ram old.engine) (image_in flash old.engine) → CallShort (ram old.engine) (ram new.engine) answer
+    short is_honest well = call_short (HasFunds (honest old.engine.nand) (ram old.engine) (image_in flash old.engine)) answer (ram old.engine) (ram new.engine) device.engine.memory readies.costs (is_honest, well, funded_begun (ram old.engine) old.read_only device.read_only may.writable)
+
+    logs_done : honest old.engine.nand ≡ true → replied ≢ Err BusFault → Logs flash command old replied new
+    logs_done is_honest ne =
+        let w = went_after flash old.engine new.engine new.engine answer replied good_then refl refl (ends.went is_honest) ne in
+        record {
+          went = w;
+          shown = λ well. shown_after flash old.engine new.engine new.engine w n bytes old.read_only answer replied good_then refl device.engine.memory ends.safe.memory ends.geometry refl refl ends.tells (short is_honest well.truth) (truth is_honest well.truth) ne;
+          left = λ well on. left_after flash command old.engine new.engine new.engine w old.read_only new.read_only answer replied good_then refl refl device.engine.memory device'.engine.memory ends.geometry device'.read_only on (short is_honest well.truth);
+        }
+
+    means_done : honest old.engine.nand ≡ true → IsTrue None (ram old.engine) (image_in flash old.engine) → replied ≢ Err BusFault → Means flash command old replied new
+    means_done is_honest known ne =
+        let here = well_device flash new new.engine refl (well_ram answer replied good_then n bytes _ _ _ (ram new.engine) (ram new.engine) ends.fault refl ne (truth is_honest known)) in
+        record {
+          step = takes _ _ (step_of old.engine.geometry new.engine.geometry n bytes (image_in flash old.engine) (image_in flash new.engine) (ram old.engine) (ram new.engine) old.read_only new.read_only good_then may.within may.writable device'.read_only ends.geometry answer ends.tells (truth is_honest known) ne);
+          well = here;
+          mountable = λ most. mountable_after flash old.engine new new.engine refl ends.geometry ends.limits device'.engine.memory here most;
+        }
+
+    change_done : Changes flash honest calm failed n command old replied new
+    change_done = record {
+      stays = record { limits = ends.limits; honest_is = ends.honest_is; calm_is = ends.calm_is; failed_is = ends.failed_is };
+      refuses = refuses_made failed old new may.going may.writable answer ends.fault ends.tells ends.rose;
+      refuses_sector = refuses_sector_done;
+      programs = programs_done;
+      logs = logs_done;
+      means = λ is_honest well ne. means_done is_honest well.truth ne;
+      stale = λ is_honest well is e. readies.cached (stale_law (ram old.engine) _ n well.truth (device.idle may.going).moved may.within is) (memory_only answer replied good_then (ram new.engine) refl e);
+    }
+
+  -- the device noted nothing else
+  pub changed_by : (mid : Engine N) (good : ℕ) (answer : Result (Unit {0}) CallFault) (result : Result (Unit {0}) DeviceFault) → new.engine ≡ mid → good ≡ good_then → result ≡ answer_of (ram new.engine) good answer → Ends flash honest calm failed old.engine answer mid → Readies flash honest n 2 old.engine answer mid
+      → OnOk answer (HasCost n (ram old.engine) (ram mid)) → OnOk answer (HasLookedUp n (ram old.engine) (ram mid) (page_in mid.scratch)) → Holds mid answer → Changes flash honest calm failed n command old result new
+  changed_by mid good answer result same many is ends readies cost checked truth =
+      let E : Engine N → Type 0 = λ e. Ends flash honest calm failed old.engine answer e in
+      let R : Engine N → Type 0 = λ e. Readies flash honest n 2 old.engine answer e in
+      let C : Engine N → Type 0 = λ e. OnOk answer (HasCost n (ram old.engine) (ram e)) in
+      let L : Engine N → Type 0 = λ e. OnOk answer (HasLookedUp n (ram old.engine) (ram e) (page_in e.scratch)) in
+      let T : Engine N → Type 0 = λ e. Holds e answer in
+      let done = change_done answer (subst E (sym same) ends) (subst R (sym same) readies) (subst C (sym same) cost) (subst L (sym same) checked) (subst T (sym same) truth) in
+      subst (λ r. Changes flash honest calm failed n command old r new) (sym (is ∙ ap (λ k. answer_of (ram new.engine) k answer) many)) done
+
+-- ---- it was refused at once
+
+module _ (r : Ram) (ro : Bool) (n : ℕ) where
+  stopped_refusal : (fault other : DeviceFault) → MayNot r ro n fault → stop_of r.fault ≡ Some other → fault ≡ other
+  stopped_refusal OutOfRange other not is = no_stop (stop_of r.fault) other _ not.going is
+  stopped_refusal (ReadOnly good wanted lost) other not is = no_stop (stop_of r.fault) other _ not.going is
+  stopped_refusal SequenceSpent other not is = no_stop (stop_of r.fault) other _ not.going is
+  stopped_refusal OutOfMemory other not is = absurd not
+  stopped_refusal Damaged other not is = (let same : Some Damaged ≡ Some other = sym not ∙ is in cc)
+  stopped_refusal BusFault other not is = (let same : Some BusFault ≡ Some other = sym not ∙ is in cc)
+
+  says_refusal : (fault : DeviceFault) → MayNot r ro n fault → Says r r fault
+  says_refusal OutOfRange not = refl
+  says_refusal (ReadOnly good wanted lost) not = not.short
+  says_refusal SequenceSpent not = not.last
+  says_refusal OutOfMemory not = tt
+  says_refusal Damaged not = not
+  says_refusal BusFault not = not
+
+  rose_refusal : (P : Type 0) (fault : DeviceFault) → MayNot r ro n fault → stop_of r.fault ≡ None → refusal fault ≡ refusal BusFault → P
+  rose_refusal P fault not going e =
+      let same : fault ≡ BusFault = cc in
+      let stop : stop_of r.fault ≡ Some BusFault = subst (MayNot r ro n) same not in
+      no_stop (stop_of r.fault) BusFault P going stop
+
+  past_refusal : (fault : DeviceFault) → MayNot r ro n fault → refusal fault ≡ refusal OutOfRange → r.geometry.sectors ≤ n
+  past_refusal fault not e =
+      let same : fault ≡ OutOfRange = cc in
+      let beyond : IsBeyond r n = subst (MayNot r ro n) same not in
+      beyond.past
+
+  refusal_past : (fault : DeviceFault) → MayNot r ro n fault → stop_of r.fault ≡ None → r.geometry.sectors ≤ n → fault ≡ OutOfRange
+  refusal_past OutOfRange not going past = refl
+  refusal_past (ReadOnly good wanted lost) not going past = absurd (omega (arith, not.within, past))
+  refusal_past SequenceSpent not going past = absurd (omega (arith, not.within, past))
+  refusal_past OutOfMemory not going past = absurd not
+  refusal_past Damaged not going past = no_stop (stop_of r.fault) Damaged _ going not
+  refusal_past BusFault not going past = no_stop (stop_of r.fault) BusFault _ going not
+
+  step_refusal : (g : Geometry) (xs : List (List ℕ)) (bytes : List ℕ) (fault : DeviceFault) → r.geometry ≡ g → MayNot r ro n fault → stop_of r.fault ≡ None → WriteStep g (record { array = xs; ro = ro }) n bytes (reply_of (Err fault)) (record { array = xs; ro = ro })
+  step_refusal g xs bytes OutOfRange same not going = record { past = subst (λ (h : Geometry). h.sectors ≤ n) same not.past; same = refl }
+  step_refusal g xs bytes (ReadOnly good wanted lost) same not going = record { within = subst (λ (h : Geometry). n < h.sectors) same not.within; becomes = record { array_is = refl; read_only = not.closed } }
+  step_refusal g xs bytes SequenceSpent same not going = record { within = subst (λ (h : Geometry). n < h.sectors) same not.within; keeps = record { writable = not.writable; array_is = refl } }
+  step_refusal g xs bytes OutOfMemory same not going = absurd not
+  step_refusal g xs bytes Damaged same not going = no_stop (stop_of r.fault) Damaged _ going not
+  step_refusal g xs bytes BusFault same not going = no_stop (stop_of r.fault) BusFault _ going not
+
+module _ {N : Type 0} (flash : N → Flash) (honest calm : N → Bool) (failed : N → ℕ) (n : ℕ) (bytes : List ℕ) (command : Command) (old : Device N) (device : IsDevice flash old)
+    (takes : (reply : Reply) (s : State) → WriteStep old.engine.geometry (state_in flash old) n bytes reply s → ArrayStep old.engine.geometry (state_in flash old) command reply s) where
+  pub not_changed : (fault : DeviceFault) → MayNot (ram old.engine) old.read_only n fault → Changes flash honest calm failed n command old (Err fault) old
+  not_changed fault not = record {
+    stays = record { limits = record { geometry = refl; capacity = refl }; honest_is = refl; calm_is = refl; failed_is = omega arith };
+    refuses = record {
+      stopped = λ other is. (ap Err (stopped_refusal (ram old.engine) old.read_only n fault other not is), refl);
+      closed = λ on. refl;
+      says = says_refusal (ram old.engine) old.read_only n fault not;
+      rose = λ going e. rose_refusal (ram old.engine) old.read_only n _ fault not going e;
+      standing = λ other is. ap Err (stopped_refusal (ram old.engine) old.read_only n fault other not is);
+    };
+    refuses_sector = record {
+      past = λ going. ((λ e. past_refusal (ram old.engine) old.read_only n fault not e), (λ past. ap Err (refusal_past (ram old.engine) old.read_only n fault not going past)));
+      untouched = λ e. refl;
+      read_only = λ going within on. ap Err (closed_is (ram old.engine) old.read_only n fault not going within on);
+      spent = λ going within off last. (ap Err (spent_is (ram old.engine) old.read_only n fault not going within off), refl);
+      cached = λ some e. absurd (never_memory (ram old.engine) old.read_only n fault not e);
+    };
+    programs = record {
+      recent = tt;
+      keys = tt;
+      cost = tt;
+      checked = tt;
+      unwritten = λ e. absurd (never_memory (ram old.engine) old.read_only n fault not e);
+      same_keys = λ e. absurd (never_memory (ram old.engine) old.read_only n fault not e);
+    };
+    logs = λ is_honest ne.
+        let w = went_same (ram old.engine) (flash old.engine.nand) in
+        record {
+          went = w;
+          shown = λ well. shown_refused (ram old.engine) (flash old.engine.nand) w old.read_only n fault device.engine.memory well.truth well.going not;
+          left = λ well on. left_refused command (ram old.engine) w.log old.read_only n fault not;
+        };
+    means = λ is_honest well ne. record {
+      step = takes _ _ (step_refusal (ram old.engine) old.read_only n old.engine.geometry (array_of old.engine.geometry (image_in flash old.engine)) bytes fault refl not well.going);
+      well = well;
+      mountable = λ most. restart_law (ram old.engine) _ device.engine.memory well.truth most;
+    };
+    stale = λ is_honest well is e. absurd (never_memory (ram old.engine) old.read_only n fault not e);
+  }

@@ -1,0 +1,171 @@
+-- Calls of the engine that make a sector ready and program a page of it.
+use Rattle.std.proofs.Common.{◌≡◌, ◌≢◌, ℕ, ◌≤◌, ◌∙◌, Bool, true, None, Option, Some, Result, Ok, Err, sym, ap, subst, arith}
+use Rattle.std.specs.Map.{keys_of}
+use Rattle.page_layout.specs.Counter.{HasRisen}
+use Rattle.page_layout.specs.Flash.{Flash}
+use Rattle.bad_blocks.specs.Table.{good_count}
+use Rattle.budget.specs.declared.stream.Stream.TheVariants.{Data}
+use Rattle.mapping_cache.specs.Mapping.{HasLimitsOf, loaded}
+use Rattle.collection.specs.declared.engine.Engine.{Engine}
+use Rattle.collection.specs.declared.fault.WriteFault.{WriteFault}
+use Rattle.collection.specs.declared.fault.WriteFault.TheVariants.{ReadOnly, SequenceSpent, Damaged, Bus}
+use Rattle.collection.specs.State.{Ram}
+use Rattle.collection.specs.Safe.{IsSafe, IsIdle, ram, image_in, page_in}
+use Rattle.collection.specs.Settle.{HasNoMore}
+use Rattle.collection.specs.Cost.{HasPut, PageCosts}
+use Rattle.collection.specs.Log.{Went}
+use Rattle.collection.specs.Results.{Goes, fault_after}
+use Rattle.collection.proofs.Costs.{risen_over}
+use Rattle.collection.proofs.Logs.{went_then}
+use Rattle.ftl_device.specs.declared.fault.CallFault.{CallFault}
+use Rattle.ftl_device.specs.declared.fault.CallFault.TheVariants as call
+use Rattle.ftl_device.specs.Calls.{Tells, CallTells, IsReady, standing_after}
+use Rattle.ftl_device.specs.Read.{IsLookedUp}
+use Rattle.ftl_device.specs.Shortage.{HasFunds}
+use Rattle.ftl_device.specs.Changes.{Ends, Readies, HasLookedUp}
+use Rattle.ftl_device.proofs.ReadyLemmas.{recent_kept}
+use Rattle.ftl_device.proofs.RoomLemmas.{idle_kept, idle_loaded}
+use Rattle.ftl_device.proofs.PrepareLemmas.{limits_loaded, went_loaded}
+use Rattle.ftl_device.proofs.CostLemmas.{page_tells}
+use Rattle.ftl_device.proofs.FlushLoops.{limits_then}
+use Rattle.ftl_device.proofs.SpentLemmas.{room_page, page_refused, call_kept}
+
+-- the fault of a call as that of one that may want memory too
+pub call_tells : (fault : WriteFault) (a b : Ram) → Tells {A = Option ℕ} a b (Err fault) → CallTells {A = Unit {0}} a b (Err (call.Engine fault))
+call_tells ReadOnly a b h = h
+call_tells SequenceSpent a b h = h
+call_tells Damaged a b h = tt
+call_tells Bus a b h = tt
+
+-- an answer of the engine as one of such a call
+abbrev pub call_of : Result (Unit {0}) WriteFault → Result (Unit {0}) CallFault
+call_of (Ok done) = Ok tt
+call_of (Err fault) = Err (call.Engine fault)
+
+abbrev ended : CallFault → Result (Unit {0}) CallFault
+ended fault = Err fault
+
+module _ {N : Type 0} (flash : N → Flash) (honest calm : N → Bool) (failed : N → ℕ) where
+  -- ---- nothing was made ready
+
+  pub ends_refused : (old new : Engine N) (fault : WriteFault) → IsSafe flash new → new.fault ≡ Some fault → new.geometry ≡ old.geometry → honest new.nand ≡ honest old.nand → calm new.nand ≡ calm old.nand → failed old.nand ≤ failed new.nand
+      → (fault ≡ Bus → HasRisen (failed old.nand) (failed new.nand)) → HasLimitsOf old.mapping new.mapping → Tells {A = Option ℕ} (ram old) (ram new) (Err fault)
+      → (honest old.nand ≡ true → fault ≢ Bus → Went (ram old) (flash old.nand) (ram new) (flash new.nand)) → Ends flash honest calm failed old (Err (call.Engine fault)) new
+  ends_refused old new fault safe stands geometry as_honest as_calm more rose limits tells went = record {
+    safe = safe;
+    fault = stands;
+    geometry = geometry;
+    honest_is = as_honest;
+    calm_is = as_calm;
+    failed_is = more;
+    rose = λ e. rose (let is : ended (call.Engine fault) ≡ ended (call.Engine Bus) = e in cc);
+    limits = limits;
+    idle = λ none. (let no : Some fault ≡ None = sym stands ∙ none in let never : ⊥ = cc in absurd never);
+    tells = call_tells fault (ram old) (ram new) tells;
+    went = λ is_honest ne. went is_honest (λ same. ne (ap (λ f. ended (call.Engine f)) same));
+  }
+
+  -- ---- a sector was made ready, and then cached or not
+
+  module _ (old mid : Engine N) (safe : IsSafe flash mid) (going : mid.fault ≡ None) (geometry : mid.geometry ≡ old.geometry) (as_honest : honest mid.nand ≡ honest old.nand) (as_calm : calm mid.nand ≡ calm old.nand)
+      (more : failed old.nand ≤ failed mid.nand) (limits : HasLimitsOf old.mapping mid.mapping) (idle : IsIdle (ram mid)) (fewer : good_count (ram mid).blocks.table ≤ good_count (ram old).blocks.table)
+      (went : honest old.nand ≡ true → Went (ram old) (flash old.nand) (ram mid) (flash mid.nand)) where
+    pub ends_memory : (new : Engine N) → new ≡ mid → Ends flash honest calm failed old (Err call.OutOfMemory) new
+    ends_memory new same = subst (λ e. Ends flash honest calm failed old (Err call.OutOfMemory) e) (sym same) (record {
+      safe = safe;
+      fault = going;
+      geometry = geometry;
+      honest_is = as_honest;
+      calm_is = as_calm;
+      failed_is = more;
+      rose = λ e. (let is : ended call.OutOfMemory ≡ ended (call.Engine Bus) = e in let no : ⊥ = cc in absurd no);
+      limits = limits;
+      idle = λ none. idle;
+      tells = tt;
+      went = λ is_honest ne. went is_honest;
+    })
+
+    pub ends_loaded : (new : Engine N) (n : ℕ) (row : Option ℕ) → new ≡ record mid { mapping = loaded mid.mapping n row } → IsSafe flash new → Ends flash honest calm failed old (Ok tt) new
+    ends_loaded new n row is safe' = record {
+      safe = safe';
+      fault = ap (λ (e : Engine N). e.fault) is ∙ going;
+      geometry = ap (λ (e : Engine N). e.geometry) is ∙ geometry;
+      honest_is = ap (λ (e : Engine N). honest e.nand) is ∙ as_honest;
+      calm_is = ap (λ (e : Engine N). calm e.nand) is ∙ as_calm;
+      failed_is = subst (λ (e : Engine N). failed old.nand ≤ failed e.nand) (sym is) more;
+      rose = λ e. (let no : ⊥ = cc in absurd no);
+      limits = limits_loaded mid new n row is old.mapping limits;
+      idle = λ none. idle_loaded mid new n row is idle;
+      tells = subst (λ (e : Engine N). good_count (ram e).blocks.table ≤ good_count (ram old).blocks.table) (sym is) fewer;
+      went = λ is_honest ne. went_loaded mid new n row is flash (ram old) (flash old.nand) (went is_honest);
+    }
+
+  -- ---- a page of it comes after
+
+  module _ (old mid new : Engine N) (made : Unit {0}) (before : Ends flash honest calm failed old (Ok made) mid) (safe : IsSafe flash new) (goes : Goes (ram mid) (ram new)) (as_honest : honest new.nand ≡ honest mid.nand) (as_calm : calm new.nand ≡ calm mid.nand)
+      (more : failed mid.nand ≤ failed new.nand) (pin : (ram new).pin ≡ (ram mid).pin) (no_more : HasNoMore mid.mapping new.mapping) where
+    ended_fault : (answer : Result (Unit {0}) WriteFault) → new.fault ≡ fault_after mid.fault answer → new.fault ≡ standing_after (call_of answer)
+    ended_fault (Ok done) is = is ∙ before.fault
+    ended_fault (Err fault) is = is
+
+    ended_rose : (answer : Result (Unit {0}) WriteFault) → (answer ≡ Err Bus → HasRisen (failed mid.nand) (failed new.nand)) → call_of answer ≡ Err (call.Engine Bus) → HasRisen (failed mid.nand) (failed new.nand)
+    ended_rose (Ok done) rose e = (let no : ⊥ = cc in absurd no)
+    ended_rose (Err fault) rose e = (let same : fault ≡ Bus = cc in rose (ap Err same))
+
+    ended_tells : (answer : Result (Unit {0}) WriteFault) → PageCosts Data (ram mid) (ram new) answer → CallTells (ram old) (ram new) (call_of answer)
+    ended_tells (Ok done) p = omega (arith, p.put.good, before.tells)
+    ended_tells (Err fault) p = page_tells fault (ram old) (ram mid) (ram new) before.tells p
+
+    ended_went : (answer : Result (Unit {0}) WriteFault) → (answer ≢ Err Bus → Went (ram mid) (flash mid.nand) (ram new) (flash new.nand)) → honest old.nand ≡ true → call_of answer ≢ Err (call.Engine Bus) → Went (ram old) (flash old.nand) (ram new) (flash new.nand)
+    ended_went answer went is_honest ne = went_then (ram old) (ram mid) (ram new) _ _ _ before.geometry (before.went is_honest (λ e. (let no : ⊥ = cc in no))) (went (λ bus. ne (ap call_of bus)))
+
+    pub ends_page : (answer : Result (Unit {0}) WriteFault) → new.fault ≡ fault_after mid.fault answer → (mid.fault ≡ None → answer ≡ Err Bus → HasRisen (failed mid.nand) (failed new.nand)) → (mid.fault ≡ None → PageCosts Data (ram mid) (ram new) answer)
+        → (honest mid.nand ≡ true → answer ≢ Err Bus → Went (ram mid) (flash mid.nand) (ram new) (flash new.nand)) → Ends flash honest calm failed old (call_of answer) new
+    ends_page answer fault rose cost went = record {
+      safe = safe;
+      fault = ended_fault answer fault;
+      geometry = goes.geometry ∙ before.geometry;
+      honest_is = as_honest ∙ before.honest_is;
+      calm_is = as_calm ∙ before.calm_is;
+      failed_is = omega (arith, more, before.failed_is);
+      rose = λ e. risen_over (failed old.nand) (failed mid.nand) (failed new.nand) before.failed_is (ended_rose answer (rose before.fault) e);
+      limits = limits_then old.mapping mid.mapping new.mapping before.limits no_more.limits;
+      idle = λ none. idle_kept (ram mid) (ram new) goes.geometry no_more pin (before.idle before.fault);
+      tells = ended_tells answer (cost before.fault);
+      went = λ is_honest ne. ended_went answer (went (before.honest_is ∙ is_honest)) is_honest ne;
+    }
+
+module _ {N : Type 0} (flash : N → Flash) (honest : N → Bool) (n : ℕ) where
+  -- what it may cost with a page of the sector
+  pub readies_kept : (old new : Engine N) (fault : CallFault) → Readies flash honest n 1 old (Err fault) new → Readies flash honest n 2 old (Err fault) new
+  readies_kept old new fault r = record {
+    recent = tt;
+    keys = tt;
+    unwritten = r.unwritten;
+    same_keys = r.same_keys;
+    cached = r.cached;
+    costs = call_kept (HasFunds (honest old.nand) (ram old) (image_in flash old)) fault (ram old) (ram new) r.costs;
+  }
+
+  module _ (old mid new : Engine N) (same : mid.geometry ≡ old.geometry) (made : Unit {0}) (before : Readies flash honest n 1 old (Ok made) mid) (keys : keys_of new.mapping.cached ≡ keys_of mid.mapping.cached) where
+    pub readies_page : (answer : Result (Unit {0}) WriteFault) → PageCosts Data (ram mid) (ram new) answer → Readies flash honest n 2 old (call_of answer) new
+    readies_page (Ok done) p = record {
+      recent = recent_kept n mid.mapping new.mapping keys before.recent;
+      keys = keys ∙ before.keys;
+      unwritten = λ e. (let no : ⊥ = cc in absurd no);
+      same_keys = λ e. (let no : ⊥ = cc in absurd no);
+      cached = λ some e. (let no : ⊥ = cc in absurd no);
+      costs = room_page (HasFunds (honest old.nand) (ram old) (image_in flash old)) (ram old) (ram mid) (ram new) same before.costs p;
+    }
+    readies_page (Err fault) p = record {
+      recent = tt;
+      keys = tt;
+      unwritten = λ e. (let no : ⊥ = cc in absurd no);
+      same_keys = λ e. (let no : ⊥ = cc in absurd no);
+      cached = λ some e. (let no : ⊥ = cc in absurd no);
+      costs = page_refused (HasFunds (honest old.nand) (ram old) (image_in flash old)) fault (ram old) (ram mid) (ram new) same before.costs p;
+    }
+
+-- the page buffer that the look-up left is as it was
+pub looked_up_before : {N : Type 0} (old mid new : Engine N) (n : ℕ) → IsReady n (ram old) (ram mid) → IsLookedUp n (ram mid) (page_in mid.scratch) → new.scratch ≡ mid.scratch → HasPut Data (ram mid) (ram new) → HasLookedUp n (ram old) (ram new) (page_in new.scratch)
+looked_up_before old mid new n ready looked same page = record { mid = ram mid; ready = ready; looked_up = subst (λ b. IsLookedUp n (ram mid) (page_in b)) (sym same) looked; put = page }

@@ -1,0 +1,122 @@
+-- What the calls promise that change a sector: each clause that `write` and `trim` share, or the calls within them, stands here once.
+use Rattle.std.specs.Prelude.{◌≡◌, ◌≢◌, ◌↔◌, ℕ, ◌+◌, ◌-◌, ◌^◌, ◌<◌, ◌≤◌, Bool, true, false, [], None, IsSome, Result, Err, IfErr, OnOk}
+use Rattle.std.specs.Option.{ForSome}
+use Rattle.std.specs.Map.{keys_of}
+use Rattle.page_layout.specs.Counter.{HasRisen}
+use Rattle.page_layout.specs.Flash.{Flash}
+use Rattle.page_layout.specs.Geometry.{need}
+use Rattle.page_layout.specs.Page.{Page}
+use Rattle.bad_blocks.specs.Table.{good_count}
+use Rattle.budget.specs.declared.stream.Stream.TheVariants.{Data}
+use Rattle.mapping_cache.specs.Mapping.{HasLimitsOf, slot_of}
+use Rattle.promises.specs.Step.{Command, ArrayStep}
+use Rattle.image_check.specs.Stale.{is_stale}
+use Rattle.image_check.specs.Mountable.{IsMountable}
+use Rattle.collection.specs.declared.engine.Engine.{Engine}
+use Rattle.collection.specs.declared.fault.WriteFault.TheVariants.{Bus}
+use Rattle.collection.specs.State.{Ram}
+use Rattle.collection.specs.Safe.{IsSafe, IsIdle, ram, image_in, page_in}
+use Rattle.collection.specs.Cost.{HasPut}
+use Rattle.collection.specs.Log.{Went}
+use Rattle.ftl_device.specs.declared.device.Device.{Device}
+use Rattle.ftl_device.specs.declared.fault.CallFault.{CallFault}
+use Rattle.ftl_device.specs.declared.fault.CallFault.TheVariants as call
+use Rattle.ftl_device.specs.declared.fault.DeviceFault.{DeviceFault}
+use Rattle.ftl_device.specs.declared.fault.DeviceFault.TheVariants.{OutOfRange, ReadOnly, SequenceSpent, OutOfMemory, BusFault}
+use Rattle.ftl_device.specs.Calls.{state_in, reply_of, stop_of, IsWell, Says, CallTells, standing_after, IsMostRecent, IsReady, HasCost, order_after}
+use Rattle.ftl_device.specs.Counts.{is_bad_by, IsShown, IsLeft}
+use Rattle.ftl_device.specs.Read.{IsLookedUp}
+use Rattle.ftl_device.specs.Shortage.{HasFunds, CallRoomCosts}
+
+-- ---- inside the device
+
+-- WHAT A CALL OF THE ENGINE LEAVES, whatever it answers
+pub record Ends {N : Type 0} (flash : N → Flash) (honest calm : N → Bool) (failed : N → ℕ) (old : Engine N) (result : Result (Unit {0}) CallFault) (new : Engine N) : Type 0 where
+  pub safe : IsSafe flash new
+  pub fault : new.fault ≡ standing_after result
+  pub geometry : new.geometry ≡ old.geometry
+  pub honest_is : honest new.nand ≡ honest old.nand
+  pub calm_is : calm new.nand ≡ calm old.nand
+  pub failed_is : failed old.nand ≤ failed new.nand
+  pub rose : result ≡ Err (call.Engine Bus) → HasRisen (failed old.nand) (failed new.nand)
+  pub limits : HasLimitsOf old.mapping new.mapping
+  pub idle : new.fault ≡ None → IsIdle (ram new)
+  pub tells : CallTells (ram old) (ram new) result
+  pub went : honest old.nand ≡ true → result ≢ Err (call.Engine Bus) → Went (ram old) (flash old.nand) (ram new) (flash new.nand)
+
+-- and of one that makes a sector ready, and programs at most so many pages once there is room
+pub record Readies {N : Type 0} (flash : N → Flash) (honest : N → Bool) (n pages : ℕ) (old : Engine N) (result : Result (Unit {0}) CallFault) (new : Engine N) : Type 0 where
+  pub recent : OnOk result (IsMostRecent n new.mapping)
+  pub keys : OnOk result (keys_of new.mapping.cached ≡ order_after old.mapping n)
+  pub unwritten : result ≡ Err call.OutOfMemory → IsReady n (ram old) (ram new)
+  pub same_keys : result ≡ Err call.OutOfMemory → keys_of new.mapping.cached ≡ keys_of old.mapping.cached
+  pub cached : IsSome (slot_of old.mapping n) → result ≢ Err call.OutOfMemory
+  pub costs : CallRoomCosts (HasFunds (honest old.nand) (ram old) (image_in flash old)) pages (ram old) (ram new) result
+
+-- THE ROW THAT THE SECTOR HAD WAS LOOKED UP before a page of it was programmed: memory knew it once there was room, or else this page of
+-- entries gives it, a sound translation page
+pub record HasLookedUp (n : ℕ) (old new : Ram) (entries_page : Page) : Type 0 where
+  pub mid : Ram
+  pub ready : IsReady n old mid
+  pub looked_up : IsLookedUp n mid entries_page
+  pub put : HasPut Data mid new
+
+-- ---- whatever the die does
+
+-- what every call leaves alone
+pub record Stays {N : Type 0} (honest calm : N → Bool) (failed : N → ℕ) (old new : Device N) : Type 0 where
+  pub limits : HasLimitsOf old.engine.mapping new.engine.mapping
+  pub honest_is : honest new.engine.nand ≡ honest old.engine.nand
+  pub calm_is : calm new.engine.nand ≡ calm old.engine.nand
+  pub failed_is : failed old.engine.nand ≤ failed new.engine.nand
+
+-- what a refusal tells of the memory, and what a device that was stopped or is read-only answers
+pub record Refuses {N : Type 0} (failed : N → ℕ) (old : Device N) (result : Result (Unit {0}) DeviceFault) (new : Device N) : Type 0 where
+  pub stopped : ForSome (stop_of old.engine.fault) (λ fault. (result ≡ Err fault) × (new ≡ old))
+  pub closed : old.read_only ≡ true → new ≡ old
+  pub says : IfErr result (Says (ram old.engine) (ram new.engine))
+  pub rose : stop_of old.engine.fault ≡ None → result ≡ Err BusFault → HasRisen (failed old.engine.nand) (failed new.engine.nand)
+  pub standing : ForSome (stop_of new.engine.fault) (λ fault. result ≡ Err fault)
+
+-- when a sector is not to be changed
+pub record RefusesSector {N : Type 0} (n : ℕ) (old : Device N) (result : Result (Unit {0}) DeviceFault) (new : Device N) : Type 0 where
+  pub past : stop_of old.engine.fault ≡ None → (result ≡ Err OutOfRange) ↔ (old.engine.geometry.sectors ≤ n)
+  pub untouched : result ≡ Err OutOfRange → new ≡ old
+  pub read_only : stop_of old.engine.fault ≡ None → n < old.engine.geometry.sectors → old.read_only ≡ true → result ≡ Err (ReadOnly (good_count (ram old.engine).blocks.table) (need old.engine.geometry) 0)
+  pub spent : stop_of old.engine.fault ≡ None → n < old.engine.geometry.sectors → old.read_only ≡ false → old.engine.next ≡ 2 ^ 64 - 1 → (result ≡ Err SequenceSpent) × (new ≡ old)
+  pub cached : IsSome (slot_of old.engine.mapping n) → result ≢ Err OutOfMemory
+
+-- what a change programs, by which row, and which sectors it leaves cached
+pub record ProgramsSector {N : Type 0} (n : ℕ) (old : Device N) (result : Result (Unit {0}) DeviceFault) (new : Device N) : Type 0 where
+  pub recent : OnOk result (IsMostRecent n new.engine.mapping)
+  pub keys : OnOk result (keys_of new.engine.mapping.cached ≡ order_after old.engine.mapping n)
+  pub cost : OnOk result (HasCost n (ram old.engine) (ram new.engine))
+  pub checked : OnOk result (HasLookedUp n (ram old.engine) (ram new.engine) (page_in new.engine.scratch))
+  pub unwritten : result ≡ Err OutOfMemory → IsReady n (ram old.engine) (ram new.engine)
+  pub same_keys : result ≡ Err OutOfMemory → keys_of new.engine.mapping.cached ≡ keys_of old.engine.mapping.cached
+
+-- ---- where the die is honest and gave every outcome
+
+-- THE LOG OF A CALL, and what its answer says of that log
+pub record Logs {N : Type 0} (flash : N → Flash) (command : Command) (old : Device N) (result : Result (Unit {0}) DeviceFault) (new : Device N) : Type 0 where
+  pub went : Went (ram old.engine) (flash old.engine.nand) (ram new.engine) (flash new.engine.nand)
+  pub shown : IsWell flash old → IfErr result (IsShown old.engine.geometry (is_bad_by (ram old.engine)) old.engine.next [] went.log old.read_only (image_in flash new.engine))
+  pub left : IsWell flash old → new.read_only ≡ true → IsLeft command old.engine.geometry (is_bad_by (ram old.engine)) [] went.log old.read_only result
+
+-- what is true of the image after it
+pub record Means {N : Type 0} (flash : N → Flash) (command : Command) (old : Device N) (result : Result (Unit {0}) DeviceFault) (new : Device N) : Type 0 where
+  pub step : ArrayStep old.engine.geometry (state_in flash old) command (reply_of result) (state_in flash new)
+  pub well : IsWell flash new
+  pub mountable : old.engine.mapping.capacity + old.engine.geometry.pages ≤ 65536 → IsMountable old.engine.geometry (old.engine.mapping.capacity + old.engine.geometry.pages) (image_in flash new.engine)
+
+-- ---- the whole
+
+-- A CALL THAT CHANGES A SECTOR
+pub record Changes {N : Type 0} (flash : N → Flash) (honest calm : N → Bool) (failed : N → ℕ) (n : ℕ) (command : Command) (old : Device N) (result : Result (Unit {0}) DeviceFault) (new : Device N) : Type 0 where
+  pub stays : Stays honest calm failed old new
+  pub refuses : Refuses failed old result new
+  pub refuses_sector : RefusesSector n old result new
+  pub programs : ProgramsSector n old result new
+  pub logs : honest old.engine.nand ≡ true → result ≢ Err BusFault → Logs flash command old result new
+  pub means : honest old.engine.nand ≡ true → IsWell flash old → result ≢ Err BusFault → Means flash command old result new
+  pub stale : honest old.engine.nand ≡ true → IsWell flash old → is_stale old.engine.geometry (image_in flash old.engine) n ≡ true → result ≢ Err OutOfMemory
