@@ -23,11 +23,13 @@ use Rattle.ftl_device.specs.declared.device.Device.{Device}
 use Rattle.ftl_device.specs.Device.{IsAcceptedFor}
 use Rattle.ftl_device.specs.Begin.{begun_ram, is_bad_in, free_in, is_scarce}
 use Rattle.ftl_device.specs.Calls.{stop_of, IsWell}
-use Rattle.ftl_device.specs.Run.{Exchange, AreKnown, HasRun, Ran, RanFrom, accepted_first, accepted_device, replies_in}
+use Rattle.ftl_device.specs.Run.{Exchange, AreKnown, HasRun, Ran, RanFrom, RunsTo, Tells, Until, accepted_first, accepted_device, replies_in}
+use Rattle.ftl_device.specs.declared.fault.DeviceFault.TheVariants.{BusFault}
 use Rattle.ftl_device.proofs.AcceptedLemmas.{started_well, ran_accepted}
+use Rattle.ftl_device.proofs.ToldLemmas.{until_so, fault_rose}
 use Rattle.block_server.specs.declared.server.Served.{Served}
 use Rattle.block_server.specs.Session.{Session, Serves}
-use Rattle.block_server.specs.Checked.{Headline, IsServed}
+use Rattle.block_server.specs.Checked.{Headline, HoldsTo, HasFailed, IsServed}
 
 -- what was accepted for the image before the reads is so for that after them
 accepted_for : (s t : Flash) (g : Geometry) (capacity : ℕ) (c : Claim) (a : Acceptance) → t ≡ s → s.geometry ≡ g → IsImage g s.image → IsAcceptance g capacity s.image c a → IsAcceptedFor t a
@@ -60,7 +62,7 @@ record RunsLegally (g : Geometry) (c : Claim) (s t : Flash) (ro : Bool) (xs : Li
   pub legal : IsLegal g s.image (is_bad_in c) (log_of run.events)
 
 -- Of a die as it was handed in, as the checker left it, and as the device gives it back.
-module _ {N : Type 0} (flash : N → Flash) (honest : N → Bool) (failed : N → ℕ) (nand checked given : N) (g : Geometry) (capacity : ℕ) (c : Claim) (a : Acceptance) (d e : Device N)
+module _ {N : Type 0} (flash : N → Flash) (honest : N → Bool) (failed : N → ℕ) (nand checked given : N) (g : Geometry) (capacity : ℕ) (c : Claim) (a : Acceptance) (d : Device N)
     (sized : (flash nand).geometry ≡ g) (sized' : (flash checked).geometry ≡ (flash nand).geometry)
     (honest_is : honest checked ≡ honest nand) (failed_is : failed nand ≤ failed checked)
     (same : honest nand ≡ true → flash checked ≡ flash nand) (whole : honest nand ≡ true → IsImage g (flash nand).image)
@@ -68,8 +70,7 @@ module _ {N : Type 0} (flash : N → Flash) (honest : N → Bool) (failed : N �
     (nand_is : d.engine.nand ≡ checked) (begun : ram d.engine ≡ begun_ram (flash checked).geometry a.claim a.stale)
     (truth : honest checked ≡ true → IsAcceptedFor (flash checked) a → IsTrue None (ram d.engine) (image_in flash d.engine))
     (free : honest checked ≡ true → IsAcceptedFor (flash checked) a → d.read_only ≡ is_scarce (free_in (flash checked).geometry a.claim (flash checked).image))
-    (accounts : honest checked ≡ true → IsAcceptedFor (flash checked) a → IsAccounted (accounts_of (flash checked).geometry (flash checked).image (is_bad_in a.claim)) (state d.engine.blocks))
-    (given_is : given ≡ e.engine.nand) where
+    (accounts : honest checked ≡ true → IsAcceptedFor (flash checked) a → IsAccounted (accounts_of (flash checked).geometry (flash checked).image (is_bad_in a.claim)) (state d.engine.blocks)) where
   geometry_is : d.engine.geometry ≡ g
   geometry_is = ap (λ (r : Ram). r.geometry) begun ∙ (sized' ∙ sized)
 
@@ -87,38 +88,54 @@ module _ {N : Type 0} (flash : N → Flash) (honest : N → Bool) (failed : N �
       subst (λ (f : Flash). HasOneArray g f.image) (ap flash nand_is ∙ same h)
       (subst (λ k. HasOneArray k (image_in flash d.engine)) geometry_is (known_truth h).one)
 
-  runs : (h : honest nand ≡ true) (xs : List Exchange) → Ran flash d xs e → RunsLegally g c (flash nand) (flash given) e.read_only xs
-  runs h xs ran =
-      let from : RanFrom flash (flash checked) a.claim xs e = ran_accepted flash (flash checked) a d e xs (ap flash nand_is) begun (accepted h) (free (honest_is ∙ h) (accepted h)) (accounts (honest_is ∙ h) (accepted h)) ran in
-      let first : RunsLegally (flash checked).geometry a.claim (flash checked) (flash e.engine.nand) e.read_only xs = record { run = from.run; legal = from.legal } in
-      let then : RunsLegally (flash nand).geometry a.claim (flash nand) (flash e.engine.nand) e.read_only xs =
-      subst (λ (f : Flash). RunsLegally f.geometry a.claim f (flash e.engine.nand) e.read_only xs) (same h) first in
-      let there : RunsLegally g a.claim (flash nand) (flash e.engine.nand) e.read_only xs =
-      subst (λ k. RunsLegally k a.claim (flash nand) (flash e.engine.nand) e.read_only xs) sized then in
-      subst (λ n. RunsLegally g c (flash nand) (flash n) e.read_only xs) (sym given_is)
-      (subst (λ k. RunsLegally g k (flash nand) (flash e.engine.nand) e.read_only xs) claim_is there)
+  -- the exchanges that lead to this device
+  module _ (xs : List Exchange) (e : Device N) (runs_to : RunsTo flash honest failed d xs e) where
+    runs : honest nand ≡ true → RunsLegally g c (flash nand) (flash e.engine.nand) e.read_only xs
+    runs h =
+        let ran : Ran flash d xs e = (runs_to.1 (ap honest nand_is ∙ (honest_is ∙ h)) (well h)).1 in
+        let from : RanFrom flash (flash checked) a.claim xs e = ran_accepted flash (flash checked) a d e xs (ap flash nand_is) begun (accepted h) (free (honest_is ∙ h) (accepted h)) (accounts (honest_is ∙ h) (accepted h)) ran in
+        let first : RunsLegally (flash checked).geometry a.claim (flash checked) (flash e.engine.nand) e.read_only xs = record { run = from.run; legal = from.legal } in
+        let then : RunsLegally (flash nand).geometry a.claim (flash nand) (flash e.engine.nand) e.read_only xs =
+        subst (λ (f : Flash). RunsLegally f.geometry a.claim f (flash e.engine.nand) e.read_only xs) (same h) first in
+        let there : RunsLegally g a.claim (flash nand) (flash e.engine.nand) e.read_only xs =
+        subst (λ k. RunsLegally k a.claim (flash nand) (flash e.engine.nand) e.read_only xs) sized then in
+        subst (λ k. RunsLegally g k (flash nand) (flash e.engine.nand) e.read_only xs) claim_is there
 
-  abbrev Rose : List Exchange → N → Type 0
-  Rose xs n = AreKnown xs ⊎ HasRisen (failed nand) (failed n)
+    holds_to : HoldsTo flash honest nand g capacity c xs e.engine.nand
+    holds_to h =
+        let its = runs h in
+        record { agrees = (acceptance h).agrees; one = one_array h; ro = e.read_only; run = its.run; legal = its.legal }
 
-  rose_by : {P : Type 0} (xs : List Exchange) → (P × AreKnown xs) ⊎ HasRisen (failed d.engine.nand) (failed e.engine.nand) → Rose xs given
-  rose_by xs (inl known) = inl known.1
-  rose_by xs (inr risen) =
-      let from : HasRisen (failed checked) (failed e.engine.nand) = subst (λ n. HasRisen (failed n) (failed e.engine.nand)) nand_is risen in
-      inr (subst (λ n. HasRisen (failed nand) (failed n)) (sym given_is) (risen_over (failed nand) (failed checked) (failed e.engine.nand) failed_is from))
+    -- the call that came then, and that the bus failed in
+    has_failed : (x : Exchange) (f : Device N) → AreKnown xs → x.result ≡ Err BusFault → Tells flash honest failed e x f → HasFailed failed e.engine.nand x f.engine.nand
+    has_failed x f known bus tells = fault_rose flash honest failed e f x tells (runs_to.0.going (ap (λ (r : Ram). stop_of r.fault) begun) known) bus
 
-  pub is_served : (u v b w : Option (List ℕ)) (result : Result Served ServeFault) → Session flash honest failed d e u v b w result → IsServed flash honest failed nand g capacity c u v b w result given
-  is_served u v b w result session = record {
-    requests = session.requests;
-    exchanges = session.exchanges;
-    commands = session.commands;
-    stream = subst (λ (k : Geometry). Serves k.data_bytes u v b w session.requests (replies_in session.exchanges) result) geometry_is session.stream;
-    stays = session.told.stays;
-    honest_is = ap honest given_is ∙ (session.told.honest_is ∙ (ap honest nand_is ∙ honest_is));
-    sized = ap (λ n. (flash n).geometry) given_is ∙ (session.told.device.engine.geometry ∙ (session.told.sized ∙ geometry_is));
-    rose = rose_by session.exchanges (session.told.rose (ap (λ (r : Ram). stop_of r.fault) begun));
-    headline = λ h known.
-        let ran : Ran flash d session.exchanges e = (session.told.ran (ap honest nand_is ∙ (honest_is ∙ h)) (well h) known).1 in
-        let legal = runs h session.exchanges ran in
-        record { agrees = (acceptance h).agrees; one = one_array h; ro = e.read_only; run = legal.run; legal = legal.legal };
-  }
+  module _ (e : Device N) (given_is : given ≡ e.engine.nand) where
+    abbrev Rose : List Exchange → N → Type 0
+    Rose xs n = AreKnown xs ⊎ HasRisen (failed nand) (failed n)
+
+    rose_by : (xs : List Exchange) → AreKnown xs ⊎ HasRisen (failed d.engine.nand) (failed e.engine.nand) → Rose xs given
+    rose_by xs (inl known) = inl known
+    rose_by xs (inr risen) =
+        let from : HasRisen (failed checked) (failed e.engine.nand) = subst (λ n. HasRisen (failed n) (failed e.engine.nand)) nand_is risen in
+        inr (subst (λ n. HasRisen (failed nand) (failed n)) (sym given_is) (risen_over (failed nand) (failed checked) (failed e.engine.nand) failed_is from))
+
+    holds_until : (xs : List Exchange) → Until (RunsTo flash honest failed d) (Tells flash honest failed) xs e → Until (HoldsTo flash honest nand g capacity c) (HasFailed failed) xs given
+    holds_until xs until =
+        subst (Until (HoldsTo flash honest nand g capacity c) (HasFailed failed) xs) (sym given_is)
+        (until_so (λ (f : Device N). f.engine.nand) (RunsTo flash honest failed d) (HoldsTo flash honest nand g capacity c) (Tells flash honest failed) (HasFailed failed) xs e holds_to (λ before mid x known runs_to bus tells. has_failed before mid runs_to x e known bus tells) until)
+
+    pub is_served : (u v b w : Option (List ℕ)) (result : Result Served ServeFault) → Session flash honest failed d e u v b w result → IsServed flash honest failed nand g capacity c u v b w result given
+    is_served u v b w result session =
+        let calls = session.told.calls in
+        record {
+          requests = session.requests;
+          exchanges = session.exchanges;
+          commands = session.commands;
+          stream = subst (λ (k : Geometry). Serves k.data_bytes u v b w session.requests (replies_in session.exchanges) result) geometry_is session.stream;
+          stays = calls.stays;
+          honest_is = ap honest given_is ∙ (calls.honest_is ∙ (ap honest nand_is ∙ honest_is));
+          sized = ap (λ n. (flash n).geometry) given_is ∙ (calls.device.engine.geometry ∙ (calls.sized ∙ geometry_is));
+          rose = rose_by session.exchanges (calls.rose (ap (λ (r : Ram). stop_of r.fault) begun));
+          headline = holds_until session.exchanges session.told.until;
+        }

@@ -64,7 +64,7 @@ module _ {N : Type 0} (flash : N → Flash) (honest : N → Bool) (failed : N �
 
   module _ (mid : Device N) (u v b c : Option (List ℕ)) (n : ℕ) (safe : IsDevice flash old) (so_far : IsServing flash honest failed old mid u v (Appends b c) n) where
     size_is : mid.engine.geometry.data_bytes ≡ old.engine.geometry.data_bytes
-    size_is = ap (λ g. g.data_bytes) so_far.told.sized
+    size_is = ap (λ g. g.data_bytes) so_far.told.calls.sized
 
     -- the requests, and then these bytes
     reads_then : (w : Option (List ℕ)) (tail : List ℕ) → Consumes v w tail → Reads old.engine.geometry.data_bytes u w so_far.requests tail

@@ -15,7 +15,7 @@ use Rattle.image_check.specs.declared.refusal.Refusal.{Refusal}
 use Rattle.image_check.specs.declared.refusal.Refusal.TheVariants as refusal
 use Rattle.request_stream.specs.declared.reply.ServeFault.{ServeFault}
 use Rattle.ftl_device.specs.Begin.{is_bad_in}
-use Rattle.ftl_device.specs.Run.{Exchange, commands_in, replies_in, AreKnown, StaysStopped, HasRun, accepted_first, accepted_device}
+use Rattle.ftl_device.specs.Run.{Exchange, commands_in, replies_in, AreKnown, StaysStopped, Until, HasRun, accepted_first, accepted_device}
 use Rattle.block_server.specs.declared.server.Served.{Served}
 use Rattle.block_server.specs.declared.checked.RunFault.{RunFault}
 use Rattle.block_server.specs.declared.checked.RunFault.TheVariants.{Refused, Start, Serve}
@@ -34,8 +34,16 @@ pub record Headline (g : Geometry) (capacity : ℕ) (c : Claim) (s t : Flash) (x
   pub run : HasRun (accepted_first g c) (accepted_device s c) (record { flash = t; ro = ro }) xs
   pub legal : IsLegal g s.image (is_bad_in c) (log_of run.events)
 
--- Requests were served: what was read and written, and what the device answered. Where the die is honest and answered all that it was asked,
--- the headline holds.
+-- the headline holds of these exchanges, which leave the die so
+abbrev pub HoldsTo : {N : Type 0} → (N → Flash) → (N → Bool) → N → Geometry → ℕ → Claim → List Exchange → N → Type 0
+HoldsTo flash honest nand g capacity c xs held = honest nand ≡ true → Headline g capacity c (flash nand) (flash held) xs
+
+-- the bus failed: the die's count of failures rose in this call, or stands at its top
+abbrev pub HasFailed : {N : Type 0} → (N → ℕ) → N → Exchange → N → Type 0
+HasFailed failed held x then = HasRisen (failed held) (failed then)
+
+-- Requests were served: what was read and written, and what the device answered. Where the die is honest, the headline holds of the exchanges
+-- before the first fault of the bus: of all of them where there is none. From it on each is answered that fault.
 pub record IsServed {N : Type 0} (flash : N → Flash) (honest : N → Bool) (failed : N → ℕ) (nand : N) (g : Geometry) (capacity : ℕ) (c : Claim) (unread left before after : Option (List ℕ)) (result : Result Served ServeFault) (given : N) : Type 0 where
   pub requests : List Request
   pub exchanges : List Exchange
@@ -45,7 +53,7 @@ pub record IsServed {N : Type 0} (flash : N → Flash) (honest : N → Bool) (fa
   pub honest_is : honest given ≡ honest nand
   pub sized : (flash given).geometry ≡ g
   pub rose : AreKnown exchanges ⊎ HasRisen (failed nand) (failed given)
-  pub headline : honest nand ≡ true → AreKnown exchanges → Headline g capacity c (flash nand) (flash given) exchanges
+  pub headline : Until (HoldsTo flash honest nand g capacity c) (HasFailed failed) exchanges given
 
 -- nothing was read or written
 pub record IsUntouched (unread left before after : Option (List ℕ)) : Type 0 where

@@ -40,8 +40,9 @@ pub enum RunFault<N> {
 /// then. The other refusals of a write are `SequenceSpent`, with the last sequence given out, and
 /// `OutOfMemory`. Bad are the blocks that the certificate gives as bad, and those that have failed since.
 ///
-/// It is said where the die is honest and answered every operation, so that no reply is `BusFault`, which
-/// comes only where the die's count of faults rose or stands at 2^64 - 1.
+/// It is said where the die is honest, of the calls before the first fault of the bus: of all of them
+/// where no reply is `BusFault`. That reply comes only where the die's count of faults rose in the call
+/// or stands at 2^64 - 1, and every reply after it is the same.
 ///
 /// # Errors
 ///

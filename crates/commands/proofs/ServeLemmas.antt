@@ -10,7 +10,8 @@ use Rattle.certificate.specs.Claim.{Claim}
 use Rattle.request_stream.specs.declared.reply.ServeFault.{ServeFault}
 use Rattle.ftl_device.specs.Run.{Exchange, AreKnown}
 use Rattle.block_server.specs.declared.server.Served.{Served}
-use Rattle.block_server.specs.Checked.{IsServed}
+use Rattle.ftl_device.proofs.ToldLemmas.{until_known}
+use Rattle.block_server.specs.Checked.{HoldsTo, HasFailed, IsServed}
 use Rattle.commands.specs.declared.text.ServeStop.{ServeStop}
 use Rattle.nand_die.specs.Made.{loaded_flash}
 use Rattle.image_check.specs.Agrees.{Agrees}
@@ -42,7 +43,7 @@ die_served flash honest failed nand given g capacity c u v b w result how after 
     commands = s.commands;
     stream = s.stream;
     flash = flash given;
-    headline = s.headline h (all_known s.exchanges (failed nand) (failed given) most s.rose le none);
+    headline = until_known (HoldsTo flash honest nand g capacity c) (HasFailed failed) s.exchanges given s.headline (all_known s.exchanges (failed nand) (failed given) most s.rose le none) h;
     pages = ap (λ k. raw_image k after) (sym sized) ∙ (pages ∙ ap (λ (f : Flash). f.image) same);
     bytes = bytes ∙ ap (λ (f : Flash). raw_bytes f.image) same;
   };

@@ -99,7 +99,7 @@ module _ {N : Type 0} (flash : N → Flash) (honest : N → Bool) (failed : N �
   pub running_more : IsRunning flash honest failed old new before (set calls done after) (done + 1)
   running_more = record {
     was_told = subst (λ (cs : List Call). WasTold flash honest failed old (exchanges_of cs) new) (sym its_take) told_on;
-    whole = all_set (IsWhole old.engine.geometry) calls done after (subst (λ bs. HasRoom old.engine.geometry after.command bs) (sym bytes_are) (subst (λ (g : Geometry). HasRoom g after.command bytes) running.was_told.sized room)) running.whole;
+    whole = all_set (IsWhole old.engine.geometry) calls done after (subst (λ bs. HasRoom old.engine.geometry after.command bs) (sym bytes_are) (subst (λ (g : Geometry). HasRoom g after.command bytes) running.was_told.calls.sized room)) running.whole;
     told_is = map_set told calls done call after at (ap command_of command_is) ∙ running.told_is;
     answered = subst AreAnswered (sym its_take) (all_more (λ (c : Call). IsSome c.reply) (take done calls) after running.answered (subst IsSome (sym replied) refl));
     kept = subst (λ n. HaveKeptSo n before (set calls done after)) (let on : suc done ≡ done + 1 = omega arith in on) (kept_more done before calls call after at its_bytes running.kept);

@@ -9,6 +9,7 @@ use Rattle.page_layout.specs.Counter.{HasRisen}
 use Rattle.page_layout.specs.Flash.{Flash, Operation}
 use Rattle.mapping_cache.specs.Mapping.{HasLimitsOf}
 use Rattle.certificate.specs.Claim.{Claim}
+use Rattle.image_check.specs.Accepted.{Acceptance}
 use Rattle.image_check.specs.Stale.{is_stale, stale_sectors}
 use Rattle.image_check.specs.Blocks.{erase_count}
 use Rattle.image_check.specs.Mountable.{IsMountable}
@@ -27,7 +28,7 @@ use Rattle.ftl_device.specs.declared.fault.DeviceFault.TheVariants.{OutOfRange, 
 use Rattle.ftl_device.specs.declared.run.Command.{Command}
 use Rattle.ftl_device.specs.declared.run.Command.TheVariants.{Read, Write, Trim, Flush, Turn}
 use Rattle.ftl_device.specs.declared.run.Call.{Call}
-use Rattle.ftl_device.specs.Device.{IsDevice}
+use Rattle.ftl_device.specs.Device.{IsDevice, IsAcceptedFor}
 use Rattle.ftl_device.specs.Begin.{is_bad_in, wear_in, free_in, is_scarce}
 use Rattle.ftl_device.specs.Calls.{state_in, reply_of, read_reply_of, stop_of, IsWell}
 use Rattle.bad_blocks.specs.Table.{wear_at, most_wear}
@@ -263,10 +264,9 @@ pub record Tells {N : Type 0} (flash : N → Flash) (honest : N → Bool) (faile
 abbrev pub AreHalted : Option DeviceFault → List Exchange → Type 0
 AreHalted stop xs = AllByRecursion (λ (x : Exchange). (fault : DeviceFault) → x.result ≡ Err fault → Stops x.command fault → stop ≡ Some fault) xs
 
--- MANY CALLS, one after another, from the one device to the other. A device that was stopped, before them or by one of them, stays so;
--- `BusFault` came, of a device not stopped before, only where the die's count of failures rose or stands at its top; where the die is honest
--- and no answer is `BusFault`, they are a run.
-pub record WasTold {N : Type 0} (flash : N → Flash) (honest : N → Bool) (failed : N → ℕ) (old : Device N) (xs : List Exchange) (new : Device N) : Type 0 where
+-- MANY CALLS, one after another, from the one device to the other, whatever the die does. A device that was stopped, before them or by one of
+-- them, stays so; `BusFault` came, of a device not stopped before, only where the die's count of failures rose or stands at its top.
+pub record AreTold {N : Type 0} (flash : N → Flash) (honest : N → Bool) (failed : N → ℕ) (old : Device N) (xs : List Exchange) (new : Device N) : Type 0 where
   pub device : IsDevice flash new
   pub sized : new.engine.geometry ≡ old.engine.geometry
   pub limits : HasLimitsOf old.engine.mapping new.engine.mapping
@@ -275,5 +275,38 @@ pub record WasTold {N : Type 0} (flash : N → Flash) (honest : N → Bool) (fai
   pub stopped : ForSome (stop_of old.engine.fault) (λ fault. AreRefused fault xs × (new ≡ old))
   pub halted : AreHalted (stop_of new.engine.fault) xs
   pub stays : StaysStopped xs
-  pub rose : stop_of old.engine.fault ≡ None → ((stop_of new.engine.fault ≢ Some BusFault) × AreKnown xs) ⊎ HasRisen (failed old.engine.nand) (failed new.engine.nand)
-  pub ran : honest old.engine.nand ≡ true → IsWell flash old → AreKnown xs → IsWell flash new × Ran flash old xs new
+  pub going : stop_of old.engine.fault ≡ None → AreKnown xs → stop_of new.engine.fault ≢ Some BusFault
+  pub rose : stop_of old.engine.fault ≡ None → AreKnown xs ⊎ HasRisen (failed old.engine.nand) (failed new.engine.nand)
+
+-- ---- up to the first fault of the bus
+
+-- one call leads to the end, and those after it change nothing; with no call at all the end is here
+abbrev pub EndsBy : {S : Type 0} → (S → Exchange → S → Type 0) → S → List Exchange → S → Type 0
+EndsBy Fails mid [] new = new ≡ mid
+EndsBy Fails mid (x ∷ xs) new = Fails mid x new
+
+-- UP TO THE FIRST FAULT OF THE BUS. The calls before it lead to `mid`, and were all answered. The call in which the bus failed and all after it
+-- were answered `BusFault`; that call leads from `mid` to the end, and those after it change nothing. With no such fault all calls come before
+-- it, and `mid` is the end.
+pub record Until {S : Type 0} (Runs : List Exchange → S → Type 0) (Fails : S → Exchange → S → Type 0) (xs : List Exchange) (new : S) : Type 0 where
+  pub before : List Exchange
+  pub rest : List Exchange
+  pub joined : xs ≡ before ++ rest
+  pub known : AreKnown before
+  pub refused : AreRefused BusFault rest
+  pub mid : S
+  pub runs : Runs before mid
+  pub fails : EndsBy Fails mid rest new
+
+-- calls that were all answered: of an honest die they are a run
+abbrev pub RunsTo : {N : Type 0} → (N → Flash) → (N → Bool) → (N → ℕ) → Device N → List Exchange → Device N → Type 0
+RunsTo flash honest failed old xs mid = AreTold flash honest failed old xs mid × (honest old.engine.nand ≡ true → IsWell flash old → IsWell flash mid × Ran flash old xs mid)
+
+-- the same from an accepted certificate
+abbrev pub RunsFrom : {N : Type 0} → (N → Flash) → (N → Bool) → N → Acceptance → List Exchange → Device N → Type 0
+RunsFrom flash honest nand accepted xs mid = honest nand ≡ true → IsAcceptedFor (flash nand) accepted → IsWell flash mid × RanFrom flash (flash nand) accepted.claim xs mid
+
+-- A LIST OF CALLS: those before the first fault of the bus are a run, and all from it on answer that fault.
+pub record WasTold {N : Type 0} (flash : N → Flash) (honest : N → Bool) (failed : N → ℕ) (old : Device N) (xs : List Exchange) (new : Device N) : Type 0 where
+  pub calls : AreTold flash honest failed old xs new
+  pub until : Until (RunsTo flash honest failed old) (Tells flash honest failed) xs new

@@ -4,10 +4,10 @@ ghost use Rattle.std.specs.Option.{ForSome};
 ghost use Rattle.page_layout.specs.Counter.{HasRisen};
 ghost use Rattle.mapping_cache.specs.Mapping.{HasLimitsOf};
 ghost use Rattle.certificate.specs.Claim.{sizes_of};
-ghost use Rattle.ftl_device.specs.Device.{IsDevice, IsAcceptedFor};
+ghost use Rattle.ftl_device.specs.Device.{IsDevice};
 ghost use Rattle.ftl_device.specs.Calls.{stop_of, IsWell};
 ghost use Rattle.ftl_device.specs.Run.{command_of, room_for, told, exchanges_of, HasRoom, AreWhole, AreKnown, AreAnswered};
-ghost use Rattle.ftl_device.specs.Run.{Stops, StaysStopped, KeepsBytes, HaveKept, Happened, WasTold, RanFrom};
+ghost use Rattle.ftl_device.specs.Run.{Stops, StaysStopped, KeepsBytes, HaveKept, Happened, Tells, WasTold, Until, RunsFrom};
 
 use crate::device::Device;
 use crate::fault::{DeviceFault, StartFault};
@@ -115,12 +115,12 @@ impl<N: Nand> Device<N> {
     /// takes no memory of its own. A device that was stopped answers its fault to all that is left:
     /// `BusFault` stops it, and `Damaged` after a write or trim.
     ///
-    /// To a device that wasn't stopped, `BusFault` is answered only where the die's count of failures
-    /// rose in the run or stands at 2^64 - 1. Where the die is honest and gave every outcome, so that
-    /// no answer is `BusFault`, the answers are a run of the array that the die's image holds as it
-    /// begins: each answer is the array's, the image holds the array after each, the log of it all is
-    /// legal, none is `Damaged`, and each `ReadOnly` has fewer than five free blocks and its counts by
-    /// the image and that log.
+    /// Where the die is honest, the answers before the first `BusFault` are a run of the array that
+    /// the die's image holds as it begins: each answer is the array's, the image holds the array after
+    /// each, the log of it all is legal, none is `Damaged`, and each `ReadOnly` has fewer than five
+    /// free blocks and its counts by the image and that log. The call in which the bus failed and all
+    /// after it answer `BusFault`, and those after it change nothing. To a device that wasn't stopped
+    /// it comes only where the die's count of failures rose in that call or stands at 2^64 - 1.
     ///
     /// (This project.)
     pub fn run(&mut self, calls: &mut [Call<'_>])
@@ -141,11 +141,11 @@ impl<N: Nand> Device<N> {
     /// Starts a device over a die whose image a checker accepted, and tells it a list of commands, as
     /// `start` and `run` do.
     ///
-    /// `BusFault` is answered only where the die's count of failures rose or stands at 2^64 - 1. Where
-    /// no answer is `BusFault`, the die is honest and the certificate was accepted for its image, the
-    /// answers are a run of the array that this image holds; the log of it all is legal for this image
-    /// and the certificate's bad blocks, none is `Damaged`, and each `ReadOnly` has fewer than five
-    /// free blocks and its counts by the image and that log. `read_only` is the run's as it ends.
+    /// Where the die is honest and the certificate was accepted for its image, the answers before the
+    /// first `BusFault` are a run of the array that this image holds; the log of it all is legal for
+    /// this image and the certificate's bad blocks, none is `Damaged`, and each `ReadOnly` has fewer
+    /// than five free blocks and its counts by the image and that log. All answers from the first
+    /// `BusFault` on are that fault, as `run` says. With none, `read_only` is the run's as it ends.
     ///
     /// # Errors
     ///
@@ -168,11 +168,8 @@ impl<N: Nand> Device<N> {
         ensures stays { OnOk result (StaysStopped (exchanges_of calls.new)) }
         ensures rose { IfOk result (λ d. AreKnown (exchanges_of calls.new) ⊎ HasRisen (N.failed nand) (N.failed d.engine.nand)) }
 
-        // What is true of an honest die.
-        ensures well { IfOk result (λ d. N.honest nand ≡ true → IsAcceptedFor (N.flash nand) accepted.entry → AreKnown (exchanges_of calls.new) →
-            IsWell N.flash d) }
-        ensures ran { IfOk result (λ d. N.honest nand ≡ true → IsAcceptedFor (N.flash nand) accepted.entry → AreKnown (exchanges_of calls.new) →
-            RanFrom N.flash (N.flash nand) accepted.entry.claim (exchanges_of calls.new) d) }
+        // Up to the first fault of the bus.
+        ensures until { IfOk result (Until (RunsFrom N.flash N.honest nand accepted.entry) (Tells N.flash N.honest N.failed) (exchanges_of calls.new)) }
         ensures fault { IfErr result (λ fault. fault ≡ StartFault.OutOfMemory nand accepted.entry) }
         ensures untold { OnErr result (calls.new ≡ calls.old) }
     {

@@ -16,6 +16,7 @@ use page_layout::geometry::Geometry;
 use promises::stream::Op;
 use request_stream::{Header, send_reply};
 use std::alloc::Global;
+use std::process::Abort;
 use std::test::Fail;
 
 // A write of sector 5.
@@ -151,19 +152,55 @@ fn damage_is_answered(rt: HostRuntime) -> Result<(), Fail> {
     Ok(())
 }
 
-// The bus breaks down in the first read: the device answers nothing else from then on.
-#[test]
-fn broken_bus_is_answered(rt: HostRuntime) -> Result<(), Fail> {
-    let alloc = rt.alloc();
+// A bus that breaks down for one call, after it handed on so many, and what is answered over it.
+struct Break {
+    name: &'static str,
+    passed: u64,
+    output: &'static [u8],
+}
+
+// A read of sector 5, a turn, the read again, a flush, and the read once more.
+const LONG: &[u8] =
+    b"\x44\x46\x01\x00\x03\x00\x00\x00\x05\x00\x00\x00\x44\x46\x05\x00\x04\x00\x00\x00\x00\x00\x00\x00\x44\x46\x01\x00\x03\x00\x00\x00\x05\x00\x00\x00\x44\x46\x04\x00\x05\x00\x00\x00\x00\x00\x00\x00\x44\x46\x01\x00\x03\x00\x00\x00\x05\x00\x00\x00";
+
+// Before the fault each answer is the array's, and from it on each is the fault.
+const BREAKS: &[Break] = &[
+    Break {
+        name: "in the first read",
+        passed: 5,
+        output: b"df\x01\x06\x03\x00\x00\x00df\x05\x06\x04\x00\x00\x00df\x01\x06\x03\x00\x00\x00df\x04\x06\x05\x00\x00\x00df\x01\x06\x03\x00\x00\x00",
+    },
+    Break {
+        name: "in the second read",
+        passed: 12,
+        output: b"df\x01\x00\x03\x00\x00\x00\x11\x11\x11\x11\x11\x11\x11\x11\x11\x11\x11\x11\x11\x11\x11\x11\x11\x11\x11\x11\x11\x11\x11\x11\x11\x11\x11\x11\x11\x11\x11\x11\x11\x11\x11\x11\x11\x11\x11\x11\x11\x11\x11\x11\x11\x11\x11\x11\x11\x11\x11\x11\x11\x11\x11\x11\x11\x11\x11\x11\x11\x11\x11\x11df\x05\x00\x04\x00\x00\x00df\x01\x06\x03\x00\x00\x00df\x04\x06\x05\x00\x00\x00df\x01\x06\x03\x00\x00\x00",
+    },
+    Break {
+        name: "in the flush",
+        passed: 25,
+        output: b"df\x01\x00\x03\x00\x00\x00\x11\x11\x11\x11\x11\x11\x11\x11\x11\x11\x11\x11\x11\x11\x11\x11\x11\x11\x11\x11\x11\x11\x11\x11\x11\x11\x11\x11\x11\x11\x11\x11\x11\x11\x11\x11\x11\x11\x11\x11\x11\x11\x11\x11\x11\x11\x11\x11\x11\x11\x11\x11\x11\x11\x11\x11\x11\x11\x11\x11\x11\x11\x11\x11df\x05\x00\x04\x00\x00\x00df\x01\x00\x03\x00\x00\x00\x11\x11\x11\x11\x11\x11\x11\x11\x11\x11\x11\x11\x11\x11\x11\x11\x11\x11\x11\x11\x11\x11\x11\x11\x11\x11\x11\x11\x11\x11\x11\x11\x11\x11\x11\x11\x11\x11\x11\x11\x11\x11\x11\x11\x11\x11\x11\x11\x11\x11\x11\x11\x11\x11\x11\x11\x11\x11\x11\x11\x11\x11\x11\x11df\x04\x06\x05\x00\x00\x00df\x01\x06\x03\x00\x00\x00",
+    },
+];
+
+// Holds a row over a die that has sector 5 written.
+fn hold_break(rt: &impl Abort, alloc: Global, row: &Break) -> Result<(), Fail> {
+    let name = row.name;
     let geometry = small()?;
     let driver = formatted(alloc, geometry)?;
     let mut writer = Narrow::new(alloc, 1000, 0);
     let mut driver = served(alloc, driver, &geometry, 4, WRITE, &mut writer)?;
     let certificate = mount(alloc, &mut driver, &geometry, 4)?;
     let accepted = check(alloc, &mut driver, &geometry, 4, &certificate)?;
-    let fuse = CycleFuse::new(driver.into_bus(), 5, 1);
-    let written = replies(alloc, fuse, accepted, geometry, READS)?;
-    let want = b"df\x01\x06\x03\x00\x00\x00df\x05\x06\x04\x00\x00\x00df\x01\x06\x03\x00\x00\x00";
-    assert!(rt; written.as_slice() == want.as_slice());
+    let fuse = CycleFuse::new(driver.into_bus(), row.passed, 1);
+    let written = replies(alloc, fuse, accepted, geometry, LONG)?;
+    assert!(rt; written.as_slice() == row.output, "{name}");
+    Ok(())
+}
+
+#[test]
+fn broken_bus_is_answered(rt: HostRuntime) -> Result<(), Fail> {
+    for row in BREAKS {
+        hold_break(&rt, rt.alloc(), row)?;
+    }
     Ok(())
 }

@@ -11,6 +11,7 @@ use Rattle.collection.proofs.Costs.{risen_over}
 use Rattle.onfi_cycles.specs.Driver.{flash_by}
 use Rattle.ftl_device.specs.Device.{IsAcceptedFor}
 use Rattle.ftl_device.specs.Run.{RanFrom, exchanges_of}
+use Rattle.ftl_device.proofs.ToldLemmas.{until_known}
 use Rattle.device_tests.proofs.tests.lists.run_on_die.Goals as goal
 
 -- what was accepted for the image before the reads is so for that after them
@@ -42,5 +43,5 @@ returns-in-Ok c =
       rose = risen_since c.args.driver.failures c.check.new.source.failures c.in-Ok.device.engine.nand.failures its.failed (c.in-Ok.ensures.rose);
       ran = λ known.
           subst (λ s. RanFrom (flash_by (λ die. die.state)) s c.args.certificate.now (exchanges_of c.run_accepted.new.calls) c.in-Ok.device) same
-          (subst (λ k. RanFrom (flash_by (λ die. die.state)) (flash_by (λ die. die.state) c.check.new.source) k (exchanges_of c.run_accepted.new.calls) c.in-Ok.device) its.accepted.0 (c.in-Ok.ensures.ran refl accepted known));
+          (subst (λ k. RanFrom (flash_by (λ die. die.state)) (flash_by (λ die. die.state) c.check.new.source) k (exchanges_of c.run_accepted.new.calls) c.in-Ok.device) its.accepted.0 (until_known _ _ _ _ c.in-Ok.ensures.until known refl accepted).1);
     }

@@ -1,17 +1,16 @@
 use Rattle.std.proofs.Common.{◌∙◌, ap}
-use Rattle.ftl_device.specs.Run.{exchanges_of}
+use Rattle.ftl_device.specs.Run.{exchanges_of, Tells, RunsTo, RunsFrom}
 use Rattle.ftl_device.proofs.AcceptedLemmas.{started_well, ran_accepted}
+use Rattle.ftl_device.proofs.ToldLemmas.{until_so}
 use Rattle.ftl_device.proofs.device.Device.run_accepted.Goals as goal
 
-pub returns-clause-well : goal.returns-clause-well
-returns-clause-well g c = λ honest accepted known.
+pub returns-clause-until : goal.returns-clause-until
+returns-clause-until g c =
     let its = c.in_ok-device.ensures in
-    let well = started_well g.N.PageSource.flash c.in_ok-device.device (g.N.PageSource.flash c.args.nand).geometry c.args.accepted.claim c.args.accepted.stale its.begun (its.truth honest accepted) in
-    (c.run.ensures.told.ran (ap g.N.PageSource.honest its.nand ∙ honest) well known).0
-
-pub returns-clause-ran : goal.returns-clause-ran
-returns-clause-ran g c = λ honest accepted known.
-    let its = c.in_ok-device.ensures in
-    let well = started_well g.N.PageSource.flash c.in_ok-device.device (g.N.PageSource.flash c.args.nand).geometry c.args.accepted.claim c.args.accepted.stale its.begun (its.truth honest accepted) in
-    ran_accepted g.N.PageSource.flash (g.N.PageSource.flash c.args.nand) c.args.accepted c.in_ok-device.device c.run.new.self (exchanges_of c.run.new.calls) (ap g.N.PageSource.flash its.nand) its.begun accepted (its.free honest accepted) (its.accounts honest accepted)
-    (c.run.ensures.told.ran (ap g.N.PageSource.honest its.nand ∙ honest) well known).1
+    let device = c.in_ok-device.device in
+    until_so (λ d. d) (RunsTo g.N.PageSource.flash g.N.PageSource.honest g.N.PageSource.failed device) (RunsFrom g.N.PageSource.flash g.N.PageSource.honest c.args.nand c.args.accepted) (Tells g.N.PageSource.flash g.N.PageSource.honest g.N.PageSource.failed) (Tells g.N.PageSource.flash g.N.PageSource.honest g.N.PageSource.failed) (exchanges_of c.run.new.calls) c.run.new.self
+    (λ before mid runs honest accepted.
+    let well = started_well g.N.PageSource.flash device (g.N.PageSource.flash c.args.nand).geometry c.args.accepted.claim c.args.accepted.stale its.begun (its.truth honest accepted) in
+    let both = runs.1 (ap g.N.PageSource.honest its.nand ∙ honest) well in
+    (both.0, ran_accepted g.N.PageSource.flash (g.N.PageSource.flash c.args.nand) c.args.accepted device mid before (ap g.N.PageSource.flash its.nand) its.begun accepted (its.free honest accepted) (its.accounts honest accepted) both.1))
+    (λ before mid x known runs bus fails. fails) c.run.ensures.told.until
