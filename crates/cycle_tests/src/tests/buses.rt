@@ -3,6 +3,7 @@ use super::steps::{Cycle, send};
 use super::{new_die, small};
 use nand_die::{CycleFuse, Garble};
 use onfi_cycles::{Bus, BusFault};
+use std::alloc::Global;
 use std::process::Abort;
 
 /// A call, and what comes of it.
@@ -31,7 +32,9 @@ const AT_20_FAILS: Call = Call::Cycle(Cycle::Address(0x20), DEVICE);
 const ONFI: Call = Call::Out(&[0x4F, 0x4E, 0x46, 0x49]);
 
 // How many calls are handed on, how many fail then, and the calls.
-const FUSES: [(&str, u64, u64, &[Call]); 4] = [
+type Fuse = (&'static str, u64, u64, &'static [Call]);
+
+const FUSES: [Fuse; 4] = [
     // The calls that fail do not come to the die, which waits for the address.
     (
         "two fail after two",
@@ -81,7 +84,9 @@ const FUSES: [(&str, u64, u64, &[Call]); 4] = [
 ];
 
 // Which data out is garbled, counted from 1, in which byte, by which mask, and the calls.
-const GARBLES: [(&str, u64, usize, u8, &[Call]); 5] = [
+type Garbled = (&'static str, u64, usize, u8, &'static [Call]);
+
+const GARBLES: [Garbled; 5] = [
     (
         "one byte of the second piece",
         2,
@@ -147,49 +152,64 @@ const GARBLES: [(&str, u64, usize, u8, &[Call]); 5] = [
     ),
 ];
 
-fn expect_out<B: Bus>(rt: &impl Abort, bus: &mut B, want: &[u8], row: &str) {
+// Whether a bus puts out just these bytes in one cycle.
+fn puts_out<B: Bus>(bus: &mut B, want: &[u8]) -> bool {
     let mut bytes = [0; 96];
-    assert!(rt; want.len() <= 96, "{row}");
-    let out = &mut bytes[..want.len()];
-    assert_eq!(rt; bus.data_out(out), Ok(()), "{row}");
-    assert_eq!(rt; &*out, want, "{row}");
+    match bytes.get_mut(..want.len()) {
+        Some(out) => bus.data_out(out) == Ok(()) && *out == *want,
+        None => false,
+    }
 }
 
-fn make_call<B: Bus>(rt: &impl Abort, bus: &mut B, call: Call, row: &str) {
+// Whether a call is answered so.
+fn answers<B: Bus>(bus: &mut B, call: Call) -> bool {
     match call {
-        Call::Cycle(cycle, want) => {
-            assert_eq!(rt; send(bus, cycle), want, "{cycle:?} at {row}");
-        }
-        Call::Out(want) => expect_out(rt, bus, want, row),
-        Call::Failures(count) => {
-            assert_eq!(rt; bus.failures(), count, "{row}");
-        }
+        Call::Cycle(cycle, want) => send(bus, cycle) == want,
+        Call::Out(want) => puts_out(bus, want),
+        Call::Failures(count) => bus.failures() == count,
     }
 }
 
-fn call_each<B: Bus>(rt: &impl Abort, bus: &mut B, calls: &[Call], row: &str) {
-    for next in calls {
-        make_call(rt, bus, *next, row);
+// A bus after these calls.
+fn called<B: Bus + Drop>(rt: &impl Abort, mut bus: B, calls: &[Call], row: &str) -> B {
+    for call in calls {
+        assert!(rt; answers(&mut bus, *call), "{call:?} at {row}");
     }
+    bus
+}
+
+// The faults that a die counts once a fuse before it was called.
+fn faults_behind_a_fuse(rt: &impl Abort, alloc: Global, row: &Fuse) -> u64 {
+    let (name, passed, failing, calls) = *row;
+    let die = new_die(rt, alloc, small(rt), &[]);
+    let fuse = called(rt, CycleFuse::new(die, passed, failing), calls, name);
+    fuse.into_bus().failures()
 }
 
 // After the calls the die is handed back as it is.
 #[test]
 fn a_fuse_fails_for_a_while(rt: HostRuntime) {
-    for (name, passed, failing, calls) in &FUSES {
-        let die = new_die(&rt, rt.alloc(), small(&rt), &[]);
-        let mut fuse = CycleFuse::new(die, *passed, *failing);
-        call_each(&rt, &mut fuse, calls, name);
-        assert_eq!(rt; fuse.into_bus().failures(), 0, "{name}");
+    for row in &FUSES {
+        assert_eq!(rt; faults_behind_a_fuse(&rt, rt.alloc(), row), 0, "{}", row.0);
     }
+}
+
+// The programs and erases of a die once a garble before it was called.
+fn changes_behind_a_garble(rt: &impl Abort, alloc: Global, row: &Garbled) -> u64 {
+    let (name, nth_out, byte, mask, calls) = *row;
+    let die = new_die(rt, alloc, small(rt), &[]);
+    let garble = called(rt, Garble::new(die, nth_out, byte, mask), calls, name);
+    garble.into_bus().changes()
 }
 
 #[test]
 fn a_garble_turns_bits_once(rt: HostRuntime) {
-    for (name, nth_out, byte, mask, calls) in &GARBLES {
-        let die = new_die(&rt, rt.alloc(), small(&rt), &[]);
-        let mut garble = Garble::new(die, *nth_out, *byte, *mask);
-        call_each(&rt, &mut garble, calls, name);
-        assert_eq!(rt; garble.into_bus().changes(), 0, "{name}");
+    for row in &GARBLES {
+        assert_eq!(rt;
+            changes_behind_a_garble(&rt, rt.alloc(), row),
+            0,
+            "{}",
+            row.0
+        );
     }
 }

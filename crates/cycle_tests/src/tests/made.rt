@@ -170,13 +170,22 @@ const BAD_IMAGES: [(usize, &[u32], DieFault); 4] = [
     (24576, &[32, 32], DieFault::BadMark { block: 32 }),
 ];
 
+// Why an image of so many bytes is refused, or none where it is not.
+fn image_fault(
+    rt: &impl Abort,
+    alloc: Global,
+    count: usize,
+    bad: &[u32],
+) -> Result<Option<DieFault>, Fail> {
+    let image = vec![in alloc; 0xFF; count]?;
+    Ok(Die::from_image(alloc, small(rt), image.as_slice(), bad).err())
+}
+
 #[test]
 fn images_that_are_refused(rt: HostRuntime) -> Result<(), Fail> {
-    let alloc = rt.alloc();
-    for (count, bad, want) in &BAD_IMAGES {
-        let image = vec![in alloc; 0xFF; *count]?;
-        let refused = Die::from_image(alloc, small(&rt), image.as_slice(), bad).err();
-        assert_eq!(rt; refused, Some(*want), "{count} bytes, {bad:?}");
+    for (row, (count, bad, want)) in BAD_IMAGES.iter().enumerate() {
+        let refused = image_fault(&rt, rt.alloc(), *count, bad)?;
+        assert!(rt; refused == Some(*want), "{count} bytes, row {row}");
     }
     Ok(())
 }

@@ -2,7 +2,6 @@
 ghost use Rattle.std.specs.Prelude.{◌≡◌, ◌<◌, true};
 ghost use Rattle.page_layout.specs.Geometry.{row_count};
 
-use super::steps::Place;
 use onfi_cycles::{Bus, BusFault, Driver, Nand, Outcome};
 use page_layout::geometry::Geometry;
 use page_layout::source::{PageSource, SourceFault};
@@ -66,8 +65,8 @@ fn read<N: Nand>(
     Ok((body, spare))
 }
 
-// One operation, held to its answer.
-fn ask<N: Nand>(rt: &impl Abort, nand: &mut N, operation: Operation, place: Place)
+// Whether an operation is answered so.
+fn is_answered<N: Nand>(rt: &impl Abort, nand: &mut N, operation: Operation) -> bool
     requires rows { row_count (N.flash nand.old).geometry ≡ 256 }
     requires blocks { (N.flash nand.old).geometry.blocks ≡ 32 }
     requires data_bytes { (N.flash nand.old).geometry.data_bytes ≡ 64 }
@@ -75,22 +74,11 @@ fn ask<N: Nand>(rt: &impl Abort, nand: &mut N, operation: Operation, place: Plac
     ensures { (N.flash nand.new).geometry ≡ (N.flash nand.old).geometry }
 {
     match operation {
-        Operation::Program(row, body, spare, want) => {
-            assert_eq!(rt; program(rt, nand, row, body, spare), want, "{place:?}");
-        }
-        Operation::Erase(block, want) => {
-            assert_eq!(rt; erase(rt, nand, block), want, "{place:?}");
-        }
-        Operation::Read(row, body, spare) => {
-            let want = Ok(([body; 64], [spare; 32]));
-            assert_eq!(rt; read(rt, nand, row), want, "{place:?}");
-        }
-        Operation::Fails(row, fault) => {
-            assert_eq!(rt; read(rt, nand, row), Err(fault), "{place:?}");
-        }
-        Operation::Failures(count) => {
-            assert_eq!(rt; nand.failures(), count, "{place:?}");
-        }
+        Operation::Program(row, body, spare, want) => program(rt, nand, row, body, spare) == want,
+        Operation::Erase(block, want) => erase(rt, nand, block) == want,
+        Operation::Read(row, body, spare) => read(rt, nand, row) == Ok(([body; 64], [spare; 32])),
+        Operation::Fails(row, fault) => read(rt, nand, row) == Err(fault),
+        Operation::Failures(count) => nand.failures() == count,
     }
 }
 
@@ -103,7 +91,7 @@ fn ask_each<N: Nand>(rt: &impl Abort, nand: &mut N, name: &str, operations: &[Op
     ensures { (N.flash nand.new).geometry ≡ (N.flash nand.old).geometry }
 {
     for (step, operation) in operations.iter().enumerate() {
-        ask(rt, nand, *operation, Place { row: name, step });
+        assert!(rt; is_answered(rt, nand, *operation), "{name}: step {step}");
     }
 }
 

@@ -103,6 +103,15 @@ impl<B: Bus> Bus for Recorder<B> {
     }
 }
 
+// The cycles of all parts.
+fn all_of(rt: &impl Abort, alloc: Global, parts: &[&[Seen]]) -> Vec<Seen> {
+    let mut all = Vec::new(alloc);
+    for part in parts {
+        all.extend_from_slice(part).expect(rt, "a list");
+    }
+    all
+}
+
 /// Gives the bus back, after just these cycles.
 pub fn after_cycles<B: Bus>(
     rt: &impl Abort,
@@ -112,10 +121,6 @@ pub fn after_cycles<B: Bus>(
     parts: &[&[Seen]],
 ) -> B {
     let Recorder { bus, seen } = recorder;
-    let mut want = Vec::new(alloc);
-    for part in parts {
-        want.extend_from_slice(part).expect(rt, "a list");
-    }
-    assert_eq!(rt; seen, want, "{name}");
+    assert_eq!(rt; seen, all_of(rt, alloc, parts), "{name}");
     bus
 }

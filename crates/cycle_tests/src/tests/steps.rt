@@ -87,13 +87,19 @@ pub fn send<B: Bus>(bus: &mut B, cycle: Cycle) -> Result<(), BusFault> {
     }
 }
 
-// A cycle that is taken.
-fn take(rt: &impl Abort, die: &mut Die, cycle: Cycle, place: Place) {
-    assert_eq!(rt; send(die, cycle), Ok(()), "{cycle:?} at {place:?}");
+/// Whether a cycle is answered so.
+pub fn is_answered(die: &mut Die, cycle: Cycle, want: Result<(), BusFault>) -> bool {
+    send(die, cycle) == want
 }
 
-fn refuse(rt: &impl Abort, die: &mut Die, cycle: Cycle, fault: BusFault, place: Place) {
-    assert_eq!(rt; send(die, cycle), Err(fault), "{cycle:?} at {place:?}");
+// One cycle, held to its answer.
+fn answer(rt: &impl Abort, die: &mut Die, cycle: Cycle, want: Result<(), BusFault>, place: Place) {
+    assert!(rt; is_answered(die, cycle, want), "{cycle:?} at {place:?}");
+}
+
+// A cycle that is taken.
+fn take(rt: &impl Abort, die: &mut Die, cycle: Cycle, place: Place) {
+    answer(rt, die, cycle, Ok(()), place);
 }
 
 fn open(rt: &impl Abort, die: &mut Die, code: u8, addresses: &[u8], place: Place) {
@@ -232,7 +238,7 @@ fn set(
 fn walk_step(rt: &impl Abort, alloc: Global, die: &mut Die, step: Step, place: Place) {
     match step {
         Step::Taken(cycle) => take(rt, die, cycle, place),
-        Step::Refused(cycle, fault) => refuse(rt, die, cycle, fault, place),
+        Step::Refused(cycle, fault) => answer(rt, die, cycle, Err(fault), place),
         Step::Open(code, addresses) => open(rt, die, code, addresses, place),
         Step::Out(bytes) => expect_out(rt, die, bytes, place),
         Step::Program(row, page, status) => program(rt, die, row, page, status, place),
