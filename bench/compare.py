@@ -1,7 +1,7 @@
 #!/usr/bin/env python3
 """Holds nandctl against the independent reference, on images and certificates of pseudorandom making.
 
-    bench/compare.py PROGRAM [COMMANDS] [CASES] [SEED]
+    [PROGRAM=..] bench/compare.py [COMMANDS] [CASES] [SEED]
 
 COMMANDS is a list like `sector,show,format,mount,check`. Every output, refusal, exit status and written file is compared."""
 
@@ -13,12 +13,13 @@ import tempfile
 from pathlib import Path
 
 import reference as ref
+from program import PROGRAM
 
 GEOMETRIES = [(64, 32, 8, 32, 32), (64, 32, 8, 24, 32), (64, 40, 4, 12, 1), (64, 33, 4, 40, 50), (128, 64, 8, 32, 70)]
 
 
-def run(program, words, folder):
-    done = subprocess.run([program, *words], cwd=folder, capture_output=True, stdin=subprocess.DEVNULL)
+def run(words, folder):
+    done = subprocess.run([PROGRAM, *words], cwd=folder, capture_output=True, stdin=subprocess.DEVNULL)
     return done.returncode, done.stdout, done.stderr
 
 
@@ -116,11 +117,11 @@ def spoiled_certificate(rng, g, raw):
 
 
 class Comparison:
-    def __init__(self, program, folder, rng):
-        self.program, self.folder, self.rng, self.compared = program, Path(folder), rng, 0
+    def __init__(self, folder, rng):
+        self.folder, self.rng, self.compared = Path(folder), rng, 0
 
     def same(self, want, words, files=()):
-        got = run(self.program, words, self.folder)
+        got = run(words, self.folder)
         if got != want:
             raise SystemExit(f"{words}\n  wanted {want}\n  got    {got}\n  files in {self.folder}")
         for name, content in files:
@@ -176,12 +177,11 @@ class Comparison:
 
 
 def main():
-    program = str(Path(sys.argv[1]).resolve())
-    commands = (sys.argv[2] if len(sys.argv) > 2 else "sector").split(",")
-    cases = int(sys.argv[3]) if len(sys.argv) > 3 else 200
-    rng = random.Random(int(sys.argv[4]) if len(sys.argv) > 4 else 1)
+    commands = (sys.argv[1] if len(sys.argv) > 1 else "sector").split(",")
+    cases = int(sys.argv[2]) if len(sys.argv) > 2 else 200
+    rng = random.Random(int(sys.argv[3]) if len(sys.argv) > 3 else 1)
     folder = tempfile.mkdtemp(prefix="compare-")
-    comparison = Comparison(program, folder, rng)
+    comparison = Comparison(folder, rng)
     for _ in range(cases):
         g = ref.Geometry(*rng.choice(GEOMETRIES))
         image = fresh(rng, g)

@@ -22,13 +22,15 @@ def memory_of(child):
         return 0
 
 
-def run(command, wanted):
-    """Seconds of a processor, and the most memory in KiB, of a command whose output is thrown away.
+def run(command, wanted=0, unread=os.devnull):
+    """Seconds of a processor, and the most memory in KiB, of a command that reads a file as its standard input and whose output is
+    thrown away.
 
     The memory is looked at while it runs: what the system tells at its end counts the process that it was made from."""
     child = os.fork()
     if child == 0:
         null = os.open(os.devnull, os.O_WRONLY)
+        os.dup2(os.open(unread, os.O_RDONLY), 0)
         os.dup2(null, 1)
         if wanted != 0:
             os.dup2(null, 2)

@@ -1,7 +1,7 @@
 #!/usr/bin/env python3
 """A client of `nandctl serve` over a pipe: writes, trims, reads, flushes and turns, held against a plain list of sectors.
 
-    bench/serve_client.py PROGRAM [GEOM] [SESSIONS] [REQUESTS] [SEED]
+    [PROGRAM=..] bench/serve_client.py [GEOM] [SESSIONS] [REQUESTS] [SEED]
 
 Each session mounts the image that the last one left, with a smaller or greater cache where it was flushed, sends one request
 at a time, waits for its reply, and compares it. The last session reads the whole array. Prints what was compared; answers 1
@@ -14,14 +14,16 @@ import sys
 import tempfile
 from pathlib import Path
 
+from program import PROGRAM
+
 READ, WRITE, TRIM, FLUSH, TURN = 1, 2, 3, 4, 5
 
 
 class Session:
     """A run of the program, with a pipe to it and one from it."""
 
-    def __init__(self, program, geometry, capacity, image, certificate, out):
-        words = [program, "serve", geometry, str(capacity), image, certificate, out]
+    def __init__(self, geometry, capacity, image, certificate, out):
+        words = [PROGRAM, "serve", geometry, str(capacity), image, certificate, out]
         self.size = int(geometry.split(",")[0])
         self.run = subprocess.Popen(words, stdin=subprocess.PIPE, stdout=subprocess.PIPE, bufsize=0)
 
@@ -54,8 +56,8 @@ def hold(what, is_so):
         raise SystemExit(f"differs: {what}")
 
 
-def command(program, *words):
-    done = subprocess.run([program, *words], capture_output=True, check=False)
+def command(*words):
+    done = subprocess.run([PROGRAM, *words], capture_output=True, check=False)
     hold(f"{words[0]}: {done.stderr.decode().strip()}", done.returncode == 0)
 
 
@@ -82,24 +84,23 @@ def play(session, array, chance, requests):
 
 
 def main():
-    program = str(Path(sys.argv[1]).resolve())
-    geometry = sys.argv[2] if len(sys.argv) > 2 else "64,32,8,32,32"
-    sessions, requests, seed = (int(word) for word in (sys.argv[3:] + ["20", "500", "1"][len(sys.argv[3:]):])[:3])
+    geometry = sys.argv[1] if len(sys.argv) > 1 else "64,32,8,32,32"
+    sessions, requests, seed = (int(word) for word in (sys.argv[2:] + ["20", "500", "1"][len(sys.argv[2:]):])[:3])
     data, spare, pages, blocks, sectors = (int(word) for word in geometry.split(","))
     chance, array, capacity = random.Random(seed), [bytes(data)] * sectors, 8
     with tempfile.TemporaryDirectory() as folder:
         name = lambda file: str(Path(folder) / file)
         Path(name("fresh")).write_bytes(b"\xff" * ((data + spare) * pages * blocks))
-        command(program, "format", geometry, name("fresh"), name("image"))
+        command("format", geometry, name("fresh"), name("image"))
         for _ in range(sessions):
-            command(program, "mount", geometry, str(capacity), name("image"), name("certificate"))
-            session = Session(program, geometry, capacity, name("image"), name("certificate"), name("image"))
+            command("mount", geometry, str(capacity), name("image"), name("certificate"))
+            session = Session(geometry, capacity, name("image"), name("certificate"), name("image"))
             flushed = play(session, array, chance, requests)
             session.end()
             # Flushed, any cache will do; else one that takes the stale entries too.
             capacity = chance.randrange(1, 2 * sectors) if flushed else capacity + pages
-        command(program, "mount", geometry, str(capacity), name("image"), name("certificate"))
-        session = Session(program, geometry, capacity, name("image"), name("certificate"), name("image"))
+        command("mount", geometry, str(capacity), name("image"), name("certificate"))
+        session = Session(geometry, capacity, name("image"), name("certificate"), name("image"))
         for sector, held in enumerate(array):
             hold(f"sector {sector} at the end", session.ask(READ, sector, sector) == (0, held))
         session.end()

@@ -1,16 +1,22 @@
 #!/usr/bin/env python3
-"""Times `nandctl serve`, in seconds of a processor, beside `sha256sum` of as many bytes as its pages have hashed.
+"""Times `nandctl serve`, in seconds of a processor, beside `sha256sum` of as many bytes as its pages have hashed, and tells the
+most memory that it held.
 
-    bench/serve_time.py PROGRAM"""
+    [PROGRAM=..] bench/serve_time.py
+
+Fails where it holds more than its image twice (the file, and the die's one copy) and 8 MiB, or where a whole disk of 4,096-byte
+sectors is written and read slower than 0.6 of what its hashes allow."""
 
 import os
 import random
-import resource
 import struct
 import subprocess
 import sys
 import tempfile
 from pathlib import Path
+
+from measure import run
+from program import PROGRAM
 
 READ, WRITE = 1, 2
 CHANCE = random.Random(1)
@@ -35,36 +41,38 @@ def whole(data, sectors):
         yield request(READ, sector, sector)
 
 
-def spent(words, **streams):
-    """The processor's seconds that a program takes."""
-    before = resource.getrusage(resource.RUSAGE_CHILDREN)
-    subprocess.run(words, check=True, **streams)
-    after = resource.getrusage(resource.RUSAGE_CHILDREN)
-    return after.ru_utime + after.ru_stime - before.ru_utime - before.ru_stime
-
-
-def measure(program, geometry, capacity, requests, hashed, label):
+def prepare(folder, geometry, capacity, requests):
+    """A formatted image, its certificate, and the requests. The image's bytes."""
     data, spare, pages, blocks, sectors = (int(word) for word in geometry.split(","))
-    with tempfile.TemporaryDirectory() as folder:
-        name = lambda file: str(Path(folder) / file)
-        Path(name("fresh")).write_bytes(b"\xff" * ((data + spare) * pages * blocks))
-        spent([program, "format", geometry, name("fresh"), name("image")], stdout=subprocess.DEVNULL)
-        mount = [program, "mount", geometry, str(capacity), name("image"), name("certificate")]
-        spent(mount, stdout=subprocess.DEVNULL)
-        Path(name("requests")).write_bytes(b"".join(requests(data, sectors)))
-        serve = [program, "serve", geometry, str(capacity), name("image"), name("certificate"), name("out")]
-        with open(name("requests"), "rb") as unread, open(name("replies"), "wb") as replies:
-            served = spent(serve, stdin=unread, stdout=replies)
-        Path(name("hashed")).write_bytes(os.urandom(hashed * (data + 24)))
-        plain = spent(["sha256sum", name("hashed")], stdout=subprocess.DEVNULL)
-    print(f"{label}: {served:.2f} s, sha256sum {plain:.2f} s")
+    size = (data + spare) * pages * blocks
+    (folder / "fresh").write_bytes(b"\xff" * size)
+    made = [["format", geometry, "fresh", "image"], ["mount", geometry, str(capacity), "image", "certificate"]]
+    for words in made:
+        subprocess.run([PROGRAM, *words], cwd=folder, check=True, stdout=subprocess.DEVNULL)
+    (folder / "requests").write_bytes(b"".join(requests(data, sectors)))
+    return size
+
+
+def measure(geometry, capacity, requests, hashed, least, label):
+    with tempfile.TemporaryDirectory() as room:
+        folder = Path(room)
+        size = prepare(folder, geometry, capacity, requests)
+        name = lambda file: str(folder / file)
+        words = [PROGRAM, "serve", geometry, str(capacity), name("image"), name("certificate"), name("out")]
+        served, memory = run(words, unread=name("requests"))
+        (folder / "hashed").write_bytes(os.urandom(hashed * (int(geometry.split(",")[0]) + 24)))
+        plain, _ = run(["sha256sum", name("hashed")])
+    most = 2 * size + 2**23
+    print(f"{label}: {served:.2f} s, sha256sum {plain:.2f} s ({plain / served:.2f})")
+    print(f"    memory {memory / 1024:.1f} MiB of {most / 2**20:.1f}, the image {size / 2**20:.1f}", flush=True)
+    if plain < least * served or memory * 1024 > most:
+        sys.exit("slower, or more memory, than it may")
 
 
 def main():
-    program = str(Path(sys.argv[1]).resolve())
     # A write hashes the page that it programs, a read the page that it reads.
-    measure(program, "64,32,8,32,32", 32, mixed, 200000, "200,000 requests, 64 bytes a sector")
-    measure(program, "4096,128,64,256,12000", 65536, whole, 24000, "12,000 sectors of 4,096 bytes written and read")
+    measure("64,32,8,32,32", 32, mixed, 200000, 0, "200,000 requests, 64 bytes a sector")
+    measure("4096,128,64,256,12000", 65536, whole, 24000, 0.6, "12,000 sectors of 4,096 bytes written and read")
 
 
 if __name__ == "__main__":

@@ -2,7 +2,7 @@
 """Measures how many programs a write costs: `nandctl serve` takes 100,000 writes to uniformly random sectors of 50, 70 and 90
 per cent of the largest array of a die.
 
-    bench/write_amplification.py PROGRAM [--model]
+    [PROGRAM=..] bench/write_amplification.py [--model]
 
 Programs are read off the next sequences of the image with each sector written once, and of the image after the 100,000. With
 --model `device_model.py` makes the same writes, and its programs have to be the same."""
@@ -15,6 +15,7 @@ import tempfile
 from pathlib import Path
 
 from device_model import Geometry, formatted
+from program import PROGRAM
 
 DATA, SPARE, PAGES, BLOCKS = 4096, 128, 64, 128
 WRITES = 100_000
@@ -35,13 +36,13 @@ def requests(sectors):
         yield b"DF" + struct.pack("<BBII", 2, 0, tag, sector) + body
 
 
-def serve(program, geometry, capacity, folder, sectors):
+def serve(geometry, capacity, folder, sectors):
     """The next sequence after these writes on a fresh die."""
     name = lambda file: str(Path(folder) / file)
-    subprocess.run([program, "format", geometry, name("fresh"), name("image")], check=True, stdout=subprocess.DEVNULL)
-    mount = [program, "mount", geometry, str(capacity), name("image"), name("certificate")]
+    subprocess.run([PROGRAM, "format", geometry, name("fresh"), name("image")], check=True, stdout=subprocess.DEVNULL)
+    mount = [PROGRAM, "mount", geometry, str(capacity), name("image"), name("certificate")]
     subprocess.run(mount, check=True, stdout=subprocess.DEVNULL)
-    words = [program, "serve", geometry, str(capacity), name("image"), name("certificate"), name("image")]
+    words = [PROGRAM, "serve", geometry, str(capacity), name("image"), name("certificate"), name("image")]
     with open(name("replies"), "wb") as replies:
         run = subprocess.Popen(words, stdin=subprocess.PIPE, stdout=replies)
         for request in requests(sectors):
@@ -55,13 +56,13 @@ def serve(program, geometry, capacity, folder, sectors):
     return struct.unpack_from("<Q", Path(name("certificate")).read_bytes(), 32)[0]
 
 
-def measured(program, count, capacity):
+def measured(count, capacity):
     """Programs of the random writes."""
     geometry = f"{DATA},{SPARE},{PAGES},{BLOCKS},{count}"
     with tempfile.TemporaryDirectory() as folder:
         Path(folder, "fresh").write_bytes(b"\xff" * ((DATA + SPARE) * PAGES * BLOCKS))
-        first = serve(program, geometry, capacity, folder, range(count))
-        last = serve(program, geometry, capacity, folder, [*range(count), *sectors_of(count)])
+        first = serve(geometry, capacity, folder, range(count))
+        last = serve(geometry, capacity, folder, [*range(count), *sectors_of(count)])
     return last - first
 
 
@@ -89,13 +90,12 @@ def greedy_limit(pages):
 
 
 def main(words):
-    program = str(Path(words[0]).resolve())
     print("part sectors  cache  programs  a write  greedy limit")
     for part, count in ARRAYS:
         # Nine blocks are kept free, and one is open for translation pages.
         limit = greedy_limit(count / (PAGES * (BLOCKS - 9 - 1)))
         for capacity in (256, count):
-            programs = measured(program, count, capacity)
+            programs = measured(count, capacity)
             if "--model" in words and modelled(count, capacity) != programs:
                 sys.exit(f"{part} {capacity}: {programs} programs, and others of the model")
             times = programs / WRITES

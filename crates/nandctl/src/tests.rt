@@ -1,8 +1,8 @@
 //! The system's files, by those of the folder that the test runs in.
-use crate::system::SystemFiles;
 use commands::{FileFault, FileStore};
 use std::fs;
 use std::test::Fail;
+use system_program::SystemFiles;
 
 const PATH: &str = "stored.bin";
 

@@ -2,7 +2,7 @@ use Rattle.std.proofs.Common.{rules, inl, Err, List, ℕ, map, subst, ◌∙◌,
 use Rattle.commands.specs.declared.text.CommandFault.TheVariants.{OutOfMemory}
 use Rattle.commands.specs.Commands.{Runs}
 use Rattle.commands.specs.Files.{left}
-use Rattle.nandctl.proofs.run_words.Goals as goal
+use Rattle.system_program.proofs.program.run_words.Goals as goal
 
 pub returns-in-Ok : goal.returns-in-Ok
 returns-in-Ok g c =
