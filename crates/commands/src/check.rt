@@ -92,6 +92,8 @@ pub fn check_command<'a, F: FileStore, W: Write>(
     let mut image = open(files, words.image)?;
     let written = load(files, words.certificate)?;
     let certificate = certificate_in(alloc, &written)?;
+    // Its bytes go before the memory of the check is taken.
+    drop(written);
     hold(alloc, &asked, words.image, &mut image, &certificate)?;
     print_accepted(out)
 }
