@@ -5,6 +5,7 @@ ghost use Rattle.page_layout.specs.Geometry.{row_count};
 mod buses;
 mod driver;
 mod faults;
+mod limits;
 mod made;
 mod operations;
 mod pages;

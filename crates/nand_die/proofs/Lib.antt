@@ -6,4 +6,5 @@ pub mod MakeLemmas
 pub mod ActLemmas
 pub mod LawLemmas
 pub mod StopLemmas
+pub mod LeavesLemmas
 pub mod TapeLemmas

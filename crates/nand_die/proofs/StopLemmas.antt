@@ -8,19 +8,18 @@ use Rattle.page_layout.specs.Page.{Page}
 use Rattle.page_layout.specs.Flash.{Operation, Program, Erase, after, page_at, block_at}
 use Rattle.page_layout.specs.Recording.{Recording, Records, noted}
 use Rattle.onfi_cycles.specs.declared.nand.BusFault.{BusFault}
-use Rattle.onfi_cycles.specs.declared.nand.BusFault.TheVariants.{NoReset, UnknownCommand, OutOfTurn, AddressRange, ColumnRange, Device}
+use Rattle.onfi_cycles.specs.declared.nand.BusFault.TheVariants.{NoReset, Device}
 use Rattle.onfi_cycles.specs.Spelling.{refused}
 use Rattle.onfi_cycles.specs.Recorded.{Notes}
 use Rattle.nand_die.specs.Tape.{next_record}
 use Rattle.nand_die.specs.Laws.{CalmLaw, StoppedLaw, RoomLaw}
 use Rattle.onfi_cycles.specs.Cycles.{Phase, Unreset, Ready, Taking, Confirming, Loading, NoOutput, DieState, Cycle, Command, Address, DataIn}
-use Rattle.onfi_cycles.specs.Cycles.{DataOut, Due, Moves, Resets, Programs, Erases, Refuses, FailsBy, command_due, given_up}
+use Rattle.onfi_cycles.specs.Cycles.{DataOut, Due, Moves, Resets, Programs, Erases, Refuses, command_due, given_up}
 use Rattle.nand_die.specs.declared.fault.Stop.{Stop}
 use Rattle.nand_die.specs.declared.fault.Stop.TheVariants.{Before, After, Torn}
-use Rattle.nand_die.specs.BusState.{IsProtocolFault}
-use Rattle.nand_die.specs.ChipValue.{ChipValue, Acts, answered, answer_to}
+use Rattle.nand_die.specs.ChipValue.{ChipValue, answered, answer_to}
 use Rattle.nand_die.specs.Stopping.{is_change, left_by_stop}
-use Rattle.nand_die.specs.DieValue.{DieValue, IsCall, after_cycle, chip_of, die_of, done_as, due_now, failed_as, is_calm, record_after, stops}
+use Rattle.nand_die.specs.DieValue.{DieValue, after_cycle, chip_of, die_of, done_as, due_now, failed_as, is_calm, record_after, stops}
 
 no_change : (b : Bool) → is_change (if b then Resets else Refuses NoReset) ≡ true → ⊥
 no_change true e = cc
@@ -69,7 +68,7 @@ both_true false b e = cc
 
 -- ---- a call
 
-first_true : (a b : Bool) → (a && b) ≡ true → a ≡ true
+pub first_true : (a b : Bool) → (a && b) ≡ true → a ≡ true
 first_true true b e = refl
 first_true false b e = e
 
@@ -85,7 +84,7 @@ calm_failures d e = eqb-true d.failures 0 (both_true (d.left == 0) (d.failures =
 calm_left : (d : DieValue) → is_calm d ≡ true → d.left ≡ 0
 calm_left d e = eqb-true d.left 0 (first_true (d.left == 0) (d.failures == 0) (both_true (not d.stopped) ((d.left == 0) && (d.failures == 0)) e))
 
-calm_stops : (d : DieValue) (cycle : Cycle) → is_calm d ≡ true → stops d cycle ≡ false
+pub calm_stops : (d : DieValue) (cycle : Cycle) → is_calm d ≡ true → stops d cycle ≡ false
 calm_stops d (Command code) e = ap (λ n. (n == 1) && is_change (due_now d (Command code))) (calm_left d e)
 calm_stops d (Address byte) e = refl
 calm_stops d (DataIn bytes) e = refl
@@ -93,44 +92,6 @@ calm_stops d (DataOut count) e = refl
 
 pub calm_runs : (d : DieValue) (cycle : Cycle) → is_calm d ≡ true → (d.stopped || stops d cycle) ≡ false
 calm_runs d cycle e = ap (λ b. b || stops d cycle) (not_true d.stopped (first_true (not d.stopped) ((d.left == 0) && (d.failures == 0)) e)) ∙ calm_stops d cycle e
-
-refuses_by : (due : Due) (old new : DieState) (fault : BusFault) → IsProtocolFault fault → FailsBy due old new fault → refused fault ≡ answer_to due
-refuses_by due old new NoReset own f = sym (ap answer_to f.0)
-refuses_by due old new UnknownCommand own f = sym (ap answer_to f.0)
-refuses_by due old new OutOfTurn own f = sym (ap answer_to f.0)
-refuses_by due old new AddressRange own f = sym (ap answer_to f.0)
-refuses_by due old new ColumnRange own f = sym (ap answer_to f.0)
-refuses_by due old new Device own f = absurd (own refl)
-
--- the answer of a chip is the one that was due
-acts_answer : (due : Due) (d e : ChipValue) (r : Result (Unit {0}) BusFault) → Acts due d e r → r ≡ answer_to due
-acts_answer (Moves phase) d e (Ok x) a = refl
-acts_answer Resets d e (Ok x) a = refl
-acts_answer (Programs row page) d e (Ok x) a = refl
-acts_answer (Erases block) d e (Ok x) a = refl
-acts_answer (Refuses fault) d e (Ok x) a = absurd a.follows
-acts_answer due d e (Err fault) a = refuses_by due d.state e.state fault a.own a.follows
-
--- a cycle that its chip does
-pub call_does : (d e : DieValue) (cycle : Cycle) (c : ChipValue) (r : Result (Unit {0}) BusFault) → (d.stopped || stops d cycle) ≡ false
-    → Acts (due_now d cycle) (chip_of d) c r → e ≡ after_cycle cycle d → IsCall d cycle r e
-call_does d e cycle c r runs acts does = record {
-  does = does;
-  answers = acts_answer (due_now d cycle) (chip_of d) c r acts ∙ sym (ap (λ b. if b then refused Device else answer_to (due_now d cycle)) runs);
-  own = λ calm. acts.own;
-}
-
-true_false : true ≡ false → ⊥
-true_false e = cc
-
--- a cycle that fails
-pub call_fails : (d e : DieValue) (cycle : Cycle) (r : Result (Unit {0}) BusFault) → (d.stopped || stops d cycle) ≡ true
-    → r ≡ refused Device → e ≡ after_cycle cycle d → IsCall d cycle r e
-call_fails d e cycle r fails device does = record {
-  does = does;
-  answers = device ∙ sym (ap (λ b. if b then refused Device else answer_to (due_now d cycle)) fails);
-  own = λ calm. absurd (true_false (sym fails ∙ calm_runs d cycle calm));
-}
 
 -- ---- the record
 

@@ -1,8 +1,10 @@
 -- A die in memory as contracts see it, and what it does at each cycle: a function of its value, and a case of the bus protocol.
-use Rattle.std.specs.Prelude.{◌≡◌, ℕ, Bool, true, false, not, ◌&&◌, ◌||◌, ◌==◌, ◌-◌, List, Option, None, Result, IfErr, if◌then◌else◌}
+use Rattle.std.specs.Prelude.{◌≡◌, ℕ, Bool, true, false, not, ◌&&◌, ◌||◌, ◌==◌, ◌-◌, List, ◌++◌, Option, None, Result, IfErr, if◌then◌else◌}
 use Rattle.page_layout.specs.Counter.{counted}
-use Rattle.page_layout.specs.Flash.{Flash, Program, Erase, page_at, block_at}
-use Rattle.page_layout.specs.Recording.{Recording}
+use Rattle.page_layout.specs.Page.{Image}
+use Rattle.page_layout.specs.Flash.{Flash, Operation, Program, Erase, page_at, block_at}
+use Rattle.page_layout.specs.Recording.{Recording, image_after_all}
+use Rattle.promises.specs.Stop.{MayLeave}
 use Rattle.onfi_cycles.specs.declared.nand.BusFault.{BusFault}
 use Rattle.onfi_cycles.specs.declared.nand.BusFault.TheVariants.{Device}
 use Rattle.onfi_cycles.specs.Cycles.{DieState, Due, Moves, Resets, Programs, Erases, Refuses, Cycle, Command, Address, DataIn, DataOut, due_of}
@@ -13,7 +15,7 @@ use Rattle.nand_die.specs.declared.fault.Stop.TheVariants.{Before}
 use Rattle.nand_die.specs.BusState.{IsProtocolFault}
 use Rattle.nand_die.specs.Tape.{next_record}
 use Rattle.nand_die.specs.ChipValue.{ChipValue, fresh, answered, answer_to}
-use Rattle.nand_die.specs.Stopping.{is_change, quit, left_by_stop}
+use Rattle.nand_die.specs.Stopping.{is_change, operation_due, quit, left_by_stop}
 
 -- What its bus shows; the faults that are set on it, how many programs and erases were asked for since, and how many in all; the stop that
 -- is set, in so many programs and erases from now, counted from 1 (0 is none); whether it has stopped, and the cycles that failed since; the
@@ -109,8 +111,15 @@ after_cycle (DataOut count) d = after_quiet (DataOut count) d
 abbrev pub answer_of : Cycle → DieValue → Result (Unit {0}) BusFault
 answer_of cycle d = if d.stopped || stops d cycle then refused Device else answer_to (due_now d cycle)
 
--- a call of a die: both follow from its value, and one on which no stop is set does not fail
+-- WHAT A DIE LEAVES THAT STOPS IN A CYCLE: an image that a stop may leave, by the operations that led to the die's image from an earlier
+-- one, as a log or a record has them, and by the operation in which it stops
+abbrev pub LeavesStopped : DieValue → Cycle → Image → Type 0
+LeavesStopped d cycle left = (first : Image) (log : List Operation) → d.state.flash.image ≡ image_after_all d.state.flash.geometry.pages first log →
+    MayLeave d.state.flash.geometry first (log ++ operation_due (due_now d cycle) (chip_of d)) left
+
+-- a call of a die: both follow from its value, one on which no stop is set does not fail, and one that stops leaves no other image
 pub record IsCall (old : DieValue) (cycle : Cycle) (answer : Result (Unit {0}) BusFault) (new : DieValue) : Type 0 where
   pub does : new ≡ after_cycle cycle old
   pub answers : answer ≡ answer_of cycle old
   pub own : is_calm old ≡ true → IfErr answer IsProtocolFault
+  pub leaves : old.stopped ≡ false → stops old cycle ≡ true → LeavesStopped old cycle new.state.flash.image

@@ -1,22 +1,27 @@
 -- What a die in memory does, said of its value before and after.
-use Rattle.std.specs.Prelude.{List, [], ◌∷◌, ◌++◌, Some, Contains, ◌≡◌, ◌⊎◌, ◌↔◌, ℕ, ◌<◌, true, false, if◌then◌else◌, length, IsSome, None}
+use Rattle.std.specs.Prelude.{List, [], ◌∷◌, ◌++◌, Some, Contains, ◌≡◌, ◌≢◌, ◌⊎◌, ◌↔◌, ℕ, ◌*◌, ◌<◌, true, false, if◌then◌else◌, length, slice_get, IsSome, None}
+use Rattle.std.specs.Prelude.{Result}
 use Rattle.page_layout.specs.Block.{past_last}
-use Rattle.page_layout.specs.Page.{Page}
+use Rattle.page_layout.specs.Page.{Page, Image}
 use Rattle.page_layout.specs.Counter.{counted}
-use Rattle.page_layout.specs.Flash.{Operation, may_program, may_erase}
-use Rattle.page_layout.specs.Recording.{Recording}
+use Rattle.page_layout.specs.Flash.{Flash, Operation, Leads, may_program, may_erase}
+use Rattle.page_layout.specs.Recording.{Recording, IsRecordOf, image_after_all}
+use Rattle.promises.specs.Stop.{MayLeave}
 use Rattle.onfi_cycles.specs.Spelling.{refused}
 use Rattle.onfi_cycles.specs.declared.nand.BusFault.TheVariants.{Device}
-use Rattle.onfi_cycles.specs.Cycles.{Cycle, Phase, Moves, Resets, Programs, Erases, Refuses}
+use Rattle.onfi_cycles.specs.Cycles.{Cycle, Phase, Due, Moves, Resets, Programs, Erases, Refuses, page_of}
 use Rattle.onfi_cycles.specs.declared.nand.BusFault.{BusFault}
 use Rattle.page_layout.specs.declared.geometry.Geometry.{Geometry}
 use Rattle.nand_die.specs.declared.fault.Fault.{Fault}
 use Rattle.nand_die.specs.declared.fault.DieFault.{DieFault}
+use Rattle.nand_die.specs.declared.fault.Stop.{Stop}
+use Rattle.nand_die.specs.declared.fault.Stop.TheVariants.{Before, After, Torn}
 use Rattle.nand_die.specs.Made.{AreNames, IsFirstMisnamed, is_named, IsNextPage}
 use Rattle.nand_die.specs.Faults.{ArePagesLeft, HasFirstWrong}
 use Rattle.nand_die.specs.ChipValue.{ChipValue, fault_next, answered, answer_to}
 use Rattle.nand_die.specs.Tape.{next_record}
-use Rattle.nand_die.specs.DieValue.{DieValue, after_cycle, answer_of, due_now, is_calm}
+use Rattle.nand_die.specs.Stopping.{operation_due, left_by_stop}
+use Rattle.nand_die.specs.DieValue.{DieValue, IsCall, after_cycle, answer_of, chip_of, due_now, is_calm, stops}
 
 -- A program passes, with status E0h, just where its page is the next of a block that is neither bad nor failed and no fault is due. Else
 -- it fails, with status E1h.
@@ -71,6 +76,46 @@ StoppedLaw = (d : DieValue) (cycle : Cycle) → d.stopped ≡ true →
 abbrev pub RoomLaw : Type 0
 RoomLaw = (room : ℕ) (op : Operation) (r : Recording) →
     (room ≡ 0 → next_record room op (Some r) ≡ None) × (0 < room → next_record room op (Some r) ≡ Some (record { image = r.image; log = r.log ++ (op ∷ []) }))
+
+-- ---- what a stop leaves
+
+-- A die that stops in a cycle holds an image that a stop may leave: by the log that led to it from any earlier state, or by the record
+-- that it told, and by the operation in which it stops.
+abbrev pub StopLeavesLaw : Type 0
+StopLeavesLaw = (old new : DieValue) (cycle : Cycle) (answer : Result (Unit {0}) BusFault) → IsCall old cycle answer new → old.stopped ≡ false → stops old cycle ≡ true →
+    ((first : Flash) (log : List Operation) → Leads first log old.state.flash →
+    MayLeave first.geometry first.image (log ++ operation_due (due_now old cycle) (chip_of old)) new.state.flash.image)
+    × ((r : Recording) → old.recorded ≡ Some r → IsRecordOf old.state.flash old.recorded →
+    MayLeave old.state.flash.geometry r.image (r.log ++ operation_due (due_now old cycle) (chip_of old)) new.state.flash.image)
+
+-- Stopped before a program or an erase, every page is as it was; stopped after it, the pages are those that the operation leaves.
+abbrev pub WholeStopLaw : Type 0
+WholeStopLaw = (d : ChipValue) (due : Due) →
+    ((left_by_stop Before due d).state.flash ≡ d.state.flash)
+    × ((left_by_stop After due d).state.flash.image ≡ image_after_all d.state.flash.geometry.pages d.state.flash.image (operation_due due d))
+
+-- the page stands in the row, and every other page is as it was
+pub record HasOnly (row : ℕ) (page : Page) (old new : Image) : Type 0 where
+  pub size : length new ≡ length old
+  pub here : slice_get new row ≡ Some page
+  pub others : (other : ℕ) → other ≢ row → slice_get new other ≡ slice_get old other
+
+-- the page of the stop's bytes, where it leaves one
+abbrev pub TornTo : Geometry → Stop → Page → Type 0
+TornTo g Before torn = ⊥
+TornTo g After torn = ⊥
+TornTo g (Torn bytes) torn = torn ≡ page_of g bytes.items
+
+-- Torn, the stop's page stands in the row of the program, of an erase in page 0 of its block, and nowhere else. One that was not due to be
+-- done has changed no page.
+abbrev pub TornPageLaw : Type 0
+TornPageLaw = (stop : Stop) (d : ChipValue) (torn : Page) → TornTo d.state.flash.geometry stop torn →
+    ((row : ℕ) (page : Page) → row < length d.state.flash.image → may_program d.state.flash row ≡ true →
+    HasOnly row torn d.state.flash.image (left_by_stop stop (Programs row page) d).state.flash.image)
+    × ((block : ℕ) → block * d.state.flash.geometry.pages < length d.state.flash.image → may_erase d.state.flash block ≡ true →
+    HasOnly (block * d.state.flash.geometry.pages) torn d.state.flash.image (left_by_stop stop (Erases block) d).state.flash.image)
+    × ((row : ℕ) (page : Page) → may_program d.state.flash row ≡ false → (left_by_stop stop (Programs row page) d).state.flash.image ≡ d.state.flash.image)
+    × ((block : ℕ) → may_erase d.state.flash block ≡ false → (left_by_stop stop (Erases block) d).state.flash.image ≡ d.state.flash.image)
 
 -- ---- what a die is made of
 

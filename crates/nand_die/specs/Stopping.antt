@@ -1,17 +1,17 @@
 -- How a die may stop at a program or an erase: before it, after it, or with its page torn.
-use Rattle.std.specs.Prelude.{◌≡◌, ◌≢◌, IsSome, Bool, true, false, ◌*◌, length, slice_set, None, if◌then◌else◌}
+use Rattle.std.specs.Prelude.{◌≡◌, ◌≢◌, IsSome, Bool, true, false, ◌*◌, List, [], ◌∷◌, length, slice_set, None, if◌then◌else◌}
 use Rattle.page_layout.specs.declared.geometry.Geometry.{Geometry}
 use Rattle.page_layout.specs.Geometry.{page_bytes}
 use Rattle.page_layout.specs.Page.{Page, Image}
 use Rattle.page_layout.specs.Sound.{record_of}
 use Rattle.page_layout.specs.Counter.{counted}
-use Rattle.page_layout.specs.Flash.{Flash, may_program, may_erase}
+use Rattle.page_layout.specs.Flash.{Flash, Operation, Program, Erase, may_program, may_erase}
 use Rattle.onfi_cycles.specs.Cycles.{Due, Moves, Resets, Programs, Erases, Refuses, page_of, to_phase, given_up}
 use Rattle.nand_die.specs.declared.fault.Stop.{Stop}
 use Rattle.nand_die.specs.declared.fault.Stop.TheVariants.{Before, After, Torn}
 use Rattle.nand_die.specs.declared.fault.DieFault.{DieFault}
 use Rattle.nand_die.specs.declared.fault.DieFault.TheVariants.{WrongLength, BadMark, OutOfMemory, SoundFaultPage}
-use Rattle.nand_die.specs.ChipValue.{ChipValue, answered, in_state}
+use Rattle.nand_die.specs.ChipValue.{ChipValue, answered, in_state, program_passes, program_left, erase_passes, erase_left}
 
 -- whether a program or an erase is due
 abbrev pub is_change : Due → Bool
@@ -20,6 +20,14 @@ is_change Resets = false
 is_change (Programs row page) = true
 is_change (Erases block) = true
 is_change (Refuses fault) = false
+
+-- the program or the erase that is due, with its outcome and what it leaves where all of it is done; or none
+abbrev pub operation_due : Due → ChipValue → List Operation
+operation_due (Moves phase) d = []
+operation_due Resets d = []
+operation_due (Programs row page) d = Program row page (program_passes d row) (program_left d row page) ∷ []
+operation_due (Erases block) d = Erase block (erase_passes d block) (erase_left d block) ∷ []
+operation_due (Refuses fault) d = []
 
 -- the pages after a torn program or erase: this page in its row, or in page 0 of its block; one that was not allowed changes nothing
 abbrev pub torn_image : Due → Flash → Page → Image

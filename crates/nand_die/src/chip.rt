@@ -85,6 +85,7 @@ impl Model for Chip {
 }
 
 impl Chip {
+    ghost use Rattle.page_layout.specs.Page.{IsImage};
     ghost use Rattle.nand_die.specs.ChipValue.{ChipValue, Acts, fresh};
     ghost use Rattle.nand_die.specs.Stopping.{quit, is_change, missed, torn_image, with_image};
     ghost use Rattle.nand_die.specs.Jobs.{IsJob};
@@ -200,7 +201,8 @@ impl Chip {
 
     // Gives up the unfinished command, and does nothing else.
     pub(crate) fn give_up(&mut self)
-        ensures { self.new ≡ quit self.old }
+        ensures new { self.new ≡ quit self.old }
+        ensures whole { IsImage self.new.state.flash.geometry self.new.state.flash.image }
     {
         self.bus_state = self.bus_state.given_up();
     }

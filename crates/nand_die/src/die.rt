@@ -47,6 +47,7 @@ impl Model for Die {
 }
 
 impl Die {
+    ghost use Rattle.page_layout.specs.Page.{IsImage};
     ghost use Rattle.nand_die.specs.Faults.{ArePagesLeft, HasFirstWrong};
     ghost use Rattle.nand_die.specs.ChipValue.{ChipValue, fresh};
     ghost use Rattle.nand_die.specs.Stopping.{IsStop, IsWrongStop, is_change, left_by_stop};
@@ -209,6 +210,7 @@ impl Die {
     // Fails in this cycle.
     fn fail(&mut self) -> Result<(), BusFault>
         ensures new { self.new ≡ failed_as self.old (chip_of self.old) self.old.left }
+        ensures whole { IsImage self.new.state.flash.geometry self.new.state.flash.image }
         ensures device { result ≡ Err BusFault.Device }
     {
         self.chip.give_up();

@@ -2,6 +2,7 @@
 //! is proved with the crate, and a caller of the function has it at hand.
 ghost use Rattle.nand_die.specs.Laws.{ProgramPassesLaw, ErasePassesLaw, ProgramAbuseLaw, EraseAbuseLaw, CountLaw, QuietLaw, NextPageLaw, NamedLaw};
 ghost use Rattle.nand_die.specs.Laws.{NoneMisnamedLaw, OneMisnamedLaw, NoneWrongLaw, OneWrongLaw, CalmLaw, StoppedLaw, RoomLaw};
+ghost use Rattle.nand_die.specs.Laws.{StopLeavesLaw, WholeStopLaw, TornPageLaw};
 
 /// When a program or an erase of a die in memory passes, what counts as abuse, and that no other cycle
 /// changes a page. It does nothing. (This project.)
@@ -31,4 +32,13 @@ pub fn stop_laws()
     ensures calm { CalmLaw }
     ensures stopped { StoppedLaw }
     ensures room { RoomLaw }
+{}
+
+/// What a stop leaves: an image that a stop may leave, by the operations so far and the one in which the die stops. Nothing of
+/// that one is done, or all of it, or its own page is torn, of an erase page 0 of its block, and no other. It does nothing. (This
+/// project.)
+pub fn left_laws()
+    ensures leaves { StopLeavesLaw }
+    ensures whole { WholeStopLaw }
+    ensures torn { TornPageLaw }
 {}

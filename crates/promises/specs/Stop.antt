@@ -1,9 +1,9 @@
 -- The images that a stop in the middle of operations may leave.
-use Rattle.std.specs.Prelude.{◌≡◌, ◌⊎◌, ◌↔◌, ℕ, List, [], ◌∷◌, ◌++◌, Option}
+use Rattle.std.specs.Prelude.{◌≡◌, ◌⊎◌, ◌↔◌, ℕ, ◌/◌, Bool, List, [], ◌∷◌, ◌++◌, length, slice_get, slice_set, Option}
 use Rattle.page_layout.specs.declared.geometry.Geometry.{Geometry}
-use Rattle.page_layout.specs.Page.{Image, IsImage}
-use Rattle.page_layout.specs.Change.{FailsAt, LosesIn}
-use Rattle.page_layout.specs.Flash.{Flash, Operation, Program, Erase, Leads}
+use Rattle.page_layout.specs.Page.{Page, Image, IsImage}
+use Rattle.page_layout.specs.Change.{FailsAt, LosesIn, IsUnsoundAt}
+use Rattle.page_layout.specs.Flash.{Flash, Operation, Program, Erase, Leads, with_block}
 use Rattle.page_layout.specs.Recording.{Recording, Records, image_after, image_after_all}
 
 -- Stopped before an operation or in it. A program: the image is as before, or its page alone has changed and has no sound record. An
@@ -51,6 +51,24 @@ StopsJoinLaw = (pages : ℕ) (image left : Image) (xs ys : List Operation) → L
 -- the die's image after its log is the image after its operations
 abbrev pub ImageLaw : Type 0
 ImageLaw = (old new : Flash) (log : List Operation) → Leads old log new → new.image ≡ image_after_all old.geometry.pages old.image log
+
+-- each page is as it was, or is one of these and has no sound record
+pub record IsTornIn (these : ℕ → Type 0) (image left : Image) : Type 0 where
+  pub size : length left ≡ length image
+  pub each : (row : ℕ) → (slice_get left row ≡ slice_get image row) ⊎ (these row × IsUnsoundAt left row)
+
+-- Stopped in a program: all of it is done, or each page is as it was but for its own, which may be left without a sound record. Every
+-- such image is one, and no other.
+abbrev pub StoppedProgramLaw : Type 0
+StoppedProgramLaw = (g : Geometry) (image left : Image) (row : ℕ) (page written : Page) (passed : Bool) →
+    MayLeave g image (Program row page passed written ∷ []) left
+    ↔ (IsImage g left × ((left ≡ slice_set image row written) ⊎ IsTornIn (λ r. r ≡ row) image left))
+
+-- The same of an erase, with the pages of its block.
+abbrev pub StoppedEraseLaw : Type 0
+StoppedEraseLaw = (g : Geometry) (image left : Image) (block : ℕ) (passed : Bool) (written : List Page) →
+    MayLeave g image (Erase block passed written ∷ []) left
+    ↔ (IsImage g left × ((left ≡ with_block g.pages block written image) ⊎ IsTornIn (λ r. r / g.pages ≡ block) image left))
 
 -- ---- calls and their stops: `StopLemmas` joins them
 

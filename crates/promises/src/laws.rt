@@ -9,6 +9,7 @@ ghost use Rattle.promises.specs.Run.{OneMoreEventLaw, RunJoinLaw, LastLaw, OneLo
 ghost use Rattle.promises.specs.Stream.{OneWayLaw, SomeWayLaw, RepliesJoinLaw, OpLaw, CutShortLaw, CutShortOutLaw, BadHeaderLaw, ElevenLaw};
 ghost use Rattle.promises.specs.Stream.{FiveLaw, FiveCommandsLaw, FiveOutLaw, RefusalsLaw};
 ghost use Rattle.promises.specs.Stop.{NoOperationLaw, TornInOneLaw, BetweenLaw, StopsJoinLaw, ImageLaw};
+ghost use Rattle.promises.specs.Stop.{StoppedProgramLaw, StoppedEraseLaw};
 
 /// The step of the array: a read has one answer, what was written is read back, what isn't answered Done has changed no sector, and
 /// a device that is read-only stays as it is. (This project.)
@@ -128,4 +129,11 @@ pub fn stop_laws()
     ensures between { BetweenLaw }
     ensures join { StopsJoinLaw }
     ensures image { ImageLaw }
+{}
+
+/// Which images a stop in one program or one erase may leave: nothing of it is done, or all of it, or its page, of an erase pages of its
+/// block, are left without a sound record; every such image, and no other. (This project.)
+pub fn torn_laws()
+    ensures program { StoppedProgramLaw }
+    ensures erase { StoppedEraseLaw }
 {}

@@ -1,10 +1,10 @@
 //! A die that is stopped at a program or an erase: what a driver over it answers, and the pages that it holds then.
-ghost use Rattle.std.specs.Prelude.{◌≡◌};
+ghost use Rattle.std.specs.Prelude.{◌≡◌, None, OnErr};
 ghost use Rattle.page_layout.specs.Geometry.{row_count};
 
 use super::made::image_of;
 use super::operations::{Operation, after};
-use super::steps::{ERASED, Left, Page, bytes_of, page_left};
+use super::steps::{ERASED, Left, Page, Step, bytes_of, page_left, walk};
 use super::{new_die, small};
 use nand_die::{Die, DieFault, Stop};
 use onfi_cycles::{BusFault, Outcome};
@@ -263,6 +263,79 @@ fn walk_stops(rt: &impl Abort, alloc: Global, row: &Row) {
 fn stops_at_single_pages(rt: HostRuntime) {
     for row in &STOPS {
         walk_stops(&rt, rt.alloc(), row);
+    }
+}
+
+// Begins a record. A die that is refused one tells none.
+fn record(die: &mut Die, alloc: Global, room: u32) -> Result<(), DieFault>
+    ensures none { OnErr result (die.new.recorded ≡ None) }
+    ensures geometry { die.new.state.flash.geometry ≡ die.old.state.flash.geometry }
+{
+    die.record(alloc, room)
+}
+
+/// For how many operations a record is to have room, and the answer.
+type Begun = (u32, Result<(), DieFault>);
+
+// Records that are begun on a die, one after another, and what it is put through then.
+struct Records {
+    name: &'static str,
+    begun: &'static [Begun],
+    steps: &'static [Step],
+}
+
+const ERASES: &[Step] = &[
+    Step::Open(0xFF, &[]),
+    Step::Erase(0, 0xE0),
+    Step::Erase(0, 0xE0),
+    Step::Abuse(0),
+];
+
+// Of pages of 4352 bytes, 8 in a block: 2^32 - 1 operations are more than 2^47 bytes, which no process can have.
+const TOO_MANY: Begun = (u32::MAX, Err(DieFault::OutOfMemory));
+
+const RECORDS: [Records; 4] = [
+    Records {
+        name: "room for both",
+        begun: &[(2, SET)],
+        steps: ERASES,
+    },
+    Records {
+        name: "room for one, and anew",
+        begun: &[(1, SET), (1, SET)],
+        steps: ERASES,
+    },
+    Records {
+        name: "one after it that is refused",
+        begun: &[(2, SET), TOO_MANY],
+        steps: ERASES,
+    },
+    Records {
+        name: "another after one that is refused",
+        begun: &[TOO_MANY, (0, SET)],
+        steps: ERASES,
+    },
+];
+
+fn walk_records(rt: &impl Abort, alloc: Global, geometry: Geometry, row: &Records) {
+    let mut die = new_die(rt, alloc, geometry, &[]);
+    for (room, want) in row.begun {
+        assert_eq!(rt;
+            record(&mut die, alloc, *room),
+            *want,
+            "room for {room}, {}",
+            row.name
+        );
+    }
+    walk(rt, alloc, &mut die, row.name, row.steps);
+    assert_eq!(rt; die.changes(), 2, "{}", row.name);
+}
+
+#[test]
+fn records_on_large_pages(rt: HostRuntime) {
+    let geometry = Geometry::new(4096, 256, 8, 12, 1).expect(&rt, "a geometry within the limits");
+    for row in &RECORDS {
+        walk_records(&rt, rt.alloc(), geometry, row);
     }
 }
 

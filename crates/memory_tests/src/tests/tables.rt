@@ -45,6 +45,79 @@ fn spare_bytes_of_first_and_last_pages_are_marks(rt: HostRuntime) -> Result<(), 
     Ok(())
 }
 
+// An image of one byte alone, with spare areas of 32 bytes, and whether its blocks have marks.
+struct Scan {
+    name: &'static str,
+    data_bytes: u32,
+    pages: u32,
+    blocks: u32,
+    image: usize,
+    byte: u8,
+    marked: bool,
+}
+
+const SCANS: [Scan; 4] = [
+    Scan {
+        name: "the fewest blocks, marked",
+        data_bytes: 64,
+        pages: 4,
+        blocks: 12,
+        image: 4608,
+        byte: 0,
+        marked: true,
+    },
+    Scan {
+        name: "the most blocks of 8 of the smallest pages, marked",
+        data_bytes: 64,
+        pages: 8,
+        blocks: 128,
+        image: 98_304,
+        byte: 0,
+        marked: true,
+    },
+    Scan {
+        name: "the most blocks of all, marked",
+        data_bytes: 4096,
+        pages: 4,
+        blocks: 4096,
+        image: 67_633_152,
+        byte: 0,
+        marked: true,
+    },
+    Scan {
+        name: "the most blocks of all, without a mark",
+        data_bytes: 4096,
+        pages: 4,
+        blocks: 4096,
+        image: 67_633_152,
+        byte: 0xFF,
+        marked: false,
+    },
+];
+
+fn expect_marks(rt: &impl Abort, alloc: Global, scan: &Scan) -> Result<(), Fail> {
+    let geometry = Geometry::new(scan.data_bytes, 32, scan.pages, scan.blocks, 1)?;
+    let bytes = vec![in alloc; scan.byte; scan.image]?;
+    let mut image = ImageSlice::new(&geometry, &bytes)?;
+    assert!(rt; image.geometry() == geometry);
+    let marks = factory_scan(alloc, &mut image, &geometry)?;
+    assert!(rt; marks.len() == scan.blocks as usize, "{}", scan.name);
+    assert!(rt;
+        marks.iter().all(|marked| *marked == scan.marked),
+        "{}",
+        scan.name
+    );
+    Ok(())
+}
+
+#[test]
+fn as_many_blocks_as_a_die_has_are_scanned(rt: HostRuntime) -> Result<(), Fail> {
+    for scan in &SCANS {
+        expect_marks(&rt, rt.alloc(), scan)?;
+    }
+    Ok(())
+}
+
 // A table of good blocks that were never erased, but for these factory bad ones.
 fn fresh_table(
     rt: &impl Abort,
@@ -65,6 +138,18 @@ fn fresh_table(
     assert!(rt; rows.len() < 4097);
     assert!(rt; rows.iter().all(|row| row.wear <= MOST_WEAR));
     Table::new(alloc, &rows)
+}
+
+// So many blocks, and which of them are bad.
+const TABLES: [(usize, &[usize]); 3] = [(12, &[0, 11]), (128, &[0, 127]), (4096, &[0, 4095])];
+
+#[test]
+fn tables_of_as_many_blocks_as_a_die_has(rt: HostRuntime) -> Result<(), Fail> {
+    for (blocks, bad) in &TABLES {
+        let table = fresh_table(&rt, rt.alloc(), *blocks, bad)?;
+        assert!(rt; table.good() as usize + 2 == *blocks, "{blocks} blocks");
+    }
+    Ok(())
 }
 
 fn write(table: &Table, u: u32, page: &mut [u8; 64]) {
