@@ -1,11 +1,11 @@
 //! The plain scan of a source that puts out other pages when it is read again.
-use super::images::{Page, TABLE_0, image_of};
 use image_check::sector;
 use page_layout::geometry::Geometry;
 use page_layout::record::Kind;
 use page_layout::source::{ImageSlice, PageSource, SourceFault};
 use std::process::Abort;
 use std::test::Fail;
+use test_images::{TABLE_0, Written, image_of};
 
 // The pages of one image, and after so many reads those of another.
 #[derive(Drop)]
@@ -55,16 +55,16 @@ impl PageSource for Fickle<'_> {
 }
 
 // Sector 5 as it is found.
-const FOUND: [Page; 2] = [TABLE_0, (8, Kind::Sector, 5, 3, 0x11)];
+const FOUND: [Written; 2] = [TABLE_0, (8, Kind::Sector, 5, 3, 0, 0x11)];
 
 // The page that stands there when it is read again, and what sector 5 then reads as.
-type Case = (&'static [Page], u8);
+type Case = (&'static [Written], u8);
 
 const CASES: [Case; 5] = [
     (&FOUND, 0x11),
-    (&[TABLE_0, (8, Kind::Sector, 5, 9, 0x22)], 0x22),
-    (&[TABLE_0, (8, Kind::Sector, 6, 3, 0x33)], 0),
-    (&[TABLE_0, (8, Kind::Trim, 5, 3, 0x44)], 0),
+    (&[TABLE_0, (8, Kind::Sector, 5, 9, 0, 0x22)], 0x22),
+    (&[TABLE_0, (8, Kind::Sector, 6, 3, 0, 0x33)], 0),
+    (&[TABLE_0, (8, Kind::Trim, 5, 3, 0, 0x44)], 0),
     (&[], 0),
 ];
 

@@ -1,8 +1,9 @@
 //! What `check` answers, and where several faults hold the first of them.
-use super::images::{Claimed, META, Made, Written};
+use super::images::{Claimed, Made};
 use super::runs::{Case, Step, expect_cases};
 use page_layout::record::Kind;
 use std::test::Fail;
+use test_images::{META, Written};
 
 const CHECK: &str = "nandctl check 64,32,8,32,32 4 image.bin cert.bin";
 
@@ -68,7 +69,7 @@ const ANSWERED: [Case; 13] = [
             ("image.bin", Made::Formatted(&TWICE)),
             (
                 "cert.bin",
-                Made::Certificate((4, 5, &[META, (1, 1, 2, 1)], &[(5, 8)])),
+                Made::Certificate((4, 5, &[META, (1, 1, 2, 1, 0)], &[(5, 8)])),
             ),
         ],
         steps: &[Step::Run(CHECK, 1, "refused check 3 NotNewest sector 5 row 9\n")],
@@ -95,7 +96,7 @@ const ANSWERED: [Case; 13] = [
             ("image.bin", Made::Formatted(&[])),
             (
                 "cert.bin",
-                Made::Certificate((4, 3, &[META, (3, 3, 0, 0)], &[])),
+                Made::Certificate((4, 3, &[META, (3, 3, 0, 0, 0)], &[])),
             ),
         ],
         steps: &[Step::Run(CHECK, 1, "refused check 7 BlockState block 3\n")],
@@ -106,7 +107,7 @@ const ANSWERED: [Case; 13] = [
             ("image.bin", Made::Formatted(&GAP)),
             (
                 "cert.bin",
-                Made::Certificate((4, 4, &[META, (5, 3, 0, 1)], &[(5, 41)])),
+                Made::Certificate((4, 4, &[META, (5, 3, 0, 1, 0)], &[(5, 41)])),
             ),
         ],
         steps: &[Step::Run(CHECK, 1, "refused check 8 BadSetWrong block 5\n")],
@@ -117,7 +118,7 @@ const ANSWERED: [Case; 13] = [
             ("image.bin", Made::Formatted(&GAP)),
             (
                 "cert.bin",
-                Made::Certificate((4, 4, &[META, (5, 5, 0, 1)], &[(5, 41)])),
+                Made::Certificate((4, 4, &[META, (5, 5, 0, 1, 0)], &[(5, 41)])),
             ),
         ],
         steps: &[Step::Run(CHECK, 0, ACCEPTED)],
@@ -128,7 +129,7 @@ const ANSWERED: [Case; 13] = [
             ("image.bin", Made::Formatted(&[])),
             (
                 "cert.bin",
-                Made::Certificate((4, 3, &[META, (2, 0, 0, 1)], &[])),
+                Made::Certificate((4, 3, &[META, (2, 0, 0, 1, 0)], &[])),
             ),
         ],
         steps: &[Step::Run(CHECK, 1, "refused check 9 LiveWrong block 2\n")],
@@ -139,7 +140,7 @@ const ANSWERED: [Case; 13] = [
             ("image.bin", Made::Formatted(&THREE)),
             (
                 "cert.bin",
-                Made::Certificate((2, 6, &[META, (1, 1, 3, 3)], &THREE_ROWS)),
+                Made::Certificate((2, 6, &[META, (1, 1, 3, 3, 0)], &THREE_ROWS)),
             ),
         ],
         steps: &[Step::Run(
@@ -154,7 +155,7 @@ const ANSWERED: [Case; 13] = [
             ("image.bin", Made::Formatted(&THREE)),
             (
                 "cert.bin",
-                Made::Certificate((3, 6, &[META, (1, 1, 3, 3)], &THREE_ROWS)),
+                Made::Certificate((3, 6, &[META, (1, 1, 3, 3, 0)], &THREE_ROWS)),
             ),
         ],
         steps: &[Step::Run(

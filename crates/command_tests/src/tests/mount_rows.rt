@@ -1,8 +1,9 @@
 //! What `mount` stores and prints, and where several faults hold the first of them.
-use super::images::{META, Made, Written};
+use super::images::Made;
 use super::runs::{Case, Step, expect_cases};
 use page_layout::record::Kind;
 use std::test::Fail;
+use test_images::{META, Written};
 
 const MOUNT: &str = "nandctl mount 64,32,8,32,32 4 image.bin cert.bin";
 
@@ -51,7 +52,7 @@ const MOUNTED: [Case; 5] = [
             ),
             Step::Holds(
                 "cert.bin",
-                Made::Certificate((65536, 5, &[META, (1, 1, 2, 1)], &[(5, 9)])),
+                Made::Certificate((65536, 5, &[META, (1, 1, 2, 1, 0)], &[(5, 9)])),
             ),
             Step::Run(
                 "nandctl check 64,32,8,32,32 65536 image.bin cert.bin",
@@ -71,7 +72,7 @@ const MOUNTED: [Case; 5] = [
             ),
             Step::Holds(
                 "cert.bin",
-                Made::Certificate((3, 6, &[META, (1, 1, 3, 3)], &TRIMMED_ROWS)),
+                Made::Certificate((3, 6, &[META, (1, 1, 3, 3, 0)], &TRIMMED_ROWS)),
             ),
             Step::Run(
                 "nandctl check 64,32,8,32,32 3 image.bin cert.bin",
@@ -91,7 +92,7 @@ const MOUNTED: [Case; 5] = [
             ),
             Step::Holds(
                 "cert.bin",
-                Made::Certificate((1, 4, &[META, (5, 5, 0, 1)], &[(5, 41)])),
+                Made::Certificate((1, 4, &[META, (5, 5, 0, 1, 0)], &[(5, 41)])),
             ),
             Step::Run(
                 "nandctl check 64,32,8,32,32 1 image.bin cert.bin",
@@ -111,7 +112,7 @@ const MOUNTED: [Case; 5] = [
             ),
             Step::Holds(
                 "cert.bin",
-                Made::Certificate((4, u64::MAX, &[META, (1, 1, 1, 1)], &[(5, 8)])),
+                Made::Certificate((4, u64::MAX, &[META, (1, 1, 1, 1, 0)], &[(5, 8)])),
             ),
             Step::Run(
                 "nandctl check 64,32,8,32,32 4 image.bin cert.bin",

@@ -1,8 +1,9 @@
 //! What `sector` prints: the plain recovery of a sector, and where several faults hold the first of them.
-use super::images::{IMAGE_BYTES, Made, Written};
+use super::images::{IMAGE_BYTES, Made};
 use super::runs::{Case, Step, expect_cases};
 use page_layout::record::Kind;
 use std::test::Fail;
+use test_images::Written;
 
 const SECTOR: &str = "nandctl sector 64,32,8,32,32 image.bin 5";
 

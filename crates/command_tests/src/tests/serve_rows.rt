@@ -1,7 +1,8 @@
 //! What `serve` writes, stores and answers.
-use super::images::{META, Made};
+use super::images::Made;
 use super::runs::{Case, Step, expect_cases};
 use std::test::Fail;
+use test_images::META;
 
 const SERVE: &str = "nandctl serve 64,32,8,32,32 4 image.bin cert.bin out.bin";
 

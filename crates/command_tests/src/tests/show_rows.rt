@@ -1,8 +1,9 @@
 //! What `show` prints of a page.
-use super::images::{IMAGE_BYTES, Made, Written};
+use super::images::{IMAGE_BYTES, Made};
 use super::runs::{Case, Step, expect_cases};
 use page_layout::record::Kind;
 use std::test::Fail;
+use test_images::Written;
 
 const KINDS: [Written; 4] = [
     (0, Kind::Sector, 5, 3, 0, 0x11),

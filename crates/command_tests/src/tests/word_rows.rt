@@ -1,7 +1,8 @@
 //! Words that are no command, or no number.
-use super::images::{IMAGE_BYTES, META, Made};
+use super::images::{IMAGE_BYTES, Made};
 use super::runs::{Case, Step, expect_cases};
 use std::test::Fail;
+use test_images::META;
 
 const NO_COMMAND: &str = "usage: no such command\n";
 

@@ -32,13 +32,9 @@ const EIGHT_READ: [Call; 7] = [
     Read(5, 0x15),
 ];
 
-const BEFORE: [u8; 16] = [
-    10, 11, 12, NO, NO, NO, NO, 9, NO, NO, NO, NO, NO, NO, NO, NO,
-];
+const BEFORE: &[u8] = &[10, 11, 12, NO, NO, NO, NO, 9];
 
-const AFTER: [u8; 16] = [
-    17, 18, 19, 20, 21, 22, NO, 16, NO, NO, NO, NO, NO, NO, NO, NO,
-];
+const AFTER: &[u8] = &[17, 18, 19, 20, 21, 22, NO, 16];
 
 // Block 1 is erased: its seven live pages stand in block 2 by rising row, the trim among them. Sectors
 // 7, 0 and 1 weren't cached, so their translation page is written.
@@ -145,9 +141,7 @@ const CACHED: [Call; 8] = [
     Write(7, 0x27),
 ];
 
-const MOVED: [u8; 16] = [
-    16, 17, 18, 19, 20, 21, 22, 23, NO, NO, NO, NO, NO, NO, NO, NO,
-];
+const MOVED: &[u8] = &[16, 17, 18, 19, 20, 21, 22, 23];
 
 const FLUSHING: [Case; 2] = [
     // A moved sector that is cached waits for its translation page to be written.
@@ -244,67 +238,18 @@ const FIVE_LIVE: Case = Case {
     ],
     told: Told::Changes,
     pages: &[
-        PageAt::Translation(
-            2,
-            0,
-            4,
-            [
-                8, NO, NO, NO, NO, NO, NO, NO, NO, NO, NO, NO, NO, NO, NO, NO,
-            ],
-        ),
-        PageAt::Translation(
-            3,
-            1,
-            6,
-            [
-                9, NO, NO, NO, NO, NO, NO, NO, NO, NO, NO, NO, NO, NO, NO, NO,
-            ],
-        ),
-        PageAt::Translation(
-            4,
-            0,
-            8,
-            [
-                8, 10, NO, NO, NO, NO, NO, NO, NO, NO, NO, NO, NO, NO, NO, NO,
-            ],
-        ),
-        PageAt::Translation(
-            5,
-            1,
-            10,
-            [
-                9, 11, NO, NO, NO, NO, NO, NO, NO, NO, NO, NO, NO, NO, NO, NO,
-            ],
-        ),
-        PageAt::Translation(
-            6,
-            0,
-            12,
-            [
-                8, 10, 12, NO, NO, NO, NO, NO, NO, NO, NO, NO, NO, NO, NO, NO,
-            ],
-        ),
-        PageAt::Translation(
-            7,
-            0,
-            21,
-            [
-                20, 17, 19, NO, NO, NO, NO, NO, NO, NO, NO, NO, NO, NO, NO, NO,
-            ],
-        ),
+        PageAt::Translation(2, 0, 4, &[8]),
+        PageAt::Translation(3, 1, 6, &[9]),
+        PageAt::Translation(4, 0, 8, &[8, 10]),
+        PageAt::Translation(5, 1, 10, &[9, 11]),
+        PageAt::Translation(6, 0, 12, &[8, 10, 12]),
+        PageAt::Translation(7, 0, 21, &[20, 17, 19]),
         PageAt::Sector(16, 16, 16, 0x31),
         PageAt::Sector(17, 1, 17, 0x32),
         PageAt::Sector(18, 17, 18, 0x33),
         PageAt::Sector(19, 2, 19, 0x34),
         PageAt::Sector(20, 0, 20, 0x37),
-        PageAt::Translation(
-            24,
-            1,
-            22,
-            [
-                16, 18, NO, NO, NO, NO, NO, NO, NO, NO, NO, NO, NO, NO, NO, NO,
-            ],
-        ),
+        PageAt::Translation(24, 1, 22, &[16, 18]),
     ],
     mounted: Some(&Mounted {
         capacity: 1,
@@ -361,32 +306,11 @@ const EVERY_KIND: Case = Case {
     ],
     told: Told::Changes,
     pages: &[
-        PageAt::Translation(
-            16,
-            0,
-            15,
-            [
-                8, 10, 11, 12, 13, NO, NO, NO, NO, NO, NO, NO, NO, NO, NO, NO,
-            ],
-        ),
-        PageAt::Translation(
-            24,
-            1,
-            19,
-            [
-                9, NO, NO, NO, NO, NO, NO, NO, NO, NO, NO, NO, NO, NO, NO, NO,
-            ],
-        ),
+        PageAt::Translation(16, 0, 15, &[8, 10, 11, 12, 13]),
+        PageAt::Translation(24, 1, 19, &[9]),
         PageAt::Table(25, 0, 20, [0; 16]),
         PageAt::Table(26, 1, 21, [0; 16]),
-        PageAt::Translation(
-            27,
-            0,
-            30,
-            [
-                40, 41, 42, 43, 44, 45, NO, NO, NO, NO, NO, NO, NO, NO, NO, NO,
-            ],
-        ),
+        PageAt::Translation(27, 0, 30, &[40, 41, 42, 43, 44, 45]),
         PageAt::Sector(40, 0, 23, 0x40),
         PageAt::Sector(41, 1, 24, 0x42),
         PageAt::Sector(42, 2, 25, 0x43),

@@ -283,8 +283,29 @@ fn change_sixty<N: Nand>(rt: &impl Abort, device: &mut Device<N>, script: &mut S
     }
 }
 
-// The sixty calls on a die of the least geometry, which is mounted anew then. All are done, the six flushes
-// and turns among them. The changes of the die, that of the format left out.
+// The sixty calls of a device on a die, which is mounted anew then. All are done, the six flushes and turns
+// among them.
+fn give_sixty<N: Nand + Drop>(
+    rt: &impl Abort,
+    alloc: Global,
+    nand: N,
+    geometry: &Geometry,
+    failing: &[u16],
+) -> Result<N, Fail>
+    requires { (N.flash nand).geometry ≡ geometry.now }
+{
+    let mut script = Script::new();
+    let mut device = started(alloc, nand, geometry, 1)?;
+    change_sixty(rt, &mut device, &mut script);
+    assert_eq!(rt; script.done(), 54, "{failing:?}");
+    let (nand, geometry) = given_up(device);
+    let mut device = started(alloc, nand, &geometry, 5)?;
+    compare(rt, &mut device, &script);
+    Ok(device.into_nand())
+}
+
+// They are given on a new die of the least geometry. Its changes, that of the format left out; none of them
+// is illegal.
 fn changes_of_sixty(
     rt: &impl Abort,
     alloc: Global,
@@ -293,14 +314,7 @@ fn changes_of_sixty(
 ) -> Result<u64, Fail> {
     let geometry = geometry_of(LEAST)?;
     let driver = formatted_die(alloc, geometry, failing, page_left)?;
-    let mut script = Script::new();
-    let mut device = started(alloc, driver, &geometry, 1)?;
-    change_sixty(rt, &mut device, &mut script);
-    assert_eq!(rt; script.done(), 54, "{failing:?}");
-    let (driver, geometry) = given_up(device);
-    let mut device = started(alloc, driver, &geometry, 5)?;
-    compare(rt, &mut device, &script);
-    let die = device.into_nand().into_bus();
+    let die = give_sixty(rt, alloc, driver, &geometry, failing)?.into_bus();
     assert_eq!(rt; die.abuse(), 0);
     Ok(die.changes().saturating_sub(1))
 }

@@ -23,14 +23,10 @@ const NONE_BAD: [u8; 16] = [0; 16];
 const ONE_BAD: [u8; 16] = [0, 0, 0, 0, 2, 0, 0, 0, 0, 0, 0, 0, 0, 0, 0, 0];
 
 // Sector 5 is in row 8.
-const AT_8: [u8; 16] = [
-    NO, NO, NO, NO, NO, 8, NO, NO, NO, NO, NO, NO, NO, NO, NO, NO,
-];
+const AT_8: &[u8] = &[NO, NO, NO, NO, NO, 8];
 
 // The same in row 16.
-const AT_16: [u8; 16] = [
-    NO, NO, NO, NO, NO, 16, NO, NO, NO, NO, NO, NO, NO, NO, NO, NO,
-];
+const AT_16: &[u8] = &[NO, NO, NO, NO, NO, 16];
 
 const FLUSHES: [Case; 4] = [
     Case {
@@ -193,7 +189,7 @@ const FAILURES: [Case; 3] = [
     },
 ];
 
-const WRITTEN_BACK: [u8; 16] = [8, 9, 10, 11, NO, NO, NO, NO, NO, NO, NO, NO, NO, NO, NO, NO];
+const WRITTEN_BACK: &[u8] = &[8, 9, 10, 11];
 
 #[test]
 fn flushes_write_all(rt: HostRuntime) -> Result<(), Fail> {
@@ -221,20 +217,35 @@ const NO_LONGER: DeviceFault = DeviceFault::ReadOnly {
     failed: 0,
 };
 
+// What a device shows: the next sequence, its free and its good blocks, and whether it only reads.
+fn shown_by<N: Nand>(device: &Device<N>) -> (u64, u32, u32, bool) {
+    let blocks = &device.engine.blocks;
+    (
+        device.engine.next,
+        blocks.free(),
+        blocks.good(),
+        device.read_only(),
+    )
+}
+
 // Ten blocks are free as the flush begins, and its fifth and tenth program fail: the table pages are
 // written three times and open five blocks, one for the write-back before them. It is done, four
 // blocks are free, and the device only reads from then on.
+fn end_the_writing<N: Nand>(rt: &impl Abort, device: &mut Device<N>)
+    requires { IsDevice N.flash device.old }
+    ensures { IsDevice N.flash device.new }
+{
+    write_212(rt, device);
+    hold_call(rt, device, "two failures", Flush, Ok(()));
+    assert_eq!(rt; shown_by(device), (232, 4, 62, true));
+    hold_call(rt, device, "four free", Write(0, 1), Err(NO_LONGER));
+}
+
 #[test]
 fn two_failures_in_a_flush_end_the_writing(rt: HostRuntime) -> Result<(), Fail> {
     let geometry = Geometry::new(64, 32, 4, 64, 1)?;
     let driver = formatted(rt.alloc(), geometry, &[217, 222], 0)?;
     let mut device = started(rt.alloc(), driver, &geometry, 1)?;
-    write_212(&rt, &mut device);
-    hold_call(&rt, &mut device, "two failures", Flush, Ok(()));
-    assert_eq!(&rt; device.engine.next, 232);
-    assert_eq!(&rt; device.engine.blocks.free(), 4);
-    assert_eq!(&rt; device.engine.blocks.good(), 62);
-    assert!(&rt; device.read_only());
-    hold_call(&rt, &mut device, "four free", Write(0, 1), Err(NO_LONGER));
+    end_the_writing(&rt, &mut device);
     Ok(())
 }

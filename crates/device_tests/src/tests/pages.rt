@@ -16,8 +16,8 @@ pub enum PageAt {
     Sector(u32, u32, u64, u8),
     // A row, the sector, and the sequence. The data area has bytes 00h.
     Trim(u32, u32, u64),
-    // A row, the number, the sequence, and the row of each entry.
-    Translation(u32, u32, u64, [u8; 16]),
+    // A row, the number, the sequence, and the rows of the first entries. The others have none.
+    Translation(u32, u32, u64, &'static [u8]),
     // A row, the number, the sequence, and the first bytes. The others are 00h.
     Table(u32, u32, u64, [u8; 16]),
     // A row with 00h in all its bytes.
@@ -42,12 +42,13 @@ fn page_with(kind: Kind, number: u32, sequence: u64, body: [u8; 64]) -> Page {
     Page { record, body }
 }
 
-// The data area of a translation page with these entries, of four bytes each.
-fn translation_body(entries: &[u8; 16]) -> [u8; 64] {
+// The data area of a translation page with these entries first, of four bytes each.
+fn translation_body(entries: &[u8]) -> [u8; 64] {
     let mut body = [0xFF; 64];
     for nth in 0..16usize {
-        if entries[nth] != NO {
-            body[4 * nth..4 * nth + 4].copy_from_slice(&[entries[nth], 0, 0, 0]);
+        let row = entries.get(nth).copied().unwrap_or(NO);
+        if row != NO {
+            body[4 * nth..4 * nth + 4].copy_from_slice(&[row, 0, 0, 0]);
         }
     }
     body

@@ -4,7 +4,7 @@ use super::calls::Call::{Read, Trim, Write};
 use super::cases::Cached::{Clean, Dirty};
 use super::cases::Step::{Done, Refused};
 use super::cases::{Case, QUIET, hold_cases};
-use super::pages::{NO, PageAt};
+use super::pages::PageAt;
 use super::recorder::Operation::{Program, Programs, Read as ReadPage};
 use super::recorder::{Cycle, Operation, cycles_of};
 use ftl_device::DeviceFault;
@@ -87,7 +87,7 @@ const FOUR_PAGES: [PageAt; 4] = [
     PageAt::Sector(11, 3, 6, 7),
 ];
 
-const FOUR_ENTRIES: [u8; 16] = [8, 9, 10, 11, NO, NO, NO, NO, NO, NO, NO, NO, NO, NO, NO, NO];
+const FOUR_ENTRIES: &[u8] = &[8, 9, 10, 11];
 
 // The pages of sectors 0 to 3 and then 16, before which the four were written back: a translation page
 // with entries 0 to 3, the rows 8 to 11, and no other.

@@ -18,6 +18,8 @@ enum Step {
     TryLoad(u32, Option<u32>),
     // A cached sector has a row that its translation page lacks.
     SetDirty(u32, u32),
+    // A sector is cached without a row, and then has this one, which its translation page lacks. So it is seen.
+    Write(u32, u32),
     // The page of a sector that is not cached has moved to a row.
     Move(u32, u32),
     // A translation page was written back.
@@ -30,8 +32,8 @@ enum Step {
     Lacks(u32, &'static [(u32, Option<u32>)]),
     // Those of them that moved.
     Moved(u32, &'static [(u32, u32)]),
-    // The entries of an erased translation page into which these rows were written.
-    Spells(u32, &'static [Option<u32>; 16]),
+    // The first entries of an erased translation page into which the rows were written. The others have none.
+    Spells(u32, &'static [Option<u32>]),
     // The cached sectors, the least recently used first, all of them clean. They are dropped.
     Holds(&'static [(u32, u32)]),
 }
@@ -47,21 +49,13 @@ const SCRIPTS: [Script; 4] = [
         name: "a write evicts what was written back",
         steps: &[
             Step::Peek(0, None),
-            Step::Load(0, None),
-            Step::SetDirty(0, 8),
-            Step::Peek(0, Some(Some(8))),
+            Step::Write(0, 8),
             Step::Peek(1, None),
-            Step::Load(1, None),
-            Step::SetDirty(1, 9),
-            Step::Peek(1, Some(Some(9))),
+            Step::Write(1, 9),
             Step::Peek(2, None),
-            Step::Load(2, None),
-            Step::SetDirty(2, 10),
-            Step::Peek(2, Some(Some(10))),
+            Step::Write(2, 10),
             Step::Peek(3, None),
-            Step::Load(3, None),
-            Step::SetDirty(3, 11),
-            Step::Peek(3, Some(Some(11))),
+            Step::Write(3, 11),
             // A read of sector 16 finds no place; one of sector 0 makes it the most recent.
             Step::Lookup(16, None),
             Step::IsFull,
@@ -73,32 +67,10 @@ const SCRIPTS: [Script; 4] = [
                 &[(0, Some(8)), (1, Some(9)), (2, Some(10)), (3, Some(11))],
             ),
             Step::Lacks(1, &[]),
-            Step::Spells(
-                0,
-                &[
-                    Some(8),
-                    Some(9),
-                    Some(10),
-                    Some(11),
-                    None,
-                    None,
-                    None,
-                    None,
-                    None,
-                    None,
-                    None,
-                    None,
-                    None,
-                    None,
-                    None,
-                    None,
-                ],
-            ),
+            Step::Spells(0, &[Some(8), Some(9), Some(10), Some(11)]),
             Step::Clean(0),
             Step::Lacks(0, &[]),
-            Step::Load(16, None),
-            Step::SetDirty(16, 12),
-            Step::Peek(16, Some(Some(12))),
+            Step::Write(16, 12),
             Step::Lacks(1, &[(16, Some(12))]),
             Step::Peek(1, None),
             Step::Clean(1),
@@ -108,32 +80,16 @@ const SCRIPTS: [Script; 4] = [
     Script {
         name: "moved sectors wait for their page",
         steps: &[
-            Step::Load(7, None),
-            Step::SetDirty(7, 8),
-            Step::Peek(7, Some(Some(8))),
-            Step::Load(7, None),
-            Step::SetDirty(7, 9),
-            Step::Peek(7, Some(Some(9))),
-            Step::Load(0, None),
-            Step::SetDirty(0, 10),
-            Step::Peek(0, Some(Some(10))),
-            Step::Load(1, None),
-            Step::SetDirty(1, 11),
-            Step::Peek(1, Some(Some(11))),
-            Step::Load(2, None),
-            Step::SetDirty(2, 12),
-            Step::Peek(2, Some(Some(12))),
+            Step::Write(7, 8),
+            Step::Write(7, 9),
+            Step::Write(0, 10),
+            Step::Write(1, 11),
+            Step::Write(2, 12),
             Step::HasNoPlace(3),
             Step::Clean(0),
-            Step::Load(3, None),
-            Step::SetDirty(3, 13),
-            Step::Peek(3, Some(Some(13))),
-            Step::Load(4, None),
-            Step::SetDirty(4, 14),
-            Step::Peek(4, Some(Some(14))),
-            Step::Load(5, None),
-            Step::SetDirty(5, 15),
-            Step::Peek(5, Some(Some(15))),
+            Step::Write(3, 13),
+            Step::Write(4, 14),
+            Step::Write(5, 15),
             // The pages of all seven sectors move, and the order of the cached ones stays.
             Step::Move(7, 16),
             Step::Move(0, 17),
@@ -223,6 +179,12 @@ fn set_dirty(mapping: &mut Mapping, sector: u32, row: u32) -> bool {
     may
 }
 
+fn write(mapping: &mut Mapping, sector: u32, row: u32) -> bool {
+    load(mapping, sector, None) == Some(true)
+        && set_dirty(mapping, sector, row)
+        && mapping.peek(sector) == Some(Some(row))
+}
+
 fn move_entry(mapping: &mut Mapping, sector: u32, row: u32) -> bool {
     let may = is_entry(&mapping.geometry(), sector, Some(row))
         && !mapping.is_cached(sector)
@@ -273,9 +235,9 @@ fn page_of(mapping: &Mapping, t: u32) -> [u8; 64] {
     page
 }
 
-fn spells(page: &[u8; 64], want: &[Option<u32>; 16]) -> bool {
+fn spells(page: &[u8; 64], want: &[Option<u32>]) -> bool {
     for i in 0..16 {
-        if entry(page, i) != want[i as usize] {
+        if entry(page, i) != want.get(i as usize).copied().unwrap_or(None) {
             return false;
         }
     }
@@ -305,6 +267,7 @@ fn passes(mapping: &mut Mapping, step: Step) -> bool {
             None => false,
         },
         Step::SetDirty(sector, row) => set_dirty(mapping, sector, row),
+        Step::Write(sector, row) => write(mapping, sector, row),
         Step::Move(sector, row) => move_entry(mapping, sector, row),
         Step::Clean(t) => clean(mapping, t),
         Step::Peek(sector, want) => mapping.peek(sector) == want,

@@ -3,14 +3,12 @@ use super::said::{Said, hold_said, mounted, mounted_counted, stale_count};
 use image_check::Refusal;
 use mount::Mounted;
 use page_layout::geometry::Geometry;
-use page_layout::record::{Kind, Record, write_record};
+use page_layout::record::Kind;
 use page_layout::source::{ImageSlice, PageSource, SourceFault};
-use std::alloc::{AllocError, Global};
+use std::alloc::Global;
 use std::process::Abort;
 use std::test::Fail;
-
-// A sound page: its row, its record's kind, number and sequence, and the byte that fills its data area.
-type Page = (u32, Kind, u32, u64, u8);
+use test_images::{TABLE_0, TABLE_1, Written, image_of};
 
 // What the certificate says that mounting answers, and how many sectors a check of it finds stale.
 type Accepted = (&'static [Said], usize);
@@ -18,28 +16,23 @@ type Accepted = (&'static [Said], usize);
 // The pages of a die that is else erased, the capacity of its mapping, and what mounting answers.
 struct Case {
     name: &'static str,
-    pages: &'static [Page],
+    pages: &'static [Written],
     capacity: u32,
     answer: Result<Accepted, Refusal>,
 }
 
-// The two table pages of a formatted die without marks.
-const TABLE_0: Page = (0, Kind::Table, 0, 1, 0);
-
-const TABLE_1: Page = (1, Kind::Table, 1, 2, 0);
-
 // A table page whose record is sound, and whose bytes no table has.
-const DAMAGED: Page = (0, Kind::Table, 0, 1, 3);
+const DAMAGED: Written = (0, Kind::Table, 0, 1, 0, 3);
 
-const LAST: Page = (8, Kind::Sector, 5, u64::MAX, 1);
+const LAST: Written = (8, Kind::Sector, 5, u64::MAX, 0, 1);
 
 // Three sectors were written and no translation page.
-const THREE: [Page; 5] = [
+const THREE: [Written; 5] = [
     TABLE_0,
     TABLE_1,
-    (8, Kind::Sector, 0, 3, 1),
-    (9, Kind::Sector, 1, 4, 1),
-    (10, Kind::Sector, 2, 5, 1),
+    (8, Kind::Sector, 0, 3, 0, 1),
+    (9, Kind::Sector, 1, 4, 0, 1),
+    (10, Kind::Sector, 2, 5, 0, 1),
 ];
 
 const CASES: [Case; 15] = [
@@ -71,8 +64,8 @@ const CASES: [Case; 15] = [
         pages: &[
             TABLE_0,
             TABLE_1,
-            (8, Kind::Sector, 1, 9, 1),
-            (16, Kind::Translation, 0, 9, 0xFF),
+            (8, Kind::Sector, 1, 9, 0, 1),
+            (16, Kind::Translation, 0, 9, 0, 0xFF),
         ],
         capacity: 4,
         answer: Err(Refusal::SequenceRepeated {
@@ -83,7 +76,7 @@ const CASES: [Case; 15] = [
     // A table page that has sound pages and no newest one.
     Case {
         name: "a table page's only pages tie",
-        pages: &[TABLE_0, TABLE_1, (8, Kind::Table, 1, 2, 0)],
+        pages: &[TABLE_0, TABLE_1, (8, Kind::Table, 1, 2, 0, 0)],
         capacity: 4,
         answer: Err(Refusal::SequenceRepeated {
             first: 1,
@@ -93,7 +86,7 @@ const CASES: [Case; 15] = [
     // A block whose first page is erased and whose second is sound was programmed out of order. Its newest page counts.
     Case {
         name: "a gap makes a block grown bad",
-        pages: &[TABLE_0, TABLE_1, (41, Kind::Sector, 5, 3, 1)],
+        pages: &[TABLE_0, TABLE_1, (41, Kind::Sector, 5, 3, 0, 1)],
         capacity: 4,
         answer: Ok((
             &[
@@ -112,13 +105,13 @@ const CASES: [Case; 15] = [
     },
     Case {
         name: "a sector past the last",
-        pages: &[TABLE_0, TABLE_1, (8, Kind::Sector, 32, 3, 1)],
+        pages: &[TABLE_0, TABLE_1, (8, Kind::Sector, 32, 3, 0, 1)],
         capacity: 4,
         answer: Err(Refusal::NumberRange { row: 8 }),
     },
     Case {
         name: "a damaged table page",
-        pages: &[TABLE_0, (1, Kind::Table, 1, 2, 3)],
+        pages: &[TABLE_0, (1, Kind::Table, 1, 2, 0, 3)],
         capacity: 4,
         answer: Err(Refusal::TableDamaged { page: 1 }),
     },
@@ -130,20 +123,20 @@ const CASES: [Case; 15] = [
     },
     Case {
         name: "the greatest but one leaves the greatest",
-        pages: &[TABLE_0, TABLE_1, (8, Kind::Sector, 5, u64::MAX - 1, 1)],
+        pages: &[TABLE_0, TABLE_1, (8, Kind::Sector, 5, u64::MAX - 1, 0, 1)],
         capacity: 4,
         answer: Ok((&[Said::NextSequence(u64::MAX)], 1)),
     },
     // From here on each image breaks two parts that stand side by side in the order. The first is answered.
     Case {
         name: "a number before a sequence",
-        pages: &[TABLE_0, TABLE_1, (8, Kind::Sector, 32, 1, 1)],
+        pages: &[TABLE_0, TABLE_1, (8, Kind::Sector, 32, 1, 0, 1)],
         capacity: 4,
         answer: Err(Refusal::NumberRange { row: 8 }),
     },
     Case {
         name: "a sequence before a missing table page",
-        pages: &[TABLE_0, (8, Kind::Sector, 1, 1, 1)],
+        pages: &[TABLE_0, (8, Kind::Sector, 1, 1, 0, 1)],
         capacity: 4,
         answer: Err(Refusal::SequenceRepeated {
             first: 0,
@@ -164,57 +157,11 @@ const CASES: [Case; 15] = [
     },
     Case {
         name: "the next sequence before the stale sectors",
-        pages: &[TABLE_0, TABLE_1, LAST, (9, Kind::Sector, 6, 3, 1)],
+        pages: &[TABLE_0, TABLE_1, LAST, (9, Kind::Sector, 6, 3, 0, 1)],
         capacity: 1,
         answer: Err(Refusal::NextSequence),
     },
 ];
-
-// Writes the spare area of a page with this record.
-fn write_spare(geometry: &Geometry, found: &Record, body: &[u8], spare: &mut [u8]) {
-    if geometry.data_bytes() == body.len() && geometry.spare_bytes() == spare.len() {
-        write_record(geometry, found, body, spare);
-    }
-}
-
-// Writes a page's data and spare areas, of 64 and of 32 bytes.
-fn write_page(geometry: &Geometry, page: &Page, body: &mut [u8; 64], spare: &mut [u8; 32]) {
-    let (_, kind, number, sequence, fill) = *page;
-    let found = Record {
-        kind,
-        number,
-        sequence,
-        wear: 0,
-    };
-    *body = [fill; 64];
-    write_spare(geometry, &found, body, spare);
-}
-
-fn push_row(
-    bytes: &mut Vec<u8>,
-    geometry: &Geometry,
-    pages: &[Page],
-    row: u32,
-) -> Result<(), AllocError> {
-    let mut body = [0xFF; 64];
-    let mut spare = [0xFF; 32];
-    for page in pages {
-        if page.0 == row {
-            write_page(geometry, page, &mut body, &mut spare);
-        }
-    }
-    bytes.extend_from_slice(&body)?;
-    bytes.extend_from_slice(&spare)
-}
-
-// The image of a die that is erased but for these pages.
-fn image_of(alloc: Global, geometry: &Geometry, pages: &[Page]) -> Result<Vec<u8>, AllocError> {
-    let mut bytes = Vec::new(alloc);
-    for row in 0..256 {
-        push_row(&mut bytes, geometry, pages, row)?;
-    }
-    Ok(bytes)
-}
 
 fn hold_case(rt: &impl Abort, alloc: Global, case: &Case) -> Result<(), Fail> {
     let geometry = Geometry::new(64, 32, 8, 32, 32)?;
@@ -284,7 +231,7 @@ impl<'a> PageSource for FailingAt<'a> {
     }
 }
 
-const NEWEST: [Page; 3] = [TABLE_0, TABLE_1, (2, Kind::Translation, 0, 3, 0xFF)];
+const NEWEST: [Written; 3] = [TABLE_0, TABLE_1, (2, Kind::Translation, 0, 3, 0, 0xFF)];
 
 // The number of the page read that fails, and what mounting answers: the first page, the last, and the newest translation
 // page, which is read again.

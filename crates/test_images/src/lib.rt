@@ -1,0 +1,150 @@
+//! What several crates of tests build: raw images and certificates of a small die, of 32 blocks of 8 pages of 64 and 32 bytes
+//! with 32 sectors. It holds no test, and no crate but one of tests stands on it.
+#![tactic(auto)]
+
+use page_layout::geometry::Geometry;
+use page_layout::record::{Kind, Record, write_record};
+use std::alloc::{AllocError, Global};
+
+/// A page that was written: its row; the kind, the number, the sequence and the erase count of its record; and the byte that
+/// fills its data area.
+pub type Written = (u32, Kind, u32, u64, u32, u8);
+
+/// The two table pages of a formatted die without marks.
+pub const TABLE_0: Written = (0, Kind::Table, 0, 1, 0, 0);
+
+pub const TABLE_1: Written = (1, Kind::Table, 1, 2, 0, 0);
+
+// The record of a page.
+fn record_of(page: &Written) -> Record {
+    let (_, kind, number, sequence, wear, _) = *page;
+    Record {
+        kind,
+        number,
+        sequence,
+        wear,
+    }
+}
+
+// Writes the spare area of a page with this record, where both areas are as long as the geometry says.
+fn write_spare(geometry: &Geometry, record: &Record, body: &[u8], spare: &mut [u8]) {
+    if geometry.data_bytes() == body.len() && geometry.spare_bytes() == spare.len() {
+        write_record(geometry, record, body, spare);
+    }
+}
+
+// The bytes of a page are put at the end.
+fn push_page(geometry: &Geometry, page: &Written, bytes: &mut Vec<u8>) -> Result<(), AllocError> {
+    let body = [page.5; 64];
+    let mut spare = [0xFF; 32];
+    write_spare(geometry, &record_of(page), &body, &mut spare);
+    bytes.extend_from_slice(&body)?;
+    bytes.extend_from_slice(&spare)
+}
+
+// The page of a row is put at the end: the first of these, or an erased one.
+fn push_row(
+    geometry: &Geometry,
+    pages: &[Written],
+    row: u32,
+    bytes: &mut Vec<u8>,
+) -> Result<(), AllocError> {
+    match pages.iter().find(|page| page.0 == row) {
+        Some(page) => push_page(geometry, page, bytes),
+        None => bytes.extend_from_slice(&[0xFF; 96]),
+    }
+}
+
+/// The image of a die that is erased but for these pages.
+pub fn image_of(
+    alloc: Global,
+    geometry: &Geometry,
+    pages: &[Written],
+) -> Result<Vec<u8>, AllocError> {
+    let mut bytes = Vec::new(alloc);
+    for row in 0..256 {
+        push_row(geometry, pages, row, &mut bytes)?;
+    }
+    Ok(bytes)
+}
+
+/// What a certificate says of a block: its number, class, write pointer, live pages and erase count.
+pub type Said = (u32, u8, u8, u8, u8);
+
+/// What the certificate of a formatted die without marks says of block 0, with the two pages of its tables.
+pub const META: Said = (0, 2, 2, 2, 0);
+
+/// What a certificate says. Blocks that are not named are free and were never erased, and sectors that are not have no row.
+#[derive(Clone, Copy)]
+pub struct Claim {
+    /// The capacity of the cache, in entries.
+    pub capacity: u32,
+    /// The next sequence.
+    pub next: u64,
+    /// Some of the blocks.
+    pub blocks: &'static [Said],
+    /// The rows of the translation pages and of the table pages.
+    pub directory: [Option<u8>; 4],
+    /// Sectors and their rows.
+    pub sectors: &'static [(u32, u32)],
+}
+
+/// What the certificate of a formatted die without marks says, for a cache of 4 entries.
+pub const FORMATTED: Claim = Claim {
+    capacity: 4,
+    next: 3,
+    blocks: &[META],
+    directory: [None, None, Some(0), Some(1)],
+    sectors: &[],
+};
+
+// The row of what has no page.
+const NO_ROW: u32 = 0xFFFF_FFFF;
+
+fn push_numbers(bytes: &mut Vec<u8>, numbers: &[u32]) -> Result<(), AllocError> {
+    for number in numbers {
+        bytes.extend_from_slice(&number.to_le_bytes())?;
+    }
+    Ok(())
+}
+
+// The nine bytes of a block.
+fn block_bytes(blocks: &[Said], block: u32) -> [u8; 9] {
+    match blocks.iter().find(|said| said.0 == block) {
+        Some((_, class, pointer, live, wear)) => [*class, *pointer, 0, *live, 0, *wear, 0, 0, 0],
+        None => [0; 9],
+    }
+}
+
+fn push_blocks(bytes: &mut Vec<u8>, blocks: &[Said]) -> Result<(), AllocError> {
+    for block in 0..32 {
+        bytes.extend_from_slice(&block_bytes(blocks, block))?;
+    }
+    Ok(())
+}
+
+fn push_directory(bytes: &mut Vec<u8>, directory: &[Option<u8>; 4]) -> Result<(), AllocError> {
+    for row in directory {
+        push_numbers(bytes, &[row.map_or(NO_ROW, u32::from)])?;
+    }
+    Ok(())
+}
+
+fn push_sectors(bytes: &mut Vec<u8>, sectors: &[(u32, u32)]) -> Result<(), AllocError> {
+    for sector in 0..32 {
+        let found = sectors.iter().find(|said| said.0 == sector);
+        push_numbers(bytes, &[found.map_or(NO_ROW, |said| said.1)])?;
+    }
+    Ok(())
+}
+
+/// The bytes of a certificate.
+pub fn certificate_bytes(alloc: Global, claim: &Claim) -> Result<Vec<u8>, AllocError> {
+    let mut bytes = Vec::from_slice(alloc, b"DFTLCRT1")?;
+    push_numbers(&mut bytes, &[64, 32, 8, 32, 32, claim.capacity])?;
+    bytes.extend_from_slice(&claim.next.to_le_bytes())?;
+    push_blocks(&mut bytes, claim.blocks)?;
+    push_directory(&mut bytes, &claim.directory)?;
+    push_sectors(&mut bytes, claim.sectors)?;
+    Ok(bytes)
+}
