@@ -1,0 +1,28 @@
+#!/usr/bin/env bash
+# Runs the scripts of four hundred commands whole: each program and erase fails in turn, alone and with the one or two after it; one
+# call of the bus fails, each in turn; and the die stops at each program and erase. The gate tries some of each, evenly apart. Nothing is
+# proved here: `rt try` runs the tests of a copy, in which the distances are 1. It takes an hour or so, and prints the tests.
+#
+#     bench/fault_scripts.sh [device_tests] [hostile_tests]       these crates of tests (default: both)
+set -eu
+top="$(cd "$(dirname "$0")/.." && pwd)"
+folder="$(mktemp -d)"
+trap 'rm -rf "$folder"' EXIT
+if [ $# -eq 0 ]; then set -- device_tests hostile_tests; fi
+cd "$top"
+git init -q "$folder"
+tar cf - --exclude=out crates crates.txt HANDLES | tar xf - -C "$folder"
+
+# Puts a distance of 1 in the place of that of a constant.
+tighten() {
+    grep -q "^const $2: \w* = [0-9]*;" "$1"
+    sed -i "s/^const $2: \(\w*\) = [0-9]*;/const $2: \1 = 1;/" "$1"
+}
+
+cd "$folder/crates"
+tighten device_tests/src/tests/fault_scripts.rt EACH
+tighten hostile_tests/src/tests/scripts.rt CALLS_APART
+tighten hostile_tests/src/tests/scripts.rt CHANGES_APART
+for name in "$@"; do
+    (cd "$name" && rt try --test --seconds 100000 2>&1 | grep '^ *\(test\|error\|[a-z_]*:\) ')
+done

@@ -1,0 +1,214 @@
+// Devices over buses that garble a byte or break down for one call.
+ghost use Rattle.std.specs.Prelude.{◌≡◌, true, IfOk};
+ghost use Rattle.page_layout.specs.declared.geometry.Geometry.{Geometry};
+ghost use Rattle.certificate.specs.Claim.{sizes_of};
+ghost use Rattle.ftl_device.specs.Device.{IsDevice};
+
+use super::bench::{driver_on, formatted, given_up, mounted, small, start_on, started};
+use super::calls::Call::{Flush, Read, Trim, Turn, Write};
+use super::calls::{Call, make};
+use ftl_device::{Device, DeviceFault};
+use image_check::{Accepted, check};
+use nand_die::{CycleFuse, Die, Garble};
+use onfi_cycles::{Bus, Driver, Nand};
+use page_layout::geometry::Geometry;
+use std::alloc::Global;
+use std::process::Abort;
+use std::test::Fail;
+
+type Answer = Result<(), DeviceFault>;
+
+const DONE: Answer = Ok(());
+
+const BROKEN: Answer = Err(DeviceFault::BusFault);
+
+const DAMAGED: Answer = Err(DeviceFault::Damaged);
+
+// A bus round a die. The first call that it sees is Reset.
+#[derive(Clone, Copy)]
+enum Round {
+    // Which data out is garbled, in which byte, by which mask.
+    Garble(u64, usize, u8),
+    // How many calls are handed on, and how many fail then.
+    Fuse(u64, u64),
+}
+
+// Calls that are done on a formatted die, and then on a new device over the bus: calls, what a read finds, and their answers.
+struct Row {
+    name: &'static str,
+    before: &'static [Call],
+    round: Round,
+    steps: &'static [(Call, u8, Answer)],
+}
+
+const ELEVEN: &[Call] = &[Write(5, 0x11)];
+
+// The entry of sector 5 is in a translation page, and in no cache.
+const FLUSHED: &[Call] = &[Write(5, 0x11), Flush];
+
+// All calls of a device that is stopped, those out of range too.
+const STOPPED: &[(Call, u8, Answer)] = &[
+    (Write(5, 0x22), 0, BROKEN),
+    (Write(6, 0x22), 0, BROKEN),
+    (Read(5), 0, BROKEN),
+    (Read(40), 0, BROKEN),
+    (Trim(5), 0, BROKEN),
+    (Trim(40), 0, BROKEN),
+    (Flush, 0, BROKEN),
+    (Turn, 0, BROKEN),
+];
+
+const ROWS: [Row; 8] = [
+    Row {
+        name: "a byte of a page is garbled",
+        before: ELEVEN,
+        round: Round::Garble(1, 0, 0x01),
+        steps: &[(Read(5), 0, DAMAGED), (Read(5), 0x11, DONE)],
+    },
+    Row {
+        name: "a byte of a spare area is garbled",
+        before: ELEVEN,
+        round: Round::Garble(2, 8, 0x01),
+        steps: &[
+            (Read(5), 0, DAMAGED),
+            (Read(5), 0x11, DONE),
+            (Write(5, 0x22), 0, DONE),
+            (Read(5), 0x22, DONE),
+        ],
+    },
+    Row {
+        name: "a status is garbled",
+        before: &[],
+        round: Round::Garble(1, 0, 0x80),
+        steps: STOPPED,
+    },
+    Row {
+        name: "one call fails, in a read",
+        before: ELEVEN,
+        round: Round::Fuse(1, 1),
+        steps: &[
+            (Read(5), 0, BROKEN),
+            (Read(5), 0, BROKEN),
+            (Read(40), 0, BROKEN),
+            (Write(5, 0x22), 0, BROKEN),
+            (Trim(5), 0, BROKEN),
+            (Flush, 0, BROKEN),
+            (Turn, 0, BROKEN),
+        ],
+    },
+    Row {
+        name: "one call fails, in a program",
+        before: &[],
+        round: Round::Fuse(7, 1),
+        steps: STOPPED,
+    },
+    // The second call of a read, after which the die would wait for an address.
+    Row {
+        name: "a call out of range asks the die for nothing",
+        before: ELEVEN,
+        round: Round::Fuse(2, 1),
+        steps: &[
+            (Read(32), 0, Err(DeviceFault::OutOfRange)),
+            (Write(32, 1), 0, Err(DeviceFault::OutOfRange)),
+            (Trim(32), 0, Err(DeviceFault::OutOfRange)),
+            (Read(5), 0, BROKEN),
+            (Read(32), 0, BROKEN),
+        ],
+    },
+    Row {
+        name: "a translation page is garbled for a read",
+        before: FLUSHED,
+        round: Round::Garble(1, 20, 0x01),
+        steps: &[(Read(5), 0, DAMAGED), (Read(5), 0x11, DONE)],
+    },
+    Row {
+        name: "a translation page is garbled for a write",
+        before: FLUSHED,
+        round: Round::Garble(1, 20, 0x01),
+        steps: &[
+            (Write(5, 0x22), 0, DAMAGED),
+            (Read(5), 0, DAMAGED),
+            (Write(6, 0x22), 0, DAMAGED),
+            (Trim(40), 0, DAMAGED),
+            (Flush, 0, DAMAGED),
+            (Turn, 0, DAMAGED),
+        ],
+    },
+];
+
+// Each call has its answer.
+fn hold_steps<N: Nand>(rt: &impl Abort, device: &mut Device<N>, row: &Row)
+    requires { IsDevice N.flash device.old }
+    ensures { IsDevice N.flash device.new }
+{
+    for (call, held, answer) in row.steps {
+        let name = row.name;
+        assert!(rt;
+            make(rt, device, *call, *held) == *answer,
+            "{name}: {call:?}"
+        );
+    }
+}
+
+// These calls are done.
+fn do_calls<N: Nand>(rt: &impl Abort, device: &mut Device<N>, calls: &[Call])
+    requires { IsDevice N.flash device.old }
+    ensures { IsDevice N.flash device.new }
+{
+    for call in calls {
+        assert!(rt; make(rt, device, *call, 0).is_ok(), "{call:?}");
+    }
+}
+
+// The device over a bus.
+fn hold_on<B: Bus + Drop>(
+    rt: &impl Abort,
+    alloc: Global,
+    bus: B,
+    geometry: Geometry,
+    accepted: Accepted<'_>,
+    row: &Row,
+) -> Result<(), Fail>
+    requires same { B.honest bus ≡ true → (B.die bus).flash.geometry ≡ geometry }
+    requires asked { sizes_of geometry ≡ accepted.claim.sizes }
+{
+    let driver = driver_on(bus, geometry)?;
+    let mut device = start_on(alloc, driver, accepted)?;
+    hold_steps(rt, &mut device, row);
+    Ok(())
+}
+
+// The die after the calls before.
+fn prepared(rt: &impl Abort, alloc: Global, row: &Row) -> Result<(Driver<Die>, Geometry), Fail>
+    ensures { IfOk result (λ pair. pair.0.geometry ≡ pair.1) }
+{
+    let geometry = small()?;
+    let mut device = started(alloc, formatted(alloc, geometry)?, &geometry, 4)?;
+    do_calls(rt, &mut device, row.before);
+    Ok(given_up(device))
+}
+
+fn hold_row(rt: &impl Abort, alloc: Global, row: &Row) -> Result<(), Fail> {
+    let (mut driver, geometry) = prepared(rt, alloc, row)?;
+    let certificate = mounted(alloc, &mut driver, &geometry, 4)?;
+    let accepted = check(alloc, &mut driver, &geometry, 4, &certificate)?;
+    let (die, round) = (driver.into_bus(), row.round);
+    match round {
+        Round::Garble(nth, byte, mask) => {
+            let bus = Garble::new(die, nth, byte, mask);
+            hold_on(rt, alloc, bus, geometry, accepted, row)
+        }
+        Round::Fuse(passed, failing) => {
+            let bus = CycleFuse::new(die, passed, failing);
+            hold_on(rt, alloc, bus, geometry, accepted, row)
+        }
+    }
+}
+
+#[test]
+fn hostile_buses_are_answered(rt: HostRuntime) -> Result<(), Fail> {
+    for row in &ROWS {
+        hold_row(&rt, rt.alloc(), row)?;
+    }
+    Ok(())
+}

@@ -1,0 +1,62 @@
+// A plain list of sectors, and what is held against it.
+ghost use Rattle.ftl_device.specs.Device.{IsDevice};
+
+use super::calls::read;
+use ftl_device::Device;
+use image_check::sector_in;
+use onfi_cycles::Nand;
+use page_layout::source::ImageSlice;
+use std::process::Abort;
+
+pub const SECTORS: u32 = 32;
+
+// The sectors, all zeros at first.
+#[derive(Drop)]
+pub struct List {
+    sectors: [[u8; 64]; SECTORS as usize],
+}
+
+impl List {
+    pub fn new() -> List {
+        List {
+            sectors: [[0; 64]; SECTORS as usize],
+        }
+    }
+
+    // A sector below 32.
+    pub fn get(&self, sector: u32) -> [u8; 64] {
+        self.sectors[(sector % SECTORS) as usize]
+    }
+
+    pub fn set(&mut self, sector: u32, body: [u8; 64]) {
+        self.sectors[(sector % SECTORS) as usize] = body;
+    }
+}
+
+// Each read gives what the list has.
+pub fn hold_device<N: Nand>(rt: &impl Abort, device: &mut Device<N>, list: &List, name: &str)
+    requires { IsDevice N.flash device.old }
+    ensures { IsDevice N.flash device.new }
+{
+    for sector in 0..SECTORS {
+        let found = read(rt, device, sector);
+        assert!(rt; found == Ok(list.get(sector)), "{name}: sector {sector}");
+    }
+}
+
+// The sector that the plain scan of an image gives.
+pub fn scanned(image: &ImageSlice<'_>, sector: u32) -> Option<[u8; 64]> {
+    match sector_in(image, sector) {
+        Ok(None) => Some([0; 64]),
+        Ok(Some(bytes)) => bytes.try_into().ok(),
+        Err(_) => None,
+    }
+}
+
+// The plain scan of an image gives what the list has.
+pub fn hold_image(rt: &impl Abort, image: &ImageSlice<'_>, list: &List, name: &str) {
+    for sector in 0..SECTORS {
+        let found = scanned(image, sector);
+        assert!(rt; found == Some(list.get(sector)), "{name}: sector {sector}");
+    }
+}

@@ -1,0 +1,191 @@
+// Streams of requests that are noise, or valid but for a few bytes, against a plain reader and a plain list of sectors.
+ghost use Rattle.std.specs.Prelude.{◌≡◌};
+
+use super::bench::{formatted, image_of, mounted, small};
+use super::list::{List, SECTORS, hold_image};
+use super::noise::Noise;
+use block_server::{RunFault, Served, serve_checked};
+use nand_die::Die;
+use onfi_cycles::Driver;
+use page_layout::geometry::Geometry;
+use page_layout::source::ImageSlice;
+use promises::stream::End;
+use std::alloc::Global;
+use std::process::Abort;
+use std::test::Fail;
+
+// How many streams of each sort there are.
+const STREAMS: u32 = 200;
+
+// The list of sectors, and the replies so far.
+#[derive(Drop)]
+struct Plain {
+    list: List,
+    output: Vec<u8>,
+    replies: u64,
+}
+
+// What stands at the beginning of a stream: a request, and the bytes after it, or the end.
+enum Front<'a> {
+    Request(&'a [u8; 12], &'a [u8], &'a [u8]),
+    Last(End),
+}
+
+// The first twelve bytes of a stream begin a request: its operation.
+fn operation(header: &[u8; 12]) -> Option<u8> {
+    match header {
+        [0x44, 0x46, op @ 1..=5, 0, ..] => Some(*op),
+        _ => None,
+    }
+}
+
+fn split_front(stream: &[u8]) -> Front<'_> {
+    if stream.is_empty() {
+        return Front::Last(End::Boundary);
+    }
+    let Some((header, rest)) = stream.split_first_chunk::<12>() else {
+        return Front::Last(End::Unfinished);
+    };
+    let body = match operation(header) {
+        None => return Front::Last(End::BadFrame),
+        Some(2) => 64,
+        Some(_) => 0,
+    };
+    match rest.split_at_checked(body) {
+        Some((body, rest)) => Front::Request(header, body, rest),
+        None => Front::Last(End::Unfinished),
+    }
+}
+
+impl Plain {
+    fn reply(&mut self, op: u8, status: u8, tag: [u8; 4]) -> Result<(), Fail> {
+        self.replies = self.replies.saturating_add(1);
+        self.output.extend_from_slice(&[0x64, 0x66, op, status])?;
+        Ok(self.output.extend_from_slice(&tag)?)
+    }
+
+    // Answers a request.
+    fn answer(&mut self, header: &[u8; 12], body: &[u8]) -> Result<(), Fail> {
+        let [_, _, op, _, t0, t1, t2, t3, s0, s1, s2, s3] = *header;
+        let sector = u32::from_le_bytes([s0, s1, s2, s3]);
+        let refused = op <= 3 && sector >= SECTORS;
+        self.reply(op, u8::from(refused), [t0, t1, t2, t3])?;
+        match (refused, op) {
+            (false, 1) => self.output.extend_from_slice(&self.list.get(sector))?,
+            (false, 2) => self.list.set(sector, body.try_into().unwrap_or([0; 64])),
+            (false, 3) => self.list.set(sector, [0; 64]),
+            _ => (),
+        }
+        Ok(())
+    }
+
+    // Answers a stream.
+    fn answer_all(&mut self, stream: &[u8]) -> Result<End, Fail> {
+        let mut left = stream;
+        for _ in 0..=stream.len() {
+            match split_front(left) {
+                Front::Request(header, body, rest) => {
+                    self.answer(header, body)?;
+                    left = rest;
+                }
+                Front::Last(End::BadFrame) => {
+                    self.reply(0, 7, [0; 4])?;
+                    return Ok(End::BadFrame);
+                }
+                Front::Last(end) => return Ok(end),
+            }
+        }
+        Err("no end")?
+    }
+}
+
+// What a die's server makes of a stream: its answer, what it wrote, and the image.
+fn served(
+    alloc: Global,
+    mut driver: Driver<Die>,
+    geometry: &Geometry,
+    stream: &[u8],
+) -> Result<(Served, Vec<u8>, Vec<u8>), Fail>
+    requires { driver.geometry ≡ geometry.now }
+{
+    let certificate = mounted(alloc, &mut driver, geometry, 4)?;
+    let mut reader = stream;
+    let mut written = Vec::new(alloc);
+    match serve_checked(
+        alloc,
+        driver,
+        geometry,
+        4,
+        &certificate,
+        &mut reader,
+        &mut written,
+    ) {
+        Ok((served, driver)) => Ok((served, written, image_of(alloc, geometry, driver)?)),
+        Err(RunFault::Serve { .. }) => Err("a fault")?,
+        Err(_) => Err("not served")?,
+    }
+}
+
+// The server's answer, output and image are those of the plain list.
+fn hold_stream(rt: &impl Abort, alloc: Global, stream: &[u8], name: &str) -> Result<End, Fail> {
+    let geometry = small()?;
+    let mut plain = Plain {
+        list: List::new(),
+        output: Vec::new(alloc),
+        replies: 0,
+    };
+    let end = plain.answer_all(stream)?;
+    let (answer, written, image) = served(alloc, formatted(alloc, geometry)?, &geometry, stream)?;
+    let replies = plain.replies;
+    assert!(rt; answer == Served { replies, end }, "{name}");
+    assert!(rt; written.as_slice() == plain.output.as_slice(), "{name}");
+    hold_image(rt, &ImageSlice::new(&geometry, &image)?, &plain.list, name);
+    Ok(end)
+}
+
+// Adds a request. One sector in nine is out of range.
+fn add_request(noise: &mut Noise, stream: &mut Vec<u8>) -> Result<(), Fail> {
+    let op = 1 + noise.below(5) as u8;
+    let sector = noise.below(36) as u8;
+    let mut body = [0; 64];
+    noise.fill(&mut body);
+    let [t0, t1, t2, t3, ..] = body;
+    stream.extend_from_slice(&[0x44, 0x46, op, 0, t0, t1, t2, t3, sector, 0, 0, 0])?;
+    if op == 2 {
+        stream.extend_from_slice(&body)?;
+    }
+    Ok(())
+}
+
+fn valid_stream(alloc: Global, noise: &mut Noise) -> Result<Vec<u8>, Fail> {
+    let mut stream = Vec::new(alloc);
+    for _ in 0..40 {
+        add_request(noise, &mut stream)?;
+    }
+    Ok(stream)
+}
+
+#[test]
+fn noise_is_answered(rt: HostRuntime) -> Result<(), Fail> {
+    let mut noise = Noise::new();
+    for _ in 0..STREAMS {
+        let mut stream = vec![in rt.alloc(); 0; noise.below(200) as usize]?;
+        noise.fill(&mut stream);
+        hold_stream(&rt, rt.alloc(), &stream, "noise")?;
+    }
+    Ok(())
+}
+
+#[test]
+fn changed_requests_are_answered(rt: HostRuntime) -> Result<(), Fail> {
+    let mut noise = Noise::new();
+    for _ in 0..STREAMS {
+        let mut stream = valid_stream(rt.alloc(), &mut noise)?;
+        let end = hold_stream(&rt, rt.alloc(), &stream, "valid")?;
+        assert!(rt; end == End::Boundary);
+        let length = stream.len();
+        noise.spoil(&mut stream, length);
+        hold_stream(&rt, rt.alloc(), &stream, "changed")?;
+    }
+    Ok(())
+}
