@@ -21,7 +21,7 @@ TOP = Path(__file__).resolve().parent.parent
 NAME = "refused_calls"
 USES = "page_layout onfi_cycles nand_die certificate image_check mount request_stream ftl_device block_server commands anyhow"
 # The allocation that fails, which is more than all calls make together.
-FAILING = 450
+FAILING = 1000
 
 
 def copied(folder):
