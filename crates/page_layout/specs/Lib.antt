@@ -24,6 +24,7 @@ pub mod Counter
 pub mod Change
 pub mod Flash
 pub mod Recording
+pub mod OnlyReads
 -- what the definitions come to
 pub mod Count
 pub mod Laws
