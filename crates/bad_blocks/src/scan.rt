@@ -2,6 +2,7 @@
 ghost use Rattle.std.specs.Prelude.{◌≡◌, ◌<◌, ◌≤◌, ◌+◌, ◌*◌, ◌^◌, true, length, vec_len, IfOk, IsErrOf, OnOk, OnErr};
 ghost use Rattle.page_layout.specs.Counter.{counted, HasRisen};
 ghost use Rattle.page_layout.specs.Geometry.{row_count};
+ghost use Rattle.page_layout.specs.OnlyReads.{OnlyReads};
 ghost use Rattle.bad_blocks.specs.Marks.{has_mark, is_marked, factory_marks};
 
 use page_layout::geometry::Geometry;
@@ -52,12 +53,8 @@ fn has_mark<S: PageSource>(
     requires spare_whole { length spare.old ≡ (S.flash source.old).geometry.spare_bytes }
     ensures marked { IfOk result (λ marked. S.honest source.old ≡ true → marked ≡ has_mark (S.flash source.old).image row) }
     ensures same { OnOk result (S.honest source.old ≡ true → S.flash source.new ≡ S.flash source.old) }
-    ensures geometry { (S.flash source.new).geometry ≡ (S.flash source.old).geometry }
-    ensures honest { S.honest source.new ≡ S.honest source.old }
+    ensures only_reads { OnlyReads S.flash S.honest S.calm S.programs S.erases S.failed source.old source.new }
     ensures reads { S.reads source.new ≡ counted (S.reads source.old) }
-    ensures programs { S.programs source.new ≡ S.programs source.old }
-    ensures erases { S.erases source.new ≡ S.erases source.old }
-    ensures failed { S.failed source.old ≤ S.failed source.new }
     ensures rose { OnErr result (HasRisen (S.failed source.old) (S.failed source.new)) }
 {
     source.read_page(row, body, spare)?;
@@ -77,13 +74,9 @@ fn is_marked<S: PageSource>(
     requires spare_whole { length spare.old ≡ geometry.now.spare_bytes }
     ensures marked { IfOk result (λ marked. S.honest source.old ≡ true → marked ≡ is_marked geometry.now (S.flash source.old).image block) }
     ensures same { OnOk result (S.honest source.old ≡ true → S.flash source.new ≡ S.flash source.old) }
-    ensures geometry { (S.flash source.new).geometry ≡ (S.flash source.old).geometry }
-    ensures honest { S.honest source.new ≡ S.honest source.old }
+    ensures only_reads { OnlyReads S.flash S.honest S.calm S.programs S.erases S.failed source.old source.new }
     ensures reads { OnOk result (S.reads source.new ≡ counted (counted (S.reads source.old))) }
     ensures most_reads { S.reads source.new ≤ S.reads source.old + 2 }
-    ensures programs { S.programs source.new ≡ S.programs source.old }
-    ensures erases { S.erases source.new ≡ S.erases source.old }
-    ensures failed { S.failed source.old ≤ S.failed source.new }
     ensures rose { OnErr result (HasRisen (S.failed source.old) (S.failed source.new)) }
 {
     let first_row = geometry.row(block, 0);
@@ -107,14 +100,10 @@ fn mark_blocks<S: PageSource>(
     requires spare_whole { length spare.old ≡ geometry.now.spare_bytes }
     ensures marks { OnOk result (S.honest source.old ≡ true → marks.new ≡ factory_marks geometry.now (S.flash source.old).image) }
     ensures same { OnOk result (S.honest source.old ≡ true → S.flash source.new ≡ S.flash source.old) }
-    ensures geometry { (S.flash source.new).geometry ≡ (S.flash source.old).geometry }
-    ensures honest { S.honest source.new ≡ S.honest source.old }
+    ensures only_reads { OnlyReads S.flash S.honest S.calm S.programs S.erases S.failed source.old source.new }
     ensures reads { OnOk result (S.reads source.old + 2 * geometry.now.blocks < 2 ^ 64 →
         S.reads source.new ≡ S.reads source.old + 2 * geometry.now.blocks) }
     ensures most_reads { S.reads source.new ≤ S.reads source.old + 2 * geometry.now.blocks }
-    ensures programs { S.programs source.new ≡ S.programs source.old }
-    ensures erases { S.erases source.new ≡ S.erases source.old }
-    ensures failed { S.failed source.old ≤ S.failed source.new }
     ensures rose { OnErr result (HasRisen (S.failed source.old) (S.failed source.new)) }
 {
     for block in 0..geometry.blocks() {
@@ -141,14 +130,10 @@ pub fn factory_scan<S: PageSource>(
 
     // Nothing but the counts of reads and faults changes.
     ensures same { OnOk result (S.honest source.old ≡ true → S.flash source.new ≡ S.flash source.old) }
-    ensures geometry { (S.flash source.new).geometry ≡ (S.flash source.old).geometry }
-    ensures honest { S.honest source.new ≡ S.honest source.old }
+    ensures only_reads { OnlyReads S.flash S.honest S.calm S.programs S.erases S.failed source.old source.new }
     ensures reads { OnOk result (S.reads source.old + 2 * geometry.now.blocks < 2 ^ 64 →
         S.reads source.new ≡ S.reads source.old + 2 * geometry.now.blocks) }
     ensures most_reads { S.reads source.new ≤ S.reads source.old + 2 * geometry.now.blocks }
-    ensures programs { S.programs source.new ≡ S.programs source.old }
-    ensures erases { S.erases source.new ≡ S.erases source.old }
-    ensures failed { S.failed source.old ≤ S.failed source.new }
 {
     let mut body = vec![in alloc; 0; geometry.data_bytes()]?;
     let mut spare = vec![in alloc; 0; geometry.spare_bytes()]?;

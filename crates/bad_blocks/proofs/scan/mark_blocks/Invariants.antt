@@ -1,4 +1,5 @@
 use Rattle.std.proofs.Common.{◌≡◌, ◌<◌, ◌≤◌, ◌+◌, ◌*◌, ◌^◌, ℕ, true, false, get_or}
+use Rattle.page_layout.specs.OnlyReads.{OnlyReads}
 use Rattle.bad_blocks.specs.Marks.{is_marked}
 use Rattle.bad_blocks.proofs.scan.mark_blocks.Given as goal
 
@@ -8,11 +9,7 @@ invariant-loop-block g l =
     record {
       marks : s.honest l.initial.source ≡ true → (k : ℕ) → k < l.block → get_or l.marks k false ≡ is_marked l.geometry (s.flash l.initial.source).image k;
       same : s.honest l.initial.source ≡ true → s.flash l.source ≡ s.flash l.initial.source;
-      same_geometry : (s.flash l.source).geometry ≡ (s.flash l.initial.source).geometry;
-      as_honest : s.honest l.source ≡ s.honest l.initial.source;
+      only_reads : OnlyReads s.flash s.honest s.calm s.programs s.erases s.failed l.initial.source l.source;
       reads : s.reads l.initial.source + 2 * l.block < 2 ^ 64 → s.reads l.source ≡ s.reads l.initial.source + 2 * l.block;
       most_reads : s.reads l.source ≤ s.reads l.initial.source + 2 * l.block;
-      programs : s.programs l.source ≡ s.programs l.initial.source;
-      erases : s.erases l.source ≡ s.erases l.initial.source;
-      failed : s.failed l.initial.source ≤ s.failed l.source;
     }
