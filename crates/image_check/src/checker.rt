@@ -3,6 +3,7 @@ ghost use Rattle.std.specs.Prelude.{◌≡◌, ◌≢◌, ◌≤◌, ◌+◌, �
 ghost use Rattle.page_layout.specs.Counter.{HasRisen};
 ghost use Rattle.page_layout.specs.Page.{IsImage};
 ghost use Rattle.page_layout.specs.Geometry.{row_count};
+ghost use Rattle.page_layout.specs.OnlyReads.{OnlyReads};
 ghost use Rattle.certificate.specs.Claim.{sizes_of};
 ghost use Rattle.image_check.specs.Accepted.{IsAcceptance};
 ghost use Rattle.image_check.specs.Agrees.{IsAsked, IsCertificateOf};
@@ -53,12 +54,8 @@ fn show_pages<S: PageSource>(
     ensures shows { OnOk result (S.honest source.old ≡ true → Shows (S.flash source.old).image 0 pass.old → Shows (S.flash source.old).image (row_count geometry.now) pass.new) }
     ensures same { OnOk result (S.honest source.old ≡ true → S.flash source.new ≡ S.flash source.old) }
     ensures whole { OnOk result (S.honest source.old ≡ true → IsImage geometry.now (S.flash source.new).image) }
-    ensures geometry { (S.flash source.new).geometry ≡ (S.flash source.old).geometry }
-    ensures honest { S.honest source.new ≡ S.honest source.old }
+    ensures only_reads { OnlyReads S.flash S.honest S.calm S.programs S.erases S.failed source.old source.new }
     ensures reads { S.reads source.new ≤ S.reads source.old + row_count geometry.now }
-    ensures programs { S.programs source.new ≡ S.programs source.old }
-    ensures erases { S.erases source.new ≡ S.erases source.old }
-    ensures failed { S.failed source.old ≤ S.failed source.new }
     ensures rose { OnErr result (HasRisen (S.failed source.old) (S.failed source.new)) }
 {
     for row in 0..geometry.rows() {
@@ -97,12 +94,8 @@ pub fn check<'a, S: PageSource>(
     ensures unread { result ≡ Err Refusal.GeometryDiffers → source.new ≡ source.old }
     ensures memory { result ≡ Err Refusal.OutOfMemory → source.new ≡ source.old }
     ensures accepted { IfOk result (λ accepted. (accepted.claim ≡ certificate.now) × IsAsked geometry.now capacity certificate.now) }
-    ensures geometry { (S.flash source.new).geometry ≡ (S.flash source.old).geometry }
-    ensures honest { S.honest source.new ≡ S.honest source.old }
+    ensures only_reads { OnlyReads S.flash S.honest S.calm S.programs S.erases S.failed source.old source.new }
     ensures reads { S.reads source.new ≤ S.reads source.old + row_count geometry.now }
-    ensures programs { S.programs source.new ≡ S.programs source.old }
-    ensures erases { S.erases source.new ≡ S.erases source.old }
-    ensures failed { S.failed source.old ≤ S.failed source.new }
     ensures rose { result ≡ Err Refusal.Source → HasRisen (S.failed source.old) (S.failed source.new) }
 {
     if !is_asked(geometry, capacity, certificate) {

@@ -9,6 +9,7 @@ ghost use Rattle.page_layout.specs.Sound.{record_of};
 ghost use Rattle.page_layout.specs.declared.record.Key.TheVariants as key;
 ghost use Rattle.page_layout.specs.declared.record.Kind.TheVariants as kind;
 ghost use Rattle.page_layout.specs.Geometry.{row_count, page_bytes};
+ghost use Rattle.page_layout.specs.OnlyReads.{OnlyReads};
 ghost use Rattle.image_check.specs.Sector.{IsAmbiguous, NamesRows, NamesLowest, HoldsSector, MayRead, IsRepeated, IsBelow};
 
 use page_layout::geometry::Geometry;
@@ -138,13 +139,9 @@ fn latest_of<S: PageSource>(
     ensures within { IfOk result (IsBelow (row_count geometry.now)) }
     ensures same { OnOk result (S.honest source.old ≡ true → S.flash source.new ≡ S.flash source.old) }
     ensures whole { OnOk result (S.honest source.old ≡ true → IsImage geometry.now (S.flash source.new).image) }
-    ensures geometry { (S.flash source.new).geometry ≡ (S.flash source.old).geometry }
-    ensures honest { S.honest source.new ≡ S.honest source.old }
+    ensures only_reads { OnlyReads S.flash S.honest S.calm S.programs S.erases S.failed source.old source.new }
     ensures reads { S.reads source.new ≤ S.reads source.old + row_count geometry.now }
     ensures counted { S.reads source.old < 2 ^ 64 → (S.reads source.old ≤ S.reads source.new) × (S.reads source.new < 2 ^ 64) }
-    ensures programs { S.programs source.new ≡ S.programs source.old }
-    ensures erases { S.erases source.new ≡ S.erases source.old }
-    ensures failed { S.failed source.old ≤ S.failed source.new }
     ensures rose { OnErr result (HasRisen (S.failed source.old) (S.failed source.new)) }
 {
     let mut newest = Latest::Never;
@@ -199,13 +196,9 @@ pub fn sector<S: PageSource>(
 
     // What stays the same of any source.
     ensures unread { geometry.now.sectors ≤ sector → source.new ≡ source.old }
-    ensures geometry { (S.flash source.new).geometry ≡ (S.flash source.old).geometry }
-    ensures honest { S.honest source.new ≡ S.honest source.old }
+    ensures only_reads { OnlyReads S.flash S.honest S.calm S.programs S.erases S.failed source.old source.new }
     ensures reads { S.reads source.new ≤ S.reads source.old + row_count geometry.now + 1 }
     ensures counted { S.reads source.old < 2 ^ 64 → S.reads source.old ≤ S.reads source.new }
-    ensures programs { S.programs source.new ≡ S.programs source.old }
-    ensures erases { S.erases source.new ≡ S.erases source.old }
-    ensures failed { S.failed source.old ≤ S.failed source.new }
 {
     out.fill(0);
     if sector >= geometry.sectors() {

@@ -4,6 +4,7 @@ ghost use Rattle.std.specs.List.{range_with_len};
 ghost use Rattle.page_layout.specs.Counter.{HasRisen};
 ghost use Rattle.page_layout.specs.Geometry.{row_count, key_count, entries, translation_pages};
 ghost use Rattle.page_layout.specs.Page.{Image, IsImage};
+ghost use Rattle.page_layout.specs.OnlyReads.{OnlyReads};
 ghost use Rattle.certificate.specs.Spelling.{IsRowOf};
 ghost use Rattle.translation_pages.specs.TranslationPage.{entry_at};
 ghost use Rattle.image_check.specs.Newest.{place_in, blank};
@@ -58,12 +59,8 @@ fn read_translation<S: PageSource>(
     requires spare_whole { length spare.old ≡ geometry.now.spare_bytes }
     ensures entries { OnOk result (S.honest source.old ≡ true → (i : ℕ) → i < entries geometry.now → entry_at body.new i ≡ entry_in (S.flash source.old).image i (place_in latest)) }
     ensures same { OnOk result (S.honest source.old ≡ true → S.flash source.new ≡ S.flash source.old) }
-    ensures geometry { (S.flash source.new).geometry ≡ (S.flash source.old).geometry }
-    ensures honest { S.honest source.new ≡ S.honest source.old }
+    ensures only_reads { OnlyReads S.flash S.honest S.calm S.programs S.erases S.failed source.old source.new }
     ensures reads { S.reads source.new ≤ S.reads source.old + 1 }
-    ensures programs { S.programs source.new ≡ S.programs source.old }
-    ensures erases { S.erases source.new ≡ S.erases source.old }
-    ensures failed { S.failed source.old ≤ S.failed source.new }
     ensures rose { OnErr result (HasRisen (S.failed source.old) (S.failed source.new)) }
 {
     match latest.row() {
@@ -99,12 +96,8 @@ pub fn find_stale<S: PageSource>(
     ensures rising { OnOk result (IsRisingBelow geometry.now.sectors stale.new.items) }
     ensures same { result ≢ Err Refusal.Source → S.honest source.old ≡ true → S.flash source.new ≡ S.flash source.old }
     ensures stops { IfErr result IsStop }
-    ensures geometry { (S.flash source.new).geometry ≡ (S.flash source.old).geometry }
-    ensures honest { S.honest source.new ≡ S.honest source.old }
+    ensures only_reads { OnlyReads S.flash S.honest S.calm S.programs S.erases S.failed source.old source.new }
     ensures reads { S.reads source.new ≤ S.reads source.old + translation_pages geometry.now }
-    ensures programs { S.programs source.new ≡ S.programs source.old }
-    ensures erases { S.erases source.new ≡ S.erases source.old }
-    ensures failed { S.failed source.old ≤ S.failed source.new }
     ensures rose { result ≡ Err Refusal.Source → HasRisen (S.failed source.old) (S.failed source.new) }
 {
     let sectors = geometry.sectors();

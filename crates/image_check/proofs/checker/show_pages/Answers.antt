@@ -1,4 +1,4 @@
-use Rattle.std.proofs.Common.{arith, ◌∙◌, ap, sym, slice_get}
+use Rattle.std.proofs.Common.{rules, arith, ◌∙◌, ap, sym, slice_get}
 use Rattle.page_layout.specs.Flash.{Flash}
 use Rattle.page_layout.proofs.GeometryLemmas.{some_rows}
 use Rattle.image_check.proofs.PassLemmas.{whole_of, same_pass}
@@ -14,19 +14,15 @@ loop-row-preserved g c =
     let read = c.in_ok-read_page.ensures in
     let passed = c.page.ensures in
     record {
-      geometry_is = read.geometry ∙ inv.geometry_is;
+      only_reads = search rules;
       geometry_was = inv.geometry_was;
       pass_is = passed.pass;
       pass_same = same_pass _ _ _ inv.pass_same passed.same;
       pass_geometry = passed.same.geometry ∙ inv.pass_geometry;
       body_whole = omega arith;
       spare_whole = omega arith;
-      as_honest = read.honest ∙ inv.as_honest;
-      same = λ honest. read.same (inv.as_honest ∙ honest) ∙ inv.same honest;
-      whole = λ below honest. whole_of c.args.geometry.now (g.S.PageSource.flash c.read_page.new.self) (read.geometry ∙ inv.geometry_is) (read.whole (inv.as_honest ∙ honest));
+      same = λ honest. read.same (inv.only_reads.honest_is ∙ honest) ∙ inv.same honest;
+      whole = λ below honest. whole_of c.args.geometry.now (g.S.PageSource.flash c.read_page.new.self) (read.geometry ∙ inv.only_reads.geometry_is ∙ inv.geometry_was) (read.whole (inv.only_reads.honest_is ∙ honest));
       reads = omega arith;
-      programs_same = read.programs ∙ inv.programs_same;
-      erases_same = read.erases ∙ inv.erases_same;
-      kept = omega arith;
-      seen = λ honest start. passed.shows (g.S.PageSource.flash c.args.source.now).image (inv.seen honest start) (ap (λ (f : Flash). slice_get f.image c.loop-row.row) (sym (inv.same honest)) ∙ read.page (inv.as_honest ∙ honest));
+      seen = λ honest start. passed.shows (g.S.PageSource.flash c.args.source.now).image (inv.seen honest start) (ap (λ (f : Flash). slice_get f.image c.loop-row.row) (sym (inv.same honest)) ∙ read.page (inv.only_reads.honest_is ∙ honest));
     }

@@ -28,33 +28,33 @@ pub returns-in-Some-clause-ok : goal.returns-in-Some-clause-ok
 returns-in-Some-clause-ok g c honest =
     (one_read c.args.geometry.now _ _ c.args.sector _ _ _ _ _ (c.in_ok-latest.ensures.whole honest) (c.in_ok-latest.ensures.same honest)
     (c.in_ok-latest.ensures.found honest) c.in-Once.is
-    (c.in_ok-read_page.ensures.page (c.latest_of.ensures.honest ∙ honest))
+    (c.in_ok-read_page.ensures.page (c.latest_of.ensures.only_reads.honest_is ∙ honest))
     (c.copy_from_slice.ensures.after ∙ c.in-Some.ensures.is (read_of_sector _ _ c.args.sector _ _ _ _ _ (c.in_ok-latest.ensures.same honest) (c.in_ok-latest.ensures.found honest) c.in-Once.is
-    (c.in_ok-read_page.ensures.page (c.latest_of.ensures.honest ∙ honest))))).holds
+    (c.in_ok-read_page.ensures.page (c.latest_of.ensures.only_reads.honest_is ∙ honest))))).holds
 
 pub returns-in-Some-clause-repeated : goal.returns-in-Some-clause-repeated
 returns-in-Some-clause-repeated g c honest unfailed =
     clear _ _ _ _ (one_read c.args.geometry.now _ _ c.args.sector _ _ _ _ _ (c.in_ok-latest.ensures.whole honest) (c.in_ok-latest.ensures.same honest)
     (c.in_ok-latest.ensures.found honest) c.in-Once.is
-    (c.in_ok-read_page.ensures.page (c.latest_of.ensures.honest ∙ honest))
+    (c.in_ok-read_page.ensures.page (c.latest_of.ensures.only_reads.honest_is ∙ honest))
     (c.copy_from_slice.ensures.after ∙ c.in-Some.ensures.is (read_of_sector _ _ c.args.sector _ _ _ _ _ (c.in_ok-latest.ensures.same honest) (c.in_ok-latest.ensures.found honest) c.in-Once.is
-    (c.in_ok-read_page.ensures.page (c.latest_of.ensures.honest ∙ honest)))))
+    (c.in_ok-read_page.ensures.page (c.latest_of.ensures.only_reads.honest_is ∙ honest)))))
 
 pub returns-in_default-clause-ok : goal.returns-in_default-clause-ok
 returns-in_default-clause-ok g c honest =
     (one_read c.args.geometry.now _ _ c.args.sector _ _ _ _ _ (c.in_ok-latest.ensures.whole honest) (c.in_ok-latest.ensures.same honest)
     (c.in_ok-latest.ensures.found honest) c.in-Once.is
-    (c.in_ok-read_page.ensures.page (c.latest_of.ensures.honest ∙ honest))
+    (c.in_ok-read_page.ensures.page (c.latest_of.ensures.only_reads.honest_is ∙ honest))
     (c.fill.ensures.after (λ y e. e) ∙ (ap (λ k. replicate k 0) c.requires.out_whole ∙ c.in_default.ensures.is (read_of_sector _ _ c.args.sector _ _ _ _ _ (c.in_ok-latest.ensures.same honest) (c.in_ok-latest.ensures.found honest) c.in-Once.is
-    (c.in_ok-read_page.ensures.page (c.latest_of.ensures.honest ∙ honest)))))).holds
+    (c.in_ok-read_page.ensures.page (c.latest_of.ensures.only_reads.honest_is ∙ honest)))))).holds
 
 pub returns-in_default-clause-repeated : goal.returns-in_default-clause-repeated
 returns-in_default-clause-repeated g c honest unfailed =
     clear _ _ _ _ (one_read c.args.geometry.now _ _ c.args.sector _ _ _ _ _ (c.in_ok-latest.ensures.whole honest) (c.in_ok-latest.ensures.same honest)
     (c.in_ok-latest.ensures.found honest) c.in-Once.is
-    (c.in_ok-read_page.ensures.page (c.latest_of.ensures.honest ∙ honest))
+    (c.in_ok-read_page.ensures.page (c.latest_of.ensures.only_reads.honest_is ∙ honest))
     (c.fill.ensures.after (λ y e. e) ∙ (ap (λ k. replicate k 0) c.requires.out_whole ∙ c.in_default.ensures.is (read_of_sector _ _ c.args.sector _ _ _ _ _ (c.in_ok-latest.ensures.same honest) (c.in_ok-latest.ensures.found honest) c.in-Once.is
-    (c.in_ok-read_page.ensures.page (c.latest_of.ensures.honest ∙ honest))))))
+    (c.in_ok-read_page.ensures.page (c.latest_of.ensures.only_reads.honest_is ∙ honest))))))
 
 pub returns-in-Tied-clause-lowest : goal.returns-in-Tied-clause-lowest
 returns-in-Tied-clause-lowest g c honest =

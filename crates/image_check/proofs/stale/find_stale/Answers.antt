@@ -1,4 +1,4 @@
-use Rattle.std.proofs.Common.{◌≡◌, ◌+◌, ◌*◌, min, arith, refl, ap, sym, ◌∙◌, subst}
+use Rattle.std.proofs.Common.{rules, ◌≡◌, ◌+◌, ◌*◌, min, arith, refl, ap, sym, ◌∙◌, subst}
 use Rattle.page_layout.specs.Geometry.{entries, translation_pages}
 use Rattle.image_check.specs.Rising.{IsRisingBelow}
 use Rattle.image_check.proofs.StaleLemmas.{AreStaleBelow, AreEntries, entries_read, stale_more, stale_all, start_of, end_of, pages_reach}
@@ -18,22 +18,18 @@ loop-page-preserved g c =
     let start : min (t * entries geo) geo.sectors ≡ first = start_of geo t first c.sectors-sectors.result each (omega arith) c.sectors-sectors.ensures c.entries-entries.ensures refl in
     let finish : min ((t + 1) * entries geo) geo.sectors ≡ end = end_of geo t first end c.sectors-sectors.result each c.sectors-sectors.ensures c.entries-entries.ensures refl c.min-end.ensures in
     record {
-      geometry_is = read.geometry ∙ inv.geometry_is;
+      only_reads = search rules;
       geometry_was = inv.geometry_was;
       body_whole = omega arith;
       spare_whole = omega arith;
-      as_honest = read.honest ∙ inv.as_honest;
-      same = λ honest. read.same (inv.as_honest ∙ honest) ∙ inv.same honest;
+      same = λ honest. read.same (inv.only_reads.honest_is ∙ honest) ∙ inv.same honest;
       noted = λ honest keys.
-          let entry : AreEntries geo first_flash.image t c.read_translation.new.body = entries_read geo first_flash (g.S.PageSource.flash c.loop-page.source) c.args.newest.now t (c.sectors-sectors.result + t) _ _ c.read_translation.new.body keys (omega arith) (omega arith) refl (inv.same honest) (read.entries (inv.as_honest ∙ honest)) in
+          let entry : AreEntries geo first_flash.image t c.read_translation.new.body = entries_read geo first_flash (g.S.PageSource.flash c.loop-page.source) c.args.newest.now t (c.sectors-sectors.result + t) _ _ c.read_translation.new.body keys (omega arith) (omega arith) refl (inv.same honest) (read.entries (inv.only_reads.honest_is ∙ honest)) in
           subst (λ k. AreStaleBelow geo first_flash.image k c.note_stale.new.stale.items) (sym finish)
           (stale_more geo first_flash.image c.args.newest.now t first end c.read_translation.new.body c.loop-page.stale.items c.note_stale.new.stale.items keys entry (ap (λ k. t * k) c.entries-entries.ensures) (omega arith) (omega arith) (omega arith)
           (subst (λ k. AreStaleBelow geo first_flash.image k c.loop-page.stale.items) start (inv.noted honest keys)) c.in_ok-note_stale.ensures.noted);
       rising = subst (λ k. IsRisingBelow k c.note_stale.new.stale.items) (sym finish) (c.in_ok-note_stale.ensures.rising (subst (λ k. IsRisingBelow k c.loop-page.stale.items) start inv.rising));
       reads = omega arith;
-      programs_same = read.programs ∙ inv.programs_same;
-      erases_same = read.erases ∙ inv.erases_same;
-      kept = omega arith;
     }
 
 pub returns-clause-stale : goal.returns-clause-stale
