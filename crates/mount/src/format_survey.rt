@@ -4,6 +4,7 @@ ghost use Rattle.page_layout.specs.Counter.{counted, HasRisen};
 ghost use Rattle.page_layout.specs.Flash.{page_at, no_page};
 ghost use Rattle.page_layout.specs.Geometry.{row_count};
 ghost use Rattle.page_layout.specs.Page.{page, IsImage};
+ghost use Rattle.page_layout.specs.OnlyReads.{OnlyReads};
 ghost use Rattle.bad_blocks.specs.Marks.{is_marked};
 ghost use Rattle.bad_blocks.specs.Table.{unworn};
 ghost use Rattle.mount.specs.Fresh.{is_page_used, is_used, IsFirst};
@@ -68,13 +69,8 @@ fn read_look<S: PageSource>(
     ensures looked { IfOk result (λ look. S.honest source.old ≡ true → look ≡ look_of (page_at (S.flash source.old) row)) }
     ensures same { OnOk result (S.honest source.old ≡ true → S.flash source.new ≡ S.flash source.old) }
     ensures whole { OnOk result (S.honest source.old ≡ true → IsImage geometry.now (S.flash source.old).image) }
-    ensures geometry { (S.flash source.new).geometry ≡ (S.flash source.old).geometry }
-    ensures honest { S.honest source.new ≡ S.honest source.old }
-    ensures calm { S.calm source.new ≡ S.calm source.old }
+    ensures only_reads { OnlyReads S.flash S.honest S.calm S.programs S.erases S.failed source.old source.new }
     ensures reads { S.reads source.new ≡ counted (S.reads source.old) }
-    ensures programs { S.programs source.new ≡ S.programs source.old }
-    ensures erases { S.erases source.new ≡ S.erases source.old }
-    ensures failed { S.failed source.old ≤ S.failed source.new }
     ensures rose { OnErr result (HasRisen (S.failed source.old) (S.failed source.new)) }
 {
     source.read_page(row, body, spare)?;
@@ -101,15 +97,10 @@ fn used_between<S: PageSource>(
         IsFirst (λ row. is_page_used marked (page_at (S.flash source.old) row)) from to first) }
     ensures row { IfOk result (λ first. IfSome first (λ row. row < to)) }
     ensures same { OnOk result (S.honest source.old ≡ true → S.flash source.new ≡ S.flash source.old) }
-    ensures geometry { (S.flash source.new).geometry ≡ (S.flash source.old).geometry }
-    ensures honest { S.honest source.new ≡ S.honest source.old }
-    ensures calm { S.calm source.new ≡ S.calm source.old }
+    ensures only_reads { OnlyReads S.flash S.honest S.calm S.programs S.erases S.failed source.old source.new }
     ensures reads { OnOk result (S.reads source.old + (to - from) < 2 ^ 64 →
         S.reads source.new ≡ S.reads source.old + (to - from)) }
     ensures most_reads { S.reads source.new ≤ S.reads source.old + (to - from) }
-    ensures programs { S.programs source.new ≡ S.programs source.old }
-    ensures erases { S.erases source.new ≡ S.erases source.old }
-    ensures failed { S.failed source.old ≤ S.failed source.new }
     ensures rose { OnErr result (HasRisen (S.failed source.old) (S.failed source.new)) }
 {
     let mut first = None;
@@ -169,15 +160,10 @@ fn survey_block<S: PageSource>(
     ensures row { IfOk result (λ found. IfSome found.1 (λ row. row < row_count geometry.now)) }
     ensures same { OnOk result (S.honest source.old ≡ true → S.flash source.new ≡ S.flash source.old) }
     ensures whole { OnOk result (S.honest source.old ≡ true → IsImage geometry.now (S.flash source.old).image) }
-    ensures geometry { (S.flash source.new).geometry ≡ (S.flash source.old).geometry }
-    ensures honest { S.honest source.new ≡ S.honest source.old }
-    ensures calm { S.calm source.new ≡ S.calm source.old }
+    ensures only_reads { OnlyReads S.flash S.honest S.calm S.programs S.erases S.failed source.old source.new }
     ensures reads { OnOk result (S.reads source.old + geometry.now.pages < 2 ^ 64 →
         S.reads source.new ≡ S.reads source.old + geometry.now.pages) }
     ensures most_reads { S.reads source.new ≤ S.reads source.old + geometry.now.pages }
-    ensures programs { S.programs source.new ≡ S.programs source.old }
-    ensures erases { S.erases source.new ≡ S.erases source.old }
-    ensures failed { S.failed source.old ≤ S.failed source.new }
     ensures rose { OnErr result (HasRisen (S.failed source.old) (S.failed source.new)) }
 {
     let first_row = geometry.row(block, 0);
@@ -226,15 +212,10 @@ pub fn survey<S: PageSource>(
     ensures only { IfErr result (λ fault. fault ≡ FormatFault.Bus) }
     ensures same { OnOk result (S.honest source.old ≡ true → S.flash source.new ≡ S.flash source.old) }
     ensures whole { OnOk result (S.honest source.old ≡ true → IsImage geometry.now (S.flash source.old).image) }
-    ensures geometry { (S.flash source.new).geometry ≡ (S.flash source.old).geometry }
-    ensures honest { S.honest source.new ≡ S.honest source.old }
-    ensures calm { S.calm source.new ≡ S.calm source.old }
+    ensures only_reads { OnlyReads S.flash S.honest S.calm S.programs S.erases S.failed source.old source.new }
     ensures reads { OnOk result (S.reads source.old + row_count geometry.now < 2 ^ 64 →
         S.reads source.new ≡ S.reads source.old + row_count geometry.now) }
     ensures most_reads { S.reads source.new ≤ S.reads source.old + row_count geometry.now }
-    ensures programs { S.programs source.new ≡ S.programs source.old }
-    ensures erases { S.erases source.new ≡ S.erases source.old }
-    ensures failed { S.failed source.old ≤ S.failed source.new }
     ensures rose { OnErr result (HasRisen (S.failed source.old) (S.failed source.new)) }
 {
     let mut first = None;

@@ -2,6 +2,7 @@
 ghost use Rattle.std.specs.Prelude.{◌≡◌, ◌≢◌, ◌≤◌, ◌+◌, [], true, Err, vec_capacity, IfOk, IfErr};
 ghost use Rattle.page_layout.specs.Counter.{HasRisen};
 ghost use Rattle.page_layout.specs.Geometry.{row_count, translation_pages, table_pages};
+ghost use Rattle.page_layout.specs.OnlyReads.{OnlyReads};
 ghost use Rattle.image_check.specs.Agrees.{IsAsked};
 ghost use Rattle.image_check.specs.Stale.{stale_count};
 ghost use Rattle.mount.specs.Mounted.{IsMounted, Refuses, IsOfMounting};
@@ -74,12 +75,8 @@ pub fn mount_counted<S: PageSource>(
     ensures few { IfOk result (λ mounted. mounted.stale ≤ capacity) }
     ensures asked { IfOk result (λ mounted. IsAsked geometry.now capacity mounted.certificate) }
     ensures only { IfErr result IsOfMounting }
-    ensures geometry { (S.flash source.new).geometry ≡ (S.flash source.old).geometry }
-    ensures honest { S.honest source.new ≡ S.honest source.old }
+    ensures only_reads { OnlyReads S.flash S.honest S.calm S.programs S.erases S.failed source.old source.new }
     ensures reads { S.reads source.new ≤ S.reads source.old + (row_count geometry.now + translation_pages geometry.now) }
-    ensures programs { S.programs source.new ≡ S.programs source.old }
-    ensures erases { S.erases source.new ≡ S.erases source.old }
-    ensures failed { S.failed source.old ≤ S.failed source.new }
     ensures rose { result ≡ Err Refusal.Source → HasRisen (S.failed source.old) (S.failed source.new) }
 {
     let pages = geometry.translation_pages() + geometry.table_pages();
@@ -143,12 +140,8 @@ pub fn mount<S: PageSource>(
     // Whatever the source does.
     ensures asked { IfOk result (IsAsked geometry.now capacity) }
     ensures only { IfErr result IsOfMounting }
-    ensures geometry { (S.flash source.new).geometry ≡ (S.flash source.old).geometry }
-    ensures honest { S.honest source.new ≡ S.honest source.old }
+    ensures only_reads { OnlyReads S.flash S.honest S.calm S.programs S.erases S.failed source.old source.new }
     ensures reads { S.reads source.new ≤ S.reads source.old + (row_count geometry.now + translation_pages geometry.now) }
-    ensures programs { S.programs source.new ≡ S.programs source.old }
-    ensures erases { S.erases source.new ≡ S.erases source.old }
-    ensures failed { S.failed source.old ≤ S.failed source.new }
     ensures rose { result ≡ Err Refusal.Source → HasRisen (S.failed source.old) (S.failed source.new) }
 {
     let Mounted { certificate, .. } = mount_counted(alloc, source, geometry, capacity)?;

@@ -5,6 +5,7 @@ ghost use Rattle.page_layout.specs.Array.{marks};
 ghost use Rattle.page_layout.specs.Counter.{HasRisen};
 ghost use Rattle.page_layout.specs.Geometry.{row_count};
 ghost use Rattle.page_layout.specs.Page.{Image};
+ghost use Rattle.page_layout.specs.OnlyReads.{OnlyReads};
 ghost use Rattle.image_check.specs.declared.refusal.Refusal.TheVariants as refusals;
 ghost use Rattle.image_check.specs.Agrees.{HasTables};
 ghost use Rattle.image_check.specs.Refused.{IsStop};
@@ -42,12 +43,8 @@ fn survey_pages<S: PageSource>(
     ensures surveys { IfOk result (λ survey. S.honest source.old ≡ true → Surveys geometry.now (S.flash source.old).image survey) }
     ensures stops { IfErr result IsStop }
     ensures same { result ≢ Err Refusal.Source → S.honest source.old ≡ true → S.flash source.new ≡ S.flash source.old }
-    ensures geometry { (S.flash source.new).geometry ≡ (S.flash source.old).geometry }
-    ensures honest { S.honest source.new ≡ S.honest source.old }
+    ensures only_reads { OnlyReads S.flash S.honest S.calm S.programs S.erases S.failed source.old source.new }
     ensures reads { S.reads source.new ≤ S.reads source.old + row_count geometry.now }
-    ensures programs { S.programs source.new ≡ S.programs source.old }
-    ensures erases { S.erases source.new ≡ S.erases source.old }
-    ensures failed { S.failed source.old ≤ S.failed source.new }
     ensures rose { result ≡ Err Refusal.Source → HasRisen (S.failed source.old) (S.failed source.new) }
 {
     let mut survey = Survey::new(alloc, geometry)?;
@@ -90,12 +87,8 @@ pub(crate) fn show_pages<S: PageSource>(
     ensures err { IfErr result (λ refusal. S.honest source.old ≡ true → (capacity : ℕ) → Refuses geometry.now capacity (S.flash source.old).image refusal) }
     ensures only { IfErr result IsOfMounting }
     ensures same { result ≢ Err Refusal.Source → S.honest source.old ≡ true → S.flash source.new ≡ S.flash source.old }
-    ensures geometry { (S.flash source.new).geometry ≡ (S.flash source.old).geometry }
-    ensures honest { S.honest source.new ≡ S.honest source.old }
+    ensures only_reads { OnlyReads S.flash S.honest S.calm S.programs S.erases S.failed source.old source.new }
     ensures reads { S.reads source.new ≤ S.reads source.old + row_count geometry.now }
-    ensures programs { S.programs source.new ≡ S.programs source.old }
-    ensures erases { S.erases source.new ≡ S.erases source.old }
-    ensures failed { S.failed source.old ≤ S.failed source.new }
     ensures rose { result ≡ Err Refusal.Source → HasRisen (S.failed source.old) (S.failed source.new) }
 {
     let mut survey = survey_pages(alloc, source, geometry, body, spare)?;

@@ -49,5 +49,5 @@ returns-clause-formats g c = λ h.
     let fresh : IsFresh geometry old.image = subst (λ (found : Option ℕ). IsFirst (is_used geometry old.image) 0 (row_count geometry) found) c.in-None.is (made.first h) in
     let begun : IsTrying geometry old old table 0 0 1 0 = start geometry old table 0 fresh (made.whole h) (ap unworn left ∙ made.table h) in
     let writes : Writes geometry mid new c.write_tables.result =
-    c.write_tables.ensures.writes (made.honest ∙ h) (subst (λ (f : Flash). IsTrying geometry f f table 0 0 1 0) (sym same) begun) in
+    c.write_tables.ensures.writes (made.only_reads.honest_is ∙ h) (subst (λ (f : Flash). IsTrying geometry f f table 0 0 1 0) (sym same) begun) in
     subst (λ (f : Flash). Formats geometry f new c.write_tables.result) same (writes_formats geometry mid new c.write_tables.result writes)

@@ -17,20 +17,15 @@ loop-block-preserved g c =
     let made = c.in_ok-marked.ensures in
     record {
       classes = λ h. classes_more geometry image block c.in_ok-marked.marked c.fresh_class.result c.loop-block.classes
-          (made.marked (i.as_honest ∙ h) ∙ ap (λ (f : Flash). is_marked geometry f.image block) (i.same h)) c.fresh_class.ensures (omega arith) (i.classes h);
+          (made.marked (i.only_reads.honest_is ∙ h) ∙ ap (λ (f : Flash). is_marked geometry f.image block) (i.same h)) c.fresh_class.ensures (omega arith) (i.classes h);
       first = λ h. rw c.or-first.ensures (first_more (is_used geometry image) block geometry.pages c.loop-block.first c.in_ok-marked.used (i.first h)
-          (subst (λ (f : Flash). IsFirst (is_used geometry f.image) from (from + geometry.pages) c.in_ok-marked.used) (i.same h) (made.first (i.as_honest ∙ h))));
+          (subst (λ (f : Flash). IsFirst (is_used geometry f.image) from (from + geometry.pages) c.in_ok-marked.used) (i.same h) (made.first (i.only_reads.honest_is ∙ h))));
       row = rw c.or-first.ensures (IfSome-or (λ row. row < row_count geometry) c.loop-block.first c.in_ok-marked.used i.row made.row);
       same = search rules;
       whole = search rules;
-      same_geometry = search rules;
-      as_honest = search rules;
-      as_calm = search rules;
+      only_reads = search rules;
       reads = grind (arith, common_steps);
       most_reads = grind (arith, common_steps);
-      programs = search rules;
-      erases = search rules;
-      failed = search rules;
     }
 
 pub returns-clause-table : goal.returns-clause-table

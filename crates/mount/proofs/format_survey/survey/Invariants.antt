@@ -2,6 +2,7 @@ use Rattle.std.proofs.Common.{◌≡◌, ◌<◌, ◌≤◌, ◌+◌, ◌*◌, �
 use Rattle.std.specs.Prelude.{IfSome}
 use Rattle.page_layout.specs.Geometry.{row_count}
 use Rattle.page_layout.specs.Page.{IsImage}
+use Rattle.page_layout.specs.OnlyReads.{OnlyReads}
 use Rattle.bad_blocks.specs.declared.class.Class.TheVariants.{Good}
 use Rattle.bad_blocks.specs.Marks.{is_marked}
 use Rattle.mount.specs.Fresh.{is_used, IsFirst}
@@ -17,12 +18,7 @@ invariant-loop-block g l =
       row : IfSome l.first (λ row. row < row_count l.geometry);
       same : s.honest l.initial.source ≡ true → s.flash l.source ≡ s.flash l.initial.source;
       whole : s.honest l.initial.source ≡ true → 0 < l.block → IsImage l.geometry (s.flash l.initial.source).image;
-      same_geometry : (s.flash l.source).geometry ≡ (s.flash l.initial.source).geometry;
-      as_honest : s.honest l.source ≡ s.honest l.initial.source;
-      as_calm : s.calm l.source ≡ s.calm l.initial.source;
+      only_reads : OnlyReads s.flash s.honest s.calm s.programs s.erases s.failed l.initial.source l.source;
       reads : s.reads l.initial.source + l.block * l.geometry.pages < 2 ^ 64 → s.reads l.source ≡ s.reads l.initial.source + l.block * l.geometry.pages;
       most_reads : s.reads l.source ≤ s.reads l.initial.source + l.block * l.geometry.pages;
-      programs : s.programs l.source ≡ s.programs l.initial.source;
-      erases : s.erases l.source ≡ s.erases l.initial.source;
-      failed : s.failed l.initial.source ≤ s.failed l.source;
     }

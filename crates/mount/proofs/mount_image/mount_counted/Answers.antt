@@ -26,7 +26,7 @@ returns-clause-ok g c = λ honest.
     let told = c.in_ok-shown.ensures.shown honest in
     let keys : SurveysKeys geo first.image c.deref.result.now = subst (λ xs. SurveysKeys geo first.image xs) (sym c.deref.ensures.value) told.keys in
     let same = c.in_ok-shown.ensures.same (λ e. cc) honest in
-    let stale = stale_after geo first (g.S.PageSource.flash c.show_pages.new.source) c.deref.result.now c.find_stale.new.stale.items same keys (c.in_ok-find_stale.ensures.stale (c.in_ok-shown.ensures.honest ∙ honest)) in
+    let stale = stale_after geo first (g.S.PageSource.flash c.show_pages.new.source) c.deref.result.now c.find_stale.new.stale.items same keys (c.in_ok-find_stale.ensures.stale (c.in_ok-shown.ensures.only_reads.honest_is ∙ honest)) in
     subst (λ claim. IsMounted geo c.args.capacity first.image claim) (sym c.new-certificate.ensures.is)
     (mounted geo c.args.capacity first.image shown c.put_directory.new.words.items c.put_sectors.new.words.items c.find_stale.new.stale.items c.in_ok-shown.ensures.sized told c.put_sectors.ensures c.put_directory.ensures stale (omega (arith, c.find_stale.new.stale.ok.0, c.len-stale.ensures, c.if-stale-capacity.false)))
 
@@ -37,7 +37,7 @@ returns-clause-stale g c = λ honest.
     let told = c.in_ok-shown.ensures.shown honest in
     let keys : SurveysKeys geo first.image c.deref.result.now = subst (λ xs. SurveysKeys geo first.image xs) (sym c.deref.ensures.value) told.keys in
     let same = c.in_ok-shown.ensures.same (λ e. cc) honest in
-    let stale = stale_after geo first (g.S.PageSource.flash c.show_pages.new.source) c.deref.result.now c.find_stale.new.stale.items same keys (c.in_ok-find_stale.ensures.stale (c.in_ok-shown.ensures.honest ∙ honest)) in
+    let stale = stale_after geo first (g.S.PageSource.flash c.show_pages.new.source) c.deref.result.now c.find_stale.new.stale.items same keys (c.in_ok-find_stale.ensures.stale (c.in_ok-shown.ensures.only_reads.honest_is ∙ honest)) in
     let count = ap length stale in
     omega (arith, count, c.find_stale.new.stale.ok.0, c.len-stale.ensures)
 
@@ -48,6 +48,6 @@ returns-then-stale-capacity-clause-err g c = λ honest.
     let told = c.in_ok-shown.ensures.shown honest in
     let keys : SurveysKeys geo first.image c.deref.result.now = subst (λ xs. SurveysKeys geo first.image xs) (sym c.deref.ensures.value) told.keys in
     let same = c.in_ok-shown.ensures.same (λ e. cc) honest in
-    let stale = stale_after geo first (g.S.PageSource.flash c.show_pages.new.source) c.deref.result.now c.find_stale.new.stale.items same keys (c.in_ok-find_stale.ensures.stale (c.in_ok-shown.ensures.honest ∙ honest)) in
+    let stale = stale_after geo first (g.S.PageSource.flash c.show_pages.new.source) c.deref.result.now c.find_stale.new.stale.items same keys (c.in_ok-find_stale.ensures.stale (c.in_ok-shown.ensures.only_reads.honest_is ∙ honest)) in
     stale_refused geo c.args.capacity first.image c.find_stale.new.stale.items c.len-stale.result stale (omega (arith, c.find_stale.new.stale.ok.0, c.len-stale.ensures))
     (omega (arith, c.if-stale-capacity.true)) (told.orderly c.args.capacity (no_claim geo))

@@ -1,4 +1,4 @@
-use Rattle.std.proofs.Common.{◌≡◌, arith, refl, ◌∙◌, subst}
+use Rattle.std.proofs.Common.{rules, ◌≡◌, arith, refl, ◌∙◌, subst}
 use Rattle.page_layout.specs.Geometry.{row_count}
 use Rattle.page_layout.proofs.GeometryLemmas.{some_rows}
 use Rattle.image_check.specs.Surveyed.{IsSurvey}
@@ -9,18 +9,14 @@ use Rattle.mount.proofs.mount_pages.survey_pages.Goals as goal
 
 pub loop-row-init : goal.loop-row-init
 loop-row-init g c = record {
-  geometry_is = c.requires.same_geometry;
+  only_reads = search rules;
   geometry_was = c.requires.same_geometry;
   sized = c.in_ok-survey.ensures.sized;
   body_whole = c.requires.body_whole;
   spare_whole = c.requires.spare_whole;
-  as_honest = refl;
   same = λ honest. refl;
   whole = λ below honest. absurd (omega arith);
   reads = omega arith;
-  programs_same = refl;
-  erases_same = refl;
-  kept = omega arith;
   seen = λ honest. c.in_ok-survey.ensures.survey (g.S.PageSource.flash c.args.source.now).image;
 }
 
@@ -29,19 +25,15 @@ loop-row-preserved g c =
     let inv = c.loop-row.invariant in
     let read = c.in_ok-read_page.ensures in
     record {
-      geometry_is = read.geometry ∙ inv.geometry_is;
+      only_reads = search rules;
       geometry_was = inv.geometry_was;
       sized = sized_more c.args.geometry.now c.loop-row.row c.loop-row.survey c.see.new.self inv.sized.geometry_is c.see.ensures.sized;
       body_whole = omega arith;
       spare_whole = omega arith;
-      as_honest = read.honest ∙ inv.as_honest;
-      same = λ honest. read.same (inv.as_honest ∙ honest) ∙ inv.same honest;
-      whole = λ below honest. whole_of c.args.geometry.now (g.S.PageSource.flash c.read_page.new.self) (read.geometry ∙ inv.geometry_is) (read.whole (inv.as_honest ∙ honest));
+      same = λ honest. read.same (inv.only_reads.honest_is ∙ honest) ∙ inv.same honest;
+      whole = λ below honest. whole_of c.args.geometry.now (g.S.PageSource.flash c.read_page.new.self) (read.geometry ∙ inv.only_reads.geometry_is ∙ inv.geometry_was) (read.whole (inv.only_reads.honest_is ∙ honest));
       reads = omega arith;
-      programs_same = read.programs ∙ inv.programs_same;
-      erases_same = read.erases ∙ inv.erases_same;
-      kept = omega arith;
-      seen = λ honest. seen c.args.geometry.now (g.S.PageSource.flash c.args.source.now) (g.S.PageSource.flash c.loop-row.source) c.loop-row.row c.loop-row.survey c.see.new.self _ (inv.seen honest) (inv.same honest) (read.page (inv.as_honest ∙ honest)) inv.sized.geometry_is c.see.ensures.survey;
+      seen = λ honest. seen c.args.geometry.now (g.S.PageSource.flash c.args.source.now) (g.S.PageSource.flash c.loop-row.source) c.loop-row.row c.loop-row.survey c.see.new.self _ (inv.seen honest) (inv.same honest) (read.page (inv.only_reads.honest_is ∙ honest)) inv.sized.geometry_is c.see.ensures.survey;
     }
 
 pub returns-clause-surveys : goal.returns-clause-surveys

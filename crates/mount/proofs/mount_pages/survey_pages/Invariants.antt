@@ -1,5 +1,6 @@
 use Rattle.std.proofs.Common.{◌≡◌, ◌≤◌, ◌<◌, ◌+◌, true, length}
 use Rattle.page_layout.specs.Page.{IsImage}
+use Rattle.page_layout.specs.OnlyReads.{OnlyReads}
 use Rattle.image_check.specs.Surveyed.{IsSized, IsSurvey}
 use Rattle.mount.proofs.mount_pages.survey_pages.Given as goal
 
@@ -7,17 +8,13 @@ abbrev pub invariant-loop-row : goal.invariant-loop-row
 invariant-loop-row g l =
     let source = g.S.PageSource in
     record {
-      geometry_is : (source.flash l.source).geometry ≡ l.geometry;
+      only_reads : OnlyReads source.flash source.honest source.calm source.programs source.erases source.failed l.fn.source l.source;
       geometry_was : (source.flash l.fn.source).geometry ≡ l.geometry;
       sized : IsSized l.geometry l.row l.survey;
       body_whole : length l.body ≡ l.geometry.data_bytes;
       spare_whole : length l.spare ≡ l.geometry.spare_bytes;
-      as_honest : source.honest l.source ≡ source.honest l.fn.source;
       same : source.honest l.fn.source ≡ true → source.flash l.source ≡ source.flash l.fn.source;
       whole : 0 < l.row → source.honest l.fn.source ≡ true → IsImage l.geometry (source.flash l.source).image;
       reads : source.reads l.source ≤ source.reads l.fn.source + l.row;
-      programs_same : source.programs l.source ≡ source.programs l.fn.source;
-      erases_same : source.erases l.source ≡ source.erases l.fn.source;
-      kept : source.failed l.fn.source ≤ source.failed l.source;
       seen : source.honest l.fn.source ≡ true → IsSurvey l.geometry (source.flash l.fn.source).image l.row l.survey;
     }
