@@ -27,11 +27,11 @@ use Rattle.ftl_device.specs.Begin.{begun_ram, is_bad_in, wear_in, free_in, is_sc
 use Rattle.ftl_device.specs.Device.{IsAcceptedFor}
 use Rattle.ftl_device.specs.Calls.{stop_of, IsWell}
 use Rattle.ftl_device.specs.Counts.{is_bad_by, IsShortIn, IsShown, IsLeft}
-use Rattle.ftl_device.specs.Run.{Exchange, die_in, First, first_of, IsFlushedOut, AreFair, HasRun, Ran, accepted_device, RanFrom}
+use Rattle.ftl_device.specs.Run.{Exchange, die_in, AreFair, HasRun, Ran, accepted_device, RanFrom}
 use Rattle.bad_blocks.specs.Table.{wear_at, most_wear}
 use Rattle.allocation.specs.Begun.{begun}
 use Rattle.std.proofs.lemmas.Option.{slice_get_within}
-use Rattle.ftl_device.specs.Flush.{ShowsBad}
+use Rattle.ftl_device.specs.Flush.{ShowsBad, First, first_of, IsFlushedOut}
 use Rattle.ftl_device.proofs.WearLemmas.{begun_wear}
 use Rattle.ftl_device.proofs.BlockLemmas.{given, good_same, bad_same, count_same}
 

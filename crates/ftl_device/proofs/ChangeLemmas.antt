@@ -1,5 +1,5 @@
 -- A device's call that changes a sector, from the engine's.
-use Rattle.std.proofs.Common.{◌≡◌, ◌≢◌, ℕ, ◌<◌, ◌≤◌, ◌∙◌, Bool, true, false, None, Option, Some, List, Result, Ok, Err, OnOk, MatchResult, refl, sym, ap, subst, arith}
+use Rattle.std.proofs.Common.{◌≡◌, ◌≢◌, ℕ, ◌-◌, ◌^◌, ◌<◌, ◌≤◌, ◌∙◌, Bool, true, false, None, Option, Some, List, Result, Ok, Err, OnOk, MatchResult, refl, sym, ap, subst, arith}
 use Rattle.std.specs.Prelude.{IfErr}
 use Rattle.std.specs.Option.{ForSome}
 use Rattle.std.specs.Map.{keys_of}
@@ -24,10 +24,11 @@ use Rattle.ftl_device.specs.declared.fault.CallFault.TheVariants as call
 use Rattle.ftl_device.specs.declared.fault.DeviceFault.{DeviceFault}
 use Rattle.ftl_device.specs.declared.fault.DeviceFault.TheVariants.{OutOfRange, ReadOnly, SequenceSpent, OutOfMemory, Damaged, BusFault}
 use Rattle.ftl_device.specs.Begin.{is_scarce}
+use Rattle.ftl_device.specs.Counts.{is_flush}
 use Rattle.ftl_device.specs.Device.{IsDevice}
-use Rattle.ftl_device.specs.Calls.{state_in, reply_of, stop_of, Says, CallTells, CallRefused, HoldsSector, standing_after, answer_of, MayChange, MayNot, IsBeyond, IsMostRecent, HasCost, order_after}
+use Rattle.ftl_device.specs.Calls.{state_in, reply_of, stop_of, Says, CallTells, CallRefused, HoldsSector, standing_after, answer_of, MayChange, MayNot, IsBeyond, IsShortOf, IsMostRecent, HasCost, order_after}
 use Rattle.ftl_device.specs.Shortage.{HasFunds, CallShort}
-use Rattle.ftl_device.specs.Changes.{Ends, Readies, HasLookedUp, Refuses, RefusesSector, ProgramsSector, Logs, Means, Changes}
+use Rattle.ftl_device.specs.Changes.{Ends, Readies, HasLookedUp, Stays, Refuses, RefusesSector, ProgramsSector, Logs, Means, Changes}
 use Rattle.ftl_device.proofs.CallLemmas.{well_ram, well_device, memory_only, mountable_after, went_after, done_too}
 use Rattle.ftl_device.proofs.CostLemmas.{closed_is, spent_is, never_memory}
 use Rattle.ftl_device.proofs.MountableLemmas.{stale_law, restart_law}
@@ -108,7 +109,10 @@ module _ {N : Type 0} (failed : N → ℕ) (old new : Device N) (going : old.eng
 -- ---- the call was made
 
 module _ {N : Type 0} (flash : N → Flash) (honest calm : N → Bool) (failed : N → ℕ) (n : ℕ) (bytes : List ℕ) (command : Command) (old new : Device N) (device : IsDevice flash old) (device' : IsDevice flash new) (may : MayChange (ram old.engine) old.read_only n)
-    (takes : (reply : Reply) (s : State) → WriteStep old.engine.geometry (state_in flash old) n bytes reply s → ArrayStep old.engine.geometry (state_in flash old) command reply s) where
+    (takes : (reply : Reply) (s : State) → WriteStep old.engine.geometry (state_in flash old) n bytes reply s → ArrayStep old.engine.geometry (state_in flash old) command reply s) (no_flush : is_flush command ≡ false) where
+  no_flush_is : {P : Type 0} → is_flush command ≡ true → P
+  no_flush_is its = (let off : is_flush command ≡ false = no_flush in let no : ⊥ = cc in absurd no)
+
   abbrev good_then : ℕ
   good_then = good_count (ram old.engine).blocks.table
 
@@ -149,6 +153,7 @@ module _ {N : Type 0} (flash : N → Flash) (honest calm : N → Bool) (failed :
           went = w;
           shown = λ well. shown_after flash old.engine new.engine new.engine w n bytes old.read_only answer replied good_then refl device.engine.memory ends.safe.memory ends.geometry refl refl ends.tells (short is_honest well.truth) (truth is_honest well.truth) ne;
           left = λ well on. left_after flash command old.engine new.engine new.engine w old.read_only new.read_only answer replied good_then refl refl device.engine.memory device'.engine.memory ends.geometry device'.read_only on (short is_honest well.truth);
+          flushed = λ well its done. no_flush_is its;
         }
 
     means_done : honest old.engine.nand ≡ true → IsTrue None (ram old.engine) (image_in flash old.engine) → replied ≢ Err BusFault → Means flash command old replied new
@@ -185,28 +190,58 @@ module _ {N : Type 0} (flash : N → Flash) (honest calm : N → Bool) (failed :
 
 -- ---- it was refused at once
 
-module _ (r : Ram) (ro : Bool) (n : ℕ) where
-  stopped_refusal : (fault other : DeviceFault) → MayNot r ro n fault → stop_of r.fault ≡ Some other → fault ≡ other
-  stopped_refusal OutOfRange other not is = no_stop (stop_of r.fault) other _ not.going is
-  stopped_refusal (ReadOnly good wanted lost) other not is = no_stop (stop_of r.fault) other _ not.going is
-  stopped_refusal SequenceSpent other not is = no_stop (stop_of r.fault) other _ not.going is
+-- what a refusal at once knows, whatever was asked
+abbrev pub Why : Ram → DeviceFault → Type 0
+Why r OutOfRange = stop_of r.fault ≡ None
+Why r (ReadOnly good wanted lost) = (stop_of r.fault ≡ None) × IsShortOf r r good wanted lost
+Why r SequenceSpent = (stop_of r.fault ≡ None) × (r.next ≡ 2 ^ 64 - 1)
+Why r OutOfMemory = ⊥
+Why r Damaged = stop_of r.fault ≡ Some Damaged
+Why r BusFault = stop_of r.fault ≡ Some BusFault
+
+module _ (r : Ram) where
+  stopped_refusal : (fault other : DeviceFault) → Why r fault → stop_of r.fault ≡ Some other → fault ≡ other
+  stopped_refusal OutOfRange other not is = no_stop (stop_of r.fault) other _ not is
+  stopped_refusal (ReadOnly good wanted lost) other not is = no_stop (stop_of r.fault) other _ not.0 is
+  stopped_refusal SequenceSpent other not is = no_stop (stop_of r.fault) other _ not.0 is
   stopped_refusal OutOfMemory other not is = absurd not
   stopped_refusal Damaged other not is = (let same : Some Damaged ≡ Some other = sym not ∙ is in cc)
   stopped_refusal BusFault other not is = (let same : Some BusFault ≡ Some other = sym not ∙ is in cc)
 
-  says_refusal : (fault : DeviceFault) → MayNot r ro n fault → Says r r fault
+  says_refusal : (fault : DeviceFault) → Why r fault → Says r r fault
   says_refusal OutOfRange not = refl
-  says_refusal (ReadOnly good wanted lost) not = not.short
-  says_refusal SequenceSpent not = not.last
+  says_refusal (ReadOnly good wanted lost) not = not.1
+  says_refusal SequenceSpent not = not.1
   says_refusal OutOfMemory not = tt
   says_refusal Damaged not = not
   says_refusal BusFault not = not
 
-  rose_refusal : (P : Type 0) (fault : DeviceFault) → MayNot r ro n fault → stop_of r.fault ≡ None → refusal fault ≡ refusal BusFault → P
+  rose_refusal : (P : Type 0) (fault : DeviceFault) → Why r fault → stop_of r.fault ≡ None → refusal fault ≡ refusal BusFault → P
   rose_refusal P fault not going e =
       let same : fault ≡ BusFault = cc in
-      let stop : stop_of r.fault ≡ Some BusFault = subst (MayNot r ro n) same not in
+      let stop : stop_of r.fault ≡ Some BusFault = subst (Why r) same not in
       no_stop (stop_of r.fault) BusFault P going stop
+
+pub refuses_at_once : {N : Type 0} (failed : N → ℕ) (old : Device N) (fault : DeviceFault) → Why (ram old.engine) fault → Refuses failed old (Err fault) old
+refuses_at_once failed old fault why = record {
+  stopped = λ other is. (ap Err (stopped_refusal (ram old.engine) fault other why is), refl);
+  closed = λ on. refl;
+  says = says_refusal (ram old.engine) fault why;
+  rose = λ going e. rose_refusal (ram old.engine) _ fault why going e;
+  standing = λ other is. ap Err (stopped_refusal (ram old.engine) fault other why is);
+}
+
+pub stays_same : {N : Type 0} (honest calm : N → Bool) (failed : N → ℕ) (d : Device N) → Stays honest calm failed d d
+stays_same honest calm failed d = record { limits = record { geometry = refl; capacity = refl }; honest_is = refl; calm_is = refl; failed_is = omega arith }
+
+module _ (r : Ram) (ro : Bool) (n : ℕ) where
+  why_not : (fault : DeviceFault) → MayNot r ro n fault → Why r fault
+  why_not OutOfRange not = not.going
+  why_not (ReadOnly good wanted lost) not = (not.going, not.short)
+  why_not SequenceSpent not = (not.going, not.last)
+  why_not OutOfMemory not = not
+  why_not Damaged not = not
+  why_not BusFault not = not
 
   past_refusal : (fault : DeviceFault) → MayNot r ro n fault → refusal fault ≡ refusal OutOfRange → r.geometry.sectors ≤ n
   past_refusal fault not e =
@@ -231,17 +266,14 @@ module _ (r : Ram) (ro : Bool) (n : ℕ) where
   step_refusal g xs bytes BusFault same not going = no_stop (stop_of r.fault) BusFault _ going not
 
 module _ {N : Type 0} (flash : N → Flash) (honest calm : N → Bool) (failed : N → ℕ) (n : ℕ) (bytes : List ℕ) (command : Command) (old : Device N) (device : IsDevice flash old)
-    (takes : (reply : Reply) (s : State) → WriteStep old.engine.geometry (state_in flash old) n bytes reply s → ArrayStep old.engine.geometry (state_in flash old) command reply s) where
+    (takes : (reply : Reply) (s : State) → WriteStep old.engine.geometry (state_in flash old) n bytes reply s → ArrayStep old.engine.geometry (state_in flash old) command reply s) (no_flush : is_flush command ≡ false) where
+  no_flush_is : {P : Type 0} → is_flush command ≡ true → P
+  no_flush_is its = (let off : is_flush command ≡ false = no_flush in let no : ⊥ = cc in absurd no)
+
   pub not_changed : (fault : DeviceFault) → MayNot (ram old.engine) old.read_only n fault → Changes flash honest calm failed n command old (Err fault) old
   not_changed fault not = record {
-    stays = record { limits = record { geometry = refl; capacity = refl }; honest_is = refl; calm_is = refl; failed_is = omega arith };
-    refuses = record {
-      stopped = λ other is. (ap Err (stopped_refusal (ram old.engine) old.read_only n fault other not is), refl);
-      closed = λ on. refl;
-      says = says_refusal (ram old.engine) old.read_only n fault not;
-      rose = λ going e. rose_refusal (ram old.engine) old.read_only n _ fault not going e;
-      standing = λ other is. ap Err (stopped_refusal (ram old.engine) old.read_only n fault other not is);
-    };
+    stays = stays_same honest calm failed old;
+    refuses = refuses_at_once failed old fault (why_not (ram old.engine) old.read_only n fault not);
     refuses_sector = record {
       past = λ going. ((λ e. past_refusal (ram old.engine) old.read_only n fault not e), (λ past. ap Err (refusal_past (ram old.engine) old.read_only n fault not going past)));
       untouched = λ e. refl;
@@ -263,6 +295,7 @@ module _ {N : Type 0} (flash : N → Flash) (honest calm : N → Bool) (failed :
           went = w;
           shown = λ well. shown_refused (ram old.engine) (flash old.engine.nand) w old.read_only n fault device.engine.memory well.truth well.going not;
           left = λ well on. left_refused command (ram old.engine) w.log old.read_only n fault not;
+          flushed = λ well its done. no_flush_is its;
         };
     means = λ is_honest well ne. record {
       step = takes _ _ (step_refusal (ram old.engine) old.read_only n old.engine.geometry (array_of old.engine.geometry (image_in flash old.engine)) bytes fault refl not well.going);

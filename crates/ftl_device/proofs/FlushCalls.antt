@@ -23,7 +23,7 @@ use Rattle.ftl_device.specs.declared.fault.DeviceFault.TheVariants.{OutOfRange, 
 use Rattle.ftl_device.specs.Calls.{stop_of, KeepsArray, CallRefused, CallTells, standing_after, answer_of}
 use Rattle.ftl_device.specs.Counts.{is_bad_by, IsShown, IsLeft}
 use Rattle.ftl_device.specs.Shortage.{CallShort, FlushShort}
-use Rattle.ftl_device.specs.Flush.{IsFlushed, MayNotFlush, ShowsBad}
+use Rattle.ftl_device.specs.Flush.{IsFlushed, MayNotFlush, ShowsBad, first_of, IsFlushedOut}
 use Rattle.ftl_device.proofs.CallLemmas.{well_ram}
 use Rattle.ftl_device.proofs.CountLemmas.{short_law, bad_now_law}
 use Rattle.ftl_device.proofs.ShownLemmas.{shown_after}
@@ -67,24 +67,30 @@ flush_lacks (Err call.OutOfMemory) a b h fault is = absurd h
 
 -- ---- where it was done
 
--- the memory is true of the image, and flushed
-pub worth : (P : Type 0) (answer : Result (Unit {0}) CallFault) (g : Geometry) (r : Ram) (before after : Image) → MatchResult answer (λ _. KeepsArray g before r after) (CallRefused g before r after) → OnOk answer (IsFlushed r after) → (IsTrue None r after → IsFlushed r after → P) → OnOk answer P
-worth P (Ok done) g r before after h f k = k h.truth f
-worth P (Err fault) g r before after h f k = tt
-
-pub goes_anywhere : (g : Geometry) (r : Ram) (image : Image) → r.geometry ≡ g → IsRam r → IsTrue None r image → IsFlushed r image → (capacity : ℕ) → 1 ≤ capacity → capacity ≤ 65536 → IsMountable g capacity image
+goes_anywhere : (g : Geometry) (r : Ram) (image : Image) → r.geometry ≡ g → IsRam r → IsTrue None r image → IsFlushed r image → (capacity : ℕ) → 1 ≤ capacity → capacity ≤ 65536 → IsMountable g capacity image
 goes_anywhere g r image same s w f = λ capacity least most. subst (λ x. IsMountable x capacity image) same (anywhere_law r image capacity s w f least most)
 
-pub is_fresh : (g : Geometry) (r : Ram) (image : Image) → r.geometry ≡ g → IsTrue None r image → IsFlushed r image → stale_sectors g image ≡ []
+is_fresh : (g : Geometry) (r : Ram) (image : Image) → r.geometry ≡ g → IsTrue None r image → IsFlushed r image → stale_sectors g image ≡ []
 is_fresh g r image same w f = subst (λ x. stale_sectors x image ≡ []) same (fresh_law r image w f)
 
-pub shows_wear : (old r : Ram) (s t : Flash) → r.geometry ≡ old.geometry → IsTrue None old s.image → IsRam r → IsTrue None r t.image → IsFlushed r t.image → (w : Went old s r t) (b : ℕ) → b < old.geometry.blocks → erase_count old.geometry t.image b ≡ min (wear_at old.blocks.table b + passed_erases_of w.log b) most_wear
+shows_wear : (old r : Ram) (s t : Flash) → r.geometry ≡ old.geometry → IsTrue None old s.image → IsRam r → IsTrue None r t.image → IsFlushed r t.image → (w : Went old s r t) (b : ℕ) → b < old.geometry.blocks → erase_count old.geometry t.image b ≡ min (wear_at old.blocks.table b + passed_erases_of w.log b) most_wear
 shows_wear old r s t same before safe truth f w b lt =
     let here = subst (λ (x : Geometry). (k : ℕ) → k < x.blocks → erase_count x t.image k ≡ wear_at r.blocks.table k) same (λ k few. shown_wear_law r t.image k safe truth f few) in
     here b lt ∙ w.wears.worn b (before.worn.most b)
 
-pub shows_bad : (old r : Ram) (s t : Flash) → r.geometry ≡ old.geometry → IsRam old → IsRam r → IsTrue None r t.image → IsFlushed r t.image → (w : Went old s r t) (b : ℕ) → b < old.geometry.blocks → ShowsBad old.geometry t.image b ↔ (bad_of old.geometry.pages (is_bad_by old) w.log b ≡ true)
+shows_bad : (old r : Ram) (s t : Flash) → r.geometry ≡ old.geometry → IsRam old → IsRam r → IsTrue None r t.image → IsFlushed r t.image → (w : Went old s r t) (b : ℕ) → b < old.geometry.blocks → ShowsBad old.geometry t.image b ↔ (bad_of old.geometry.pages (is_bad_by old) w.log b ≡ true)
 shows_bad old r s t same before safe truth f w b lt =
     let here : ShowsBad r.geometry t.image b ↔ (is_bad_by r b ≡ true) = shown_bad_law r t.image b safe truth f (subst (λ (x : Geometry). b < x.blocks) (sym same) lt) in
     let now = bad_now_law old r w.log b before.blocks_of w.follows lt in
     subst (λ v. ShowsBad old.geometry t.image b ↔ (v ≡ true)) now (subst (λ x. ShowsBad x t.image b ↔ (is_bad_by r b ≡ true)) same here)
+
+-- all of it, by the log that led there
+pub flushed_out : (answer : Result (Unit {0}) CallFault) (old r : Ram) (s t : Flash) → r.geometry ≡ old.geometry → IsRam old → IsRam r → IsTrue None old s.image → MatchResult answer (λ _. KeepsArray old.geometry s.image r t.image) (CallRefused old.geometry s.image r t.image) → OnOk answer (IsFlushed r t.image)
+    → (w : Went old s r t) → OnOk answer (IsFlushedOut (first_of old) w.log t.image)
+flushed_out (Ok done) old r s t same before safe known h f w = record {
+  anywhere = goes_anywhere old.geometry r t.image same safe h.truth f;
+  fresh = is_fresh old.geometry r t.image same h.truth f;
+  bad = shows_bad old r s t same before safe h.truth f w;
+  wear = shows_wear old r s t same known safe h.truth f w;
+}
+flushed_out (Err fault) old r s t same before safe known h f w = tt

@@ -24,4 +24,6 @@ pub mod RoomLemmas
 pub mod PrepareLemmas
 pub mod SpentLemmas
 pub mod EndLemmas
+pub mod LeaveLemmas
 pub mod ChangeLemmas
+pub mod UpkeepLemmas

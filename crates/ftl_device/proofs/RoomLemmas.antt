@@ -207,23 +207,12 @@ call_tells SequenceSpent a b h = h
 call_tells Damaged a b h = tt
 call_tells Bus a b h = tt
 
-pub rescue_tells : (fault : WriteFault) (a b c : Ram) → IsRam b → IsRam c → Goes b c → good_count b.blocks.table ≤ good_count a.blocks.table → RescueCosts b c (Err fault) → CallTells {A = Unit {0}} a c (Err (EngineFault fault))
-rescue_tells ReadOnly a b c t u goes fewer h = (omega (arith, h.out.out.none.none_free), omega (arith, good_fewer b c t u (goes_on b c t goes)))
-rescue_tells SequenceSpent a b c t u goes fewer h = h.spent.spent.last
-rescue_tells Damaged a b c t u goes fewer h = tt
-rescue_tells Bus a b c t u goes fewer h = tt
-
-abbrev call_err : CallFault → Result (Unit {0}) CallFault
-call_err fault = Err fault
-
-abbrev rescue_err : WriteFault → Result Bool WriteFault
-rescue_err fault = Err fault
-
-pub rescue_not_bus : (fault : WriteFault) → call_err (EngineFault fault) ≢ call_err (EngineFault Bus) → rescue_err fault ≢ rescue_err Bus
-rescue_not_bus fault ne e = (let same : fault ≡ Bus = cc in ne (ap (λ f. call_err (EngineFault f)) same))
-
-pub rescue_fewer : (a b c : Ram) → IsRam b → IsRam c → Goes b c → good_count b.blocks.table ≤ good_count a.blocks.table → good_count c.blocks.table ≤ good_count a.blocks.table
-rescue_fewer a b c t u goes fewer = omega (arith, good_fewer b c t u (goes_on b c t goes))
+pub rescue_told : (result : Result Bool WriteFault) (b c : Ram) → IsRam b → IsRam c → Goes b c → RescueCosts b c result → Tells b c result
+rescue_told (Ok found) b c t u goes h = good_fewer b c t u (goes_on b c t goes)
+rescue_told (Err ReadOnly) b c t u goes h = (omega (arith, h.out.out.none.none_free), good_fewer b c t u (goes_on b c t goes))
+rescue_told (Err SequenceSpent) b c t u goes h = h.spent.spent.last
+rescue_told (Err Damaged) b c t u goes h = tt
+rescue_told (Err Bus) b c t u goes h = tt
 
 pub never_rested : (a b : Ram) → HasAiling a.blocks → HasRested a b
 never_rested a b some = λ none. (let z : live_at a.blocks some.0 ≡ 0 = none some.0 some.1.within some.1.bad in absurd (omega (arith, some.1.some)))

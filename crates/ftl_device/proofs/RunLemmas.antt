@@ -31,8 +31,8 @@ use Rattle.ftl_device.specs.declared.fault.DeviceFault.TheVariants.{OutOfRange, 
 use Rattle.ftl_device.specs.Calls.{IsWell, Says, state_in, reply_of, read_reply_of}
 use Rattle.ftl_device.specs.Counts.{is_bad_by, is_flush, IsShown, IsLeft}
 use Rattle.ftl_device.specs.Read.{LeavesRead, IsReadRefusal}
-use Rattle.ftl_device.specs.Run.{answer_to, reply_in, Exchange, needs_no_memory, die_in, First, first_of, IsFlushedOut, IsFair, AreFair, HasRun, Ran, Happened}
-use Rattle.ftl_device.specs.Flush.{ShowsBad}
+use Rattle.ftl_device.specs.Run.{answer_to, reply_in, Exchange, needs_no_memory, die_in, IsFair, AreFair, HasRun, Ran, Happened}
+use Rattle.ftl_device.specs.Flush.{ShowsBad, First, first_of, IsFlushedOut}
 use Rattle.ftl_device.proofs.CountLemmas.{NoDamage, shown_on, left_on, bad_now_law}
 use Rattle.ftl_device.proofs.CallLemmas.{mountable_after}
 
@@ -132,16 +132,6 @@ module _ {N : Type 0} (flash : N → Flash) (old new : Device N) (result : Resul
       shown = λ bad next before also spent. shown_on (ram old.engine) (ram new.engine) w.log safe safe' sized w.follows bad before also next old.read_only (image_in flash new.engine) result well.truth spent says shown is ne;
       left = λ bad before also on. left_on (ram old.engine) (ram new.engine) w.log safe safe' sized w.follows bad before also command old.read_only result (left on);
     }
-
--- what a flush says of its image, where it was done
-pub flushed_out : {N : Type 0} (flash : N → Flash) (old new : Device N) (result : Result (Unit {0}) DeviceFault) (w : Went (ram old.engine) (flash old.engine.nand) (ram new.engine) (flash new.engine.nand)) → result ≡ Ok tt
-    → OnOk result ((capacity : ℕ) → 1 ≤ capacity → capacity ≤ 65536 → IsMountable old.engine.geometry capacity (image_in flash new.engine))
-    → OnOk result (stale_sectors old.engine.geometry (image_in flash new.engine) ≡ [])
-    → OnOk result ((log : Went (ram old.engine) (flash old.engine.nand) (ram new.engine) (flash new.engine.nand)) (b : ℕ) → b < old.engine.geometry.blocks → ShowsBad old.engine.geometry (image_in flash new.engine) b ↔ (bad_of old.engine.geometry.pages (is_bad_by (ram old.engine)) log.log b ≡ true))
-    → OnOk result ((log : Went (ram old.engine) (flash old.engine.nand) (ram new.engine) (flash new.engine.nand)) (b : ℕ) → b < old.engine.geometry.blocks → erase_count old.engine.geometry (image_in flash new.engine) b ≡ min (wear_at (ram old.engine).blocks.table b + passed_erases_of log.log b) most_wear)
-    → IsFlushedOut (first_of (ram old.engine)) w.log (image_in flash new.engine)
-flushed_out flash old new (Ok done) w is anywhere fresh bad wear = record { anywhere = anywhere; fresh = fresh; bad = bad w; wear = wear w }
-flushed_out flash old new (Err fault) w is anywhere fresh bad wear = (let no : ⊥ = cc in absurd no)
 
 -- ---- one more event
 

@@ -1,5 +1,5 @@
--- What the calls promise that change a sector: each clause that `write` and `trim` share, or the calls within them, stands here once.
-use Rattle.std.specs.Prelude.{◌≡◌, ◌≢◌, ◌↔◌, ℕ, ◌+◌, ◌-◌, ◌^◌, ◌<◌, ◌≤◌, Bool, true, false, [], None, IsSome, Result, Err, IfErr, OnOk}
+-- What the calls promise: each clause that `write` and `trim` share, or `flush` and `turn`, or the calls within them, stands here once.
+use Rattle.std.specs.Prelude.{◌≡◌, ◌≢◌, ◌↔◌, ℕ, ◌+◌, ◌-◌, ◌^◌, ◌<◌, ◌≤◌, Bool, true, false, [], None, IsSome, Result, Ok, Err, IfErr, OnOk}
 use Rattle.std.specs.Option.{ForSome}
 use Rattle.std.specs.Map.{keys_of}
 use Rattle.page_layout.specs.Counter.{HasRisen}
@@ -13,24 +13,39 @@ use Rattle.promises.specs.Step.{Command, ArrayStep}
 use Rattle.image_check.specs.Stale.{is_stale}
 use Rattle.image_check.specs.Mountable.{IsMountable}
 use Rattle.collection.specs.declared.engine.Engine.{Engine}
+use Rattle.collection.specs.declared.fault.WriteFault.{WriteFault}
 use Rattle.collection.specs.declared.fault.WriteFault.TheVariants.{Bus}
 use Rattle.collection.specs.State.{Ram}
 use Rattle.collection.specs.Safe.{IsSafe, IsIdle, ram, image_in, page_in}
 use Rattle.collection.specs.Cost.{HasPut}
 use Rattle.collection.specs.Log.{Went}
+use Rattle.collection.specs.Results.{fault_after}
 use Rattle.ftl_device.specs.declared.device.Device.{Device}
 use Rattle.ftl_device.specs.declared.fault.CallFault.{CallFault}
 use Rattle.ftl_device.specs.declared.fault.CallFault.TheVariants as call
 use Rattle.ftl_device.specs.declared.fault.DeviceFault.{DeviceFault}
 use Rattle.ftl_device.specs.declared.fault.DeviceFault.TheVariants.{OutOfRange, ReadOnly, SequenceSpent, OutOfMemory, BusFault}
-use Rattle.ftl_device.specs.Calls.{state_in, reply_of, stop_of, IsWell, Says, CallTells, standing_after, IsMostRecent, IsReady, HasCost, order_after}
-use Rattle.ftl_device.specs.Counts.{is_bad_by, IsShown, IsLeft}
+use Rattle.ftl_device.specs.Calls.{state_in, reply_of, stop_of, IsWell, Says, Tells, CallTells, standing_after, IsMostRecent, IsReady, HasCost, order_after}
+use Rattle.ftl_device.specs.Counts.{is_bad_by, is_flush, IsShown, IsLeft}
 use Rattle.ftl_device.specs.Read.{IsLookedUp}
+use Rattle.ftl_device.specs.Flush.{first_of, IsFlushedOut}
 use Rattle.ftl_device.specs.Shortage.{HasFunds, CallRoomCosts}
 
 -- ---- inside the device
 
--- WHAT A CALL OF THE ENGINE LEAVES, whatever it answers
+-- WHAT A CALL OF THE ENGINE LEAVES where no fault stood, whatever it answers: the fault that it answers stands from then on
+pub record Leaves {A N : Type 0} (flash : N → Flash) (honest calm : N → Bool) (failed : N → ℕ) (old : Engine N) (result : Result A WriteFault) (new : Engine N) : Type 0 where
+  pub safe : IsSafe flash new
+  pub fault : new.fault ≡ fault_after None result
+  pub geometry : new.geometry ≡ old.geometry
+  pub honest_is : honest new.nand ≡ honest old.nand
+  pub calm_is : calm new.nand ≡ calm old.nand
+  pub failed_is : failed old.nand ≤ failed new.nand
+  pub rose : result ≡ Err Bus → HasRisen (failed old.nand) (failed new.nand)
+  pub tells : Tells (ram old) (ram new) result
+  pub went : honest old.nand ≡ true → result ≢ Err Bus → Went (ram old) (flash old.nand) (ram new) (flash new.nand)
+
+-- AND WHERE THE CALL MAY WANT MEMORY TOO: how the part of a device's call ends that asks the die
 pub record Ends {N : Type 0} (flash : N → Flash) (honest calm : N → Bool) (failed : N → ℕ) (old : Engine N) (result : Result (Unit {0}) CallFault) (new : Engine N) : Type 0 where
   pub safe : IsSafe flash new
   pub fault : new.fault ≡ standing_after result
@@ -78,6 +93,13 @@ pub record Refuses {N : Type 0} (failed : N → ℕ) (old : Device N) (result : 
   pub rose : stop_of old.engine.fault ≡ None → result ≡ Err BusFault → HasRisen (failed old.engine.nand) (failed new.engine.nand)
   pub standing : ForSome (stop_of new.engine.fault) (λ fault. result ≡ Err fault)
 
+-- when a device is not to be flushed, and not to have a turn: neither names a sector, and neither wants memory
+pub record RefusesUpkeep {N : Type 0} (old : Device N) (result : Result (Unit {0}) DeviceFault) (new : Device N) : Type 0 where
+  pub read_only : stop_of old.engine.fault ≡ None → old.read_only ≡ true → result ≡ Err (ReadOnly (good_count (ram old.engine).blocks.table) (need old.engine.geometry) 0)
+  pub spent : stop_of old.engine.fault ≡ None → old.read_only ≡ false → old.engine.next ≡ 2 ^ 64 - 1 → (result ≡ Err SequenceSpent) × (new ≡ old)
+  pub within : result ≢ Err OutOfRange
+  pub memory : result ≢ Err OutOfMemory
+
 -- when a sector is not to be changed
 pub record RefusesSector {N : Type 0} (n : ℕ) (old : Device N) (result : Result (Unit {0}) DeviceFault) (new : Device N) : Type 0 where
   pub past : stop_of old.engine.fault ≡ None → (result ≡ Err OutOfRange) ↔ (old.engine.geometry.sectors ≤ n)
@@ -102,6 +124,7 @@ pub record Logs {N : Type 0} (flash : N → Flash) (command : Command) (old : De
   pub went : Went (ram old.engine) (flash old.engine.nand) (ram new.engine) (flash new.engine.nand)
   pub shown : IsWell flash old → IfErr result (IsShown old.engine.geometry (is_bad_by (ram old.engine)) old.engine.next [] went.log old.read_only (image_in flash new.engine))
   pub left : IsWell flash old → new.read_only ≡ true → IsLeft command old.engine.geometry (is_bad_by (ram old.engine)) [] went.log old.read_only result
+  pub flushed : IsWell flash old → is_flush command ≡ true → result ≡ Ok tt → IsFlushedOut (first_of (ram old.engine)) went.log (image_in flash new.engine)
 
 -- what is true of the image after it
 pub record Means {N : Type 0} (flash : N → Flash) (command : Command) (old : Device N) (result : Result (Unit {0}) DeviceFault) (new : Device N) : Type 0 where
@@ -120,3 +143,11 @@ pub record Changes {N : Type 0} (flash : N → Flash) (honest calm : N → Bool)
   pub logs : honest old.engine.nand ≡ true → result ≢ Err BusFault → Logs flash command old result new
   pub means : honest old.engine.nand ≡ true → IsWell flash old → result ≢ Err BusFault → Means flash command old result new
   pub stale : honest old.engine.nand ≡ true → IsWell flash old → is_stale old.engine.geometry (image_in flash old.engine) n ≡ true → result ≢ Err OutOfMemory
+
+-- A CALL THAT CHANGES NO SECTOR: a flush, or a turn
+pub record Upkeeps {N : Type 0} (flash : N → Flash) (honest calm : N → Bool) (failed : N → ℕ) (command : Command) (old : Device N) (result : Result (Unit {0}) DeviceFault) (new : Device N) : Type 0 where
+  pub stays : Stays honest calm failed old new
+  pub refuses : Refuses failed old result new
+  pub refuses_upkeep : RefusesUpkeep old result new
+  pub logs : honest old.engine.nand ≡ true → result ≢ Err BusFault → Logs flash command old result new
+  pub means : honest old.engine.nand ≡ true → IsWell flash old → result ≢ Err BusFault → Means flash command old result new

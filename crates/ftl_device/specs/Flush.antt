@@ -1,14 +1,16 @@
 -- What an image is worth once a device was flushed.
-use Rattle.std.specs.Prelude.{◌≡◌, ◌⊎◌, ◌↔◌, ℕ, ◌+◌, ◌-◌, ◌*◌, ◌/◌, ◌^◌, ◌<◌, ◌≤◌, Bool, true, false, [], Some, None}
+use Rattle.std.specs.Prelude.{◌≡◌, ◌⊎◌, ◌↔◌, ℕ, ◌+◌, ◌-◌, ◌*◌, ◌/◌, ◌^◌, ◌<◌, ◌≤◌, min, Bool, true, false, List, [], Some, None}
 use Rattle.page_layout.specs.declared.geometry.Geometry.{Geometry}
 use Rattle.page_layout.specs.Page.{Image}
+use Rattle.page_layout.specs.Flash.{Operation}
 use Rattle.page_layout.specs.Geometry.{entries, translation_pages, table_pages}
-use Rattle.bad_blocks.specs.Table.{wear_at, good_count}
+use Rattle.bad_blocks.specs.Table.{wear_at, good_count, most_wear}
 use Rattle.budget.specs.Counts.{Counts}
 use Rattle.budget.specs.Spending.{Spending}
 use Rattle.mapping_cache.specs.Mapping.{MappingState, pending}
 use Rattle.allocation.specs.State.{free_count}
 use Rattle.allocation.specs.Counts.{counts_of}
+use Rattle.promises.specs.Log.{bad_of, passed_erases_of}
 use Rattle.image_check.specs.Blocks.{class, erase_count}
 use Rattle.image_check.specs.Stale.{stale_sectors}
 use Rattle.image_check.specs.Mountable.{IsMountable}
@@ -106,6 +108,26 @@ MayNotFlush r ro BusFault = stop_of r.fault ≡ Some BusFault
 -- the image shows that the block is bad: a certificate gives it class 4 or 5
 abbrev pub ShowsBad : Geometry → Image → ℕ → Type 0
 ShowsBad g image block = (class g image block ≡ 4) ⊎ (class g image block ≡ 5)
+
+-- what a run begins with: the geometry, the capacity of the cached mapping table, the bad blocks, the erase counts and the next sequence
+pub record First : Type 0 where
+  pub geometry : Geometry
+  pub capacity : ℕ
+  pub bad : ℕ → Bool
+  pub wear : ℕ → ℕ
+  pub next : ℕ
+
+-- by the memory, where it begins with a device as it is
+abbrev pub first_of : Ram → First
+first_of r = record { geometry = r.geometry; capacity = r.mapping.capacity; bad = is_bad_by r; wear = wear_at r.blocks.table; next = r.next }
+
+-- WHAT A FLUSH IS WORTH that is done, where `log` leads up to its end: the image has a certificate at every capacity, no entry is stale, and it
+-- shows just the blocks as bad that were so before the log or failed in it, and erase counts that went up by the erases that passed.
+pub record IsFlushedOut (first : First) (log : List Operation) (image : Image) : Type 0 where
+  pub anywhere : (capacity : ℕ) → 1 ≤ capacity → capacity ≤ 65536 → IsMountable first.geometry capacity image
+  pub fresh : stale_sectors first.geometry image ≡ []
+  pub bad : (b : ℕ) → b < first.geometry.blocks → ShowsBad first.geometry image b ↔ (bad_of first.geometry.pages first.bad log b ≡ true)
+  pub wear : (b : ℕ) → b < first.geometry.blocks → erase_count first.geometry image b ≡ min (first.wear b + passed_erases_of log b) most_wear
 
 -- ---- laws, of a memory that is true of the image and flushed
 

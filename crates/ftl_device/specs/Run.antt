@@ -32,7 +32,7 @@ use Rattle.ftl_device.specs.Device.{IsDevice, IsAcceptedFor}
 use Rattle.ftl_device.specs.Begin.{is_bad_in, wear_in, free_in, is_scarce}
 use Rattle.ftl_device.specs.Calls.{state_in, reply_of, read_reply_of, stop_of, IsWell}
 use Rattle.bad_blocks.specs.Table.{wear_at, most_wear}
-use Rattle.ftl_device.specs.Flush.{ShowsBad}
+use Rattle.ftl_device.specs.Flush.{First, first_of, IsFlushedOut}
 use Rattle.ftl_device.specs.Counts.{is_bad_by, is_flush, IsShown, IsLeft}
 
 -- ---- commands and replies
@@ -162,22 +162,6 @@ HaveKept old new = AllZip HasKept old new
 abbrev pub die_in : {N : Type 0} → (N → Flash) → Device N → runs.DeviceView
 die_in flash d = record { flash = flash d.engine.nand; ro = d.read_only }
 
--- what a run begins with: the geometry, the capacity of the cached mapping table, the bad blocks, the erase counts and the next sequence
-pub record First : Type 0 where
-  pub geometry : Geometry
-  pub capacity : ℕ
-  pub bad : ℕ → Bool
-  pub wear : ℕ → ℕ
-  pub next : ℕ
-
--- WHAT A FLUSH IS WORTH that is done, where `log` leads up to its end: the image has a certificate at every capacity, no entry is stale, and it
--- shows just the blocks as bad that were so before the log or failed in it, and erase counts that went up by the erases that passed.
-pub record IsFlushedOut (first : First) (log : List Operation) (image : Image) : Type 0 where
-  pub anywhere : (capacity : ℕ) → 1 ≤ capacity → capacity ≤ 65536 → IsMountable first.geometry capacity image
-  pub fresh : stale_sectors first.geometry image ≡ []
-  pub bad : (b : ℕ) → b < first.geometry.blocks → ShowsBad first.geometry image b ↔ (bad_of first.geometry.pages first.bad log b ≡ true)
-  pub wear : (b : ℕ) → b < first.geometry.blocks → erase_count first.geometry image b ≡ min (first.wear b + passed_erases_of log b) most_wear
-
 -- What is so of each event, where `before` is the log up to it. `ReadOnly` comes in a shortage, with fewer than five free blocks, and has its
 -- counts, and `SequenceSpent` the last sequence, by the image and the one log; a call that leaves the device read-only does so in a shortage,
 -- or is a flush in which two blocks failed; a command whose sector was stale in the image, or that names none, took no memory; and afterwards
@@ -207,9 +191,6 @@ pub record HasRun (first : First) (old new : runs.DeviceView) (xs : List Exchang
 
 -- a run from a device as it is: its log is legal by accounts that agree with the memory, it leaves such accounts, and each program in it
 -- took the next sequence
-abbrev pub first_of : Ram → First
-first_of r = record { geometry = r.geometry; capacity = r.mapping.capacity; bad = is_bad_by r; wear = wear_at r.blocks.table; next = r.next }
-
 pub record Ran {N : Type 0} (flash : N → Flash) (old : Device N) (xs : List Exchange) (new : Device N) : Type 0 where
   pub run : HasRun (first_of (ram old.engine)) (die_in flash old) (die_in flash new) xs
   pub follows : Follows old.engine.geometry.pages (log_of run.events) (ram old.engine).blocks (ram new.engine).blocks

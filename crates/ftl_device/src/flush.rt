@@ -22,7 +22,7 @@ ghost use Rattle.image_check.specs.Blocks.{erase_count};
 ghost use Rattle.image_check.specs.Stale.{stale_sectors};
 ghost use Rattle.image_check.specs.Mountable.{IsMountable};
 ghost use Rattle.ftl_device.specs.Device.{IsDevice};
-ghost use Rattle.ftl_device.specs.Counts.{is_bad_by, IsShown, IsLeft};
+ghost use Rattle.ftl_device.specs.Changes.{Leaves, Ends, Upkeeps};
 
 use crate::device::Device;
 use crate::fault::{CallFault, DeviceFault};
@@ -36,13 +36,7 @@ fn flush_translation<N: Nand>(engine: &mut Engine<N>, t: u32) -> Result<(), Writ
     requires going { engine.old.fault ≡ None }
     requires idle { IsIdle (ram engine.old) }
     requires page { t < translation_pages engine.old.geometry }
-    ensures safe { IsSafe N.flash engine.new }
-    ensures fault { engine.new.fault ≡ fault_after None result }
-    ensures geometry { engine.new.geometry ≡ engine.old.geometry }
-    ensures honest { N.honest engine.new.nand ≡ N.honest engine.old.nand }
-    ensures calm { N.calm engine.new.nand ≡ N.calm engine.old.nand }
-    ensures failed { N.failed engine.old.nand ≤ N.failed engine.new.nand }
-    ensures rose { result ≡ Err WriteFault.Bus → HasRisen (N.failed engine.old.nand) (N.failed engine.new.nand) }
+    ensures leaves { Leaves N.flash N.honest N.calm N.failed engine.old result engine.new }
     ensures keys { keys_of engine.new.mapping.cached ≡ keys_of engine.old.mapping.cached }
     ensures limits { HasLimitsOf engine.old.mapping engine.new.mapping }
     ensures idle { engine.new.fault ≡ None → IsIdle (ram engine.new) }
@@ -51,9 +45,6 @@ fn flush_translation<N: Nand>(engine: &mut Engine<N>, t: u32) -> Result<(), Writ
     ensures count { N.honest engine.old.nand ≡ true → IsTrue None (ram engine.old) (image_in N.flash engine.old) →
         (failures : ℕ) → IsFunded engine.old.geometry.pages failures (counts_of (ram engine.old).blocks) →
         FlushCounts failures (ram engine.old) (ram engine.new) result }
-    ensures tells { Tells (ram engine.old) (ram engine.new) result }
-    ensures went { N.honest engine.old.nand ≡ true → result ≢ Err WriteFault.Bus →
-        Went (ram engine.old) (N.flash engine.old.nand) (ram engine.new) (N.flash engine.new.nand) }
     ensures truth { N.honest engine.old.nand ≡ true → IsTrue None (ram engine.old) (image_in N.flash engine.old) →
         MatchResult result
         (λ _. KeepsArray engine.old.geometry (image_in N.flash engine.old) (ram engine.new) (image_in N.flash engine.new))
@@ -71,13 +62,7 @@ fn flush_translations<N: Nand>(engine: &mut Engine<N>) -> Result<(), WriteFault>
     requires safe { IsSafe N.flash engine.old }
     requires going { engine.old.fault ≡ None }
     requires idle { IsIdle (ram engine.old) }
-    ensures safe { IsSafe N.flash engine.new }
-    ensures fault { engine.new.fault ≡ fault_after None result }
-    ensures geometry { engine.new.geometry ≡ engine.old.geometry }
-    ensures honest { N.honest engine.new.nand ≡ N.honest engine.old.nand }
-    ensures calm { N.calm engine.new.nand ≡ N.calm engine.old.nand }
-    ensures failed { N.failed engine.old.nand ≤ N.failed engine.new.nand }
-    ensures rose { result ≡ Err WriteFault.Bus → HasRisen (N.failed engine.old.nand) (N.failed engine.new.nand) }
+    ensures leaves { Leaves N.flash N.honest N.calm N.failed engine.old result engine.new }
     ensures keys { keys_of engine.new.mapping.cached ≡ keys_of engine.old.mapping.cached }
     ensures limits { HasLimitsOf engine.old.mapping engine.new.mapping }
     ensures idle { engine.new.fault ≡ None → IsIdle (ram engine.new) }
@@ -85,9 +70,6 @@ fn flush_translations<N: Nand>(engine: &mut Engine<N>) -> Result<(), WriteFault>
     ensures count { N.honest engine.old.nand ≡ true → IsTrue None (ram engine.old) (image_in N.flash engine.old) →
         (failures : ℕ) → IsFunded engine.old.geometry.pages failures (counts_of (ram engine.old).blocks) →
         FlushCounts failures (ram engine.old) (ram engine.new) result }
-    ensures tells { Tells (ram engine.old) (ram engine.new) result }
-    ensures went { N.honest engine.old.nand ≡ true → result ≢ Err WriteFault.Bus →
-        Went (ram engine.old) (N.flash engine.old.nand) (ram engine.new) (N.flash engine.new.nand) }
     ensures truth { N.honest engine.old.nand ≡ true → IsTrue None (ram engine.old) (image_in N.flash engine.old) →
         MatchResult result
         (λ _. KeepsArray engine.old.geometry (image_in N.flash engine.old) (ram engine.new) (image_in N.flash engine.new))
@@ -103,21 +85,12 @@ fn flush_translations<N: Nand>(engine: &mut Engine<N>) -> Result<(), WriteFault>
 fn write_tables_once<N: Nand>(engine: &mut Engine<N>) -> Result<(), WriteFault>
     requires safe { IsSafe N.flash engine.old }
     requires going { engine.old.fault ≡ None }
-    ensures safe { IsSafe N.flash engine.new }
-    ensures fault { engine.new.fault ≡ fault_after None result }
-    ensures geometry { engine.new.geometry ≡ engine.old.geometry }
-    ensures honest { N.honest engine.new.nand ≡ N.honest engine.old.nand }
-    ensures calm { N.calm engine.new.nand ≡ N.calm engine.old.nand }
-    ensures failed { N.failed engine.old.nand ≤ N.failed engine.new.nand }
-    ensures rose { result ≡ Err WriteFault.Bus → HasRisen (N.failed engine.old.nand) (N.failed engine.new.nand) }
+    ensures leaves { Leaves N.flash N.honest N.calm N.failed engine.old result engine.new }
     ensures mapping { engine.new.mapping ≡ engine.old.mapping }
     ensures pin { (ram engine.new).pin ≡ (ram engine.old).pin }
     ensures table { KeepsTable (ram engine.old).blocks (ram engine.new).blocks }
     ensures cost { OnOk result (AddsPages (table_pages engine.old.geometry) (ram engine.old) (ram engine.new)) }
     ensures out { result ≡ Err WriteFault.ReadOnly → FailsAmong (table_pages engine.old.geometry) (ram engine.old) (ram engine.new) }
-    ensures tells { Tells (ram engine.old) (ram engine.new) result }
-    ensures went { N.honest engine.old.nand ≡ true → result ≢ Err WriteFault.Bus →
-        Went (ram engine.old) (N.flash engine.old.nand) (ram engine.new) (N.flash engine.new.nand) }
     ensures truth { N.honest engine.old.nand ≡ true → IsTrue None (ram engine.old) (image_in N.flash engine.old) →
         MatchResult result
         (λ _. KeepsTables (table_pages engine.old.geometry) (ram engine.old) (image_in N.flash engine.old) (ram engine.new) (image_in N.flash engine.new))
@@ -133,20 +106,11 @@ fn write_tables_once<N: Nand>(engine: &mut Engine<N>) -> Result<(), WriteFault>
 fn write_tables<N: Nand>(engine: &mut Engine<N>) -> Result<(), WriteFault>
     requires safe { IsSafe N.flash engine.old }
     requires going { engine.old.fault ≡ None }
-    ensures safe { IsSafe N.flash engine.new }
-    ensures fault { engine.new.fault ≡ fault_after None result }
-    ensures geometry { engine.new.geometry ≡ engine.old.geometry }
-    ensures honest { N.honest engine.new.nand ≡ N.honest engine.old.nand }
-    ensures calm { N.calm engine.new.nand ≡ N.calm engine.old.nand }
-    ensures failed { N.failed engine.old.nand ≤ N.failed engine.new.nand }
-    ensures rose { result ≡ Err WriteFault.Bus → HasRisen (N.failed engine.old.nand) (N.failed engine.new.nand) }
+    ensures leaves { Leaves N.flash N.honest N.calm N.failed engine.old result engine.new }
     ensures mapping { engine.new.mapping ≡ engine.old.mapping }
     ensures pin { (ram engine.new).pin ≡ (ram engine.old).pin }
     ensures cost { OnOk result (WritesTables (ram engine.old) (ram engine.new)) }
     ensures out { result ≡ Err WriteFault.ReadOnly → RunsOut (ram engine.old) (ram engine.new) }
-    ensures tells { Tells (ram engine.old) (ram engine.new) result }
-    ensures went { N.honest engine.old.nand ≡ true → result ≢ Err WriteFault.Bus →
-        Went (ram engine.old) (N.flash engine.old.nand) (ram engine.new) (N.flash engine.new.nand) }
     ensures truth { N.honest engine.old.nand ≡ true → IsTrue None (ram engine.old) (image_in N.flash engine.old) →
         MatchResult result
         (λ _. SpellsAll engine.old.geometry (image_in N.flash engine.old) (ram engine.new) (image_in N.flash engine.new))
@@ -166,22 +130,11 @@ pub(crate) fn flush_ready<N: Nand>(engine: &mut Engine<N>) -> Result<(), CallFau
     requires safe { IsSafe N.flash engine.old }
     requires going { engine.old.fault ≡ None }
     requires idle { IsIdle (ram engine.old) }
-    ensures safe { IsSafe N.flash engine.new }
-    ensures fault { engine.new.fault ≡ standing_after result }
-    ensures geometry { engine.new.geometry ≡ engine.old.geometry }
-    ensures honest { N.honest engine.new.nand ≡ N.honest engine.old.nand }
-    ensures calm { N.calm engine.new.nand ≡ N.calm engine.old.nand }
-    ensures failed { N.failed engine.old.nand ≤ N.failed engine.new.nand }
-    ensures rose { result ≡ Err (CallFault.Engine WriteFault.Bus) → HasRisen (N.failed engine.old.nand) (N.failed engine.new.nand) }
+    ensures ends { Ends N.flash N.honest N.calm N.failed engine.old result engine.new }
     ensures memory { result ≢ Err CallFault.OutOfMemory }
     ensures keys { keys_of engine.new.mapping.cached ≡ keys_of engine.old.mapping.cached }
-    ensures limits { HasLimitsOf engine.old.mapping engine.new.mapping }
-    ensures idle { engine.new.fault ≡ None → IsIdle (ram engine.new) }
     ensures clean { OnOk result ((t : ℕ) → t < translation_pages engine.old.geometry → IsClean engine.old.geometry t engine.new.mapping) }
     ensures count { HasFunds (N.honest engine.old.nand) (ram engine.old) (image_in N.flash engine.old) → FlushShort (ram engine.old) (ram engine.new) result }
-    ensures tells { CallTells (ram engine.old) (ram engine.new) result }
-    ensures went { N.honest engine.old.nand ≡ true → result ≢ Err (CallFault.Engine WriteFault.Bus) →
-        Went (ram engine.old) (N.flash engine.old.nand) (ram engine.new) (N.flash engine.new.nand) }
     ensures truth { N.honest engine.old.nand ≡ true → IsTrue None (ram engine.old) (image_in N.flash engine.old) →
         MatchResult result
         (λ _. KeepsArray engine.old.geometry (image_in N.flash engine.old) (ram engine.new) (image_in N.flash engine.new))
@@ -236,58 +189,8 @@ impl<N: Nand> Device<N> {
         requires device { IsDevice N.flash self.old }
         ensures device { IsDevice N.flash self.new }
         ensures geometry { self.new.engine.geometry ≡ self.old.engine.geometry }
-        ensures limits { HasLimitsOf self.old.engine.mapping self.new.engine.mapping }
-        ensures honest { N.honest self.new.engine.nand ≡ N.honest self.old.engine.nand }
-        ensures calm { N.calm self.new.engine.nand ≡ N.calm self.old.engine.nand }
-        ensures failed { N.failed self.old.engine.nand ≤ N.failed self.new.engine.nand }
-
-        // When it is refused, whatever the die does.
-        ensures stopped { ForSome (stop_of self.old.engine.fault) (λ fault. (result ≡ Err fault) × (self.new ≡ self.old)) }
-        ensures closed { self.old.read_only ≡ true → self.new ≡ self.old }
-        ensures read_only { stop_of self.old.engine.fault ≡ None → self.old.read_only ≡ true →
-            result ≡ Err (DeviceFault.ReadOnly (good_count (ram self.old.engine).blocks.table) (need self.old.engine.geometry) 0) }
-        ensures spent { stop_of self.old.engine.fault ≡ None → self.old.read_only ≡ false →
-            self.old.engine.next ≡ 2 ^ 64 - 1 → (result ≡ Err DeviceFault.SequenceSpent) × (self.new ≡ self.old) }
-        ensures within { result ≢ Err DeviceFault.OutOfRange }
-        ensures memory { result ≢ Err DeviceFault.OutOfMemory }
-        ensures says { IfErr result (Says (ram self.old.engine) (ram self.new.engine)) }
-        ensures rose { stop_of self.old.engine.fault ≡ None → result ≡ Err DeviceFault.BusFault →
-            HasRisen (N.failed self.old.engine.nand) (N.failed self.new.engine.nand) }
-        ensures standing { ForSome (stop_of self.new.engine.fault) (λ fault. result ≡ Err fault) }
+        ensures upkeeps { Upkeeps N.flash N.honest N.calm N.failed Flush self.old result self.new }
         ensures keys { keys_of self.new.engine.mapping.cached ≡ keys_of self.old.engine.mapping.cached }
-
-        // What is true of an honest die.
-        ensures went { N.honest self.old.engine.nand ≡ true → result ≢ Err DeviceFault.BusFault →
-            Went (ram self.old.engine) (N.flash self.old.engine.nand) (ram self.new.engine) (N.flash self.new.engine.nand) }
-        ensures step { N.honest self.old.engine.nand ≡ true → IsWell N.flash self.old → result ≢ Err DeviceFault.BusFault →
-            ArrayStep self.old.engine.geometry (state_in N.flash self.old) Flush (reply_of result) (state_in N.flash self.new) }
-        ensures well { N.honest self.old.engine.nand ≡ true → IsWell N.flash self.old → result ≢ Err DeviceFault.BusFault →
-            IsWell N.flash self.new }
-        ensures shown { N.honest self.old.engine.nand ≡ true → IsWell N.flash self.old → result ≢ Err DeviceFault.BusFault →
-            (w : Went (ram self.old.engine) (N.flash self.old.engine.nand) (ram self.new.engine) (N.flash self.new.engine.nand)) →
-            IfErr result (IsShown self.old.engine.geometry (is_bad_by (ram self.old.engine)) self.old.engine.next [] w.log self.old.read_only (image_in N.flash self.new.engine)) }
-        ensures left { N.honest self.old.engine.nand ≡ true → IsWell N.flash self.old → result ≢ Err DeviceFault.BusFault →
-            (w : Went (ram self.old.engine) (N.flash self.old.engine.nand) (ram self.new.engine) (N.flash self.new.engine.nand)) →
-            self.new.read_only ≡ true →
-            IsLeft Flush self.old.engine.geometry (is_bad_by (ram self.old.engine)) [] w.log self.old.read_only result }
-        ensures mountable { N.honest self.old.engine.nand ≡ true → IsWell N.flash self.old → result ≢ Err DeviceFault.BusFault →
-            self.old.engine.mapping.capacity + self.old.engine.geometry.pages ≤ 65536 →
-            IsMountable self.old.engine.geometry (self.old.engine.mapping.capacity + self.old.engine.geometry.pages) (image_in N.flash self.new.engine) }
-        // What the image is worth once it is done.
-        ensures anywhere { N.honest self.old.engine.nand ≡ true → IsWell N.flash self.old → OnOk result
-            ((capacity : ℕ) → 1 ≤ capacity → capacity ≤ 65536 → IsMountable self.old.engine.geometry capacity (image_in N.flash self.new.engine)) }
-        ensures fresh { N.honest self.old.engine.nand ≡ true → IsWell N.flash self.old → OnOk result
-            (stale_sectors self.old.engine.geometry (image_in N.flash self.new.engine) ≡ []) }
-        ensures bad { N.honest self.old.engine.nand ≡ true → IsWell N.flash self.old → OnOk result
-            ((w : Went (ram self.old.engine) (N.flash self.old.engine.nand) (ram self.new.engine) (N.flash self.new.engine.nand)) (b : ℕ) →
-            b < self.old.engine.geometry.blocks →
-            ShowsBad self.old.engine.geometry (image_in N.flash self.new.engine) b ↔
-            (bad_of self.old.engine.geometry.pages (is_bad_by (ram self.old.engine)) w.log b ≡ true)) }
-        ensures wear { N.honest self.old.engine.nand ≡ true → IsWell N.flash self.old → OnOk result
-            ((w : Went (ram self.old.engine) (N.flash self.old.engine.nand) (ram self.new.engine) (N.flash self.new.engine.nand)) (b : ℕ) →
-            b < self.old.engine.geometry.blocks →
-            erase_count self.old.engine.geometry (image_in N.flash self.new.engine) b ≡
-            min (wear_at (ram self.old.engine).blocks.table b + passed_erases_of w.log b) most_wear) }
     {
         self.may_flush()?;
         let good = self.engine.blocks.good();

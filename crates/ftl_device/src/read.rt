@@ -5,6 +5,7 @@ ghost use Rattle.page_layout.specs.Page.{Image};
 ghost use Rattle.page_layout.specs.Counter.{HasRisen};
 ghost use Rattle.page_layout.specs.Geometry.{row_count};
 ghost use Rattle.page_layout.specs.declared.record.Key.TheVariants.{Sector};
+ghost use Rattle.page_layout.specs.OnlyReads.{OnlyReads};
 ghost use Rattle.promises.specs.Step.{ArrayStep, Read};
 ghost use Rattle.image_check.specs.Mountable.{IsMountable};
 ghost use Rattle.mapping_cache.specs.Mapping.{HasLimitsOf, known};
@@ -92,13 +93,9 @@ impl<N: Nand> Device<N> {
         ensures refused { OnErr result (out.new ≡ out.old) }
         ensures limits { HasLimitsOf self.old.engine.mapping self.new.engine.mapping }
         ensures read_only { self.new.read_only ≡ self.old.read_only }
-        ensures honest { N.honest self.new.engine.nand ≡ N.honest self.old.engine.nand }
-        ensures calm { N.calm self.new.engine.nand ≡ N.calm self.old.engine.nand }
+        ensures only_reads { OnlyReads N.flash N.honest N.calm N.programs N.erases N.failed self.old.engine.nand self.new.engine.nand }
         ensures reads { N.reads self.new.engine.nand ≤ N.reads self.old.engine.nand + 2 }
         ensures hit { IsSome (known self.old.engine.mapping sector) → N.reads self.new.engine.nand ≤ N.reads self.old.engine.nand + 1 }
-        ensures programs { N.programs self.new.engine.nand ≡ N.programs self.old.engine.nand }
-        ensures erases { N.erases self.new.engine.nand ≡ N.erases self.old.engine.nand }
-        ensures failed { N.failed self.old.engine.nand ≤ N.failed self.new.engine.nand }
         ensures rose { stop_of self.old.engine.fault ≡ None → result ≡ Err DeviceFault.BusFault →
             HasRisen (N.failed self.old.engine.nand) (N.failed self.new.engine.nand) }
 

@@ -22,7 +22,7 @@ ghost use Rattle.allocation.specs.Counts.{counts_of};
 ghost use Rattle.ftl_device.specs.Flush.{KeepsClean};
 ghost use Rattle.ftl_device.specs.Read.{IsLookedUp};
 ghost use Rattle.ftl_device.specs.Shortage.{HasFunds, PlaceCosts, RoomCosts};
-ghost use Rattle.ftl_device.specs.Changes.{Ends, Readies, HasLookedUp};
+ghost use Rattle.ftl_device.specs.Changes.{Leaves, Ends, Readies, HasLookedUp};
 
 use crate::fault::CallFault;
 use collection::{Engine, WriteFault};
@@ -33,20 +33,11 @@ pub(crate) fn make_room<N: Nand>(engine: &mut Engine<N>, flushing: bool) -> Resu
     requires safe { IsSafe N.flash engine.old }
     requires going { engine.old.fault ≡ None }
     requires idle { IsIdle (ram engine.old) }
-    ensures safe { IsSafe N.flash engine.new }
-    ensures fault { engine.new.fault ≡ fault_after None result }
-    ensures geometry { engine.new.geometry ≡ engine.old.geometry }
-    ensures honest { N.honest engine.new.nand ≡ N.honest engine.old.nand }
-    ensures calm { N.calm engine.new.nand ≡ N.calm engine.old.nand }
-    ensures failed { N.failed engine.old.nand ≤ N.failed engine.new.nand }
-    ensures rose { result ≡ Err WriteFault.Bus → HasRisen (N.failed engine.old.nand) (N.failed engine.new.nand) }
+    ensures leaves { Leaves N.flash N.honest N.calm N.failed engine.old result engine.new }
     ensures made { OnOk result (HasMadeRoom (ram engine.old) (ram engine.new)) }
     ensures erases { OnOk result (RestsOrErases (ram engine.old) (ram engine.new) (N.erases engine.old.nand) (N.erases engine.new.nand)) }
     ensures keys { KeepsKeys engine.old.mapping engine.new.mapping }
     ensures cleans { flushing ≡ true → OnOk result (KeepsClean engine.old.geometry engine.old.mapping engine.new.mapping) }
-    ensures tells { Tells (ram engine.old) (ram engine.new) result }
-    ensures went { N.honest engine.old.nand ≡ true → result ≢ Err WriteFault.Bus →
-        Went (ram engine.old) (N.flash engine.old.nand) (ram engine.new) (N.flash engine.new.nand) }
     ensures truth { N.honest engine.old.nand ≡ true → IsTrue None (ram engine.old) (image_in N.flash engine.old) →
         MatchResult result
         (λ _. IsRearranged (ram engine.old) (image_in N.flash engine.old) (ram engine.new) (image_in N.flash engine.new))
@@ -63,22 +54,13 @@ pub(crate) fn make_room<N: Nand>(engine: &mut Engine<N>, flushing: bool) -> Resu
 fn make_place<N: Nand>(engine: &mut Engine<N>, sector: u32) -> Result<(), WriteFault>
     requires safe { IsSafe N.flash engine.old }
     requires going { engine.old.fault ≡ None }
-    ensures safe { IsSafe N.flash engine.new }
-    ensures fault { engine.new.fault ≡ fault_after None result }
-    ensures geometry { engine.new.geometry ≡ engine.old.geometry }
-    ensures honest { N.honest engine.new.nand ≡ N.honest engine.old.nand }
-    ensures calm { N.calm engine.new.nand ≡ N.calm engine.old.nand }
-    ensures failed { N.failed engine.old.nand ≤ N.failed engine.new.nand }
-    ensures rose { result ≡ Err WriteFault.Bus → HasRisen (N.failed engine.old.nand) (N.failed engine.new.nand) }
+    ensures leaves { Leaves N.flash N.honest N.calm N.failed engine.old result engine.new }
     ensures place { OnOk result (CanLoad engine.new.mapping sector) }
     ensures keys { keys_of engine.new.mapping.cached ≡ keys_of engine.old.mapping.cached }
     ensures pin { (ram engine.new).pin ≡ (ram engine.old).pin }
     ensures no_more { HasNoMore engine.old.mapping engine.new.mapping }
     ensures cost { OnOk result (HasMadePlace sector (ram engine.old) (ram engine.new)) }
     ensures costs { PlaceCosts (ram engine.old) (ram engine.new) result }
-    ensures tells { Tells (ram engine.old) (ram engine.new) result }
-    ensures went { N.honest engine.old.nand ≡ true → result ≢ Err WriteFault.Bus →
-        Went (ram engine.old) (N.flash engine.old.nand) (ram engine.new) (N.flash engine.new.nand) }
     ensures truth { N.honest engine.old.nand ≡ true → IsTrue None (ram engine.old) (image_in N.flash engine.old) →
         MatchResult result
         (λ _. IsSame (ram engine.old) (image_in N.flash engine.old) (ram engine.new) (image_in N.flash engine.new))
@@ -133,13 +115,7 @@ fn prepare<N: Nand>(engine: &mut Engine<N>, sector: u32) -> Result<Option<u32>, 
     requires going { engine.old.fault ≡ None }
     requires idle { IsIdle (ram engine.old) }
     requires sector { sector < engine.old.geometry.sectors }
-    ensures safe { IsSafe N.flash engine.new }
-    ensures fault { engine.new.fault ≡ fault_after None result }
-    ensures geometry { engine.new.geometry ≡ engine.old.geometry }
-    ensures honest { N.honest engine.new.nand ≡ N.honest engine.old.nand }
-    ensures calm { N.calm engine.new.nand ≡ N.calm engine.old.nand }
-    ensures failed { N.failed engine.old.nand ≤ N.failed engine.new.nand }
-    ensures rose { result ≡ Err WriteFault.Bus → HasRisen (N.failed engine.old.nand) (N.failed engine.new.nand) }
+    ensures leaves { Leaves N.flash N.honest N.calm N.failed engine.old result engine.new }
     ensures place { OnOk result (CanLoad engine.new.mapping sector) }
     ensures row { IfOk result (λ row. ForSome row (λ r. r < row_count engine.old.geometry)) }
     ensures checked { IfOk result (FindsRow (ram engine.new) sector (page_in engine.new.scratch)) }
@@ -149,9 +125,6 @@ fn prepare<N: Nand>(engine: &mut Engine<N>, sector: u32) -> Result<Option<u32>, 
     ensures cost { OnOk result (IsReady sector (ram engine.old) (ram engine.new)) }
     ensures costs { RoomCosts (HasFunds (N.honest engine.old.nand) (ram engine.old) (image_in N.flash engine.old)) 1
         (ram engine.old) (ram engine.new) result }
-    ensures tells { Tells (ram engine.old) (ram engine.new) result }
-    ensures went { N.honest engine.old.nand ≡ true → result ≢ Err WriteFault.Bus →
-        Went (ram engine.old) (N.flash engine.old.nand) (ram engine.new) (N.flash engine.new.nand) }
     ensures truth { N.honest engine.old.nand ≡ true → IsTrue None (ram engine.old) (image_in N.flash engine.old) →
         MatchResult result
         (λ row. IsFound sector row engine.old.geometry (image_in N.flash engine.old) (ram engine.new) (image_in N.flash engine.new))

@@ -1,50 +1,35 @@
-use Rattle.std.proofs.Common.{◌≡◌, ◌∙◌, refl, subst, arith}
+use Rattle.std.proofs.Common.{◌≡◌, ◌∙◌, Ok, Err, refl, subst, arith}
 use Rattle.std.proofs.lemmas.Result.{err_from_is_err_and}
 use Rattle.page_layout.specs.Geometry.{table_pages}
+use Rattle.budget.specs.declared.stream.Stream.TheVariants.{Meta}
 use Rattle.collection.specs.Safe.{ram}
-use Rattle.collection.proofs.Logs.{went_same, went_then}
 use Rattle.collection.proofs.Memory.{table_then}
 use Rattle.ftl_device.specs.Flush.{AddsPages}
 use Rattle.ftl_device.proofs.FlushLoops.{page_fails, pages_none, pages_more, tables_none, tables_more}
+use Rattle.ftl_device.proofs.LeaveLemmas.{leaves_by, leaves_same, leaves_then, page_told}
 use Rattle.ftl_device.proofs.flush.write_tables_once.Goals as goal
-
-pub returns-in_err-write_table-clause-went : goal.returns-in_err-write_table-clause-went
-returns-in_err-write_table-clause-went g c =
-    let p = err_from_is_err_and c.from_residual.result c.from_residual.ensures.1 in
-    rw (p.1, p.2) (λ honest ne. went_then _ _ _ _ _ _ c.pages.invariant.geometry (c.pages.invariant.went honest) (c.in_err-write_table.ensures.went (c.pages.invariant.as_honest ∙ honest) ne))
 
 pub pages-init : goal.pages-init
 pages-init g c = record {
-  safe = c.requires.safe;
-  fault = c.requires.going;
-  geometry = refl;
-  as_honest = refl;
-  as_calm = refl;
-  faults = omega arith;
+  leaves = leaves_same g.N.PageSource.flash g.N.PageSource.honest g.N.PageSource.calm g.N.PageSource.failed c.args.engine.now c.requires.safe c.requires.going;
   mapping = refl;
   pin = refl;
   table = record { fewer = omega arith; same = λ as_many. refl };
   cost = pages_none (ram c.args.engine.now);
-  went = λ honest. went_same (ram c.args.engine.now) (g.N.PageSource.flash c.args.engine.now.nand);
   truth = λ honest w. tables_none (ram c.args.engine.now) _ w;
 }
 
 pub pages-preserved : goal.pages-preserved
 pages-preserved g c = record {
-  safe = c.write_table.ensures.safe;
-  fault = c.in_ok-write_table.ensures.fault ∙ c.pages.invariant.fault;
-  geometry = c.write_table.ensures.goes.geometry ∙ c.pages.invariant.geometry;
-  as_honest = c.write_table.ensures.honest ∙ c.pages.invariant.as_honest;
-  as_calm = c.write_table.ensures.calm ∙ c.pages.invariant.as_calm;
-  faults = omega (arith, c.pages.invariant.faults, c.write_table.ensures.failed);
+  leaves = leaves_then g.N.PageSource.flash g.N.PageSource.honest g.N.PageSource.calm g.N.PageSource.failed c.args.engine.now c.pages.engine c.write_table.new.self _ (Ok tt) c.pages.invariant.leaves
+      (leaves_by g.N.PageSource.flash g.N.PageSource.honest g.N.PageSource.calm g.N.PageSource.failed c.pages.engine c.write_table.new.self (Ok tt) c.pages.invariant.leaves.fault c.in_ok-write_table.ensures.stands c.write_table.ensures.goes.geometry (page_told Meta (Ok tt) (ram c.pages.engine) (ram c.write_table.new.self) (c.in_ok-write_table.ensures.cost c.pages.invariant.leaves.fault)));
   mapping = c.write_table.ensures.mapping ∙ c.pages.invariant.mapping;
   pin = c.write_table.ensures.pin ∙ c.pages.invariant.pin;
   table = table_then _ _ _ c.pages.invariant.table c.write_table.ensures.table;
-  cost = pages_more c.pages.u (ram c.args.engine.now) _ (ram c.write_table.new.self) c.pages.invariant.geometry c.pages.invariant.cost (c.in_ok-write_table.ensures.cost c.pages.invariant.fault);
-  went = λ honest. went_then _ _ _ _ _ _ c.pages.invariant.geometry (c.pages.invariant.went honest) (c.in_ok-write_table.ensures.went (c.pages.invariant.as_honest ∙ honest) (λ e. (let no : ⊥ = cc in no)));
+  cost = pages_more c.pages.u (ram c.args.engine.now) _ (ram c.write_table.new.self) c.pages.invariant.leaves.geometry c.pages.invariant.cost (c.in_ok-write_table.ensures.cost c.pages.invariant.leaves.fault);
   truth = λ honest w.
       let before = c.pages.invariant.truth honest w in
-      tables_more c.pages.u (ram c.args.engine.now) _ (ram c.write_table.new.self) _ _ _ c.pages.invariant.geometry c.pages.invariant.table c.write_table.ensures.table before (c.in_ok-write_table.ensures.truth (c.pages.invariant.as_honest ∙ honest) c.pages.invariant.fault before.keeps.truth);
+      tables_more c.pages.u (ram c.args.engine.now) _ (ram c.write_table.new.self) _ _ _ c.pages.invariant.leaves.geometry c.pages.invariant.table c.write_table.ensures.table before (c.in_ok-write_table.ensures.truth (c.pages.invariant.leaves.honest_is ∙ honest) c.pages.invariant.leaves.fault before.keeps.truth);
 }
 
 pub returns-clause-cost : goal.returns-clause-cost
@@ -55,4 +40,10 @@ returns-clause-cost g c =
 pub returns-in_err-write_table-clause-out : goal.returns-in_err-write_table-clause-out
 returns-in_err-write_table-clause-out g c =
     let p = err_from_is_err_and c.from_residual.result c.from_residual.ensures.1 in
-    rw (p.1, p.2) (λ is. page_fails c.pages.u (table_pages c.args.engine.now.geometry) (ram c.args.engine.now) (ram c.pages.engine) (ram c.write_table.new.self) _ c.pages.invariant.geometry (omega arith) c.pages.invariant.table c.pages.invariant.cost (c.in_err-write_table.ensures.cost c.pages.invariant.fault) is)
+    rw (p.1, p.2) (λ is. page_fails c.pages.u (table_pages c.args.engine.now.geometry) (ram c.args.engine.now) (ram c.pages.engine) (ram c.write_table.new.self) _ c.pages.invariant.leaves.geometry (omega arith) c.pages.invariant.table c.pages.invariant.cost (c.in_err-write_table.ensures.cost c.pages.invariant.leaves.fault) is)
+
+pub returns-in_err-write_table-clause-leaves : goal.returns-in_err-write_table-clause-leaves
+returns-in_err-write_table-clause-leaves g c =
+    let p = err_from_is_err_and c.from_residual.result c.from_residual.ensures.1 in
+    rw (p.1, p.2) (leaves_then g.N.PageSource.flash g.N.PageSource.honest g.N.PageSource.calm g.N.PageSource.failed c.args.engine.now c.pages.engine c.write_table.new.self _ (Err _) c.pages.invariant.leaves
+    (leaves_by g.N.PageSource.flash g.N.PageSource.honest g.N.PageSource.calm g.N.PageSource.failed c.pages.engine c.write_table.new.self (Err _) c.pages.invariant.leaves.fault c.in_err-write_table.ensures.stands c.write_table.ensures.goes.geometry (page_told Meta (Err _) (ram c.pages.engine) (ram c.write_table.new.self) (c.in_err-write_table.ensures.cost c.pages.invariant.leaves.fault))))

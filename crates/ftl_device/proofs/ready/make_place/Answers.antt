@@ -3,13 +3,14 @@ use Rattle.collection.specs.Safe.{ram}
 use Rattle.ftl_device.proofs.ReadyLemmas.{least_page, place_made}
 use Rattle.ftl_device.proofs.CostLemmas.{place_there, place_taken}
 use Rattle.ftl_device.proofs.SpentLemmas.{place_free, place_costs}
+use Rattle.ftl_device.proofs.LeaveLemmas.{leaves_by, leaves_same, back_told}
 use Rattle.ftl_device.proofs.ready.make_place.Goals as goal
 
 pub write_back-requires-clause-page : goal.write_back-requires-clause-page
 write_back-requires-clause-page g c = least_page (ram c.args.engine.now) c.in-Some.least c.entries.result _ c.requires.safe.memory (sym c.least_recent.ensures ∙ c.in-Some.is) c.entries.ensures
 
 pub returns-in-Some-clause-place : goal.returns-in-Some-clause-place
-returns-in-Some-clause-place g c = place_made c.write_back.result (ram c.args.engine.now) (ram c.write_back.new.self) c.args.sector c.in-Some.least c.entries.result _ c.requires.safe.memory c.write_back.ensures.safe.memory (sym c.least_recent.ensures ∙ c.in-Some.is) c.entries.ensures c.write_back.ensures.keys c.write_back.ensures.cleans
+returns-in-Some-clause-place g c = place_made c.write_back.result (ram c.args.engine.now) (ram c.write_back.new.self) c.args.sector c.in-Some.least c.entries.result _ c.requires.safe.memory c.write_back.ensures.stands.safe.memory (sym c.least_recent.ensures ∙ c.in-Some.is) c.entries.ensures c.write_back.ensures.keys c.write_back.ensures.cleans
 
 pub returns-then-can_load-clause-cost : goal.returns-then-can_load-clause-cost
 returns-then-can_load-clause-cost g c = place_there c.args.sector (ram c.args.engine.now) (c.can_load.ensures.0 c.if-can_load.true)
@@ -25,3 +26,12 @@ returns-in-Some-clause-costs g c = place_costs c.write_back.result (ram c.args.e
 
 pub returns-in-None-clause-costs : goal.returns-in-None-clause-costs
 returns-in-None-clause-costs g c = place_free (ram c.args.engine.now)
+
+pub returns-then-can_load-clause-leaves : goal.returns-then-can_load-clause-leaves
+returns-then-can_load-clause-leaves g c = leaves_same g.N.PageSource.flash g.N.PageSource.honest g.N.PageSource.calm g.N.PageSource.failed c.args.engine.now c.requires.safe c.requires.going
+
+pub returns-in-None-clause-leaves : goal.returns-in-None-clause-leaves
+returns-in-None-clause-leaves g c = leaves_same g.N.PageSource.flash g.N.PageSource.honest g.N.PageSource.calm g.N.PageSource.failed c.args.engine.now c.requires.safe c.requires.going
+
+pub returns-in-Some-clause-leaves : goal.returns-in-Some-clause-leaves
+returns-in-Some-clause-leaves g c = leaves_by g.N.PageSource.flash g.N.PageSource.honest g.N.PageSource.calm g.N.PageSource.failed c.args.engine.now c.write_back.new.self c.write_back.result c.requires.going c.write_back.ensures.stands c.write_back.ensures.goes.geometry (back_told c.write_back.result (ram c.args.engine.now) (ram c.write_back.new.self) (c.write_back.ensures.cost c.requires.going))

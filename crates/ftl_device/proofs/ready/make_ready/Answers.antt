@@ -16,8 +16,8 @@ use Rattle.ftl_device.proofs.ready.make_ready.Goals as goal
 pub returns-in_err-row-clause-ends : goal.returns-in_err-row-clause-ends
 returns-in_err-row-clause-ends g c =
     let p = err_from_is_err_and c.from_residual.result c.from_residual.ensures.1 in
-    rw (p.1, p.2) (ends_refused g.N.PageSource.flash g.N.PageSource.honest g.N.PageSource.calm g.N.PageSource.failed c.args.engine.now c.prepare.new.engine _ c.prepare.ensures.safe c.in_err-row.ensures.fault c.prepare.ensures.geometry c.prepare.ensures.honest c.prepare.ensures.calm c.prepare.ensures.failed
-    (λ is. c.in_err-row.ensures.rose (ap Err is)) c.prepare.ensures.limits c.in_err-row.ensures.tells (λ honest ne. c.in_err-row.ensures.went honest (λ e. ne (cc))))
+    rw (p.1, p.2) (ends_refused g.N.PageSource.flash g.N.PageSource.honest g.N.PageSource.calm g.N.PageSource.failed c.args.engine.now c.prepare.new.engine _ c.prepare.ensures.leaves.safe c.in_err-row.ensures.leaves.fault c.prepare.ensures.leaves.geometry c.prepare.ensures.leaves.honest_is c.prepare.ensures.leaves.calm_is c.prepare.ensures.leaves.failed_is
+    (λ is. c.in_err-row.ensures.leaves.rose (ap Err is)) c.prepare.ensures.limits c.in_err-row.ensures.leaves.tells (λ honest ne. c.in_err-row.ensures.leaves.went honest (λ e. ne (cc))))
 
 pub returns-in_err-row-clause-readies : goal.returns-in_err-row-clause-readies
 returns-in_err-row-clause-readies g c =
@@ -36,8 +36,8 @@ returns-in_err-row-clause-readies g c =
 pub returns-in_err-cache_sector-clause-ends : goal.returns-in_err-cache_sector-clause-ends
 returns-in_err-cache_sector-clause-ends g c =
     let p = err_from_is_err_and c.from_residual-in_err-cache_sector.result c.from_residual-in_err-cache_sector.ensures.1 in
-    rw (p.1, p.2) (ends_memory g.N.PageSource.flash g.N.PageSource.honest g.N.PageSource.calm g.N.PageSource.failed c.args.engine.now c.prepare.new.engine c.prepare.ensures.safe c.in_ok-row.ensures.fault c.prepare.ensures.geometry c.prepare.ensures.honest c.prepare.ensures.calm c.prepare.ensures.failed
-    c.prepare.ensures.limits c.in_ok-row.ensures.idle c.in_ok-row.ensures.tells (λ honest. c.in_ok-row.ensures.went honest (λ e. (let no : ⊥ = cc in no))) c.cache_sector.new.self c.in_err-cache_sector.ensures.refused)
+    rw (p.1, p.2) (ends_memory g.N.PageSource.flash g.N.PageSource.honest g.N.PageSource.calm g.N.PageSource.failed c.args.engine.now c.prepare.new.engine c.prepare.ensures.leaves.safe c.in_ok-row.ensures.leaves.fault c.prepare.ensures.leaves.geometry c.prepare.ensures.leaves.honest_is c.prepare.ensures.leaves.calm_is c.prepare.ensures.leaves.failed_is
+    c.prepare.ensures.limits c.in_ok-row.ensures.idle c.in_ok-row.ensures.leaves.tells (λ honest. c.in_ok-row.ensures.leaves.went honest (λ e. (let no : ⊥ = cc in no))) c.cache_sector.new.self c.in_err-cache_sector.ensures.refused)
 
 pub returns-in_err-cache_sector-clause-readies : goal.returns-in_err-cache_sector-clause-readies
 returns-in_err-cache_sector-clause-readies g c =
@@ -55,8 +55,8 @@ returns-in_err-cache_sector-clause-readies g c =
 
 pub returns-clause-ends : goal.returns-clause-ends
 returns-clause-ends g c =
-    ends_loaded g.N.PageSource.flash g.N.PageSource.honest g.N.PageSource.calm g.N.PageSource.failed c.args.engine.now c.prepare.new.engine c.prepare.ensures.safe c.in_ok-row.ensures.fault c.prepare.ensures.geometry c.prepare.ensures.honest c.prepare.ensures.calm c.prepare.ensures.failed
-    c.prepare.ensures.limits c.in_ok-row.ensures.idle c.in_ok-row.ensures.tells (λ honest. c.in_ok-row.ensures.went honest (λ e. (let no : ⊥ = cc in no))) c.cache_sector.new.self c.args.sector _ c.in_ok-cache_sector.ensures.loaded c.cache_sector.ensures.safe
+    ends_loaded g.N.PageSource.flash g.N.PageSource.honest g.N.PageSource.calm g.N.PageSource.failed c.args.engine.now c.prepare.new.engine c.prepare.ensures.leaves.safe c.in_ok-row.ensures.leaves.fault c.prepare.ensures.leaves.geometry c.prepare.ensures.leaves.honest_is c.prepare.ensures.leaves.calm_is c.prepare.ensures.leaves.failed_is
+    c.prepare.ensures.limits c.in_ok-row.ensures.idle c.in_ok-row.ensures.leaves.tells (λ honest. c.in_ok-row.ensures.leaves.went honest (λ e. (let no : ⊥ = cc in no))) c.cache_sector.new.self c.args.sector _ c.in_ok-cache_sector.ensures.loaded c.cache_sector.ensures.safe
 
 pub returns-clause-readies : goal.returns-clause-readies
 returns-clause-readies g c = record {

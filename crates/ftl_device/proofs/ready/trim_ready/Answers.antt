@@ -26,8 +26,8 @@ returns-in_err-make_ready-clause-readies g c =
 pub returns-in_err-trim_sector-clause-ends : goal.returns-in_err-trim_sector-clause-ends
 returns-in_err-trim_sector-clause-ends g c =
     let p = err_from_is_err_and c.from_residual-in_err-trim_sector.result c.from_residual-in_err-trim_sector.ensures.1 in
-    rw (p.1, p.2) (ends_page g.N.PageSource.flash g.N.PageSource.honest g.N.PageSource.calm g.N.PageSource.failed c.args.engine.now c.make_ready.new.engine c.trim_sector.new.self _ c.in_ok-make_ready.ensures.ends c.trim_sector.ensures.safe c.trim_sector.ensures.goes c.trim_sector.ensures.honest c.trim_sector.ensures.calm
-    c.trim_sector.ensures.failed c.trim_sector.ensures.pin c.trim_sector.ensures.no_more (Err _) c.in_err-trim_sector.ensures.fault c.in_err-trim_sector.ensures.rose c.in_err-trim_sector.ensures.cost c.in_err-trim_sector.ensures.went)
+    rw (p.1, p.2) (ends_page g.N.PageSource.flash g.N.PageSource.honest g.N.PageSource.calm g.N.PageSource.failed c.args.engine.now c.make_ready.new.engine c.trim_sector.new.self _ c.in_ok-make_ready.ensures.ends c.trim_sector.ensures.stands.safe c.trim_sector.ensures.goes c.trim_sector.ensures.stands.honest_is c.trim_sector.ensures.stands.calm_is
+    c.trim_sector.ensures.stands.failed_is c.trim_sector.ensures.pin c.trim_sector.ensures.no_more (Err _) c.in_err-trim_sector.ensures.stands.fault c.in_err-trim_sector.ensures.stands.rose c.in_err-trim_sector.ensures.cost c.in_err-trim_sector.ensures.stands.went)
 
 pub returns-in_err-trim_sector-clause-readies : goal.returns-in_err-trim_sector-clause-readies
 returns-in_err-trim_sector-clause-readies g c =
@@ -46,8 +46,8 @@ returns-in_err-trim_sector-clause-truth g c =
 
 pub returns-clause-ends : goal.returns-clause-ends
 returns-clause-ends g c =
-    ends_page g.N.PageSource.flash g.N.PageSource.honest g.N.PageSource.calm g.N.PageSource.failed c.args.engine.now c.make_ready.new.engine c.trim_sector.new.self _ c.in_ok-make_ready.ensures.ends c.trim_sector.ensures.safe c.trim_sector.ensures.goes c.trim_sector.ensures.honest c.trim_sector.ensures.calm
-    c.trim_sector.ensures.failed c.trim_sector.ensures.pin c.trim_sector.ensures.no_more (Ok _) c.in_ok-trim_sector.ensures.fault c.in_ok-trim_sector.ensures.rose c.in_ok-trim_sector.ensures.cost c.in_ok-trim_sector.ensures.went
+    ends_page g.N.PageSource.flash g.N.PageSource.honest g.N.PageSource.calm g.N.PageSource.failed c.args.engine.now c.make_ready.new.engine c.trim_sector.new.self _ c.in_ok-make_ready.ensures.ends c.trim_sector.ensures.stands.safe c.trim_sector.ensures.goes c.trim_sector.ensures.stands.honest_is c.trim_sector.ensures.stands.calm_is
+    c.trim_sector.ensures.stands.failed_is c.trim_sector.ensures.pin c.trim_sector.ensures.no_more (Ok _) c.in_ok-trim_sector.ensures.stands.fault c.in_ok-trim_sector.ensures.stands.rose c.in_ok-trim_sector.ensures.cost c.in_ok-trim_sector.ensures.stands.went
 
 pub returns-clause-readies : goal.returns-clause-readies
 returns-clause-readies g c = readies_page g.N.PageSource.flash g.N.PageSource.honest c.args.sector c.args.engine.now c.make_ready.new.engine c.trim_sector.new.self c.in_ok-make_ready.ensures.ends.geometry _ c.in_ok-make_ready.ensures.readies c.trim_sector.ensures.keys

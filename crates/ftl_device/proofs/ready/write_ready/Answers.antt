@@ -25,8 +25,8 @@ returns-in_err-make_ready-clause-readies g c =
 pub returns-in_err-write_sector-clause-ends : goal.returns-in_err-write_sector-clause-ends
 returns-in_err-write_sector-clause-ends g c =
     let p = err_from_is_err_and c.from_residual-in_err-write_sector.result c.from_residual-in_err-write_sector.ensures.1 in
-    rw (p.1, p.2) (ends_page g.N.PageSource.flash g.N.PageSource.honest g.N.PageSource.calm g.N.PageSource.failed c.args.engine.now c.make_ready.new.engine c.write_sector.new.self _ c.in_ok-make_ready.ensures.ends c.write_sector.ensures.safe c.write_sector.ensures.goes c.write_sector.ensures.honest c.write_sector.ensures.calm
-    c.write_sector.ensures.failed c.write_sector.ensures.pin c.write_sector.ensures.no_more (Err _) c.in_err-write_sector.ensures.fault c.in_err-write_sector.ensures.rose c.in_err-write_sector.ensures.cost c.in_err-write_sector.ensures.went)
+    rw (p.1, p.2) (ends_page g.N.PageSource.flash g.N.PageSource.honest g.N.PageSource.calm g.N.PageSource.failed c.args.engine.now c.make_ready.new.engine c.write_sector.new.self _ c.in_ok-make_ready.ensures.ends c.write_sector.ensures.stands.safe c.write_sector.ensures.goes c.write_sector.ensures.stands.honest_is c.write_sector.ensures.stands.calm_is
+    c.write_sector.ensures.stands.failed_is c.write_sector.ensures.pin c.write_sector.ensures.no_more (Err _) c.in_err-write_sector.ensures.stands.fault c.in_err-write_sector.ensures.stands.rose c.in_err-write_sector.ensures.cost c.in_err-write_sector.ensures.stands.went)
 
 pub returns-in_err-write_sector-clause-readies : goal.returns-in_err-write_sector-clause-readies
 returns-in_err-write_sector-clause-readies g c =
@@ -45,8 +45,8 @@ returns-in_err-write_sector-clause-truth g c =
 
 pub returns-clause-ends : goal.returns-clause-ends
 returns-clause-ends g c =
-    ends_page g.N.PageSource.flash g.N.PageSource.honest g.N.PageSource.calm g.N.PageSource.failed c.args.engine.now c.make_ready.new.engine c.write_sector.new.self _ c.in_ok-make_ready.ensures.ends c.write_sector.ensures.safe c.write_sector.ensures.goes c.write_sector.ensures.honest c.write_sector.ensures.calm
-    c.write_sector.ensures.failed c.write_sector.ensures.pin c.write_sector.ensures.no_more (Ok _) c.in_ok-write_sector.ensures.fault c.in_ok-write_sector.ensures.rose c.in_ok-write_sector.ensures.cost c.in_ok-write_sector.ensures.went
+    ends_page g.N.PageSource.flash g.N.PageSource.honest g.N.PageSource.calm g.N.PageSource.failed c.args.engine.now c.make_ready.new.engine c.write_sector.new.self _ c.in_ok-make_ready.ensures.ends c.write_sector.ensures.stands.safe c.write_sector.ensures.goes c.write_sector.ensures.stands.honest_is c.write_sector.ensures.stands.calm_is
+    c.write_sector.ensures.stands.failed_is c.write_sector.ensures.pin c.write_sector.ensures.no_more (Ok _) c.in_ok-write_sector.ensures.stands.fault c.in_ok-write_sector.ensures.stands.rose c.in_ok-write_sector.ensures.cost c.in_ok-write_sector.ensures.stands.went
 
 pub returns-clause-readies : goal.returns-clause-readies
 returns-clause-readies g c = readies_page g.N.PageSource.flash g.N.PageSource.honest c.args.sector c.args.engine.now c.make_ready.new.engine c.write_sector.new.self c.in_ok-make_ready.ensures.ends.geometry _ c.in_ok-make_ready.ensures.readies c.write_sector.ensures.keys

@@ -7,15 +7,15 @@ use Rattle.ftl_device.proofs.ReadLemmas.{read_step, read_done}
 use Rattle.ftl_device.proofs.device.Device.read.Goals as goal
 
 pub returns-in-Ok-clause-memory : goal.returns-in-Ok-clause-memory
-returns-in-Ok-clause-memory g c = read_done g.N.PageSource.flash c.args.self.now c.read_sector.new.self c.remember.new.self c.args.sector c.in-Ok.row c.read_sector.new.out c.in-Ok.ensures.memory c.remember.ensures.same c.in-Ok.ensures.looked_up c.in-Ok.ensures.checked c.remember.ensures.looks_up
+returns-in-Ok-clause-memory g c = read_done g.N.PageSource.flash c.args.self.now c.read_sector.new.self c.remember.new.self c.args.sector c.in-Ok.row c.read_sector.new.out c.in-Ok.ensures.looks.memory c.remember.ensures.same c.in-Ok.ensures.looked_up c.in-Ok.ensures.checked c.remember.ensures.looks_up
 
 pub returns-in-Ok-clause-step : goal.returns-in-Ok-clause-step
-returns-in-Ok-clause-step g c = λ honest well not_bus. read_step g.N.PageSource.flash c.args.self.now c.read_sector.new.self c.remember.new.self c.args.sector c.in-Ok.row c.read_sector.new.out (omega (arith, c.sectors.ensures)) c.in-Ok.ensures.memory (c.in-Ok.ensures.same honest (ok_not_bus c.in-Ok.row)) c.remember.ensures.same (c.in-Ok.ensures.truth honest well.truth)
+returns-in-Ok-clause-step g c = λ honest well not_bus. read_step g.N.PageSource.flash c.args.self.now c.read_sector.new.self c.remember.new.self c.args.sector c.in-Ok.row c.read_sector.new.out (omega (arith, c.sectors.ensures)) c.in-Ok.ensures.looks.memory (c.in-Ok.ensures.looks.same honest (ok_not_bus c.in-Ok.row)) c.remember.ensures.same (c.in-Ok.ensures.truth honest well.truth)
 
 pub returns-then-sector-sectors-clause-mountable : goal.returns-then-sector-sectors-clause-mountable
 returns-then-sector-sectors-clause-mountable g c = λ honest well not_bus most. restart_law (ram c.args.self.now.engine) _ c.requires.device.engine.memory well.truth most
 
 pub returns-in-Ok-clause-mountable : goal.returns-in-Ok-clause-mountable
 returns-in-Ok-clause-mountable g c = λ honest well not_bus most.
-    let kept = ap (λ d. g.N.PageSource.flash d.engine.nand) c.remember.ensures.same ∙ c.in-Ok.ensures.same honest (ok_not_bus c.in-Ok.row) in
+    let kept = ap (λ d. g.N.PageSource.flash d.engine.nand) c.remember.ensures.same ∙ c.in-Ok.ensures.looks.same honest (ok_not_bus c.in-Ok.row) in
     mountable_kept g.N.PageSource.flash c.args.self.now.engine c.remember.new.self.engine kept c.requires.device.engine.memory well.truth most

@@ -1,0 +1,168 @@
+-- Calls of the engine one after another, where no fault stood.
+use Rattle.std.proofs.Common.{◌≡◌, ◌≢◌, ◌≤◌, ◌∙◌, Bool, true, ℕ, length, None, Some, Result, Ok, Err, refl, ap, arith}
+use Rattle.bad_blocks.specs.Table.{good_count}
+use Rattle.page_layout.specs.Flash.{Flash}
+use Rattle.mapping_cache.specs.Mapping.{MappingState, HasLimitsOf}
+use Rattle.collection.specs.declared.engine.Engine.{Engine}
+use Rattle.collection.specs.declared.fault.WriteFault.{WriteFault}
+use Rattle.collection.specs.declared.fault.WriteFault.TheVariants.{ReadOnly, SequenceSpent, Damaged, Bus}
+use Rattle.collection.specs.State.{Ram}
+use Rattle.collection.specs.Safe.{IsSafe, IsIdle, ram}
+use Rattle.budget.specs.declared.stream.Stream.{Stream}
+use Rattle.collection.specs.Acts.{Stands}
+use Rattle.collection.specs.Cost.{PageCosts, WriteBackCosts}
+use Rattle.collection.specs.Results.{fault_after}
+use Rattle.collection.proofs.Costs.{risen_over}
+use Rattle.collection.proofs.Logs.{went_same, went_then}
+use Rattle.ftl_device.specs.declared.fault.CallFault.TheVariants as call
+use Rattle.ftl_device.specs.Calls.{Tells, CallTells, standing_after}
+use Rattle.ftl_device.specs.Changes.{Leaves, Ends}
+use Rattle.ftl_device.proofs.EndLemmas.{call_of}
+use Rattle.ftl_device.proofs.RoomLemmas.{idle_kept}
+
+pub tells_then : {B : Type 0} (a b c : Ram) (result : Result B WriteFault) → good_count b.blocks.table ≤ good_count a.blocks.table → Tells b c result → Tells a c result
+tells_then a b c (Ok answer) fewer h = omega (arith, fewer, h)
+tells_then a b c (Err ReadOnly) fewer h = (h.0, omega (arith, fewer, h.1))
+tells_then a b c (Err SequenceSpent) fewer h = h
+tells_then a b c (Err Damaged) fewer h = tt
+tells_then a b c (Err Bus) fewer h = tt
+
+fault_noted : {A : Type 0} (result : Result A WriteFault) (old new : Ram) → old.fault ≡ None → new.fault ≡ fault_after old.fault result → new.fault ≡ fault_after None result
+fault_noted (Ok answer) old new none is = is ∙ none
+fault_noted (Err fault) old new none is = is
+
+call_fault : (result : Result (Unit {0}) WriteFault) (r : Ram) → r.fault ≡ fault_after None result → r.fault ≡ standing_after (call_of result)
+call_fault (Ok done) r is = is
+call_fault (Err fault) r is = is
+
+call_bus : (result : Result (Unit {0}) WriteFault) → call_of result ≡ Err (call.Engine Bus) → result ≡ Err Bus
+call_bus (Ok done) e = (let no : ⊥ = cc in absurd no)
+call_bus (Err fault) e = (let same : fault ≡ Bus = cc in ap Err same)
+
+call_tells : (result : Result (Unit {0}) WriteFault) (a b : Ram) → Tells a b result → CallTells a b (call_of result)
+call_tells (Ok done) a b h = h
+call_tells (Err ReadOnly) a b h = h
+call_tells (Err SequenceSpent) a b h = h
+call_tells (Err Damaged) a b h = tt
+call_tells (Err Bus) a b h = tt
+
+refused_tells : {A B : Type 0} (fault : WriteFault) (a b : Ram) → Tells {A = A} a b (Err fault) → Tells {A = B} a b (Err fault)
+refused_tells ReadOnly a b h = h
+refused_tells SequenceSpent a b h = h
+refused_tells Damaged a b h = tt
+refused_tells Bus a b h = tt
+
+module _ {N : Type 0} (flash : N → Flash) (honest calm : N → Bool) (failed : N → ℕ) where
+  -- a call that the engine's standing fault would have stopped
+  pub leaves_by : {A : Type 0} (old new : Engine N) (result : Result A WriteFault) → old.fault ≡ None → Stands flash honest calm failed old new result → new.geometry ≡ old.geometry → Tells (ram old) (ram new) result → Leaves flash honest calm failed old result new
+  leaves_by old new result none s same tells = record {
+    safe = s.safe;
+    fault = fault_noted result (ram old) (ram new) none s.fault;
+    geometry = same;
+    honest_is = s.honest_is;
+    calm_is = s.calm_is;
+    failed_is = s.failed_is;
+    rose = s.rose none;
+    tells = tells;
+    went = s.went;
+  }
+
+  -- nothing was asked
+  pub leaves_same : (e : Engine N) → IsSafe flash e → e.fault ≡ None → Leaves flash honest calm failed e (Ok tt) e
+  leaves_same e safe none = record {
+    safe = safe;
+    fault = none;
+    geometry = refl;
+    honest_is = refl;
+    calm_is = refl;
+    failed_is = omega arith;
+    rose = λ bus. (let no : ⊥ = cc in absurd no);
+    tells = omega arith;
+    went = λ is_honest ne. went_same (ram e) (flash e.nand);
+  }
+
+  -- one after another, the first done
+  pub leaves_then : {A B : Type 0} (old mid new : Engine N) (done : A) (result : Result B WriteFault) → Leaves flash honest calm failed old (Ok done) mid → Leaves flash honest calm failed mid result new → Leaves flash honest calm failed old result new
+  leaves_then old mid new done result first next = record {
+    safe = next.safe;
+    fault = next.fault;
+    geometry = next.geometry ∙ first.geometry;
+    honest_is = next.honest_is ∙ first.honest_is;
+    calm_is = next.calm_is ∙ first.calm_is;
+    failed_is = omega (arith, first.failed_is, next.failed_is);
+    rose = λ bus. risen_over (failed old.nand) (failed mid.nand) (failed new.nand) first.failed_is (next.rose bus);
+    tells = tells_then (ram old) (ram mid) (ram new) result first.tells next.tells;
+    went = λ is_honest ne. went_then (ram old) (ram mid) (ram new) _ _ _ first.geometry (first.went is_honest (λ bus. (let no : ⊥ = cc in no))) (next.went (first.honest_is ∙ is_honest) ne);
+  }
+
+  -- a refusal, whatever the call would have given
+  pub leaves_refused : {A B : Type 0} (old new : Engine N) (fault : WriteFault) → Leaves {A = A} flash honest calm failed old (Err fault) new → Leaves {A = B} flash honest calm failed old (Err fault) new
+  leaves_refused old new fault l = record {
+    safe = l.safe;
+    fault = l.fault;
+    geometry = l.geometry;
+    honest_is = l.honest_is;
+    calm_is = l.calm_is;
+    failed_is = l.failed_is;
+    rose = λ bus. l.rose (let same : fault ≡ Bus = cc in ap Err same);
+    tells = refused_tells fault (ram old) (ram new) l.tells;
+    went = λ is_honest ne. l.went is_honest (λ bus. ne (let same : fault ≡ Bus = cc in ap Err same));
+  }
+
+  -- and as the end of the part of a device's call that asks the die
+  pub leaves_ends : (old new : Engine N) (result : Result (Unit {0}) WriteFault) → Leaves flash honest calm failed old result new → HasLimitsOf old.mapping new.mapping → (new.fault ≡ None → IsIdle (ram new)) → Ends flash honest calm failed old (call_of result) new
+  leaves_ends old new result l limits idle = record {
+    safe = l.safe;
+    fault = call_fault result (ram new) l.fault;
+    geometry = l.geometry;
+    honest_is = l.honest_is;
+    calm_is = l.calm_is;
+    failed_is = l.failed_is;
+    rose = λ bus. l.rose (call_bus result bus);
+    limits = limits;
+    idle = idle;
+    tells = call_tells result (ram old) (ram new) l.tells;
+    went = λ is_honest ne. l.went is_honest (λ bus. ne (ap call_of bus));
+  }
+
+  -- where it was refused the fault stands, and nothing more is said of what waits in memory
+  pub leaves_stuck : {A : Type 0} (old new : Engine N) (fault : WriteFault) → Leaves {A = A} flash honest calm failed old (Err fault) new → HasLimitsOf old.mapping new.mapping → Ends flash honest calm failed old (Err (call.Engine fault)) new
+  leaves_stuck old new fault l limits = leaves_ends old new (Err fault) (leaves_refused old new fault l) limits (λ none. (let stands : new.fault ≡ Some fault = l.fault in let no : ⊥ = cc in absurd no))
+
+  -- what was done gives what it likes
+  pub leaves_done : {A B : Type 0} (old new : Engine N) (a : A) (b : B) → Leaves flash honest calm failed old (Ok a) new → Leaves flash honest calm failed old (Ok b) new
+  leaves_done old new a b l = record {
+    safe = l.safe;
+    fault = l.fault;
+    geometry = l.geometry;
+    honest_is = l.honest_is;
+    calm_is = l.calm_is;
+    failed_is = l.failed_is;
+    rose = λ bus. (let no : ⊥ = cc in absurd no);
+    tells = l.tells;
+    went = λ is_honest ne. l.went is_honest (λ bus. (let no : ⊥ = cc in no));
+  }
+
+-- ---- what stays of the memory
+
+pub limits_same : (a b : MappingState) → b ≡ a → HasLimitsOf a b
+limits_same a b is = record { geometry = ap (λ (m : MappingState). m.geometry) is; capacity = ap (λ (m : MappingState). m.capacity) is }
+
+pub idle_still : (a b : Ram) → b.geometry ≡ a.geometry → b.mapping ≡ a.mapping → b.pin ≡ a.pin → IsIdle a → IsIdle b
+idle_still a b same mapping pin idle = idle_kept a b same (record { moved = omega (arith, ap (λ (m : MappingState). length m.moved) mapping); limits = limits_same a.mapping b.mapping mapping }) pin idle
+
+-- ---- what the engine's answers cost, as what the memory tells
+
+pub page_told : (stream : Stream) (result : Result (Unit {0}) WriteFault) (a b : Ram) → PageCosts stream a b result → Tells a b result
+page_told stream (Ok done) a b h = omega (arith, h.put.good)
+page_told stream (Err ReadOnly) a b h = (omega (arith, h.none.none_free), omega (arith, h.found.good))
+page_told stream (Err SequenceSpent) a b h = h.last
+page_told stream (Err Damaged) a b h = tt
+page_told stream (Err Bus) a b h = tt
+
+pub back_told : (result : Result (Unit {0}) WriteFault) (a b : Ram) → WriteBackCosts a b result → Tells a b result
+back_told (Ok done) a b h = omega (arith, h.put.good)
+back_told (Err ReadOnly) a b h = (omega (arith, h.none.none_free), omega (arith, h.found.good))
+back_told (Err SequenceSpent) a b h = h.last
+back_told (Err Damaged) a b h = tt
+back_told (Err Bus) a b h = tt
