@@ -20,6 +20,7 @@ ghost use Rattle.collection.specs.Whole.{erases_after};
 ghost use Rattle.collection.specs.Collect.{is_due, has_moved, is_marked, due_count, marks_after, IsLowestDue, HasNoneDue, Refreshes, KeepsKeys};
 ghost use Rattle.collection.specs.Collect.{GoesBut, HasCopied, HasWritten, HasErased, IsReleased, FaultCosts, HasMovedOnly, StepCosts, IsMovedOut};
 ghost use Rattle.collection.specs.Collect.{IsCopied, IsCopiedOr, IsEmptied, IsStepped};
+ghost use Rattle.collection.specs.Acts.{Acts};
 
 use super::Engine;
 use crate::fault::WriteFault;
@@ -87,22 +88,15 @@ impl<N: Nand> Engine<N> {
         requires key { IsKeyOf self.old.geometry (key_of found.now) }
         requires row { row < row_count self.old.geometry }
         requires room { length self.old.mapping.moved < self.old.geometry.pages }
-        ensures safe { IsSafe N.flash self.new }
+        ensures acts { Acts N.flash N.honest N.calm N.failed self.old self.new result }
         ensures goes { Goes (ram self.old) (ram self.new) }
-        ensures fault { self.new.fault ≡ self.old.fault }
-        ensures honest { N.honest self.new.nand ≡ N.honest self.old.nand }
-        ensures calm { N.calm self.new.nand ≡ N.calm self.old.nand }
         ensures erases { N.erases self.new.nand ≡ N.erases self.old.nand }
-        ensures failed { N.failed self.old.nand ≤ N.failed self.new.nand }
-        ensures rose { result ≡ Err WriteFault.Bus → HasRisen (N.failed self.old.nand) (N.failed self.new.nand) }
         ensures keys { KeepsKeys self.old.mapping self.new.mapping }
         ensures refreshes { flushing ≡ true → Refreshes (ram self.old) (ram self.new) }
         ensures cost { MatchResult result (λ _. HasCopied flushing (ram self.old) (ram self.new)) (FaultCosts (ram self.old) (ram self.new)) }
         ensures pinned { flushing ≡ false → (ram self.new).pin ≡ (ram self.old).pin }
         ensures alone { self.old.mapping.moved ≡ [] → OnOk result (HasMovedOnly self.new.mapping (key_of found.now)) }
         ensures programmed { OnOk result (IsLastPage found.now.kind found.now.number (ram self.new) (page_in self.new.page)) }
-        ensures went { N.honest self.old.nand ≡ true → result ≢ Err WriteFault.Bus →
-            Went (ram self.old) (N.flash self.old.nand) (ram self.new) (N.flash self.new.nand) }
         ensures truth { N.honest self.old.nand ≡ true → truth.IsTrue None (ram self.old) (image_in N.flash self.old) →
             is_shut (ram self.old).blocks (row / self.old.geometry.pages) ≡ true →
             IsLivePage row self.old.page.body.items found.now (image_in N.flash self.old) →
@@ -127,13 +121,8 @@ impl<N: Nand> Engine<N> {
         requires block { block < self.old.geometry.blocks }
         requires closed { is_closed (ram self.old).blocks block ≡ true }
         requires room { length self.old.mapping.moved ≤ first }
-        ensures safe { IsSafe N.flash self.new }
+        ensures acts { Acts N.flash N.honest N.calm N.failed self.old self.new result }
         ensures goes { Goes (ram self.old) (ram self.new) }
-        ensures fault { self.new.fault ≡ self.old.fault }
-        ensures honest { N.honest self.new.nand ≡ N.honest self.old.nand }
-        ensures calm { N.calm self.new.nand ≡ N.calm self.old.nand }
-        ensures failed { N.failed self.old.nand ≤ N.failed self.new.nand }
-        ensures rose { result ≡ Err WriteFault.Bus → HasRisen (N.failed self.old.nand) (N.failed self.new.nand) }
         ensures erases { N.erases self.new.nand ≡ N.erases self.old.nand }
         ensures keys { KeepsKeys self.old.mapping self.new.mapping }
         ensures refreshes { flushing ≡ true → Refreshes (ram self.old) (ram self.new) }
@@ -141,8 +130,6 @@ impl<N: Nand> Engine<N> {
         ensures within { IfOk result (λ copied. ForSome copied (λ page. (first ≤ page) × (page < self.old.geometry.pages))) }
         ensures owed { result ≡ Err WriteFault.ReadOnly → 0 < live_at (ram self.old).blocks block }
         ensures cost { MatchResult result (λ copied. ForSome copied (λ _. HasCopied flushing (ram self.old) (ram self.new))) (FaultCosts (ram self.old) (ram self.new)) }
-        ensures went { N.honest self.old.nand ≡ true → result ≢ Err WriteFault.Bus →
-            Went (ram self.old) (N.flash self.old.nand) (ram self.new) (N.flash self.new.nand) }
         ensures truth { N.honest self.old.nand ≡ true → truth.IsTrue None (ram self.old) (image_in N.flash self.old) →
             HoldsNoneIn self.old.geometry.pages block 0 first (image_in N.flash self.old) →
             MatchResult result
@@ -177,21 +164,14 @@ impl<N: Nand> Engine<N> {
     // Writes it. Answers whether there was one.
     fn write_back_lowest(&mut self, flushing: bool) -> Result<bool, WriteFault>
         requires safe { IsSafe N.flash self.old }
-        ensures safe { IsSafe N.flash self.new }
+        ensures acts { Acts N.flash N.honest N.calm N.failed self.old self.new result }
         ensures goes { Goes (ram self.old) (ram self.new) }
-        ensures fault { self.new.fault ≡ self.old.fault }
-        ensures honest { N.honest self.new.nand ≡ N.honest self.old.nand }
-        ensures calm { N.calm self.new.nand ≡ N.calm self.old.nand }
-        ensures failed { N.failed self.old.nand ≤ N.failed self.new.nand }
-        ensures rose { result ≡ Err WriteFault.Bus → HasRisen (N.failed self.old.nand) (N.failed self.new.nand) }
         ensures erases { N.erases self.new.nand ≡ N.erases self.old.nand }
         ensures keys { KeepsKeys self.old.mapping self.new.mapping }
         ensures refreshes { flushing ≡ true → Refreshes (ram self.old) (ram self.new) }
         ensures none { result ≡ Ok false → HasNoneDue flushing (ram self.old) × (self.new ≡ self.old) }
         ensures owed { result ≡ Err WriteFault.ReadOnly → 0 < due_count flushing (ram self.old) }
         ensures cost { MatchResult result (λ written. written ≡ true → HasWritten flushing (ram self.old) (ram self.new)) (FaultCosts (ram self.old) (ram self.new)) }
-        ensures went { N.honest self.old.nand ≡ true → result ≢ Err WriteFault.Bus →
-            Went (ram self.old) (N.flash self.old.nand) (ram self.new) (N.flash self.new.nand) }
         ensures truth { N.honest self.old.nand ≡ true → truth.IsTrue None (ram self.old) (image_in N.flash self.old) →
             MatchResult result
             (λ _. IsSame (ram self.old) (image_in N.flash self.old) (ram self.new) (image_in N.flash self.new))
@@ -259,14 +239,9 @@ impl<N: Nand> Engine<N> {
         requires block { block < self.old.geometry.blocks }
         requires closed { is_closed (ram self.old).blocks block ≡ true }
         requires room { length self.old.mapping.moved ≤ first }
-        ensures safe { IsSafe N.flash self.new }
+        ensures acts { Acts N.flash N.honest N.calm N.failed self.old self.new result }
         ensures goes { GoesBut block (ram self.old) (ram self.new) }
         ensures goes_still { result ≢ Ok Step.Erased → Goes (ram self.old) (ram self.new) }
-        ensures fault { self.new.fault ≡ self.old.fault }
-        ensures honest { N.honest self.new.nand ≡ N.honest self.old.nand }
-        ensures calm { N.calm self.new.nand ≡ N.calm self.old.nand }
-        ensures failed { N.failed self.old.nand ≤ N.failed self.new.nand }
-        ensures rose { result ≡ Err WriteFault.Bus → HasRisen (N.failed self.old.nand) (N.failed self.new.nand) }
         ensures keys { KeepsKeys self.old.mapping self.new.mapping }
         ensures refreshes { flushing ≡ true → Refreshes (ram self.old) (ram self.new) }
         ensures idle { result ≡ Ok Step.Erased → IsIdle (ram self.new) }
@@ -274,8 +249,6 @@ impl<N: Nand> Engine<N> {
         ensures erases { IfOk result (λ step. N.erases self.new.nand ≡ erases_after step (N.erases self.old.nand)) }
         ensures owed { result ≡ Err WriteFault.ReadOnly → (0 < live_at (ram self.old).blocks block) ⊎ (0 < due_count flushing (ram self.old)) }
         ensures cost { StepCosts flushing block first (ram self.old) (ram self.new) result }
-        ensures went { N.honest self.old.nand ≡ true → result ≢ Err WriteFault.Bus →
-            Went (ram self.old) (N.flash self.old.nand) (ram self.new) (N.flash self.new.nand) }
         ensures truth { N.honest self.old.nand ≡ true → truth.IsTrue None (ram self.old) (image_in N.flash self.old) →
             HoldsNoneIn self.old.geometry.pages block 0 first (image_in N.flash self.old) →
             MatchResult result
