@@ -1,13 +1,13 @@
 -- What the engine's calls say alike, whatever the die does: those that only look, those that change the die, and those that a standing fault
 -- stops.
-use Rattle.std.specs.Prelude.{◌≡◌, ◌≢◌, ◌×◌, ℕ, ◌≤◌, Bool, true, Option, Some, None, Result, Ok, Err, IfErr}
+use Rattle.std.specs.Prelude.{◌≡◌, ◌≢◌, ℕ, ◌≤◌, Bool, true, None, Result, Err, IfErr}
 use Rattle.std.specs.Option.{ForSome}
 use Rattle.page_layout.specs.Flash.{Flash}
 use Rattle.page_layout.specs.Counter.{HasRisen}
 use Rattle.page_layout.specs.OnlyReads.{OnlyReads}
 use Rattle.collection.specs.declared.engine.Engine.{Engine}
 use Rattle.collection.specs.declared.fault.WriteFault.{WriteFault}
-use Rattle.collection.specs.declared.fault.WriteFault.TheVariants.{ReadOnly, SequenceSpent, Damaged, Bus}
+use Rattle.collection.specs.declared.fault.WriteFault.TheVariants.{Bus}
 use Rattle.collection.specs.Safe.{IsSafe, ram}
 use Rattle.collection.specs.Looks.{IsReadFault}
 use Rattle.collection.specs.Log.{Went}

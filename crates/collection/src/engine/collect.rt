@@ -1,13 +1,11 @@
 //! A block is collected: what counts is copied out of it, and it is erased.
-ghost use Rattle.std.specs.Prelude.{◌≡◌, ◌≢◌, ◌<◌, ◌≤◌, true, [], length, None, Ok, Err, OnOk, MatchResult};
-ghost use Rattle.std.specs.Option.{ForSome};
-ghost use Rattle.page_layout.specs.Counter.{HasRisen, counted};
+ghost use Rattle.std.specs.Prelude.{◌≡◌, ◌≢◌, ◌<◌, ◌≤◌, true, None, Ok, Err, OnOk, MatchResult};
+ghost use Rattle.page_layout.specs.Counter.{counted};
 ghost use Rattle.page_layout.specs.Geometry.{vmax};
 ghost use Rattle.allocation.specs.State.{is_closed, live_at};
 ghost use Rattle.collection.specs.Safe.{IsSafe, IsIdle, ram, image_in};
 ghost use Rattle.collection.specs.Truth as truth;
-ghost use Rattle.collection.specs.Log.{Went};
-ghost use Rattle.collection.specs.Results.{Refused, fault_after};
+ghost use Rattle.collection.specs.Results.{Refused};
 ghost use Rattle.collection.specs.Collect.{KeepsKeys, Refreshes, GoesBut, IsReleased, IsEmptied, CollectCosts, CollectCounts, IsThrifty};
 ghost use Rattle.collection.specs.Whole.{next_of, step_within, work_left};
 ghost use Rattle.collection.specs.Acts.{Acts, Stands};

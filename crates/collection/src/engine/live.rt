@@ -1,15 +1,12 @@
 //! Pages that are the newest of their keys.
-ghost use Rattle.std.specs.Prelude.{◌≡◌, ◌≢◌, ◌↔◌, ◌+◌, ◌*◌, ◌/◌, ◌<◌, ◌≤◌, true, length, IsTrue, Some, None, Err, IfOk, IfErr, OnOk, MatchResult};
+ghost use Rattle.std.specs.Prelude.{◌≡◌, ◌↔◌, ◌+◌, ◌*◌, ◌<◌, ◌≤◌, true, IsTrue, Some, None, Err, IfOk, IfErr, MatchResult};
 ghost use Rattle.std.specs.Option.{ForSome};
-ghost use Rattle.page_layout.specs.Counter.{HasRisen};
-ghost use Rattle.page_layout.specs.Key.{key_from, key_of};
 ghost use Rattle.page_layout.specs.Geometry.{row_count};
 ghost use Rattle.page_layout.specs.Live.{IsKeyOf};
 ghost use Rattle.page_layout.specs.Sound.{record_of};
 ghost use Rattle.collection.specs.Pages.{newest_row};
 ghost use Rattle.collection.specs.Safe.{IsSafe, ram, image_in, page_in};
 ghost use Rattle.collection.specs.Truth as truth;
-ghost use Rattle.collection.specs.Looks.{IsReadFault};
 ghost use Rattle.collection.specs.Live.{PointsTo, IsTaken, LooksAt, FindsFirst, IsFoundIn};
 ghost use Rattle.collection.specs.Acts.{OnlyLooks};
 

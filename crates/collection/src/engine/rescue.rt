@@ -1,18 +1,15 @@
 //! Pages are copied out of bad blocks.
-ghost use Rattle.std.specs.Prelude.{◌≡◌, ◌≢◌, ◌+◌, ◌*◌, ◌<◌, ◌≤◌, true, false, [], length, None, Ok, Err, IfOk, IfErr, OnOk, MatchResult, MatchOption};
+ghost use Rattle.std.specs.Prelude.{◌≡◌, ◌<◌, true, false, [], None, Ok, IfOk, OnOk, MatchResult};
 ghost use Rattle.std.specs.Bool.{OnTrue, OnFalse};
 ghost use Rattle.std.specs.Option.{ForSome};
-ghost use Rattle.page_layout.specs.Counter.{HasRisen};
 ghost use Rattle.page_layout.specs.Geometry.{row_count};
 ghost use Rattle.page_layout.specs.Live.{IsKeyOf};
 ghost use Rattle.bad_blocks.specs.Table.{is_good_at};
 ghost use Rattle.allocation.specs.State.{live_at};
 ghost use Rattle.collection.specs.Safe.{IsSafe, IsIdle, ram, image_in, page_in};
 ghost use Rattle.collection.specs.Truth as truth;
-ghost use Rattle.collection.specs.Log.{Went};
-ghost use Rattle.collection.specs.Looks.{IsReadFault};
 ghost use Rattle.collection.specs.Live.{IsFoundIn};
-ghost use Rattle.collection.specs.Results.{IsSame, Refused, Goes, fault_after};
+ghost use Rattle.collection.specs.Results.{IsSame, Refused, Goes};
 ghost use Rattle.collection.specs.Collect.{KeepsKeys, IsAiling, HasAiling, HasNoneAiling, FollowCosts, HasMovedOnly, RescueCosts, IsRescued, FindsAiling};
 ghost use Rattle.collection.specs.Acts.{OnlyLooks, Acts, Stands};
 

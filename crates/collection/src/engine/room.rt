@@ -1,14 +1,10 @@
 //! Free blocks are what a call needs before it programs.
-ghost use Rattle.std.specs.Prelude.{◌≡◌, ◌≢◌, ℕ, ◌<◌, ◌≤◌, true, Err, None, OnOk, IfErr, MatchResult, MatchOption};
-ghost use Rattle.std.specs.Option.{ForSome};
-ghost use Rattle.page_layout.specs.Counter.{HasRisen};
+ghost use Rattle.std.specs.Prelude.{◌≡◌, ℕ, ◌<◌, ◌≤◌, true, Err, None, OnOk, IfErr, MatchResult, MatchOption};
 ghost use Rattle.budget.specs.Spending.{IsFunded};
 ghost use Rattle.allocation.specs.State.{free_count};
 ghost use Rattle.allocation.specs.Counts.{counts_of};
 ghost use Rattle.collection.specs.Safe.{IsSafe, IsIdle, ram, image_in};
 ghost use Rattle.collection.specs.Truth as truth;
-ghost use Rattle.collection.specs.Log.{Went};
-ghost use Rattle.collection.specs.Results.{fault_after};
 ghost use Rattle.collection.specs.Collect.{KeepsKeys, Refreshes, GoesOn, HasRoom, RestsOrErases, RoomTells, IsRearranged, RoomRefused, RoomCounts};
 ghost use Rattle.collection.specs.Room.{IsMade, IsWorth};
 ghost use Rattle.collection.specs.Acts.{Acts, Stands};

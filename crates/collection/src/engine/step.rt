@@ -1,25 +1,21 @@
 //! A block is collected step by step.
-ghost use Rattle.std.specs.Prelude.{◌≡◌, ◌≢◌, ◌⊎◌, ◌+◌, ◌*◌, ◌/◌, ◌<◌, ◌≤◌, ◌↔◌, true, false, [], length, replicate, slice_set, get_or, Some, None};
-ghost use Rattle.std.specs.Prelude.{Ok, Err, IfOk, IfErr, IfSome, IsTrue, OnOk, OnErr, MatchResult, MatchOption};
+ghost use Rattle.std.specs.Prelude.{◌≡◌, ◌≢◌, ◌⊎◌, ◌/◌, ◌<◌, ◌≤◌, true, false, [], length, replicate, slice_set, Some, None};
+ghost use Rattle.std.specs.Prelude.{Ok, Err, IfOk, IfErr, IsTrue, OnOk, OnErr, MatchResult, MatchOption};
 ghost use Rattle.std.specs.Option.{ForSome};
-ghost use Rattle.std.specs.Bool.{OnTrue, OnFalse};
-ghost use Rattle.page_layout.specs.Counter.{HasRisen, counted};
+ghost use Rattle.page_layout.specs.Counter.{counted};
 ghost use Rattle.page_layout.specs.Change.{HoldsNone};
 ghost use Rattle.page_layout.specs.Key.{key_of};
 ghost use Rattle.page_layout.specs.Live.{IsKeyOf};
 ghost use Rattle.page_layout.specs.Geometry.{row_count, translation_pages};
-ghost use Rattle.budget.specs.declared.stream.Stream.TheVariants.{Meta};
-ghost use Rattle.mapping_cache.specs.Mapping.{CanMove};
 ghost use Rattle.allocation.specs.State.{is_closed, live_at};
 ghost use Rattle.collection.specs.Safe.{IsSafe, IsIdle, ram, image_in, page_in, is_shut};
 ghost use Rattle.collection.specs.Truth as truth;
-ghost use Rattle.collection.specs.Log.{Went};
 ghost use Rattle.collection.specs.Live.{HoldsNoneIn, IsLivePage};
 ghost use Rattle.collection.specs.Results.{IsSame, IsKept, Refused, Goes, IsLastPage};
 ghost use Rattle.collection.specs.Whole.{erases_after};
-ghost use Rattle.collection.specs.Collect.{is_due, has_moved, is_marked, due_count, marks_after, IsLowestDue, HasNoneDue, Refreshes, KeepsKeys};
+ghost use Rattle.collection.specs.Collect.{has_moved, due_count, marks_after, IsLowestDue, HasNoneDue, Refreshes, KeepsKeys};
 ghost use Rattle.collection.specs.Collect.{GoesBut, HasCopied, HasWritten, HasErased, IsReleased, FaultCosts, HasMovedOnly, StepCosts, IsMovedOut};
-ghost use Rattle.collection.specs.Collect.{IsCopied, IsCopiedOr, IsEmptied, IsStepped};
+ghost use Rattle.collection.specs.Collect.{IsCopiedOr, IsStepped};
 ghost use Rattle.collection.specs.Acts.{Acts};
 
 use super::Engine;
@@ -191,22 +187,16 @@ impl<N: Nand> Engine<N> {
         requires safe { IsSafe N.flash self.old }
         requires block { block < self.old.geometry.blocks }
         requires closed { is_closed (ram self.old).blocks block ≡ true }
-        ensures safe { IsSafe N.flash self.new }
+        ensures acts { Acts N.flash N.honest N.calm N.failed self.old self.new result }
         ensures goes { GoesBut block (ram self.old) (ram self.new) }
         ensures erased { OnOk result (HasErased block (ram self.old) (ram self.new)) }
         ensures unmarked { OnOk result ((ram self.new).pin.marks ≡ replicate (translation_pages self.old.geometry) false) }
         ensures released { OnOk result (IsReleased block (ram self.old).blocks (ram self.new).blocks) }
         ensures refused { OnErr result (ram self.new ≡ ram self.old) }
         ensures bus { IfErr result (λ fault. fault ≡ WriteFault.Bus) }
-        ensures honest { N.honest self.new.nand ≡ N.honest self.old.nand }
-        ensures calm { N.calm self.new.nand ≡ N.calm self.old.nand }
-        ensures failed { N.failed self.old.nand ≤ N.failed self.new.nand }
-        ensures rose { result ≡ Err WriteFault.Bus → HasRisen (N.failed self.old.nand) (N.failed self.new.nand) }
         ensures reads { N.reads self.new.nand ≡ N.reads self.old.nand }
         ensures programs { N.programs self.new.nand ≡ N.programs self.old.nand }
         ensures erases { N.erases self.new.nand ≡ counted (N.erases self.old.nand) }
-        ensures went { N.honest self.old.nand ≡ true → result ≢ Err WriteFault.Bus →
-            Went (ram self.old) (N.flash self.old.nand) (ram self.new) (N.flash self.new.nand) }
         ensures truth { N.honest self.old.nand ≡ true → truth.IsTrue None (ram self.old) (image_in N.flash self.old) →
             HoldsNone self.old.geometry.pages block (image_in N.flash self.old) →
             OnOk result (IsKept (ram self.old) (image_in N.flash self.old) (ram self.new) (image_in N.flash self.new)) }

@@ -1,5 +1,5 @@
 //! Single operations of the die.
-ghost use Rattle.std.specs.Prelude.{◌≡◌, ◌≤◌, ◌<◌, true, length, slice_get, get_or, Some, None, IfOk, OnOk, OnErr};
+ghost use Rattle.std.specs.Prelude.{◌≡◌, ◌≤◌, ◌<◌, true, length, slice_get, Some, IfOk, OnOk, OnErr};
 ghost use Rattle.page_layout.specs.Page.{page, IsImage};
 ghost use Rattle.page_layout.specs.Counter.{counted, HasRisen};
 ghost use Rattle.page_layout.specs.Geometry.{row_count};

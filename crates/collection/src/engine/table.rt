@@ -1,15 +1,12 @@
 //! Table pages are written.
-ghost use Rattle.std.specs.Prelude.{◌≡◌, ◌≢◌, ◌/◌, ◌<◌, ◌≤◌, true, length, None, Err, OnOk, MatchResult};
-ghost use Rattle.std.specs.Option.{ForSome};
-ghost use Rattle.page_layout.specs.Counter.{HasRisen};
+ghost use Rattle.std.specs.Prelude.{◌≡◌, ◌<◌, true, None, OnOk, MatchResult};
 ghost use Rattle.page_layout.specs.Geometry.{entries, table_pages};
 ghost use Rattle.bad_blocks.specs.TablePage.{table_bytes};
 ghost use Rattle.budget.specs.declared.stream.Stream.TheVariants.{Meta};
 ghost use Rattle.collection.specs.Safe.{IsSafe, ram, image_in, page_in};
 ghost use Rattle.collection.specs.Truth.{IsTrue};
 ghost use Rattle.collection.specs.Cost.{PageCosts};
-ghost use Rattle.collection.specs.Log.{Went};
-ghost use Rattle.collection.specs.Results.{IsLastPage, IsTabled, Refused, Goes, KeepsTable, fault_after};
+ghost use Rattle.collection.specs.Results.{IsLastPage, IsTabled, Refused, Goes, KeepsTable};
 ghost use Rattle.collection.specs.Acts.{Acts, Stands, OnlyPrograms};
 
 use super::Engine;

@@ -1,17 +1,14 @@
 //! A cached sector is written or trimmed.
-ghost use Rattle.std.specs.Prelude.{◌≡◌, ◌≢◌, ◌≤◌, ◌<◌, true, length, Some, None, Err, IsSome, OnOk, MatchResult};
-ghost use Rattle.std.specs.Option.{ForSome};
+ghost use Rattle.std.specs.Prelude.{◌≡◌, ◌<◌, true, length, None, IsSome, OnOk, MatchResult};
 ghost use Rattle.std.specs.Map.{keys_of};
-ghost use Rattle.page_layout.specs.Counter.{HasRisen};
 ghost use Rattle.page_layout.specs.Array.{zeros};
 ghost use Rattle.mapping_cache.specs.Mapping.{slot_of};
 ghost use Rattle.budget.specs.declared.stream.Stream.TheVariants.{Data};
 ghost use Rattle.collection.specs.Safe.{IsSafe, ram, image_in, page_in};
 ghost use Rattle.collection.specs.Truth.{IsTrue};
 ghost use Rattle.collection.specs.Cost.{PageCosts};
-ghost use Rattle.collection.specs.Log.{Went};
 ghost use Rattle.collection.specs.Settle.{HasNoMore};
-ghost use Rattle.collection.specs.Results.{IsLastPage, IsWritten, Refused, Goes, fault_after};
+ghost use Rattle.collection.specs.Results.{IsLastPage, IsWritten, Refused, Goes};
 ghost use Rattle.collection.specs.Acts.{Stands, OnlyPrograms};
 
 use super::Engine;

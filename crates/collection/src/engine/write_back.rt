@@ -1,8 +1,7 @@
 //! Translation pages are brought up to date.
-ghost use Rattle.std.specs.Prelude.{◌≡◌, ◌≢◌, ℕ, ◌+◌, ◌*◌, ◌/◌, ◌<◌, ◌≤◌, true, slice_get, Option, Some, None, Ok, Err, IfErr, OnOk, OnErr, MatchResult};
+ghost use Rattle.std.specs.Prelude.{◌≡◌, ℕ, ◌+◌, ◌<◌, ◌≤◌, true, slice_get, Option, Some, None, Ok, OnOk, OnErr, MatchResult};
 ghost use Rattle.std.specs.Option.{ForSome};
 ghost use Rattle.std.specs.Map.{keys_of};
-ghost use Rattle.page_layout.specs.Counter.{HasRisen};
 ghost use Rattle.page_layout.specs.Geometry.{row_count, translation_pages};
 ghost use Rattle.page_layout.specs.declared.record.Key.TheVariants.{Translation};
 ghost use Rattle.mapping_cache.specs.Mapping.{per_page, cleaned};
@@ -10,10 +9,9 @@ ghost use Rattle.collection.specs.Pages.{newest_row};
 ghost use Rattle.collection.specs.Safe.{IsSafe, ram, image_in, page_in};
 ghost use Rattle.collection.specs.Truth.{IsTrue};
 ghost use Rattle.collection.specs.Cost.{WriteBackCosts};
-ghost use Rattle.collection.specs.Log.{Went};
-ghost use Rattle.collection.specs.Looks.{IsLoaded, IsFilled, IsPadded, StartsFrom, IsBroughtUp, IsReadFault};
+ghost use Rattle.collection.specs.Looks.{IsLoaded, IsFilled, IsPadded, StartsFrom, IsBroughtUp};
 ghost use Rattle.collection.specs.Settle.{Cleans, HasNoMore};
-ghost use Rattle.collection.specs.Results.{IsLastPage, IsWrittenBack, Refused, Goes, fault_after};
+ghost use Rattle.collection.specs.Results.{IsLastPage, IsWrittenBack, Refused, Goes};
 ghost use Rattle.collection.specs.Acts.{OnlyLooks, Acts, Stands};
 
 use super::Engine;
