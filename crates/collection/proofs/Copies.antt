@@ -27,13 +27,11 @@ use Rattle.collection.specs.Maps.{IsPageFor}
 use Rattle.collection.specs.Truth.{IsTrue, HasTable}
 use Rattle.collection.specs.Live.{IsLivePage}
 use Rattle.collection.specs.Results.{MayPut, IsReplaced, IsLastPage, Goes, last_record}
-use Rattle.collection.specs.Log.{Went}
 use Rattle.collection.specs.Cost.{HasPut, PutCosts}
 use Rattle.collection.specs.Settle.{HasPlace, SetsMapping}
 use Rattle.collection.specs.Collect.{IsMovedOut, KeepsKeys, HasCopied, HasMovedOnly, FaultCosts, Refreshes, IsUpToDate, marks_after}
 use Rattle.collection.specs.declared.fault.WriteFault.TheVariants.{ReadOnly, SequenceSpent, Damaged, Bus}
 use Rattle.budget.specs.declared.stream.Stream.{Stream}
-use Rattle.page_layout.specs.Flash.{Flash}
 use Rattle.page_layout.proofs.GeometryLemmas.{sector_entry}
 use Rattle.std.specs.Map.{keys_of}
 use Rattle.collection.proofs.Dues.{HasFollowed, copied_due, copied_refreshes}
@@ -148,9 +146,6 @@ last_marked kind n b r' p p' next same l = rw same (record { its = l.its; sound 
 module _ (flushing : Bool) (key : Key) (row : ℕ) (r b r' : Ram) (is : r' ≡ record b { pin = record { block = b.pin.block; marks = marks_after flushing b.geometry key b.pin.marks } }) where
   pub goes_marked : Goes r b → Goes r r'
   goes_marked goes = rw is (record { geometry = goes.geometry; next = goes.next; shut = goes.shut })
-
-  pub went_marked : (x y : Flash) → Went r x b y → Went r x r' y
-  went_marked x y w = rw is (record { log = w.log; leads = w.leads; follows = w.follows; next = w.next; wears = w.wears })
 
   pub true_marked : (y : Image) → IsTrue None b y → IsTrue None r' y
   true_marked y w = rw is (record { whole = w.whole; one = w.one; below = w.below; filled = w.filled; live = w.live; worn = w.worn; tables = w.tables; maps = w.maps })
