@@ -27,3 +27,4 @@ pub mod Settles
 pub mod Appends
 pub mod Tables
 pub mod Acts
+pub mod PageReads

@@ -1,5 +1,5 @@
 //! A block is collected: what counts is copied out of it, and it is erased.
-ghost use Rattle.std.specs.Prelude.{◌≡◌, ◌≢◌, ◌<◌, ◌≤◌, true, None, Ok, Err, OnOk, MatchResult};
+ghost use Rattle.std.specs.Prelude.{◌≡◌, ◌≢◌, ◌+◌, ◌*◌, ◌<◌, ◌≤◌, true, None, Ok, Err, OnOk, MatchResult};
 ghost use Rattle.page_layout.specs.Counter.{counted};
 ghost use Rattle.page_layout.specs.Geometry.{vmax};
 ghost use Rattle.allocation.specs.State.{is_closed, live_at};
@@ -51,6 +51,7 @@ impl<N: Nand> Engine<N> {
         ensures keys { KeepsKeys self.old.mapping self.new.mapping }
         ensures refreshes { flushing ≡ true → Refreshes (ram self.old) (ram self.new) }
         ensures cost { CollectCosts flushing (ram self.old) (ram self.new) result }
+        ensures reads { N.reads self.new.nand ≤ N.reads self.old.nand + 3 * self.old.geometry.pages }
         ensures erases { OnOk result (N.erases self.new.nand ≡ counted (N.erases self.old.nand)) }
         ensures less_work { OnOk result (work_left (ram self.new) < work_left (ram self.old)) }
         ensures truth { N.honest self.old.nand ≡ true → truth.IsTrue None (ram self.old) (image_in N.flash self.old) →
@@ -89,6 +90,9 @@ impl<N: Nand> Engine<N> {
     /// and one more for each failure: the erased pages in free and open blocks grow, or fall by at most
     /// a block's pages for each failure.
     ///
+    /// It makes at most three page reads for each page of the block: the page itself, the translation
+    /// page that tells whether it is the newest of its sector, and the one that is written back.
+    ///
     /// # Errors
     ///
     /// Those of `write_back`, as there; each stands. After `ReadOnly` and `SequenceSpent` the array is
@@ -109,6 +113,7 @@ impl<N: Nand> Engine<N> {
         ensures released { OnOk result (IsReleased block (ram self.old).blocks (ram self.new).blocks) }
         ensures keys { KeepsKeys self.old.mapping self.new.mapping }
         ensures refreshes { flushing ≡ true → Refreshes (ram self.old) (ram self.new) }
+        ensures reads { N.reads self.new.nand ≤ N.reads self.old.nand + 3 * self.old.geometry.pages }
         ensures erases { OnOk result (N.erases self.new.nand ≡ counted (N.erases self.old.nand)) }
         ensures cost { self.old.fault ≡ None → CollectCosts flushing (ram self.old) (ram self.new) result }
         ensures truth { N.honest self.old.nand ≡ true → self.old.fault ≡ None → truth.IsTrue None (ram self.old) (image_in N.flash self.old) →

@@ -1,5 +1,5 @@
 //! Pages that are the newest of their keys.
-ghost use Rattle.std.specs.Prelude.{◌≡◌, ◌↔◌, ◌+◌, ◌*◌, ◌<◌, ◌≤◌, true, IsTrue, Some, None, Err, IfOk, IfErr, MatchResult};
+ghost use Rattle.std.specs.Prelude.{◌≡◌, ◌↔◌, ◌+◌, ◌-◌, ◌*◌, ◌<◌, ◌≤◌, true, IsTrue, Some, None, Err, IfOk, IfErr, MatchResult};
 ghost use Rattle.std.specs.Option.{ForSome};
 ghost use Rattle.page_layout.specs.Geometry.{row_count};
 ghost use Rattle.page_layout.specs.Live.{IsKeyOf};
@@ -35,6 +35,7 @@ impl<N: Nand> Engine<N> {
         requires key { IsKeyOf self.old.geometry key }
         ensures looks { OnlyLooks N.flash N.honest N.calm N.programs N.erases N.failed self.old self.new result }
         ensures page { self.new.page ≡ self.old.page }
+        ensures reads { N.reads self.new.nand ≤ N.reads self.old.nand + 1 }
         ensures points { IfOk result (PointsTo (ram self.old) (page_in self.new.scratch) key) }
         ensures truth { N.honest self.old.nand ≡ true → truth.IsTrue None (ram self.old) (image_in N.flash self.old) →
             MatchResult result
@@ -56,6 +57,7 @@ impl<N: Nand> Engine<N> {
         requires safe { IsSafe N.flash self.old }
         requires row { row < row_count self.old.geometry }
         ensures looks { OnlyLooks N.flash N.honest N.calm N.programs N.erases N.failed self.old self.new result }
+        ensures reads { N.reads self.new.nand ≤ N.reads self.old.nand + 1 }
         ensures faults { IfErr result (λ fault. fault ≡ WriteFault.Bus) }
         ensures sound { IfOk result (λ found. found ≡ record_of (page_in self.new.page)) }
         ensures truth { N.honest self.old.nand ≡ true →
@@ -80,6 +82,7 @@ impl<N: Nand> Engine<N> {
         requires safe { IsSafe N.flash self.old }
         requires row { row < row_count self.old.geometry }
         ensures looks { OnlyLooks N.flash N.honest N.calm N.programs N.erases N.failed self.old self.new result }
+        ensures reads { N.reads self.new.nand ≤ N.reads self.old.nand + 2 }
         ensures checked { IfOk result (λ found. ForSome found (IsFoundIn (ram self.old) (page_in self.new.page) (page_in self.new.scratch) row)) }
         ensures truth { N.honest self.old.nand ≡ true → truth.IsTrue None (ram self.old) (image_in N.flash self.old) →
             MatchResult result
@@ -112,6 +115,8 @@ impl<N: Nand> Engine<N> {
         requires safe { IsSafe N.flash self.old }
         requires block { block < self.old.geometry.blocks }
         ensures looks { OnlyLooks N.flash N.honest N.calm N.programs N.erases N.failed self.old self.new result }
+        ensures reads { N.reads self.new.nand ≤ N.reads self.old.nand + 2 * (self.old.geometry.pages - first) }
+        ensures found_reads { IfOk result (λ found. ForSome found (λ f. N.reads self.new.nand ≤ N.reads self.old.nand + 2 * (f.0 + 1 - first))) }
         ensures within { IfOk result (λ found. ForSome found (λ f. (first ≤ f.0) × (f.0 < self.old.geometry.pages))) }
         ensures checked { IfOk result (λ found. ForSome found (λ f.
             IsFoundIn (ram self.old) (page_in self.new.page) (page_in self.new.scratch) (block * self.old.geometry.pages + f.0) f.1)) }

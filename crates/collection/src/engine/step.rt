@@ -1,5 +1,5 @@
 //! A block is collected step by step.
-ghost use Rattle.std.specs.Prelude.{◌≡◌, ◌≢◌, ◌⊎◌, ◌/◌, ◌<◌, ◌≤◌, true, false, [], length, replicate, slice_set, Some, None};
+ghost use Rattle.std.specs.Prelude.{◌≡◌, ◌≢◌, ℕ, ◌⊎◌, ◌+◌, ◌-◌, ◌*◌, ◌/◌, ◌<◌, ◌≤◌, true, false, [], min, length, replicate, slice_set, Some, None};
 ghost use Rattle.std.specs.Prelude.{Ok, Err, IfOk, IfErr, IsTrue, OnOk, OnErr, MatchResult, MatchOption};
 ghost use Rattle.std.specs.Option.{ForSome};
 ghost use Rattle.page_layout.specs.Counter.{counted};
@@ -16,7 +16,7 @@ ghost use Rattle.collection.specs.Whole.{erases_after};
 ghost use Rattle.collection.specs.Collect.{has_moved, due_count, marks_after, IsLowestDue, HasNoneDue, Refreshes, KeepsKeys};
 ghost use Rattle.collection.specs.Collect.{GoesBut, HasCopied, HasWritten, HasErased, IsReleased, FaultCosts, HasMovedOnly, StepCosts, IsMovedOut};
 ghost use Rattle.collection.specs.Collect.{IsCopiedOr, IsStepped};
-ghost use Rattle.collection.specs.Acts.{Acts};
+ghost use Rattle.collection.specs.Acts.{Acts, OnlyPrograms};
 
 use super::Engine;
 use crate::fault::WriteFault;
@@ -86,7 +86,7 @@ impl<N: Nand> Engine<N> {
         requires room { length self.old.mapping.moved < self.old.geometry.pages }
         ensures acts { Acts N.flash N.honest N.calm N.failed self.old self.new result }
         ensures goes { Goes (ram self.old) (ram self.new) }
-        ensures erases { N.erases self.new.nand ≡ N.erases self.old.nand }
+        ensures only_programs { OnlyPrograms N.reads N.erases self.old.nand self.new.nand }
         ensures keys { KeepsKeys self.old.mapping self.new.mapping }
         ensures refreshes { flushing ≡ true → Refreshes (ram self.old) (ram self.new) }
         ensures cost { MatchResult result (λ _. HasCopied flushing (ram self.old) (ram self.new)) (FaultCosts (ram self.old) (ram self.new)) }
@@ -119,6 +119,8 @@ impl<N: Nand> Engine<N> {
         requires room { length self.old.mapping.moved ≤ first }
         ensures acts { Acts N.flash N.honest N.calm N.failed self.old self.new result }
         ensures goes { Goes (ram self.old) (ram self.new) }
+        ensures reads { N.reads self.new.nand ≤ N.reads self.old.nand + 2 * (self.old.geometry.pages - first) }
+        ensures copied_reads { IfOk result (λ copied. ForSome copied (λ page. N.reads self.new.nand ≤ N.reads self.old.nand + 2 * (page + 1 - first))) }
         ensures erases { N.erases self.new.nand ≡ N.erases self.old.nand }
         ensures keys { KeepsKeys self.old.mapping self.new.mapping }
         ensures refreshes { flushing ≡ true → Refreshes (ram self.old) (ram self.new) }
@@ -162,6 +164,7 @@ impl<N: Nand> Engine<N> {
         requires safe { IsSafe N.flash self.old }
         ensures acts { Acts N.flash N.honest N.calm N.failed self.old self.new result }
         ensures goes { Goes (ram self.old) (ram self.new) }
+        ensures reads { N.reads self.new.nand ≤ N.reads self.old.nand + min (due_count flushing (ram self.old)) 1 }
         ensures erases { N.erases self.new.nand ≡ N.erases self.old.nand }
         ensures keys { KeepsKeys self.old.mapping self.new.mapping }
         ensures refreshes { flushing ≡ true → Refreshes (ram self.old) (ram self.new) }
@@ -236,6 +239,9 @@ impl<N: Nand> Engine<N> {
         ensures refreshes { flushing ≡ true → Refreshes (ram self.old) (ram self.new) }
         ensures idle { result ≡ Ok Step.Erased → IsIdle (ram self.new) }
         ensures released { result ≡ Ok Step.Erased → IsReleased block (ram self.old).blocks (ram self.new).blocks }
+        ensures reads { N.reads self.new.nand ≤
+            N.reads self.old.nand + (2 * (self.old.geometry.pages - first) + min (due_count flushing (ram self.old)) 1) }
+        ensures copied_reads { (page : ℕ) → result ≡ Ok (Step.Copied page) → N.reads self.new.nand ≤ N.reads self.old.nand + 2 * (page + 1 - first) }
         ensures erases { IfOk result (λ step. N.erases self.new.nand ≡ erases_after step (N.erases self.old.nand)) }
         ensures owed { result ≡ Err WriteFault.ReadOnly → (0 < live_at (ram self.old).blocks block) ⊎ (0 < due_count flushing (ram self.old)) }
         ensures cost { StepCosts flushing block first (ram self.old) (ram self.new) result }

@@ -10,6 +10,7 @@ use Rattle.collection.proofs.Copies.{keys_same, keys_then, refreshes_same, refre
 use Rattle.collection.proofs.Ledgers.{begun, stepped, still_goes, still_erased, once_erased, room_next, steps_fall, but_then, ends_erased, erased_by}
 use Rattle.collection.proofs.Ledgers.{emptied_by, emptied_then, collected_cost, less_work, counts_collected, thrifty_erased, thrifty_refused}
 use Rattle.collection.proofs.Ledgers.{refused_cost, refused_counts, closed_still, released_from, undamaged}
+use Rattle.collection.proofs.PageReads.{none_read, read_more, read_all}
 use Rattle.collection.specs.Whole.{next_of}
 use Rattle.collection.proofs.engine.Engine.collect_block.Goals as goal
 
@@ -22,6 +23,7 @@ steps-init g c = record {
   refreshes = λ on. refreshes_same (ram c.args.self.now) (ram c.args.self.now) refl refl;
   room = (let e : length c.args.self.now.mapping.moved ≡ 0 = ap length c.requires.idle.moved in omega arith);
   closed = c.requires.closed;
+  reads = none_read c.args.flushing (ram c.args.self.now) _ c.requires.idle;
   under_way = begun c.args.flushing c.args.block (ram c.args.self.now) _ _ c.requires.safe.memory c.requires.idle (λ k. k.1);
 }
 
@@ -41,6 +43,7 @@ steps-preserved g c =
       refreshes = λ on. refreshes_then old now new i.goes.geometry (i.refreshes on) (c.collect_step.ensures.refreshes on);
       room = room_next c.args.flushing c.args.block c.steps.first c.in-Some.next _ now new c.in_ok-step.step c.collect_step.ensures.acts.safe.memory (c.pages-pages.ensures ∙ ap (λ x. x.pages) (sym (goes.geometry ∙ i.goes.geometry))) i.room is c.in_ok-step.ensures.cost;
       closed = closed_still c.args.block now new goes (rw i.goes.geometry c.requires.block) i.closed;
+      reads = read_more c.args.flushing c.args.block c.steps.first c.in-Some.next old now new _ _ _ i.goes.geometry i.reads c.in_ok-step.step (ap (λ p. next_of p c.in_ok-step.step) (sym c.pages-pages.ensures) ∙ is) c.in_ok-step.ensures.cost c.collect_step.ensures.reads c.in_ok-step.ensures.copied_reads;
       under_way = stepped c.args.flushing c.args.block c.steps.first c.in-Some.next old now new _ _ _ _ i.acts.safe.memory c.collect_step.ensures.acts.safe.memory i.goes c.requires.block i.under_way c.in_ok-step.step c.in_ok-step.ensures.goes_still (ap (λ p. next_of p c.in_ok-step.step) (sym c.pages-pages.ensures) ∙ is) c.in_ok-step.ensures.cost (λ k w none. c.in_ok-step.ensures.truth (i.acts.honest_is ∙ k.0) w none);
     }
 
@@ -66,6 +69,9 @@ returns-in_default-clause-released g c =
     let new = ram c.collect_step.new.self in
     let e = ends_erased _ c.in_ok-step.step (sym c.next_page-going_on.ensures ∙ none_from c.next_page-going_on.result c.in_default.not-Some) in
     released_from c.args.block old now new i.goes c.requires.block c.requires.closed (c.in_ok-step.ensures.released (ap Ok e))
+
+pub returns-in_default-clause-reads : goal.returns-in_default-clause-reads
+returns-in_default-clause-reads g c = read_all c.args.flushing c.args.block c.steps.first 0 (ram c.args.self.now) (ram c.steps.self) (ram c.collect_step.new.self) _ _ _ c.steps.invariant.goes.geometry c.steps.invariant.reads c.collect_step.ensures.reads
 
 pub returns-in_default-clause-erases : goal.returns-in_default-clause-erases
 returns-in_default-clause-erases g c =
@@ -128,6 +134,9 @@ returns-in_default-clause-thrifty g c = λ honest w small ne.
 
 pub returns-in_err-step-clause-refreshes : goal.returns-in_err-step-clause-refreshes
 returns-in_err-step-clause-refreshes g c = λ on. refreshes_then _ _ _ c.steps.invariant.goes.geometry (c.steps.invariant.refreshes on) (c.collect_step.ensures.refreshes on)
+
+pub returns-in_err-step-clause-reads : goal.returns-in_err-step-clause-reads
+returns-in_err-step-clause-reads g c = read_all c.args.flushing c.args.block c.steps.first 0 (ram c.args.self.now) (ram c.steps.self) (ram c.collect_step.new.self) _ _ _ c.steps.invariant.goes.geometry c.steps.invariant.reads c.collect_step.ensures.reads
 
 pub returns-in_err-step-clause-cost : goal.returns-in_err-step-clause-cost
 returns-in_err-step-clause-cost g c =

@@ -5,7 +5,7 @@ use Rattle.collection.specs.Truth.{IsTrue}
 use Rattle.collection.specs.Acts.{Acts}
 use Rattle.collection.specs.Results.{Goes}
 use Rattle.collection.specs.Collect.{KeepsKeys, Refreshes}
-use Rattle.collection.specs.Whole.{IsUnderWay}
+use Rattle.collection.specs.Whole.{HasRead, IsUnderWay}
 use Rattle.collection.proofs.engine.Engine.collect_block.Given as goal
 
 abbrev pub invariant-steps : goal.invariant-steps
@@ -17,6 +17,7 @@ invariant-steps g l = record {
   refreshes : l.flushing ≡ true → Refreshes (ram l.fn.self) (ram l.self);
   room : length l.self.mapping.moved ≤ l.first;
   closed : is_closed (ram l.self).blocks l.block ≡ true;
+  reads : HasRead l.flushing l.first (ram l.fn.self) (ram l.self) (g.N.PageSource.reads l.fn.self.nand) (g.N.PageSource.reads l.self.nand);
   under_way : IsUnderWay l.flushing l.block l.first (ram l.fn.self) (ram l.self) ((g.N.PageSource.honest l.fn.self.nand ≡ true) × IsTrue None (ram l.fn.self) (image_in g.N.PageSource.flash l.fn.self)) (image_in g.N.PageSource.flash l.fn.self) (image_in g.N.PageSource.flash l.self);
 }
 

@@ -35,6 +35,12 @@ returns-in_err-copy_page-clause-acts g c =
     let p = err_from_is_err_and c.from_residual-in_err-copy_page.result c.from_residual-in_err-copy_page.ensures.1 in
     rw (p.1, p.2) (acts_then _ _ _ _ _ (ap (λ r. r.geometry) c.first_live.ensures.looks.memory) (looked _ _ _ c.in_ok-live.ensures.looks) (acts_err _ _ _ c.in_err-copy_page.ensures.acts))
 
+pub returns-clause-copied_reads : goal.returns-clause-copied_reads
+returns-clause-copied_reads g c = λ page is.
+    let same : c.in-Some.page ≡ page = cc in
+    let found = c.in_ok-live.ensures.found_reads (c.in-Some.page, c.in-Some.found) c.in-Some.is in
+    omega (arith, same, found, c.copy_page.ensures.only_programs.reads_are)
+
 pub returns-clause-truth : goal.returns-clause-truth
 returns-clause-truth g c = λ honest w none.
     let still = ap (λ f. f.image) (c.in_ok-live.ensures.looks.same honest (ok_not_bus _)) in
