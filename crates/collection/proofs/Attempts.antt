@@ -1,6 +1,6 @@
 -- One attempt to program a page, by its outcome.
-use Rattle.std.proofs.Common.{◌≡◌, ◌≢◌, ℕ, ◌+◌, ◌-◌, ◌/◌, ◌<◌, ◌^◌, true, List, length, slice_get, Option, Some, None, refl, ap, sym, ◌∙◌, subst}
-use Rattle.std.proofs.Common.{arith, get_or-set_same}
+use Rattle.std.proofs.Common.{◌≡◌, ◌≢◌, ℕ, ◌+◌, ◌-◌, ◌/◌, ◌<◌, ◌^◌, true, List, length, slice_get, Option, None, refl, ap, sym, ◌∙◌, subst}
+use Rattle.std.proofs.Common.{arith}
 use Rattle.std.specs.Option.{ForSome}
 use Rattle.page_layout.specs.declared.geometry.Geometry.{Geometry}
 use Rattle.page_layout.specs.declared.record.Record.{Record}
@@ -12,9 +12,7 @@ use Rattle.page_layout.specs.Live.{IsKeyOf}
 use Rattle.page_layout.specs.Flash.{Flash}
 use Rattle.page_layout.specs.Change.{Keeps, Writes}
 use Rattle.page_layout.proofs.FlashLemmas.{program_other}
-use Rattle.bad_blocks.specs.Table.{is_good_at, wear_at, retired, no_table_row}
-use Rattle.bad_blocks.specs.declared.table.TableRow.{TableRow}
-use Rattle.bad_blocks.specs.declared.class.Class.TheVariants.{Grown}
+use Rattle.bad_blocks.specs.Table.{is_good_at, wear_at}
 use Rattle.budget.specs.declared.stream.Stream.{Stream}
 use Rattle.budget.specs.Counts.{TakesOne, FailsOne}
 use Rattle.allocation.specs.State.{State, free_count}

@@ -1,17 +1,15 @@
 -- A page that counts is copied out of its block.
-use Rattle.std.proofs.Common.{◌≡◌, ◌≢◌, ◌⊎◌, inl, inr, ℕ, ◌+◌, ◌-◌, ◌*◌, ◌/◌, ◌%◌, ◌<◌, ◌≤◌, ◌==◌, Bool, true, false, List, [], length, get_or}
-use Rattle.std.proofs.Common.{slice_get, slice_set, Option, Some, None, Result, Ok, Err, refl, ap, sym, ◌∙◌, subst, arith}
-use Rattle.std.specs.Prelude.{MatchResult}
-use Rattle.std.proofs.lemmas.Bool.{cases_eq, eq-eqb, ne_eqb}
+use Rattle.std.proofs.Common.{◌≡◌, ◌≢◌, inl, inr, ℕ, ◌+◌, ◌-◌, ◌/◌, ◌%◌, ◌<◌, ◌≤◌, ◌==◌, Bool, true, false, List, length, get_or}
+use Rattle.std.proofs.Common.{Some, None, Err, refl, ap, sym, ◌∙◌, subst, arith}
+use Rattle.std.proofs.lemmas.Bool.{eq-eqb, ne_eqb}
 use Rattle.page_layout.specs.declared.geometry.Geometry.{Geometry}
 use Rattle.page_layout.specs.declared.record.Record.{Record}
 use Rattle.page_layout.specs.declared.record.Kind.{Kind}
-use Rattle.page_layout.specs.declared.record.Kind.TheVariants as kind
 use Rattle.page_layout.specs.declared.record.Key.{Key}
 use Rattle.page_layout.specs.declared.record.Key.TheVariants.{Sector, Translation, Table}
-use Rattle.page_layout.specs.Page.{Page, Image, page, body_at}
+use Rattle.page_layout.specs.Page.{Page, Image, body_at}
 use Rattle.page_layout.specs.Key.{key_of, key_from}
-use Rattle.page_layout.specs.Geometry.{row_count, entries, translation_pages, table_pages}
+use Rattle.page_layout.specs.Geometry.{row_count, entries, translation_pages}
 use Rattle.page_layout.specs.Live.{IsKeyOf, live, is_in_block}
 use Rattle.page_layout.specs.Array.{marks, sector_of, array_of, content_of_kind}
 use Rattle.page_layout.specs.Change.{one_if, Writes}
@@ -20,28 +18,26 @@ use Rattle.page_layout.proofs.ArrayLemmas.{sector_here, array-same}
 use Rattle.bad_blocks.specs.TablePage.{IsWellFormed}
 use Rattle.mapping_cache.specs.Mapping.{MappingState}
 use Rattle.translation_pages.specs.TranslationPage.{entry_at}
-use Rattle.allocation.specs.State.{State, live_at}
+use Rattle.allocation.specs.State.{live_at}
 use Rattle.collection.specs.declared.fault.WriteFault.{WriteFault}
 use Rattle.collection.specs.State.{Ram, Pin}
 use Rattle.collection.specs.Safe.{IsRam, IsOutside, is_shut}
 use Rattle.collection.specs.Pages.{newest_row}
-use Rattle.collection.specs.Maps.{Maps, IsPageFor}
+use Rattle.collection.specs.Maps.{IsPageFor}
 use Rattle.collection.specs.Truth.{IsTrue, HasTable}
-use Rattle.collection.specs.Live.{NotAt, IsLivePage}
-use Rattle.collection.specs.Results.{MayPut, IsReplaced, IsLastPage, IsSame, Goes, Leaves, Refused, last_record}
-use Rattle.collection.specs.Log.{Went}
+use Rattle.collection.specs.Live.{IsLivePage}
+use Rattle.collection.specs.Results.{MayPut, IsReplaced, IsLastPage, Goes, last_record}
 use Rattle.collection.specs.Cost.{HasPut, PutCosts}
 use Rattle.collection.specs.Settle.{HasPlace, SetsMapping}
 use Rattle.collection.specs.Collect.{IsMovedOut, KeepsKeys, HasCopied, HasMovedOnly, FaultCosts, Refreshes, IsUpToDate, marks_after}
 use Rattle.collection.specs.declared.fault.WriteFault.TheVariants.{ReadOnly, SequenceSpent, Damaged, Bus}
 use Rattle.budget.specs.declared.stream.Stream.{Stream}
-use Rattle.page_layout.specs.Flash.{Flash}
 use Rattle.page_layout.proofs.GeometryLemmas.{sector_entry}
 use Rattle.std.specs.Map.{keys_of}
 use Rattle.collection.proofs.Dues.{HasFollowed, copied_due, copied_refreshes}
 use Rattle.collection.proofs.MapLemmas.{entry_here, none_not}
 use Rattle.collection.proofs.Puts.{leaves_written}
-use Rattle.collection.proofs.Truths.{row_in_block, newest_in}
+use Rattle.collection.proofs.Truths.{row_in_block}
 use Rattle.collection.proofs.Finds.{gone_copied}
 
 -- the data area of the newest page of a key may be that of another page of it
@@ -150,9 +146,6 @@ last_marked kind n b r' p p' next same l = rw same (record { its = l.its; sound 
 module _ (flushing : Bool) (key : Key) (row : ℕ) (r b r' : Ram) (is : r' ≡ record b { pin = record { block = b.pin.block; marks = marks_after flushing b.geometry key b.pin.marks } }) where
   pub goes_marked : Goes r b → Goes r r'
   goes_marked goes = rw is (record { geometry = goes.geometry; next = goes.next; shut = goes.shut })
-
-  pub went_marked : (x y : Flash) → Went r x b y → Went r x r' y
-  went_marked x y w = rw is (record { log = w.log; leads = w.leads; follows = w.follows; next = w.next; wears = w.wears })
 
   pub true_marked : (y : Image) → IsTrue None b y → IsTrue None r' y
   true_marked y w = rw is (record { whole = w.whole; one = w.one; below = w.below; filled = w.filled; live = w.live; worn = w.worn; tables = w.tables; maps = w.maps })

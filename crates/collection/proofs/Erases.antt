@@ -1,36 +1,33 @@
 -- A block is erased, or fails.
 use Rattle.std.proofs.Common.{◌≡◌, ◌≢◌, inl, inr, ℕ, ◌+◌, ◌*◌, ◌/◌, ◌<◌, ◌≤◌, ◌&&◌, ◌==◌, min, Bool, true, false, not, List, [], ◌∷◌, length, get_or}
-use Rattle.std.proofs.Common.{slice_get, Option, Some, None, IsSome, refl, ap, sym, ◌∙◌, subst, arith, get_or-set_same}
+use Rattle.std.proofs.Common.{None, IsSome, refl, ap, sym, ◌∙◌, subst, arith, get_or-set_same}
 use Rattle.std.proofs.lemmas.Bool.{cases_eq, eq-eqb, ne_eqb}
 use Rattle.std.proofs.lemmas.Nat.{div-mul-add}
 use Rattle.page_layout.specs.declared.geometry.Geometry.{Geometry}
 use Rattle.page_layout.specs.Geometry.{translation_pages, table_pages, row_count}
 use Rattle.page_layout.specs.Page.{Image, Page, IsImage}
 use Rattle.page_layout.specs.Array.{marks}
-use Rattle.page_layout.specs.Flash.{Flash, Operation, Erase, Steps}
+use Rattle.page_layout.specs.Flash.{Flash, Erase, Steps}
 use Rattle.page_layout.specs.Change.{HoldsNone, Keeps, LosesIn, ErasesIn, IsErasedAt, one_if}
 use Rattle.page_layout.proofs.FlashLemmas.{Leads-one, erase_keeps, erase_loses, erase_erases}
 use Rattle.page_layout.proofs.ErasedLemmas.{erases_erased}
 use Rattle.page_layout.proofs.GeometryLemmas.{row_within}
 use Rattle.bad_blocks.specs.declared.table.TableRow.{TableRow}
 use Rattle.bad_blocks.specs.declared.class.Class.TheVariants.{Grown}
-use Rattle.bad_blocks.specs.Table.{is_good, is_good_at, wear_at, class_at, most_wear, retired, erased_once, no_table_row}
+use Rattle.bad_blocks.specs.Table.{is_good, is_good_at, wear_at, class_at, most_wear, no_table_row}
 use Rattle.promises.specs.Log.{passed_erases_of}
-use Rattle.promises.specs.Legal.{Account, account_at, noted, accounted, accounted_all, LegalFrom}
+use Rattle.promises.specs.Legal.{Account, account_at, noted, accounted, LegalFrom}
 use Rattle.promises.proofs.AccountLemmas.{length-accounted, accounted-same, accounted-other}
-use Rattle.onfi_cycles.specs.declared.nand.Outcome.{Outcome}
 use Rattle.allocation.specs.declared.fill.Fill.{Fill}
 use Rattle.allocation.specs.State as blocks
 use Rattle.allocation.specs.State.{State, pointer_at, live_at, is_closed, is_free, free_count, fill_at}
 use Rattle.allocation.specs.Step.{erased, without}
-use Rattle.allocation.specs.Counts.{IsLiveExact}
-use Rattle.allocation.specs.Laws.{IsLeftButLive}
 use Rattle.allocation.proofs.SafeLemmas.{fill_same, fill_other, safe_erased, safe_without, closed_parts, good_erased, good_retired}
 use Rattle.allocation.proofs.OtherLemmas.{failed_others, erased_others}
-use Rattle.collection.specs.State.{Ram, Pin}
-use Rattle.collection.specs.Safe.{IsRam, is_shut}
+use Rattle.collection.specs.State.{Ram}
+use Rattle.collection.specs.Safe.{IsRam}
 use Rattle.collection.specs.Truth.{IsTrue, AreFilled, HasTable}
-use Rattle.collection.specs.Log.{IsAccounted, Follows, Went, Wears}
+use Rattle.collection.specs.Log.{IsAccounted, Follows, Went}
 use Rattle.collection.specs.Maps.{Maps}
 use Rattle.collection.specs.Results.{IsKept}
 use Rattle.collection.specs.Collect.{GoesBut, IsReleased}

@@ -225,7 +225,7 @@ refused_counts flushing block first old now new known x y z Bus k small u owed o
 
 -- ---- a step, whichever it was
 
-abbrev ok_step : Step → Result Step WriteFault
+abbrev pub ok_step : Step → Result Step WriteFault
 ok_step step = Ok step
 
 pub some_steps : (g : Geometry) → 1 < g.pages

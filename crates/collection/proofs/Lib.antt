@@ -26,3 +26,5 @@ pub mod WriteBacks
 pub mod Settles
 pub mod Appends
 pub mod Tables
+pub mod Acts
+pub mod PageReads

@@ -1,13 +1,10 @@
 -- The first live page of a block is copied, and the lowest translation page written.
-use Rattle.std.proofs.Common.{◌≡◌, ◌≢◌, inl, inr, ℕ, ◌+◌, ◌*◌, ◌/◌, ◌<◌, ◌≤◌, Bool, true, false, not, ◌||◌, List, length, set, Option, Some, None}
+use Rattle.std.proofs.Common.{◌≡◌, inl, inr, ℕ, ◌+◌, ◌*◌, ◌/◌, ◌<◌, ◌≤◌, Bool, true, false, not, ◌||◌, List, set, Option, Some, None}
 use Rattle.std.proofs.Common.{MatchOption, refl, ap, sym, ◌∙◌, subst, arith}
-use Rattle.std.proofs.lemmas.Bool.{cases_eq}
 use Rattle.std.proofs.lemmas.Nat.{div-mul-add}
 use Rattle.page_layout.specs.declared.geometry.Geometry.{Geometry}
 use Rattle.page_layout.specs.declared.record.Record.{Record}
-use Rattle.page_layout.specs.declared.record.Key.{Key}
 use Rattle.page_layout.specs.Page.{Image}
-use Rattle.page_layout.specs.Array.{array_of}
 use Rattle.page_layout.specs.Geometry.{translation_pages}
 use Rattle.page_layout.specs.Change.{HoldsNone}
 use Rattle.page_layout.proofs.StepLemmas.{none_live}
@@ -17,7 +14,6 @@ use Rattle.allocation.specs.State.{State, live_at, is_closed}
 use Rattle.allocation.proofs.CountLemmas.{count_has}
 use Rattle.collection.specs.State.{Ram, Pin}
 use Rattle.collection.specs.Safe.{IsRam, is_shut}
-use Rattle.collection.specs.Pages.{newest_row}
 use Rattle.collection.specs.Truth.{IsTrue}
 use Rattle.collection.specs.Cost.{HasPut}
 use Rattle.collection.specs.Live.{NotAt, HoldsNoneIn, IsLivePage, FindsFirst, IsFirstLive}
@@ -26,7 +22,7 @@ use Rattle.collection.specs.Collect.{is_due, due_count, IsLowestDue, HasNoneDue,
 use Rattle.collection.specs.Settle.{HasNoMore}
 use Rattle.mapping_cache.specs.Mapping.{cleaned}
 use Rattle.budget.specs.declared.stream.Stream.TheVariants.{Meta}
-use Rattle.collection.proofs.Dues.{HasLeft, written_due}
+use Rattle.collection.proofs.Dues.{written_due}
 use Rattle.collection.proofs.Puts.{leaves_same}
 use Rattle.collection.proofs.Copies.{exact_at}
 use Rattle.collection.proofs.Finds.{none_all, none_join}

@@ -7,7 +7,6 @@ use Rattle.page_layout.specs.declared.record.Key.{Key}
 use Rattle.page_layout.specs.declared.record.Key.TheVariants.{Sector, Translation, Table}
 use Rattle.page_layout.specs.Page.{Image}
 use Rattle.page_layout.specs.Key.{key_from}
-use Rattle.page_layout.specs.Flash.{Flash}
 use Rattle.page_layout.specs.Geometry.{row_count, translation_pages, table_pages}
 use Rattle.page_layout.specs.Live.{IsKeyOf}
 use Rattle.page_layout.proofs.ArrayLemmas.{slice_get-set_same, slice_get-set_other}
@@ -19,7 +18,6 @@ use Rattle.collection.specs.Maps.{Maps}
 use Rattle.collection.specs.Truth.{IsTrue}
 use Rattle.collection.specs.Safe.{IsRam}
 use Rattle.collection.specs.Cost.{HasPut}
-use Rattle.collection.specs.Log.{Went}
 use Rattle.collection.specs.Settle.{SetsMapping, SetsDirectory, Settles}
 use Rattle.collection.specs.Results.{Goes, IsPut, IsReplaced}
 use Rattle.collection.proofs.MapLemmas.{maps_entry, maps_directory}
@@ -111,15 +109,6 @@ settled_cost stream a b c key row cost t = record {
   failures = cost.failures;
   put = (let x = cost.put in rw t.blocks x);
   next = t.next ∙ cost.next;
-}
-
-pub settled_went : (a b c : Ram) (key : Key) (row : ℕ) (before after after' : Flash) → Went a before b after → Settles key row b c → after' ≡ after → Went a before c after'
-settled_went a b c key row before after after' w t same = record {
-  log = w.log;
-  leads = (let x = w.leads in rw same x);
-  follows = (let x = w.follows in rw t.blocks x);
-  next = t.next ∙ w.next;
-  wears = (let x = w.wears in rw t.blocks x);
 }
 
 -- a put, and the memory that followed it

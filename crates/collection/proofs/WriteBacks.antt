@@ -105,9 +105,6 @@ put_costs a b c SequenceSpent same cost = (let P : Ram → Type 0 = λ z. HasSpe
 put_costs a b c Damaged same cost = absurd cost
 put_costs a b c Bus same cost = tt
 
-pub went_after : (a b c : Ram) (x y z : Flash) → b ≡ a → y ≡ x → Went b y c z → Went a x c z
-went_after a b c x y z same still w = (let P : Ram → Type 0 = λ r. Went r x c z in let Q : Flash → Type 0 = λ d. Went b d c z in subst P same (subst Q still w))
-
 pub refused_after : (a b c : Ram) (x y z : Image) (fault : WriteFault) → b ≡ a → y ≡ x → Refused b y c z fault → Refused a x c z fault
 refused_after a b c x y z fault same still w = (let P : Ram → Type 0 = λ r. Refused r x c z fault in let Q : Image → Type 0 = λ i. Refused b i c z fault in subst P same (subst Q still w))
 

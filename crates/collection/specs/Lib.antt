@@ -9,6 +9,7 @@ pub mod Tables
 pub mod Cost
 pub mod Log
 pub mod Results
+pub mod Acts
 pub mod Settle
 pub mod Live
 pub mod Collect

@@ -9,7 +9,7 @@ use Rattle.collection.specs.declared.engine.step.Step.TheVariants.{Copied, Wrote
 use Rattle.collection.specs.State.{Ram}
 use Rattle.collection.specs.Live.{HoldsNoneIn}
 use Rattle.collection.specs.Results.{IsSame}
-use Rattle.collection.specs.Collect.{Ledger}
+use Rattle.collection.specs.Collect.{due_count, Ledger}
 
 -- the page from which the next step goes on, unless the block was erased
 abbrev pub next_of : ℕ → Step → Option ℕ
@@ -42,6 +42,14 @@ pub record IsSoFar (block first copies : ℕ) (old : Ram) (before : Image) (now 
   pub same : IsSame old before now after
   pub copies_left : copies + live_at now.blocks block ≤ live_at old.blocks block
   pub none : HoldsNoneIn old.geometry.pages block 0 first after
+
+-- WHATEVER THE DIE DOES A COLLECTION READS FEW PAGES: so far two for each page that it is past, and one for each translation page that it has
+-- written back. Those, and the ones that are due, are no more than the pages that it is past.
+pub record HasRead (flushing : Bool) (first : ℕ) (old now : Ram) (before after : ℕ) : Type 0 where
+  pub written : ℕ
+  pub owed : written + due_count flushing now ≤ first
+  pub within : first ≤ old.geometry.pages
+  pub few : after ≤ before + (2 * first + written)
 
 -- so many steps have been taken; translation pages are written only once no page is left to copy
 pub record IsUnderWay (flushing : Bool) (block first : ℕ) (old now : Ram) (known : Type 0) (before after : Image) : Type 0 where

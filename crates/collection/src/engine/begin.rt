@@ -1,5 +1,5 @@
 //! An engine begins, and ends.
-ghost use Rattle.std.specs.Prelude.{◌≡◌, ◌+◌, ◌<◌, ℕ, false, length, replicate, slice_get, Some, None, IfOk, IfErr, OnOk, OnErr, MatchResult};
+ghost use Rattle.std.specs.Prelude.{◌≡◌, ◌+◌, ◌<◌, ℕ, false, length, replicate, slice_get, Some, None, IfOk, MatchResult};
 ghost use Rattle.page_layout.specs.Geometry.{row_count, translation_pages, table_pages};
 ghost use Rattle.allocation.specs.View.{state};
 ghost use Rattle.collection.specs.Safe.{IsSafe, IsBuffer, ram};

@@ -1,15 +1,14 @@
 //! A block is collected: what counts is copied out of it, and it is erased.
-ghost use Rattle.std.specs.Prelude.{◌≡◌, ◌≢◌, ◌<◌, ◌≤◌, true, [], length, None, Ok, Err, OnOk, MatchResult};
-ghost use Rattle.std.specs.Option.{ForSome};
-ghost use Rattle.page_layout.specs.Counter.{HasRisen, counted};
+ghost use Rattle.std.specs.Prelude.{◌≡◌, ◌≢◌, ◌+◌, ◌*◌, ◌<◌, ◌≤◌, true, None, Ok, Err, OnOk, MatchResult};
+ghost use Rattle.page_layout.specs.Counter.{counted};
 ghost use Rattle.page_layout.specs.Geometry.{vmax};
 ghost use Rattle.allocation.specs.State.{is_closed, live_at};
 ghost use Rattle.collection.specs.Safe.{IsSafe, IsIdle, ram, image_in};
 ghost use Rattle.collection.specs.Truth as truth;
-ghost use Rattle.collection.specs.Log.{Went};
-ghost use Rattle.collection.specs.Results.{Refused, fault_after};
+ghost use Rattle.collection.specs.Results.{Refused};
 ghost use Rattle.collection.specs.Collect.{KeepsKeys, Refreshes, GoesBut, IsReleased, IsEmptied, CollectCosts, CollectCounts, IsThrifty};
 ghost use Rattle.collection.specs.Whole.{next_of, step_within, work_left};
+ghost use Rattle.collection.specs.Acts.{Acts, Stands};
 
 use super::Engine;
 use super::step::Step;
@@ -45,22 +44,16 @@ impl<N: Nand> Engine<N> {
         requires idle { IsIdle (ram self.old) }
         requires block { block < self.old.geometry.blocks }
         requires closed { is_closed (ram self.old).blocks block ≡ true }
-        ensures safe { IsSafe N.flash self.new }
+        ensures acts { Acts N.flash N.honest N.calm N.failed self.old self.new result }
         ensures idle { OnOk result (IsIdle (ram self.new)) }
         ensures goes { GoesBut block (ram self.old) (ram self.new) }
         ensures released { OnOk result (IsReleased block (ram self.old).blocks (ram self.new).blocks) }
-        ensures fault { self.new.fault ≡ self.old.fault }
-        ensures honest { N.honest self.new.nand ≡ N.honest self.old.nand }
-        ensures calm { N.calm self.new.nand ≡ N.calm self.old.nand }
-        ensures failed { N.failed self.old.nand ≤ N.failed self.new.nand }
-        ensures rose { result ≡ Err WriteFault.Bus → HasRisen (N.failed self.old.nand) (N.failed self.new.nand) }
         ensures keys { KeepsKeys self.old.mapping self.new.mapping }
         ensures refreshes { flushing ≡ true → Refreshes (ram self.old) (ram self.new) }
         ensures cost { CollectCosts flushing (ram self.old) (ram self.new) result }
+        ensures reads { N.reads self.new.nand ≤ N.reads self.old.nand + 3 * self.old.geometry.pages }
         ensures erases { OnOk result (N.erases self.new.nand ≡ counted (N.erases self.old.nand)) }
         ensures less_work { OnOk result (work_left (ram self.new) < work_left (ram self.old)) }
-        ensures went { N.honest self.old.nand ≡ true → result ≢ Err WriteFault.Bus →
-            Went (ram self.old) (N.flash self.old.nand) (ram self.new) (N.flash self.new.nand) }
         ensures truth { N.honest self.old.nand ≡ true → truth.IsTrue None (ram self.old) (image_in N.flash self.old) →
             MatchResult result
             (λ _. IsEmptied block (ram self.old) (image_in N.flash self.old) (ram self.new) (image_in N.flash self.new))
@@ -97,6 +90,9 @@ impl<N: Nand> Engine<N> {
     /// and one more for each failure: the erased pages in free and open blocks grow, or fall by at most
     /// a block's pages for each failure.
     ///
+    /// It makes at most three page reads for each page of the block: the page itself, the translation
+    /// page that tells whether it is the newest of its sector, and the one that is written back.
+    ///
     /// # Errors
     ///
     /// Those of `write_back`, as there; each stands. After `ReadOnly` and `SequenceSpent` the array is
@@ -111,22 +107,15 @@ impl<N: Nand> Engine<N> {
         requires idle { self.old.fault ≡ None → IsIdle (ram self.old) }
         requires block { block < self.old.geometry.blocks }
         requires closed { is_closed (ram self.old).blocks block ≡ true }
-        ensures safe { IsSafe N.flash self.new }
-        ensures standing { ForSome self.old.fault (λ fault. (result ≡ Err fault) × (self.new ≡ self.old)) }
-        ensures fault { self.new.fault ≡ fault_after self.old.fault result }
+        ensures stands { Stands N.flash N.honest N.calm N.failed self.old self.new result }
         ensures idle { OnOk result (IsIdle (ram self.new)) }
         ensures goes { GoesBut block (ram self.old) (ram self.new) }
         ensures released { OnOk result (IsReleased block (ram self.old).blocks (ram self.new).blocks) }
-        ensures honest { N.honest self.new.nand ≡ N.honest self.old.nand }
-        ensures calm { N.calm self.new.nand ≡ N.calm self.old.nand }
-        ensures failed { N.failed self.old.nand ≤ N.failed self.new.nand }
-        ensures rose { self.old.fault ≡ None → result ≡ Err WriteFault.Bus → HasRisen (N.failed self.old.nand) (N.failed self.new.nand) }
         ensures keys { KeepsKeys self.old.mapping self.new.mapping }
         ensures refreshes { flushing ≡ true → Refreshes (ram self.old) (ram self.new) }
+        ensures reads { N.reads self.new.nand ≤ N.reads self.old.nand + 3 * self.old.geometry.pages }
         ensures erases { OnOk result (N.erases self.new.nand ≡ counted (N.erases self.old.nand)) }
         ensures cost { self.old.fault ≡ None → CollectCosts flushing (ram self.old) (ram self.new) result }
-        ensures went { N.honest self.old.nand ≡ true → result ≢ Err WriteFault.Bus →
-            Went (ram self.old) (N.flash self.old.nand) (ram self.new) (N.flash self.new.nand) }
         ensures truth { N.honest self.old.nand ≡ true → self.old.fault ≡ None → truth.IsTrue None (ram self.old) (image_in N.flash self.old) →
             MatchResult result
             (λ _. IsEmptied block (ram self.old) (image_in N.flash self.old) (ram self.new) (image_in N.flash self.new))

@@ -1,16 +1,14 @@
 //! Pages that are the newest of their keys.
-ghost use Rattle.std.specs.Prelude.{◌≡◌, ◌≢◌, ◌↔◌, ◌+◌, ◌*◌, ◌/◌, ◌<◌, ◌≤◌, true, length, IsTrue, Some, None, Err, IfOk, IfErr, OnOk, MatchResult};
+ghost use Rattle.std.specs.Prelude.{◌≡◌, ◌↔◌, ◌+◌, ◌-◌, ◌*◌, ◌<◌, ◌≤◌, true, IsTrue, Some, None, Err, IfOk, IfErr, MatchResult};
 ghost use Rattle.std.specs.Option.{ForSome};
-ghost use Rattle.page_layout.specs.Counter.{HasRisen};
-ghost use Rattle.page_layout.specs.Key.{key_from, key_of};
 ghost use Rattle.page_layout.specs.Geometry.{row_count};
 ghost use Rattle.page_layout.specs.Live.{IsKeyOf};
 ghost use Rattle.page_layout.specs.Sound.{record_of};
 ghost use Rattle.collection.specs.Pages.{newest_row};
 ghost use Rattle.collection.specs.Safe.{IsSafe, ram, image_in, page_in};
 ghost use Rattle.collection.specs.Truth as truth;
-ghost use Rattle.collection.specs.Looks.{IsReadFault};
 ghost use Rattle.collection.specs.Live.{PointsTo, IsTaken, LooksAt, FindsFirst, IsFoundIn};
+ghost use Rattle.collection.specs.Acts.{OnlyLooks};
 
 use super::Engine;
 use super::steps::read_sound;
@@ -35,18 +33,10 @@ impl<N: Nand> Engine<N> {
     fn find_newest(&mut self, key: Key) -> Result<Option<u32>, WriteFault>
         requires safe { IsSafe N.flash self.old }
         requires key { IsKeyOf self.old.geometry key }
-        ensures safe { IsSafe N.flash self.new }
-        ensures memory { ram self.new ≡ ram self.old }
+        ensures looks { OnlyLooks N.flash N.honest N.calm N.programs N.erases N.failed self.old self.new result }
         ensures page { self.new.page ≡ self.old.page }
-        ensures honest { N.honest self.new.nand ≡ N.honest self.old.nand }
-        ensures calm { N.calm self.new.nand ≡ N.calm self.old.nand }
-        ensures programs { N.programs self.new.nand ≡ N.programs self.old.nand }
-        ensures erases { N.erases self.new.nand ≡ N.erases self.old.nand }
-        ensures failed { N.failed self.old.nand ≤ N.failed self.new.nand }
-        ensures faults { IfErr result IsReadFault }
-        ensures rose { result ≡ Err WriteFault.Bus → HasRisen (N.failed self.old.nand) (N.failed self.new.nand) }
+        ensures reads { N.reads self.new.nand ≤ N.reads self.old.nand + 1 }
         ensures points { IfOk result (PointsTo (ram self.old) (page_in self.new.scratch) key) }
-        ensures same { N.honest self.old.nand ≡ true → result ≢ Err WriteFault.Bus → N.flash self.new.nand ≡ N.flash self.old.nand }
         ensures truth { N.honest self.old.nand ≡ true → truth.IsTrue None (ram self.old) (image_in N.flash self.old) →
             MatchResult result
             (λ row. row ≡ newest_row (image_in N.flash self.old) key)
@@ -66,17 +56,10 @@ impl<N: Nand> Engine<N> {
     fn take_page(&mut self, row: u32) -> Result<Option<Record>, WriteFault>
         requires safe { IsSafe N.flash self.old }
         requires row { row < row_count self.old.geometry }
-        ensures safe { IsSafe N.flash self.new }
-        ensures memory { ram self.new ≡ ram self.old }
-        ensures honest { N.honest self.new.nand ≡ N.honest self.old.nand }
-        ensures calm { N.calm self.new.nand ≡ N.calm self.old.nand }
-        ensures programs { N.programs self.new.nand ≡ N.programs self.old.nand }
-        ensures erases { N.erases self.new.nand ≡ N.erases self.old.nand }
-        ensures failed { N.failed self.old.nand ≤ N.failed self.new.nand }
+        ensures looks { OnlyLooks N.flash N.honest N.calm N.programs N.erases N.failed self.old self.new result }
+        ensures reads { N.reads self.new.nand ≤ N.reads self.old.nand + 1 }
         ensures faults { IfErr result (λ fault. fault ≡ WriteFault.Bus) }
-        ensures rose { result ≡ Err WriteFault.Bus → HasRisen (N.failed self.old.nand) (N.failed self.new.nand) }
         ensures sound { IfOk result (λ found. found ≡ record_of (page_in self.new.page)) }
-        ensures same { N.honest self.old.nand ≡ true → result ≢ Err WriteFault.Bus → N.flash self.new.nand ≡ N.flash self.old.nand }
         ensures truth { N.honest self.old.nand ≡ true →
             IfOk result (λ found. IsTaken row found self.new.page.body.items (image_in N.flash self.old)) }
     {
@@ -98,17 +81,9 @@ impl<N: Nand> Engine<N> {
     pub(crate) fn live_record(&mut self, row: u32) -> Result<Option<Record>, WriteFault>
         requires safe { IsSafe N.flash self.old }
         requires row { row < row_count self.old.geometry }
-        ensures safe { IsSafe N.flash self.new }
-        ensures memory { ram self.new ≡ ram self.old }
-        ensures honest { N.honest self.new.nand ≡ N.honest self.old.nand }
-        ensures calm { N.calm self.new.nand ≡ N.calm self.old.nand }
-        ensures programs { N.programs self.new.nand ≡ N.programs self.old.nand }
-        ensures erases { N.erases self.new.nand ≡ N.erases self.old.nand }
-        ensures failed { N.failed self.old.nand ≤ N.failed self.new.nand }
-        ensures faults { IfErr result IsReadFault }
-        ensures rose { result ≡ Err WriteFault.Bus → HasRisen (N.failed self.old.nand) (N.failed self.new.nand) }
+        ensures looks { OnlyLooks N.flash N.honest N.calm N.programs N.erases N.failed self.old self.new result }
+        ensures reads { N.reads self.new.nand ≤ N.reads self.old.nand + 2 }
         ensures checked { IfOk result (λ found. ForSome found (IsFoundIn (ram self.old) (page_in self.new.page) (page_in self.new.scratch) row)) }
-        ensures same { N.honest self.old.nand ≡ true → result ≢ Err WriteFault.Bus → N.flash self.new.nand ≡ N.flash self.old.nand }
         ensures truth { N.honest self.old.nand ≡ true → truth.IsTrue None (ram self.old) (image_in N.flash self.old) →
             MatchResult result
             (LooksAt row self.new.page.body.items (image_in N.flash self.old))
@@ -139,19 +114,12 @@ impl<N: Nand> Engine<N> {
     ) -> Result<Option<(u32, Record)>, WriteFault>
         requires safe { IsSafe N.flash self.old }
         requires block { block < self.old.geometry.blocks }
-        ensures safe { IsSafe N.flash self.new }
-        ensures memory { ram self.new ≡ ram self.old }
-        ensures honest { N.honest self.new.nand ≡ N.honest self.old.nand }
-        ensures calm { N.calm self.new.nand ≡ N.calm self.old.nand }
-        ensures programs { N.programs self.new.nand ≡ N.programs self.old.nand }
-        ensures erases { N.erases self.new.nand ≡ N.erases self.old.nand }
-        ensures failed { N.failed self.old.nand ≤ N.failed self.new.nand }
-        ensures faults { IfErr result IsReadFault }
-        ensures rose { result ≡ Err WriteFault.Bus → HasRisen (N.failed self.old.nand) (N.failed self.new.nand) }
+        ensures looks { OnlyLooks N.flash N.honest N.calm N.programs N.erases N.failed self.old self.new result }
+        ensures reads { N.reads self.new.nand ≤ N.reads self.old.nand + 2 * (self.old.geometry.pages - first) }
+        ensures found_reads { IfOk result (λ found. ForSome found (λ f. N.reads self.new.nand ≤ N.reads self.old.nand + 2 * (f.0 + 1 - first))) }
         ensures within { IfOk result (λ found. ForSome found (λ f. (first ≤ f.0) × (f.0 < self.old.geometry.pages))) }
         ensures checked { IfOk result (λ found. ForSome found (λ f.
             IsFoundIn (ram self.old) (page_in self.new.page) (page_in self.new.scratch) (block * self.old.geometry.pages + f.0) f.1)) }
-        ensures same { N.honest self.old.nand ≡ true → result ≢ Err WriteFault.Bus → N.flash self.new.nand ≡ N.flash self.old.nand }
         ensures truth { N.honest self.old.nand ≡ true → truth.IsTrue None (ram self.old) (image_in N.flash self.old) →
             MatchResult result
             (FindsFirst self.old.geometry.pages block first self.new.page.body.items (image_in N.flash self.old))

@@ -1,5 +1,5 @@
 //! Where the newest page of a sector is, and what it holds.
-ghost use Rattle.std.specs.Prelude.{◌≡◌, ◌≢◌, ℕ, ◌+◌, ◌*◌, ◌/◌, ◌<◌, ◌≤◌, true, length, replicate, slice_get, Some, None, Ok, Err, IsSome, IfOk};
+ghost use Rattle.std.specs.Prelude.{◌≡◌, ◌≢◌, ◌+◌, ◌*◌, ◌/◌, ◌<◌, ◌≤◌, true, length, replicate, slice_get, Some, None, Ok, Err, IsSome, IfOk};
 ghost use Rattle.std.specs.Prelude.{IfErr, OnOk, OnErr, MatchResult};
 ghost use Rattle.std.specs.Option.{ForSome};
 ghost use Rattle.page_layout.specs.Page.{page};
@@ -12,6 +12,8 @@ ghost use Rattle.collection.specs.Pages.{newest_row};
 ghost use Rattle.collection.specs.Safe.{IsSafe, IsBuffer, ram, image_in, page_in};
 ghost use Rattle.collection.specs.Truth.{IsTrue};
 ghost use Rattle.collection.specs.Looks.{IsPageOf, IsRead, GivesRow, FindsRow, GivesSector, IsReadFault};
+ghost use Rattle.collection.specs.Acts.{OnlyLooks};
+ghost use Rattle.page_layout.specs.OnlyReads.{OnlyReads};
 
 use super::steps::read_sound;
 use super::{Buffer, Engine};
@@ -34,13 +36,8 @@ pub(crate) fn read_of<N: Nand>(
     requires same_geometry { (N.flash nand.old).geometry ≡ geometry.now }
     requires buffer { IsBuffer geometry.now buffer.old }
     ensures buffer { IsBuffer geometry.now buffer.new }
-    ensures geometry { (N.flash nand.new).geometry ≡ (N.flash nand.old).geometry }
-    ensures honest { N.honest nand.new ≡ N.honest nand.old }
-    ensures calm { N.calm nand.new ≡ N.calm nand.old }
+    ensures only_reads { OnlyReads N.flash N.honest N.calm N.programs N.erases N.failed nand.old nand.new }
     ensures reads { N.reads nand.new ≡ counted (N.reads nand.old) }
-    ensures programs { N.programs nand.new ≡ N.programs nand.old }
-    ensures erases { N.erases nand.new ≡ N.erases nand.old }
-    ensures failed { N.failed nand.old ≤ N.failed nand.new }
     ensures faults { IfErr result IsReadFault }
     ensures rose { result ≡ Err WriteFault.Bus → HasRisen (N.failed nand.old) (N.failed nand.new) }
 
@@ -112,24 +109,15 @@ impl<N: Nand> Engine<N> {
     pub fn row_of_sector(&mut self, sector: u32) -> Result<Option<u32>, WriteFault>
         requires safe { IsSafe N.flash self.old }
         requires sector { sector < self.old.geometry.sectors }
-        ensures safe { IsSafe N.flash self.new }
-        ensures memory { ram self.new ≡ ram self.old }
+        ensures looks { OnlyLooks N.flash N.honest N.calm N.programs N.erases N.failed self.old self.new result }
         ensures page { self.new.page ≡ self.old.page }
-        ensures honest { N.honest self.new.nand ≡ N.honest self.old.nand }
-        ensures calm { N.calm self.new.nand ≡ N.calm self.old.nand }
         ensures reads { N.reads self.new.nand ≤ N.reads self.old.nand + 1 }
-        ensures programs { N.programs self.new.nand ≡ N.programs self.old.nand }
-        ensures erases { N.erases self.new.nand ≡ N.erases self.old.nand }
-        ensures failed { N.failed self.old.nand ≤ N.failed self.new.nand }
-        ensures faults { IfErr result IsReadFault }
-        ensures rose { result ≡ Err WriteFault.Bus → HasRisen (N.failed self.old.nand) (N.failed self.new.nand) }
         ensures row { IfOk result (λ row. ForSome row (λ r. r < row_count self.old.geometry)) }
         ensures hit { ForSome (known self.old.mapping sector) (λ row. (result ≡ Ok row) × (self.new ≡ self.old)) }
         ensures unmapped { known self.old.mapping sector ≡ None → slice_get self.old.directory (sector / entries self.old.geometry) ≡ Some None →
             (result ≡ Ok None) × (self.new ≡ self.old) }
         ensures checked { known self.old.mapping sector ≡ None →
             IfOk result (GivesRow self.old.geometry self.old.directory sector (page_in self.new.scratch)) }
-        ensures same { N.honest self.old.nand ≡ true → result ≢ Err WriteFault.Bus → N.flash self.new.nand ≡ N.flash self.old.nand }
         ensures truth { N.honest self.old.nand ≡ true → IsTrue None (ram self.old) (image_in N.flash self.old) →
             MatchResult result
             (λ row. row ≡ newest_row (image_in N.flash self.old) (Sector sector))
@@ -147,22 +135,13 @@ impl<N: Nand> Engine<N> {
         requires safe { IsSafe N.flash self.old }
         requires sector { sector < self.old.geometry.sectors }
         requires unknown { known self.old.mapping sector ≡ None }
-        ensures safe { IsSafe N.flash self.new }
-        ensures memory { ram self.new ≡ ram self.old }
+        ensures looks { OnlyLooks N.flash N.honest N.calm N.programs N.erases N.failed self.old self.new result }
         ensures page { self.new.page ≡ self.old.page }
-        ensures honest { N.honest self.new.nand ≡ N.honest self.old.nand }
-        ensures calm { N.calm self.new.nand ≡ N.calm self.old.nand }
         ensures reads { N.reads self.new.nand ≤ N.reads self.old.nand + 1 }
-        ensures programs { N.programs self.new.nand ≡ N.programs self.old.nand }
-        ensures erases { N.erases self.new.nand ≡ N.erases self.old.nand }
-        ensures failed { N.failed self.old.nand ≤ N.failed self.new.nand }
-        ensures faults { IfErr result IsReadFault }
-        ensures rose { result ≡ Err WriteFault.Bus → HasRisen (N.failed self.old.nand) (N.failed self.new.nand) }
         ensures row { IfOk result (λ row. ForSome row (λ r. r < row_count self.old.geometry)) }
         ensures unmapped { slice_get self.old.directory (sector / entries self.old.geometry) ≡ Some None →
             (result ≡ Ok None) × (self.new ≡ self.old) }
         ensures checked { IfOk result (GivesRow self.old.geometry self.old.directory sector (page_in self.new.scratch)) }
-        ensures same { N.honest self.old.nand ≡ true → result ≢ Err WriteFault.Bus → N.flash self.new.nand ≡ N.flash self.old.nand }
         ensures truth { N.honest self.old.nand ≡ true → IsTrue None (ram self.old) (image_in N.flash self.old) →
             MatchResult result
             (λ row. row ≡ newest_row (image_in N.flash self.old) (Sector sector))
@@ -199,16 +178,8 @@ impl<N: Nand> Engine<N> {
         requires safe { IsSafe N.flash self.old }
         requires sector { sector < self.old.geometry.sectors }
         requires whole { length out.old ≡ self.old.geometry.data_bytes }
-        ensures safe { IsSafe N.flash self.new }
-        ensures memory { ram self.new ≡ ram self.old }
-        ensures honest { N.honest self.new.nand ≡ N.honest self.old.nand }
-        ensures calm { N.calm self.new.nand ≡ N.calm self.old.nand }
+        ensures looks { OnlyLooks N.flash N.honest N.calm N.programs N.erases N.failed self.old self.new result }
         ensures reads { N.reads self.new.nand ≤ N.reads self.old.nand + 2 }
-        ensures programs { N.programs self.new.nand ≡ N.programs self.old.nand }
-        ensures erases { N.erases self.new.nand ≡ N.erases self.old.nand }
-        ensures failed { N.failed self.old.nand ≤ N.failed self.new.nand }
-        ensures faults { IfErr result IsReadFault }
-        ensures rose { result ≡ Err WriteFault.Bus → HasRisen (N.failed self.old.nand) (N.failed self.new.nand) }
         ensures row { IfOk result (λ row. ForSome row (λ r. r < row_count self.old.geometry)) }
         ensures hit { IsSome (known self.old.mapping sector) → N.reads self.new.nand ≤ N.reads self.old.nand + 1 }
         ensures unwritten { known self.old.mapping sector ≡ Some None → (result ≡ Ok None) × (self.new ≡ self.old) }
@@ -217,7 +188,6 @@ impl<N: Nand> Engine<N> {
         ensures looked_up { IfOk result (FindsRow (ram self.old) sector (page_in self.new.scratch)) }
         ensures refused { OnErr result (out.new ≡ out.old) }
         ensures checked { IfOk result (λ row. GivesSector self.old.geometry sector row (page_in self.new.page) out.new) }
-        ensures same { N.honest self.old.nand ≡ true → result ≢ Err WriteFault.Bus → N.flash self.new.nand ≡ N.flash self.old.nand }
         ensures truth { N.honest self.old.nand ≡ true → IsTrue None (ram self.old) (image_in N.flash self.old) →
             MatchResult result
             (λ row. IsRead sector row out.new self.old.geometry (image_in N.flash self.old))

@@ -1,7 +1,6 @@
 //! A page is programmed, in whatever block takes it.
-ghost use Rattle.std.specs.Prelude.{◌≡◌, ◌≢◌, ◌+◌, ◌/◌, ◌<◌, ◌≤◌, ◌^◌, true, length, min, Some, None, Err, IfOk, IfSome, OnOk, OnErr, MatchResult};
+ghost use Rattle.std.specs.Prelude.{◌≡◌, ◌+◌, ◌<◌, ◌^◌, true, length, Some, None, Err, IfOk, IfSome, OnOk, MatchResult};
 ghost use Rattle.std.specs.Option.{ForSome};
-ghost use Rattle.page_layout.specs.Counter.{HasRisen};
 ghost use Rattle.page_layout.specs.Key.{key_from, key_of};
 ghost use Rattle.page_layout.specs.Page.{Image};
 ghost use Rattle.page_layout.specs.Geometry.{row_count};
@@ -15,8 +14,8 @@ ghost use Rattle.collection.specs.Maps.{IsPageFor};
 ghost use Rattle.collection.specs.Truth.{IsTrue};
 ghost use Rattle.collection.specs.Settle.{IsCachedKey};
 ghost use Rattle.collection.specs.Cost.{moved_live, TryCosts, PutCosts};
-ghost use Rattle.collection.specs.Log.{Went};
-ghost use Rattle.collection.specs.Results.{MayPut, Attempted, Refused, GoesPut, IsPut, IsLastPage, array_after, fault_after};
+ghost use Rattle.collection.specs.Results.{MayPut, Attempted, Refused, GoesPut, IsPut, IsLastPage, array_after};
+ghost use Rattle.collection.specs.Acts.{Acts, Stands, OnlyPrograms};
 
 use super::Engine;
 use super::steps::program_record;
@@ -53,22 +52,14 @@ impl<N: Nand> Engine<N> {
         requires next { self.old.next + 1 < 2 ^ 64 }
         requires key { IsKeyOf self.old.geometry (key_from kind number) }
         requires old_row { ForSome old_row (λ r. r < row_count self.old.geometry) }
-        ensures safe { IsSafe N.flash self.new }
+        ensures acts { Acts N.flash N.honest N.calm N.failed self.old self.new result }
         ensures goes { GoesPut (ram self.old) (ram self.new) }
-        ensures fault { self.new.fault ≡ self.old.fault }
         ensures page { self.new.page.body ≡ self.old.page.body }
         ensures scratch { self.new.scratch ≡ self.old.scratch }
-        ensures honest { N.honest self.new.nand ≡ N.honest self.old.nand }
-        ensures calm { N.calm self.new.nand ≡ N.calm self.old.nand }
-        ensures reads { N.reads self.new.nand ≡ N.reads self.old.nand }
-        ensures erases { N.erases self.new.nand ≡ N.erases self.old.nand }
-        ensures failed { N.failed self.old.nand ≤ N.failed self.new.nand }
-        ensures rose { result ≡ Err WriteFault.Bus → HasRisen (N.failed self.old.nand) (N.failed self.new.nand) }
+        ensures only_programs { OnlyPrograms N.reads N.erases self.old.nand self.new.nand }
         ensures row { IfOk result (λ row. IfSome row (IsOutside (ram self.old))) }
         ensures programmed { IfOk result (λ row. IfSome row (λ _. IsLastPage kind number (ram self.new) (page_in self.new.page))) }
         ensures cost { TryCosts (stream_of kind) (ram self.old) (ram self.new) result }
-        ensures went { N.honest self.old.nand ≡ true → result ≢ Err WriteFault.Bus →
-            Went (ram self.old) (N.flash self.old.nand) (ram self.new) (N.flash self.new.nand) }
         ensures truth { N.honest self.old.nand ≡ true →
             MayPut kind number old_row self.old.page.body.items (ram self.old) (image_in N.flash self.old) →
             MatchResult result
@@ -117,22 +108,14 @@ impl<N: Nand> Engine<N> {
         requires safe { IsSafe N.flash self.old }
         requires key { IsKeyOf self.old.geometry (key_from kind number) }
         requires old_row { ForSome old_row (λ r. r < row_count self.old.geometry) }
-        ensures safe { IsSafe N.flash self.new }
+        ensures acts { Acts N.flash N.honest N.calm N.failed self.old self.new result }
         ensures goes { GoesPut (ram self.old) (ram self.new) }
-        ensures fault { self.new.fault ≡ self.old.fault }
         ensures page { self.new.page.body ≡ self.old.page.body }
         ensures scratch { self.new.scratch ≡ self.old.scratch }
-        ensures honest { N.honest self.new.nand ≡ N.honest self.old.nand }
-        ensures calm { N.calm self.new.nand ≡ N.calm self.old.nand }
-        ensures reads { N.reads self.new.nand ≡ N.reads self.old.nand }
-        ensures erases { N.erases self.new.nand ≡ N.erases self.old.nand }
-        ensures failed { N.failed self.old.nand ≤ N.failed self.new.nand }
-        ensures rose { result ≡ Err WriteFault.Bus → HasRisen (N.failed self.old.nand) (N.failed self.new.nand) }
+        ensures only_programs { OnlyPrograms N.reads N.erases self.old.nand self.new.nand }
         ensures row { IfOk result (IsOutside (ram self.old)) }
         ensures programmed { OnOk result (IsLastPage kind number (ram self.new) (page_in self.new.page)) }
         ensures cost { PutCosts (stream_of kind) (ram self.old) (ram self.new) result }
-        ensures went { N.honest self.old.nand ≡ true → result ≢ Err WriteFault.Bus →
-            Went (ram self.old) (N.flash self.old.nand) (ram self.new) (N.flash self.new.nand) }
         ensures truth { N.honest self.old.nand ≡ true →
             MayPut kind number old_row self.old.page.body.items (ram self.old) (image_in N.flash self.old) →
             MatchResult result
@@ -199,21 +182,12 @@ impl<N: Nand> Engine<N> {
         requires key { IsKeyOf self.old.geometry (key_of written.now) }
         requires cached { IsCachedKey self.old.mapping (key_of written.now) }
         requires body { length body.now ≡ self.old.geometry.data_bytes }
-        ensures safe { IsSafe N.flash self.new }
-        ensures standing { ForSome self.old.fault (λ fault. (result ≡ Err fault) × (self.new ≡ self.old)) }
-        ensures fault { self.new.fault ≡ fault_after self.old.fault result }
+        ensures stands { Stands N.flash N.honest N.calm N.failed self.old self.new result }
         ensures goes { GoesPut (ram self.old) (ram self.new) }
-        ensures honest { N.honest self.new.nand ≡ N.honest self.old.nand }
-        ensures calm { N.calm self.new.nand ≡ N.calm self.old.nand }
-        ensures reads { N.reads self.new.nand ≡ N.reads self.old.nand }
-        ensures erases { N.erases self.new.nand ≡ N.erases self.old.nand }
-        ensures failed { N.failed self.old.nand ≤ N.failed self.new.nand }
-        ensures rose { self.old.fault ≡ None → result ≡ Err WriteFault.Bus → HasRisen (N.failed self.old.nand) (N.failed self.new.nand) }
+        ensures only_programs { OnlyPrograms N.reads N.erases self.old.nand self.new.nand }
         ensures row { IfOk result (IsOutside (ram self.old)) }
         ensures programmed { OnOk result (IsLastPage written.now.kind written.now.number (ram self.new) (page_in self.new.page)) }
         ensures cost { self.old.fault ≡ None → PutCosts stream (ram self.old) (ram self.new) result }
-        ensures went { N.honest self.old.nand ≡ true → result ≢ Err WriteFault.Bus →
-            Went (ram self.old) (N.flash self.old.nand) (ram self.new) (N.flash self.new.nand) }
         ensures truth { N.honest self.old.nand ≡ true → self.old.fault ≡ None → IsTrue None (ram self.old) (image_in N.flash self.old) →
             IsPageFor self.old.geometry (image_in N.flash self.old) self.old.mapping body.now (key_of written.now) →
             MatchResult result

@@ -1,16 +1,13 @@
 //! Free blocks are what a call needs before it programs.
-ghost use Rattle.std.specs.Prelude.{◌≡◌, ◌≢◌, ℕ, ◌<◌, ◌≤◌, true, Err, None, OnOk, IfErr, MatchResult, MatchOption};
-ghost use Rattle.std.specs.Option.{ForSome};
-ghost use Rattle.page_layout.specs.Counter.{HasRisen};
+ghost use Rattle.std.specs.Prelude.{◌≡◌, ℕ, ◌<◌, ◌≤◌, true, Err, None, OnOk, IfErr, MatchResult, MatchOption};
 ghost use Rattle.budget.specs.Spending.{IsFunded};
 ghost use Rattle.allocation.specs.State.{free_count};
 ghost use Rattle.allocation.specs.Counts.{counts_of};
 ghost use Rattle.collection.specs.Safe.{IsSafe, IsIdle, ram, image_in};
 ghost use Rattle.collection.specs.Truth as truth;
-ghost use Rattle.collection.specs.Log.{Went};
-ghost use Rattle.collection.specs.Results.{fault_after};
 ghost use Rattle.collection.specs.Collect.{KeepsKeys, Refreshes, GoesOn, HasRoom, RestsOrErases, RoomTells, IsRearranged, RoomRefused, RoomCounts};
 ghost use Rattle.collection.specs.Room.{IsMade, IsWorth};
+ghost use Rattle.collection.specs.Acts.{Acts, Stands};
 
 use super::Engine;
 use crate::fault::WriteFault;
@@ -57,21 +54,14 @@ impl<N: Nand> Engine<N> {
     fn regain(&mut self, flushing: bool) -> Result<(), WriteFault>
         requires safe { IsSafe N.flash self.old }
         requires idle { IsIdle (ram self.old) }
-        ensures safe { IsSafe N.flash self.new }
-        ensures fault { self.new.fault ≡ self.old.fault }
+        ensures acts { Acts N.flash N.honest N.calm N.failed self.old self.new result }
         ensures idle { OnOk result (IsIdle (ram self.new)) }
         ensures goes { GoesOn (ram self.old) (ram self.new) }
-        ensures honest { N.honest self.new.nand ≡ N.honest self.old.nand }
-        ensures calm { N.calm self.new.nand ≡ N.calm self.old.nand }
-        ensures failed { N.failed self.old.nand ≤ N.failed self.new.nand }
-        ensures rose { result ≡ Err WriteFault.Bus → HasRisen (N.failed self.old.nand) (N.failed self.new.nand) }
         ensures keys { KeepsKeys self.old.mapping self.new.mapping }
         ensures refreshes { flushing ≡ true → Refreshes (ram self.old) (ram self.new) }
         ensures room { OnOk result (HasRoom (ram self.new)) }
         ensures erases { OnOk result (RestsOrErases (ram self.old) (ram self.new) (N.erases self.old.nand) (N.erases self.new.nand)) }
         ensures tells { IfErr result (RoomTells (ram self.new)) }
-        ensures went { N.honest self.old.nand ≡ true → result ≢ Err WriteFault.Bus →
-            Went (ram self.old) (N.flash self.old.nand) (ram self.new) (N.flash self.new.nand) }
         ensures truth { N.honest self.old.nand ≡ true → truth.IsTrue None (ram self.old) (image_in N.flash self.old) →
             MatchResult result
             (λ _. IsRearranged (ram self.old) (image_in N.flash self.old) (ram self.new) (image_in N.flash self.new))
@@ -113,22 +103,14 @@ impl<N: Nand> Engine<N> {
     pub fn make_room(&mut self, flushing: bool) -> Result<(), WriteFault>
         requires safe { IsSafe N.flash self.old }
         requires idle { self.old.fault ≡ None → IsIdle (ram self.old) }
-        ensures safe { IsSafe N.flash self.new }
-        ensures standing { ForSome self.old.fault (λ fault. (result ≡ Err fault) × (self.new ≡ self.old)) }
-        ensures fault { self.new.fault ≡ fault_after self.old.fault result }
+        ensures stands { Stands N.flash N.honest N.calm N.failed self.old self.new result }
         ensures idle { OnOk result (IsIdle (ram self.new)) }
         ensures goes { GoesOn (ram self.old) (ram self.new) }
-        ensures honest { N.honest self.new.nand ≡ N.honest self.old.nand }
-        ensures calm { N.calm self.new.nand ≡ N.calm self.old.nand }
-        ensures failed { N.failed self.old.nand ≤ N.failed self.new.nand }
-        ensures rose { self.old.fault ≡ None → result ≡ Err WriteFault.Bus → HasRisen (N.failed self.old.nand) (N.failed self.new.nand) }
         ensures keys { KeepsKeys self.old.mapping self.new.mapping }
         ensures refreshes { flushing ≡ true → Refreshes (ram self.old) (ram self.new) }
         ensures room { OnOk result (HasRoom (ram self.new)) }
         ensures erases { OnOk result (RestsOrErases (ram self.old) (ram self.new) (N.erases self.old.nand) (N.erases self.new.nand)) }
         ensures tells { self.old.fault ≡ None → IfErr result (RoomTells (ram self.new)) }
-        ensures went { N.honest self.old.nand ≡ true → result ≢ Err WriteFault.Bus →
-            Went (ram self.old) (N.flash self.old.nand) (ram self.new) (N.flash self.new.nand) }
         ensures truth { N.honest self.old.nand ≡ true → self.old.fault ≡ None → truth.IsTrue None (ram self.old) (image_in N.flash self.old) →
             MatchResult result
             (λ _. IsRearranged (ram self.old) (image_in N.flash self.old) (ram self.new) (image_in N.flash self.new))

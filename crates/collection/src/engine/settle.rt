@@ -1,8 +1,7 @@
 //! The memory follows a page that was put.
-ghost use Rattle.std.specs.Prelude.{◌≡◌, ◌≢◌, ◌≤◌, ◌<◌, true, Some, None, Ok, Err, IfOk, OnOk, IsSome, MatchResult};
+ghost use Rattle.std.specs.Prelude.{◌≡◌, ◌<◌, true, Some, None, Ok, IfOk, OnOk, IsSome, MatchResult};
 ghost use Rattle.std.specs.Option.{ForSome};
 ghost use Rattle.std.specs.Map.{keys_of};
-ghost use Rattle.page_layout.specs.Counter.{HasRisen};
 ghost use Rattle.page_layout.specs.Key.{key_from};
 ghost use Rattle.page_layout.specs.Geometry.{row_count};
 ghost use Rattle.page_layout.specs.Live.{IsKeyOf};
@@ -12,9 +11,9 @@ ghost use Rattle.budget.specs.Stream.{stream_of};
 ghost use Rattle.collection.specs.Safe.{IsSafe, IsOutside, ram, image_in, page_in};
 ghost use Rattle.collection.specs.Truth.{IsTrue};
 ghost use Rattle.collection.specs.Cost.{PutCosts, PageCosts};
-ghost use Rattle.collection.specs.Log.{Went};
 ghost use Rattle.collection.specs.Settle.{HasPlace, SetsRow, SetsMapping, Settles, HasNoMore};
 ghost use Rattle.collection.specs.Results.{MayPut, Goes, KeepsTable, IsReplaced, IsLastPage, IsWritten, Refused};
+ghost use Rattle.collection.specs.Acts.{Acts, OnlyPrograms};
 
 use super::Engine;
 use crate::fault::WriteFault;
@@ -69,18 +68,12 @@ impl<N: Nand> Engine<N> {
         requires key { IsKeyOf self.old.geometry (key_from kind number) }
         requires place { HasPlace self.old.mapping (key_from kind number) }
         requires old_row { ForSome old_row (λ r. r < row_count self.old.geometry) }
-        ensures safe { IsSafe N.flash self.new }
+        ensures acts { Acts N.flash N.honest N.calm N.failed self.old self.new result }
         ensures goes { Goes (ram self.old) (ram self.new) }
-        ensures fault { self.new.fault ≡ self.old.fault }
         ensures page { self.new.page.body ≡ self.old.page.body }
         ensures scratch { self.new.scratch ≡ self.old.scratch }
-        ensures honest { N.honest self.new.nand ≡ N.honest self.old.nand }
-        ensures calm { N.calm self.new.nand ≡ N.calm self.old.nand }
-        ensures reads { N.reads self.new.nand ≡ N.reads self.old.nand }
-        ensures erases { N.erases self.new.nand ≡ N.erases self.old.nand }
+        ensures only_programs { OnlyPrograms N.reads N.erases self.old.nand self.new.nand }
         ensures pin { (ram self.new).pin ≡ (ram self.old).pin }
-        ensures failed { N.failed self.old.nand ≤ N.failed self.new.nand }
-        ensures rose { result ≡ Err WriteFault.Bus → HasRisen (N.failed self.old.nand) (N.failed self.new.nand) }
         ensures row { IfOk result (IsOutside (ram self.old)) }
         ensures table { KeepsTable (ram self.old).blocks (ram self.new).blocks }
         ensures mapping { MatchResult result
@@ -88,8 +81,6 @@ impl<N: Nand> Engine<N> {
             (λ _. self.new.mapping ≡ self.old.mapping) }
         ensures programmed { OnOk result (IsLastPage kind number (ram self.new) (page_in self.new.page)) }
         ensures cost { PutCosts (stream_of kind) (ram self.old) (ram self.new) result }
-        ensures went { N.honest self.old.nand ≡ true → result ≢ Err WriteFault.Bus →
-            Went (ram self.old) (N.flash self.old.nand) (ram self.new) (N.flash self.new.nand) }
         ensures truth { N.honest self.old.nand ≡ true →
             MayPut kind number old_row self.old.page.body.items (ram self.old) (image_in N.flash self.old) →
             MatchResult result
@@ -107,24 +98,16 @@ impl<N: Nand> Engine<N> {
         requires kind { key_from kind sector ≡ Sector sector }
         requires sector { sector < self.old.geometry.sectors }
         requires cached { IsSome (slot_of self.old.mapping sector) }
-        ensures safe { IsSafe N.flash self.new }
+        ensures acts { Acts N.flash N.honest N.calm N.failed self.old self.new result }
         ensures goes { Goes (ram self.old) (ram self.new) }
-        ensures fault { self.new.fault ≡ self.old.fault }
         ensures page { self.new.page.body ≡ self.old.page.body }
         ensures scratch { self.new.scratch ≡ self.old.scratch }
-        ensures honest { N.honest self.new.nand ≡ N.honest self.old.nand }
-        ensures calm { N.calm self.new.nand ≡ N.calm self.old.nand }
-        ensures reads { N.reads self.new.nand ≡ N.reads self.old.nand }
-        ensures erases { N.erases self.new.nand ≡ N.erases self.old.nand }
+        ensures only_programs { OnlyPrograms N.reads N.erases self.old.nand self.new.nand }
         ensures pin { (ram self.new).pin ≡ (ram self.old).pin }
-        ensures failed { N.failed self.old.nand ≤ N.failed self.new.nand }
-        ensures rose { result ≡ Err WriteFault.Bus → HasRisen (N.failed self.old.nand) (N.failed self.new.nand) }
         ensures keys { keys_of self.new.mapping.cached ≡ keys_of self.old.mapping.cached }
         ensures no_more { HasNoMore self.old.mapping self.new.mapping }
         ensures programmed { OnOk result (IsLastPage kind sector (ram self.new) (page_in self.new.page)) }
         ensures cost { PageCosts (stream_of kind) (ram self.old) (ram self.new) result }
-        ensures went { N.honest self.old.nand ≡ true → result ≢ Err WriteFault.Bus →
-            Went (ram self.old) (N.flash self.old.nand) (ram self.new) (N.flash self.new.nand) }
         ensures truth { N.honest self.old.nand ≡ true → IsTrue None (ram self.old) (image_in N.flash self.old) →
             MatchResult result
             (λ _. IsWritten kind sector self.old.page.body.items (ram self.old) (image_in N.flash self.old) (ram self.new) (image_in N.flash self.new))

@@ -1,25 +1,22 @@
 //! A block is collected step by step.
-ghost use Rattle.std.specs.Prelude.{◌≡◌, ◌≢◌, ◌⊎◌, ◌+◌, ◌*◌, ◌/◌, ◌<◌, ◌≤◌, ◌↔◌, true, false, [], length, replicate, slice_set, get_or, Some, None};
-ghost use Rattle.std.specs.Prelude.{Ok, Err, IfOk, IfErr, IfSome, IsTrue, OnOk, OnErr, MatchResult, MatchOption};
+ghost use Rattle.std.specs.Prelude.{◌≡◌, ◌≢◌, ℕ, ◌⊎◌, ◌+◌, ◌-◌, ◌*◌, ◌/◌, ◌<◌, ◌≤◌, true, false, [], min, length, replicate, slice_set, Some, None};
+ghost use Rattle.std.specs.Prelude.{Ok, Err, IfOk, IfErr, IsTrue, OnOk, OnErr, MatchResult, MatchOption};
 ghost use Rattle.std.specs.Option.{ForSome};
-ghost use Rattle.std.specs.Bool.{OnTrue, OnFalse};
-ghost use Rattle.page_layout.specs.Counter.{HasRisen, counted};
+ghost use Rattle.page_layout.specs.Counter.{counted};
 ghost use Rattle.page_layout.specs.Change.{HoldsNone};
 ghost use Rattle.page_layout.specs.Key.{key_of};
 ghost use Rattle.page_layout.specs.Live.{IsKeyOf};
 ghost use Rattle.page_layout.specs.Geometry.{row_count, translation_pages};
-ghost use Rattle.budget.specs.declared.stream.Stream.TheVariants.{Meta};
-ghost use Rattle.mapping_cache.specs.Mapping.{CanMove};
 ghost use Rattle.allocation.specs.State.{is_closed, live_at};
 ghost use Rattle.collection.specs.Safe.{IsSafe, IsIdle, ram, image_in, page_in, is_shut};
 ghost use Rattle.collection.specs.Truth as truth;
-ghost use Rattle.collection.specs.Log.{Went};
 ghost use Rattle.collection.specs.Live.{HoldsNoneIn, IsLivePage};
 ghost use Rattle.collection.specs.Results.{IsSame, IsKept, Refused, Goes, IsLastPage};
 ghost use Rattle.collection.specs.Whole.{erases_after};
-ghost use Rattle.collection.specs.Collect.{is_due, has_moved, is_marked, due_count, marks_after, IsLowestDue, HasNoneDue, Refreshes, KeepsKeys};
+ghost use Rattle.collection.specs.Collect.{has_moved, due_count, marks_after, IsLowestDue, HasNoneDue, Refreshes, KeepsKeys};
 ghost use Rattle.collection.specs.Collect.{GoesBut, HasCopied, HasWritten, HasErased, IsReleased, FaultCosts, HasMovedOnly, StepCosts, IsMovedOut};
-ghost use Rattle.collection.specs.Collect.{IsCopied, IsCopiedOr, IsEmptied, IsStepped};
+ghost use Rattle.collection.specs.Collect.{IsCopiedOr, IsStepped};
+ghost use Rattle.collection.specs.Acts.{Acts, OnlyPrograms};
 
 use super::Engine;
 use crate::fault::WriteFault;
@@ -87,22 +84,15 @@ impl<N: Nand> Engine<N> {
         requires key { IsKeyOf self.old.geometry (key_of found.now) }
         requires row { row < row_count self.old.geometry }
         requires room { length self.old.mapping.moved < self.old.geometry.pages }
-        ensures safe { IsSafe N.flash self.new }
+        ensures acts { Acts N.flash N.honest N.calm N.failed self.old self.new result }
         ensures goes { Goes (ram self.old) (ram self.new) }
-        ensures fault { self.new.fault ≡ self.old.fault }
-        ensures honest { N.honest self.new.nand ≡ N.honest self.old.nand }
-        ensures calm { N.calm self.new.nand ≡ N.calm self.old.nand }
-        ensures erases { N.erases self.new.nand ≡ N.erases self.old.nand }
-        ensures failed { N.failed self.old.nand ≤ N.failed self.new.nand }
-        ensures rose { result ≡ Err WriteFault.Bus → HasRisen (N.failed self.old.nand) (N.failed self.new.nand) }
+        ensures only_programs { OnlyPrograms N.reads N.erases self.old.nand self.new.nand }
         ensures keys { KeepsKeys self.old.mapping self.new.mapping }
         ensures refreshes { flushing ≡ true → Refreshes (ram self.old) (ram self.new) }
         ensures cost { MatchResult result (λ _. HasCopied flushing (ram self.old) (ram self.new)) (FaultCosts (ram self.old) (ram self.new)) }
         ensures pinned { flushing ≡ false → (ram self.new).pin ≡ (ram self.old).pin }
         ensures alone { self.old.mapping.moved ≡ [] → OnOk result (HasMovedOnly self.new.mapping (key_of found.now)) }
         ensures programmed { OnOk result (IsLastPage found.now.kind found.now.number (ram self.new) (page_in self.new.page)) }
-        ensures went { N.honest self.old.nand ≡ true → result ≢ Err WriteFault.Bus →
-            Went (ram self.old) (N.flash self.old.nand) (ram self.new) (N.flash self.new.nand) }
         ensures truth { N.honest self.old.nand ≡ true → truth.IsTrue None (ram self.old) (image_in N.flash self.old) →
             is_shut (ram self.old).blocks (row / self.old.geometry.pages) ≡ true →
             IsLivePage row self.old.page.body.items found.now (image_in N.flash self.old) →
@@ -127,13 +117,10 @@ impl<N: Nand> Engine<N> {
         requires block { block < self.old.geometry.blocks }
         requires closed { is_closed (ram self.old).blocks block ≡ true }
         requires room { length self.old.mapping.moved ≤ first }
-        ensures safe { IsSafe N.flash self.new }
+        ensures acts { Acts N.flash N.honest N.calm N.failed self.old self.new result }
         ensures goes { Goes (ram self.old) (ram self.new) }
-        ensures fault { self.new.fault ≡ self.old.fault }
-        ensures honest { N.honest self.new.nand ≡ N.honest self.old.nand }
-        ensures calm { N.calm self.new.nand ≡ N.calm self.old.nand }
-        ensures failed { N.failed self.old.nand ≤ N.failed self.new.nand }
-        ensures rose { result ≡ Err WriteFault.Bus → HasRisen (N.failed self.old.nand) (N.failed self.new.nand) }
+        ensures reads { N.reads self.new.nand ≤ N.reads self.old.nand + 2 * (self.old.geometry.pages - first) }
+        ensures copied_reads { IfOk result (λ copied. ForSome copied (λ page. N.reads self.new.nand ≤ N.reads self.old.nand + 2 * (page + 1 - first))) }
         ensures erases { N.erases self.new.nand ≡ N.erases self.old.nand }
         ensures keys { KeepsKeys self.old.mapping self.new.mapping }
         ensures refreshes { flushing ≡ true → Refreshes (ram self.old) (ram self.new) }
@@ -141,8 +128,6 @@ impl<N: Nand> Engine<N> {
         ensures within { IfOk result (λ copied. ForSome copied (λ page. (first ≤ page) × (page < self.old.geometry.pages))) }
         ensures owed { result ≡ Err WriteFault.ReadOnly → 0 < live_at (ram self.old).blocks block }
         ensures cost { MatchResult result (λ copied. ForSome copied (λ _. HasCopied flushing (ram self.old) (ram self.new))) (FaultCosts (ram self.old) (ram self.new)) }
-        ensures went { N.honest self.old.nand ≡ true → result ≢ Err WriteFault.Bus →
-            Went (ram self.old) (N.flash self.old.nand) (ram self.new) (N.flash self.new.nand) }
         ensures truth { N.honest self.old.nand ≡ true → truth.IsTrue None (ram self.old) (image_in N.flash self.old) →
             HoldsNoneIn self.old.geometry.pages block 0 first (image_in N.flash self.old) →
             MatchResult result
@@ -177,21 +162,15 @@ impl<N: Nand> Engine<N> {
     // Writes it. Answers whether there was one.
     fn write_back_lowest(&mut self, flushing: bool) -> Result<bool, WriteFault>
         requires safe { IsSafe N.flash self.old }
-        ensures safe { IsSafe N.flash self.new }
+        ensures acts { Acts N.flash N.honest N.calm N.failed self.old self.new result }
         ensures goes { Goes (ram self.old) (ram self.new) }
-        ensures fault { self.new.fault ≡ self.old.fault }
-        ensures honest { N.honest self.new.nand ≡ N.honest self.old.nand }
-        ensures calm { N.calm self.new.nand ≡ N.calm self.old.nand }
-        ensures failed { N.failed self.old.nand ≤ N.failed self.new.nand }
-        ensures rose { result ≡ Err WriteFault.Bus → HasRisen (N.failed self.old.nand) (N.failed self.new.nand) }
+        ensures reads { N.reads self.new.nand ≤ N.reads self.old.nand + min (due_count flushing (ram self.old)) 1 }
         ensures erases { N.erases self.new.nand ≡ N.erases self.old.nand }
         ensures keys { KeepsKeys self.old.mapping self.new.mapping }
         ensures refreshes { flushing ≡ true → Refreshes (ram self.old) (ram self.new) }
         ensures none { result ≡ Ok false → HasNoneDue flushing (ram self.old) × (self.new ≡ self.old) }
         ensures owed { result ≡ Err WriteFault.ReadOnly → 0 < due_count flushing (ram self.old) }
         ensures cost { MatchResult result (λ written. written ≡ true → HasWritten flushing (ram self.old) (ram self.new)) (FaultCosts (ram self.old) (ram self.new)) }
-        ensures went { N.honest self.old.nand ≡ true → result ≢ Err WriteFault.Bus →
-            Went (ram self.old) (N.flash self.old.nand) (ram self.new) (N.flash self.new.nand) }
         ensures truth { N.honest self.old.nand ≡ true → truth.IsTrue None (ram self.old) (image_in N.flash self.old) →
             MatchResult result
             (λ _. IsSame (ram self.old) (image_in N.flash self.old) (ram self.new) (image_in N.flash self.new))
@@ -211,22 +190,16 @@ impl<N: Nand> Engine<N> {
         requires safe { IsSafe N.flash self.old }
         requires block { block < self.old.geometry.blocks }
         requires closed { is_closed (ram self.old).blocks block ≡ true }
-        ensures safe { IsSafe N.flash self.new }
+        ensures acts { Acts N.flash N.honest N.calm N.failed self.old self.new result }
         ensures goes { GoesBut block (ram self.old) (ram self.new) }
         ensures erased { OnOk result (HasErased block (ram self.old) (ram self.new)) }
         ensures unmarked { OnOk result ((ram self.new).pin.marks ≡ replicate (translation_pages self.old.geometry) false) }
         ensures released { OnOk result (IsReleased block (ram self.old).blocks (ram self.new).blocks) }
         ensures refused { OnErr result (ram self.new ≡ ram self.old) }
         ensures bus { IfErr result (λ fault. fault ≡ WriteFault.Bus) }
-        ensures honest { N.honest self.new.nand ≡ N.honest self.old.nand }
-        ensures calm { N.calm self.new.nand ≡ N.calm self.old.nand }
-        ensures failed { N.failed self.old.nand ≤ N.failed self.new.nand }
-        ensures rose { result ≡ Err WriteFault.Bus → HasRisen (N.failed self.old.nand) (N.failed self.new.nand) }
         ensures reads { N.reads self.new.nand ≡ N.reads self.old.nand }
         ensures programs { N.programs self.new.nand ≡ N.programs self.old.nand }
         ensures erases { N.erases self.new.nand ≡ counted (N.erases self.old.nand) }
-        ensures went { N.honest self.old.nand ≡ true → result ≢ Err WriteFault.Bus →
-            Went (ram self.old) (N.flash self.old.nand) (ram self.new) (N.flash self.new.nand) }
         ensures truth { N.honest self.old.nand ≡ true → truth.IsTrue None (ram self.old) (image_in N.flash self.old) →
             HoldsNone self.old.geometry.pages block (image_in N.flash self.old) →
             OnOk result (IsKept (ram self.old) (image_in N.flash self.old) (ram self.new) (image_in N.flash self.new)) }
@@ -259,23 +232,19 @@ impl<N: Nand> Engine<N> {
         requires block { block < self.old.geometry.blocks }
         requires closed { is_closed (ram self.old).blocks block ≡ true }
         requires room { length self.old.mapping.moved ≤ first }
-        ensures safe { IsSafe N.flash self.new }
+        ensures acts { Acts N.flash N.honest N.calm N.failed self.old self.new result }
         ensures goes { GoesBut block (ram self.old) (ram self.new) }
         ensures goes_still { result ≢ Ok Step.Erased → Goes (ram self.old) (ram self.new) }
-        ensures fault { self.new.fault ≡ self.old.fault }
-        ensures honest { N.honest self.new.nand ≡ N.honest self.old.nand }
-        ensures calm { N.calm self.new.nand ≡ N.calm self.old.nand }
-        ensures failed { N.failed self.old.nand ≤ N.failed self.new.nand }
-        ensures rose { result ≡ Err WriteFault.Bus → HasRisen (N.failed self.old.nand) (N.failed self.new.nand) }
         ensures keys { KeepsKeys self.old.mapping self.new.mapping }
         ensures refreshes { flushing ≡ true → Refreshes (ram self.old) (ram self.new) }
         ensures idle { result ≡ Ok Step.Erased → IsIdle (ram self.new) }
         ensures released { result ≡ Ok Step.Erased → IsReleased block (ram self.old).blocks (ram self.new).blocks }
+        ensures reads { N.reads self.new.nand ≤
+            N.reads self.old.nand + (2 * (self.old.geometry.pages - first) + min (due_count flushing (ram self.old)) 1) }
+        ensures copied_reads { (page : ℕ) → result ≡ Ok (Step.Copied page) → N.reads self.new.nand ≤ N.reads self.old.nand + 2 * (page + 1 - first) }
         ensures erases { IfOk result (λ step. N.erases self.new.nand ≡ erases_after step (N.erases self.old.nand)) }
         ensures owed { result ≡ Err WriteFault.ReadOnly → (0 < live_at (ram self.old).blocks block) ⊎ (0 < due_count flushing (ram self.old)) }
         ensures cost { StepCosts flushing block first (ram self.old) (ram self.new) result }
-        ensures went { N.honest self.old.nand ≡ true → result ≢ Err WriteFault.Bus →
-            Went (ram self.old) (N.flash self.old.nand) (ram self.new) (N.flash self.new.nand) }
         ensures truth { N.honest self.old.nand ≡ true → truth.IsTrue None (ram self.old) (image_in N.flash self.old) →
             HoldsNoneIn self.old.geometry.pages block 0 first (image_in N.flash self.old) →
             MatchResult result

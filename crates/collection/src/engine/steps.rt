@@ -1,5 +1,5 @@
 //! Single operations of the die.
-ghost use Rattle.std.specs.Prelude.{◌≡◌, ◌≤◌, ◌<◌, true, length, slice_get, get_or, Some, None, IfOk, OnOk, OnErr};
+ghost use Rattle.std.specs.Prelude.{◌≡◌, ◌≤◌, ◌<◌, true, length, slice_get, Some, IfOk, OnOk, OnErr};
 ghost use Rattle.page_layout.specs.Page.{page, IsImage};
 ghost use Rattle.page_layout.specs.Counter.{counted, HasRisen};
 ghost use Rattle.page_layout.specs.Geometry.{row_count};
@@ -7,6 +7,7 @@ ghost use Rattle.page_layout.specs.Sound.{record_of};
 ghost use Rattle.page_layout.specs.Change.{ProgramMeans};
 ghost use Rattle.onfi_cycles.specs.Outcomes.{is_passed};
 ghost use Rattle.collection.specs.Results.{CanProgram, IsStep};
+ghost use Rattle.page_layout.specs.OnlyReads.{OnlyReads};
 
 use onfi_cycles::{BusFault, Nand, Outcome};
 use page_layout::geometry::Geometry;
@@ -57,13 +58,8 @@ pub(crate) fn read_sound<N: Nand>(
     requires same_geometry { (N.flash nand.old).geometry ≡ geometry.now }
     requires body_whole { length body.old ≡ geometry.now.data_bytes }
     requires spare_whole { length spare.old ≡ geometry.now.spare_bytes }
-    ensures geometry { (N.flash nand.new).geometry ≡ (N.flash nand.old).geometry }
-    ensures honest { N.honest nand.new ≡ N.honest nand.old }
-    ensures calm { N.calm nand.new ≡ N.calm nand.old }
+    ensures only_reads { OnlyReads N.flash N.honest N.calm N.programs N.erases N.failed nand.old nand.new }
     ensures reads { N.reads nand.new ≡ counted (N.reads nand.old) }
-    ensures programs { N.programs nand.new ≡ N.programs nand.old }
-    ensures erases { N.erases nand.new ≡ N.erases nand.old }
-    ensures failed { N.failed nand.old ≤ N.failed nand.new }
     ensures rose { OnErr result (HasRisen (N.failed nand.old) (N.failed nand.new)) }
     ensures same { N.honest nand.old ≡ true → OnOk result (N.flash nand.new ≡ N.flash nand.old) }
     ensures record { IfOk result (λ found. found ≡ record_of (page body.new spare.new)) }

@@ -1,15 +1,13 @@
 //! Table pages are written.
-ghost use Rattle.std.specs.Prelude.{◌≡◌, ◌≢◌, ◌/◌, ◌<◌, ◌≤◌, true, length, None, Err, OnOk, MatchResult};
-ghost use Rattle.std.specs.Option.{ForSome};
-ghost use Rattle.page_layout.specs.Counter.{HasRisen};
+ghost use Rattle.std.specs.Prelude.{◌≡◌, ◌<◌, true, None, OnOk, MatchResult};
 ghost use Rattle.page_layout.specs.Geometry.{entries, table_pages};
 ghost use Rattle.bad_blocks.specs.TablePage.{table_bytes};
 ghost use Rattle.budget.specs.declared.stream.Stream.TheVariants.{Meta};
 ghost use Rattle.collection.specs.Safe.{IsSafe, ram, image_in, page_in};
 ghost use Rattle.collection.specs.Truth.{IsTrue};
 ghost use Rattle.collection.specs.Cost.{PageCosts};
-ghost use Rattle.collection.specs.Log.{Went};
-ghost use Rattle.collection.specs.Results.{IsLastPage, IsTabled, Refused, Goes, KeepsTable, fault_after};
+ghost use Rattle.collection.specs.Results.{IsLastPage, IsTabled, Refused, Goes, KeepsTable};
+ghost use Rattle.collection.specs.Acts.{Acts, Stands, OnlyPrograms};
 
 use super::Engine;
 use crate::fault::WriteFault;
@@ -22,23 +20,15 @@ impl<N: Nand> Engine<N> {
     fn put_table(&mut self, u: u32) -> Result<(), WriteFault>
         requires safe { IsSafe N.flash self.old }
         requires page { u < table_pages self.old.geometry }
-        ensures safe { IsSafe N.flash self.new }
+        ensures acts { Acts N.flash N.honest N.calm N.failed self.old self.new result }
         ensures goes { Goes (ram self.old) (ram self.new) }
         ensures table { KeepsTable (ram self.old).blocks (ram self.new).blocks }
         ensures mapping { self.new.mapping ≡ self.old.mapping }
         ensures pin { (ram self.new).pin ≡ (ram self.old).pin }
-        ensures fault { self.new.fault ≡ self.old.fault }
-        ensures honest { N.honest self.new.nand ≡ N.honest self.old.nand }
-        ensures calm { N.calm self.new.nand ≡ N.calm self.old.nand }
-        ensures reads { N.reads self.new.nand ≡ N.reads self.old.nand }
-        ensures erases { N.erases self.new.nand ≡ N.erases self.old.nand }
-        ensures failed { N.failed self.old.nand ≤ N.failed self.new.nand }
-        ensures rose { result ≡ Err WriteFault.Bus → HasRisen (N.failed self.old.nand) (N.failed self.new.nand) }
+        ensures only_programs { OnlyPrograms N.reads N.erases self.old.nand self.new.nand }
         ensures spelled { self.new.page.body.items ≡ table_bytes (entries self.old.geometry) (ram self.old).blocks.table u }
         ensures programmed { OnOk result (IsLastPage Kind.Table u (ram self.new) (page_in self.new.page)) }
         ensures cost { PageCosts Meta (ram self.old) (ram self.new) result }
-        ensures went { N.honest self.old.nand ≡ true → result ≢ Err WriteFault.Bus →
-            Went (ram self.old) (N.flash self.old.nand) (ram self.new) (N.flash self.new.nand) }
         ensures truth { N.honest self.old.nand ≡ true → IsTrue None (ram self.old) (image_in N.flash self.old) →
             MatchResult result
             (λ _. IsTabled u (ram self.old) (image_in N.flash self.old) (ram self.new) (image_in N.flash self.new))
@@ -64,25 +54,16 @@ impl<N: Nand> Engine<N> {
     pub fn write_table(&mut self, u: u32) -> Result<(), WriteFault>
         requires safe { IsSafe N.flash self.old }
         requires page { u < table_pages self.old.geometry }
-        ensures safe { IsSafe N.flash self.new }
-        ensures standing { ForSome self.old.fault (λ fault. (result ≡ Err fault) × (self.new ≡ self.old)) }
-        ensures fault { self.new.fault ≡ fault_after self.old.fault result }
+        ensures stands { Stands N.flash N.honest N.calm N.failed self.old self.new result }
         ensures goes { Goes (ram self.old) (ram self.new) }
         ensures table { KeepsTable (ram self.old).blocks (ram self.new).blocks }
         ensures mapping { self.new.mapping ≡ self.old.mapping }
         ensures pin { (ram self.new).pin ≡ (ram self.old).pin }
-        ensures honest { N.honest self.new.nand ≡ N.honest self.old.nand }
-        ensures calm { N.calm self.new.nand ≡ N.calm self.old.nand }
-        ensures reads { N.reads self.new.nand ≡ N.reads self.old.nand }
-        ensures erases { N.erases self.new.nand ≡ N.erases self.old.nand }
-        ensures failed { N.failed self.old.nand ≤ N.failed self.new.nand }
-        ensures rose { self.old.fault ≡ None → result ≡ Err WriteFault.Bus → HasRisen (N.failed self.old.nand) (N.failed self.new.nand) }
+        ensures only_programs { OnlyPrograms N.reads N.erases self.old.nand self.new.nand }
         ensures spelled { self.old.fault ≡ None →
             self.new.page.body.items ≡ table_bytes (entries self.old.geometry) (ram self.old).blocks.table u }
         ensures programmed { OnOk result (IsLastPage Kind.Table u (ram self.new) (page_in self.new.page)) }
         ensures cost { self.old.fault ≡ None → PageCosts Meta (ram self.old) (ram self.new) result }
-        ensures went { N.honest self.old.nand ≡ true → result ≢ Err WriteFault.Bus →
-            Went (ram self.old) (N.flash self.old.nand) (ram self.new) (N.flash self.new.nand) }
         ensures truth { N.honest self.old.nand ≡ true → self.old.fault ≡ None → IsTrue None (ram self.old) (image_in N.flash self.old) →
             MatchResult result
             (λ _. IsTabled u (ram self.old) (image_in N.flash self.old) (ram self.new) (image_in N.flash self.new))

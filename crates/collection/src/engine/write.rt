@@ -1,17 +1,15 @@
 //! A cached sector is written or trimmed.
-ghost use Rattle.std.specs.Prelude.{◌≡◌, ◌≢◌, ◌≤◌, ◌<◌, true, length, Some, None, Err, IsSome, OnOk, MatchResult};
-ghost use Rattle.std.specs.Option.{ForSome};
+ghost use Rattle.std.specs.Prelude.{◌≡◌, ◌<◌, true, length, None, IsSome, OnOk, MatchResult};
 ghost use Rattle.std.specs.Map.{keys_of};
-ghost use Rattle.page_layout.specs.Counter.{HasRisen};
 ghost use Rattle.page_layout.specs.Array.{zeros};
 ghost use Rattle.mapping_cache.specs.Mapping.{slot_of};
 ghost use Rattle.budget.specs.declared.stream.Stream.TheVariants.{Data};
 ghost use Rattle.collection.specs.Safe.{IsSafe, ram, image_in, page_in};
 ghost use Rattle.collection.specs.Truth.{IsTrue};
 ghost use Rattle.collection.specs.Cost.{PageCosts};
-ghost use Rattle.collection.specs.Log.{Went};
 ghost use Rattle.collection.specs.Settle.{HasNoMore};
-ghost use Rattle.collection.specs.Results.{IsLastPage, IsWritten, Refused, Goes, fault_after};
+ghost use Rattle.collection.specs.Results.{IsLastPage, IsWritten, Refused, Goes};
+ghost use Rattle.collection.specs.Acts.{Stands, OnlyPrograms};
 
 use super::Engine;
 use super::look::clear;
@@ -34,25 +32,16 @@ impl<N: Nand> Engine<N> {
         requires sector { sector < self.old.geometry.sectors }
         requires cached { IsSome (slot_of self.old.mapping sector) }
         requires body { length body.now ≡ self.old.geometry.data_bytes }
-        ensures safe { IsSafe N.flash self.new }
-        ensures standing { ForSome self.old.fault (λ fault. (result ≡ Err fault) × (self.new ≡ self.old)) }
-        ensures fault { self.new.fault ≡ fault_after self.old.fault result }
+        ensures stands { Stands N.flash N.honest N.calm N.failed self.old self.new result }
         ensures goes { Goes (ram self.old) (ram self.new) }
-        ensures honest { N.honest self.new.nand ≡ N.honest self.old.nand }
-        ensures calm { N.calm self.new.nand ≡ N.calm self.old.nand }
-        ensures reads { N.reads self.new.nand ≡ N.reads self.old.nand }
-        ensures erases { N.erases self.new.nand ≡ N.erases self.old.nand }
+        ensures only_programs { OnlyPrograms N.reads N.erases self.old.nand self.new.nand }
         ensures pin { (ram self.new).pin ≡ (ram self.old).pin }
-        ensures failed { N.failed self.old.nand ≤ N.failed self.new.nand }
-        ensures rose { self.old.fault ≡ None → result ≡ Err WriteFault.Bus → HasRisen (N.failed self.old.nand) (N.failed self.new.nand) }
         ensures keys { keys_of self.new.mapping.cached ≡ keys_of self.old.mapping.cached }
         ensures no_more { HasNoMore self.old.mapping self.new.mapping }
         ensures page { self.old.fault ≡ None → self.new.page.body.items ≡ body.now }
         ensures scratch { self.new.scratch ≡ self.old.scratch }
         ensures programmed { OnOk result (IsLastPage Kind.Sector sector (ram self.new) (page_in self.new.page)) }
         ensures cost { self.old.fault ≡ None → PageCosts Data (ram self.old) (ram self.new) result }
-        ensures went { N.honest self.old.nand ≡ true → result ≢ Err WriteFault.Bus →
-            Went (ram self.old) (N.flash self.old.nand) (ram self.new) (N.flash self.new.nand) }
         ensures truth { N.honest self.old.nand ≡ true → self.old.fault ≡ None → IsTrue None (ram self.old) (image_in N.flash self.old) →
             MatchResult result
             (λ _. IsWritten Kind.Sector sector body.now (ram self.old) (image_in N.flash self.old) (ram self.new) (image_in N.flash self.new))
@@ -77,25 +66,16 @@ impl<N: Nand> Engine<N> {
         requires safe { IsSafe N.flash self.old }
         requires sector { sector < self.old.geometry.sectors }
         requires cached { IsSome (slot_of self.old.mapping sector) }
-        ensures safe { IsSafe N.flash self.new }
-        ensures standing { ForSome self.old.fault (λ fault. (result ≡ Err fault) × (self.new ≡ self.old)) }
-        ensures fault { self.new.fault ≡ fault_after self.old.fault result }
+        ensures stands { Stands N.flash N.honest N.calm N.failed self.old self.new result }
         ensures goes { Goes (ram self.old) (ram self.new) }
-        ensures honest { N.honest self.new.nand ≡ N.honest self.old.nand }
-        ensures calm { N.calm self.new.nand ≡ N.calm self.old.nand }
-        ensures reads { N.reads self.new.nand ≡ N.reads self.old.nand }
-        ensures erases { N.erases self.new.nand ≡ N.erases self.old.nand }
+        ensures only_programs { OnlyPrograms N.reads N.erases self.old.nand self.new.nand }
         ensures pin { (ram self.new).pin ≡ (ram self.old).pin }
-        ensures failed { N.failed self.old.nand ≤ N.failed self.new.nand }
-        ensures rose { self.old.fault ≡ None → result ≡ Err WriteFault.Bus → HasRisen (N.failed self.old.nand) (N.failed self.new.nand) }
         ensures keys { keys_of self.new.mapping.cached ≡ keys_of self.old.mapping.cached }
         ensures no_more { HasNoMore self.old.mapping self.new.mapping }
         ensures page { self.old.fault ≡ None → self.new.page.body.items ≡ zeros self.old.geometry }
         ensures scratch { self.new.scratch ≡ self.old.scratch }
         ensures programmed { OnOk result (IsLastPage Kind.Trim sector (ram self.new) (page_in self.new.page)) }
         ensures cost { self.old.fault ≡ None → PageCosts Data (ram self.old) (ram self.new) result }
-        ensures went { N.honest self.old.nand ≡ true → result ≢ Err WriteFault.Bus →
-            Went (ram self.old) (N.flash self.old.nand) (ram self.new) (N.flash self.new.nand) }
         ensures truth { N.honest self.old.nand ≡ true → self.old.fault ≡ None → IsTrue None (ram self.old) (image_in N.flash self.old) →
             MatchResult result
             (λ _. IsWritten Kind.Trim sector (zeros self.old.geometry) (ram self.old) (image_in N.flash self.old) (ram self.new) (image_in N.flash self.new))

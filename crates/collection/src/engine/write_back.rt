@@ -1,8 +1,7 @@
 //! Translation pages are brought up to date.
-ghost use Rattle.std.specs.Prelude.{◌≡◌, ◌≢◌, ℕ, ◌+◌, ◌*◌, ◌/◌, ◌<◌, ◌≤◌, true, slice_get, Option, Some, None, Ok, Err, IfErr, OnOk, OnErr, MatchResult};
+ghost use Rattle.std.specs.Prelude.{◌≡◌, ℕ, ◌+◌, ◌<◌, ◌≤◌, true, slice_get, Option, Some, None, Ok, OnOk, OnErr, MatchResult};
 ghost use Rattle.std.specs.Option.{ForSome};
 ghost use Rattle.std.specs.Map.{keys_of};
-ghost use Rattle.page_layout.specs.Counter.{HasRisen};
 ghost use Rattle.page_layout.specs.Geometry.{row_count, translation_pages};
 ghost use Rattle.page_layout.specs.declared.record.Key.TheVariants.{Translation};
 ghost use Rattle.mapping_cache.specs.Mapping.{per_page, cleaned};
@@ -10,10 +9,10 @@ ghost use Rattle.collection.specs.Pages.{newest_row};
 ghost use Rattle.collection.specs.Safe.{IsSafe, ram, image_in, page_in};
 ghost use Rattle.collection.specs.Truth.{IsTrue};
 ghost use Rattle.collection.specs.Cost.{WriteBackCosts};
-ghost use Rattle.collection.specs.Log.{Went};
-ghost use Rattle.collection.specs.Looks.{IsLoaded, IsFilled, IsPadded, StartsFrom, IsBroughtUp, IsReadFault};
+ghost use Rattle.collection.specs.Looks.{IsLoaded, IsFilled, IsPadded, StartsFrom, IsBroughtUp};
 ghost use Rattle.collection.specs.Settle.{Cleans, HasNoMore};
-ghost use Rattle.collection.specs.Results.{IsLastPage, IsWrittenBack, Refused, Goes, fault_after};
+ghost use Rattle.collection.specs.Results.{IsLastPage, IsWrittenBack, Refused, Goes};
+ghost use Rattle.collection.specs.Acts.{OnlyLooks, Acts, Stands};
 
 use super::Engine;
 use super::entries::{clear_entries, fill_entries};
@@ -27,17 +26,8 @@ impl<N: Nand> Engine<N> {
     fn load_translation(&mut self, t: u32, row: Option<u32>) -> Result<(), WriteFault>
         requires safe { IsSafe N.flash self.old }
         requires row { ForSome row (λ r. r < row_count self.old.geometry) }
-        ensures safe { IsSafe N.flash self.new }
-        ensures memory { ram self.new ≡ ram self.old }
-        ensures honest { N.honest self.new.nand ≡ N.honest self.old.nand }
-        ensures calm { N.calm self.new.nand ≡ N.calm self.old.nand }
+        ensures looks { OnlyLooks N.flash N.honest N.calm N.programs N.erases N.failed self.old self.new result }
         ensures reads { N.reads self.new.nand ≤ N.reads self.old.nand + 1 }
-        ensures programs { N.programs self.new.nand ≡ N.programs self.old.nand }
-        ensures erases { N.erases self.new.nand ≡ N.erases self.old.nand }
-        ensures failed { N.failed self.old.nand ≤ N.failed self.new.nand }
-        ensures faults { IfErr result IsReadFault }
-        ensures rose { result ≡ Err WriteFault.Bus → HasRisen (N.failed self.old.nand) (N.failed self.new.nand) }
-        ensures same { N.honest self.old.nand ≡ true → result ≢ Err WriteFault.Bus → N.flash self.new.nand ≡ N.flash self.old.nand }
         ensures checked { OnOk result (StartsFrom t row (page_in self.new.page)) }
         ensures truth { N.honest self.old.nand ≡ true → newest_row (image_in N.flash self.old) (Translation t) ≡ row →
             MatchResult result
@@ -60,17 +50,8 @@ impl<N: Nand> Engine<N> {
         requires safe { IsSafe N.flash self.old }
         requires page { t < translation_pages self.old.geometry }
         requires row { ForSome row (λ r. r < row_count self.old.geometry) }
-        ensures safe { IsSafe N.flash self.new }
-        ensures memory { ram self.new ≡ ram self.old }
-        ensures honest { N.honest self.new.nand ≡ N.honest self.old.nand }
-        ensures calm { N.calm self.new.nand ≡ N.calm self.old.nand }
+        ensures looks { OnlyLooks N.flash N.honest N.calm N.programs N.erases N.failed self.old self.new result }
         ensures reads { N.reads self.new.nand ≤ N.reads self.old.nand + 1 }
-        ensures programs { N.programs self.new.nand ≡ N.programs self.old.nand }
-        ensures erases { N.erases self.new.nand ≡ N.erases self.old.nand }
-        ensures failed { N.failed self.old.nand ≤ N.failed self.new.nand }
-        ensures faults { IfErr result IsReadFault }
-        ensures rose { result ≡ Err WriteFault.Bus → HasRisen (N.failed self.old.nand) (N.failed self.new.nand) }
-        ensures same { N.honest self.old.nand ≡ true → result ≢ Err WriteFault.Bus → N.flash self.new.nand ≡ N.flash self.old.nand }
         ensures padded { OnOk result (IsPadded self.old.geometry t self.new.page.body.items) }
         ensures checked { OnOk result (IsBroughtUp t row self.old.geometry self.old.mapping self.new.page.body.items) }
         ensures truth { N.honest self.old.nand ≡ true → IsTrue None (ram self.old) (image_in N.flash self.old) →
@@ -88,16 +69,11 @@ impl<N: Nand> Engine<N> {
     pub(crate) fn write_page_back(&mut self, t: u32) -> Result<(), WriteFault>
         requires safe { IsSafe N.flash self.old }
         requires page { t < translation_pages self.old.geometry }
-        ensures safe { IsSafe N.flash self.new }
+        ensures acts { Acts N.flash N.honest N.calm N.failed self.old self.new result }
         ensures goes { Goes (ram self.old) (ram self.new) }
-        ensures fault { self.new.fault ≡ self.old.fault }
-        ensures honest { N.honest self.new.nand ≡ N.honest self.old.nand }
-        ensures calm { N.calm self.new.nand ≡ N.calm self.old.nand }
         ensures reads { N.reads self.new.nand ≤ N.reads self.old.nand + 1 }
         ensures erases { N.erases self.new.nand ≡ N.erases self.old.nand }
         ensures pin { (ram self.new).pin ≡ (ram self.old).pin }
-        ensures failed { N.failed self.old.nand ≤ N.failed self.new.nand }
-        ensures rose { result ≡ Err WriteFault.Bus → HasRisen (N.failed self.old.nand) (N.failed self.new.nand) }
         ensures cleaned { OnOk result (self.new.mapping ≡ cleaned self.old.mapping t) }
         ensures cleans { OnOk result (Cleans (per_page self.old.mapping) t self.old.mapping self.new.mapping) }
         ensures keys { keys_of self.new.mapping.cached ≡ keys_of self.old.mapping.cached }
@@ -108,8 +84,6 @@ impl<N: Nand> Engine<N> {
             IsBroughtUp t row self.old.geometry self.old.mapping self.new.page.body.items) }
         ensures programmed { OnOk result (IsLastPage Kind.Translation t (ram self.new) (page_in self.new.page)) }
         ensures cost { WriteBackCosts (ram self.old) (ram self.new) result }
-        ensures went { N.honest self.old.nand ≡ true → result ≢ Err WriteFault.Bus →
-            Went (ram self.old) (N.flash self.old.nand) (ram self.new) (N.flash self.new.nand) }
         ensures truth { N.honest self.old.nand ≡ true → IsTrue None (ram self.old) (image_in N.flash self.old) →
             MatchResult result
             (λ _. IsWrittenBack t (ram self.old) (image_in N.flash self.old) (ram self.new) (image_in N.flash self.new))
@@ -146,17 +120,11 @@ impl<N: Nand> Engine<N> {
     pub fn write_back(&mut self, t: u32) -> Result<(), WriteFault>
         requires safe { IsSafe N.flash self.old }
         requires page { t < translation_pages self.old.geometry }
-        ensures safe { IsSafe N.flash self.new }
-        ensures standing { ForSome self.old.fault (λ fault. (result ≡ Err fault) × (self.new ≡ self.old)) }
-        ensures fault { self.new.fault ≡ fault_after self.old.fault result }
+        ensures stands { Stands N.flash N.honest N.calm N.failed self.old self.new result }
         ensures goes { Goes (ram self.old) (ram self.new) }
-        ensures honest { N.honest self.new.nand ≡ N.honest self.old.nand }
-        ensures calm { N.calm self.new.nand ≡ N.calm self.old.nand }
         ensures reads { N.reads self.new.nand ≤ N.reads self.old.nand + 1 }
         ensures erases { N.erases self.new.nand ≡ N.erases self.old.nand }
         ensures pin { (ram self.new).pin ≡ (ram self.old).pin }
-        ensures failed { N.failed self.old.nand ≤ N.failed self.new.nand }
-        ensures rose { self.old.fault ≡ None → result ≡ Err WriteFault.Bus → HasRisen (N.failed self.old.nand) (N.failed self.new.nand) }
         ensures cleaned { OnOk result (self.new.mapping ≡ cleaned self.old.mapping t) }
         ensures cleans { OnOk result (Cleans (per_page self.old.mapping) t self.old.mapping self.new.mapping) }
         ensures keys { keys_of self.new.mapping.cached ≡ keys_of self.old.mapping.cached }
@@ -167,8 +135,6 @@ impl<N: Nand> Engine<N> {
             IsBroughtUp t row self.old.geometry self.old.mapping self.new.page.body.items) }
         ensures programmed { OnOk result (IsLastPage Kind.Translation t (ram self.new) (page_in self.new.page)) }
         ensures cost { self.old.fault ≡ None → WriteBackCosts (ram self.old) (ram self.new) result }
-        ensures went { N.honest self.old.nand ≡ true → result ≢ Err WriteFault.Bus →
-            Went (ram self.old) (N.flash self.old.nand) (ram self.new) (N.flash self.new.nand) }
         ensures truth { N.honest self.old.nand ≡ true → self.old.fault ≡ None → IsTrue None (ram self.old) (image_in N.flash self.old) →
             MatchResult result
             (λ _. IsWrittenBack t (ram self.old) (image_in N.flash self.old) (ram self.new) (image_in N.flash self.new))

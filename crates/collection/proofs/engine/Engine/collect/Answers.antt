@@ -1,15 +1,10 @@
 use Rattle.collection.specs.Safe.{ram}
-use Rattle.collection.proofs.Gates.{ram_noted, went_noted}
+use Rattle.collection.proofs.Acts.{acts_noted, not_standing}
 use Rattle.collection.proofs.Noted.{but_noted, fresh_noted, cost_noted, emptied_noted}
 use Rattle.collection.proofs.engine.Engine.collect.Goals as goal
 
-pub returns-clause-safe : goal.returns-clause-safe
-returns-clause-safe g c = rw c.noted.ensures.noted (record {
-  memory = ram_noted _ (ram c.collect_block-answer.new.self) c.collect_block-answer.ensures.safe.memory;
-  geometry = c.collect_block-answer.ensures.safe.geometry;
-  page = c.collect_block-answer.ensures.safe.page;
-  scratch = c.collect_block-answer.ensures.safe.scratch;
-})
+pub returns-clause-stands : goal.returns-clause-stands
+returns-clause-stands g c = rw (c.noted.ensures.same, c.noted.ensures.noted) (acts_noted _ _ _ (not_standing _ _ c.in_ok-standing.ensures) c.collect_block-answer.ensures.acts)
 
 pub returns-clause-goes : goal.returns-clause-goes
 returns-clause-goes g c = rw c.noted.ensures.noted (but_noted _ c.args.block _ (ram c.collect_block-answer.new.self) c.collect_block-answer.ensures.goes)
@@ -19,9 +14,6 @@ returns-clause-refreshes g c = λ on. rw c.noted.ensures.noted (fresh_noted _ _ 
 
 pub returns-clause-cost : goal.returns-clause-cost
 returns-clause-cost g c = λ none. rw (c.noted.ensures.same, c.noted.ensures.noted) (cost_noted _ c.args.flushing _ (ram c.collect_block-answer.new.self) c.collect_block-answer.result c.collect_block-answer.ensures.cost)
-
-pub returns-clause-went : goal.returns-clause-went
-returns-clause-went g c = λ honest. rw (c.noted.ensures.same, c.noted.ensures.noted) (λ ne. went_noted _ _ (ram c.collect_block-answer.new.self) _ _ (c.collect_block-answer.ensures.went honest ne))
 
 pub returns-clause-truth : goal.returns-clause-truth
 returns-clause-truth g c = λ honest none w. rw (c.noted.ensures.same, c.noted.ensures.noted) (emptied_noted _ c.args.block _ (ram c.collect_block-answer.new.self) _ _ c.collect_block-answer.result (c.collect_block-answer.ensures.truth honest w))

@@ -2,32 +2,28 @@ use Rattle.std.proofs.Common.{◌≡◌, ◌∙◌, Ok, Err, length, ap, sym, re
 use Rattle.std.proofs.lemmas.Result.{err_from_is_err_and}
 use Rattle.page_layout.specs.Counter.{counted}
 use Rattle.collection.specs.Safe.{ram}
-use Rattle.collection.proofs.Costs.{not_bus}
+use Rattle.collection.proofs.Acts.{acts_same, acts_then, acts_ok, acts_err}
 use Rattle.collection.proofs.Memory.{goes_same, goes_then}
-use Rattle.collection.proofs.Logs.{went_same, went_then}
-use Rattle.collection.proofs.Looks.{none_from, ok_not_bus}
+use Rattle.collection.proofs.Looks.{none_from}
 use Rattle.collection.proofs.Puts.{refused_then}
 use Rattle.collection.proofs.Copies.{keys_same, keys_then, refreshes_same, refreshes_then}
 use Rattle.collection.proofs.Ledgers.{begun, stepped, still_goes, still_erased, once_erased, room_next, steps_fall, but_then, ends_erased, erased_by}
 use Rattle.collection.proofs.Ledgers.{emptied_by, emptied_then, collected_cost, less_work, counts_collected, thrifty_erased, thrifty_refused}
 use Rattle.collection.proofs.Ledgers.{refused_cost, refused_counts, closed_still, released_from, undamaged}
+use Rattle.collection.proofs.PageReads.{none_read, read_more, read_all}
 use Rattle.collection.specs.Whole.{next_of}
 use Rattle.collection.proofs.engine.Engine.collect_block.Goals as goal
 
 pub steps-init : goal.steps-init
 steps-init g c = record {
-  safe = c.requires.safe;
+  acts = acts_same _ c.requires.safe;
   goes = goes_same (ram c.args.self.now);
-  fault = refl;
-  as_honest = refl;
-  as_calm = refl;
   as_erased = refl;
-  faults = omega arith;
   keys = keys_same c.args.self.now.mapping c.args.self.now.mapping refl;
   refreshes = λ on. refreshes_same (ram c.args.self.now) (ram c.args.self.now) refl refl;
   room = (let e : length c.args.self.now.mapping.moved ≡ 0 = ap length c.requires.idle.moved in omega arith);
   closed = c.requires.closed;
-  went = λ honest. went_same (ram c.args.self.now) (g.N.PageSource.flash c.args.self.now.nand);
+  reads = none_read c.args.flushing (ram c.args.self.now) _ c.requires.idle;
   under_way = begun c.args.flushing c.args.block (ram c.args.self.now) _ _ c.requires.safe.memory c.requires.idle (λ k. k.1);
 }
 
@@ -40,19 +36,15 @@ steps-preserved g c =
     let is = sym c.next_page-going_on.ensures ∙ c.in-Some.is in
     let goes = still_goes _ c.in-Some.next c.in_ok-step.step now new is c.in_ok-step.ensures.goes_still in
     record {
-      safe = c.collect_step.ensures.safe;
+      acts = acts_then _ _ _ tt _ i.goes.geometry i.acts (acts_ok _ _ _ _ c.in_ok-step.ensures.acts);
       goes = goes_then old now new i.goes goes;
-      fault = c.collect_step.ensures.fault ∙ i.fault;
-      as_honest = c.collect_step.ensures.honest ∙ i.as_honest;
-      as_calm = c.collect_step.ensures.calm ∙ i.as_calm;
       as_erased = still_erased _ c.in-Some.next c.in_ok-step.step _ _ is c.in_ok-step.ensures.erases ∙ i.as_erased;
-      faults = omega (arith, i.faults, c.collect_step.ensures.failed);
       keys = keys_then _ _ _ i.keys c.collect_step.ensures.keys;
       refreshes = λ on. refreshes_then old now new i.goes.geometry (i.refreshes on) (c.collect_step.ensures.refreshes on);
-      room = room_next c.args.flushing c.args.block c.steps.first c.in-Some.next _ now new c.in_ok-step.step c.collect_step.ensures.safe.memory (c.pages-pages.ensures ∙ ap (λ x. x.pages) (sym (goes.geometry ∙ i.goes.geometry))) i.room is c.in_ok-step.ensures.cost;
+      room = room_next c.args.flushing c.args.block c.steps.first c.in-Some.next _ now new c.in_ok-step.step c.collect_step.ensures.acts.safe.memory (c.pages-pages.ensures ∙ ap (λ x. x.pages) (sym (goes.geometry ∙ i.goes.geometry))) i.room is c.in_ok-step.ensures.cost;
       closed = closed_still c.args.block now new goes (rw i.goes.geometry c.requires.block) i.closed;
-      went = λ honest. went_then _ _ _ _ _ _ i.goes.geometry (i.went honest) (c.in_ok-step.ensures.went (i.as_honest ∙ honest) (ok_not_bus _));
-      under_way = stepped c.args.flushing c.args.block c.steps.first c.in-Some.next old now new _ _ _ _ i.safe.memory c.collect_step.ensures.safe.memory i.goes c.requires.block i.under_way c.in_ok-step.step c.in_ok-step.ensures.goes_still (ap (λ p. next_of p c.in_ok-step.step) (sym c.pages-pages.ensures) ∙ is) c.in_ok-step.ensures.cost (λ k w none. c.in_ok-step.ensures.truth (i.as_honest ∙ k.0) w none);
+      reads = read_more c.args.flushing c.args.block c.steps.first c.in-Some.next old now new _ _ _ i.goes.geometry i.reads c.in_ok-step.step (ap (λ p. next_of p c.in_ok-step.step) (sym c.pages-pages.ensures) ∙ is) c.in_ok-step.ensures.cost c.collect_step.ensures.reads c.in_ok-step.ensures.copied_reads;
+      under_way = stepped c.args.flushing c.args.block c.steps.first c.in-Some.next old now new _ _ _ _ i.acts.safe.memory c.collect_step.ensures.acts.safe.memory i.goes c.requires.block i.under_way c.in_ok-step.step c.in_ok-step.ensures.goes_still (ap (λ p. next_of p c.in_ok-step.step) (sym c.pages-pages.ensures) ∙ is) c.in_ok-step.ensures.cost (λ k w none. c.in_ok-step.ensures.truth (i.acts.honest_is ∙ k.0) w none);
     }
 
 pub steps-smaller : goal.steps-smaller
@@ -62,7 +54,7 @@ steps-smaller g c =
     let now = ram c.steps.self in
     let new = ram c.collect_step.new.self in
     let is = sym c.next_page-going_on.ensures ∙ c.in-Some.is in
-    steps_fall c.args.flushing c.args.block c.steps.first c.in-Some.next _ now new c.in_ok-step.step c.collect_step.ensures.safe.memory is c.in_ok-step.ensures.cost
+    steps_fall c.args.flushing c.args.block c.steps.first c.in-Some.next _ now new c.in_ok-step.step c.collect_step.ensures.acts.safe.memory is c.in_ok-step.ensures.cost
 
 -- ---- the block was erased
 
@@ -77,6 +69,9 @@ returns-in_default-clause-released g c =
     let new = ram c.collect_step.new.self in
     let e = ends_erased _ c.in_ok-step.step (sym c.next_page-going_on.ensures ∙ none_from c.next_page-going_on.result c.in_default.not-Some) in
     released_from c.args.block old now new i.goes c.requires.block c.requires.closed (c.in_ok-step.ensures.released (ap Ok e))
+
+pub returns-in_default-clause-reads : goal.returns-in_default-clause-reads
+returns-in_default-clause-reads g c = read_all c.args.flushing c.args.block c.steps.first 0 (ram c.args.self.now) (ram c.steps.self) (ram c.collect_step.new.self) _ _ _ c.steps.invariant.goes.geometry c.steps.invariant.reads c.collect_step.ensures.reads
 
 pub returns-in_default-clause-erases : goal.returns-in_default-clause-erases
 returns-in_default-clause-erases g c =
@@ -102,10 +97,10 @@ returns-in_default-clause-less_work g c =
     let now = ram c.steps.self in
     let new = ram c.collect_step.new.self in
     let e = ends_erased _ c.in_ok-step.step (sym c.next_page-going_on.ensures ∙ none_from c.next_page-going_on.result c.in_default.not-Some) in
-    less_work c.args.flushing c.args.block c.steps.first old now new _ _ _ i.safe.memory c.collect_step.ensures.safe.memory i.goes.geometry i.under_way (erased_by c.args.flushing c.args.block c.steps.first now new c.in_ok-step.step e c.in_ok-step.ensures.cost)
+    less_work c.args.flushing c.args.block c.steps.first old now new _ _ _ i.acts.safe.memory c.collect_step.ensures.acts.safe.memory i.goes.geometry i.under_way (erased_by c.args.flushing c.args.block c.steps.first now new c.in_ok-step.step e c.in_ok-step.ensures.cost)
 
-pub returns-in_default-clause-went : goal.returns-in_default-clause-went
-returns-in_default-clause-went g c = λ honest ne. went_then _ _ _ _ _ _ c.steps.invariant.goes.geometry (c.steps.invariant.went honest) (c.in_ok-step.ensures.went (c.steps.invariant.as_honest ∙ honest) (ok_not_bus _))
+pub returns-in_default-clause-acts : goal.returns-in_default-clause-acts
+returns-in_default-clause-acts g c = acts_then _ _ _ tt _ c.steps.invariant.goes.geometry c.steps.invariant.acts (acts_ok _ _ _ _ c.in_ok-step.ensures.acts)
 
 pub returns-in_default-clause-truth : goal.returns-in_default-clause-truth
 returns-in_default-clause-truth g c = λ honest w.
@@ -115,7 +110,7 @@ returns-in_default-clause-truth g c = λ honest w.
     let new = ram c.collect_step.new.self in
     let e = ends_erased _ c.in_ok-step.step (sym c.next_page-going_on.ensures ∙ none_from c.next_page-going_on.result c.in_default.not-Some) in
     let so = i.under_way.truth (honest, w) in
-    emptied_then c.args.block c.steps.first _ old now new _ _ _ i.goes c.collect_step.ensures.goes.geometry so (emptied_by c.args.block now new _ _ c.in_ok-step.step e (c.in_ok-step.ensures.truth (i.as_honest ∙ honest) so.same.truth (let n = so.none in rw i.goes.geometry n)))
+    emptied_then c.args.block c.steps.first _ old now new _ _ _ i.goes c.collect_step.ensures.goes.geometry so (emptied_by c.args.block now new _ _ c.in_ok-step.step e (c.in_ok-step.ensures.truth (i.acts.honest_is ∙ honest) so.same.truth (let n = so.none in rw i.goes.geometry n)))
 
 pub returns-in_default-clause-count : goal.returns-in_default-clause-count
 returns-in_default-clause-count g c = λ honest w small.
@@ -124,7 +119,7 @@ returns-in_default-clause-count g c = λ honest w small.
     let now = ram c.steps.self in
     let new = ram c.collect_step.new.self in
     let e = ends_erased _ c.in_ok-step.step (sym c.next_page-going_on.ensures ∙ none_from c.next_page-going_on.result c.in_default.not-Some) in
-    counts_collected c.args.flushing c.args.block c.steps.first old now new _ _ _ c.collect_step.ensures.safe.memory (c.collect_step.ensures.goes.geometry ∙ i.goes.geometry) (honest, w) small i.under_way (erased_by c.args.flushing c.args.block c.steps.first now new c.in_ok-step.step e c.in_ok-step.ensures.cost)
+    counts_collected c.args.flushing c.args.block c.steps.first old now new _ _ _ c.collect_step.ensures.acts.safe.memory (c.collect_step.ensures.goes.geometry ∙ i.goes.geometry) (honest, w) small i.under_way (erased_by c.args.flushing c.args.block c.steps.first now new c.in_ok-step.step e c.in_ok-step.ensures.cost)
 
 pub returns-in_default-clause-thrifty : goal.returns-in_default-clause-thrifty
 returns-in_default-clause-thrifty g c = λ honest w small ne.
@@ -140,6 +135,9 @@ returns-in_default-clause-thrifty g c = λ honest w small ne.
 pub returns-in_err-step-clause-refreshes : goal.returns-in_err-step-clause-refreshes
 returns-in_err-step-clause-refreshes g c = λ on. refreshes_then _ _ _ c.steps.invariant.goes.geometry (c.steps.invariant.refreshes on) (c.collect_step.ensures.refreshes on)
 
+pub returns-in_err-step-clause-reads : goal.returns-in_err-step-clause-reads
+returns-in_err-step-clause-reads g c = read_all c.args.flushing c.args.block c.steps.first 0 (ram c.args.self.now) (ram c.steps.self) (ram c.collect_step.new.self) _ _ _ c.steps.invariant.goes.geometry c.steps.invariant.reads c.collect_step.ensures.reads
+
 pub returns-in_err-step-clause-cost : goal.returns-in_err-step-clause-cost
 returns-in_err-step-clause-cost g c =
     let i = c.steps.invariant in
@@ -149,10 +147,10 @@ returns-in_err-step-clause-cost g c =
     let p = err_from_is_err_and c.from_residual.result c.from_residual.ensures.1 in
     rw (p.1, p.2) (refused_cost c.args.flushing c.args.block c.steps.first old now new _ _ _ _ i.under_way c.in_err-step.ensures.cost)
 
-pub returns-in_err-step-clause-went : goal.returns-in_err-step-clause-went
-returns-in_err-step-clause-went g c =
+pub returns-in_err-step-clause-acts : goal.returns-in_err-step-clause-acts
+returns-in_err-step-clause-acts g c =
     let p = err_from_is_err_and c.from_residual.result c.from_residual.ensures.1 in
-    rw (p.1, p.2) (λ honest ne. went_then _ _ _ _ _ _ c.steps.invariant.goes.geometry (c.steps.invariant.went honest) (c.in_err-step.ensures.went (c.steps.invariant.as_honest ∙ honest) (not_bus _ ne)))
+    rw (p.1, p.2) (acts_then _ _ _ tt _ c.steps.invariant.goes.geometry c.steps.invariant.acts (acts_err _ _ _ c.in_err-step.ensures.acts))
 
 pub returns-in_err-step-clause-truth : goal.returns-in_err-step-clause-truth
 returns-in_err-step-clause-truth g c = λ honest w.
@@ -162,7 +160,7 @@ returns-in_err-step-clause-truth g c = λ honest w.
     let new = ram c.collect_step.new.self in
     let so = i.under_way.truth (honest, w) in
     let p = err_from_is_err_and c.from_residual.result c.from_residual.ensures.1 in
-    rw (p.1, p.2) (refused_then old now new _ _ _ i.goes c.collect_step.ensures.goes.geometry _ so.same (c.in_err-step.ensures.truth (i.as_honest ∙ honest) so.same.truth (let n = so.none in rw i.goes.geometry n)))
+    rw (p.1, p.2) (refused_then old now new _ _ _ i.goes c.collect_step.ensures.goes.geometry _ so.same (c.in_err-step.ensures.truth (i.acts.honest_is ∙ honest) so.same.truth (let n = so.none in rw i.goes.geometry n)))
 
 pub returns-in_err-step-clause-count : goal.returns-in_err-step-clause-count
 returns-in_err-step-clause-count g c = λ honest w small.
@@ -172,7 +170,7 @@ returns-in_err-step-clause-count g c = λ honest w small.
     let new = ram c.collect_step.new.self in
     let so = i.under_way.truth (honest, w) in
     let p = err_from_is_err_and c.from_residual.result c.from_residual.ensures.1 in
-    rw (p.1, p.2) (refused_counts c.args.flushing c.args.block c.steps.first old now new _ _ _ _ _ (honest, w) small i.under_way (λ is. c.in_err-step.ensures.owed (ap (λ f. Err f) is)) c.in_err-step.ensures.cost (c.in_err-step.ensures.truth (i.as_honest ∙ honest) so.same.truth (let n = so.none in rw i.goes.geometry n)))
+    rw (p.1, p.2) (refused_counts c.args.flushing c.args.block c.steps.first old now new _ _ _ _ _ (honest, w) small i.under_way (λ is. c.in_err-step.ensures.owed (ap (λ f. Err f) is)) c.in_err-step.ensures.cost (c.in_err-step.ensures.truth (i.acts.honest_is ∙ honest) so.same.truth (let n = so.none in rw i.goes.geometry n)))
 
 pub returns-in_err-step-clause-thrifty : goal.returns-in_err-step-clause-thrifty
 returns-in_err-step-clause-thrifty g c = λ honest w small.
@@ -182,4 +180,4 @@ returns-in_err-step-clause-thrifty g c = λ honest w small.
     let new = ram c.collect_step.new.self in
     let so = i.under_way.truth (honest, w) in
     let p = err_from_is_err_and c.from_residual.result c.from_residual.ensures.1 in
-    rw (p.1, p.2) (λ ne. thrifty_refused c.args.flushing c.args.block c.steps.first old now new _ _ _ _ (honest, w) small i.under_way c.in_err-step.ensures.cost (undamaged _ _ _ _ _ (c.in_err-step.ensures.truth (i.as_honest ∙ honest) so.same.truth (let n = so.none in rw i.goes.geometry n))) (λ e. ne (ap (λ f. Err f) e)))
+    rw (p.1, p.2) (λ ne. thrifty_refused c.args.flushing c.args.block c.steps.first old now new _ _ _ _ (honest, w) small i.under_way c.in_err-step.ensures.cost (undamaged _ _ _ _ _ (c.in_err-step.ensures.truth (i.acts.honest_is ∙ honest) so.same.truth (let n = so.none in rw i.goes.geometry n))) (λ e. ne (ap (λ f. Err f) e)))

@@ -1,27 +1,23 @@
-use Rattle.std.proofs.Common.{◌≡◌, ◌≤◌, ◌-◌, true, None, length}
+use Rattle.std.proofs.Common.{◌≡◌, ◌≤◌, ◌-◌, true, None, Ok, length}
 use Rattle.allocation.specs.State.{is_closed}
-use Rattle.collection.specs.Safe.{IsSafe, ram, image_in}
+use Rattle.collection.specs.Safe.{ram, image_in}
 use Rattle.collection.specs.Truth.{IsTrue}
-use Rattle.collection.specs.Log.{Went}
+use Rattle.collection.specs.Acts.{Acts}
 use Rattle.collection.specs.Results.{Goes}
 use Rattle.collection.specs.Collect.{KeepsKeys, Refreshes}
-use Rattle.collection.specs.Whole.{IsUnderWay}
+use Rattle.collection.specs.Whole.{HasRead, IsUnderWay}
 use Rattle.collection.proofs.engine.Engine.collect_block.Given as goal
 
 abbrev pub invariant-steps : goal.invariant-steps
 invariant-steps g l = record {
-  safe : IsSafe g.N.PageSource.flash l.self;
+  acts : Acts {A = Unit {0}} g.N.PageSource.flash g.N.PageSource.honest g.N.PageSource.calm g.N.PageSource.failed l.fn.self l.self (Ok tt);
   goes : Goes (ram l.fn.self) (ram l.self);
-  fault : l.self.fault ≡ l.fn.self.fault;
-  as_honest : g.N.PageSource.honest l.self.nand ≡ g.N.PageSource.honest l.fn.self.nand;
   as_erased : g.N.PageSource.erases l.self.nand ≡ g.N.PageSource.erases l.fn.self.nand;
-  as_calm : g.N.PageSource.calm l.self.nand ≡ g.N.PageSource.calm l.fn.self.nand;
-  faults : g.N.PageSource.failed l.fn.self.nand ≤ g.N.PageSource.failed l.self.nand;
   keys : KeepsKeys l.fn.self.mapping l.self.mapping;
   refreshes : l.flushing ≡ true → Refreshes (ram l.fn.self) (ram l.self);
   room : length l.self.mapping.moved ≤ l.first;
   closed : is_closed (ram l.self).blocks l.block ≡ true;
-  went : g.N.PageSource.honest l.fn.self.nand ≡ true → Went (ram l.fn.self) (g.N.PageSource.flash l.fn.self.nand) (ram l.self) (g.N.PageSource.flash l.self.nand);
+  reads : HasRead l.flushing l.first (ram l.fn.self) (ram l.self) (g.N.PageSource.reads l.fn.self.nand) (g.N.PageSource.reads l.self.nand);
   under_way : IsUnderWay l.flushing l.block l.first (ram l.fn.self) (ram l.self) ((g.N.PageSource.honest l.fn.self.nand ≡ true) × IsTrue None (ram l.fn.self) (image_in g.N.PageSource.flash l.fn.self)) (image_in g.N.PageSource.flash l.fn.self) (image_in g.N.PageSource.flash l.self);
 }
 

@@ -7,9 +7,8 @@ use Rattle.collection.specs.Safe.{ram, image_in}
 use Rattle.collection.specs.Truth.{IsTrue}
 use Rattle.collection.specs.Results.{Goes, IsKept}
 use Rattle.collection.specs.Collect.{HasWritten, HasErased, HasNoneDue, due_count}
-use Rattle.collection.proofs.Costs.{not_bus}
-use Rattle.collection.proofs.Logs.{went_then}
-use Rattle.collection.proofs.Looks.{none_from, ok_not_bus}
+use Rattle.collection.proofs.Acts.{acts_then, acts_ok, acts_err}
+use Rattle.collection.proofs.Looks.{none_from}
 use Rattle.collection.proofs.Steps.{at_start, err_same, goes_but, found_none, none_now, emptied_written, emptied_erased, refused_written, idle_by, erased_fresh}
 use Rattle.collection.proofs.engine.Engine.collect_step.Goals as goal
 
@@ -21,10 +20,10 @@ returns-in_err-written-clause-owed g c =
     let p = err_from_is_err_and c.from_residual-in_err-written.result c.from_residual-in_err-written.ensures.1 in
     rw (p.1, p.2) (λ is. inr (at_start (λ z. 0 < due_count c.args.flushing z) (ram c.args.self.now) (ram c.copy_lowest.new.self) same (c.in_err-written.ensures.owed (err_same _ _ is))))
 
-pub returns-in_err-written-clause-went : goal.returns-in_err-written-clause-went
-returns-in_err-written-clause-went g c =
+pub returns-in_err-written-clause-acts : goal.returns-in_err-written-clause-acts
+returns-in_err-written-clause-acts g c =
     let p = err_from_is_err_and c.from_residual-in_err-written.result c.from_residual-in_err-written.ensures.1 in
-    rw (p.1, p.2) (λ honest ne. went_then _ _ _ _ _ _ c.copy_lowest.ensures.goes.geometry (c.in_ok-copied.ensures.went honest (ok_not_bus _)) (c.in_err-written.ensures.went (c.copy_lowest.ensures.honest ∙ honest) (not_bus _ ne)))
+    rw (p.1, p.2) (acts_then _ _ _ _ _ c.copy_lowest.ensures.goes.geometry c.in_ok-copied.ensures.acts (acts_err _ _ _ c.in_err-written.ensures.acts))
 
 pub returns-in_err-written-clause-truth : goal.returns-in_err-written-clause-truth
 returns-in_err-written-clause-truth g c = λ honest w none.
@@ -32,7 +31,7 @@ returns-in_err-written-clause-truth g c = λ honest w none.
     let same = c.in_ok-copied.ensures.none (ap Ok is_none) in
     let first = found_none c.args.block (ram c.args.self.now) (ram c.copy_lowest.new.self) _ _ c.in_ok-copied.copied (c.in_ok-copied.ensures.truth honest w none) is_none in
     let p = err_from_is_err_and c.from_residual-in_err-written.result c.from_residual-in_err-written.ensures.1 in
-    rw (p.1, p.2) (refused_written c.args.block (ram c.args.self.now) (ram c.copy_lowest.new.self) _ _ same c.copy_lowest.ensures.goes c.requires.closed c.requires.block first (ram c.write_back_lowest.new.self) _ _ c.write_back_lowest.ensures.goes.geometry (c.in_err-written.ensures.truth (c.copy_lowest.ensures.honest ∙ honest) first.0.truth))
+    rw (p.1, p.2) (refused_written c.args.block (ram c.args.self.now) (ram c.copy_lowest.new.self) _ _ same c.copy_lowest.ensures.goes c.requires.closed c.requires.block first (ram c.write_back_lowest.new.self) _ _ c.write_back_lowest.ensures.goes.geometry (c.in_err-written.ensures.truth (c.copy_lowest.ensures.acts.honest_is ∙ honest) first.0.truth))
 
 -- ---- one was written
 
@@ -46,17 +45,22 @@ returns-then-written-clause-cost g c =
     let same = c.in_ok-copied.ensures.none (ap Ok (none_from c.in_ok-copied.copied c.in_default.not-Some)) in
     at_start (λ z. HasWritten c.args.flushing z (ram c.write_back_lowest.new.self)) (ram c.args.self.now) (ram c.copy_lowest.new.self) same (c.in_ok-written.ensures.cost c.if-written.true)
 
-pub returns-then-written-clause-went : goal.returns-then-written-clause-went
-returns-then-written-clause-went g c = λ honest ne. went_then _ _ _ _ _ _ c.copy_lowest.ensures.goes.geometry (c.in_ok-copied.ensures.went honest (ok_not_bus _)) (c.in_ok-written.ensures.went (c.copy_lowest.ensures.honest ∙ honest) (ok_not_bus _))
+pub returns-then-written-clause-acts : goal.returns-then-written-clause-acts
+returns-then-written-clause-acts g c = acts_then _ _ _ _ _ c.copy_lowest.ensures.goes.geometry c.in_ok-copied.ensures.acts (acts_ok _ _ _ _ c.in_ok-written.ensures.acts)
 
 pub returns-then-written-clause-truth : goal.returns-then-written-clause-truth
 returns-then-written-clause-truth g c = λ honest w none.
     let is_none = none_from c.in_ok-copied.copied c.in_default.not-Some in
     let same = c.in_ok-copied.ensures.none (ap Ok is_none) in
     let first = found_none c.args.block (ram c.args.self.now) (ram c.copy_lowest.new.self) _ _ c.in_ok-copied.copied (c.in_ok-copied.ensures.truth honest w none) is_none in
-    emptied_written c.args.block (ram c.args.self.now) (ram c.copy_lowest.new.self) _ _ same c.copy_lowest.ensures.goes c.requires.closed c.requires.block first (ram c.write_back_lowest.new.self) _ c.write_back_lowest.ensures.safe.memory c.write_back_lowest.ensures.goes.geometry (c.in_ok-written.ensures.truth (c.copy_lowest.ensures.honest ∙ honest) first.0.truth)
+    emptied_written c.args.block (ram c.args.self.now) (ram c.copy_lowest.new.self) _ _ same c.copy_lowest.ensures.goes c.requires.closed c.requires.block first (ram c.write_back_lowest.new.self) _ c.write_back_lowest.ensures.acts.safe.memory c.write_back_lowest.ensures.goes.geometry (c.in_ok-written.ensures.truth (c.copy_lowest.ensures.acts.honest_is ∙ honest) first.0.truth)
 
 -- ---- the block was erased
+
+pub returns-in_err-erase_block-clause-acts : goal.returns-in_err-erase_block-clause-acts
+returns-in_err-erase_block-clause-acts g c =
+    let p = err_from_is_err_and c.from_residual-in_err-erase_block.result c.from_residual-in_err-erase_block.ensures.1 in
+    rw (p.1, p.2) (acts_then _ _ _ _ _ c.copy_lowest.ensures.goes.geometry c.in_ok-copied.ensures.acts (acts_then _ _ _ _ _ c.write_back_lowest.ensures.goes.geometry c.in_ok-written.ensures.acts (acts_err _ _ _ c.in_err-erase_block.ensures.acts)))
 
 pub returns-clause-refreshes : goal.returns-clause-refreshes
 returns-clause-refreshes g c = λ on.
@@ -83,8 +87,8 @@ returns-clause-cost g c =
       at_start (λ z. HasErased c.args.block z (ram c.erase_block.new.self)) (ram c.args.self.now) (ram c.write_back_lowest.new.self) (ap (λ e. ram e) none.1 ∙ same) c.in_ok-erase_block.ensures.erased,
     )
 
-pub returns-clause-went : goal.returns-clause-went
-returns-clause-went g c = λ honest ne. went_then _ _ _ _ _ _ c.copy_lowest.ensures.goes.geometry (c.in_ok-copied.ensures.went honest (ok_not_bus _)) (went_then _ _ _ _ _ _ c.write_back_lowest.ensures.goes.geometry (c.in_ok-written.ensures.went (c.copy_lowest.ensures.honest ∙ honest) (ok_not_bus _)) (c.in_ok-erase_block.ensures.went (c.write_back_lowest.ensures.honest ∙ (c.copy_lowest.ensures.honest ∙ honest)) (ok_not_bus _)))
+pub returns-clause-acts : goal.returns-clause-acts
+returns-clause-acts g c = acts_then _ _ _ _ _ c.copy_lowest.ensures.goes.geometry c.in_ok-copied.ensures.acts (acts_then _ _ _ _ _ c.write_back_lowest.ensures.goes.geometry c.in_ok-written.ensures.acts (acts_ok _ _ _ _ c.in_ok-erase_block.ensures.acts))
 
 pub returns-clause-truth : goal.returns-clause-truth
 returns-clause-truth g c = λ honest w none_below.
@@ -93,5 +97,5 @@ returns-clause-truth g c = λ honest w none_below.
     let none = c.in_ok-written.ensures.none (ap Ok c.if-written.false) in
     let first = found_none c.args.block (ram c.args.self.now) (ram c.copy_lowest.new.self) _ _ c.in_ok-copied.copied (c.in_ok-copied.ensures.truth honest w none_below) is_none in
     let held = none_now c.args.block (ram c.args.self.now) (ram c.copy_lowest.new.self) _ _ same c.copy_lowest.ensures.goes c.requires.closed c.requires.block first in
-    let kept = c.in_ok-erase_block.ensures.truth (c.write_back_lowest.ensures.honest ∙ (c.copy_lowest.ensures.honest ∙ honest)) (subst (λ e. IsTrue None (ram e) (image_in g.N.PageSource.flash e)) (sym none.1) first.0.truth) (subst (λ e. HoldsNone (ram e).geometry.pages c.args.block (image_in g.N.PageSource.flash e)) (sym none.1) held) in
-    emptied_erased c.args.block (ram c.args.self.now) (ram c.copy_lowest.new.self) _ _ same c.copy_lowest.ensures.goes c.requires.closed c.requires.block first (ram c.erase_block.new.self) _ c.erase_block.ensures.safe.memory (c.erase_block.ensures.goes.geometry ∙ ap (λ e. (ram e).geometry) none.1) (subst (λ e. IsKept (ram e) (image_in g.N.PageSource.flash e) (ram c.erase_block.new.self) (image_in g.N.PageSource.flash c.erase_block.new.self)) none.1 kept)
+    let kept = c.in_ok-erase_block.ensures.truth (c.write_back_lowest.ensures.acts.honest_is ∙ (c.copy_lowest.ensures.acts.honest_is ∙ honest)) (subst (λ e. IsTrue None (ram e) (image_in g.N.PageSource.flash e)) (sym none.1) first.0.truth) (subst (λ e. HoldsNone (ram e).geometry.pages c.args.block (image_in g.N.PageSource.flash e)) (sym none.1) held) in
+    emptied_erased c.args.block (ram c.args.self.now) (ram c.copy_lowest.new.self) _ _ same c.copy_lowest.ensures.goes c.requires.closed c.requires.block first (ram c.erase_block.new.self) _ c.erase_block.ensures.acts.safe.memory (c.erase_block.ensures.goes.geometry ∙ ap (λ e. (ram e).geometry) none.1) (subst (λ e. IsKept (ram e) (image_in g.N.PageSource.flash e) (ram c.erase_block.new.self) (image_in g.N.PageSource.flash c.erase_block.new.self)) none.1 kept)

@@ -40,5 +40,5 @@ returns-clause-truth g c = λ honest w shut live.
     let old = (g.N.PageSource.flash c.args.self.now.nand).image in
     let new = (g.N.PageSource.flash c.replace.new.self.nand).image in
     let replaced = c.in_ok-replace.ensures.truth honest (may_copy r _ c.args.row c.args.found.now _ w c.requires.key live) in
-    let moved = moved_out r b old new c.args.row c.in_ok-replace.field-0 c.args.found.now c.args.self.now.page.body.items c.requires.safe.memory c.replace.ensures.safe.memory c.replace.ensures.goes.geometry w live c.requires.key c.requires.row shut c.in_ok-replace.ensures.row replaced in
+    let moved = moved_out r b old new c.args.row c.in_ok-replace.field-0 c.args.found.now c.args.self.now.page.body.items c.requires.safe.memory c.replace.ensures.acts.safe.memory c.replace.ensures.goes.geometry w live c.requires.key c.requires.row shut c.in_ok-replace.ensures.row replaced in
     rw c.mark.ensures.nand (moved_marked c.args.flushing c.key.result c.in_ok-replace.field-0 r b _ c.mark.ensures.marked c.args.row old new moved)

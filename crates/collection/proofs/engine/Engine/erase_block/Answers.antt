@@ -6,6 +6,7 @@ use Rattle.onfi_cycles.specs.declared.nand.Outcome.TheVariants.{Passed, Failed}
 use Rattle.onfi_cycles.specs.Outcomes.{is_passed}
 use Rattle.allocation.specs.View.{state}
 use Rattle.collection.specs.Safe.{ram}
+use Rattle.collection.proofs.Looks.{ok_not_bus}
 use Rattle.collection.proofs.Programs.{at_outcome}
 use Rattle.collection.proofs.Erases.{ended_by, cleared_ram, cleared_goes, released, went_erase, ended_kept, closed_good}
 use Rattle.collection.proofs.engine.Engine.erase_block.Goals as goal
@@ -15,26 +16,31 @@ retire-requires-clause-good g c = closed_good (state c.args.self.now.blocks) c.a
 
 -- ---- it passed
 
-pub returns-in-Ok-Passed-clause-safe : goal.returns-in-Ok-Passed-clause-safe
-returns-in-Ok-Passed-clause-safe g c = (record {
-  memory = cleared_ram c.args.block (ram c.args.self.now) _ c.requires.safe.memory (record { geometry = refl; directory = refl; mapping = refl; next = refl; block = refl; marks = ap length c.clear_marks.ensures ∙ length-replicate (length c.args.self.now.marks.items) false }) (ended_by true (ram c.args.self.now) c.args.block _ c.requires.safe.memory c.requires.block c.requires.closed c.freed.ensures.is).made;
-  geometry = c.erase.ensures.geometry ∙ c.requires.safe.geometry;
-  page = c.requires.safe.page;
-  scratch = c.requires.safe.scratch;
-})
+pub returns-in-Ok-Passed-clause-acts : goal.returns-in-Ok-Passed-clause-acts
+returns-in-Ok-Passed-clause-acts g c = record {
+  safe = record {
+    memory = cleared_ram c.args.block (ram c.args.self.now) _ c.requires.safe.memory (record { geometry = refl; directory = refl; mapping = refl; next = refl; block = refl; marks = ap length c.clear_marks.ensures ∙ length-replicate (length c.args.self.now.marks.items) false }) (ended_by true (ram c.args.self.now) c.args.block _ c.requires.safe.memory c.requires.block c.requires.closed c.freed.ensures.is).made;
+    geometry = c.erase.ensures.geometry ∙ c.requires.safe.geometry;
+    page = c.requires.safe.page;
+    scratch = c.requires.safe.scratch;
+  };
+  fault = refl;
+  honest_is = c.erase.ensures.honest;
+  calm_is = c.erase.ensures.calm;
+  failed_is = c.erase.ensures.failed;
+  rose = λ e. absurd (ok_not_bus _ e);
+  went = λ honest _.
+      let before = g.N.PageSource.flash c.args.self.now.nand in
+      let after = g.N.PageSource.flash c.erase.new.self in
+      let step = at_outcome (λ o. Steps before (Erase c.args.block (is_passed o) (block_at after c.args.block)) after) c.in-Ok-Passed.field-0 Passed (c.in-Ok-Passed.ensures.step honest) c.in-Ok-Passed.field-0-is in
+      went_erase (ram c.args.self.now) _ before after c.args.block true (block_at after c.args.block) step (ended_by true (ram c.args.self.now) c.args.block _ c.requires.safe.memory c.requires.block c.requires.closed c.freed.ensures.is) refl;
+}
 
 pub returns-in-Ok-Passed-clause-goes : goal.returns-in-Ok-Passed-clause-goes
 returns-in-Ok-Passed-clause-goes g c = (cleared_goes c.args.block (ram c.args.self.now) _ (record { geometry = refl; directory = refl; mapping = refl; next = refl; block = refl; marks = ap length c.clear_marks.ensures ∙ length-replicate (length c.args.self.now.marks.items) false }) (ended_by true (ram c.args.self.now) c.args.block _ c.requires.safe.memory c.requires.block c.requires.closed c.freed.ensures.is).made)
 
 pub returns-in-Ok-Passed-clause-released : goal.returns-in-Ok-Passed-clause-released
 returns-in-Ok-Passed-clause-released g c = released true c.args.block _ _ (ended_by true (ram c.args.self.now) c.args.block _ c.requires.safe.memory c.requires.block c.requires.closed c.freed.ensures.is)
-
-pub returns-in-Ok-Passed-clause-went : goal.returns-in-Ok-Passed-clause-went
-returns-in-Ok-Passed-clause-went g c = λ honest _.
-    let before = g.N.PageSource.flash c.args.self.now.nand in
-    let after = g.N.PageSource.flash c.erase.new.self in
-    let step = at_outcome (λ o. Steps before (Erase c.args.block (is_passed o) (block_at after c.args.block)) after) c.in-Ok-Passed.field-0 Passed (c.in-Ok-Passed.ensures.step honest) c.in-Ok-Passed.field-0-is in
-    went_erase (ram c.args.self.now) _ before after c.args.block true (block_at after c.args.block) step (ended_by true (ram c.args.self.now) c.args.block _ c.requires.safe.memory c.requires.block c.requires.closed c.freed.ensures.is) refl
 
 pub returns-in-Ok-Passed-clause-truth : goal.returns-in-Ok-Passed-clause-truth
 returns-in-Ok-Passed-clause-truth g c = λ honest w none.
@@ -46,26 +52,31 @@ returns-in-Ok-Passed-clause-truth g c = λ honest w none.
 
 -- ---- it failed
 
-pub returns-in-Ok-Failed-clause-safe : goal.returns-in-Ok-Failed-clause-safe
-returns-in-Ok-Failed-clause-safe g c = (record {
-  memory = cleared_ram c.args.block (ram c.args.self.now) _ c.requires.safe.memory (record { geometry = refl; directory = refl; mapping = refl; next = refl; block = refl; marks = ap length c.clear_marks-in-Ok-Failed.ensures ∙ length-replicate (length c.args.self.now.marks.items) false }) (ended_by false (ram c.args.self.now) c.args.block _ c.requires.safe.memory c.requires.block c.requires.closed c.retire.ensures.is).made;
-  geometry = c.erase.ensures.geometry ∙ c.requires.safe.geometry;
-  page = c.requires.safe.page;
-  scratch = c.requires.safe.scratch;
-})
+pub returns-in-Ok-Failed-clause-acts : goal.returns-in-Ok-Failed-clause-acts
+returns-in-Ok-Failed-clause-acts g c = record {
+  safe = record {
+    memory = cleared_ram c.args.block (ram c.args.self.now) _ c.requires.safe.memory (record { geometry = refl; directory = refl; mapping = refl; next = refl; block = refl; marks = ap length c.clear_marks-in-Ok-Failed.ensures ∙ length-replicate (length c.args.self.now.marks.items) false }) (ended_by false (ram c.args.self.now) c.args.block _ c.requires.safe.memory c.requires.block c.requires.closed c.retire.ensures.is).made;
+    geometry = c.erase.ensures.geometry ∙ c.requires.safe.geometry;
+    page = c.requires.safe.page;
+    scratch = c.requires.safe.scratch;
+  };
+  fault = refl;
+  honest_is = c.erase.ensures.honest;
+  calm_is = c.erase.ensures.calm;
+  failed_is = c.erase.ensures.failed;
+  rose = λ e. absurd (ok_not_bus _ e);
+  went = λ honest _.
+      let before = g.N.PageSource.flash c.args.self.now.nand in
+      let after = g.N.PageSource.flash c.erase.new.self in
+      let step = at_outcome (λ o. Steps before (Erase c.args.block (is_passed o) (block_at after c.args.block)) after) c.in-Ok-Failed.field-0 Failed (c.in-Ok-Failed.ensures.step honest) c.in-Ok-Failed.field-0-is in
+      went_erase (ram c.args.self.now) _ before after c.args.block false (block_at after c.args.block) step (ended_by false (ram c.args.self.now) c.args.block _ c.requires.safe.memory c.requires.block c.requires.closed c.retire.ensures.is) refl;
+}
 
 pub returns-in-Ok-Failed-clause-goes : goal.returns-in-Ok-Failed-clause-goes
 returns-in-Ok-Failed-clause-goes g c = (cleared_goes c.args.block (ram c.args.self.now) _ (record { geometry = refl; directory = refl; mapping = refl; next = refl; block = refl; marks = ap length c.clear_marks-in-Ok-Failed.ensures ∙ length-replicate (length c.args.self.now.marks.items) false }) (ended_by false (ram c.args.self.now) c.args.block _ c.requires.safe.memory c.requires.block c.requires.closed c.retire.ensures.is).made)
 
 pub returns-in-Ok-Failed-clause-released : goal.returns-in-Ok-Failed-clause-released
 returns-in-Ok-Failed-clause-released g c = released false c.args.block _ _ (ended_by false (ram c.args.self.now) c.args.block _ c.requires.safe.memory c.requires.block c.requires.closed c.retire.ensures.is)
-
-pub returns-in-Ok-Failed-clause-went : goal.returns-in-Ok-Failed-clause-went
-returns-in-Ok-Failed-clause-went g c = λ honest _.
-    let before = g.N.PageSource.flash c.args.self.now.nand in
-    let after = g.N.PageSource.flash c.erase.new.self in
-    let step = at_outcome (λ o. Steps before (Erase c.args.block (is_passed o) (block_at after c.args.block)) after) c.in-Ok-Failed.field-0 Failed (c.in-Ok-Failed.ensures.step honest) c.in-Ok-Failed.field-0-is in
-    went_erase (ram c.args.self.now) _ before after c.args.block false (block_at after c.args.block) step (ended_by false (ram c.args.self.now) c.args.block _ c.requires.safe.memory c.requires.block c.requires.closed c.retire.ensures.is) refl
 
 pub returns-in-Ok-Failed-clause-truth : goal.returns-in-Ok-Failed-clause-truth
 returns-in-Ok-Failed-clause-truth g c = λ honest w none.

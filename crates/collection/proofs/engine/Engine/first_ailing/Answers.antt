@@ -4,19 +4,20 @@ use Rattle.collection.proofs.Rescues.{found_at, true_over, looked_through, ailin
 use Rattle.bad_blocks.specs.Table.{is_good_at}
 use Rattle.collection.specs.Collect.{IsFirstAiling}
 use Rattle.allocation.specs.State.{live_at}
+use Rattle.collection.proofs.Acts.{looks_then, looks_ok}
 use Rattle.collection.proofs.Looks.{ok_not_bus}
 use Rattle.collection.proofs.engine.Engine.first_ailing.Goals as goal
 
 pub returns-in-Some-clause-checked : goal.returns-in-Some-clause-checked
-returns-in-Some-clause-checked g c = found_at (ram c.args.self.now) (ram c.numbers.self) _ _ c.row.result _ c.in-Some.found c.numbers.invariant.memory (c.row.ensures.is ∙ ap (λ r. c.numbers.block * r.geometry.pages + c.in-Some.page) c.first_live.ensures.memory) (c.in_ok-live.ensures.checked _ c.in-Some.is)
+returns-in-Some-clause-checked g c = found_at (ram c.args.self.now) (ram c.numbers.self) _ _ c.row.result _ c.in-Some.found c.numbers.invariant.looks.memory (c.row.ensures.is ∙ ap (λ r. c.numbers.block * r.geometry.pages + c.in-Some.page) c.first_live.ensures.looks.memory) (c.in_ok-live.ensures.checked _ c.in-Some.is)
 
 pub returns-in-Some-clause-row : goal.returns-in-Some-clause-row
 returns-in-Some-clause-row g c = λ x e.
     let i = c.numbers.invariant in
-    let blocks = ap (λ r. r.geometry.blocks) i.memory in
-    let pages = ap (λ r. r.geometry.pages) i.memory in
+    let blocks = ap (λ r. r.geometry.blocks) i.looks.memory in
+    let pages = ap (λ r. r.geometry.pages) i.looks.memory in
     let within = (c.in_ok-live.ensures.within _ c.in-Some.is).1 in
-    row_found (ram c.args.self.now) (ram c.numbers.self) c.numbers.block c.in-Some.page c.row.result c.in-Some.found x i.memory (omega (arith, blocks, c.blocks-block-end.ensures, c.numbers-test.true)) (omega (arith, pages, within)) (c.row.ensures.is ∙ ap (λ r. c.numbers.block * r.geometry.pages + c.in-Some.page) c.first_live.ensures.memory) e
+    row_found (ram c.args.self.now) (ram c.numbers.self) c.numbers.block c.in-Some.page c.row.result c.in-Some.found x i.looks.memory (omega (arith, blocks, c.blocks-block-end.ensures, c.numbers-test.true)) (omega (arith, pages, within)) (c.row.ensures.is ∙ ap (λ r. c.numbers.block * r.geometry.pages + c.in-Some.page) c.first_live.ensures.looks.memory) e
 
 pub numbers-preserved : goal.numbers-preserved
 numbers-preserved g c =
@@ -24,19 +25,12 @@ numbers-preserved g c =
     let old = ram c.args.self.now in
     let now = ram c.numbers.self in
     record {
-      safe = c.first_live.ensures.safe;
-      memory = c.first_live.ensures.memory ∙ i.memory;
-      as_honest = c.first_live.ensures.honest ∙ i.as_honest;
-      as_calm = c.first_live.ensures.calm ∙ i.as_calm;
-      as_programmed = c.first_live.ensures.programs ∙ i.as_programmed;
-      as_erased = c.first_live.ensures.erases ∙ i.as_erased;
-      faults = omega (arith, i.faults, c.first_live.ensures.failed);
-      still = λ honest. c.in_ok-live.ensures.same (i.as_honest ∙ honest) (ok_not_bus _) ∙ i.still honest;
+      looks = looks_then _ _ _ tt _ i.looks (looks_ok _ _ _ _ c.in_ok-live.ensures.looks);
       truth = λ honest w.
-          let w_now = true_over old now _ _ w i.memory (ap (λ f. f.image) (i.still honest)) in
-          let blocks = ap (λ r. r.geometry.blocks) i.memory in
-          let zero = looked_through now _ c.numbers.block _ c.in_ok-live.live i.safe.memory w_now (omega (arith, blocks, c.blocks-block-end.ensures, c.numbers-test.true)) (c.in_ok-live.ensures.truth (i.as_honest ∙ honest) w_now) c.in-None.is in
-          ailing_more old (g.N.PageSource.flash c.args.self.now.nand).image c.numbers.block (i.truth honest w) (λ bad. ap (λ r. live_at r.blocks c.numbers.block) (sym i.memory) ∙ zero);
+          let w_now = true_over old now _ _ w i.looks.memory (ap (λ f. f.image) (i.looks.same honest (ok_not_bus _))) in
+          let blocks = ap (λ r. r.geometry.blocks) i.looks.memory in
+          let zero = looked_through now _ c.numbers.block _ c.in_ok-live.live i.looks.safe.memory w_now (omega (arith, blocks, c.blocks-block-end.ensures, c.numbers-test.true)) (c.in_ok-live.ensures.truth (i.looks.only_reads.honest_is ∙ honest) w_now) c.in-None.is in
+          ailing_more old (g.N.PageSource.flash c.args.self.now.nand).image c.numbers.block (i.truth honest w) (λ bad. ap (λ r. live_at r.blocks c.numbers.block) (sym i.looks.memory) ∙ zero);
     }
 
 pub returns-in-Some-clause-truth : goal.returns-in-Some-clause-truth
@@ -44,7 +38,7 @@ returns-in-Some-clause-truth g c = λ honest w.
     let i = c.numbers.invariant in
     let old = ram c.args.self.now in
     let now = ram c.numbers.self in
-    let still = ap (λ f. f.image) (i.still honest) in
-    let w_now = true_over old now _ _ w i.memory still in
-    let first = first_by now _ c.numbers.block c.in-Some.page c.row.result c.in-Some.found _ c.in_ok-live.live i.safe.memory w_now (c.row.ensures.is ∙ ap (λ r. c.numbers.block * r.geometry.pages + c.in-Some.page) c.first_live.ensures.memory) (c.in_ok-live.ensures.within _ c.in-Some.is).1 c.if-not-is_ailing.ensures.some (λ b lt bad. ap (λ r. live_at r.blocks b) i.memory ∙ i.truth honest w b lt (sym (ap (λ r. is_good_at r.blocks.table b) i.memory) ∙ bad)) (c.in_ok-live.ensures.truth (i.as_honest ∙ honest) w_now) c.in-Some.is in
-    subst (λ x. IsFirstAiling old.blocks c.row.result c.first_live.new.self.page.body.items c.in-Some.found x) still (subst (λ z. IsFirstAiling z.blocks c.row.result c.first_live.new.self.page.body.items c.in-Some.found (g.N.PageSource.flash c.numbers.self.nand).image) i.memory first)
+    let still = ap (λ f. f.image) (i.looks.same honest (ok_not_bus _)) in
+    let w_now = true_over old now _ _ w i.looks.memory still in
+    let first = first_by now _ c.numbers.block c.in-Some.page c.row.result c.in-Some.found _ c.in_ok-live.live i.looks.safe.memory w_now (c.row.ensures.is ∙ ap (λ r. c.numbers.block * r.geometry.pages + c.in-Some.page) c.first_live.ensures.looks.memory) (c.in_ok-live.ensures.within _ c.in-Some.is).1 c.if-not-is_ailing.ensures.some (λ b lt bad. ap (λ r. live_at r.blocks b) i.looks.memory ∙ i.truth honest w b lt (sym (ap (λ r. is_good_at r.blocks.table b) i.looks.memory) ∙ bad)) (c.in_ok-live.ensures.truth (i.looks.only_reads.honest_is ∙ honest) w_now) c.in-Some.is in
+    subst (λ x. IsFirstAiling old.blocks c.row.result c.first_live.new.self.page.body.items c.in-Some.found x) still (subst (λ z. IsFirstAiling z.blocks c.row.result c.first_live.new.self.page.body.items c.in-Some.found (g.N.PageSource.flash c.numbers.self.nand).image) i.looks.memory first)

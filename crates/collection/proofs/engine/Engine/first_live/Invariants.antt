@@ -1,18 +1,13 @@
-use Rattle.std.proofs.Common.{◌≡◌, ◌≤◌, true, None}
-use Rattle.collection.specs.Safe.{IsSafe, ram, image_in}
+use Rattle.std.proofs.Common.{◌≡◌, ◌+◌, ◌-◌, ◌*◌, ◌≤◌, min, true, None, Ok}
+use Rattle.collection.specs.Safe.{ram, image_in}
 use Rattle.collection.specs.Truth.{IsTrue}
 use Rattle.collection.specs.Live.{HoldsNoneIn}
+use Rattle.collection.specs.Acts.{OnlyLooks}
 use Rattle.collection.proofs.engine.Engine.first_live.Given as goal
 
 abbrev pub invariant-candidates : goal.invariant-candidates
 invariant-candidates g l = record {
-  safe : IsSafe g.N.PageSource.flash l.self;
-  memory : ram l.self ≡ ram l.fn.self;
-  as_honest : g.N.PageSource.honest l.self.nand ≡ g.N.PageSource.honest l.fn.self.nand;
-  as_calm : g.N.PageSource.calm l.self.nand ≡ g.N.PageSource.calm l.fn.self.nand;
-  as_programmed : g.N.PageSource.programs l.self.nand ≡ g.N.PageSource.programs l.fn.self.nand;
-  as_erased : g.N.PageSource.erases l.self.nand ≡ g.N.PageSource.erases l.fn.self.nand;
-  faults : g.N.PageSource.failed l.fn.self.nand ≤ g.N.PageSource.failed l.self.nand;
-  still : g.N.PageSource.honest l.fn.self.nand ≡ true → g.N.PageSource.flash l.self.nand ≡ g.N.PageSource.flash l.fn.self.nand;
+  looks : OnlyLooks {A = Unit {0}} g.N.PageSource.flash g.N.PageSource.honest g.N.PageSource.calm g.N.PageSource.programs g.N.PageSource.erases g.N.PageSource.failed l.fn.self l.self (Ok tt);
+  reads : g.N.PageSource.reads l.self.nand ≤ g.N.PageSource.reads l.fn.self.nand + 2 * (min l.page l.fn.self.geometry.pages - l.first);
   truth : g.N.PageSource.honest l.fn.self.nand ≡ true → IsTrue None (ram l.fn.self) (image_in g.N.PageSource.flash l.fn.self) → HoldsNoneIn l.fn.self.geometry.pages l.block l.first l.page (image_in g.N.PageSource.flash l.fn.self);
 }

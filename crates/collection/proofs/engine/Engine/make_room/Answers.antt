@@ -1,16 +1,11 @@
 use Rattle.collection.specs.Safe.{ram}
 use Rattle.collection.specs.Results.{fault_after}
-use Rattle.collection.proofs.Gates.{ram_noted, went_noted}
+use Rattle.collection.proofs.Acts.{acts_noted, not_standing}
 use Rattle.collection.proofs.Noted.{on_noted, fresh_noted, made_noted, room_noted, erases_noted, counts_noted, tells_noted}
 use Rattle.collection.proofs.engine.Engine.make_room.Goals as goal
 
-pub returns-clause-safe : goal.returns-clause-safe
-returns-clause-safe g c = rw c.noted.ensures.noted (record {
-  memory = ram_noted _ (ram c.regain-answer.new.self) c.regain-answer.ensures.safe.memory;
-  geometry = c.regain-answer.ensures.safe.geometry;
-  page = c.regain-answer.ensures.safe.page;
-  scratch = c.regain-answer.ensures.safe.scratch;
-})
+pub returns-clause-stands : goal.returns-clause-stands
+returns-clause-stands g c = rw (c.noted.ensures.same, c.noted.ensures.noted) (acts_noted _ _ _ (not_standing _ _ c.in_ok-standing.ensures) c.regain-answer.ensures.acts)
 
 pub returns-clause-goes : goal.returns-clause-goes
 returns-clause-goes g c = rw c.noted.ensures.noted (on_noted _ _ (ram c.regain-answer.new.self) c.regain-answer.ensures.goes)
@@ -26,9 +21,6 @@ returns-clause-erases g c = rw (c.noted.ensures.same, c.noted.ensures.noted) (er
 
 pub returns-clause-tells : goal.returns-clause-tells
 returns-clause-tells g c = λ none. rw (c.noted.ensures.same, c.noted.ensures.noted) (tells_noted (fault_after c.regain-answer.new.self.fault c.regain-answer.result) (ram c.regain-answer.new.self) c.regain-answer.result c.regain-answer.ensures.tells)
-
-pub returns-clause-went : goal.returns-clause-went
-returns-clause-went g c = λ honest. rw (c.noted.ensures.same, c.noted.ensures.noted) (λ ne. went_noted _ _ (ram c.regain-answer.new.self) _ _ (c.regain-answer.ensures.went honest ne))
 
 pub returns-clause-truth : goal.returns-clause-truth
 returns-clause-truth g c = λ honest none w. rw (c.noted.ensures.same, c.noted.ensures.noted) (made_noted _ _ (ram c.regain-answer.new.self) _ _ c.regain-answer.result (c.regain-answer.ensures.truth honest w))

@@ -1,4 +1,4 @@
-use Rattle.std.proofs.Common.{◌∙◌, ap, refl, sym, subst, arith}
+use Rattle.std.proofs.Common.{◌∙◌, ap, refl, sym, subst, arith, rules}
 use Rattle.std.proofs.lemmas.List.{with_items_is}
 use Rattle.page_layout.specs.Page.{page}
 use Rattle.page_layout.specs.Sound.{record_of}
@@ -7,13 +7,16 @@ use Rattle.onfi_cycles.specs.declared.nand.Outcome.TheVariants.{Passed, Failed}
 use Rattle.onfi_cycles.specs.Outcomes.{is_passed}
 use Rattle.bad_blocks.specs.Table.{wear_at}
 use Rattle.budget.specs.Stream.{stream_of}
+use Rattle.allocation.specs.State.{State}
 use Rattle.allocation.specs.View.{state}
 use Rattle.collection.specs.Safe.{ram}
 use Rattle.collection.specs.Results.{IsStep}
 use Rattle.collection.proofs.Programs.{at_outcome, buffer_spare}
+use Rattle.collection.proofs.Looks.{ok_not_bus}
 use Rattle.collection.proofs.Memory.{taken_outside}
 use Rattle.collection.proofs.Attempts.{taken_by, taken_good, next_record, step_others, asked_ram, asked_goes, failed_ram, failed_goes, failed_cost}
 use Rattle.collection.proofs.Attempts.{failed_went, failed_kept, passed_ram, passed_goes, passed_cost, passed_went, passed_put, may_program}
+use Rattle.collection.proofs.WriteBacks.{read_went}
 use Rattle.collection.proofs.engine.Engine.program_next.Goals as goal
 
 pub retire-requires-clause-good : goal.retire-requires-clause-good
@@ -22,18 +25,43 @@ retire-requires-clause-good g c =
     let t = state c.take_row.new.self in
     taken_good c.of.result c.split_row-block.result.0 c.in-Some.row r.blocks t (taken_by r c.of.result c.in-Some.row c.split_row-block.result.0 t c.requires.safe.memory c.in-Some.ensures.some c.split_row-block.ensures.block_is)
 
+-- ---- no block takes it
+
+pub returns-in_default-clause-acts : goal.returns-in_default-clause-acts
+returns-in_default-clause-acts g c = record {
+  safe = search rules;
+  fault = refl;
+  honest_is = refl;
+  calm_is = refl;
+  failed_is = omega arith;
+  rose = λ e. (let never : ⊥ = cc in absurd never);
+  went = λ honest _. read_went (ram c.args.self.now) _ _ _ (ap (λ (s : State). record (ram c.args.self.now) { blocks = s }) c.in_default.ensures.none.1) refl;
+}
+
 -- ---- it passed
 
-pub returns-in-Ok-Passed-clause-safe : goal.returns-in-Ok-Passed-clause-safe
-returns-in-Ok-Passed-clause-safe g c =
+pub returns-in-Ok-Passed-clause-acts : goal.returns-in-Ok-Passed-clause-acts
+returns-in-Ok-Passed-clause-acts g c =
     let r = ram c.args.self.now in
     let t = state c.take_row.new.self in
     let is = taken_by r c.of.result c.in-Some.row c.split_row-block.result.0 t c.requires.safe.memory c.in-Some.ensures.some c.split_row-block.ensures.block_is in
     record {
-      memory = passed_ram c.of.result c.split_row-block.result.0 c.in-Some.row r t c.requires.safe.memory is _ (record { geometry = refl; directory = refl; mapping = refl; pin = refl; next = refl }) c.args.old_row c.count_move.ensures c.requires.old_row c.requires.next;
-      geometry = c.program_record.ensures.geometry ∙ c.requires.safe.geometry;
-      page = buffer_spare c.args.self.now.geometry c.args.self.now.page c.program_record.new.spare c.requires.safe.page;
-      scratch = c.requires.safe.scratch;
+      safe = record {
+        memory = passed_ram c.of.result c.split_row-block.result.0 c.in-Some.row r t c.requires.safe.memory is _ (record { geometry = refl; directory = refl; mapping = refl; pin = refl; next = refl }) c.args.old_row c.count_move.ensures c.requires.old_row c.requires.next;
+        geometry = c.program_record.ensures.geometry ∙ c.requires.safe.geometry;
+        page = buffer_spare c.args.self.now.geometry c.args.self.now.page c.program_record.new.spare c.requires.safe.page;
+        scratch = c.requires.safe.scratch;
+      };
+      fault = refl;
+      honest_is = c.program_record.ensures.honest;
+      calm_is = c.program_record.ensures.calm;
+      failed_is = c.program_record.ensures.failed;
+      rose = λ e. absurd (ok_not_bus _ e);
+      went = λ honest _.
+          let before = g.N.PageSource.flash c.args.self.now.nand in
+          let after = g.N.PageSource.flash c.program_record.new.nand in
+          let step = at_outcome (λ o. IsStep c.in-Some.row o before after) c.in-Ok-Passed.field-0 Passed (c.in-Ok-Passed.ensures.step honest) c.in-Ok-Passed.field-0-is in
+          passed_went c.of.result c.split_row-block.result.0 c.in-Some.row r t c.requires.safe.memory is _ (record { geometry = refl; directory = refl; mapping = refl; pin = refl; next = refl }) before after c.args.old_row c.count_move.ensures c.requires.old_row step;
     }
 
 pub returns-in-Ok-Passed-clause-goes : goal.returns-in-Ok-Passed-clause-goes
@@ -66,16 +94,6 @@ returns-in-Ok-Passed-clause-cost g c =
     let is = taken_by r c.of.result c.in-Some.row c.split_row-block.result.0 t c.requires.safe.memory c.in-Some.ensures.some c.split_row-block.ensures.block_is in
     passed_cost c.of.result c.split_row-block.result.0 c.in-Some.row r t c.requires.safe.memory is _ (record { geometry = refl; directory = refl; mapping = refl; pin = refl; next = refl }) (stream_of c.args.kind) c.args.old_row c.of.ensures c.count_move.ensures c.requires.old_row
 
-pub returns-in-Ok-Passed-clause-went : goal.returns-in-Ok-Passed-clause-went
-returns-in-Ok-Passed-clause-went g c = λ honest _.
-    let r = ram c.args.self.now in
-    let t = state c.take_row.new.self in
-    let before = g.N.PageSource.flash c.args.self.now.nand in
-    let after = g.N.PageSource.flash c.program_record.new.nand in
-    let is = taken_by r c.of.result c.in-Some.row c.split_row-block.result.0 t c.requires.safe.memory c.in-Some.ensures.some c.split_row-block.ensures.block_is in
-    let step = at_outcome (λ o. IsStep c.in-Some.row o before after) c.in-Ok-Passed.field-0 Passed (c.in-Ok-Passed.ensures.step honest) c.in-Ok-Passed.field-0-is in
-    passed_went c.of.result c.split_row-block.result.0 c.in-Some.row r t c.requires.safe.memory is _ (record { geometry = refl; directory = refl; mapping = refl; pin = refl; next = refl }) before after c.args.old_row c.count_move.ensures c.requires.old_row step
-
 pub returns-in-Ok-Passed-clause-truth : goal.returns-in-Ok-Passed-clause-truth
 returns-in-Ok-Passed-clause-truth g c = λ honest may.
     let r = ram c.args.self.now in
@@ -95,16 +113,28 @@ returns-in-Ok-Passed-clause-truth g c = λ honest may.
 
 -- ---- it failed
 
-pub returns-in-Ok-Failed-clause-safe : goal.returns-in-Ok-Failed-clause-safe
-returns-in-Ok-Failed-clause-safe g c =
+pub returns-in-Ok-Failed-clause-acts : goal.returns-in-Ok-Failed-clause-acts
+returns-in-Ok-Failed-clause-acts g c =
     let r = ram c.args.self.now in
     let t = state c.take_row.new.self in
     let is = taken_by r c.of.result c.in-Some.row c.split_row-block.result.0 t c.requires.safe.memory c.in-Some.ensures.some c.split_row-block.ensures.block_is in
     record {
-      memory = failed_ram c.of.result c.split_row-block.result.0 c.in-Some.row r t c.requires.safe.memory is _ (record { geometry = refl; directory = refl; mapping = refl; pin = refl; next = refl }) c.retire.ensures.is c.requires.next;
-      geometry = c.program_record.ensures.geometry ∙ c.requires.safe.geometry;
-      page = buffer_spare c.args.self.now.geometry c.args.self.now.page c.program_record.new.spare c.requires.safe.page;
-      scratch = c.requires.safe.scratch;
+      safe = record {
+        memory = failed_ram c.of.result c.split_row-block.result.0 c.in-Some.row r t c.requires.safe.memory is _ (record { geometry = refl; directory = refl; mapping = refl; pin = refl; next = refl }) c.retire.ensures.is c.requires.next;
+        geometry = c.program_record.ensures.geometry ∙ c.requires.safe.geometry;
+        page = buffer_spare c.args.self.now.geometry c.args.self.now.page c.program_record.new.spare c.requires.safe.page;
+        scratch = c.requires.safe.scratch;
+      };
+      fault = refl;
+      honest_is = c.program_record.ensures.honest;
+      calm_is = c.program_record.ensures.calm;
+      failed_is = c.program_record.ensures.failed;
+      rose = λ e. absurd (ok_not_bus _ e);
+      went = λ honest _.
+          let before = g.N.PageSource.flash c.args.self.now.nand in
+          let after = g.N.PageSource.flash c.program_record.new.nand in
+          let step = at_outcome (λ o. IsStep c.in-Some.row o before after) c.in-Ok-Failed.field-0 Failed (c.in-Ok-Failed.ensures.step honest) c.in-Ok-Failed.field-0-is in
+          failed_went c.of.result c.split_row-block.result.0 c.in-Some.row r t c.requires.safe.memory is _ (record { geometry = refl; directory = refl; mapping = refl; pin = refl; next = refl }) before after c.retire.ensures.is step;
     }
 
 pub returns-in-Ok-Failed-clause-goes : goal.returns-in-Ok-Failed-clause-goes
@@ -120,16 +150,6 @@ returns-in-Ok-Failed-clause-cost g c =
     let t = state c.take_row.new.self in
     let is = taken_by r c.of.result c.in-Some.row c.split_row-block.result.0 t c.requires.safe.memory c.in-Some.ensures.some c.split_row-block.ensures.block_is in
     failed_cost c.of.result c.split_row-block.result.0 c.in-Some.row r t c.requires.safe.memory is _ (record { geometry = refl; directory = refl; mapping = refl; pin = refl; next = refl }) (stream_of c.args.kind) c.of.ensures c.retire.ensures.is
-
-pub returns-in-Ok-Failed-clause-went : goal.returns-in-Ok-Failed-clause-went
-returns-in-Ok-Failed-clause-went g c = λ honest _.
-    let r = ram c.args.self.now in
-    let t = state c.take_row.new.self in
-    let before = g.N.PageSource.flash c.args.self.now.nand in
-    let after = g.N.PageSource.flash c.program_record.new.nand in
-    let is = taken_by r c.of.result c.in-Some.row c.split_row-block.result.0 t c.requires.safe.memory c.in-Some.ensures.some c.split_row-block.ensures.block_is in
-    let step = at_outcome (λ o. IsStep c.in-Some.row o before after) c.in-Ok-Failed.field-0 Failed (c.in-Ok-Failed.ensures.step honest) c.in-Ok-Failed.field-0-is in
-    failed_went c.of.result c.split_row-block.result.0 c.in-Some.row r t c.requires.safe.memory is _ (record { geometry = refl; directory = refl; mapping = refl; pin = refl; next = refl }) before after c.retire.ensures.is step
 
 pub returns-in-Ok-Failed-clause-truth : goal.returns-in-Ok-Failed-clause-truth
 returns-in-Ok-Failed-clause-truth g c = λ honest may.
@@ -149,16 +169,24 @@ returns-in-Ok-Failed-clause-truth g c = λ honest may.
 
 -- ---- the die answered nothing
 
-pub returns-in-Err-clause-safe : goal.returns-in-Err-clause-safe
-returns-in-Err-clause-safe g c =
+pub returns-in-Err-clause-acts : goal.returns-in-Err-clause-acts
+returns-in-Err-clause-acts g c =
     let r = ram c.args.self.now in
     let t = state c.take_row.new.self in
     let is = taken_by r c.of.result c.in-Some.row c.split_row-block.result.0 t c.requires.safe.memory c.in-Some.ensures.some c.split_row-block.ensures.block_is in
     record {
-      memory = asked_ram c.of.result c.split_row-block.result.0 c.in-Some.row r t c.requires.safe.memory is _ (record { geometry = refl; directory = refl; mapping = refl; pin = refl; next = refl }) refl c.requires.next;
-      geometry = c.program_record.ensures.geometry ∙ c.requires.safe.geometry;
-      page = buffer_spare c.args.self.now.geometry c.args.self.now.page c.program_record.new.spare c.requires.safe.page;
-      scratch = c.requires.safe.scratch;
+      safe = record {
+        memory = asked_ram c.of.result c.split_row-block.result.0 c.in-Some.row r t c.requires.safe.memory is _ (record { geometry = refl; directory = refl; mapping = refl; pin = refl; next = refl }) refl c.requires.next;
+        geometry = c.program_record.ensures.geometry ∙ c.requires.safe.geometry;
+        page = buffer_spare c.args.self.now.geometry c.args.self.now.page c.program_record.new.spare c.requires.safe.page;
+        scratch = c.requires.safe.scratch;
+      };
+      fault = refl;
+      honest_is = c.program_record.ensures.honest;
+      calm_is = c.program_record.ensures.calm;
+      failed_is = c.program_record.ensures.failed;
+      rose = λ e. c.in-Err.ensures.rose;
+      went = λ honest ne. absurd (ne refl);
     }
 
 pub returns-in-Err-clause-goes : goal.returns-in-Err-clause-goes

@@ -1,9 +1,9 @@
-use Rattle.std.proofs.Common.{◌≡◌, ◌≤◌, ℕ, true, None}
+use Rattle.std.proofs.Common.{◌≡◌, ℕ, true, None, Ok}
 use Rattle.budget.specs.Spending.{IsFunded}
 use Rattle.allocation.specs.Counts.{counts_of}
-use Rattle.collection.specs.Safe.{IsSafe, IsIdle, ram, image_in}
+use Rattle.collection.specs.Safe.{IsIdle, ram, image_in}
 use Rattle.collection.specs.Truth.{IsTrue}
-use Rattle.collection.specs.Log.{Went}
+use Rattle.collection.specs.Acts.{Acts}
 use Rattle.collection.specs.Collect.{KeepsKeys, Refreshes, GoesOn, RestsOrErases, IsRearranged}
 use Rattle.collection.specs.Room.{IsFundedOn}
 use Rattle.collection.specs.Whole.{work_left}
@@ -11,17 +11,12 @@ use Rattle.collection.proofs.engine.Engine.regain.Given as goal
 
 abbrev pub invariant-rounds : goal.invariant-rounds
 invariant-rounds g l = record {
-  safe : IsSafe g.N.PageSource.flash l.self;
+  acts : Acts {A = Unit {0}} g.N.PageSource.flash g.N.PageSource.honest g.N.PageSource.calm g.N.PageSource.failed l.fn.self l.self (Ok tt);
   idle : IsIdle (ram l.self);
   goes : GoesOn (ram l.fn.self) (ram l.self);
-  fault : l.self.fault ≡ l.fn.self.fault;
-  as_honest : g.N.PageSource.honest l.self.nand ≡ g.N.PageSource.honest l.fn.self.nand;
   erases : RestsOrErases (ram l.fn.self) (ram l.self) (g.N.PageSource.erases l.fn.self.nand) (g.N.PageSource.erases l.self.nand);
-  as_calm : g.N.PageSource.calm l.self.nand ≡ g.N.PageSource.calm l.fn.self.nand;
-  faults : g.N.PageSource.failed l.fn.self.nand ≤ g.N.PageSource.failed l.self.nand;
   keys : KeepsKeys l.fn.self.mapping l.self.mapping;
   refreshes : l.flushing ≡ true → Refreshes (ram l.fn.self) (ram l.self);
-  went : g.N.PageSource.honest l.fn.self.nand ≡ true → Went (ram l.fn.self) (g.N.PageSource.flash l.fn.self.nand) (ram l.self) (g.N.PageSource.flash l.self.nand);
   truth : g.N.PageSource.honest l.fn.self.nand ≡ true → IsTrue None (ram l.fn.self) (image_in g.N.PageSource.flash l.fn.self) → IsRearranged (ram l.fn.self) (image_in g.N.PageSource.flash l.fn.self) (ram l.self) (image_in g.N.PageSource.flash l.self);
   count : g.N.PageSource.honest l.fn.self.nand ≡ true → IsTrue None (ram l.fn.self) (image_in g.N.PageSource.flash l.fn.self) → (failures : ℕ) → IsFunded l.fn.self.geometry.pages failures (counts_of (ram l.fn.self).blocks) → IsFundedOn failures (ram l.fn.self) (ram l.self);
 }

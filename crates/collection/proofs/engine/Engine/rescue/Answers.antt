@@ -4,12 +4,10 @@ use Rattle.collection.specs.Safe.{ram}
 use Rattle.page_layout.specs.Key.{key_of}
 use Rattle.page_layout.specs.Live.{IsKeyOf}
 use Rattle.collection.specs.Collect.{IsMovedOut}
-use Rattle.collection.proofs.Costs.{not_bus}
+use Rattle.collection.proofs.Acts.{acts_then, acts_ok, acts_err, looked}
 use Rattle.collection.proofs.Looks.{none_from, ok_not_bus}
-use Rattle.collection.proofs.Logs.{went_then}
 use Rattle.collection.proofs.Memory.{goes_then}
 use Rattle.collection.proofs.Puts.{refused_then}
-use Rattle.collection.proofs.WriteBacks.{read_went}
 use Rattle.collection.proofs.Lowest.{some_pages}
 use Rattle.collection.proofs.Rescues.{copied_as, rescued, none_rescued, goes_from, rescued_cost, uncopied_cost, unfollowed_cost, unread_rescue, unread_refused}
 use Rattle.collection.proofs.engine.Engine.rescue.Goals as goal
@@ -17,14 +15,14 @@ use Rattle.collection.proofs.engine.Engine.rescue.Goals as goal
 -- ---- the copy
 
 pub copy_page-requires-clause-key : goal.copy_page-requires-clause-key
-copy_page-requires-clause-key g c = rw (ap (λ r. r.geometry) c.first_ailing.ensures.memory) (c.in_ok-ailing.ensures.checked _ c.in-Some.is).of_key
+copy_page-requires-clause-key g c = rw (ap (λ r. r.geometry) c.first_ailing.ensures.looks.memory) (c.in_ok-ailing.ensures.checked _ c.in-Some.is).of_key
 
 pub copy_page-requires-clause-row : goal.copy_page-requires-clause-row
-copy_page-requires-clause-row g c = rw (ap (λ r. r.geometry) c.first_ailing.ensures.memory) (c.in_ok-ailing.ensures.row _ c.in-Some.is)
+copy_page-requires-clause-row g c = rw (ap (λ r. r.geometry) c.first_ailing.ensures.looks.memory) (c.in_ok-ailing.ensures.row _ c.in-Some.is)
 
 pub copy_page-requires-clause-room : goal.copy_page-requires-clause-room
 copy_page-requires-clause-room g c =
-    let none = ap (λ r. length r.mapping.moved) c.first_ailing.ensures.memory ∙ ap length c.requires.idle.moved in
+    let none = ap (λ r. length r.mapping.moved) c.first_ailing.ensures.looks.memory ∙ ap length c.requires.idle.moved in
     let some = some_pages c.first_ailing.new.self.geometry in
     omega (arith, none, some)
 
@@ -33,55 +31,51 @@ copy_page-requires-clause-room g c =
 pub returns-in_err-ailing-clause-cost : goal.returns-in_err-ailing-clause-cost
 returns-in_err-ailing-clause-cost g c =
     let p = err_from_is_err_and c.from_residual.result c.from_residual.ensures.1 in
-    rw (p.1, p.2) (unread_rescue (ram c.args.self.now) (ram c.first_ailing.new.self) _ c.in_err-ailing.ensures.faults)
+    rw (p.1, p.2) (unread_rescue (ram c.args.self.now) (ram c.first_ailing.new.self) _ c.in_err-ailing.ensures.looks.faults)
 
-pub returns-in_err-ailing-clause-went : goal.returns-in_err-ailing-clause-went
-returns-in_err-ailing-clause-went g c =
+pub returns-in_err-ailing-clause-acts : goal.returns-in_err-ailing-clause-acts
+returns-in_err-ailing-clause-acts g c =
     let p = err_from_is_err_and c.from_residual.result c.from_residual.ensures.1 in
-    rw (p.1, p.2) (λ honest ne. read_went (ram c.args.self.now) (ram c.first_ailing.new.self) _ _ c.first_ailing.ensures.memory (c.in_err-ailing.ensures.same honest (not_bus _ ne)))
+    rw (p.1, p.2) (acts_err _ _ _ (looked _ _ _ c.in_err-ailing.ensures.looks))
 
 pub returns-in_err-ailing-clause-truth : goal.returns-in_err-ailing-clause-truth
 returns-in_err-ailing-clause-truth g c =
     let p = err_from_is_err_and c.from_residual.result c.from_residual.ensures.1 in
     rw (p.1, p.2) (λ honest w. unread_refused (ram c.args.self.now) (ram c.first_ailing.new.self) _ _ _ (c.in_err-ailing.ensures.truth honest w))
 
-pub returns-in_default-clause-went : goal.returns-in_default-clause-went
-returns-in_default-clause-went g c = λ honest ne. read_went (ram c.args.self.now) (ram c.first_ailing.new.self) _ _ c.first_ailing.ensures.memory (c.in_ok-ailing.ensures.same honest (ok_not_bus _))
+pub returns-in_default-clause-acts : goal.returns-in_default-clause-acts
+returns-in_default-clause-acts g c = acts_ok _ _ _ _ (looked _ _ _ c.in_ok-ailing.ensures.looks)
 
 pub returns-in_default-clause-truth : goal.returns-in_default-clause-truth
 returns-in_default-clause-truth g c = λ honest w.
-    let still = ap (λ f. f.image) (c.in_ok-ailing.ensures.same honest (ok_not_bus _)) in
-    none_rescued (ram c.args.self.now) (ram c.first_ailing.new.self) _ _ _ c.in_ok-ailing.ailing c.first_ailing.ensures.memory still w (c.in_ok-ailing.ensures.truth honest w) (none_from c.in_ok-ailing.ailing c.in_default.not-Some)
+    let still = ap (λ f. f.image) (c.in_ok-ailing.ensures.looks.same honest (ok_not_bus _)) in
+    none_rescued (ram c.args.self.now) (ram c.first_ailing.new.self) _ _ _ c.in_ok-ailing.ailing c.first_ailing.ensures.looks.memory still w (c.in_ok-ailing.ensures.truth honest w) (none_from c.in_ok-ailing.ailing c.in_default.not-Some)
 
 pub returns-in_err-copy_page-clause-cost : goal.returns-in_err-copy_page-clause-cost
 returns-in_err-copy_page-clause-cost g c =
     let p = err_from_is_err_and c.from_residual-in_err-copy_page.result c.from_residual-in_err-copy_page.ensures.1 in
-    rw (p.1, p.2) (uncopied_cost (ram c.args.self.now) (ram c.first_ailing.new.self) (ram c.copy_page.new.self) _ c.requires.safe.memory c.first_ailing.ensures.memory c.in_err-copy_page.ensures.cost)
+    rw (p.1, p.2) (uncopied_cost (ram c.args.self.now) (ram c.first_ailing.new.self) (ram c.copy_page.new.self) _ c.requires.safe.memory c.first_ailing.ensures.looks.memory c.in_err-copy_page.ensures.cost)
 
 -- ---- its translation page follows
 
 pub follow_moved-requires-clause-key : goal.follow_moved-requires-clause-key
 follow_moved-requires-clause-key g c =
     let of_key = (c.in_ok-ailing.ensures.checked _ c.in-Some.is).of_key in
-    let geometry = c.copy_page.ensures.goes.geometry ∙ ap (λ r. r.geometry) c.first_ailing.ensures.memory in
+    let geometry = c.copy_page.ensures.goes.geometry ∙ ap (λ r. r.geometry) c.first_ailing.ensures.looks.memory in
     subst (IsKeyOf c.copy_page.new.self.geometry) (sym c.key.ensures) (subst (λ x. IsKeyOf x (key_of c.in-Some.found)) (sym geometry) of_key)
 
 pub returns-in_err-follow_moved-clause-goes : goal.returns-in_err-follow_moved-clause-goes
-returns-in_err-follow_moved-clause-goes g c = goes_then (ram c.args.self.now) (ram c.copy_page.new.self) _ (goes_from (ram c.args.self.now) (ram c.first_ailing.new.self) (ram c.copy_page.new.self) c.first_ailing.ensures.memory c.copy_page.ensures.goes) c.follow_moved.ensures.goes
+returns-in_err-follow_moved-clause-goes g c = goes_then (ram c.args.self.now) (ram c.copy_page.new.self) _ (goes_from (ram c.args.self.now) (ram c.first_ailing.new.self) (ram c.copy_page.new.self) c.first_ailing.ensures.looks.memory c.copy_page.ensures.goes) c.follow_moved.ensures.goes
 
 pub returns-in_err-follow_moved-clause-cost : goal.returns-in_err-follow_moved-clause-cost
 returns-in_err-follow_moved-clause-cost g c =
     let p = err_from_is_err_and c.from_residual-in_err-follow_moved.result c.from_residual-in_err-follow_moved.ensures.1 in
-    rw (p.1, p.2) (unfollowed_cost (ram c.args.self.now) (ram c.first_ailing.new.self) (ram c.copy_page.new.self) (ram c.follow_moved.new.self) _ c.requires.safe.memory c.first_ailing.ensures.memory c.in_ok-copy_page.ensures.cost c.in_err-follow_moved.ensures.cost)
+    rw (p.1, p.2) (unfollowed_cost (ram c.args.self.now) (ram c.first_ailing.new.self) (ram c.copy_page.new.self) (ram c.follow_moved.new.self) _ c.requires.safe.memory c.first_ailing.ensures.looks.memory c.in_ok-copy_page.ensures.cost c.in_err-follow_moved.ensures.cost)
 
-pub returns-in_err-follow_moved-clause-went : goal.returns-in_err-follow_moved-clause-went
-returns-in_err-follow_moved-clause-went g c =
+pub returns-in_err-follow_moved-clause-acts : goal.returns-in_err-follow_moved-clause-acts
+returns-in_err-follow_moved-clause-acts g c =
     let p = err_from_is_err_and c.from_residual-in_err-follow_moved.result c.from_residual-in_err-follow_moved.ensures.1 in
-    rw (p.1, p.2) (λ honest ne.
-    let first = read_went (ram c.args.self.now) (ram c.first_ailing.new.self) _ _ c.first_ailing.ensures.memory (c.in_ok-ailing.ensures.same honest (ok_not_bus _)) in
-    let copied = c.in_ok-copy_page.ensures.went (c.first_ailing.ensures.honest ∙ honest) (ok_not_bus _) in
-    let followed = c.in_err-follow_moved.ensures.went (c.copy_page.ensures.honest ∙ (c.first_ailing.ensures.honest ∙ honest)) (not_bus _ ne) in
-    went_then _ _ _ _ _ _ (ap (λ r. r.geometry) c.first_ailing.ensures.memory) first (went_then _ _ _ _ _ _ c.copy_page.ensures.goes.geometry copied followed))
+    rw (p.1, p.2) (acts_then _ _ _ _ _ (ap (λ r. r.geometry) c.first_ailing.ensures.looks.memory) (looked _ _ _ c.in_ok-ailing.ensures.looks) (acts_then _ _ _ _ _ c.copy_page.ensures.goes.geometry c.in_ok-copy_page.ensures.acts (acts_err _ _ _ c.in_err-follow_moved.ensures.acts)))
 
 pub returns-in_err-follow_moved-clause-truth : goal.returns-in_err-follow_moved-clause-truth
 returns-in_err-follow_moved-clause-truth g c =
@@ -91,23 +85,19 @@ returns-in_err-follow_moved-clause-truth g c =
     let b = ram c.first_ailing.new.self in
     let n = ram c.copy_page.new.self in
     let y = (g.N.PageSource.flash c.copy_page.new.self.nand).image in
-    let still = ap (λ f. f.image) (c.in_ok-ailing.ensures.same honest (ok_not_bus _)) in
-    let now = c.first_ailing.ensures.honest ∙ honest in
-    let m = copied_as a b _ _ c.in-Some.row c.in-Some.found _ c.in_ok-ailing.ailing c.requires.safe.memory c.first_ailing.ensures.memory still w (c.in_ok-ailing.ensures.truth honest w) c.in-Some.is (λ r i. IsMovedOut c.in-Some.row r i n y) (c.in_ok-copy_page.ensures.truth now) in
-    refused_then a n (ram c.follow_moved.new.self) _ y _ (goes_from a b n c.first_ailing.ensures.memory c.copy_page.ensures.goes) c.follow_moved.ensures.goes.geometry _ m.same (c.in_err-follow_moved.ensures.truth (c.copy_page.ensures.honest ∙ now) m.same.truth))
+    let still = ap (λ f. f.image) (c.in_ok-ailing.ensures.looks.same honest (ok_not_bus _)) in
+    let now = c.first_ailing.ensures.looks.only_reads.honest_is ∙ honest in
+    let m = copied_as a b _ _ c.in-Some.row c.in-Some.found _ c.in_ok-ailing.ailing c.requires.safe.memory c.first_ailing.ensures.looks.memory still w (c.in_ok-ailing.ensures.truth honest w) c.in-Some.is (λ r i. IsMovedOut c.in-Some.row r i n y) (c.in_ok-copy_page.ensures.truth now) in
+    refused_then a n (ram c.follow_moved.new.self) _ y _ (goes_from a b n c.first_ailing.ensures.looks.memory c.copy_page.ensures.goes) c.follow_moved.ensures.goes.geometry _ m.same (c.in_err-follow_moved.ensures.truth (c.copy_page.ensures.acts.honest_is ∙ now) m.same.truth))
 
 pub returns-clause-goes : goal.returns-clause-goes
-returns-clause-goes g c = goes_then (ram c.args.self.now) (ram c.copy_page.new.self) _ (goes_from (ram c.args.self.now) (ram c.first_ailing.new.self) (ram c.copy_page.new.self) c.first_ailing.ensures.memory c.copy_page.ensures.goes) c.follow_moved.ensures.goes
+returns-clause-goes g c = goes_then (ram c.args.self.now) (ram c.copy_page.new.self) _ (goes_from (ram c.args.self.now) (ram c.first_ailing.new.self) (ram c.copy_page.new.self) c.first_ailing.ensures.looks.memory c.copy_page.ensures.goes) c.follow_moved.ensures.goes
 
 pub returns-clause-cost : goal.returns-clause-cost
-returns-clause-cost g c = rescued_cost (ram c.args.self.now) (ram c.first_ailing.new.self) (ram c.copy_page.new.self) (ram c.follow_moved.new.self) c.requires.safe.memory c.first_ailing.ensures.memory c.copy_page.ensures.goes.geometry c.in_ok-copy_page.ensures.cost c.in_ok-follow_moved.ensures.cost
+returns-clause-cost g c = rescued_cost (ram c.args.self.now) (ram c.first_ailing.new.self) (ram c.copy_page.new.self) (ram c.follow_moved.new.self) c.requires.safe.memory c.first_ailing.ensures.looks.memory c.copy_page.ensures.goes.geometry c.in_ok-copy_page.ensures.cost c.in_ok-follow_moved.ensures.cost
 
-pub returns-clause-went : goal.returns-clause-went
-returns-clause-went g c = λ honest ne.
-    let first = read_went (ram c.args.self.now) (ram c.first_ailing.new.self) _ _ c.first_ailing.ensures.memory (c.in_ok-ailing.ensures.same honest (ok_not_bus _)) in
-    let copied = c.in_ok-copy_page.ensures.went (c.first_ailing.ensures.honest ∙ honest) (ok_not_bus _) in
-    let followed = c.in_ok-follow_moved.ensures.went (c.copy_page.ensures.honest ∙ (c.first_ailing.ensures.honest ∙ honest)) (ok_not_bus _) in
-    went_then _ _ _ _ _ _ (ap (λ r. r.geometry) c.first_ailing.ensures.memory) first (went_then _ _ _ _ _ _ c.copy_page.ensures.goes.geometry copied followed)
+pub returns-clause-acts : goal.returns-clause-acts
+returns-clause-acts g c = acts_then _ _ _ _ _ (ap (λ r. r.geometry) c.first_ailing.ensures.looks.memory) (looked _ _ _ c.in_ok-ailing.ensures.looks) (acts_then _ _ _ _ _ c.copy_page.ensures.goes.geometry c.in_ok-copy_page.ensures.acts (acts_ok _ _ _ _ c.in_ok-follow_moved.ensures.acts))
 
 pub returns-clause-truth : goal.returns-clause-truth
 returns-clause-truth g c = λ honest w.
@@ -115,8 +105,8 @@ returns-clause-truth g c = λ honest w.
     let b = ram c.first_ailing.new.self in
     let n = ram c.copy_page.new.self in
     let y = (g.N.PageSource.flash c.copy_page.new.self.nand).image in
-    let still = ap (λ f. f.image) (c.in_ok-ailing.ensures.same honest (ok_not_bus _)) in
-    let now = c.first_ailing.ensures.honest ∙ honest in
+    let still = ap (λ f. f.image) (c.in_ok-ailing.ensures.looks.same honest (ok_not_bus _)) in
+    let now = c.first_ailing.ensures.looks.only_reads.honest_is ∙ honest in
     let finds = c.in_ok-ailing.ensures.truth honest w in
-    let m = copied_as a b _ _ c.in-Some.row c.in-Some.found _ c.in_ok-ailing.ailing c.requires.safe.memory c.first_ailing.ensures.memory still w finds c.in-Some.is (λ r i. IsMovedOut c.in-Some.row r i n y) (c.in_ok-copy_page.ensures.truth now) in
-    rescued a b _ _ c.in-Some.row c.in-Some.found _ c.in_ok-ailing.ailing c.requires.safe.memory c.first_ailing.ensures.memory still w finds c.in-Some.is n (ram c.follow_moved.new.self) y _ c.copy_page.ensures.safe.memory c.follow_moved.ensures.safe.memory (goes_from a b n c.first_ailing.ensures.memory c.copy_page.ensures.goes) c.follow_moved.ensures.goes.geometry m (c.in_ok-follow_moved.ensures.truth (c.copy_page.ensures.honest ∙ now))
+    let m = copied_as a b _ _ c.in-Some.row c.in-Some.found _ c.in_ok-ailing.ailing c.requires.safe.memory c.first_ailing.ensures.looks.memory still w finds c.in-Some.is (λ r i. IsMovedOut c.in-Some.row r i n y) (c.in_ok-copy_page.ensures.truth now) in
+    rescued a b _ _ c.in-Some.row c.in-Some.found _ c.in_ok-ailing.ailing c.requires.safe.memory c.first_ailing.ensures.looks.memory still w finds c.in-Some.is n (ram c.follow_moved.new.self) y _ c.copy_page.ensures.acts.safe.memory c.follow_moved.ensures.acts.safe.memory (goes_from a b n c.first_ailing.ensures.looks.memory c.copy_page.ensures.goes) c.follow_moved.ensures.goes.geometry m (c.in_ok-follow_moved.ensures.truth (c.copy_page.ensures.acts.honest_is ∙ now))

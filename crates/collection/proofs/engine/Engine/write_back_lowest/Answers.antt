@@ -1,4 +1,4 @@
-use Rattle.std.proofs.Common.{◌∙◌, set, false, ap}
+use Rattle.std.proofs.Common.{◌∙◌, set, false, ap, arith}
 use Rattle.collection.specs.Safe.{ram}
 use Rattle.collection.proofs.Dues.{written_refreshes}
 use Rattle.collection.proofs.Lowest.{due_some, due_positive, written_cost, same_pinned}
@@ -6,6 +6,12 @@ use Rattle.collection.proofs.engine.Engine.write_back_lowest.Goals as goal
 
 pub returns-in_err-write_page_back-clause-owed : goal.returns-in_err-write_page_back-clause-owed
 returns-in_err-write_page_back-clause-owed g c = λ is. due_positive c.args.flushing (ram c.args.self.now) c.in-Some.t (due_some c.args.flushing (ram c.args.self.now) c.lowest_due-due.result c.in-Some.t c.lowest_due-due.ensures c.in-Some.is)
+
+pub returns-in_err-write_page_back-clause-reads : goal.returns-in_err-write_page_back-clause-reads
+returns-in_err-write_page_back-clause-reads g c = (let some = due_positive c.args.flushing (ram c.args.self.now) c.in-Some.t (due_some c.args.flushing (ram c.args.self.now) c.lowest_due-due.result c.in-Some.t c.lowest_due-due.ensures c.in-Some.is) in omega (arith, some, c.write_page_back.ensures.reads))
+
+pub returns-clause-reads : goal.returns-clause-reads
+returns-clause-reads g c = (let some = due_positive c.args.flushing (ram c.args.self.now) c.in-Some.t (due_some c.args.flushing (ram c.args.self.now) c.lowest_due-due.result c.in-Some.t c.lowest_due-due.ensures c.in-Some.is) in omega (arith, some, c.write_page_back.ensures.reads))
 
 pub returns-clause-refreshes : goal.returns-clause-refreshes
 returns-clause-refreshes g c = λ on.

@@ -3,31 +3,31 @@ use Rattle.std.proofs.lemmas.Result.{err_from_is_err_and}
 use Rattle.mapping_cache.specs.Mapping.{cleaned}
 use Rattle.collection.specs.Safe.{ram}
 use Rattle.collection.proofs.Looks.{directory_row, ok_not_bus}
-use Rattle.collection.proofs.Costs.{not_bus}
-use Rattle.collection.proofs.WriteBacks.{read_costs, read_went, may_write_back, cleaned_goes, cleaned_cost, cleans_by, written_back_by}
+use Rattle.collection.proofs.Acts.{acts_err, looked}
+use Rattle.collection.proofs.WriteBacks.{read_costs, may_write_back, cleaned_goes, cleaned_cost, cleans_by, written_back_by}
 use Rattle.collection.proofs.engine.Engine.write_page_back.Goals as goal
 
 pub returns-in_err-fill_translation-clause-cost : goal.returns-in_err-fill_translation-clause-cost
 returns-in_err-fill_translation-clause-cost g c =
     let p = err_from_is_err_and c.from_residual.result c.from_residual.ensures.1 in
-    rw (p.1, p.2) (read_costs (ram c.args.self.now) (ram c.fill_translation.new.self) _ c.fill_translation.ensures.memory c.in_err-fill_translation.ensures.faults)
+    rw (p.1, p.2) (read_costs (ram c.args.self.now) (ram c.fill_translation.new.self) _ c.fill_translation.ensures.looks.memory c.in_err-fill_translation.ensures.looks.faults)
 
-pub returns-in_err-fill_translation-clause-went : goal.returns-in_err-fill_translation-clause-went
-returns-in_err-fill_translation-clause-went g c =
+pub returns-in_err-fill_translation-clause-acts : goal.returns-in_err-fill_translation-clause-acts
+returns-in_err-fill_translation-clause-acts g c =
     let p = err_from_is_err_and c.from_residual.result c.from_residual.ensures.1 in
-    rw (p.1, p.2) (λ honest ne. read_went (ram c.args.self.now) (ram c.fill_translation.new.self) _ _ c.fill_translation.ensures.memory (c.in_err-fill_translation.ensures.same honest (not_bus _ ne)))
+    rw (p.1, p.2) (acts_err _ _ _ (looked _ _ _ c.in_err-fill_translation.ensures.looks))
 
 pub returns-clause-goes : goal.returns-clause-goes
-returns-clause-goes g c = cleaned_goes (ram c.args.self.now) (ram c.fill_translation.new.self) (ram c.replace.new.self) c.clean.new.self c.fill_translation.ensures.memory c.replace.ensures.goes
+returns-clause-goes g c = cleaned_goes (ram c.args.self.now) (ram c.fill_translation.new.self) (ram c.replace.new.self) c.clean.new.self c.fill_translation.ensures.looks.memory c.replace.ensures.goes
 
 pub returns-clause-cleaned : goal.returns-clause-cleaned
-returns-clause-cleaned g c = c.clean.ensures.cleaned ∙ ap (λ m. cleaned m c.args.t) (c.in_ok-replace.ensures.mapping ∙ ap (λ r. r.mapping) c.fill_translation.ensures.memory)
+returns-clause-cleaned g c = c.clean.ensures.cleaned ∙ ap (λ m. cleaned m c.args.t) (c.in_ok-replace.ensures.mapping ∙ ap (λ r. r.mapping) c.fill_translation.ensures.looks.memory)
 
 pub returns-clause-cleans : goal.returns-clause-cleans
-returns-clause-cleans g c = cleans_by c.args.self.now.mapping c.replace.new.self.mapping c.clean.new.self c.args.t (c.in_ok-replace.ensures.mapping ∙ ap (λ r. r.mapping) c.fill_translation.ensures.memory) (record { clean = c.clean.ensures.clean; others = c.clean.ensures.others_pending; knows = λ n row is. c.clean.ensures.same_known n row is })
+returns-clause-cleans g c = cleans_by c.args.self.now.mapping c.replace.new.self.mapping c.clean.new.self c.args.t (c.in_ok-replace.ensures.mapping ∙ ap (λ r. r.mapping) c.fill_translation.ensures.looks.memory) (record { clean = c.clean.ensures.clean; others = c.clean.ensures.others_pending; knows = λ n row is. c.clean.ensures.same_known n row is })
 
 pub returns-clause-cost : goal.returns-clause-cost
-returns-clause-cost g c = cleaned_cost (ram c.args.self.now) (ram c.fill_translation.new.self) (ram c.replace.new.self) c.clean.new.self c.fill_translation.ensures.memory c.in_ok-replace.ensures.cost
+returns-clause-cost g c = cleaned_cost (ram c.args.self.now) (ram c.fill_translation.new.self) (ram c.replace.new.self) c.clean.new.self c.fill_translation.ensures.looks.memory c.in_ok-replace.ensures.cost
 
 pub returns-clause-truth : goal.returns-clause-truth
 returns-clause-truth g c = λ honest w.
@@ -36,6 +36,6 @@ returns-clause-truth g c = λ honest w.
     let r2 = ram c.replace.new.self in
     let newest_is = directory_row r.geometry _ r.directory r.mapping c.args.t c.row_of-row.result w.maps c.requires.page c.row_of-row.ensures.value in
     let filled = c.in_ok-fill_translation.ensures.truth honest w newest_is in
-    let still = ap (λ f. f.image) (c.in_ok-fill_translation.ensures.same honest (ok_not_bus _)) in
-    let may = may_write_back r r1 _ _ c.args.t c.row_of-row.result _ w c.fill_translation.ensures.memory still filled newest_is in
-    written_back_by r r1 r2 c.clean.new.self _ _ _ c.args.t c.in_ok-replace.field-0 _ c.fill_translation.ensures.memory still filled (c.in_ok-replace.ensures.truth (c.fill_translation.ensures.honest ∙ honest) may) c.replace.ensures.goes.geometry c.replace.ensures.safe.memory.mapping_of (record { clean = c.clean.ensures.clean; others = c.clean.ensures.others_pending; knows = λ n row is. c.clean.ensures.same_known n row is }) c.in_ok-replace.ensures.row
+    let still = ap (λ f. f.image) (c.in_ok-fill_translation.ensures.looks.same honest (ok_not_bus _)) in
+    let may = may_write_back r r1 _ _ c.args.t c.row_of-row.result _ w c.fill_translation.ensures.looks.memory still filled newest_is in
+    written_back_by r r1 r2 c.clean.new.self _ _ _ c.args.t c.in_ok-replace.field-0 _ c.fill_translation.ensures.looks.memory still filled (c.in_ok-replace.ensures.truth (c.fill_translation.ensures.looks.only_reads.honest_is ∙ honest) may) c.replace.ensures.goes.geometry c.replace.ensures.acts.safe.memory.mapping_of (record { clean = c.clean.ensures.clean; others = c.clean.ensures.others_pending; knows = λ n row is. c.clean.ensures.same_known n row is }) c.in_ok-replace.ensures.row

@@ -1,0 +1,177 @@
+-- What the engine's calls say alike holds of one after another.
+use Rattle.std.proofs.Common.{◌≡◌, ◌≢◌, ℕ, Bool, Option, Some, None, Result, Ok, Err, IsOk, MatchOption, refl, ap, ◌∙◌, arith}
+use Rattle.page_layout.specs.Flash.{Flash}
+use Rattle.page_layout.specs.OnlyReads.{OnlyReads}
+use Rattle.collection.specs.declared.engine.Engine.{Engine}
+use Rattle.collection.specs.declared.fault.WriteFault.{WriteFault}
+use Rattle.collection.specs.declared.fault.WriteFault.TheVariants.{Bus}
+use Rattle.collection.specs.Safe.{IsSafe, ram}
+use Rattle.collection.specs.Acts.{OnlyLooks, Acts, Stands}
+use Rattle.collection.specs.Results.{fault_after}
+use Rattle.collection.proofs.Costs.{risen_over, err_as, not_bus}
+use Rattle.collection.proofs.Gates.{ram_noted, went_noted}
+use Rattle.collection.proofs.Logs.{went_same, went_then}
+use Rattle.collection.proofs.Looks.{ok_not_bus}
+use Rattle.collection.proofs.WriteBacks.{read_went}
+
+-- an answer, of faults
+abbrev pub ok_as : {A : Type 0} → A → Result A WriteFault
+ok_as x = Ok x
+
+-- what the answer of no fault tells
+pub not_standing : {A : Type 0} (fault : Option WriteFault) (x : A) → MatchOption fault (IsOk (ok_as x)) (λ f. ok_as x ≡ Err f) → fault ≡ None
+not_standing None x is = refl
+not_standing (Some f) x is = (let never : ⊥ = cc in absurd never)
+
+module _ {N : Type 0} {flash : N → Flash} {honest calm : N → Bool} {failed : N → ℕ} where
+  -- ---- calls that act
+
+  pub acts_same : (a : Engine N) → IsSafe flash a → Acts {A = Unit {0}} flash honest calm failed a a (Ok tt)
+  acts_same a safe = record {
+    safe = safe;
+    fault = refl;
+    honest_is = refl;
+    calm_is = refl;
+    failed_is = omega arith;
+    rose = λ is. absurd (ok_not_bus tt is);
+    went = λ known ne. went_same (ram a) (flash a.nand);
+  }
+
+  pub acts_then : {A B : Type 0} (a b c : Engine N) (x : A) (result : Result B WriteFault) → (ram b).geometry ≡ (ram a).geometry → Acts flash honest calm failed a b (Ok x) → Acts flash honest calm failed b c result → Acts flash honest calm failed a c result
+  acts_then a b c x result same p q = record {
+    safe = q.safe;
+    fault = q.fault ∙ p.fault;
+    honest_is = q.honest_is ∙ p.honest_is;
+    calm_is = q.calm_is ∙ p.calm_is;
+    failed_is = omega (arith, p.failed_is, q.failed_is);
+    rose = λ is. risen_over _ _ _ p.failed_is (q.rose is);
+    went = λ known ne. went_then _ _ _ _ _ _ same (p.went known (ok_not_bus x)) (q.went (p.honest_is ∙ known) ne);
+  }
+
+  -- an answer of another type
+  pub acts_ok : {A B : Type 0} (a b : Engine N) (x : A) (y : B) → Acts flash honest calm failed a b (Ok x) → Acts flash honest calm failed a b (Ok y)
+  acts_ok a b x y p = record {
+    safe = p.safe;
+    fault = p.fault;
+    honest_is = p.honest_is;
+    calm_is = p.calm_is;
+    failed_is = p.failed_is;
+    rose = λ is. absurd (ok_not_bus y is);
+    went = λ known ne. p.went known (ok_not_bus x);
+  }
+
+  pub acts_err : {A B : Type 0} (a b : Engine N) (fault : WriteFault) → Acts flash honest calm failed a b (err_as A fault) → Acts flash honest calm failed a b (err_as B fault)
+  acts_err {A} {B} a b fault p = record {
+    safe = p.safe;
+    fault = p.fault;
+    honest_is = p.honest_is;
+    calm_is = p.calm_is;
+    failed_is = p.failed_is;
+    rose = λ is. p.rose (let same : fault ≡ Bus = cc in ap (λ f. Err f) same);
+    went = λ known ne. p.went known (not_bus fault ne);
+  }
+
+  -- a call that is refused for another reason than the die
+  pub acts_end : {A B : Type 0} (a b : Engine N) (x : A) (fault : WriteFault) → fault ≢ Bus → Acts flash honest calm failed a b (Ok x) → Acts flash honest calm failed a b (err_as B fault)
+  acts_end {A} {B} a b x fault other p = record {
+    safe = p.safe;
+    fault = p.fault;
+    honest_is = p.honest_is;
+    calm_is = p.calm_is;
+    failed_is = p.failed_is;
+    rose = λ is. (let same : fault ≡ Bus = cc in absurd (other same));
+    went = λ known ne. p.went known (ok_not_bus x);
+  }
+
+  -- ---- a fault that stands
+
+  -- it is answered again
+  pub stands_still : {A : Type 0} (a : Engine N) (fault : WriteFault) → IsSafe flash a → a.fault ≡ Some fault → Stands flash honest calm failed a a (err_as A fault)
+  stands_still {A} a fault safe is = record {
+    safe = safe;
+    standing = λ other e. ((let same : fault ≡ other = cc in ap (λ f. Err f) same), refl);
+    fault = is;
+    honest_is = refl;
+    calm_is = refl;
+    failed_is = omega arith;
+    rose = λ none e. (let never : ⊥ = cc in absurd never);
+    went = λ known ne. went_same (ram a) (flash a.nand);
+  }
+
+  -- it is noted
+  pub acts_noted : {A : Type 0} (a b : Engine N) (result : Result A WriteFault) → a.fault ≡ None → Acts flash honest calm failed a b result → Stands flash honest calm failed a (record b { fault = fault_after b.fault result }) result
+  acts_noted a b result none p = record {
+    safe = record { memory = ram_noted _ (ram b) p.safe.memory; geometry = p.safe.geometry; page = p.safe.page; scratch = p.safe.scratch };
+    standing = λ fault is. (let never : ⊥ = cc in absurd never);
+    fault = ap (λ f. fault_after f result) p.fault;
+    honest_is = p.honest_is;
+    calm_is = p.calm_is;
+    failed_is = p.failed_is;
+    rose = λ same is. p.rose is;
+    went = λ known ne. went_noted _ _ (ram b) _ _ (p.went known ne);
+  }
+
+-- ---- calls that look
+
+module _ {N : Type 0} {flash : N → Flash} {honest calm : N → Bool} {programs erases failed : N → ℕ} where
+  pub looks_same : (a : Engine N) → IsSafe flash a → OnlyLooks {A = Unit {0}} flash honest calm programs erases failed a a (Ok tt)
+  looks_same a safe = record {
+    safe = safe;
+    memory = refl;
+    only_reads = record { geometry_is = refl; honest_is = refl; calm_is = refl; programs_are = refl; erases_are = refl; failed_is = omega arith };
+    faults = tt;
+    rose = λ is. absurd (ok_not_bus tt is);
+    same = λ known ne. refl;
+  }
+
+  pub reads_then : (a b c : N) → OnlyReads flash honest calm programs erases failed a b → OnlyReads flash honest calm programs erases failed b c → OnlyReads flash honest calm programs erases failed a c
+  reads_then a b c p q = record {
+    geometry_is = q.geometry_is ∙ p.geometry_is;
+    honest_is = q.honest_is ∙ p.honest_is;
+    calm_is = q.calm_is ∙ p.calm_is;
+    programs_are = q.programs_are ∙ p.programs_are;
+    erases_are = q.erases_are ∙ p.erases_are;
+    failed_is = omega (arith, p.failed_is, q.failed_is);
+  }
+
+  pub looks_then : {A B : Type 0} (a b c : Engine N) (x : A) (result : Result B WriteFault) → OnlyLooks flash honest calm programs erases failed a b (Ok x) → OnlyLooks flash honest calm programs erases failed b c result → OnlyLooks flash honest calm programs erases failed a c result
+  looks_then a b c x result p q = record {
+    safe = q.safe;
+    memory = q.memory ∙ p.memory;
+    only_reads = reads_then a.nand b.nand c.nand p.only_reads q.only_reads;
+    faults = q.faults;
+    rose = λ is. risen_over _ _ _ p.only_reads.failed_is (q.rose is);
+    same = λ known ne. q.same (p.only_reads.honest_is ∙ known) ne ∙ p.same known (ok_not_bus x);
+  }
+
+  pub looks_ok : {A B : Type 0} (a b : Engine N) (x : A) (y : B) → OnlyLooks flash honest calm programs erases failed a b (Ok x) → OnlyLooks flash honest calm programs erases failed a b (Ok y)
+  looks_ok a b x y p = record {
+    safe = p.safe;
+    memory = p.memory;
+    only_reads = p.only_reads;
+    faults = tt;
+    rose = λ is. absurd (ok_not_bus y is);
+    same = λ known ne. p.same known (ok_not_bus x);
+  }
+
+  pub looks_err : {A B : Type 0} (a b : Engine N) (fault : WriteFault) → OnlyLooks flash honest calm programs erases failed a b (err_as A fault) → OnlyLooks flash honest calm programs erases failed a b (err_as B fault)
+  looks_err {A} {B} a b fault p = record {
+    safe = p.safe;
+    memory = p.memory;
+    only_reads = p.only_reads;
+    faults = p.faults;
+    rose = λ is. p.rose (let same : fault ≡ Bus = cc in ap (λ f. Err f) same);
+    same = λ known ne. p.same known (not_bus fault ne);
+  }
+
+  -- a call that only looks acts in no other way
+  pub looked : {A : Type 0} (a b : Engine N) (result : Result A WriteFault) → OnlyLooks flash honest calm programs erases failed a b result → Acts flash honest calm failed a b result
+  looked a b result p = record {
+    safe = p.safe;
+    fault = ap (λ r. r.fault) p.memory;
+    honest_is = p.only_reads.honest_is;
+    calm_is = p.only_reads.calm_is;
+    failed_is = p.only_reads.failed_is;
+    rose = p.rose;
+    went = λ known ne. read_went (ram a) (ram b) _ _ p.memory (p.same known ne);
+  }

@@ -1,0 +1,50 @@
+-- What the engine's calls say alike, whatever the die does: those that only look, those that change the die, and those that a standing fault
+-- stops.
+use Rattle.std.specs.Prelude.{◌≡◌, ◌≢◌, ℕ, ◌≤◌, Bool, true, None, Result, Err, IfErr}
+use Rattle.std.specs.Option.{ForSome}
+use Rattle.page_layout.specs.Flash.{Flash}
+use Rattle.page_layout.specs.Counter.{HasRisen}
+use Rattle.page_layout.specs.OnlyReads.{OnlyReads}
+use Rattle.collection.specs.declared.engine.Engine.{Engine}
+use Rattle.collection.specs.declared.fault.WriteFault.{WriteFault}
+use Rattle.collection.specs.declared.fault.WriteFault.TheVariants.{Bus}
+use Rattle.collection.specs.Safe.{IsSafe, ram}
+use Rattle.collection.specs.Looks.{IsReadFault}
+use Rattle.collection.specs.Log.{Went}
+use Rattle.collection.specs.Results.{fault_after}
+
+-- A CALL THAT LOOKS: memory stays, the die is only read, and an honest one stays as it is unless it gave a fault
+pub record OnlyLooks {A N : Type 0} (flash : N → Flash) (honest calm : N → Bool) (programs erases failed : N → ℕ) (old new : Engine N) (result : Result A WriteFault) : Type 0 where
+  pub safe : IsSafe flash new
+  pub memory : ram new ≡ ram old
+  pub only_reads : OnlyReads flash honest calm programs erases failed old.nand new.nand
+  pub faults : IfErr result IsReadFault
+  pub rose : result ≡ Err Bus → HasRisen (failed old.nand) (failed new.nand)
+  pub same : honest old.nand ≡ true → result ≢ Err Bus → flash new.nand ≡ flash old.nand
+
+-- A CALL THAT ACTS, and notes no fault: what an honest die did is one log, unless the die gave a fault, and that is counted
+pub record Acts {A N : Type 0} (flash : N → Flash) (honest calm : N → Bool) (failed : N → ℕ) (old new : Engine N) (result : Result A WriteFault) : Type 0 where
+  pub safe : IsSafe flash new
+  pub fault : new.fault ≡ old.fault
+  pub honest_is : honest new.nand ≡ honest old.nand
+  pub calm_is : calm new.nand ≡ calm old.nand
+  pub failed_is : failed old.nand ≤ failed new.nand
+  pub rose : result ≡ Err Bus → HasRisen (failed old.nand) (failed new.nand)
+  pub went : honest old.nand ≡ true → result ≢ Err Bus → Went (ram old) (flash old.nand) (ram new) (flash new.nand)
+
+-- A CALL THAT A STANDING FAULT STOPS: such a fault is answered again and nothing changes; else the call acts, and a fault that it answers
+-- stands from then on
+pub record Stands {A N : Type 0} (flash : N → Flash) (honest calm : N → Bool) (failed : N → ℕ) (old new : Engine N) (result : Result A WriteFault) : Type 0 where
+  pub safe : IsSafe flash new
+  pub standing : ForSome old.fault (λ fault. (result ≡ Err fault) × (new ≡ old))
+  pub fault : new.fault ≡ fault_after old.fault result
+  pub honest_is : honest new.nand ≡ honest old.nand
+  pub calm_is : calm new.nand ≡ calm old.nand
+  pub failed_is : failed old.nand ≤ failed new.nand
+  pub rose : old.fault ≡ None → result ≡ Err Bus → HasRisen (failed old.nand) (failed new.nand)
+  pub went : honest old.nand ≡ true → result ≢ Err Bus → Went (ram old) (flash old.nand) (ram new) (flash new.nand)
+
+-- a call that reads no page and erases no block
+pub record OnlyPrograms {N : Type 0} (reads erases : N → ℕ) (old new : N) : Type 0 where
+  pub reads_are : reads new ≡ reads old
+  pub erases_are : erases new ≡ erases old
