@@ -106,13 +106,13 @@ module _ {N : Type 0} (failed : N → ℕ) (old new : Device N) (going : old.eng
     standing = standing_of answer (ram new.engine) (good_count (ram old.engine).blocks.table) stands;
   }
 
+no_flush_is : (command : Command) → is_flush command ≡ false → (P : Type 0) → is_flush command ≡ true → P
+no_flush_is command off P its = (let no : ⊥ = cc in absurd no)
+
 -- ---- the call was made
 
 module _ {N : Type 0} (flash : N → Flash) (honest calm : N → Bool) (failed : N → ℕ) (n : ℕ) (bytes : List ℕ) (command : Command) (old new : Device N) (device : IsDevice flash old) (device' : IsDevice flash new) (may : MayChange (ram old.engine) old.read_only n)
     (takes : (reply : Reply) (s : State) → WriteStep old.engine.geometry (state_in flash old) n bytes reply s → ArrayStep old.engine.geometry (state_in flash old) command reply s) (no_flush : is_flush command ≡ false) where
-  no_flush_is : {P : Type 0} → is_flush command ≡ true → P
-  no_flush_is its = (let off : is_flush command ≡ false = no_flush in let no : ⊥ = cc in absurd no)
-
   abbrev good_then : ℕ
   good_then = good_count (ram old.engine).blocks.table
 
@@ -153,7 +153,7 @@ module _ {N : Type 0} (flash : N → Flash) (honest calm : N → Bool) (failed :
           went = w;
           shown = λ well. shown_after flash old.engine new.engine new.engine w n bytes old.read_only answer replied good_then refl device.engine.memory ends.safe.memory ends.geometry refl refl ends.tells (short is_honest well.truth) (truth is_honest well.truth) ne;
           left = λ well on. left_after flash command old.engine new.engine new.engine w old.read_only new.read_only answer replied good_then refl refl device.engine.memory device'.engine.memory ends.geometry device'.read_only on (short is_honest well.truth);
-          flushed = λ well its done. no_flush_is its;
+          flushed = λ well its done. no_flush_is command no_flush _ its;
         }
 
     means_done : honest old.engine.nand ≡ true → IsTrue None (ram old.engine) (image_in flash old.engine) → replied ≢ Err BusFault → Means flash command old replied new
@@ -267,9 +267,6 @@ module _ (r : Ram) (ro : Bool) (n : ℕ) where
 
 module _ {N : Type 0} (flash : N → Flash) (honest calm : N → Bool) (failed : N → ℕ) (n : ℕ) (bytes : List ℕ) (command : Command) (old : Device N) (device : IsDevice flash old)
     (takes : (reply : Reply) (s : State) → WriteStep old.engine.geometry (state_in flash old) n bytes reply s → ArrayStep old.engine.geometry (state_in flash old) command reply s) (no_flush : is_flush command ≡ false) where
-  no_flush_is : {P : Type 0} → is_flush command ≡ true → P
-  no_flush_is its = (let off : is_flush command ≡ false = no_flush in let no : ⊥ = cc in absurd no)
-
   pub not_changed : (fault : DeviceFault) → MayNot (ram old.engine) old.read_only n fault → Changes flash honest calm failed n command old (Err fault) old
   not_changed fault not = record {
     stays = stays_same honest calm failed old;
@@ -295,7 +292,7 @@ module _ {N : Type 0} (flash : N → Flash) (honest calm : N → Bool) (failed :
           went = w;
           shown = λ well. shown_refused (ram old.engine) (flash old.engine.nand) w old.read_only n fault device.engine.memory well.truth well.going not;
           left = λ well on. left_refused command (ram old.engine) w.log old.read_only n fault not;
-          flushed = λ well its done. no_flush_is its;
+          flushed = λ well its done. no_flush_is command no_flush _ its;
         };
     means = λ is_honest well ne. record {
       step = takes _ _ (step_refusal (ram old.engine) old.read_only n old.engine.geometry (array_of old.engine.geometry (image_in flash old.engine)) bytes fault refl not well.going);

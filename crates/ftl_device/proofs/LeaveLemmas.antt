@@ -46,11 +46,11 @@ call_tells (Err SequenceSpent) a b h = h
 call_tells (Err Damaged) a b h = tt
 call_tells (Err Bus) a b h = tt
 
-refused_tells : {A B : Type 0} (fault : WriteFault) (a b : Ram) → Tells {A = A} a b (Err fault) → Tells {A = B} a b (Err fault)
-refused_tells ReadOnly a b h = h
-refused_tells SequenceSpent a b h = h
-refused_tells Damaged a b h = tt
-refused_tells Bus a b h = tt
+refused_tells : (A B : Type 0) (fault : WriteFault) (a b : Ram) → Tells {A = A} a b (Err fault) → Tells {A = B} a b (Err fault)
+refused_tells A B ReadOnly a b h = h
+refused_tells A B SequenceSpent a b h = h
+refused_tells A B Damaged a b h = tt
+refused_tells A B Bus a b h = tt
 
 module _ {N : Type 0} (flash : N → Flash) (honest calm : N → Bool) (failed : N → ℕ) where
   -- a call that the engine's standing fault would have stopped
@@ -68,7 +68,7 @@ module _ {N : Type 0} (flash : N → Flash) (honest calm : N → Bool) (failed :
   }
 
   -- nothing was asked
-  pub leaves_same : (e : Engine N) → IsSafe flash e → e.fault ≡ None → Leaves flash honest calm failed e (Ok tt) e
+  pub leaves_same : (e : Engine N) → IsSafe flash e → e.fault ≡ None → Leaves {A = Unit {0}} flash honest calm failed e (Ok tt) e
   leaves_same e safe none = record {
     safe = safe;
     fault = none;
@@ -96,8 +96,8 @@ module _ {N : Type 0} (flash : N → Flash) (honest calm : N → Bool) (failed :
   }
 
   -- a refusal, whatever the call would have given
-  pub leaves_refused : {A B : Type 0} (old new : Engine N) (fault : WriteFault) → Leaves {A = A} flash honest calm failed old (Err fault) new → Leaves {A = B} flash honest calm failed old (Err fault) new
-  leaves_refused old new fault l = record {
+  pub leaves_refused : (A B : Type 0) (old new : Engine N) (fault : WriteFault) → Leaves {A = A} flash honest calm failed old (Err fault) new → Leaves {A = B} flash honest calm failed old (Err fault) new
+  leaves_refused A B old new fault l = record {
     safe = l.safe;
     fault = l.fault;
     geometry = l.geometry;
@@ -105,7 +105,7 @@ module _ {N : Type 0} (flash : N → Flash) (honest calm : N → Bool) (failed :
     calm_is = l.calm_is;
     failed_is = l.failed_is;
     rose = λ bus. l.rose (let same : fault ≡ Bus = cc in ap Err same);
-    tells = refused_tells fault (ram old) (ram new) l.tells;
+    tells = refused_tells A B fault (ram old) (ram new) l.tells;
     went = λ is_honest ne. l.went is_honest (λ bus. ne (let same : fault ≡ Bus = cc in ap Err same));
   }
 
@@ -127,7 +127,7 @@ module _ {N : Type 0} (flash : N → Flash) (honest calm : N → Bool) (failed :
 
   -- where it was refused the fault stands, and nothing more is said of what waits in memory
   pub leaves_stuck : {A : Type 0} (old new : Engine N) (fault : WriteFault) → Leaves {A = A} flash honest calm failed old (Err fault) new → HasLimitsOf old.mapping new.mapping → Ends flash honest calm failed old (Err (call.Engine fault)) new
-  leaves_stuck old new fault l limits = leaves_ends old new (Err fault) (leaves_refused old new fault l) limits (λ none. (let stands : new.fault ≡ Some fault = l.fault in let no : ⊥ = cc in absurd no))
+  leaves_stuck old new fault l limits = leaves_ends old new (Err fault) (leaves_refused _ _ old new fault l) limits (λ none. (let stands : new.fault ≡ Some fault = l.fault in let no : ⊥ = cc in absurd no))
 
   -- what was done gives what it likes
   pub leaves_done : {A B : Type 0} (old new : Engine N) (a : A) (b : B) → Leaves flash honest calm failed old (Ok a) new → Leaves flash honest calm failed old (Ok b) new

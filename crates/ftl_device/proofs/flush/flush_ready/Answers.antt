@@ -1,7 +1,8 @@
 use Rattle.std.proofs.Common.{◌∙◌, Ok, Err, refl}
 use Rattle.std.proofs.lemmas.Result.{err_from_is_err_and}
 use Rattle.collection.specs.Safe.{ram}
-use Rattle.ftl_device.proofs.FlushLoops.{limits_then, clean_then, flushed_by}
+use Rattle.ftl_device.proofs.FlushLoops.{limits_then, keeps_then, clean_then, flushed_by}
+use Rattle.ftl_device.proofs.RoomLemmas.{keeps_room}
 use Rattle.ftl_device.proofs.SpentLemmas.{flush_first, flush_room, flush_done, flush_stuck, flush_tables}
 use Rattle.ftl_device.proofs.LeaveLemmas.{leaves_then, leaves_ends, leaves_stuck, limits_same, idle_still}
 use Rattle.ftl_device.proofs.flush.flush_ready.Goals as goal
@@ -58,3 +59,11 @@ returns-in_err-write_tables-clause-ends g c =
 pub returns-clause-ends : goal.returns-clause-ends
 returns-clause-ends g c = leaves_ends g.N.PageSource.flash g.N.PageSource.honest g.N.PageSource.calm g.N.PageSource.failed c.args.engine.now c.write_tables.new.engine (Ok tt) (leaves_then g.N.PageSource.flash g.N.PageSource.honest g.N.PageSource.calm g.N.PageSource.failed c.args.engine.now c.make_room.new.engine c.write_tables.new.engine _ _ (leaves_then g.N.PageSource.flash g.N.PageSource.honest g.N.PageSource.calm g.N.PageSource.failed c.args.engine.now c.flush_translations.new.engine c.make_room.new.engine _ _ c.in_ok-flush_translations.ensures.leaves c.in_ok-make_room.ensures.leaves) c.in_ok-write_tables.ensures.leaves)
     (limits_then _ _ _ (limits_then _ _ _ c.flush_translations.ensures.limits c.make_room.ensures.keys.limits) (limits_same _ _ c.write_tables.ensures.mapping)) (λ none. idle_still (ram c.make_room.new.engine) (ram c.write_tables.new.engine) c.write_tables.ensures.leaves.geometry c.write_tables.ensures.mapping c.write_tables.ensures.pin c.in_ok-make_room.ensures.made.idle)
+
+pub returns-clause-truth : goal.returns-clause-truth
+returns-clause-truth g c = λ honest w.
+    let first = c.in_ok-flush_translations.ensures.truth honest w in
+    let still = c.flush_translations.ensures.leaves.honest_is ∙ honest in
+    let room = c.in_ok-make_room.ensures.truth still first.truth in
+    let spells = c.in_ok-write_tables.ensures.truth (c.make_room.ensures.leaves.honest_is ∙ still) room.truth in
+    keeps_then _ _ _ _ _ _ (c.make_room.ensures.leaves.geometry ∙ c.flush_translations.ensures.leaves.geometry) (keeps_then _ _ _ _ _ _ c.flush_translations.ensures.leaves.geometry first (keeps_room (ram c.flush_translations.new.engine) (ram c.make_room.new.engine) _ _ room)) spells.keeps

@@ -14,7 +14,7 @@ use Rattle.ftl_device.proofs.flush.flush_translations.Given as goal
 
 abbrev pub invariant-translations : goal.invariant-translations
 invariant-translations g l = record {
-  leaves : Leaves g.N.PageSource.flash g.N.PageSource.honest g.N.PageSource.calm g.N.PageSource.failed l.initial.engine (Ok tt) l.engine;
+  leaves : Leaves {A = Unit {0}} g.N.PageSource.flash g.N.PageSource.honest g.N.PageSource.calm g.N.PageSource.failed l.initial.engine (Ok tt) l.engine;
   keys : keys_of l.engine.mapping.cached ≡ keys_of l.initial.engine.mapping.cached;
   limits : HasLimitsOf l.initial.engine.mapping l.engine.mapping;
   idle : IsIdle (ram l.engine);

@@ -64,12 +64,12 @@ returns-in_err-make_room-clause-costs g c =
 pub returns-in_err-make_room-clause-leaves : goal.returns-in_err-make_room-clause-leaves
 returns-in_err-make_room-clause-leaves g c =
     let p = err_from_is_err_and c.from_residual.result c.from_residual.ensures.1 in
-    rw (p.1, p.2) (leaves_refused g.N.PageSource.flash g.N.PageSource.honest g.N.PageSource.calm g.N.PageSource.failed c.args.engine.now c.make_room.new.engine _ c.in_err-make_room.ensures.leaves)
+    rw (p.1, p.2) (leaves_refused g.N.PageSource.flash g.N.PageSource.honest g.N.PageSource.calm g.N.PageSource.failed _ _ c.args.engine.now c.make_room.new.engine _ c.in_err-make_room.ensures.leaves)
 
 pub returns-in_err-make_place-clause-leaves : goal.returns-in_err-make_place-clause-leaves
 returns-in_err-make_place-clause-leaves g c =
     let p = err_from_is_err_and c.from_residual-in_err-make_place.result c.from_residual-in_err-make_place.ensures.1 in
-    rw (p.1, p.2) (leaves_refused g.N.PageSource.flash g.N.PageSource.honest g.N.PageSource.calm g.N.PageSource.failed c.args.engine.now c.make_place.new.engine _ (leaves_then g.N.PageSource.flash g.N.PageSource.honest g.N.PageSource.calm g.N.PageSource.failed c.args.engine.now c.make_room.new.engine c.make_place.new.engine _ _ c.in_ok-make_room.ensures.leaves c.in_err-make_place.ensures.leaves))
+    rw (p.1, p.2) (leaves_refused g.N.PageSource.flash g.N.PageSource.honest g.N.PageSource.calm g.N.PageSource.failed _ _ c.args.engine.now c.make_place.new.engine _ (leaves_then g.N.PageSource.flash g.N.PageSource.honest g.N.PageSource.calm g.N.PageSource.failed c.args.engine.now c.make_room.new.engine c.make_place.new.engine _ _ c.in_ok-make_room.ensures.leaves c.in_err-make_place.ensures.leaves))
 
 pub returns-clause-leaves : goal.returns-clause-leaves
 returns-clause-leaves g c = (
