@@ -1,5 +1,5 @@
 -- A device's call that changes no sector, a flush or a turn, from the engine's.
-use Rattle.std.proofs.Common.{◌≡◌, ◌≢◌, ℕ, ◌-◌, ◌^◌, ◌<◌, ◌≤◌, ◌∙◌, Bool, true, false, None, Some, [], Result, Ok, Err, OnOk, MatchResult, refl, sym, ap, subst, arith}
+use Rattle.std.proofs.Common.{◌≡◌, ◌≢◌, ℕ, ◌∙◌, Bool, true, false, None, [], Result, Ok, Err, OnOk, MatchResult, refl, sym, ap, subst, arith}
 use Rattle.std.proofs.lemmas.Bool.{lt-ltb}
 use Rattle.page_layout.specs.declared.geometry.Geometry.{Geometry}
 use Rattle.page_layout.specs.Geometry.{need}
@@ -23,11 +23,11 @@ use Rattle.ftl_device.specs.declared.fault.DeviceFault.{DeviceFault}
 use Rattle.ftl_device.specs.declared.fault.DeviceFault.TheVariants.{OutOfRange, ReadOnly, SequenceSpent, OutOfMemory, Damaged, BusFault}
 use Rattle.ftl_device.specs.Begin.{is_scarce}
 use Rattle.ftl_device.specs.Device.{IsDevice}
-use Rattle.ftl_device.specs.Calls.{state_in, reply_of, stop_of, IsShortOf, CallTells, CallRefused, KeepsArray, answer_of}
+use Rattle.ftl_device.specs.Calls.{state_in, reply_of, stop_of, CallTells, CallRefused, KeepsArray, answer_of}
 use Rattle.ftl_device.specs.Counts.{is_bad_by, is_flush, IsLeft}
 use Rattle.ftl_device.specs.Flush.{MayFlush, MayNotFlush, first_of, IsFlushedOut}
 use Rattle.ftl_device.specs.Shortage.{CallShort}
-use Rattle.ftl_device.specs.Changes.{Ends, RefusesUpkeep, Logs, Means, Upkeeps}
+use Rattle.ftl_device.specs.Changes.{Ends, Logs, Means, Upkeeps}
 use Rattle.ftl_device.proofs.CallLemmas.{well_device, memory_only, mountable_after, went_after}
 use Rattle.ftl_device.proofs.ChangeLemmas.{Why, refuses_made, refuses_at_once, stays_same, not_past}
 use Rattle.ftl_device.proofs.FlushCalls.{flush_well, flush_shown, flush_refused, flush_left_refused}

@@ -1,5 +1,5 @@
 -- A RUN OF A DEVICE: commands that it is told one after another, what it answered to each, and what its die held after each.
-use Rattle.std.specs.Prelude.{◌≡◌, ◌≢◌, ◌⊎◌, ◌↔◌, ℕ, ◌+◌, ◌<◌, ◌≤◌, min, Bool, true, List, [], ◌∷◌, ◌++◌, length, map, replicate, unwrap_or, Option}
+use Rattle.std.specs.Prelude.{◌≡◌, ◌≢◌, ◌⊎◌, ℕ, ◌+◌, ◌<◌, ◌≤◌, Bool, true, List, [], ◌∷◌, ◌++◌, length, map, replicate, unwrap_or, Option}
 use Rattle.std.specs.Prelude.{None, Some, IsSome, Result, Ok, Err, IfErr, OnErr}
 use Rattle.std.specs.Option.{ForSome}
 use Rattle.std.specs.List.{AllByRecursion, AllZip}
@@ -10,16 +10,14 @@ use Rattle.page_layout.specs.Flash.{Flash, Operation}
 use Rattle.mapping_cache.specs.Mapping.{HasLimitsOf}
 use Rattle.certificate.specs.Claim.{Claim}
 use Rattle.image_check.specs.Accepted.{Acceptance}
-use Rattle.image_check.specs.Stale.{is_stale, stale_sectors}
-use Rattle.image_check.specs.Blocks.{erase_count}
+use Rattle.image_check.specs.Stale.{is_stale}
 use Rattle.image_check.specs.Mountable.{IsMountable}
 use Rattle.promises.specs.Step as step
 use Rattle.promises.specs.Step.{Reply, ArrayStep}
-use Rattle.promises.specs.Log.{programs_in, bad_of, passed_erases_of}
+use Rattle.promises.specs.Log.{programs_in, bad_of}
 use Rattle.promises.specs.Legal.{IsLegal}
 use Rattle.promises.specs.Run as runs
 use Rattle.promises.specs.Run.{Event, Run, commands_of, replies_of, log_of}
-use Rattle.collection.specs.State.{Ram}
 use Rattle.collection.specs.Safe.{ram, image_in}
 use Rattle.collection.specs.Log.{Follows, Wears, Went}
 use Rattle.ftl_device.specs.declared.device.Device.{Device}
@@ -31,7 +29,6 @@ use Rattle.ftl_device.specs.declared.run.Call.{Call}
 use Rattle.ftl_device.specs.Device.{IsDevice, IsAcceptedFor}
 use Rattle.ftl_device.specs.Begin.{is_bad_in, wear_in, free_in, is_scarce}
 use Rattle.ftl_device.specs.Calls.{state_in, reply_of, read_reply_of, stop_of, IsWell}
-use Rattle.bad_blocks.specs.Table.{wear_at, most_wear}
 use Rattle.ftl_device.specs.Flush.{First, first_of, IsFlushedOut}
 use Rattle.ftl_device.specs.Counts.{is_bad_by, is_flush, IsShown, IsLeft}
 

@@ -1,4 +1,4 @@
-use Rattle.std.proofs.Common.{◌∙◌, Ok, Err, refl}
+use Rattle.std.proofs.Common.{◌∙◌, Ok, refl}
 use Rattle.std.proofs.lemmas.Result.{err_from_is_err_and}
 use Rattle.collection.specs.Safe.{ram}
 use Rattle.ftl_device.proofs.FlushLoops.{limits_then, keeps_then, clean_then, flushed_by}

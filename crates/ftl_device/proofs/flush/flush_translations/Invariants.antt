@@ -1,6 +1,5 @@
-use Rattle.std.proofs.Common.{◌≡◌, ◌<◌, ◌≤◌, ℕ, true, None, Ok}
+use Rattle.std.proofs.Common.{◌≡◌, ◌<◌, ℕ, true, None, Ok}
 use Rattle.std.specs.Map.{keys_of}
-use Rattle.bad_blocks.specs.Table.{good_count}
 use Rattle.budget.specs.Spending.{IsFunded}
 use Rattle.allocation.specs.Counts.{counts_of}
 use Rattle.collection.specs.Safe.{IsIdle, ram, image_in}

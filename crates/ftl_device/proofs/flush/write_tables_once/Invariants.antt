@@ -1,4 +1,4 @@
-use Rattle.std.proofs.Common.{◌≡◌, ◌≤◌, true, None, Ok}
+use Rattle.std.proofs.Common.{◌≡◌, true, None, Ok}
 use Rattle.collection.specs.Safe.{ram, image_in}
 use Rattle.collection.specs.Truth.{IsTrue}
 use Rattle.collection.specs.Results.{KeepsTable}
