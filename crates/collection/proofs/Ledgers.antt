@@ -97,7 +97,7 @@ begun flushing block r known x s idle w =
 
 -- ---- a page is copied
 
-due_most : (flushing : Bool) (first now : Ram) → now.geometry ≡ first.geometry → due_count flushing now ≤ translation_pages first.geometry
+pub due_most : (flushing : Bool) (first now : Ram) → now.geometry ≡ first.geometry → due_count flushing now ≤ translation_pages first.geometry
 due_most flushing first now same = (let x = count_within (is_due flushing now) 0 (translation_pages now.geometry) in rw (← same) x)
 
 pub copied_more : (flushing : Bool) (block first page : ℕ) (old now new : Ram) (known : Type 0) (x y z : Image) → IsRam now → Goes old now → Goes now new → 1 < old.geometry.pages → IsUnderWay flushing block first old now known x y → first ≤ page → page < now.geometry.pages → HasCopied flushing now new → (known → IsTrue None now y → HoldsNoneIn now.geometry.pages block 0 first y → IsCopied block page now y new z) → IsUnderWay flushing block (page + 1) old new known x z

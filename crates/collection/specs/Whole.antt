@@ -2,6 +2,7 @@
 use Rattle.std.specs.Prelude.{◌≡◌, ◌⊎◌, ℕ, ◌+◌, ◌-◌, ◌*◌, ◌<◌, ◌≤◌, ◌^◌, min, Bool, Option, Some, None}
 use Rattle.page_layout.specs.Page.{Image}
 use Rattle.page_layout.specs.Counter.{counted}
+use Rattle.page_layout.specs.Geometry.{translation_pages}
 use Rattle.allocation.specs.State.{live_at}
 use Rattle.allocation.specs.Counts.{counts_of}
 use Rattle.collection.specs.declared.engine.step.Step.{Step}
@@ -44,10 +45,12 @@ pub record IsSoFar (block first copies : ℕ) (old : Ram) (before : Image) (now 
   pub none : HoldsNoneIn old.geometry.pages block 0 first after
 
 -- WHATEVER THE DIE DOES A COLLECTION READS FEW PAGES: so far two for each page that it is past, and one for each translation page that it has
--- written back. Those, and the ones that are due, are no more than the pages that it is past.
+-- written back. Those, and the ones that are due, are no more than the pages that it is past, and no more than there are.
 pub record HasRead (flushing : Bool) (first : ℕ) (old now : Ram) (before after : ℕ) : Type 0 where
   pub written : ℕ
-  pub owed : written + due_count flushing now ≤ first
+  pub for_copies : written + due_count flushing now ≤ first
+  pub for_pages : written + due_count flushing now ≤ translation_pages old.geometry
+  pub order : (written ≡ 0) ⊎ (old.geometry.pages ≤ first)
   pub within : first ≤ old.geometry.pages
   pub few : after ≤ before + (2 * first + written)
 

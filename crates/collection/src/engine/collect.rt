@@ -1,7 +1,7 @@
 //! A block is collected: what counts is copied out of it, and it is erased.
-ghost use Rattle.std.specs.Prelude.{◌≡◌, ◌≢◌, ◌+◌, ◌*◌, ◌<◌, ◌≤◌, true, None, Ok, Err, OnOk, MatchResult};
+ghost use Rattle.std.specs.Prelude.{◌≡◌, ◌≢◌, ◌+◌, ◌*◌, ◌<◌, ◌≤◌, true, min, None, Ok, Err, OnOk, MatchResult};
 ghost use Rattle.page_layout.specs.Counter.{counted};
-ghost use Rattle.page_layout.specs.Geometry.{vmax};
+ghost use Rattle.page_layout.specs.Geometry.{translation_pages, vmax};
 ghost use Rattle.allocation.specs.State.{is_closed, live_at};
 ghost use Rattle.collection.specs.Safe.{IsSafe, IsIdle, ram, image_in};
 ghost use Rattle.collection.specs.Truth as truth;
@@ -51,7 +51,8 @@ impl<N: Nand> Engine<N> {
         ensures keys { KeepsKeys self.old.mapping self.new.mapping }
         ensures refreshes { flushing ≡ true → Refreshes (ram self.old) (ram self.new) }
         ensures cost { CollectCosts flushing (ram self.old) (ram self.new) result }
-        ensures reads { N.reads self.new.nand ≤ N.reads self.old.nand + 3 * self.old.geometry.pages }
+        ensures reads { N.reads self.new.nand ≤
+            N.reads self.old.nand + (2 * self.old.geometry.pages + min self.old.geometry.pages (translation_pages self.old.geometry)) }
         ensures erases { OnOk result (N.erases self.new.nand ≡ counted (N.erases self.old.nand)) }
         ensures less_work { OnOk result (work_left (ram self.new) < work_left (ram self.old)) }
         ensures truth { N.honest self.old.nand ≡ true → truth.IsTrue None (ram self.old) (image_in N.flash self.old) →
@@ -90,8 +91,9 @@ impl<N: Nand> Engine<N> {
     /// and one more for each failure: the erased pages in free and open blocks grow, or fall by at most
     /// a block's pages for each failure.
     ///
-    /// It makes at most three page reads for each page of the block: the page itself, the translation
-    /// page that tells whether it is the newest of its sector, and the one that is written back.
+    /// It makes at most two page reads for each page of the block: the page itself, and the translation
+    /// page that tells whether it is the newest of its sector. And it makes one for each translation
+    /// page that is written back: no more than the block has pages, and no more than there are.
     ///
     /// # Errors
     ///
@@ -113,7 +115,8 @@ impl<N: Nand> Engine<N> {
         ensures released { OnOk result (IsReleased block (ram self.old).blocks (ram self.new).blocks) }
         ensures keys { KeepsKeys self.old.mapping self.new.mapping }
         ensures refreshes { flushing ≡ true → Refreshes (ram self.old) (ram self.new) }
-        ensures reads { N.reads self.new.nand ≤ N.reads self.old.nand + 3 * self.old.geometry.pages }
+        ensures reads { N.reads self.new.nand ≤
+            N.reads self.old.nand + (2 * self.old.geometry.pages + min self.old.geometry.pages (translation_pages self.old.geometry)) }
         ensures erases { OnOk result (N.erases self.new.nand ≡ counted (N.erases self.old.nand)) }
         ensures cost { self.old.fault ≡ None → CollectCosts flushing (ram self.old) (ram self.new) result }
         ensures truth { N.honest self.old.nand ≡ true → self.old.fault ≡ None → truth.IsTrue None (ram self.old) (image_in N.flash self.old) →

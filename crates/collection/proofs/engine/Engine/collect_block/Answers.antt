@@ -43,7 +43,7 @@ steps-preserved g c =
       refreshes = λ on. refreshes_then old now new i.goes.geometry (i.refreshes on) (c.collect_step.ensures.refreshes on);
       room = room_next c.args.flushing c.args.block c.steps.first c.in-Some.next _ now new c.in_ok-step.step c.collect_step.ensures.acts.safe.memory (c.pages-pages.ensures ∙ ap (λ x. x.pages) (sym (goes.geometry ∙ i.goes.geometry))) i.room is c.in_ok-step.ensures.cost;
       closed = closed_still c.args.block now new goes (rw i.goes.geometry c.requires.block) i.closed;
-      reads = read_more c.args.flushing c.args.block c.steps.first c.in-Some.next old now new _ _ _ i.goes.geometry i.reads c.in_ok-step.step (ap (λ p. next_of p c.in_ok-step.step) (sym c.pages-pages.ensures) ∙ is) c.in_ok-step.ensures.cost c.collect_step.ensures.reads c.in_ok-step.ensures.copied_reads;
+      reads = read_more c.args.flushing c.args.block c.steps.first c.in-Some.next old now new _ _ _ c.in_ok-step.step i.goes.geometry (goes.geometry ∙ i.goes.geometry) i.reads (ap (λ p. next_of p c.in_ok-step.step) (sym c.pages-pages.ensures) ∙ is) c.in_ok-step.ensures.cost c.collect_step.ensures.reads c.in_ok-step.ensures.copied_reads;
       under_way = stepped c.args.flushing c.args.block c.steps.first c.in-Some.next old now new _ _ _ _ i.acts.safe.memory c.collect_step.ensures.acts.safe.memory i.goes c.requires.block i.under_way c.in_ok-step.step c.in_ok-step.ensures.goes_still (ap (λ p. next_of p c.in_ok-step.step) (sym c.pages-pages.ensures) ∙ is) c.in_ok-step.ensures.cost (λ k w none. c.in_ok-step.ensures.truth (i.acts.honest_is ∙ k.0) w none);
     }
 
@@ -71,7 +71,7 @@ returns-in_default-clause-released g c =
     released_from c.args.block old now new i.goes c.requires.block c.requires.closed (c.in_ok-step.ensures.released (ap Ok e))
 
 pub returns-in_default-clause-reads : goal.returns-in_default-clause-reads
-returns-in_default-clause-reads g c = read_all c.args.flushing c.args.block c.steps.first 0 (ram c.args.self.now) (ram c.steps.self) (ram c.collect_step.new.self) _ _ _ c.steps.invariant.goes.geometry c.steps.invariant.reads c.collect_step.ensures.reads
+returns-in_default-clause-reads g c = read_all c.args.flushing c.steps.first (ram c.args.self.now) (ram c.steps.self) _ _ _ c.steps.invariant.goes.geometry c.steps.invariant.reads c.collect_step.ensures.reads
 
 pub returns-in_default-clause-erases : goal.returns-in_default-clause-erases
 returns-in_default-clause-erases g c =
@@ -136,7 +136,7 @@ pub returns-in_err-step-clause-refreshes : goal.returns-in_err-step-clause-refre
 returns-in_err-step-clause-refreshes g c = λ on. refreshes_then _ _ _ c.steps.invariant.goes.geometry (c.steps.invariant.refreshes on) (c.collect_step.ensures.refreshes on)
 
 pub returns-in_err-step-clause-reads : goal.returns-in_err-step-clause-reads
-returns-in_err-step-clause-reads g c = read_all c.args.flushing c.args.block c.steps.first 0 (ram c.args.self.now) (ram c.steps.self) (ram c.collect_step.new.self) _ _ _ c.steps.invariant.goes.geometry c.steps.invariant.reads c.collect_step.ensures.reads
+returns-in_err-step-clause-reads g c = read_all c.args.flushing c.steps.first (ram c.args.self.now) (ram c.steps.self) _ _ _ c.steps.invariant.goes.geometry c.steps.invariant.reads c.collect_step.ensures.reads
 
 pub returns-in_err-step-clause-cost : goal.returns-in_err-step-clause-cost
 returns-in_err-step-clause-cost g c =
