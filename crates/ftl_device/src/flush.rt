@@ -1,26 +1,18 @@
 //! What waits in memory is written to the die.
-ghost use Rattle.std.specs.Prelude.{◌≡◌, ◌≢◌, ℕ, ◌+◌, ◌-◌, ◌^◌, ◌<◌, ◌≤◌, min, true, false, [], None, Ok, Err, IfErr, OnOk, MatchResult, ◌↔◌};
-ghost use Rattle.std.specs.Option.{ForSome};
+ghost use Rattle.std.specs.Prelude.{◌≡◌, ◌≢◌, ℕ, ◌-◌, ◌^◌, ◌<◌, true, None, Ok, Err, IfErr, OnOk, MatchResult};
 ghost use Rattle.std.specs.Map.{keys_of};
-ghost use Rattle.page_layout.specs.Counter.{HasRisen};
-ghost use Rattle.page_layout.specs.Geometry.{translation_pages, table_pages, need};
+ghost use Rattle.page_layout.specs.Geometry.{translation_pages, table_pages};
 ghost use Rattle.budget.specs.Spending.{IsFunded};
 ghost use Rattle.allocation.specs.Counts.{counts_of};
 ghost use Rattle.collection.specs.Safe.{IsSafe, IsIdle, ram, image_in};
 ghost use Rattle.collection.specs.Truth.{IsTrue};
-ghost use Rattle.collection.specs.Log.{Went};
-ghost use Rattle.collection.specs.Results.{KeepsTable, fault_after};
-ghost use Rattle.ftl_device.specs.Calls.{Tells, CallTells, KeepsArray, CallRefused, standing_after, state_in, reply_of, stop_of, IsWell, Says};
+ghost use Rattle.collection.specs.Results.{KeepsTable};
+ghost use Rattle.ftl_device.specs.Calls.{KeepsArray, CallRefused};
 ghost use Rattle.ftl_device.specs.Flush.{IsClean, KeepsClean, SpellsAll, KeepsTables, AddsPages, FailsAmong, RunsOut, IsFlushed, WritesTables, MayFlush};
-ghost use Rattle.ftl_device.specs.Flush.{MayNotFlush, ShowsBad};
+ghost use Rattle.ftl_device.specs.Flush.{MayNotFlush};
 ghost use Rattle.ftl_device.specs.Shortage.{HasFunds, FlushCounts, FlushShort};
-ghost use Rattle.bad_blocks.specs.Table.{good_count, wear_at, most_wear};
 ghost use Rattle.mapping_cache.specs.Mapping.{HasLimitsOf};
-ghost use Rattle.promises.specs.Step.{ArrayStep, Flush};
-ghost use Rattle.promises.specs.Log.{bad_of, passed_erases_of};
-ghost use Rattle.image_check.specs.Blocks.{erase_count};
-ghost use Rattle.image_check.specs.Stale.{stale_sectors};
-ghost use Rattle.image_check.specs.Mountable.{IsMountable};
+ghost use Rattle.promises.specs.Step.{Flush};
 ghost use Rattle.ftl_device.specs.Device.{IsDevice};
 ghost use Rattle.ftl_device.specs.Changes.{Leaves, Ends, Upkeeps};
 

@@ -1,18 +1,11 @@
 //! A turn: a page is rescued from a bad block.
-ghost use Rattle.std.specs.Prelude.{◌≡◌, ◌≢◌, ◌+◌, ◌-◌, ◌≤◌, ◌^◌, true, false, [], Err, None, IfErr, OnOk, MatchResult};
-ghost use Rattle.std.specs.Option.{ForSome};
-ghost use Rattle.page_layout.specs.Counter.{HasRisen};
-ghost use Rattle.page_layout.specs.Geometry.{need};
-ghost use Rattle.bad_blocks.specs.Table.{good_count};
-ghost use Rattle.mapping_cache.specs.Mapping.{HasLimitsOf};
-ghost use Rattle.promises.specs.Step.{ArrayStep, Turn};
-ghost use Rattle.image_check.specs.Mountable.{IsMountable};
+ghost use Rattle.std.specs.Prelude.{◌≡◌, ◌≢◌, ◌-◌, ◌≤◌, ◌^◌, true, false, Err, None, OnOk, MatchResult};
+ghost use Rattle.promises.specs.Step.{Turn};
 ghost use Rattle.collection.specs.Safe.{IsSafe, IsIdle, ram, image_in};
 ghost use Rattle.collection.specs.Truth.{IsTrue};
-ghost use Rattle.collection.specs.Log.{Went};
 ghost use Rattle.collection.specs.Collect.{HasAiling};
 ghost use Rattle.ftl_device.specs.Device.{IsDevice};
-ghost use Rattle.ftl_device.specs.Calls.{state_in, reply_of, stop_of, IsWell, Says, CallTells, standing_after, KeepsArray, CallRefused, HasRescued};
+ghost use Rattle.ftl_device.specs.Calls.{IsWell, KeepsArray, CallRefused, HasRescued};
 ghost use Rattle.ftl_device.specs.Calls.{HasRested, HasWorked};
 ghost use Rattle.ftl_device.specs.Changes.{Ends, Upkeeps};
 ghost use Rattle.allocation.specs.State.{free_count};

@@ -1,5 +1,5 @@
 //! What the parts are judged on.
-ghost use Rattle.std.specs.Prelude.{◌≡◌, All, length, IfOk};
+ghost use Rattle.std.specs.Prelude.{◌≡◌, length, IfOk};
 ghost use Rattle.image_check.specs.Room.{IsDesk};
 
 use bad_blocks::{Class, Table, TableRow};

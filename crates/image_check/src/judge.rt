@@ -1,5 +1,5 @@
 //! The parts in order, each after the ones before it.
-ghost use Rattle.std.specs.Prelude.{◌≡◌, ◌≢◌, ◌⊎◌, Err, ℕ, ◌+◌, ◌*◌, ◌<◌, ◌^◌, All, List, length, OnOk, IfOk, IfErr, IsPermutation};
+ghost use Rattle.std.specs.Prelude.{◌≡◌, ◌⊎◌, ℕ, ◌+◌, ◌*◌, ◌<◌, ◌^◌, All, length, OnOk, IfOk, IfErr, IsPermutation};
 ghost use Rattle.page_layout.specs.declared.geometry.Geometry.{Geometry};
 ghost use Rattle.page_layout.specs.Array.{marks};
 ghost use Rattle.page_layout.specs.Geometry.{row_count, key_count, translation_pages, table_pages};
@@ -10,7 +10,7 @@ ghost use Rattle.certificate.specs.Spelling.{FitsBlock};
 ghost use Rattle.image_check.specs.Agrees.{IsCertificateOf};
 ghost use Rattle.image_check.specs.Blocks.{AreStates, IsTableOf};
 ghost use Rattle.image_check.specs.Room.{IsDesk};
-ghost use Rattle.image_check.specs.Survey.{HasPassed, pairs_below};
+ghost use Rattle.image_check.specs.Survey.{HasPassed};
 ghost use Rattle.image_check.specs.Surveyed.{IsSized, Surveys, SurveysKeys};
 ghost use Rattle.image_check.specs.Refused.{HoldBetween, FailsFrom, IsMemory, IsJudgement, IsOfImage};
 

@@ -1,6 +1,6 @@
 ghost use Rattle.std.specs.Prelude.{◌≡◌, ◌<◌, ◌≤◌, ◌+◌, ◌^◌, ◌-◌};
 ghost use Rattle.image_check.specs.Survey.{look_step};
-ghost use Rattle.page_layout.specs.Block.{has_data_kind, sequence_in, wear_in};
+ghost use Rattle.page_layout.specs.Block.{has_data_kind};
 
 use page_layout::record::{Kind, Record};
 

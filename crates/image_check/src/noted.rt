@@ -6,7 +6,7 @@ ghost use Rattle.page_layout.specs.Page.{Page, Image};
 ghost use Rattle.page_layout.specs.Sound.{record_of};
 ghost use Rattle.translation_pages.specs.TranslationPage.{entry_at};
 ghost use Rattle.image_check.specs.Agrees.{IsCertificateOf};
-ghost use Rattle.image_check.specs.Noted.{claimed, is_noted, IsKept, HasNoted};
+ghost use Rattle.image_check.specs.Noted.{claimed, IsKept, HasNoted};
 ghost use Rattle.image_check.specs.Stale.{same_row};
 
 use crate::kept::Noted;

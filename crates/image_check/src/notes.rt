@@ -1,5 +1,5 @@
 //! What is noted of each page as it passes.
-ghost use Rattle.std.specs.Prelude.{◌≡◌, ◌≢◌, true, false, ℕ, ◌+◌, ◌*◌, ◌<◌, ◌≤◌, ◌++◌, List, All, length, get_or, slice_get, MatchOption, Option};
+ghost use Rattle.std.specs.Prelude.{◌≡◌, true, ◌+◌, ◌*◌, ◌<◌, ◌≤◌, ◌++◌, List, All, length, get_or, slice_get, MatchOption, Option};
 ghost use Rattle.std.specs.Prelude.{Some, None, vec_len, vec_capacity};
 ghost use Rattle.page_layout.specs.declared.record.Record.{Record};
 ghost use Rattle.page_layout.specs.Page.{Page, Image};

@@ -1,5 +1,5 @@
 //! The parts of a certificate's agreement with an image that the records of the pages decide, one function each.
-ghost use Rattle.std.specs.Prelude.{◌≡◌, ◌≢◌, ◌^◌, true, false, ℕ, ◌+◌, ◌<◌, ◌≤◌, ◌↔◌, All, IsTrue, length, OnOk, IfErr};
+ghost use Rattle.std.specs.Prelude.{◌≡◌, ◌≢◌, ◌^◌, true, false, ℕ, ◌+◌, ◌<◌, ◌↔◌, All, IsTrue, length, OnOk, IfErr};
 ghost use Rattle.page_layout.specs.Page.{Image};
 ghost use Rattle.page_layout.specs.declared.geometry.Geometry.{Geometry};
 ghost use Rattle.page_layout.specs.OneArray.{AreDistinct, AreBelow};

@@ -1,8 +1,8 @@
 //! The plain scan: one sector of an image, found by a look at every page.
-ghost use Rattle.std.specs.Prelude.{◌≡◌, ◌≢◌, ◌+◌, ◌^◌, ◌≤◌, ◌<◌, ℕ, ◌↔◌, Bool, true, Err, OnOk, OnErr, length, IfOk, IfErr, unwrap_or};
+ghost use Rattle.std.specs.Prelude.{◌≡◌, ◌≢◌, ◌+◌, ◌^◌, ◌≤◌, ◌<◌, ◌↔◌, true, Err, OnOk, OnErr, length, IfOk, IfErr, unwrap_or};
 ghost use Rattle.std.specs.Prelude.{option_copied, IfSome, IsSome, IsTrue, Some};
 ghost use Rattle.page_layout.specs.Counter.{HasRisen};
-ghost use Rattle.page_layout.specs.Page.{Image, IsImage, page};
+ghost use Rattle.page_layout.specs.Page.{IsImage, page};
 ghost use Rattle.page_layout.specs.Newest.{latest_below, sequence_of};
 ghost use Rattle.page_layout.specs.Array.{marks, zeros, content, sector_of};
 ghost use Rattle.page_layout.specs.Sound.{record_of};

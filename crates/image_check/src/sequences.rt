@@ -1,5 +1,5 @@
 //! Sound pages that share a sequence.
-ghost use Rattle.std.specs.Prelude.{◌≡◌, ◌≢◌, None, ℕ, ◌+◌, ◌<◌, ◌≤◌, ◌⊎◌, length, get_or, OnOk, IfErr, IfNone, IfSome, IsPermutation};
+ghost use Rattle.std.specs.Prelude.{◌≡◌, None, ℕ, ◌<◌, length, OnOk, IfErr, IfNone, IfSome, IsPermutation};
 ghost use Rattle.page_layout.specs.Page.{Image};
 ghost use Rattle.page_layout.specs.OneArray.{AreDistinct};
 ghost use Rattle.page_layout.specs.Array.{marks};

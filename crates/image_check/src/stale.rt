@@ -1,9 +1,8 @@
 //! The sectors whose entries on flash differ from the rows of their newest pages.
-ghost use Rattle.std.specs.Prelude.{◌≡◌, ◌≢◌, true, Err, ℕ, ◌+◌, ◌-◌, ◌*◌, ◌<◌, ◌≤◌, ◌++◌, [], All, length, filter, not, get_or, IfOk, IfErr, OnOk, OnErr};
+ghost use Rattle.std.specs.Prelude.{◌≡◌, ◌≢◌, true, Err, ℕ, ◌+◌, ◌-◌, ◌*◌, ◌<◌, ◌≤◌, ◌++◌, [], All, length, filter, not, get_or, IfErr, OnOk, OnErr};
 ghost use Rattle.std.specs.List.{range_with_len};
 ghost use Rattle.page_layout.specs.Counter.{HasRisen};
 ghost use Rattle.page_layout.specs.Geometry.{row_count, key_count, entries, translation_pages};
-ghost use Rattle.page_layout.specs.Page.{Image, IsImage};
 ghost use Rattle.page_layout.specs.OnlyReads.{OnlyReads};
 ghost use Rattle.certificate.specs.Spelling.{IsRowOf};
 ghost use Rattle.translation_pages.specs.TranslationPage.{entry_at};

@@ -1,7 +1,7 @@
 //! The checker of an image that a reader gives, page by page.
-ghost use Rattle.std.specs.Prelude.{◌≡◌, ◌≢◌, ◌⊎◌, ◌≤◌, ◌+◌, ◌↔◌, ◌++◌, Err, length, OnOk, IfOk, IfErr, IfSome};
+ghost use Rattle.std.specs.Prelude.{◌≡◌, ◌⊎◌, ◌+◌, ◌↔◌, ◌++◌, Err, length, OnOk, IfOk, IfErr, IfSome};
 ghost use Rattle.std.specs.Io.KnownBytes.{Consumes, IsAtEnd};
-ghost use Rattle.page_layout.specs.Geometry.{row_count, page_bytes};
+ghost use Rattle.page_layout.specs.Geometry.{row_count};
 ghost use Rattle.page_layout.specs.Page.{Image};
 ghost use Rattle.page_layout.specs.Raw.{raw_image};
 ghost use Rattle.image_check.specs.Accepted.{IsAcceptance};

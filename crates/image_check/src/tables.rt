@@ -1,5 +1,5 @@
 //! The newest table pages: whether there are all of them, and what they say of the blocks.
-ghost use Rattle.std.specs.Prelude.{◌≡◌, true, false, ℕ, ◌+◌, ◌*◌, ◌<◌, ◌≤◌, length, OnOk, IfErr};
+ghost use Rattle.std.specs.Prelude.{◌≡◌, true, false, ℕ, ◌+◌, ◌*◌, ◌<◌, length, OnOk, IfErr};
 ghost use Rattle.page_layout.specs.Page.{Image};
 ghost use Rattle.page_layout.specs.Array.{marks};
 ghost use Rattle.page_layout.specs.OneArray.{AreDistinct};

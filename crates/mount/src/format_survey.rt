@@ -1,7 +1,7 @@
 //! One look at each page of a die that is to be formatted.
 ghost use Rattle.std.specs.Prelude.{◌≡◌, ◌<◌, ◌≤◌, ℕ, ◌+◌, ◌-◌, ◌*◌, ◌^◌, [], Bool, true, false, length, IfOk, IfErr, IfSome, OnOk, OnErr};
 ghost use Rattle.page_layout.specs.Counter.{counted, HasRisen};
-ghost use Rattle.page_layout.specs.Flash.{page_at, no_page};
+ghost use Rattle.page_layout.specs.Flash.{page_at};
 ghost use Rattle.page_layout.specs.Geometry.{row_count};
 ghost use Rattle.page_layout.specs.Page.{page, IsImage};
 ghost use Rattle.page_layout.specs.OnlyReads.{OnlyReads};

@@ -1,5 +1,5 @@
 //! The table pages that make a fresh die ready.
-ghost use Rattle.std.specs.Prelude.{◌≡◌, ◌<◌, ◌≤◌, ℕ, ◌+◌, ◌*◌, ◌^◌, [], true, false, length, IfOk, IfErr, IsErrOf, OnOk, OnErr};
+ghost use Rattle.std.specs.Prelude.{◌≡◌, ◌<◌, ◌≤◌, ℕ, ◌+◌, ◌*◌, ◌^◌, true, false, length, IfOk, IfErr, IsErrOf, OnOk, OnErr};
 ghost use Rattle.page_layout.specs.Counter.{counted, HasRisen};
 ghost use Rattle.page_layout.specs.Flash.{Flash};
 ghost use Rattle.page_layout.specs.Geometry.{need, table_pages};
