@@ -40,7 +40,7 @@ returns-in-Ok c =
     let same = its.same (not_refused c.in_ok-accepted.accepted Source) refl in
     let accepted = accepted_for (flash_by (λ die. die.state) c.args.driver) (flash_by (λ die. die.state) c.check.new.source) c.args.geometry.now 4 c.args.certificate.now c.in_ok-accepted.accepted same c.requires.same (its.whole refl) (its.ok refl) in
     record {
-      rose = risen_since c.args.driver.failures c.check.new.source.failures c.in-Ok.device.engine.nand.failures its.failed (c.in-Ok.ensures.rose);
+      rose = risen_since c.args.driver.failures c.check.new.source.failures c.in-Ok.device.engine.nand.failures its.only_reads.failed_is (c.in-Ok.ensures.rose);
       ran = λ known.
           subst (λ s. RanFrom (flash_by (λ die. die.state)) s c.args.certificate.now (exchanges_of c.run_accepted.new.calls) c.in-Ok.device) same
           (subst (λ k. RanFrom (flash_by (λ die. die.state)) (flash_by (λ die. die.state) c.check.new.source) k (exchanges_of c.run_accepted.new.calls) c.in-Ok.device) its.accepted.0 (until_known _ _ _ _ c.in-Ok.ensures.until known refl accepted).1);
