@@ -1,6 +1,9 @@
 #!/usr/bin/env python3
 """Looks whether each planted bug still fits the sources, and proves nothing.
 
+    bench/edits.py                  looks at all of them
+    bench/edits.py FOLDER EDIT      plants one in a copy of its crate, which stands in FOLDER
+
 Of each edit in crates/*/must-fail and planted/*: its file is there, and each text to be replaced stands in it just
 once, after the pairs before it were applied. Prints those that don't fit, and answers 1 if there are any.
 """
@@ -28,41 +31,57 @@ def pairs_of(edit):
     return pairs
 
 
-def fault_of(crate, edit):
-    """Why an edit doesn't fit its crate, or nothing."""
+def texts_of(crate, edit):
+    """The files that an edit changes, as they are with it; a ValueError says why it doesn't fit its crate."""
     texts = {}
-    try:
-        pairs = pairs_of(edit)
-    except ValueError as fault:
-        return str(fault)
+    pairs = pairs_of(edit)
     if not pairs:
-        return "it has no pair"
+        raise ValueError("it has no pair")
     for file, old, new in pairs:
         if file is None or old is None:
-            return "a pair without a file or an old text"
+            raise ValueError("a pair without a file or an old text")
         path = crate / file
-        if file not in texts:
+        if path not in texts:
             if not path.is_file():
-                return f"no file {file}"
-            texts[file] = path.read_text(encoding="utf-8")
-        count = texts[file].count(old)
+                raise ValueError(f"no file {file}")
+            texts[path] = path.read_text(encoding="utf-8")
+        count = texts[path].count(old)
         if count != 1:
-            return f"stands {count} times in {file}: {old}"
+            raise ValueError(f"stands {count} times in {file}: {old}")
         if old == new:
-            return f"changes nothing: {old}"
-        texts[file] = texts[file].replace(old, new)
-    return None
+            raise ValueError(f"changes nothing: {old}")
+        texts[path] = texts[path].replace(old, new)
+    return texts
+
+
+def fits(crate, edit):
+    """Whether an edit fits its crate; says why not."""
+    try:
+        texts_of(crate, edit)
+    except ValueError as fault:
+        print(f"{edit}: {fault}")
+        return False
+    return True
+
+
+def plant(crate, edit):
+    """Plants an edit in a crate."""
+    if not fits(crate, edit):
+        return 1
+    for path, text in texts_of(crate, edit).items():
+        path.write_text(text, encoding="utf-8")
+    return 0
 
 
 def main():
+    if len(sys.argv) == 3:
+        return plant(pathlib.Path(sys.argv[1]), pathlib.Path(sys.argv[2]))
     edits = sorted(TOP.glob("crates/*/must-fail/*.edit")) + sorted(TOP.glob("planted/*/*.edit"))
     faults = 0
     for edit in edits:
         folder = edit.parent.parent if edit.parent.name == "must-fail" else edit.parent
-        fault = fault_of(TOP / "crates" / folder.name, edit)
-        if fault is not None:
+        if not fits(TOP / "crates" / folder.name, edit):
             faults += 1
-            print(f"{edit.relative_to(TOP)}: {fault}")
     print(f"{len(edits)} edits, {faults} that don't fit")
     return 1 if faults else 0
 

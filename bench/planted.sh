@@ -1,7 +1,8 @@
 #!/usr/bin/env bash
-# Tries the planted bugs of planted/CRATE over a copy of the repository: the prover has to refuse each. Prints what it says of
-# each, and last those that prove or that no longer fit; answers 1 if there are any. It is no part of the gate, which tries
-# crates/CRATE/must-fail. Takes what earlier checks kept of the libraries below (out/rlib), and proves the rest first.
+# Tries the planted bugs of planted/CRATE, each alone, over a copy of the repository: the whole check of its crate has to refuse
+# it. Prints of each what the prover said first, and last those that prove or that no longer fit; answers 1 if there are any. It
+# is no part of the gate, which tries crates/CRATE/must-fail. Takes what earlier checks kept (crates/*/out), and proves the rest
+# first. An edit takes from some seconds to a minute.
 #
 #     bench/planted.sh [CRATE..]       (default: every crate that has a folder in planted/)
 set -eu
@@ -14,24 +15,25 @@ done
 
 room="$(mktemp -d)"
 trap 'rm -rf "$room"' EXIT
-tar --create --exclude='crates/*/out/incremental' crates crates.txt HANDLES | tar --extract --directory "$room"
-for name in "${names[@]}"; do
-    rm -rf "$room/crates/$name/must-fail"
-    cp -r "planted/$name" "$room/crates/$name/must-fail"
-done
-
-cd "$room"
-: > wrong
+cp -r crates crates.txt HANDLES "$room"
+wrong=()
 for name in "${names[@]}"; do
     echo "== $name"
-    if ! rt must-fail "$name" > said 2>&1; then
-        grep -E 'NOT REFUSED|BAD EDIT' said >> wrong || echo "$name: no edit was tried" >> wrong
-    fi
-    cat said
+    for edit in "planted/$name"/*.edit; do
+        called="$name/$(basename "$edit" .edit)"
+        if ! python3 bench/edits.py "$room/crates/$name" "$edit"; then
+            wrong+=("$called does not fit")
+        elif ! (cd "$room/crates/$name" && rt check) > "$room/said" 2>&1 && ! tail -1 "$room/said" | grep -q 'logic=proved'; then
+            echo "refused  $called  $(grep -m 1 -E ': error: |must prove: ' "$room/said" | cut -c 1-160)"
+        else
+            wrong+=("$called proves")
+        fi
+        cp -r "crates/$name/src" "crates/$name/specs" "$room/crates/$name/"
+    done
 done
-if [ -s wrong ]; then
+if [ ${#wrong[@]} -gt 0 ]; then
     echo "== not refused"
-    cat wrong
+    printf '%s\n' "${wrong[@]}"
     exit 1
 fi
 echo "every planted bug was refused"
