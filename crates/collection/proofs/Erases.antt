@@ -139,7 +139,6 @@ cleared_ram block r r' s t m = record {
   blocks_of = m.geometry ∙ (s.blocks_of ∙ sym t.geometry);
   next = (let x = s.next in rw t.next x);
   marks = t.marks ∙ (s.marks ∙ ap translation_pages (sym t.geometry));
-  unpinned = t.block ∙ s.unpinned;
 }
 
 pub cleared_goes : (block : ℕ) (r r' : Ram) → IsCleared r r' → IsMade block r.blocks r'.blocks → GoesBut block r r'

@@ -29,8 +29,8 @@ use Rattle.bad_blocks.specs.Table.{most_wear}
 use Rattle.collection.specs.Whole.{next_of, erases_after, step_within, busy_of, work_left, IsSoFar, IsUnderWay}
 use Rattle.collection.specs.declared.fault.WriteFault.{WriteFault}
 use Rattle.collection.specs.declared.fault.WriteFault.TheVariants.{ReadOnly, SequenceSpent, Damaged, Bus}
-use Rattle.collection.specs.declared.engine.step.Step.{Step}
-use Rattle.collection.specs.declared.engine.step.Step.TheVariants as step_is
+use Rattle.collection.specs.declared.engine.step.Progress.{Progress}
+use Rattle.collection.specs.declared.engine.step.Progress.TheVariants as step_is
 use Rattle.allocation.specs.Laws.{IsLeftButLive}
 use Rattle.collection.proofs.Blocks.{left_then}
 use Rattle.collection.proofs.Memory.{shut_same}
@@ -225,22 +225,22 @@ refused_counts flushing block first old now new known x y z Bus k small u owed o
 
 -- ---- a step, whichever it was
 
-abbrev pub ok_step : Step → Result Step WriteFault
+abbrev pub ok_step : Progress → Result Progress WriteFault
 ok_step step = Ok step
 
 pub some_steps : (g : Geometry) → 1 < g.pages
 some_steps g = omega (arith, g.limits.page_count.least)
 
-pub ends_erased : (pages : ℕ) (step : Step) → next_of pages step ≡ None → step ≡ step_is.Erased
+pub ends_erased : (pages : ℕ) (step : Progress) → next_of pages step ≡ None → step ≡ step_is.Erased
 ends_erased pages (step_is.Copied page) is = (let no : ⊥ = cc in absurd no)
 ends_erased pages step_is.WroteBack is = (let no : ⊥ = cc in absurd no)
 ends_erased pages step_is.Erased is = refl
 
-not_erased : (pages next : ℕ) (step : Step) → next_of pages step ≡ Some next → step ≢ step_is.Erased
+not_erased : (pages next : ℕ) (step : Progress) → next_of pages step ≡ Some next → step ≢ step_is.Erased
 not_erased pages next step is e = (let n : next_of pages step ≡ None = ap (next_of pages) e in let no : ⊥ = cc in no)
 
 module _ (flushing : Bool) (block first next : ℕ) (old now new : Ram) (known : Type 0) (x y z : Image) (s : IsRam now) (s' : IsRam new) (goes : Goes old now) (within : block < old.geometry.blocks) (u : IsUnderWay flushing block first old now known x y) where
-  step_more : (step : Step) → Goes now new → next_of old.geometry.pages step ≡ Some next → StepCosts flushing block first now new (Ok step) → (known → IsTrue None now y → HoldsNoneIn now.geometry.pages block 0 first y → IsStepped block now y new z step) → IsUnderWay flushing block next old new known x z
+  step_more : (step : Progress) → Goes now new → next_of old.geometry.pages step ≡ Some next → StepCosts flushing block first now new (Ok step) → (known → IsTrue None now y → HoldsNoneIn now.geometry.pages block 0 first y → IsStepped block now y new z step) → IsUnderWay flushing block next old new known x z
   step_more (step_is.Copied page) then is cost call =
       let e : page + 1 ≡ next = cc in
       let P : ℕ → Type 0 = λ n. IsUnderWay flushing block n old new known x z in
@@ -251,41 +251,41 @@ module _ (flushing : Bool) (block first next : ℕ) (old now new : Ram) (known :
       subst P e (written_more flushing block first old now new known x y z s s' goes then (some_steps old.geometry) within u cost call)
   step_more step_is.Erased then is cost call = (let no : ⊥ = cc in absurd no)
 
-  pub stepped : (step : Step) → (ok_step step ≢ ok_step step_is.Erased → Goes now new) → next_of old.geometry.pages step ≡ Some next → StepCosts flushing block first now new (Ok step) → (known → IsTrue None now y → HoldsNoneIn now.geometry.pages block 0 first y → IsStepped block now y new z step) → IsUnderWay flushing block next old new known x z
+  pub stepped : (step : Progress) → (ok_step step ≢ ok_step step_is.Erased → Goes now new) → next_of old.geometry.pages step ≡ Some next → StepCosts flushing block first now new (Ok step) → (known → IsTrue None now y → HoldsNoneIn now.geometry.pages block 0 first y → IsStepped block now y new z step) → IsUnderWay flushing block next old new known x z
   stepped step then is cost call = step_more step (then (λ e. (let same : step ≡ step_is.Erased = cc in not_erased old.geometry.pages next step is same))) is cost call
 
-pub within_by : (flushing : Bool) (block first pages : ℕ) (now new : Ram) (step : Step) → pages ≡ now.geometry.pages → StepCosts flushing block first now new (Ok step) → step_within pages step
+pub within_by : (flushing : Bool) (block first pages : ℕ) (now new : Ram) (step : Progress) → pages ≡ now.geometry.pages → StepCosts flushing block first now new (Ok step) → step_within pages step
 within_by flushing block first pages now new (step_is.Copied page) same cost = rw same cost.1
 within_by flushing block first pages now new step_is.WroteBack same cost = tt
 within_by flushing block first pages now new step_is.Erased same cost = tt
 
-pub erased_by : (flushing : Bool) (block first : ℕ) (now new : Ram) (step : Step) → step ≡ step_is.Erased → StepCosts flushing block first now new (Ok step) → HasErased block now new
-erased_by flushing block first now new step is cost = (let P : Step → Type 0 = λ s. StepCosts flushing block first now new (Ok s) in let c = subst P is cost in c.1)
+pub erased_by : (flushing : Bool) (block first : ℕ) (now new : Ram) (step : Progress) → step ≡ step_is.Erased → StepCosts flushing block first now new (Ok step) → HasErased block now new
+erased_by flushing block first now new step is cost = (let P : Progress → Type 0 = λ s. StepCosts flushing block first now new (Ok s) in let c = subst P is cost in c.1)
 
-pub emptied_by : (block : ℕ) (now new : Ram) (y z : Image) (step : Step) → step ≡ step_is.Erased → IsStepped block now y new z step → IsEmptied block now y new z
-emptied_by block now new y z step is k = (let P : Step → Type 0 = λ s. IsStepped block now y new z s in subst P is k)
+pub emptied_by : (block : ℕ) (now new : Ram) (y z : Image) (step : Progress) → step ≡ step_is.Erased → IsStepped block now y new z step → IsEmptied block now y new z
+emptied_by block now new y z step is k = (let P : Progress → Type 0 = λ s. IsStepped block now y new z s in subst P is k)
 
 pub emptied_then : (block first copies : ℕ) (a b c : Ram) (x y z : Image) → Goes a b → c.geometry ≡ b.geometry → IsSoFar block first copies a x b y → IsEmptied block b y c z → IsEmptied block a x c z
 emptied_then block first copies a b c x y z goes after w e = record { same = same_then a b c x y z goes after w.same e.same; none = e.none }
 
-pub still_goes : (pages next : ℕ) (step : Step) (now new : Ram) → next_of pages step ≡ Some next → (ok_step step ≢ ok_step step_is.Erased → Goes now new) → Goes now new
+pub still_goes : (pages next : ℕ) (step : Progress) (now new : Ram) → next_of pages step ≡ Some next → (ok_step step ≢ ok_step step_is.Erased → Goes now new) → Goes now new
 still_goes pages next step now new is then = then (λ e. (let same : step ≡ step_is.Erased = cc in not_erased pages next step is same))
 
 -- only the last step erases
-pub still_erased : (pages : ℕ) (next : ℕ) (step : Step) (before after : ℕ) → next_of pages step ≡ Some next → after ≡ erases_after step before → after ≡ before
+pub still_erased : (pages : ℕ) (next : ℕ) (step : Progress) (before after : ℕ) → next_of pages step ≡ Some next → after ≡ erases_after step before → after ≡ before
 still_erased pages next (step_is.Copied page) before after is h = h
 still_erased pages next step_is.WroteBack before after is h = h
 still_erased pages next step_is.Erased before after is h = (let no : ⊥ = cc in absurd no)
 
-pub once_erased : (step : Step) (before after : ℕ) → step ≡ step_is.Erased → after ≡ erases_after step before → after ≡ counted before
+pub once_erased : (step : Progress) (before after : ℕ) → step ≡ step_is.Erased → after ≡ erases_after step before → after ≡ counted before
 once_erased step before after is h = h ∙ ap (λ s. erases_after s before) is
 
-pub room_next : (flushing : Bool) (block first next pages : ℕ) (now new : Ram) (step : Step) → IsRam new → pages ≡ new.geometry.pages → length now.mapping.moved ≤ first → next_of pages step ≡ Some next → StepCosts flushing block first now new (Ok step) → length new.mapping.moved ≤ next
+pub room_next : (flushing : Bool) (block first next pages : ℕ) (now new : Ram) (step : Progress) → IsRam new → pages ≡ new.geometry.pages → length now.mapping.moved ≤ first → next_of pages step ≡ Some next → StepCosts flushing block first now new (Ok step) → length new.mapping.moved ≤ next
 room_next flushing block first next pages now new (step_is.Copied page) s' p room is cost = (let e : page + 1 ≡ next = cc in omega (arith, e, cost.0, cost.2.moved))
 room_next flushing block first next pages now new step_is.WroteBack s' p room is cost = (let e : pages ≡ next = cc in let m = s'.mapping.moved_within in let g = ap (λ (x : Geometry). x.pages) s'.mapping_of in omega arith)
 room_next flushing block first next pages now new step_is.Erased s' p room is cost = (let no : ⊥ = cc in absurd no)
 
-pub steps_fall : (flushing : Bool) (block first next pages : ℕ) (now new : Ram) (step : Step) → IsRam new → next_of pages step ≡ Some next → StepCosts flushing block first now new (Ok step) → 18446744073709551615 - new.next < 18446744073709551615 - now.next
+pub steps_fall : (flushing : Bool) (block first next pages : ℕ) (now new : Ram) (step : Progress) → IsRam new → next_of pages step ≡ Some next → StepCosts flushing block first now new (Ok step) → 18446744073709551615 - new.next < 18446744073709551615 - now.next
 steps_fall flushing block first next pages now new (step_is.Copied page) s' is cost = omega (arith, cost.2.put.next, s'.next)
 steps_fall flushing block first next pages now new step_is.WroteBack s' is cost = omega (arith, cost.put.next, s'.next)
 steps_fall flushing block first next pages now new step_is.Erased s' is cost = (let no : ⊥ = cc in absurd no)

@@ -6,6 +6,7 @@ pub mod Dues
 pub mod Copies
 pub mod Lowest
 pub mod Steps
+pub mod Lefts
 pub mod Follows
 pub mod Ledgers
 pub mod Rooms

@@ -68,7 +68,6 @@ made_ram block old new s t m next = record {
   blocks_of = m.geometry ∙ (s.blocks_of ∙ sym t.geometry);
   next = omega (arith, t.next);
   marks = ap (λ (p : Pin). length p.marks) t.pin ∙ (s.marks ∙ ap translation_pages (sym t.geometry));
-  unpinned = ap (λ (p : Pin). p.block) t.pin ∙ s.unpinned;
 }
 
 pub made_goes : (stream : Stream) (block : ℕ) (old new : Ram) → IsRam old → Ticks old new → IsNextBlock old.blocks stream block → IsMade block old.blocks new.blocks → KeepsTable old.blocks new.blocks → GoesPut old new

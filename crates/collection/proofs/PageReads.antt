@@ -6,8 +6,8 @@ use Rattle.collection.specs.State.{Ram}
 use Rattle.collection.specs.Safe.{IsIdle}
 use Rattle.collection.specs.Collect.{due_count, StepCosts}
 use Rattle.collection.specs.Whole.{next_of, HasRead}
-use Rattle.collection.specs.declared.engine.step.Step.{Step}
-use Rattle.collection.specs.declared.engine.step.Step.TheVariants as step_is
+use Rattle.collection.specs.declared.engine.step.Progress.{Progress}
+use Rattle.collection.specs.declared.engine.step.Progress.TheVariants as step_is
 use Rattle.collection.proofs.Dues.{idle_due}
 use Rattle.collection.proofs.Ledgers.{due_most, ok_step}
 
@@ -23,7 +23,7 @@ none_read flushing r reads idle =
       few = omega arith;
     }
 
-pub read_more : (flushing : Bool) (block first next : ℕ) (old now new : Ram) (before middle after : ℕ) (step : Step) → now.geometry ≡ old.geometry → new.geometry ≡ old.geometry → HasRead flushing first old now before middle → next_of old.geometry.pages step ≡ Some next → StepCosts flushing block first now new (Ok step) → after ≤ middle + (2 * (now.geometry.pages - first) + min (due_count flushing now) 1) → ((page : ℕ) → ok_step step ≡ ok_step (step_is.Copied page) → after ≤ middle + 2 * (page + 1 - first)) → HasRead flushing next old new before after
+pub read_more : (flushing : Bool) (block first next : ℕ) (old now new : Ram) (before middle after : ℕ) (step : Progress) → now.geometry ≡ old.geometry → new.geometry ≡ old.geometry → HasRead flushing first old now before middle → next_of old.geometry.pages step ≡ Some next → StepCosts flushing block first now new (Ok step) → after ≤ middle + (2 * (now.geometry.pages - first) + min (due_count flushing now) 1) → ((page : ℕ) → ok_step step ≡ ok_step (step_is.Copied page) → after ≤ middle + 2 * (page + 1 - first)) → HasRead flushing next old new before after
 read_more flushing block first next old now new before middle after (step_is.Copied page) same still h is cost most copied =
     let e : page + 1 ≡ next = cc in
     let pages : now.geometry.pages ≡ old.geometry.pages = ap (λ (g : Geometry). g.pages) same in

@@ -93,7 +93,7 @@ live_fewer : (g : Geometry) (x y : Image) (k : ℕ) → ((key : Key) → is_in_b
 unfolding live
 live_fewer g x y k imply = count_less (λ key. is_in_block g.pages k (newest (marks x) key)) (λ key. is_in_block g.pages k (newest (marks y) key)) (keys g) imply
 
-in_by : (pages k : ℕ) (o : Option ℕ) → is_in_block pages k o ≡ true → (row : ℕ) × (o ≡ Some row) × (row / pages ≡ k)
+pub in_by : (pages k : ℕ) (o : Option ℕ) → is_in_block pages k o ≡ true → (row : ℕ) × (o ≡ Some row) × (row / pages ≡ k)
 in_by pages k None is = (let no : ⊥ = cc in absurd no)
 in_by pages k (Some row) is = (row, refl, eqb-true (row / pages) k is)
 

@@ -94,7 +94,6 @@ settled_ram r r' key row s of_key lt t =
       blocks_of = (let x = s.blocks_of in rw (t.blocks, t.geometry) x);
       next = (let x = s.next in rw t.next x);
       marks = (let x = s.marks in rw (t.pin, t.geometry) x);
-      unpinned = (let x = s.unpinned in rw t.pin x);
     }
 
 pub settled_goes : (a b c : Ram) (key : Key) (row : ℕ) → Goes a b → Settles key row b c → Goes a c

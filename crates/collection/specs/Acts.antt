@@ -1,6 +1,6 @@
 -- What the engine's calls say alike, whatever the die does: those that only look, those that change the die, and those that a standing fault
 -- stops.
-use Rattle.std.specs.Prelude.{◌≡◌, ◌≢◌, ℕ, ◌≤◌, Bool, true, None, Result, Err, IfErr}
+use Rattle.std.specs.Prelude.{◌≡◌, ◌≢◌, ◌⊎◌, ℕ, ◌≤◌, Bool, true, None, Result, Err, IfErr}
 use Rattle.std.specs.Option.{ForSome}
 use Rattle.page_layout.specs.Flash.{Flash}
 use Rattle.page_layout.specs.Counter.{HasRisen}
@@ -43,6 +43,10 @@ pub record Stands {A N : Type 0} (flash : N → Flash) (honest calm : N → Bool
   pub failed_is : failed old.nand ≤ failed new.nand
   pub rose : old.fault ≡ None → result ≡ Err Bus → HasRisen (failed old.nand) (failed new.nand)
   pub went : honest old.nand ≡ true → result ≢ Err Bus → Went (ram old) (flash old.nand) (ram new) (flash new.nand)
+
+-- MAKING ROOM: nothing was done for it, or a block was erased and none is pinned
+abbrev pub RestsOrErases : {N : Type 0} → (erases : N → ℕ) → (old new : Engine N) → Type 0
+RestsOrErases erases old new = (new ≡ old) ⊎ (HasRisen (erases old.nand) (erases new.nand) × (new.pinned ≡ None))
 
 -- a call that reads no page and erases no block
 pub record OnlyPrograms {N : Type 0} (reads erases : N → ℕ) (old new : N) : Type 0 where

@@ -17,15 +17,15 @@ use Rattle.budget.specs.declared.stream.Stream.{Stream}
 use Rattle.budget.specs.declared.stream.Stream.TheVariants.{Meta}
 use Rattle.budget.specs.Counts.{Erased}
 use Rattle.budget.specs.Spending.{Spending, Collected, Stuck, IsFunded}
-use Rattle.mapping_cache.specs.Mapping.{MappingState, HasLimitsOf, per_page, pending, slot_of, moved_row, moved_in}
+use Rattle.mapping_cache.specs.Mapping.{MappingState, HasLimitsOf, per_page, pending, slot_of, moved_in, cleaned}
 use Rattle.allocation.specs.State.{State, live_at, is_closed, is_free, free_count}
 use Rattle.allocation.specs.Step.{erased, without}
 use Rattle.allocation.specs.Counts.{counts_of}
 use Rattle.allocation.specs.Laws.{IsLeftButLive}
 use Rattle.collection.specs.declared.fault.WriteFault.{WriteFault}
 use Rattle.collection.specs.declared.fault.WriteFault.TheVariants.{ReadOnly, SequenceSpent, Damaged, Bus}
-use Rattle.collection.specs.declared.engine.step.Step.{Step}
-use Rattle.collection.specs.declared.engine.step.Step.TheVariants as step
+use Rattle.collection.specs.declared.engine.step.Progress.{Progress}
+use Rattle.collection.specs.declared.engine.step.Progress.TheVariants as step
 use Rattle.collection.specs.State.{Ram}
 use Rattle.collection.specs.Safe.{is_shut}
 use Rattle.collection.specs.Cost.{HasPut, HasRunOut, HasSpent}
@@ -145,7 +145,7 @@ FaultCosts old new Damaged = new.next ≡ old.next
 FaultCosts old new Bus = Unit {0}
 
 -- what a step costs, by what it answers; from this page on, none before it counts
-abbrev pub StepCosts : Bool → (block first : ℕ) → Ram → Ram → Result Step WriteFault → Type 0
+abbrev pub StepCosts : Bool → (block first : ℕ) → Ram → Ram → Result Progress WriteFault → Type 0
 StepCosts flushing block first old new (Ok (step.Copied page)) = (first ≤ page) × (page < old.geometry.pages) × HasCopied flushing old new × (new.fault ≡ old.fault)
 StepCosts flushing block first old new (Ok step.WroteBack) = HasWritten flushing old new
 StepCosts flushing block first old new (Ok step.Erased) = HasNoneDue flushing old × HasErased block old new
@@ -175,7 +175,7 @@ pub record IsEmptied (block : ℕ) (old : Ram) (before : Image) (new : Ram) (aft
   pub same : IsSame old before new after
   pub none : live_at new.blocks block ≡ 0
 
-abbrev pub IsStepped : ℕ → Ram → Image → Ram → Image → Step → Type 0
+abbrev pub IsStepped : ℕ → Ram → Image → Ram → Image → Progress → Type 0
 IsStepped block old before new after (step.Copied page) = IsCopied block page old before new after
 IsStepped block old before new after step.WroteBack = IsEmptied block old before new after
 IsStepped block old before new after step.Erased = IsEmptied block old before new after
@@ -188,7 +188,7 @@ pub record HasProgrammed (first now : Ram) (data_pages meta_pages : ℕ) : Type 
   pub next : now.next + (counts_of now.blocks).good ≡ first.next + (data_pages + meta_pages) + (counts_of first.blocks).good
 
 -- So far so many pages were copied and so many translation pages written back. As many more have to be written as are due, and with them
--- they are no more than the copies, and no more than there are.
+-- they are no more than the copies and those that were due at first, and no more than there are.
 pub record Ledger (flushing : Bool) (first now : Ram) : Type 0 where
   pub copies : ℕ
   pub written : ℕ
@@ -196,7 +196,7 @@ pub record Ledger (flushing : Bool) (first now : Ram) : Type 0 where
   pub meta_pages : ℕ
   pub pages : data_pages + meta_pages ≡ copies + written
   pub programmed : HasProgrammed first now data_pages meta_pages
-  pub for_copies : written + due_count flushing now ≤ copies
+  pub for_copies : written + due_count flushing now ≤ copies + due_count flushing first
   pub for_pages : written + due_count flushing now ≤ translation_pages first.geometry
 
 -- copies, translation pages, and the erase
@@ -249,10 +249,6 @@ pub record HasNoneWorth (r : Ram) : Type 0 where
 pub record HasRoom (r : Ram) : Type 0 where
   pub five : 5 ≤ free_count r.blocks
   pub nine : (9 ≤ free_count r.blocks) ⊎ HasNoneWorth r
-
--- nothing was done for it, or a block was erased
-abbrev pub RestsOrErases : (old new : Ram) (erases_before erases_after : ℕ) → Type 0
-RestsOrErases old new erases_before erases_after = ((new ≡ old) × (erases_after ≡ erases_before)) ⊎ HasRisen erases_before erases_after
 
 -- why there is none, whatever the die does
 abbrev pub RoomTells : Ram → WriteFault → Type 0
@@ -316,11 +312,11 @@ abbrev pub FindsAiling : State → List ℕ → Image → Option (ℕ × Record)
 FindsAiling s body image None = HasNoneAiling s
 FindsAiling s body image (Some found) = IsFirstAiling s found.0 body found.1 image
 
--- no sector but the key's is on the moved list, and that one only where it isn't cached
-abbrev pub HasMovedOnly : MappingState → Key → Type 0
-HasMovedOnly m (Sector n) = (IsSome (slot_of m n) → m.moved ≡ []) × ((k : ℕ) → k ≢ n → moved_row m k ≡ None)
-HasMovedOnly m (Translation t) = m.moved ≡ []
-HasMovedOnly m (Table u) = m.moved ≡ []
+-- the translation page of a key's sector was written, unless the sector is cached
+abbrev pub IsFollowed : Key → (old new : MappingState) → Type 0
+IsFollowed (Sector n) old new = (IsSome (slot_of old n) × (new ≡ old)) ⊎ (new ≡ cleaned old (n / per_page old))
+IsFollowed (Translation t) old new = new ≡ old
+IsFollowed (Table u) old new = new ≡ old
 
 -- what it costs that a sector's translation page follows: nothing, or a translation page
 abbrev pub FollowCosts : Ram → Ram → Result (Unit {0}) WriteFault → Type 0

@@ -14,4 +14,6 @@ pub mod Settle
 pub mod Live
 pub mod Collect
 pub mod Whole
+pub mod Left
+pub mod Turns
 pub mod Room

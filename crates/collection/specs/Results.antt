@@ -113,6 +113,7 @@ Attempted kind n body old before new after (Some row) = IsPut kind n row body ol
 pub record IsWritten (kind : Kind) (n : ℕ) (body : List ℕ) (old : Ram) (before : Image) (new : Ram) (after : Image) : Type 0 where
   pub truth : IsTrue None new after
   pub array : array_of old.geometry after ≡ slice_set (array_of old.geometry before) n (content_of_kind old.geometry kind body)
+  pub leaves : Leaves old before after
   pub row : ℕ
   pub writes : Writes old.geometry (last_record kind n row new) row body before after
 

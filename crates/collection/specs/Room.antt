@@ -1,5 +1,5 @@
 -- When collections stop, and what they leave of the pool.
-use Rattle.std.specs.Prelude.{◌≡◌, ◌⊎◌, ℕ, ◌+◌, ◌≤◌, List, Option}
+use Rattle.std.specs.Prelude.{◌≡◌, ◌⊎◌, ℕ, ◌+◌, ◌<◌, ◌≤◌, List, Option}
 use Rattle.page_layout.specs.declared.record.Record.{Record}
 use Rattle.page_layout.specs.Geometry.{need, vmax}
 use Rattle.bad_blocks.specs.Table.{good_count}
@@ -10,13 +10,15 @@ use Rattle.allocation.specs.Counts.{counts_of, IsLiveExact}
 use Rattle.collection.specs.State.{Ram}
 use Rattle.collection.specs.Collect.{HasNoneWorth}
 
--- No block is collected: nine are free, or none is worth it. With right live counts and `need` good blocks nine are free.
-pub record IsMade (r : Ram) : Type 0 where
-  pub room : (9 ≤ free_count r.blocks) ⊎ HasNoneWorth r
-  pub nine : (marks : List (Option Record)) → IsLiveExact r.blocks marks → need r.geometry ≤ good_count r.blocks.table → 9 ≤ free_count r.blocks
+-- No block is collected: so many are free, nine and some more, or none is worth it. With right live counts and `need` good blocks, and as many
+-- more, so many are free.
+pub record IsMade (more : ℕ) (r : Ram) : Type 0 where
+  pub room : (9 + more ≤ free_count r.blocks) ⊎ HasNoneWorth r
+  pub enough : (marks : List (Option Record)) → IsLiveExact r.blocks marks → need r.geometry + more ≤ good_count r.blocks.table → 9 + more ≤ free_count r.blocks
 
--- this one is: the next victim, which has few live pages
-pub record IsWorth (r : Ram) (block : ℕ) : Type 0 where
+-- this one is: fewer are free, and it is the next victim, which has few live pages
+pub record IsWorth (more : ℕ) (r : Ram) (block : ℕ) : Type 0 where
+  pub scarce : free_count r.blocks < 9 + more
   pub victim : IsVictim r.blocks r.blocks.geometry.blocks block
   pub small : live_at r.blocks block ≤ vmax r.geometry
 

@@ -30,7 +30,6 @@ pub record IsRam (r : Ram) : Type 0 where
   pub blocks_of : r.blocks.geometry ≡ r.geometry
   pub next : r.next < 2 ^ 64
   pub marks : length r.pin.marks ≡ translation_pages r.geometry
-  pub unpinned : r.pin.block ≡ None
 
 -- No sector is on the moved list, and no translation page is marked. It is so between calls, unless a fault stands.
 pub record IsIdle (r : Ram) : Type 0 where

@@ -5,7 +5,7 @@ use Rattle.page_layout.specs.declared.geometry.Geometry.{Geometry}
 use Rattle.page_layout.specs.declared.record.Key.{Key}
 use Rattle.page_layout.specs.declared.record.Key.TheVariants.{Sector, Translation, Table}
 use Rattle.page_layout.specs.Geometry.{translation_pages}
-use Rattle.mapping_cache.specs.Mapping.{MappingState, IsMapping, HasLimitsOf, CanMove, per_page, moved_in, known, pending, slot_of}
+use Rattle.mapping_cache.specs.Mapping.{MappingState, IsMapping, HasLimitsOf, CanMove, per_page, moved_in, without_page, known, pending, slot_of}
 use Rattle.collection.specs.State.{Ram}
 
 -- a page of a sector is put where the sector is cached
@@ -31,6 +31,7 @@ pub record SetsRow (n : ℕ) (row : Option ℕ) (old new : MappingState) : Type 
   pub moved : length new.moved ≤ length old.moved + 1
   pub unmoved : IsSome (slot_of old n) → new.moved ≡ old.moved
   pub moved_others : (t : ℕ) → t ≢ n / per_page old → moved_in (per_page old) t new.moved ≡ moved_in (per_page old) t old.moved
+  pub moved_but : without_page (per_page old) (n / per_page old) new.moved ≡ without_page (per_page old) (n / per_page old) old.moved
   pub valid : IsMapping new
 
 abbrev pub SetsMapping : Key → ℕ → MappingState → MappingState → Type 0

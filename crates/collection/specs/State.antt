@@ -3,12 +3,13 @@ use Rattle.std.specs.Prelude.{ℕ, Bool, List, Option}
 use Rattle.page_layout.specs.declared.geometry.Geometry.{Geometry}
 use Rattle.mapping_cache.specs.Mapping.{MappingState}
 use Rattle.allocation.specs.State.{State}
+use Rattle.collection.specs.declared.engine.Pinned.{Pinned}
 use Rattle.collection.specs.declared.fault.WriteFault.{WriteFault}
 
 -- what is being collected
 pub record Pin : Type 0 where
   -- the block, where one is collected from turn to turn
-  pub block : Option ℕ
+  pub block : Option Pinned
   -- for each translation page, whether a sector of it was copied in a flush since it was last written
   pub marks : List Bool
 

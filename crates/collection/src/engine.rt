@@ -20,10 +20,12 @@ mod settle;
 mod step;
 mod steps;
 mod table;
+mod turns;
 mod write;
 mod write_back;
 
 pub use room::{LEAST_FREE, RESERVE};
+pub use turns::Step;
 
 /// The data area and the spare area of one page. (This project.)
 #[derive(Drop)]
@@ -34,11 +36,20 @@ pub struct Buffer {
     pub spare: Vec<u8>,
 }
 
+/// A block that is being collected from turn to turn. (This project.)
+#[derive(Clone, Copy, Debug, PartialEq, Eq)]
+pub struct Pinned {
+    /// The block.
+    pub block: u32,
+    /// The page from which its next live page is looked for: none before it is live.
+    pub first: u32,
+}
+
 /// A die with what is known of it in memory: where the newest pages are, and what each block may be
 /// used for.
 ///
 /// Contracts see the memory as a `Ram`, and the die by its `Flash`. Once a `put`, `write_back`,
-/// `collect`, `make_room`, `rescue_one`, `write_sector`, `trim_sector` or `write_table` was refused,
+/// `collect`, `step`, `make_room`, `rescue_one`, `write_sector`, `trim_sector` or `write_table` was refused,
 /// each of these answers the same fault ever after.
 ///
 /// Source: the DFTL paper, for the directory, the cached mapping table and the two streams; the rest
@@ -64,7 +75,7 @@ pub struct Engine<N: Nand> {
     /// A page that is looked at.
     pub scratch: Buffer,
     /// The block that is being collected from turn to turn.
-    pub pinned: Option<u32>,
+    pub pinned: Option<Pinned>,
     /// For each translation page, whether a collection has to write it.
     pub marks: Vec<bool>,
 }

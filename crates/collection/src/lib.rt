@@ -8,6 +8,8 @@
 
 mod engine;
 mod fault;
+mod laws;
 
-pub use engine::{Buffer, Engine, LEAST_FREE, RESERVE};
+pub use engine::{Buffer, Engine, LEAST_FREE, Pinned, RESERVE, Step};
 pub use fault::WriteFault;
+pub use laws::left_laws;

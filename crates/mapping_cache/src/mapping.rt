@@ -229,6 +229,13 @@ impl Mapping {
         }
     }
 
+    /// How many sectors are moved.
+    pub fn moved_count(&self) -> u32
+        ensures { result ≡ length self.now.moved }
+    {
+        self.moved.len() as u32
+    }
+
     /// Whether the new row of a sector has a place on the moved list.
     pub fn can_move(&self, sector: u32) -> bool
         ensures { IsTrue result ↔ CanMove self.now sector }

@@ -1,5 +1,5 @@
 //! A block is collected: what counts is copied out of it, and it is erased.
-ghost use Rattle.std.specs.Prelude.{◌≡◌, ◌≢◌, ◌+◌, ◌*◌, ◌<◌, ◌≤◌, true, min, None, Ok, Err, OnOk, MatchResult};
+ghost use Rattle.std.specs.Prelude.{◌≡◌, ◌≢◌, ◌+◌, ◌-◌, ◌*◌, ◌<◌, ◌≤◌, true, false, min, replicate, Some, None, Ok, Err, OnOk, MatchResult};
 ghost use Rattle.page_layout.specs.Counter.{counted};
 ghost use Rattle.page_layout.specs.Geometry.{translation_pages, vmax};
 ghost use Rattle.allocation.specs.State.{is_closed, live_at};
@@ -8,22 +8,23 @@ ghost use Rattle.collection.specs.Truth as truth;
 ghost use Rattle.collection.specs.Results.{Refused};
 ghost use Rattle.collection.specs.Collect.{KeepsKeys, Refreshes, GoesBut, IsReleased, IsEmptied, CollectCosts, CollectCounts, IsThrifty};
 ghost use Rattle.collection.specs.Whole.{next_of, step_within, work_left};
+ghost use Rattle.collection.specs.Left.{IsHalfDone, IsFew, HasPassed, PinIsFew};
 ghost use Rattle.collection.specs.Acts.{Acts, Stands};
 
-use super::Engine;
-use super::step::Step;
+use super::step::Progress;
+use super::{Engine, Pinned};
 use crate::fault::WriteFault;
 use onfi_cycles::Nand;
 
 // The page from which the next step goes on: none after the erase.
-fn next_page(step: Step, pages: u32) -> Option<u32>
+fn next_page(step: Progress, pages: u32) -> Option<u32>
     requires { step_within pages step }
     ensures { result ≡ next_of pages step }
 {
     match step {
-        Step::Copied(page) => Some(page + 1),
-        Step::WroteBack => Some(pages),
-        Step::Erased => None,
+        Progress::Copied(page) => Some(page + 1),
+        Progress::WroteBack => Some(pages),
+        Progress::Erased => None,
     }
 }
 
@@ -38,7 +39,53 @@ impl<N: Nand> Engine<N> {
         self.blocks.closed(block)
     }
 
-    // Collects a closed block, whatever fault stands.
+    // Goes on with the collection of the pinned block until it is erased, whatever fault stands.
+    pub(crate) fn collect_from(&mut self, pinned: Pinned, flushing: bool) -> Result<(), WriteFault>
+        requires safe { IsSafe N.flash self.old }
+        requires pinned { self.old.pinned ≡ Some pinned }
+        requires half_done { IsHalfDone (ram self.old) pinned }
+        requires unmarked { (ram self.old).pin.marks ≡ replicate (translation_pages self.old.geometry) false }
+        ensures acts { Acts N.flash N.honest N.calm N.failed self.old self.new result }
+        ensures idle { OnOk result (IsIdle (ram self.new)) }
+        ensures unpinned { OnOk result (self.new.pinned ≡ None) }
+        ensures goes { GoesBut pinned.block (ram self.old) (ram self.new) }
+        ensures released { OnOk result (IsReleased pinned.block (ram self.old).blocks (ram self.new).blocks) }
+        ensures keys { KeepsKeys self.old.mapping self.new.mapping }
+        ensures refreshes { flushing ≡ true → Refreshes (ram self.old) (ram self.new) }
+        ensures cost { CollectCosts flushing (ram self.old) (ram self.new) result }
+        ensures reads { N.reads self.new.nand ≤
+            N.reads self.old.nand + (2 * (self.old.geometry.pages - pinned.first) + min self.old.geometry.pages (translation_pages self.old.geometry)) }
+        ensures erases { OnOk result (N.erases self.new.nand ≡ counted (N.erases self.old.nand)) }
+        ensures less_work { OnOk result (work_left (ram self.new) < work_left (ram self.old)) }
+        ensures truth { N.honest self.old.nand ≡ true → truth.IsTrue None (ram self.old) (image_in N.flash self.old) →
+            HasPassed (ram self.old) (image_in N.flash self.old) pinned →
+            MatchResult result
+            (λ _. IsEmptied pinned.block (ram self.old) (image_in N.flash self.old) (ram self.new) (image_in N.flash self.new))
+            (Refused (ram self.old) (image_in N.flash self.old) (ram self.new) (image_in N.flash self.new)) }
+        ensures count { N.honest self.old.nand ≡ true → truth.IsTrue None (ram self.old) (image_in N.flash self.old) →
+            HasPassed (ram self.old) (image_in N.flash self.old) pinned → IsFew 0 (ram self.old) pinned →
+            CollectCounts (ram self.old) (ram self.new) result }
+        ensures thrifty { N.honest self.old.nand ≡ true → truth.IsTrue None (ram self.old) (image_in N.flash self.old) →
+            HasPassed (ram self.old) (image_in N.flash self.old) pinned → IsFew 0 (ram self.old) pinned →
+            result ≢ Err WriteFault.Bus → IsThrifty (ram self.old) (ram self.new) }
+        ensures few { N.honest self.old.nand ≡ true → truth.IsTrue None (ram self.old) (image_in N.flash self.old) →
+            HasPassed (ram self.old) (image_in N.flash self.old) pinned → IsFew 0 (ram self.old) pinned →
+            result ≢ Err WriteFault.Bus → PinIsFew 0 (ram self.new) }
+    {
+        let block = pinned.block;
+        let pages = self.geometry.pages();
+        let mut first = pinned.first;
+        'steps: loop {
+            let step = self.step_on(Pinned { block, first }, flushing)?;
+            let going_on = next_page(step, pages);
+            let Some(next) = going_on else {
+                return Ok(());
+            };
+            first = next;
+        }
+    }
+
+    // Collects a closed block, whatever fault stands: it is pinned, and unpinned once it is erased.
     pub(crate) fn collect_block(&mut self, block: u32, flushing: bool) -> Result<(), WriteFault>
         requires safe { IsSafe N.flash self.old }
         requires idle { IsIdle (ram self.old) }
@@ -46,6 +93,7 @@ impl<N: Nand> Engine<N> {
         requires closed { is_closed (ram self.old).blocks block ≡ true }
         ensures acts { Acts N.flash N.honest N.calm N.failed self.old self.new result }
         ensures idle { OnOk result (IsIdle (ram self.new)) }
+        ensures unpinned { OnOk result (self.new.pinned ≡ None) }
         ensures goes { GoesBut block (ram self.old) (ram self.new) }
         ensures released { OnOk result (IsReleased block (ram self.old).blocks (ram self.new).blocks) }
         ensures keys { KeepsKeys self.old.mapping self.new.mapping }
@@ -64,17 +112,12 @@ impl<N: Nand> Engine<N> {
         ensures thrifty { N.honest self.old.nand ≡ true → truth.IsTrue None (ram self.old) (image_in N.flash self.old) →
             live_at (ram self.old).blocks block ≤ vmax self.old.geometry → result ≢ Err WriteFault.Bus →
             IsThrifty (ram self.old) (ram self.new) }
+        ensures few { N.honest self.old.nand ≡ true → truth.IsTrue None (ram self.old) (image_in N.flash self.old) →
+            live_at (ram self.old).blocks block ≤ vmax self.old.geometry → result ≢ Err WriteFault.Bus → PinIsFew 0 (ram self.new) }
     {
-        let pages = self.geometry.pages();
-        let mut first = 0;
-        'steps: loop {
-            let step = self.collect_step(block, first, flushing)?;
-            let going_on = next_page(step, pages);
-            let Some(next) = going_on else {
-                return Ok(());
-            };
-            first = next;
-        }
+        let pinned = Pinned { block, first: 0 };
+        self.pinned = Some(pinned);
+        self.collect_from(pinned, flushing)
     }
 
     /// Collects a closed block. Its pages that are the newest of their keys are copied by rising row,
@@ -100,17 +143,19 @@ impl<N: Nand> Engine<N> {
     /// Those of `write_back`, as there; each stands. After `ReadOnly` and `SequenceSpent` the array is
     /// as it was, and the block is as it was but for pages that were copied.
     ///
-    /// It takes no memory.
+    /// The block is pinned meanwhile, and stays so where a step is refused. It takes no memory.
     ///
     /// Source: the garbage collection of the DFTL paper, with its lazy copying and batch updates; the
     /// moved sectors and flushing are this project's.
     pub fn collect(&mut self, block: u32, flushing: bool) -> Result<(), WriteFault>
         requires safe { IsSafe N.flash self.old }
         requires idle { self.old.fault ≡ None → IsIdle (ram self.old) }
+        requires unpinned { self.old.pinned ≡ None }
         requires block { block < self.old.geometry.blocks }
         requires closed { is_closed (ram self.old).blocks block ≡ true }
         ensures stands { Stands N.flash N.honest N.calm N.failed self.old self.new result }
         ensures idle { OnOk result (IsIdle (ram self.new)) }
+        ensures unpinned { OnOk result (self.new.pinned ≡ None) }
         ensures goes { GoesBut block (ram self.old) (ram self.new) }
         ensures released { OnOk result (IsReleased block (ram self.old).blocks (ram self.new).blocks) }
         ensures keys { KeepsKeys self.old.mapping self.new.mapping }

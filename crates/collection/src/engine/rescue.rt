@@ -1,16 +1,17 @@
 //! Pages are copied out of bad blocks.
-ghost use Rattle.std.specs.Prelude.{◌≡◌, ◌<◌, true, false, [], None, Ok, IfOk, OnOk, MatchResult};
+ghost use Rattle.std.specs.Prelude.{◌≡◌, ◌+◌, ◌<◌, ◌≤◌, true, false, length, Some, None, Ok, Err, IfOk, OnOk, OnErr, MatchResult};
 ghost use Rattle.std.specs.Bool.{OnTrue, OnFalse};
 ghost use Rattle.std.specs.Option.{ForSome};
 ghost use Rattle.page_layout.specs.Geometry.{row_count};
 ghost use Rattle.page_layout.specs.Live.{IsKeyOf};
 ghost use Rattle.bad_blocks.specs.Table.{is_good_at};
 ghost use Rattle.allocation.specs.State.{live_at};
-ghost use Rattle.collection.specs.Safe.{IsSafe, IsIdle, ram, image_in, page_in};
+ghost use Rattle.collection.specs.Safe.{IsSafe, ram, image_in, page_in};
+ghost use Rattle.collection.specs.Left.{LeavesPin};
 ghost use Rattle.collection.specs.Truth as truth;
 ghost use Rattle.collection.specs.Live.{IsFoundIn};
 ghost use Rattle.collection.specs.Results.{IsSame, Refused, Goes};
-ghost use Rattle.collection.specs.Collect.{KeepsKeys, IsAiling, HasAiling, HasNoneAiling, FollowCosts, HasMovedOnly, RescueCosts, IsRescued, FindsAiling};
+ghost use Rattle.collection.specs.Collect.{KeepsKeys, IsAiling, HasAiling, HasNoneAiling, FollowCosts, IsFollowed, RescueCosts, IsRescued, FindsAiling};
 ghost use Rattle.collection.specs.Acts.{OnlyLooks, Acts, Stands};
 
 use super::Engine;
@@ -79,7 +80,8 @@ impl<N: Nand> Engine<N> {
         ensures erases { N.erases self.new.nand ≡ N.erases self.old.nand }
         ensures keys { KeepsKeys self.old.mapping self.new.mapping }
         ensures pin { (ram self.new).pin ≡ (ram self.old).pin }
-        ensures moved { HasMovedOnly self.old.mapping key → OnOk result (self.new.mapping.moved ≡ []) }
+        ensures followed { OnOk result (IsFollowed key self.old.mapping self.new.mapping) }
+        ensures unmoved { OnErr result (self.new.mapping ≡ self.old.mapping) }
         ensures cost { FollowCosts (ram self.old) (ram self.new) result }
         ensures truth { N.honest self.old.nand ≡ true → truth.IsTrue None (ram self.old) (image_in N.flash self.old) →
             MatchResult result (λ _. IsSame (ram self.old) (image_in N.flash self.old) (ram self.new) (image_in N.flash self.new)) (Refused (ram self.old) (image_in N.flash self.old) (ram self.new) (image_in N.flash self.new)) }
@@ -97,16 +99,22 @@ impl<N: Nand> Engine<N> {
     // Copies the live page of lowest row in a bad block out of it, whatever fault stands.
     fn rescue(&mut self) -> Result<bool, WriteFault>
         requires safe { IsSafe N.flash self.old }
-        requires idle { IsIdle (ram self.old) }
         ensures acts { Acts N.flash N.honest N.calm N.failed self.old self.new result }
         ensures goes { Goes (ram self.old) (ram self.new) }
         ensures erases { N.erases self.new.nand ≡ N.erases self.old.nand }
         ensures keys { KeepsKeys self.old.mapping self.new.mapping }
-        ensures idle { OnOk result (IsIdle (ram self.new)) }
+        ensures beside { OnOk result (LeavesPin (ram self.old) (ram self.new)) }
+        ensures pin { (ram self.new).pin ≡ (ram self.old).pin }
+        ensures one_more { length self.new.mapping.moved ≤ length self.old.mapping.moved + 1 }
+        ensures full { length self.old.mapping.moved ≡ self.old.geometry.pages → (result ≡ Err WriteFault.Damaged) × (self.new ≡ self.old) }
         ensures cost { RescueCosts (ram self.old) (ram self.new) result }
         ensures truth { N.honest self.old.nand ≡ true → truth.IsTrue None (ram self.old) (image_in N.flash self.old) →
+            length self.old.mapping.moved < self.old.geometry.pages →
             MatchResult result (IsRescued (ram self.old) (image_in N.flash self.old) (ram self.new) (image_in N.flash self.new)) (Refused (ram self.old) (image_in N.flash self.old) (ram self.new) (image_in N.flash self.new)) }
     {
+        if self.mapping.moved_count() >= self.geometry.pages() {
+            return Err(WriteFault::Damaged);
+        }
         let ailing = self.first_ailing()?;
         let Some((row, found)) = ailing else {
             return Ok(false);
@@ -121,23 +129,29 @@ impl<N: Nand> Engine<N> {
     /// translation page is written back.
     ///
     /// The array stays, and so do the sectors that are cached, and their order; no block is erased, and
-    /// no bad block gets a page. No sector is moved afterwards.
+    /// no bad block gets a page. No more sectors are moved afterwards, and a pinned block stays so.
     ///
     /// # Errors
     ///
-    /// Those of `write_back`, as there; each stands.
+    /// Those of `write_back`, as there; each stands. `Damaged` also where as many sectors are moved as a
+    /// block has pages: the die isn't asked then. It is never so where the pinned block had at most
+    /// `Geometry::vmax` live pages.
     ///
     /// It takes no memory. (This project.)
     pub fn rescue_one(&mut self) -> Result<bool, WriteFault>
         requires safe { IsSafe N.flash self.old }
-        requires idle { self.old.fault ≡ None → IsIdle (ram self.old) }
         ensures stands { Stands N.flash N.honest N.calm N.failed self.old self.new result }
-        ensures idle { OnOk result (IsIdle (ram self.new)) }
+        ensures beside { OnOk result (LeavesPin (ram self.old) (ram self.new)) }
+        ensures pin { (ram self.new).pin ≡ (ram self.old).pin }
+        ensures one_more { length self.new.mapping.moved ≤ length self.old.mapping.moved + 1 }
+        ensures full { self.old.fault ≡ None → length self.old.mapping.moved ≡ self.old.geometry.pages →
+            (result ≡ Err WriteFault.Damaged) × (self.new ≡ record self.old { fault = Some WriteFault.Damaged }) }
         ensures goes { Goes (ram self.old) (ram self.new) }
         ensures erases { N.erases self.new.nand ≡ N.erases self.old.nand }
         ensures keys { KeepsKeys self.old.mapping self.new.mapping }
         ensures cost { self.old.fault ≡ None → RescueCosts (ram self.old) (ram self.new) result }
         ensures truth { N.honest self.old.nand ≡ true → self.old.fault ≡ None → truth.IsTrue None (ram self.old) (image_in N.flash self.old) →
+            length self.old.mapping.moved < self.old.geometry.pages →
             MatchResult result
             (IsRescued (ram self.old) (image_in N.flash self.old) (ram self.new) (image_in N.flash self.new))
             (Refused (ram self.old) (image_in N.flash self.old) (ram self.new) (image_in N.flash self.new)) }

@@ -1,13 +1,14 @@
 //! Free blocks are what a call needs before it programs.
-ghost use Rattle.std.specs.Prelude.{◌≡◌, ℕ, ◌<◌, ◌≤◌, true, Err, None, OnOk, IfErr, MatchResult, MatchOption};
+ghost use Rattle.std.specs.Prelude.{◌≡◌, ◌≢◌, ◌⊎◌, ℕ, ◌<◌, ◌≤◌, true, Err, None, OnOk, IfErr, MatchResult, MatchOption};
 ghost use Rattle.budget.specs.Spending.{IsFunded};
 ghost use Rattle.allocation.specs.State.{free_count};
 ghost use Rattle.allocation.specs.Counts.{counts_of};
-ghost use Rattle.collection.specs.Safe.{IsSafe, IsIdle, ram, image_in};
+ghost use Rattle.collection.specs.Safe.{IsSafe, ram, image_in};
 ghost use Rattle.collection.specs.Truth as truth;
-ghost use Rattle.collection.specs.Collect.{KeepsKeys, Refreshes, GoesOn, HasRoom, RestsOrErases, RoomTells, IsRearranged, RoomRefused, RoomCounts};
-ghost use Rattle.collection.specs.Room.{IsMade, IsWorth};
-ghost use Rattle.collection.specs.Acts.{Acts, Stands};
+ghost use Rattle.collection.specs.Collect.{KeepsKeys, Refreshes, GoesOn, HasRoom, RoomTells, IsRearranged, RoomRefused, RoomCounts};
+ghost use Rattle.collection.specs.Room.{IsMade, IsWorth, IsFundedOn};
+ghost use Rattle.collection.specs.Left.{IsCalm, PinHasPassed, PinIsFew};
+ghost use Rattle.collection.specs.Acts.{Acts, Stands, RestsOrErases};
 
 use super::Engine;
 use crate::fault::WriteFault;
@@ -22,13 +23,14 @@ pub const LEAST_FREE: u32 = 5;
 pub const RESERVE: u32 = 9;
 
 impl<N: Nand> Engine<N> {
-    // The block that is collected next to make room: where fewer than nine are free, the next victim,
-    // if it has few live pages.
-    fn next_worth(&self) -> Option<u32>
+    /// The block that is worth collecting, where fewer than nine blocks and `more` are free: the next
+    /// victim, if it has at most `Geometry::vmax` live pages. (This project.)
+    pub fn worth(&self, more: u32) -> Option<u32>
         requires safe { IsSafe N.flash self.now }
-        ensures { MatchOption result (IsMade (ram self.now)) (IsWorth (ram self.now)) }
+        requires more { more ≤ 3 }
+        ensures { MatchOption result (IsMade more (ram self.now)) (IsWorth more (ram self.now)) }
     {
-        if self.blocks.free() >= RESERVE {
+        if self.blocks.free() >= RESERVE + more {
             return None;
         }
         let victim = self.blocks.victim();
@@ -50,28 +52,69 @@ impl<N: Nand> Engine<N> {
         Ok(())
     }
 
-    // Collects until nine blocks are free or none is worth it, whatever fault stands.
-    fn regain(&mut self, flushing: bool) -> Result<(), WriteFault>
+    // Finishes the collection of the pinned block, where there is one and fewer than nine blocks are
+    // free, whatever fault stands.
+    fn finish(&mut self, flushing: bool) -> Result<(), WriteFault>
         requires safe { IsSafe N.flash self.old }
-        requires idle { IsIdle (ram self.old) }
+        requires calm { IsCalm (ram self.old) }
         ensures acts { Acts N.flash N.honest N.calm N.failed self.old self.new result }
-        ensures idle { OnOk result (IsIdle (ram self.new)) }
+        ensures calm { OnOk result (IsCalm (ram self.new)) }
+        ensures unpinned { OnOk result ((9 ≤ free_count (ram self.new).blocks) ⊎ (self.new.pinned ≡ None)) }
         ensures goes { GoesOn (ram self.old) (ram self.new) }
         ensures keys { KeepsKeys self.old.mapping self.new.mapping }
         ensures refreshes { flushing ≡ true → Refreshes (ram self.old) (ram self.new) }
-        ensures room { OnOk result (HasRoom (ram self.new)) }
-        ensures erases { OnOk result (RestsOrErases (ram self.old) (ram self.new) (N.erases self.old.nand) (N.erases self.new.nand)) }
+        ensures erases { OnOk result (RestsOrErases N.erases self.old self.new) }
         ensures tells { IfErr result (RoomTells (ram self.new)) }
         ensures truth { N.honest self.old.nand ≡ true → truth.IsTrue None (ram self.old) (image_in N.flash self.old) →
+            PinHasPassed (ram self.old) (image_in N.flash self.old) →
             MatchResult result
             (λ _. IsRearranged (ram self.old) (image_in N.flash self.old) (ram self.new) (image_in N.flash self.new))
             (RoomRefused (ram self.old) (image_in N.flash self.old) (ram self.new) (image_in N.flash self.new)) }
         ensures count { N.honest self.old.nand ≡ true → truth.IsTrue None (ram self.old) (image_in N.flash self.old) →
+            PinHasPassed (ram self.old) (image_in N.flash self.old) → PinIsFew 0 (ram self.old) →
+            (failures : ℕ) → IsFunded self.old.geometry.pages failures (counts_of (ram self.old).blocks) →
+            MatchResult result
+            (λ _. IsFundedOn failures (ram self.old) (ram self.new))
+            (λ fault. RoomCounts failures (ram self.old) (ram self.new) (Err fault)) }
+        ensures few { N.honest self.old.nand ≡ true → truth.IsTrue None (ram self.old) (image_in N.flash self.old) →
+            PinHasPassed (ram self.old) (image_in N.flash self.old) → PinIsFew 0 (ram self.old) →
+            result ≢ Err WriteFault.Bus → PinIsFew 0 (ram self.new) }
+    {
+        match self.pinned {
+            Some(pinned) if self.blocks.free() < RESERVE => self.collect_from(pinned, flushing),
+            _ => Ok(()),
+        }
+    }
+
+    // Finishes the pinned block, and collects until nine blocks are free or none is worth it, whatever
+    // fault stands.
+    fn regain(&mut self, flushing: bool) -> Result<(), WriteFault>
+        requires safe { IsSafe N.flash self.old }
+        requires calm { IsCalm (ram self.old) }
+        ensures acts { Acts N.flash N.honest N.calm N.failed self.old self.new result }
+        ensures calm { OnOk result (IsCalm (ram self.new)) }
+        ensures goes { GoesOn (ram self.old) (ram self.new) }
+        ensures keys { KeepsKeys self.old.mapping self.new.mapping }
+        ensures refreshes { flushing ≡ true → Refreshes (ram self.old) (ram self.new) }
+        ensures room { OnOk result (HasRoom (ram self.new)) }
+        ensures erases { OnOk result (RestsOrErases N.erases self.old self.new) }
+        ensures tells { IfErr result (RoomTells (ram self.new)) }
+        ensures truth { N.honest self.old.nand ≡ true → truth.IsTrue None (ram self.old) (image_in N.flash self.old) →
+            PinHasPassed (ram self.old) (image_in N.flash self.old) →
+            MatchResult result
+            (λ _. IsRearranged (ram self.old) (image_in N.flash self.old) (ram self.new) (image_in N.flash self.new))
+            (RoomRefused (ram self.old) (image_in N.flash self.old) (ram self.new) (image_in N.flash self.new)) }
+        ensures count { N.honest self.old.nand ≡ true → truth.IsTrue None (ram self.old) (image_in N.flash self.old) →
+            PinHasPassed (ram self.old) (image_in N.flash self.old) → PinIsFew 0 (ram self.old) →
             (failures : ℕ) → IsFunded self.old.geometry.pages failures (counts_of (ram self.old).blocks) →
             RoomCounts failures (ram self.old) (ram self.new) result }
+        ensures few { N.honest self.old.nand ≡ true → truth.IsTrue None (ram self.old) (image_in N.flash self.old) →
+            PinHasPassed (ram self.old) (image_in N.flash self.old) → PinIsFew 0 (ram self.old) →
+            result ≢ Err WriteFault.Bus → PinIsFew 0 (ram self.new) }
     {
+        self.finish(flushing)?;
         'rounds: loop {
-            let worth = self.next_worth();
+            let worth = self.worth(0);
             let Some(block) = worth else {
                 return self.enough();
             };
@@ -79,21 +122,23 @@ impl<N: Nand> Engine<N> {
         }
     }
 
-    /// Sees that there are free blocks enough for a call that programs: while fewer than nine are free
-    /// and the closed block of fewest live pages has at most `Geometry::vmax`, it is collected, in a
-    /// flush as `collect` does there. Afterwards at least five blocks are free.
+    /// Sees that there are free blocks enough for a call that programs: where fewer than nine are free,
+    /// the collection of the pinned block is finished; then, while fewer than nine are free and the
+    /// closed block of fewest live pages has at most `Geometry::vmax`, it is collected, in a flush as
+    /// `collect` does there. Afterwards at least five blocks are free.
     ///
     /// The array stays, and so do the sectors that are cached, and their order; bad blocks stay as they
-    /// are, and get no page. No sector is moved afterwards; while flushing, a translation page that
-    /// lacked no row lacks none.
+    /// are, and get no page. Where a block was erased, none is pinned and no sector is moved
+    /// afterwards; else nothing has changed. While flushing, a translation page that lacked no row
+    /// lacks none.
     ///
     /// With five free blocks as a call begins, nine are free afterwards unless fewer than
     /// `Geometry::need` are good.
     ///
     /// # Errors
     ///
-    /// Each stands: `put`, `write_back`, `collect`, `make_room`, `rescue_one`, `write_sector` and
-    /// `trim_sector` answer it again from then on, and change nothing.
+    /// Each stands: `put`, `write_back`, `collect`, `step`, `make_room`, `rescue_one`, `write_sector`
+    /// and `trim_sector` answer it again from then on, and change nothing.
     ///
     /// - `ReadOnly` where fewer than five blocks are free. With five as the call began, fewer than
     ///   `Geometry::need` blocks are good then, or three have failed in the call. The array is as it was.
@@ -102,22 +147,27 @@ impl<N: Nand> Engine<N> {
     /// It takes no memory. (This project.)
     pub fn make_room(&mut self, flushing: bool) -> Result<(), WriteFault>
         requires safe { IsSafe N.flash self.old }
-        requires idle { self.old.fault ≡ None → IsIdle (ram self.old) }
+        requires calm { self.old.fault ≡ None → IsCalm (ram self.old) }
         ensures stands { Stands N.flash N.honest N.calm N.failed self.old self.new result }
-        ensures idle { OnOk result (IsIdle (ram self.new)) }
+        ensures calm { OnOk result (IsCalm (ram self.new)) }
         ensures goes { GoesOn (ram self.old) (ram self.new) }
         ensures keys { KeepsKeys self.old.mapping self.new.mapping }
         ensures refreshes { flushing ≡ true → Refreshes (ram self.old) (ram self.new) }
         ensures room { OnOk result (HasRoom (ram self.new)) }
-        ensures erases { OnOk result (RestsOrErases (ram self.old) (ram self.new) (N.erases self.old.nand) (N.erases self.new.nand)) }
+        ensures erases { OnOk result (RestsOrErases N.erases self.old self.new) }
         ensures tells { self.old.fault ≡ None → IfErr result (RoomTells (ram self.new)) }
         ensures truth { N.honest self.old.nand ≡ true → self.old.fault ≡ None → truth.IsTrue None (ram self.old) (image_in N.flash self.old) →
+            PinHasPassed (ram self.old) (image_in N.flash self.old) →
             MatchResult result
             (λ _. IsRearranged (ram self.old) (image_in N.flash self.old) (ram self.new) (image_in N.flash self.new))
             (RoomRefused (ram self.old) (image_in N.flash self.old) (ram self.new) (image_in N.flash self.new)) }
         ensures count { N.honest self.old.nand ≡ true → self.old.fault ≡ None → truth.IsTrue None (ram self.old) (image_in N.flash self.old) →
+            PinHasPassed (ram self.old) (image_in N.flash self.old) → PinIsFew 0 (ram self.old) →
             (failures : ℕ) → IsFunded self.old.geometry.pages failures (counts_of (ram self.old).blocks) →
             RoomCounts failures (ram self.old) (ram self.new) result }
+        ensures few { N.honest self.old.nand ≡ true → self.old.fault ≡ None → truth.IsTrue None (ram self.old) (image_in N.flash self.old) →
+            PinHasPassed (ram self.old) (image_in N.flash self.old) → PinIsFew 0 (ram self.old) →
+            result ≢ Err WriteFault.Bus → PinIsFew 0 (ram self.new) }
     {
         self.standing()?;
         let answer = self.regain(flushing);

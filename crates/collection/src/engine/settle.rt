@@ -106,6 +106,7 @@ impl<N: Nand> Engine<N> {
         ensures pin { (ram self.new).pin ≡ (ram self.old).pin }
         ensures keys { keys_of self.new.mapping.cached ≡ keys_of self.old.mapping.cached }
         ensures no_more { HasNoMore self.old.mapping self.new.mapping }
+        ensures moved { self.new.mapping.moved ≡ self.old.mapping.moved }
         ensures programmed { OnOk result (IsLastPage kind sector (ram self.new) (page_in self.new.page)) }
         ensures cost { PageCosts (stream_of kind) (ram self.old) (ram self.new) result }
         ensures truth { N.honest self.old.nand ≡ true → IsTrue None (ram self.old) (image_in N.flash self.old) →

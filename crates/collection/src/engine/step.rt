@@ -1,6 +1,6 @@
 //! A block is collected step by step.
 ghost use Rattle.std.specs.Prelude.{◌≡◌, ◌≢◌, ℕ, ◌⊎◌, ◌+◌, ◌-◌, ◌*◌, ◌/◌, ◌<◌, ◌≤◌, true, false, [], min, length, replicate, slice_set, Some, None};
-ghost use Rattle.std.specs.Prelude.{Ok, Err, IfOk, IfErr, OnOk, OnErr, MatchResult, MatchOption};
+ghost use Rattle.std.specs.Prelude.{Ok, Err, IfOk, IfErr, IfSome, OnOk, OnErr, MatchResult, MatchOption};
 ghost use Rattle.std.specs.Option.{ForSome};
 ghost use Rattle.page_layout.specs.Counter.{counted};
 ghost use Rattle.page_layout.specs.Change.{HoldsNone};
@@ -14,7 +14,9 @@ ghost use Rattle.collection.specs.Live.{HoldsNoneIn, IsLivePage};
 ghost use Rattle.collection.specs.Results.{IsSame, IsKept, Refused, Goes, IsLastPage};
 ghost use Rattle.collection.specs.Whole.{erases_after};
 ghost use Rattle.collection.specs.Collect.{has_moved, due_count, marks_after, IsLowestDue, HasNoneDue, Refreshes, KeepsKeys};
-ghost use Rattle.collection.specs.Collect.{GoesBut, HasCopied, HasWritten, HasErased, IsReleased, FaultCosts, HasMovedOnly, StepCosts, IsMovedOut};
+ghost use Rattle.collection.specs.Settle.{SetsMapping};
+ghost use Rattle.collection.specs.Left.{TouchesNoMore};
+ghost use Rattle.collection.specs.Collect.{GoesBut, HasCopied, HasWritten, HasErased, IsReleased, FaultCosts, StepCosts, IsMovedOut};
 ghost use Rattle.collection.specs.Collect.{IsCopiedOr, IsStepped};
 ghost use Rattle.collection.specs.Acts.{Acts, OnlyPrograms};
 
@@ -24,14 +26,14 @@ use mapping_cache::Mapping;
 use onfi_cycles::{Nand, Outcome};
 use page_layout::record::{Key, Record};
 
-/// What one step of a collection did. (This project.)
+// What one step of a collection did.
 #[derive(Clone, Copy, Debug, PartialEq, Eq)]
-pub(crate) enum Step {
-    /// The block's first page that was the newest of its key was copied: this one.
+pub(crate) enum Progress {
+    // The block's first page that was the newest of its key was copied: this one.
     Copied(u32),
-    /// A translation page was written back.
+    // A translation page was written back.
     WroteBack,
-    /// The block was erased, or has failed.
+    // The block was erased, or has failed.
     Erased,
 }
 
@@ -91,7 +93,12 @@ impl<N: Nand> Engine<N> {
         ensures refreshes { flushing ≡ true → Refreshes (ram self.old) (ram self.new) }
         ensures cost { MatchResult result (λ _. HasCopied flushing (ram self.old) (ram self.new)) (FaultCosts (ram self.old) (ram self.new)) }
         ensures pinned { flushing ≡ false → (ram self.new).pin ≡ (ram self.old).pin }
-        ensures alone { self.old.mapping.moved ≡ [] → OnOk result (HasMovedOnly self.new.mapping (key_of found.now)) }
+        ensures pin { (ram self.new).pin.block ≡ (ram self.old).pin.block }
+        ensures settled { OnOk result ((at : ℕ) × SetsMapping (key_of found.now) at self.old.mapping self.new.mapping) }
+        ensures unmoved { OnErr result (self.new.mapping ≡ self.old.mapping) }
+        ensures touched { N.honest self.old.nand ≡ true → truth.IsTrue None (ram self.old) (image_in N.flash self.old) →
+            IsLivePage row self.old.page.body.items found.now (image_in N.flash self.old) →
+            OnOk result (TouchesNoMore flushing (row / self.old.geometry.pages) (ram self.old) (image_in N.flash self.old) (ram self.new)) }
         ensures programmed { OnOk result (IsLastPage found.now.kind found.now.number (ram self.new) (page_in self.new.page)) }
         ensures truth { N.honest self.old.nand ≡ true → truth.IsTrue None (ram self.old) (image_in N.flash self.old) →
             is_shut (ram self.old).blocks (row / self.old.geometry.pages) ≡ true →
@@ -126,7 +133,12 @@ impl<N: Nand> Engine<N> {
         ensures refreshes { flushing ≡ true → Refreshes (ram self.old) (ram self.new) }
         ensures none { result ≡ Ok None → ram self.new ≡ ram self.old }
         ensures within { IfOk result (λ copied. ForSome copied (λ page. (first ≤ page) × (page < self.old.geometry.pages))) }
+        ensures pin { (ram self.new).pin.block ≡ (ram self.old).pin.block }
+        ensures unmoved { OnErr result (self.new.mapping ≡ self.old.mapping) }
         ensures owed { result ≡ Err WriteFault.ReadOnly → 0 < live_at (ram self.old).blocks block }
+        ensures unmarked { flushing ≡ false → OnOk result ((ram self.new).pin ≡ (ram self.old).pin) }
+        ensures touched { N.honest self.old.nand ≡ true → truth.IsTrue None (ram self.old) (image_in N.flash self.old) →
+            IfOk result (λ copied. IfSome copied (λ _. TouchesNoMore flushing block (ram self.old) (image_in N.flash self.old) (ram self.new))) }
         ensures cost { MatchResult result (λ copied. ForSome copied (λ _. HasCopied flushing (ram self.old) (ram self.new))) (FaultCosts (ram self.old) (ram self.new)) }
         ensures truth { N.honest self.old.nand ≡ true → truth.IsTrue None (ram self.old) (image_in N.flash self.old) →
             HoldsNoneIn self.old.geometry.pages block 0 first (image_in N.flash self.old) →
@@ -169,6 +181,10 @@ impl<N: Nand> Engine<N> {
         ensures keys { KeepsKeys self.old.mapping self.new.mapping }
         ensures refreshes { flushing ≡ true → Refreshes (ram self.old) (ram self.new) }
         ensures none { result ≡ Ok false → HasNoneDue flushing (ram self.old) × (self.new ≡ self.old) }
+        ensures pin { (ram self.new).pin.block ≡ (ram self.old).pin.block }
+        ensures unmoved { OnErr result (self.new.mapping ≡ self.old.mapping) }
+        ensures unmarked { (ram self.old).pin.marks ≡ replicate (translation_pages self.old.geometry) false →
+            OnOk result ((ram self.new).pin.marks ≡ replicate (translation_pages self.old.geometry) false) }
         ensures owed { result ≡ Err WriteFault.ReadOnly → 0 < due_count flushing (ram self.old) }
         ensures cost { MatchResult result (λ written. written ≡ true → HasWritten flushing (ram self.old) (ram self.new)) (FaultCosts (ram self.old) (ram self.new)) }
         ensures truth { N.honest self.old.nand ≡ true → truth.IsTrue None (ram self.old) (image_in N.flash self.old) →
@@ -193,6 +209,7 @@ impl<N: Nand> Engine<N> {
         ensures acts { Acts N.flash N.honest N.calm N.failed self.old self.new result }
         ensures goes { GoesBut block (ram self.old) (ram self.new) }
         ensures erased { OnOk result (HasErased block (ram self.old) (ram self.new)) }
+        ensures pin { (ram self.new).pin.block ≡ (ram self.old).pin.block }
         ensures unmarked { OnOk result ((ram self.new).pin.marks ≡ replicate (translation_pages self.old.geometry) false) }
         ensures released { OnOk result (IsReleased block (ram self.old).blocks (ram self.new).blocks) }
         ensures refused { OnErr result (ram self.new ≡ ram self.old) }
@@ -227,21 +244,25 @@ impl<N: Nand> Engine<N> {
         block: u32,
         first: u32,
         flushing: bool,
-    ) -> Result<Step, WriteFault>
+    ) -> Result<Progress, WriteFault>
         requires safe { IsSafe N.flash self.old }
         requires block { block < self.old.geometry.blocks }
         requires closed { is_closed (ram self.old).blocks block ≡ true }
         requires room { length self.old.mapping.moved ≤ first }
         ensures acts { Acts N.flash N.honest N.calm N.failed self.old self.new result }
         ensures goes { GoesBut block (ram self.old) (ram self.new) }
-        ensures goes_still { result ≢ Ok Step.Erased → Goes (ram self.old) (ram self.new) }
+        ensures goes_still { result ≢ Ok Progress.Erased → Goes (ram self.old) (ram self.new) }
         ensures keys { KeepsKeys self.old.mapping self.new.mapping }
         ensures refreshes { flushing ≡ true → Refreshes (ram self.old) (ram self.new) }
-        ensures idle { result ≡ Ok Step.Erased → IsIdle (ram self.new) }
-        ensures released { result ≡ Ok Step.Erased → IsReleased block (ram self.old).blocks (ram self.new).blocks }
+        ensures pin { (ram self.new).pin.block ≡ (ram self.old).pin.block }
+        ensures unmoved { OnErr result (self.new.mapping ≡ self.old.mapping) }
+        ensures unmarked { flushing ≡ false → (ram self.old).pin.marks ≡ replicate (translation_pages self.old.geometry) false →
+            OnOk result ((ram self.new).pin.marks ≡ replicate (translation_pages self.old.geometry) false) }
+        ensures idle { result ≡ Ok Progress.Erased → IsIdle (ram self.new) }
+        ensures released { result ≡ Ok Progress.Erased → IsReleased block (ram self.old).blocks (ram self.new).blocks }
         ensures reads { N.reads self.new.nand ≤
             N.reads self.old.nand + (2 * (self.old.geometry.pages - first) + min (due_count flushing (ram self.old)) 1) }
-        ensures copied_reads { (page : ℕ) → result ≡ Ok (Step.Copied page) → N.reads self.new.nand ≤ N.reads self.old.nand + 2 * (page + 1 - first) }
+        ensures copied_reads { (page : ℕ) → result ≡ Ok (Progress.Copied page) → N.reads self.new.nand ≤ N.reads self.old.nand + 2 * (page + 1 - first) }
         ensures erases { IfOk result (λ step. N.erases self.new.nand ≡ erases_after step (N.erases self.old.nand)) }
         ensures owed { result ≡ Err WriteFault.ReadOnly → (0 < live_at (ram self.old).blocks block) ⊎ (0 < due_count flushing (ram self.old)) }
         ensures cost { StepCosts flushing block first (ram self.old) (ram self.new) result }
@@ -250,16 +271,19 @@ impl<N: Nand> Engine<N> {
             MatchResult result
             (IsStepped block (ram self.old) (image_in N.flash self.old) (ram self.new) (image_in N.flash self.new))
             (Refused (ram self.old) (image_in N.flash self.old) (ram self.new) (image_in N.flash self.new)) }
+        ensures touched { N.honest self.old.nand ≡ true → truth.IsTrue None (ram self.old) (image_in N.flash self.old) →
+            (page : ℕ) → result ≡ Ok (Progress.Copied page) →
+            TouchesNoMore flushing block (ram self.old) (image_in N.flash self.old) (ram self.new) }
     {
         let copied = self.copy_lowest(block, first, flushing)?;
         if let Some(page) = copied {
-            return Ok(Step::Copied(page));
+            return Ok(Progress::Copied(page));
         }
         let written = self.write_back_lowest(flushing)?;
         if written {
-            return Ok(Step::WroteBack);
+            return Ok(Progress::WroteBack);
         }
         self.erase_block(block)?;
-        Ok(Step::Erased)
+        Ok(Progress::Erased)
     }
 }

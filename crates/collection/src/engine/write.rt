@@ -38,6 +38,7 @@ impl<N: Nand> Engine<N> {
         ensures pin { (ram self.new).pin ≡ (ram self.old).pin }
         ensures keys { keys_of self.new.mapping.cached ≡ keys_of self.old.mapping.cached }
         ensures no_more { HasNoMore self.old.mapping self.new.mapping }
+        ensures moved { self.new.mapping.moved ≡ self.old.mapping.moved }
         ensures page { self.old.fault ≡ None → self.new.page.body.items ≡ body.now }
         ensures scratch { self.new.scratch ≡ self.old.scratch }
         ensures programmed { OnOk result (IsLastPage Kind.Sector sector (ram self.new) (page_in self.new.page)) }
@@ -72,6 +73,7 @@ impl<N: Nand> Engine<N> {
         ensures pin { (ram self.new).pin ≡ (ram self.old).pin }
         ensures keys { keys_of self.new.mapping.cached ≡ keys_of self.old.mapping.cached }
         ensures no_more { HasNoMore self.old.mapping self.new.mapping }
+        ensures moved { self.new.mapping.moved ≡ self.old.mapping.moved }
         ensures page { self.old.fault ≡ None → self.new.page.body.items ≡ zeros self.old.geometry }
         ensures scratch { self.new.scratch ≡ self.old.scratch }
         ensures programmed { OnOk result (IsLastPage Kind.Trim sector (ram self.new) (page_in self.new.page)) }

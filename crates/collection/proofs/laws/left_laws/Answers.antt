@@ -1,0 +1,20 @@
+use Rattle.collection.proofs.Lefts.{pin_law, left_law, kept_law, passed_law, copy_law, write_law}
+use Rattle.collection.proofs.laws.left_laws.Goals as goal
+
+pub returns-clause-pinned : goal.returns-clause-pinned
+returns-clause-pinned c = pin_law
+
+pub returns-clause-below : goal.returns-clause-below
+returns-clause-below c = left_law
+
+pub returns-clause-kept : goal.returns-clause-kept
+returns-clause-kept c = kept_law
+
+pub returns-clause-passed : goal.returns-clause-passed
+returns-clause-passed c = passed_law
+
+pub returns-clause-copied : goal.returns-clause-copied
+returns-clause-copied c = copy_law
+
+pub returns-clause-written : goal.returns-clause-written
+returns-clause-written c = write_law

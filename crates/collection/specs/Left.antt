@@ -1,0 +1,167 @@
+-- A block that is collected from turn to turn, and how much of its collection is left.
+use Rattle.std.specs.Prelude.{◌≡◌, ◌≢◌, ◌⊎◌, ℕ, ◌+◌, ◌-◌, ◌*◌, ◌/◌, ◌<◌, ◌≤◌, ◌==◌, ◌||◌, Bool, true, false, not, List, [], length, replicate, filter, count_by, Option, Some, None, Result, Ok, Err, MatchOption}
+use Rattle.std.specs.List.{range_with_len}
+use Rattle.std.specs.Option.{ForSome}
+use Rattle.page_layout.specs.declared.geometry.Geometry.{Geometry}
+use Rattle.page_layout.specs.declared.record.Key.TheVariants.{Sector}
+use Rattle.page_layout.specs.Page.{Image}
+use Rattle.page_layout.specs.Geometry.{translation_pages, entries, vmax}
+use Rattle.page_layout.specs.Live.{is_in_block}
+use Rattle.allocation.specs.State.{live_at, is_closed}
+use Rattle.mapping_cache.specs.Mapping.{MappingState}
+use Rattle.collection.specs.declared.engine.Pinned.{Pinned}
+use Rattle.collection.specs.declared.engine.step.Progress.{Progress}
+use Rattle.collection.specs.declared.engine.step.Progress.TheVariants as progress
+use Rattle.collection.specs.declared.engine.turns.Step.{Step}
+use Rattle.collection.specs.declared.engine.turns.Step.TheVariants.{Copied, WroteBack, Erased}
+use Rattle.collection.specs.declared.fault.WriteFault.{WriteFault}
+use Rattle.collection.specs.State.{Ram}
+use Rattle.collection.specs.Pages.{newest_row}
+use Rattle.collection.specs.Live.{HoldsNoneIn}
+use Rattle.collection.specs.Safe.{IsRam}
+use Rattle.collection.specs.Truth.{IsTrue}
+use Rattle.collection.specs.Results.{Goes, Leaves, IsSame}
+use Rattle.collection.specs.Collect.{is_due, has_moved, HasWritten, StepCosts}
+
+-- ---- how much is left
+
+-- the sectors whose newest pages are in the block
+abbrev pub sectors_in : Geometry → Image → ℕ → List ℕ
+sectors_in g image block = filter (λ n. is_in_block g.pages block (newest_row image (Sector n))) (range_with_len 0 g.sectors)
+
+-- one of these sectors is of translation page t
+abbrev pub is_of_some : ℕ → List ℕ → ℕ → Bool
+is_of_some per_page sectors t = not (count_by (λ n. n / per_page == t) sectors == 0)
+
+-- a sector of translation page t is on the moved list or has its newest page in the block; in a flush also: the page is marked
+abbrev pub is_touched : Bool → Ram → Image → ℕ → ℕ → Bool
+is_touched flushing r image block t = is_due flushing r t || is_of_some (entries r.geometry) (sectors_in r.geometry image block) t
+
+abbrev pub touched_count : Bool → Ram → Image → ℕ → ℕ
+touched_count flushing r image block = count_by (is_touched flushing r image block) (range_with_len 0 (translation_pages r.geometry))
+
+-- THE PAGES THAT ARE LEFT TO PROGRAM before the block is erased, at most: its newest pages, and the different translation pages of their sectors
+-- and of the moved ones
+abbrev pub left_in : Bool → Ram → Image → ℕ → ℕ
+left_in flushing r image block = live_at r.blocks block + touched_count flushing r image block
+
+-- the number left of a device: one less than a block has pages where none is pinned
+abbrev pub left_of : Option Pinned → Ram → Image → ℕ
+left_of None r image = r.geometry.pages - 1
+left_of (Some p) r image = left_in false r image p.block
+
+abbrev pub left : Ram → Image → ℕ
+left r image = left_of r.pin.block r image
+
+-- ---- what holds between calls
+
+-- whatever the die does: the pinned block is closed, and no more sectors are moved than pages of it were passed
+pub record IsHalfDone (r : Ram) (p : Pinned) : Type 0 where
+  pub within : p.block < r.geometry.blocks
+  pub closed : is_closed r.blocks p.block ≡ true
+  pub passed : length r.mapping.moved ≤ p.first
+  pub on_die : p.first ≤ r.geometry.pages
+
+-- No translation page is marked, and with no block pinned no sector is moved. It is so between calls, unless a fault stands.
+pub record IsCalm (r : Ram) : Type 0 where
+  pub unmarked : r.pin.marks ≡ replicate (translation_pages r.geometry) false
+  pub pinned : MatchOption r.pin.block (r.mapping.moved ≡ []) (IsHalfDone r)
+
+-- of a block with few newest pages: those that it still has and the sectors that are moved are no more than the pages of a victim worth
+-- collecting, but for so many
+pub record IsFew (extra : ℕ) (r : Ram) (p : Pinned) : Type 0 where
+  pub small : live_at r.blocks p.block ≤ vmax r.geometry
+  pub moved : live_at r.blocks p.block + length r.mapping.moved ≤ vmax r.geometry + extra
+
+-- where the die is honest: none of the pages that were passed is a newest page
+abbrev pub HasPassed : Ram → Image → Pinned → Type 0
+HasPassed r image p = HoldsNoneIn r.geometry.pages p.block 0 p.first image
+
+-- of the block that is pinned, if one is
+abbrev pub PinHasPassed : Ram → Image → Type 0
+PinHasPassed r image = ForSome r.pin.block (HasPassed r image)
+
+abbrev pub PinIsFew : ℕ → Ram → Type 0
+PinIsFew extra r = ForSome r.pin.block (IsFew extra r)
+
+-- ---- a call that is no step of the pinned block
+
+-- A CALL BESIDE A HALF-DONE COLLECTION, whatever the die does: the pin stays, closed blocks do, and no sector more is moved
+pub record LeavesPin (old new : Ram) : Type 0 where
+  pub pin : new.pin ≡ old.pin
+  pub goes : Goes old new
+  pub fewer : length new.mapping.moved ≤ length old.mapping.moved
+  pub moved : (t : ℕ) → has_moved new.mapping t ≡ true → has_moved old.mapping t ≡ true
+
+-- after it no translation page has to be written that didn't have to be, but for those of sectors whose newest page was in the block
+abbrev pub TouchesNoMore : Bool → ℕ → Ram → Image → Ram → Type 0
+TouchesNoMore flushing block old before new = (t : ℕ) → is_due flushing new t ≡ true → is_touched flushing old before block t ≡ true
+
+-- ---- a step of the pinned block
+
+-- how a step is told
+abbrev pub told : Progress → Step
+told (progress.Copied page) = Copied
+told progress.WroteBack = WroteBack
+told progress.Erased = Erased
+
+-- what is pinned after a step: from the next page on, once all were copied from the end on, and nothing after the erase
+abbrev pub pin_after : ℕ → ℕ → Progress → Option Pinned
+pin_after block pages (progress.Copied page) = Some (record { block = block; first = page + 1 })
+pin_after block pages progress.WroteBack = Some (record { block = block; first = pages })
+pin_after block pages progress.Erased = None
+
+-- a memory, with another pin
+abbrev pub pinned_to : Option Pinned → Ram → Ram
+pinned_to to r = record r { pin = record { block = to; marks = r.pin.marks } }
+
+-- A STEP THAT IS DONE, whatever the die does: what it cost, and what is pinned then
+pub record HasStepped (flushing : Bool) (p : Pinned) (old new : Ram) (step : Step) : Type 0 where
+  pub its : Progress
+  pub told_is : step ≡ told its
+  pub cost : StepCosts flushing p.block p.first old new (Ok its)
+  pub next : new.pin.block ≡ pin_after p.block old.geometry.pages its
+
+-- WHERE THE DIE IS HONEST: the array is as it was, a copy leaves the block one newest page less, the other steps find none in it, and each but the
+-- erase leaves less to do
+pub record StepsOn (flushing : Bool) (p : Pinned) (old : Ram) (before : Image) (new : Ram) (after : Image) (step : Step) : Type 0 where
+  pub same : IsSame old before new after
+  pub fewer : step ≡ Copied → live_at new.blocks p.block + 1 ≡ live_at old.blocks p.block
+  pub none : step ≢ Copied → live_at new.blocks p.block ≡ 0
+  pub passed : PinHasPassed new after
+  pub left : step ≢ Erased → left_in flushing new after p.block + 1 ≤ left_in flushing old before p.block
+  pub few : IsFew 0 old p → PinIsFew 0 new
+
+-- ---- laws
+
+-- THE NUMBER LEFT IS BELOW THE PAGES OF A BLOCK, also where a rescue has moved one sector more and then found no sequence
+abbrev pub LeftLaw : Type 0
+LeftLaw = (r : Ram) (image : Image) (p : Pinned) → IsRam r → IsTrue None r image → p.block < r.geometry.blocks → IsFew 1 r p → left_in false r image p.block < r.geometry.pages
+
+-- as few as of a victim worth collecting, where nothing is moved yet
+abbrev pub PinLaw : Type 0
+PinLaw = (r : Ram) (p : Pinned) → r.mapping.moved ≡ [] → live_at r.blocks p.block ≤ vmax r.geometry → IsFew 0 r p
+
+-- ANOTHER CALL NEVER RAISES IT
+abbrev pub KeptLaw : Type 0
+KeptLaw = (old new : Ram) (before after : Image) (block : ℕ) → IsRam old → IsRam new → IsTrue None old before → IsTrue None new after → block < old.geometry.blocks → is_closed old.blocks block ≡ true → LeavesPin old new → Leaves old before after → left_in false new after block ≤ left_in false old before block
+
+-- memory stays calm in it
+abbrev pub CalmLaw : Type 0
+CalmLaw = (old new : Ram) → LeavesPin old new → IsCalm old → IsCalm new
+
+-- pages that were passed stay so
+abbrev pub PassedLaw : Type 0
+PassedLaw = (old new : Ram) (before after : Image) → IsCalm old → LeavesPin old new → Leaves old before after → PinHasPassed old before → PinHasPassed new after
+
+-- and few pages stay few
+abbrev pub FewLaw : Type 0
+FewLaw = (extra : ℕ) (old new : Ram) (before after : Image) → IsRam old → IsRam new → IsTrue None old before → IsTrue None new after → IsCalm old → LeavesPin old new → Leaves old before after → PinIsFew extra old → PinIsFew extra new
+
+-- EACH PAGE THAT IS COPIED LOWERS IT: where another sector is moved, its newest page was in the block
+abbrev pub CopyLaw : Type 0
+CopyLaw = (flushing : Bool) (old new : Ram) (before after : Image) (block : ℕ) → block < old.geometry.blocks → is_closed old.blocks block ≡ true → new.geometry ≡ old.geometry → Leaves old before after → TouchesNoMore flushing block old before new → live_at new.blocks block + 1 ≡ live_at old.blocks block → left_in flushing new after block + 1 ≤ left_in flushing old before block
+
+-- EACH TRANSLATION PAGE THAT IS WRITTEN LOWERS IT, once no newest page is left
+abbrev pub WriteLaw : Type 0
+WriteLaw = (flushing : Bool) (old new : Ram) (before after : Image) (block : ℕ) → IsRam old → IsRam new → IsTrue None old before → IsTrue None new after → block < old.geometry.blocks → new.geometry ≡ old.geometry → live_at old.blocks block ≡ 0 → live_at new.blocks block ≡ 0 → HasWritten flushing old new → left_in flushing new after block + 1 ≤ left_in flushing old before block

@@ -1,0 +1,39 @@
+-- What a step of the pinned block leaves.
+use Rattle.std.specs.Prelude.{◌≡◌, ◌≢◌, ℕ, ◌+◌, ◌-◌, ◌*◌, ◌≤◌, min, Bool, true, false, Result, Ok, Err, None, IfOk, OnOk, OnErr, MatchResult}
+use Rattle.std.specs.Option.{ForSome}
+use Rattle.page_layout.specs.Flash.{Flash}
+use Rattle.page_layout.specs.Counter.{counted}
+use Rattle.collection.specs.declared.engine.Engine.{Engine}
+use Rattle.collection.specs.declared.engine.Pinned.{Pinned}
+use Rattle.collection.specs.declared.engine.turns.Step.{Step}
+use Rattle.collection.specs.declared.engine.turns.Step.TheVariants.{Copied, WroteBack, Erased}
+use Rattle.collection.specs.declared.fault.WriteFault.{WriteFault}
+use Rattle.collection.specs.Safe.{IsIdle, ram, image_in}
+use Rattle.collection.specs.Truth.{IsTrue}
+use Rattle.collection.specs.Results.{Goes, Refused}
+use Rattle.collection.specs.Collect.{due_count, GoesBut, KeepsKeys, Refreshes, IsReleased, FaultCosts}
+use Rattle.collection.specs.Left.{IsHalfDone, IsCalm, HasPassed, HasStepped, StepsOn}
+
+-- the count of erases after a step
+abbrev pub erases_told : Step → ℕ → ℕ
+erases_told Copied erases = erases
+erases_told WroteBack erases = erases
+erases_told Erased erases = counted erases
+
+-- A STEP OF THE PINNED BLOCK, where no fault stood
+pub record Advances {N : Type 0} (flash : N → Flash) (honest : N → Bool) (reads erases : N → ℕ) (flushing : Bool) (p : Pinned) (old new : Engine N) (result : Result Step WriteFault) : Type 0 where
+  pub goes : GoesBut p.block (ram old) (ram new)
+  pub goes_still : result ≢ Ok Erased → Goes (ram old) (ram new)
+  pub keys : KeepsKeys old.mapping new.mapping
+  pub refreshes : flushing ≡ true → Refreshes (ram old) (ram new)
+  -- one page at most was programmed, but for those that failed
+  pub cost : MatchResult result (HasStepped flushing p (ram old) (ram new)) (FaultCosts (ram old) (ram new))
+  pub stays : OnErr result ((new.pinned ≡ old.pinned) × (new.mapping ≡ old.mapping))
+  pub half_done : OnOk result (ForSome (ram new).pin.block (IsHalfDone (ram new)))
+  pub calm : flushing ≡ false → IsCalm (ram old) → OnOk result (IsCalm (ram new))
+  pub idle : result ≡ Ok Erased → IsIdle (ram new)
+  pub released : result ≡ Ok Erased → IsReleased p.block (ram old).blocks (ram new).blocks
+  -- each page from the cursor on is read once at most, and so is the translation page that tells of it; and one that is written back
+  pub few_reads : reads new.nand ≤ reads old.nand + (2 * (old.geometry.pages - p.first) + min (due_count flushing (ram old)) 1)
+  pub erases_are : IfOk result (λ step. erases new.nand ≡ erases_told step (erases old.nand))
+  pub truth : honest old.nand ≡ true → IsTrue None (ram old) (image_in flash old) → HasPassed (ram old) (image_in flash old) p → MatchResult result (StepsOn flushing p (ram old) (image_in flash old) (ram new) (image_in flash new)) (Refused (ram old) (image_in flash old) (ram new) (image_in flash new))
