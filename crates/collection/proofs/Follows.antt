@@ -1,85 +1,61 @@
 -- A sector is moved, and its translation page follows.
-use Rattle.std.proofs.Common.{◌≡◌, ◌≢◌, inl, inr, ℕ, ◌/◌, ◌==◌, true, false, List, [], ◌∷◌, nat_eq, Option, Some, None, IsSome, Result, Ok, Err}
-use Rattle.std.proofs.Common.{refl, ap, sym, ◌∙◌, subst}
-use Rattle.std.specs.Prelude.{OnOk}
-use Rattle.std.specs.Map.{lookup, keys_of}
+use Rattle.std.proofs.Common.{◌≡◌, inl, inr, ℕ, ◌/◌, ◌==◌, Bool, true, false, List, [], ◌∷◌, ◌++◌, nat_eq, not, IsSome, refl, ap, sym, ◌∙◌}
+use Rattle.std.specs.Map.{keys_of}
 use Rattle.std.proofs.lemmas.Map.Made.{IsSome-lookup_same_keys}
-use Rattle.std.proofs.lemmas.Bool.{cases_eq, eq-eqb, ne_eqb}
+use Rattle.std.proofs.lemmas.Bool.{eq-eqb}
 use Rattle.page_layout.specs.declared.record.Key.{Key}
 use Rattle.page_layout.specs.declared.record.Key.TheVariants.{Sector, Translation, Table}
 use Rattle.page_layout.specs.Geometry.{entries}
-use Rattle.mapping_cache.specs.declared.slot.Slot.{Slot}
-use Rattle.mapping_cache.specs.Mapping.{MappingState, known, known_by, slot_of, moved_row, per_page, without_page, cleaned}
-use Rattle.collection.specs.declared.fault.WriteFault.{WriteFault}
+use Rattle.mapping_cache.specs.Mapping.{MappingState, slot_of, per_page, without, without_page}
 use Rattle.collection.specs.State.{Ram}
-use Rattle.collection.specs.Safe.{IsRam}
-use Rattle.collection.specs.Settle.{SetsRow, SetsMapping}
-use Rattle.collection.specs.Collect.{HasMovedOnly}
-
--- ---- none was moved before
+use Rattle.collection.specs.Settle.{SetsMapping}
+use Rattle.collection.specs.Results.{Goes}
+use Rattle.collection.specs.Collect.{IsFollowed, KeepsKeys}
+use Rattle.collection.specs.Left.{LeavesPin}
+use Rattle.collection.proofs.Beside.{beside_same, beside_filtered}
 
 -- the cache has the same sectors
 slot_by : (m m' : MappingState) (n : ℕ) → keys_of m'.cached ≡ keys_of m.cached → IsSome (slot_of m n) → IsSome (slot_of m' n)
 slot_by m m' n same some = (IsSome-lookup_same_keys (nat_eq n) m.cached m'.cached (sym same)).0 some
 
--- what a mapping knows that has no moved sector is of a cached one
-slot_known : (m : MappingState) (n : ℕ) (row : Option ℕ) → m.moved ≡ [] → known m n ≡ Some row → IsSome (slot_of m n)
-unfolding known
-slot_known m n row empty is = by (slot_of m n) (moved_row m n) (ap (lookup (nat_eq n)) empty) is
-  where
-    by : (slot : Option Slot) (o : Option ℕ) → o ≡ None → known_by slot o ≡ Some row → IsSome slot
-    by (Some s) o none e = refl
-    by None None none e = (let no : ⊥ = cc in absurd no)
-    by None (Some r) none e = (let no : ⊥ = cc in absurd no)
+-- ---- the moved sectors of other translation pages
 
-moved_known : (m : MappingState) (n row : ℕ) → moved_row m n ≡ Some row → known m n ≡ Some (Some row)
-unfolding known
-moved_known m n row is = ap (known_by (slot_of m n)) is
+but_head : (n pp : ℕ) (e : ℕ × ℕ) (ms : List (ℕ × ℕ)) (b : Bool) → (e.0 == n) ≡ b → (c : Bool) → (e.0 / pp == n / pp) ≡ c → without_page pp (n / pp) (without n ms) ≡ without_page pp (n / pp) ms → without_page pp (n / pp) (without n (e ∷ ms)) ≡ without_page pp (n / pp) (e ∷ ms)
+but_head n pp e ms true here true of_page rest = rw (here, of_page) rest
+but_head n pp e ms true here false of_page rest =
+    let same : e.0 ≡ n = Rattle.std.proofs.lemmas.Bool.eqb-true e.0 n here in
+    let page : (e.0 / pp == n / pp) ≡ true = eq-eqb (e.0 / pp) (n / pp) (ap (λ k. k / pp) same) in
+    let no : true ≡ false = sym page ∙ of_page in
+    let never : ⊥ = cc in absurd never
+but_head n pp e ms false here true of_page rest = rw (here, of_page) rest
+but_head n pp e ms false here false of_page rest = rw (here, of_page) (ap (λ l. e ∷ l) rest)
 
-others_unmoved : (n row : ℕ) (m m' : MappingState) → m.moved ≡ [] → SetsRow n (Some row) m m' → (k : ℕ) → k ≢ n → moved_row m' k ≡ None
-others_unmoved n row m m' empty s k ne = by (moved_row m' k) refl
-  where
-    by : (o : Option ℕ) → moved_row m' k ≡ o → o ≡ None
-    by None is = refl
-    by (Some q) is =
-        let was : known m k ≡ Some (Some q) = sym (s.known_others k ne) ∙ moved_known m' k q is in
-        let some : IsSome (slot_of m' k) = slot_by m m' k s.keys (slot_known m k (Some q) empty was) in
-        let P : Option Slot → Type 0 = λ o. IsSome o in
-        let none : IsSome {T = Slot} None = subst P (s.valid.apart k q is) some in
-        let never : ⊥ = cc in absurd never
+but_sector : (n pp : ℕ) (ms : List (ℕ × ℕ)) → without_page pp (n / pp) (without n ms) ≡ without_page pp (n / pp) ms
+but_sector n pp [] = refl
+but_sector n pp (e ∷ ms) = but_head n pp e ms (e.0 == n) refl (e.0 / pp == n / pp) refl (but_sector n pp ms)
 
--- a page of the key was put
-pub moved_only : (key : Key) (row : ℕ) (m m' : MappingState) → m.moved ≡ [] → SetsMapping key row m m' → HasMovedOnly m' key
-moved_only (Sector n) row m m' empty s = (λ some. s.unmoved (slot_by m' m n (sym s.keys) some) ∙ empty, λ k ne. others_unmoved n row m m' empty s k ne)
-moved_only (Translation t) row m m' empty s = ap (λ (z : MappingState). z.moved) s ∙ empty
-moved_only (Table u) row m m' empty s = ap (λ (z : MappingState). z.moved) s ∙ empty
+last_head : (pp t n row : ℕ) (e : ℕ × ℕ) (ms : List (ℕ × ℕ)) (b : Bool) → (e.0 / pp == t) ≡ b → without_page pp t (ms ++ (n, row) ∷ []) ≡ without_page pp t ms → without_page pp t ((e ∷ ms) ++ (n, row) ∷ []) ≡ without_page pp t (e ∷ ms)
+last_head pp t n row e ms true is rest = rw is rest
+last_head pp t n row e ms false is rest = rw is (ap (λ l. e ∷ l) rest)
 
--- ---- its translation page is written
+but_last : (pp n row : ℕ) (ms : List (ℕ × ℕ)) → without_page pp (n / pp) (ms ++ (n, row) ∷ []) ≡ without_page pp (n / pp) ms
+but_last pp n row [] = (let e : (n / pp == n / pp) ≡ true = eq-eqb (n / pp) (n / pp) refl in rw e refl)
+but_last pp n row (e ∷ ms) = last_head pp (n / pp) n row e ms (e.0 / pp == n / pp) refl (but_last pp n row ms)
 
-swept : (pp n : ℕ) (ms : List (ℕ × ℕ)) → ((k : ℕ) → k ≢ n → lookup (nat_eq k) ms ≡ None) → without_page pp (n / pp) ms ≡ []
-swept pp n [] only = refl
-swept pp n (e ∷ ms) only = elim (cases_eq e.0 n) [
-  | inl same ↦
-      let page : (e.0 / pp == n / pp) ≡ true = eq-eqb (e.0 / pp) (n / pp) (ap (λ k. k / pp) same) in
-      let rest : without_page pp (n / pp) ms ≡ [] = swept pp n ms (λ k ne.
-      let head : (k == e.0) ≡ false = ne_eqb k e.0 (λ x. ne (x ∙ same)) in
-      let skip : lookup (nat_eq k) (e ∷ ms) ≡ lookup (nat_eq k) ms = rw head refl in
-      sym skip ∙ only k ne) in
-      rw page rest
-  | inr ne ↦
-      let here : (e.0 == e.0) ≡ true = eq-eqb e.0 e.0 refl in
-      let some : lookup (nat_eq e.0) (e ∷ ms) ≡ Some e.1 = rw here refl in
-      let none : lookup (nat_eq e.0) (e ∷ ms) ≡ None = only e.0 ne in
-      let no : ⊥ = cc in absurd no
+-- they stay where the sector is moved
+pub moved_but : (pp n row : ℕ) (ms : List (ℕ × ℕ)) → without_page pp (n / pp) (without n ms ++ (n, row) ∷ []) ≡ without_page pp (n / pp) ms
+moved_but pp n row ms = but_last pp n row (without n ms) ∙ but_sector n pp ms
+
+-- ---- a page is put, and its translation page follows
+
+followed_on : (pp pp' n : ℕ) (ms ms' : List (ℕ × ℕ)) → pp' ≡ pp → without_page pp (n / pp) ms' ≡ without_page pp (n / pp) ms → without_page pp' (n / pp') ms' ≡ without_page pp (n / pp) ms
+followed_on pp pp' n ms ms' same but = ap (λ k. without_page k (n / k) ms') same ∙ but
+
+-- no sector more is moved then
+pub followed_beside : (key : Key) (at : ℕ) (a d : Ram) (m : MappingState) → d.pin ≡ a.pin → Goes a d → KeepsKeys a.mapping d.mapping → SetsMapping key at a.mapping m → IsFollowed key m d.mapping → LeavesPin a d
+followed_beside (Sector n) at a d m pin goes keeps s f = elim f [
+  | inl (some, same) ↦ beside_same a d pin goes (ap (λ (z : MappingState). z.moved) same ∙ s.unmoved (slot_by m a.mapping n (sym s.keys) some)) keeps.limits
+  | inr clean ↦ beside_filtered a d pin goes (λ e. not (e.0 / per_page a.mapping == n / per_page a.mapping)) keeps.limits (ap (λ (z : MappingState). z.moved) clean ∙ followed_on (per_page a.mapping) (per_page m) n a.mapping.moved m.moved (ap entries s.limits.geometry) s.moved_but)
 ]
-
-pub none_after : (r : Ram) (m' : MappingState) (key : Key) (n e : ℕ) → IsRam r → key ≡ Sector n → e ≡ entries r.geometry → HasMovedOnly r.mapping key → m' ≡ cleaned r.mapping (n / e) → m'.moved ≡ []
-none_after r m' key n e s is same only clean =
-    let pp : e ≡ per_page r.mapping = same ∙ ap entries (sym s.mapping_of) in
-    let P : Key → Type 0 = λ k. HasMovedOnly r.mapping k in
-    let here : HasMovedOnly r.mapping (Sector n) = subst P is only in
-    ap (λ (m : MappingState). m.moved) clean ∙ (ap (λ p. without_page (per_page r.mapping) (n / p) r.mapping.moved) pp ∙ swept (per_page r.mapping) n r.mapping.moved here.1)
-
-pub none_after_ok : (r : Ram) (m' : MappingState) (key : Key) (n e : ℕ) (result : Result (Unit {0}) WriteFault) → IsRam r → key ≡ Sector n → e ≡ entries r.geometry → HasMovedOnly r.mapping key → OnOk result (m' ≡ cleaned r.mapping (n / e)) → OnOk result (m'.moved ≡ [])
-none_after_ok r m' key n e (Ok u) s is same only clean = none_after r m' key n e s is same only clean
-none_after_ok r m' key n e (Err f) s is same only clean = tt
+followed_beside (Translation t) at a d m pin goes keeps s f = beside_same a d pin goes (ap (λ (z : MappingState). z.moved) (f ∙ s)) keeps.limits
+followed_beside (Table u) at a d m pin goes keeps s f = beside_same a d pin goes (ap (λ (z : MappingState). z.moved) (f ∙ s)) keeps.limits

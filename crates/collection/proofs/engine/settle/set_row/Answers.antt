@@ -1,7 +1,8 @@
-use Rattle.std.proofs.Common.{◌∙◌, ap, rules}
+use Rattle.std.proofs.Common.{◌/◌, ◌∙◌, ap, rules}
 use Rattle.std.specs.Map.{keys_of}
-use Rattle.mapping_cache.specs.Mapping.{per_page, moved_in}
+use Rattle.mapping_cache.specs.Mapping.{per_page, moved_in, without_page}
 use Rattle.collection.proofs.Dues.{moved_others}
+use Rattle.collection.proofs.Follows.{moved_but}
 use Rattle.collection.proofs.engine.settle.set_row.Goals as goal
 
 pub returns-else-is_cached : goal.returns-else-is_cached
@@ -15,5 +16,6 @@ returns-else-is_cached c = record {
   moved = c.move_entry.ensures.one_more;
   unmoved = search rules;
   moved_others = λ t ne. ap (λ m. moved_in (per_page c.args.mapping.now) t m.moved) c.move_entry.ensures.set ∙ moved_others (per_page c.args.mapping.now) t c.args.sector c.args.row c.args.mapping.now.moved ne;
+  moved_but = ap (λ m. without_page (per_page c.args.mapping.now) (c.args.sector / per_page c.args.mapping.now) m.moved) c.move_entry.ensures.set ∙ moved_but (per_page c.args.mapping.now) c.args.sector c.args.row c.args.mapping.now.moved;
   valid = c.move_entry.ensures.valid;
 }
