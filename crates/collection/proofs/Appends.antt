@@ -1,5 +1,6 @@
 -- A page of a cached sector is written.
-use Rattle.std.proofs.Common.{◌≡◌, ℕ, ◌<◌, List, Option, None, ap, sym, ◌∙◌, subst}
+use Rattle.std.proofs.Common.{◌≡◌, ℕ, ◌<◌, List, Option, Some, None, IsSome, ap, sym, ◌∙◌, subst}
+use Rattle.mapping_cache.specs.Mapping.{MappingState, slot_of}
 use Rattle.page_layout.specs.declared.record.Kind.{Kind}
 use Rattle.page_layout.specs.declared.record.Key.{Key}
 use Rattle.page_layout.specs.declared.record.Key.TheVariants.{Sector}
@@ -10,7 +11,10 @@ use Rattle.collection.specs.State.{Ram}
 use Rattle.collection.specs.Pages.{newest_row}
 use Rattle.collection.specs.Maps.{IsPageFor}
 use Rattle.collection.specs.Truth.{IsTrue}
+use Rattle.collection.specs.Safe.{IsOutside}
+use Rattle.collection.specs.Settle.{SetsRow, SetsMapping}
 use Rattle.collection.specs.Results.{MayPut, IsReplaced, IsWritten}
+use Rattle.collection.proofs.Puts.{leaves_written}
 
 pub may_append : (r : Ram) (image : Image) (kind : Kind) (n : ℕ) (old_row : Option ℕ) (body : List ℕ) → IsTrue None r image → key_from kind n ≡ Sector n → old_row ≡ newest_row image (Sector n) → MayPut kind n old_row body r image
 may_append r image kind n old_row body w same is = record {
@@ -19,10 +23,15 @@ may_append r image kind n old_row body w same is = record {
   old_row_is = is ∙ ap (newest_row image) (sym same);
 }
 
-pub appended : (r r' : Ram) (image image' : Image) (kind : Kind) (n row : ℕ) (body : List ℕ) → key_from kind n ≡ Sector n → n < r.geometry.sectors → IsReplaced kind n row body r image r' image' → IsWritten kind n body r image r' image'
-appended r r' image image' kind n row body same lt p = record {
+pub appended : (r r' : Ram) (image image' : Image) (kind : Kind) (n row : ℕ) (body : List ℕ) → key_from kind n ≡ Sector n → n < r.geometry.sectors → IsOutside r row → IsReplaced kind n row body r image r' image' → IsWritten kind n body r image r' image'
+appended r r' image image' kind n row body same lt out p = record {
   truth = p.truth;
   array = array_written r.geometry n row _ body image image' lt same p.writes;
+  leaves = leaves_written r _ row body image image' p.writes out;
   row = row;
   writes = p.writes;
 }
+
+-- a cached sector's row is set: no other sector is moved than before
+pub moved_still : (key : Key) (n row : ℕ) (m m' : MappingState) → key ≡ Sector n → IsSome (slot_of m n) → SetsMapping key row m m' → m'.moved ≡ m.moved
+moved_still key n row m m' is some s = (let P : Key → Type 0 = λ k. SetsMapping k row m m' in let here : SetsRow n (Some row) m m' = subst P is s in here.unmoved some)
