@@ -25,8 +25,14 @@ use Rattle.collection.specs.Truth.{IsTrue}
 use Rattle.collection.specs.Live.{NotAt, HoldsNoneIn, FindsFirst, IsFirstLive, IsFoundIn, IsLivePage}
 use Rattle.collection.specs.Collect.{IsAiling, HasNoneAiling, IsFirstAiling, FindsAiling, IsMovedOut, HasCopied, HasProgrammed, StreamRunsOut}
 use Rattle.collection.specs.Collect.{StreamSpends, FaultCosts, FollowCosts, RescueCosts, IsRescued}
+use Rattle.collection.specs.Collect.{KeepsKeys, IsFollowed}
+use Rattle.collection.specs.Settle.{SetsMapping}
+use Rattle.collection.specs.Left.{LeavesPin}
+use Rattle.page_layout.specs.declared.record.Key.{Key}
 use Rattle.std.proofs.Math.Nat.{div-lt_iff_lt-mul}
 use Rattle.collection.proofs.Finds.{none_all}
+use Rattle.collection.proofs.Copies.{keys_then}
+use Rattle.collection.proofs.Follows.{followed_beside}
 use Rattle.collection.proofs.Puts.{same_then}
 use Rattle.collection.proofs.Lowest.{some_pages, holds_none, same_here}
 use Rattle.collection.proofs.Ledgers.{fit, one_of, programmed_more}
@@ -142,6 +148,14 @@ none_rescued a b x x1 body live same still w finds is =
       bad = λ i lt bad. omega arith;
     } in
     rw (same, still) r
+
+-- no sector more is moved, and the pin stays
+pub rescued_beside : (key key' : Key) (a b c d : Ram) → b ≡ a → Goes a d → ((at : ℕ) × SetsMapping key at b.mapping c.mapping) → KeepsKeys b.mapping c.mapping → c.pin ≡ b.pin → key' ≡ key → IsFollowed key' c.mapping d.mapping → KeepsKeys c.mapping d.mapping → d.pin ≡ c.pin → LeavesPin a d
+rescued_beside key key' a b c d same goes sets keeps pin is follows keeps' pin' =
+    let P : Ram → Type 0 = λ r. SetsMapping key sets.0 r.mapping c.mapping in
+    let Q : Ram → Type 0 = λ r. KeepsKeys r.mapping c.mapping in
+    let F : Key → Type 0 = λ k. IsFollowed k c.mapping d.mapping in
+    followed_beside key sets.0 a d c.mapping (pin' ∙ (pin ∙ ap (λ (r : Ram). r.pin) same)) goes (keys_then a.mapping c.mapping d.mapping (subst Q same keeps) keeps') (subst P same sets.1) (subst F is follows)
 
 -- ---- what it costs
 

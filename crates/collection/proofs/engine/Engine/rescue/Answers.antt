@@ -1,4 +1,4 @@
-use Rattle.std.proofs.Common.{◌∙◌, length, ap, sym, subst, arith}
+use Rattle.std.proofs.Common.{◌∙◌, length, refl, ap, sym, subst, arith}
 use Rattle.std.proofs.lemmas.Result.{err_from_is_err_and}
 use Rattle.collection.specs.Safe.{ram}
 use Rattle.page_layout.specs.Key.{key_of}
@@ -8,8 +8,7 @@ use Rattle.collection.proofs.Acts.{acts_then, acts_ok, acts_err, looked}
 use Rattle.collection.proofs.Looks.{none_from, ok_not_bus}
 use Rattle.collection.proofs.Memory.{goes_then}
 use Rattle.collection.proofs.Puts.{refused_then}
-use Rattle.collection.proofs.Lowest.{some_pages}
-use Rattle.collection.proofs.Rescues.{copied_as, rescued, none_rescued, goes_from, rescued_cost, uncopied_cost, unfollowed_cost, unread_rescue, unread_refused}
+use Rattle.collection.proofs.Rescues.{copied_as, rescued, rescued_beside, none_rescued, goes_from, rescued_cost, uncopied_cost, unfollowed_cost, unread_rescue, unread_refused}
 use Rattle.collection.proofs.engine.Engine.rescue.Goals as goal
 
 -- ---- the copy
@@ -22,9 +21,9 @@ copy_page-requires-clause-row g c = rw (ap (λ r. r.geometry) c.first_ailing.ens
 
 pub copy_page-requires-clause-room : goal.copy_page-requires-clause-room
 copy_page-requires-clause-room g c =
-    let none = ap (λ r. length r.mapping.moved) c.first_ailing.ensures.looks.memory ∙ ap length c.requires.idle.moved in
-    let some = some_pages c.first_ailing.new.self.geometry in
-    omega (arith, none, some)
+    let moved = ap (λ r. length r.mapping.moved) c.first_ailing.ensures.looks.memory in
+    let pages = ap (λ r. r.geometry.pages) c.first_ailing.ensures.looks.memory in
+    omega (arith, moved, pages, c.if-moved_count-pages.false, c.moved_count.ensures, c.pages.ensures)
 
 -- ---- the look was refused, or found none
 
@@ -41,13 +40,13 @@ returns-in_err-ailing-clause-acts g c =
 pub returns-in_err-ailing-clause-truth : goal.returns-in_err-ailing-clause-truth
 returns-in_err-ailing-clause-truth g c =
     let p = err_from_is_err_and c.from_residual.result c.from_residual.ensures.1 in
-    rw (p.1, p.2) (λ honest w. unread_refused (ram c.args.self.now) (ram c.first_ailing.new.self) _ _ _ (c.in_err-ailing.ensures.truth honest w))
+    rw (p.1, p.2) (λ honest w room. unread_refused (ram c.args.self.now) (ram c.first_ailing.new.self) _ _ _ (c.in_err-ailing.ensures.truth honest w))
 
 pub returns-in_default-clause-acts : goal.returns-in_default-clause-acts
 returns-in_default-clause-acts g c = acts_ok _ _ _ _ (looked _ _ _ c.in_ok-ailing.ensures.looks)
 
 pub returns-in_default-clause-truth : goal.returns-in_default-clause-truth
-returns-in_default-clause-truth g c = λ honest w.
+returns-in_default-clause-truth g c = λ honest w room.
     let still = ap (λ f. f.image) (c.in_ok-ailing.ensures.looks.same honest (ok_not_bus _)) in
     none_rescued (ram c.args.self.now) (ram c.first_ailing.new.self) _ _ _ c.in_ok-ailing.ailing c.first_ailing.ensures.looks.memory still w (c.in_ok-ailing.ensures.truth honest w) (none_from c.in_ok-ailing.ailing c.in_default.not-Some)
 
@@ -55,6 +54,11 @@ pub returns-in_err-copy_page-clause-cost : goal.returns-in_err-copy_page-clause-
 returns-in_err-copy_page-clause-cost g c =
     let p = err_from_is_err_and c.from_residual-in_err-copy_page.result c.from_residual-in_err-copy_page.ensures.1 in
     rw (p.1, p.2) (uncopied_cost (ram c.args.self.now) (ram c.first_ailing.new.self) (ram c.copy_page.new.self) _ c.requires.safe.memory c.first_ailing.ensures.looks.memory c.in_err-copy_page.ensures.cost)
+
+pub returns-in_err-copy_page-clause-acts : goal.returns-in_err-copy_page-clause-acts
+returns-in_err-copy_page-clause-acts g c =
+    let p = err_from_is_err_and c.from_residual-in_err-copy_page.result c.from_residual-in_err-copy_page.ensures.1 in
+    rw (p.1, p.2) (acts_then _ _ _ _ _ (ap (λ r. r.geometry) c.first_ailing.ensures.looks.memory) (looked _ _ _ c.in_ok-ailing.ensures.looks) (acts_err _ _ _ c.in_err-copy_page.ensures.acts))
 
 -- ---- its translation page follows
 
@@ -80,7 +84,7 @@ returns-in_err-follow_moved-clause-acts g c =
 pub returns-in_err-follow_moved-clause-truth : goal.returns-in_err-follow_moved-clause-truth
 returns-in_err-follow_moved-clause-truth g c =
     let p = err_from_is_err_and c.from_residual-in_err-follow_moved.result c.from_residual-in_err-follow_moved.ensures.1 in
-    rw (p.1, p.2) (λ honest w.
+    rw (p.1, p.2) (λ honest w room.
     let a = ram c.args.self.now in
     let b = ram c.first_ailing.new.self in
     let n = ram c.copy_page.new.self in
@@ -100,7 +104,7 @@ pub returns-clause-acts : goal.returns-clause-acts
 returns-clause-acts g c = acts_then _ _ _ _ _ (ap (λ r. r.geometry) c.first_ailing.ensures.looks.memory) (looked _ _ _ c.in_ok-ailing.ensures.looks) (acts_then _ _ _ _ _ c.copy_page.ensures.goes.geometry c.in_ok-copy_page.ensures.acts (acts_ok _ _ _ _ c.in_ok-follow_moved.ensures.acts))
 
 pub returns-clause-truth : goal.returns-clause-truth
-returns-clause-truth g c = λ honest w.
+returns-clause-truth g c = λ honest w room.
     let a = ram c.args.self.now in
     let b = ram c.first_ailing.new.self in
     let n = ram c.copy_page.new.self in
@@ -110,3 +114,9 @@ returns-clause-truth g c = λ honest w.
     let finds = c.in_ok-ailing.ensures.truth honest w in
     let m = copied_as a b _ _ c.in-Some.row c.in-Some.found _ c.in_ok-ailing.ailing c.requires.safe.memory c.first_ailing.ensures.looks.memory still w finds c.in-Some.is (λ r i. IsMovedOut c.in-Some.row r i n y) (c.in_ok-copy_page.ensures.truth now) in
     rescued a b _ _ c.in-Some.row c.in-Some.found _ c.in_ok-ailing.ailing c.requires.safe.memory c.first_ailing.ensures.looks.memory still w finds c.in-Some.is n (ram c.follow_moved.new.self) y _ c.copy_page.ensures.acts.safe.memory c.follow_moved.ensures.acts.safe.memory (goes_from a b n c.first_ailing.ensures.looks.memory c.copy_page.ensures.goes) c.follow_moved.ensures.goes.geometry m (c.in_ok-follow_moved.ensures.truth (c.copy_page.ensures.acts.honest_is ∙ now))
+
+pub returns-clause-beside : goal.returns-clause-beside
+returns-clause-beside g c = rescued_beside (key_of c.in-Some.found) c.key.result (ram c.args.self.now) (ram c.first_ailing.new.self) (ram c.copy_page.new.self) (ram c.follow_moved.new.self) c.first_ailing.ensures.looks.memory (returns-clause-goes g c) c.in_ok-copy_page.ensures.settled c.copy_page.ensures.keys (c.copy_page.ensures.pinned refl) c.key.ensures c.in_ok-follow_moved.ensures.followed c.follow_moved.ensures.keys c.follow_moved.ensures.pin
+
+pub returns-clause-one_more : goal.returns-clause-one_more
+returns-clause-one_more g c = (let b = returns-clause-beside g c in omega (arith, b.fewer))

@@ -1,5 +1,6 @@
 use Rattle.collection.specs.Safe.{ram}
 use Rattle.collection.proofs.Gates.{goes_noted}
+use Rattle.collection.proofs.Beside.{beside_noted_ok}
 use Rattle.collection.proofs.Acts.{acts_noted, not_standing}
 use Rattle.collection.proofs.Noted.{rescued_noted, rescue_cost_noted}
 use Rattle.collection.proofs.engine.Engine.rescue_one.Goals as goal
@@ -14,4 +15,7 @@ pub returns-clause-cost : goal.returns-clause-cost
 returns-clause-cost g c = λ none. rw (c.noted.ensures.same, c.noted.ensures.noted) (rescue_cost_noted _ (ram c.rescue-answer.new.self) c.rescue-answer.result c.rescue-answer.ensures.cost)
 
 pub returns-clause-truth : goal.returns-clause-truth
-returns-clause-truth g c = λ honest none w. rw (c.noted.ensures.same, c.noted.ensures.noted) (rescued_noted _ _ (ram c.rescue-answer.new.self) _ _ c.rescue-answer.result (c.rescue-answer.ensures.truth honest w))
+returns-clause-truth g c = λ honest none w room. rw (c.noted.ensures.same, c.noted.ensures.noted) (rescued_noted _ _ (ram c.rescue-answer.new.self) _ _ c.rescue-answer.result (c.rescue-answer.ensures.truth honest w room))
+
+pub returns-clause-beside : goal.returns-clause-beside
+returns-clause-beside g c = rw (c.noted.ensures.same, c.noted.ensures.noted) (beside_noted_ok _ _ (ram c.rescue-answer.new.self) c.rescue-answer.result c.rescue-answer.ensures.beside)
