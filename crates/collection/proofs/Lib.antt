@@ -7,6 +7,7 @@ pub mod Copies
 pub mod Lowest
 pub mod Steps
 pub mod Lefts
+pub mod Turns
 pub mod Follows
 pub mod Ledgers
 pub mod Rooms
