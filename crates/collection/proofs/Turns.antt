@@ -127,11 +127,15 @@ told_erased (step.Copied page) is = (let no : ⊥ = cc in absurd no)
 told_erased step.WroteBack is = (let no : ⊥ = cc in absurd no)
 told_erased step.Erased is = refl
 
-pub ok_told : (done : Progress) → (Ok {E = WriteFault} done ≡ Ok step.Erased) → (Ok {E = WriteFault} (told done) ≡ Ok Erased)
-ok_told done is = (let same : done ≡ step.Erased = cc in ap (λ d. Ok (told d)) same)
+-- an answer of a step
+abbrev pub ok_as : (A : Type 0) → A → Result A WriteFault
+ok_as A x = Ok x
 
-pub ok_erased : (done : Progress) → (Ok {E = WriteFault} (told done) ≡ Ok Erased) → (Ok {E = WriteFault} done ≡ Ok step.Erased)
-ok_erased done is = (let same : told done ≡ Erased = cc in ap (λ d. Ok d) (told_erased done same))
+pub ok_told : (done : Progress) → ok_as Progress done ≡ ok_as Progress step.Erased → ok_as Step (told done) ≡ ok_as Step Erased
+ok_told done is = (let same : done ≡ step.Erased = cc in ap (λ d. ok_as Step (told d)) same)
+
+pub ok_erased : (done : Progress) → ok_as Step (told done) ≡ ok_as Step Erased → ok_as Progress done ≡ ok_as Progress step.Erased
+ok_erased done is = (let same : told done ≡ Erased = cc in ap (ok_as Progress) (told_erased done same))
 
 pub told_erases : (done : Progress) (count : ℕ) → erases_after done count ≡ erases_told (told done) count
 told_erases (step.Copied page) count = refl
@@ -204,6 +208,10 @@ steps_on flushing p r b x y step.Erased s' h same c next s touched = record {
   left = λ ne. absurd (ne refl);
   few = λ few q is. (let e : None ≡ Some q = sym next ∙ is in let no : ⊥ = cc in absurd no);
 }
+
+-- what holds of the block that is pinned
+pub of_pinned : (P : Pinned → Type 0) (o : Option Pinned) (p : Pinned) → o ≡ Some p → P p → ForSome o P
+of_pinned P o p is h = λ q at. subst P (some_same p q (sym is ∙ at)) h
 
 -- ---- a fault of it is noted
 

@@ -1,4 +1,4 @@
-use Rattle.std.proofs.Common.{◌∙◌, ap, sym}
+use Rattle.std.proofs.Common.{◌≡◌, ◌∙◌, ap, sym}
 use Rattle.collection.specs.declared.engine.step.Progress.TheVariants as step
 use Rattle.collection.specs.Safe.{ram}
 use Rattle.collection.specs.Left.{pin_after}
