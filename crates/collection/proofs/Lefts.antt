@@ -1,5 +1,5 @@
 -- How much of a half-done collection is left.
-use Rattle.std.proofs.Common.{◌≡◌, ◌≢◌, ◌⊎◌, inl, inr, ℕ, zero, suc, ◌+◌, ◌-◌, ◌*◌, ◌/◌, ◌%◌, ◌<◌, ◌≤◌, ◌==◌, ◌&&◌, ◌||◌, Bool, true, false, not, List, [], ◌∷◌, ◌++◌, length, filter, map, count_by, min, replicate, Option, Some, None, MatchOption, count_ones, refl, ap, sym, ◌∙◌, subst, arith}
+use Rattle.std.proofs.Common.{◌≡◌, ◌⊎◌, inl, inr, ℕ, zero, suc, ◌+◌, ◌-◌, ◌*◌, ◌/◌, ◌%◌, ◌<◌, ◌≤◌, ◌==◌, ◌&&◌, ◌||◌, Bool, true, false, not, List, [], ◌∷◌, ◌++◌, length, filter, map, count_by, min, replicate, Option, Some, None, MatchOption, count_ones, refl, ap, sym, ◌∙◌, subst, arith}
 use Rattle.std.specs.List.{range_with_len}
 use Rattle.std.specs.Map.{keys_of}
 use Rattle.std.proofs.lemmas.Nat.{zero_from_ones}
@@ -16,7 +16,7 @@ use Rattle.page_layout.specs.Live.{live, keys, is_in_block, IsKeyOf}
 use Rattle.page_layout.proofs.CountLemmas.{bit, count_by-cons, count_by-append, count_by-map}
 use Rattle.budget.proofs.CopyLemmas.{copies_fit, touched_pages}
 use Rattle.mapping_cache.specs.Mapping.{moved_in, per_page}
-use Rattle.allocation.specs.State.{State, live_at, is_closed}
+use Rattle.allocation.specs.State.{live_at}
 use Rattle.allocation.proofs.CountLemmas.{count_has}
 use Rattle.collection.specs.declared.engine.Pinned.{Pinned}
 use Rattle.collection.specs.State.{Ram, Pin}

@@ -8,29 +8,27 @@ use Rattle.page_layout.specs.Flash.{Flash}
 use Rattle.page_layout.specs.Page.{Image}
 use Rattle.page_layout.specs.Geometry.{translation_pages, vmax}
 use Rattle.page_layout.specs.Change.{HoldsNone}
-use Rattle.budget.specs.declared.stream.Stream.TheVariants.{Meta}
-use Rattle.allocation.specs.State.{live_at, is_closed}
+use Rattle.allocation.specs.State.{live_at}
 use Rattle.collection.specs.declared.engine.Engine.{Engine}
 use Rattle.collection.specs.declared.engine.Pinned.{Pinned}
 use Rattle.collection.specs.declared.engine.step.Progress.{Progress}
 use Rattle.collection.specs.declared.engine.step.Progress.TheVariants as step
 use Rattle.collection.specs.declared.engine.turns.Step.{Step}
-use Rattle.collection.specs.declared.engine.turns.Step.TheVariants.{Copied, WroteBack, Erased}
+use Rattle.collection.specs.declared.engine.turns.Step.TheVariants.{Erased}
 use Rattle.collection.specs.declared.fault.WriteFault.{WriteFault}
 use Rattle.collection.specs.declared.fault.WriteFault.TheVariants.{ReadOnly, SequenceSpent, Damaged, Bus}
 use Rattle.collection.specs.State.{Ram}
 use Rattle.collection.specs.Safe.{IsRam, IsIdle, ram}
 use Rattle.collection.specs.Truth.{IsTrue}
-use Rattle.collection.specs.Log.{Went}
 use Rattle.collection.specs.Live.{HoldsNoneIn, IsLivePage, FindsFirst, IsFirstLive}
 use Rattle.collection.specs.Results.{Goes, fault_after}
-use Rattle.collection.specs.Collect.{GoesBut, Refreshes, StepCosts, FaultCosts, IsStepped}
-use Rattle.collection.specs.Whole.{step_within, erases_after}
+use Rattle.collection.specs.Collect.{Refreshes, StepCosts, FaultCosts, IsStepped}
+use Rattle.collection.specs.Whole.{erases_after}
 use Rattle.collection.specs.Left.{IsHalfDone, IsCalm, IsFew, HasPassed, TouchesNoMore, StepsOn, is_touched, told, pin_after, pinned_to}
 use Rattle.collection.specs.Turns.{Advances, erases_told}
 use Rattle.collection.proofs.Gates.{goes_noted, refused_noted}
 use Rattle.collection.proofs.Noted.{but_noted, fresh_noted}
-use Rattle.collection.proofs.Lowest.{shut_closed, holds_none, put_pinned, same_pinned}
+use Rattle.collection.proofs.Lowest.{shut_closed, holds_none}
 use Rattle.collection.proofs.Lefts.{copy_law, write_left}
 
 some_same : {A : Type 0} (x y : A) → Some x ≡ Some y → x ≡ y
@@ -39,30 +37,8 @@ some_same x y e = cc
 -- ---- a step, and the pin after it
 
 module _ (r b : Ram) (to : Option Pinned) where
-  pub but_pinned : (block : ℕ) → GoesBut block r b → GoesBut block r (pinned_to to b)
-  but_pinned block g = record { geometry = g.geometry; next = g.next; shut = g.shut }
-
-  pub goes_pinned : Goes r b → Goes r (pinned_to to b)
-  goes_pinned g = record { geometry = g.geometry; next = g.next; shut = g.shut }
-
-  pub went_pinned : (x y : Flash) → Went r x b y → Went r x (pinned_to to b) y
-  went_pinned x y w = record { log = w.log; leads = w.leads; follows = w.follows; next = w.next; wears = w.wears }
-
   pub refreshes_pinned : Refreshes r b → Refreshes r (pinned_to to b)
   refreshes_pinned f = record { each = f.each }
-
-  pub idle_pinned : IsIdle b → IsIdle (pinned_to to b)
-  idle_pinned i = record { moved = i.moved; unmarked = i.unmarked }
-
-  pub cost_pinned : (flushing : Bool) (block first : ℕ) (done : Progress) → StepCosts flushing block first r b (Ok done) → StepCosts flushing block first r (pinned_to to b) (Ok done)
-  cost_pinned flushing block first (step.Copied page) (low, high, c, f) = (low, high, record { stream = c.stream; put = put_pinned c.stream r b (record { block = to; marks = b.pin.marks }) c.put; moved = c.moved; due = c.due }, f)
-  cost_pinned flushing block first step.WroteBack c = record { put = put_pinned Meta r b (record { block = to; marks = b.pin.marks }) c.put; moved = c.moved; due = c.due }
-  cost_pinned flushing block first step.Erased (none, c) = (none, record { failures = c.failures; counts = c.counts; blocks = c.blocks; geometry = c.geometry; directory = c.directory; mapping = c.mapping; next = c.next; fault = c.fault })
-
-  pub stepped_pinned : (block : ℕ) (x y : Image) (done : Progress) → IsStepped block r x b y done → IsStepped block r x (pinned_to to b) y done
-  stepped_pinned block x y (step.Copied page) s = record { same = same_pinned r b x y (record { block = to; marks = b.pin.marks }) s.same; fewer = s.fewer; none = s.none }
-  stepped_pinned block x y step.WroteBack s = record { same = same_pinned r b x y (record { block = to; marks = b.pin.marks }) s.same; none = s.none }
-  stepped_pinned block x y step.Erased s = record { same = same_pinned r b x y (record { block = to; marks = b.pin.marks }) s.same; none = s.none }
 
   pub half_pinned : (q : Pinned) → IsHalfDone b q → IsHalfDone (pinned_to to b) q
   half_pinned q h = record { within = h.within; closed = h.closed; passed = h.passed; on_die = h.on_die }
@@ -90,20 +66,6 @@ half_on flushing r b p step.WroteBack h goes c = λ q is.
     } in
     subst (IsHalfDone b) (some_same next q is) half
 half_on flushing r b p step.Erased h goes c = λ q is. (let no : ⊥ = cc in absurd no)
-
-pub within_of : (flushing : Bool) (block first : ℕ) (r b : Ram) (done : Progress) → StepCosts flushing block first r b (Ok done) → step_within r.geometry.pages done
-within_of flushing block first r b (step.Copied page) (low, high, c, f) = high
-within_of flushing block first r b step.WroteBack c = tt
-within_of flushing block first r b step.Erased c = tt
-
-pub idle_calm : (r : Ram) (block : ℕ) → IsIdle r → block < r.geometry.blocks → is_closed r.blocks block ≡ true → IsCalm (pinned_to (Some (record { block = block; first = 0 })) r)
-idle_calm r block i lt closed = record {
-  unmarked = i.unmarked;
-  pinned = record { within = lt; closed = closed; passed = (let e : length r.mapping.moved ≡ 0 = ap (λ l. length l) i.moved in omega arith); on_die = omega arith };
-}
-
-pub none_passed : (r : Ram) (image : Image) (block : ℕ) → HasPassed r image (record { block = block; first = 0 })
-none_passed r image block = record { none = λ p ge lt. absurd (omega arith) }
 
 -- ---- the page that was found is copied
 
