@@ -7,7 +7,6 @@ pub mod Copies
 pub mod Lowest
 pub mod Steps
 pub mod Lefts
-pub mod Turns
 pub mod Follows
 pub mod Ledgers
 pub mod Rooms
@@ -16,6 +15,7 @@ pub mod Rescues
 pub mod Blocks
 pub mod Memory
 pub mod Lives
+pub mod Turns
 pub mod Wears
 pub mod Truths
 pub mod Logs
