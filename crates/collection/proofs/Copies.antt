@@ -29,7 +29,7 @@ use Rattle.collection.specs.Live.{IsLivePage}
 use Rattle.collection.specs.Results.{MayPut, IsReplaced, IsLastPage, Goes, last_record}
 use Rattle.collection.specs.Cost.{HasPut, PutCosts}
 use Rattle.collection.specs.Settle.{HasPlace, SetsMapping}
-use Rattle.collection.specs.Collect.{IsMovedOut, KeepsKeys, HasCopied, HasMovedOnly, FaultCosts, Refreshes, IsUpToDate, marks_after}
+use Rattle.collection.specs.Collect.{IsMovedOut, KeepsKeys, HasCopied, FaultCosts, Refreshes, IsUpToDate, marks_after}
 use Rattle.collection.specs.declared.fault.WriteFault.TheVariants.{ReadOnly, SequenceSpent, Damaged, Bus}
 use Rattle.budget.specs.declared.stream.Stream.{Stream}
 use Rattle.page_layout.proofs.GeometryLemmas.{sector_entry}
@@ -150,7 +150,7 @@ module _ (flushing : Bool) (key : Key) (row : ℕ) (r b r' : Ram) (is : r' ≡ r
   pub true_marked : (y : Image) → IsTrue None b y → IsTrue None r' y
   true_marked y w = rw is (record { whole = w.whole; one = w.one; below = w.below; filled = w.filled; live = w.live; worn = w.worn; tables = w.tables; maps = w.maps })
 
-  followed : b.geometry ≡ r.geometry → b.pin ≡ r.pin → SetsMapping key row r.mapping b.mapping → HasFollowed flushing key row r r'
+  pub followed : b.geometry ≡ r.geometry → b.pin ≡ r.pin → SetsMapping key row r.mapping b.mapping → HasFollowed flushing key row r r'
   followed same pin sets = rw is (record {
     geometry = same;
     mapping = sets;
@@ -173,9 +173,6 @@ module _ (flushing : Bool) (key : Key) (row : ℕ) (r b r' : Ram) (is : r' ≡ r
 
   pub pin_marked : flushing ≡ false → r'.pin ≡ b.pin
   pin_marked off = (let f : Bool → Pin = λ x. record { block = b.pin.block; marks = marks_after x b.geometry key b.pin.marks } in ap (λ (z : Ram). z.pin) is ∙ ap f off)
-
-  pub only_marked : (k : Key) → HasMovedOnly b.mapping k → HasMovedOnly r'.mapping k
-  only_marked k only = (let P : Ram → Type 0 = λ z. HasMovedOnly z.mapping k in subst P (sym is) only)
 
 pub refreshes_same : (a b : Ram) → b.mapping ≡ a.mapping → b.pin ≡ a.pin → Refreshes a b
 refreshes_same a b m p = record { each = λ t within fresh unmarked. (let P : MappingState → Type 0 = λ x. IsUpToDate x t in subst P (sym m) (fresh (ap (λ (q : Pin). get_or q.marks t false) (sym p) ∙ unmarked))) }

@@ -90,7 +90,7 @@ marked_other : (flushing : Bool) (g : Geometry) (n t : ℕ) (ms : List Bool) →
 marked_other true g n t ms ne = get_or-set_other ms (n / entries g) t true false ne
 marked_other false g n t ms ne = refl
 
-unmarked_key : (flushing : Bool) (g : Geometry) (key : Key) (ms : List Bool) → ((n : ℕ) → key ≢ Sector n) → marks_after flushing g key ms ≡ ms
+pub unmarked_key : (flushing : Bool) (g : Geometry) (key : Key) (ms : List Bool) → ((n : ℕ) → key ≢ Sector n) → marks_after flushing g key ms ≡ ms
 unmarked_key true g (Sector n) ms not = absurd (not n refl)
 unmarked_key true g (Translation t) ms not = refl
 unmarked_key true g (Table u) ms not = refl
@@ -99,16 +99,22 @@ unmarked_key false g key ms not = refl
 due_by : (flushing : Bool) (pp t : ℕ) (moved moved' : List (ℕ × ℕ)) (mark mark' : Bool) → moved_in pp t moved' ≡ moved_in pp t moved → mark' ≡ mark → (not (length (moved_in pp t moved') == 0) || (flushing && mark')) ≡ (not (length (moved_in pp t moved) == 0) || (flushing && mark))
 due_by flushing pp t moved moved' mark mark' m k = rw (m, k) refl
 
-pub copied_due : (flushing : Bool) (key : Key) (row : ℕ) (r r' : Ram) → IsRam r → IsKeyOf r.geometry key → HasFollowed flushing key row r r' → due_count flushing r' ≤ due_count flushing r + 1
-copied_due flushing (Sector n) row r r' s lt f =
+-- a page of a sector that was copied has no other translation page written
+pub other_due : (flushing : Bool) (n row : ℕ) (r r' : Ram) → IsRam r → HasFollowed flushing (Sector n) row r r' → (k : ℕ) → k ≢ n / entries r.geometry → is_due flushing r' k ≡ is_due flushing r k
+other_due flushing n row r r' s f k ne =
     let pp_is : per_page r.mapping ≡ entries r.geometry = ap entries s.mapping_of in
     let pp'_is : per_page r'.mapping ≡ per_page r.mapping = ap entries f.mapping.limits.geometry in
-    let same : (k : ℕ) → k ≢ n / entries r.geometry → is_due flushing r' k ≡ is_due flushing r k =
-    λ k ne.
     let others : moved_in (per_page r.mapping) k r'.mapping.moved ≡ moved_in (per_page r.mapping) k r.mapping.moved = f.mapping.moved_others k (λ e. ne (e ∙ ap (λ p. n / p) pp_is)) in
     let mark : get_or r'.pin.marks k false ≡ get_or r.pin.marks k false = ap (λ l. get_or l k false) f.marks ∙ marked_other flushing r.geometry n k r.pin.marks ne in
-    ap (λ p. not (length (moved_in p k r'.mapping.moved) == 0) || (flushing && get_or r'.pin.marks k false)) pp'_is ∙ due_by flushing (per_page r.mapping) k r.mapping.moved r'.mapping.moved (get_or r.pin.marks k false) (get_or r'.pin.marks k false) others mark in
-    let e = one_more (is_due flushing r) (is_due flushing r') (n / entries r.geometry) (translation_pages r.geometry) same (sector_entry r.geometry n lt) in
+    ap (λ p. not (length (moved_in p k r'.mapping.moved) == 0) || (flushing && get_or r'.pin.marks k false)) pp'_is ∙ due_by flushing (per_page r.mapping) k r.mapping.moved r'.mapping.moved (get_or r.pin.marks k false) (get_or r'.pin.marks k false) others mark
+
+-- nor has a page of no sector
+pub same_due : (flushing : Bool) (r r' : Ram) → r'.mapping ≡ r.mapping → r'.pin.marks ≡ r.pin.marks → (k : ℕ) → is_due flushing r' k ≡ is_due flushing r k
+same_due flushing r r' m marks k = rw (m, marks) refl
+
+pub copied_due : (flushing : Bool) (key : Key) (row : ℕ) (r r' : Ram) → IsRam r → IsKeyOf r.geometry key → HasFollowed flushing key row r r' → due_count flushing r' ≤ due_count flushing r + 1
+copied_due flushing (Sector n) row r r' s lt f =
+    let e = one_more (is_due flushing r) (is_due flushing r') (n / entries r.geometry) (translation_pages r.geometry) (other_due flushing n row r r' s f) (sector_entry r.geometry n lt) in
     rw f.geometry e
 copied_due flushing (Translation t) row r r' s lt f =
     let e : due_count flushing r' ≡ due_count flushing r = (let m : r'.pin.marks ≡ r.pin.marks = f.marks ∙ unmarked_key flushing r.geometry (Translation t) r.pin.marks (λ n x. (let no : ⊥ = cc in no)) in rw (f.geometry, f.mapping, m) refl) in

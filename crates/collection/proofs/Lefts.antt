@@ -1,8 +1,10 @@
 -- How much of a half-done collection is left.
-use Rattle.std.proofs.Common.{◌≡◌, ◌≢◌, ◌⊎◌, inl, inr, ℕ, zero, suc, ◌+◌, ◌-◌, ◌*◌, ◌/◌, ◌<◌, ◌≤◌, ◌==◌, ◌&&◌, ◌||◌, Bool, true, false, not, List, [], ◌∷◌, ◌++◌, length, filter, map, count_by, min, Option, Some, None, refl, ap, sym, ◌∙◌, subst, arith, Result, Ok, Err}
+use Rattle.std.proofs.Common.{◌≡◌, ◌⊎◌, inl, inr, ℕ, zero, suc, ◌+◌, ◌-◌, ◌*◌, ◌/◌, ◌%◌, ◌<◌, ◌≤◌, ◌==◌, ◌&&◌, ◌||◌, Bool, true, false, not, List, [], ◌∷◌, ◌++◌, length, filter, map, count_by, min, replicate, Option, Some, None, MatchOption, count_ones, refl, ap, sym, ◌∙◌, subst, arith}
 use Rattle.std.specs.List.{range_with_len}
 use Rattle.std.specs.Map.{keys_of}
-use Rattle.std.proofs.lemmas.Bool.{ne_eqb}
+use Rattle.std.proofs.lemmas.Nat.{zero_from_ones}
+use lib.Count.{ones_step}
+use Rattle.std.proofs.lemmas.Bool.{cases_eq, cases_lt, eq-eqb, eqb-true, ne_eqb}
 use Rattle.page_layout.specs.declared.geometry.Geometry.{Geometry}
 use Rattle.page_layout.specs.declared.record.Key.{Key}
 use Rattle.page_layout.specs.declared.record.Key.TheVariants.{Sector, Translation, Table}
@@ -10,28 +12,24 @@ use Rattle.page_layout.specs.Page.{Image}
 use Rattle.page_layout.specs.Geometry.{translation_pages, table_pages, entries, vmax}
 use Rattle.page_layout.specs.Array.{marks}
 use Rattle.page_layout.specs.Newest.{newest}
-use Rattle.page_layout.specs.Live.{live, keys, is_in_block}
+use Rattle.page_layout.specs.Live.{live, keys, is_in_block, IsKeyOf}
 use Rattle.page_layout.proofs.CountLemmas.{bit, count_by-cons, count_by-append, count_by-map}
 use Rattle.budget.proofs.CopyLemmas.{copies_fit, touched_pages}
 use Rattle.mapping_cache.specs.Mapping.{moved_in, per_page}
-use Rattle.allocation.specs.State.{State, live_at, is_closed}
+use Rattle.allocation.specs.State.{live_at}
+use Rattle.allocation.proofs.CountLemmas.{count_has}
 use Rattle.collection.specs.declared.engine.Pinned.{Pinned}
-use Rattle.collection.specs.State.{Ram}
-use Rattle.collection.specs.declared.fault.WriteFault.{WriteFault}
-use Rattle.collection.specs.declared.engine.step.Progress.{Progress}
-use Rattle.collection.specs.declared.engine.step.Progress.TheVariants as step
-use Rattle.page_layout.specs.Flash.{Flash}
-use Rattle.budget.specs.declared.stream.Stream.TheVariants.{Meta}
-use Rattle.collection.specs.Log.{Went}
-use Rattle.collection.specs.Safe.{IsRam, IsIdle, is_shut}
+use Rattle.collection.specs.State.{Ram, Pin}
+use Rattle.collection.specs.Safe.{IsRam, is_shut}
 use Rattle.collection.specs.Pages.{newest_row}
 use Rattle.collection.specs.Truth.{IsTrue}
 use Rattle.collection.specs.Live.{HoldsNoneIn}
-use Rattle.collection.specs.Results.{Leaves, Goes}
-use Rattle.collection.specs.Collect.{has_moved, is_due, due_count, GoesBut, Refreshes, StepCosts, IsStepped}
-use Rattle.collection.specs.Left.{sectors_in, is_of_some, is_touched, touched_count, left_in, left, IsHalfDone, IsCalm, IsFew, HasPassed, pin_after, pinned_to, GoesOnHalf}
+use Rattle.collection.specs.Results.{Leaves}
+use Rattle.collection.specs.Collect.{has_moved, is_due, due_count, HasWritten}
+use Rattle.collection.specs.Left.{sectors_in, is_of_some, is_touched, touched_count, left_in, IsHalfDone, IsCalm, LeavesPin, TouchesNoMore}
 use Rattle.collection.proofs.Copies.{exact_at}
-use Rattle.collection.proofs.Lowest.{shut_closed, none_leaves, put_pinned, same_pinned}
+use Rattle.collection.proofs.Dues.{HasFollowed, other_due, same_due, unmarked_key}
+use Rattle.collection.proofs.Lowest.{shut_closed, none_leaves}
 use Rattle.collection.proofs.Rooms.{in_by, shut_fewer}
 
 -- ---- counts
@@ -135,11 +133,31 @@ copy_law flushing r r' x y block lt closed same l due fewer =
     let e = touched_kept flushing r r' x y block same (shut_closed r.blocks block closed) l due in
     omega (arith, e, fewer)
 
-pub passed_law : Rattle.collection.specs.Left.PassedLaw
-passed_law r r' x y p closed within same l h =
-    let e : HoldsNoneIn r.geometry.pages p.block 0 p.first y = none_leaves r x y p.block 0 p.first (shut_closed r.blocks p.block closed) within l h in
-    let P : Geometry → Type 0 = λ g. HoldsNoneIn g.pages p.block 0 p.first y in
-    subst P (sym same) e
+-- ---- what a copy touches
+
+count_both : {X : Type 0} (c p : X → Bool) (xs : List X) → count_by c (filter p xs) ≡ count_by (λ x. p x && c x) xs
+count_both c p [] = refl
+count_both c p (x ∷ xs) = omega (arith, count_both c p xs, both_step c p x xs (p x) refl, count_by-cons (λ z. p z && c z) x xs)
+
+-- a sector of the page has its newest page there
+of_some_here : (g : Geometry) (image : Image) (block n : ℕ) → n < g.sectors → is_in_block g.pages block (newest_row image (Sector n)) ≡ true → is_of_some (entries g) (sectors_in g image block) (n / entries g) ≡ true
+of_some_here g image block n lt here =
+    let c : ℕ → Bool = λ k. k / entries g == n / entries g in
+    let p : ℕ → Bool = λ k. is_in_block g.pages block (newest_row image (Sector k)) in
+    let both : (p n && c n) ≡ true = ap (λ b. b && c n) here ∙ eq-eqb (n / entries g) (n / entries g) refl in
+    let some = count_has (λ k. p k && c k) n 0 g.sectors both (omega arith) (omega arith) in
+    positive_some (count_by c (sectors_in g image block)) (omega (arith, some, count_both c p (range_with_len 0 g.sectors)))
+
+pub copied_touches : (flushing : Bool) (key : Key) (row at : ℕ) (r r' : Ram) (image : Image) → IsRam r → IsKeyOf r.geometry key → newest_row image key ≡ Some row → HasFollowed flushing key at r r' → TouchesNoMore flushing (row / r.geometry.pages) r image r'
+copied_touches flushing (Sector n) row at r r' image s of_key is f = λ t due. elim (cases_eq t (n / entries r.geometry)) [
+  | inl here ↦
+      let block : ℕ = row / r.geometry.pages in
+      let in_block : is_in_block r.geometry.pages block (newest_row image (Sector n)) ≡ true = ap (is_in_block r.geometry.pages block) is ∙ eq-eqb block block refl in
+      or_right (is_due flushing r t) (is_of_some (entries r.geometry) (sectors_in r.geometry image block) t) (ap (is_of_some (entries r.geometry) (sectors_in r.geometry image block)) here ∙ of_some_here r.geometry image block n of_key in_block)
+  | inr ne ↦ or_left (is_due flushing r t) (is_of_some (entries r.geometry) (sectors_in r.geometry image (row / r.geometry.pages)) t) (sym (other_due flushing n at r r' s f t ne) ∙ due)
+]
+copied_touches flushing (Translation u) row at r r' image s of_key is f = λ t due. or_left (is_due flushing r t) (is_of_some (entries r.geometry) (sectors_in r.geometry image (row / r.geometry.pages)) t) (sym (same_due flushing r r' f.mapping (f.marks ∙ unmarked_key flushing r.geometry (Translation u) r.pin.marks (λ n x. (let no : ⊥ = cc in no))) t) ∙ due)
+copied_touches flushing (Table u) row at r r' image s of_key is f = λ t due. or_left (is_due flushing r t) (is_of_some (entries r.geometry) (sectors_in r.geometry image (row / r.geometry.pages)) t) (sym (same_due flushing r r' f.mapping (f.marks ∙ unmarked_key flushing r.geometry (Table u) r.pin.marks (λ n x. (let no : ⊥ = cc in no))) t) ∙ due)
 
 -- ---- once no newest page is left
 
@@ -157,11 +175,15 @@ or_none false b e = e
 touched_at_end : (flushing : Bool) (r : Ram) (x : Image) (block : ℕ) → IsRam r → IsTrue None r x → block < r.geometry.blocks → live_at r.blocks block ≡ 0 → touched_count flushing r x block ≡ due_count flushing r
 touched_at_end flushing r x block s w lt zero_is = Rattle.page_layout.proofs.CountLemmas.count_by-same (is_touched flushing r x block) (is_due flushing r) (range_with_len 0 (translation_pages r.geometry)) (λ t. or_none (is_due flushing r t) (is_of_some (entries r.geometry) (sectors_in r.geometry x block) t) (none_in_block r x block t s w lt zero_is))
 
-pub write_law : Rattle.collection.specs.Left.WriteLaw
-write_law flushing r r' x y block s s' w w' lt same was now cost =
-    let a = touched_at_end flushing r x block s w lt was in
+-- whatever the block held before
+pub write_left : (flushing : Bool) (r r' : Ram) (x y : Image) (block : ℕ) → IsRam r' → IsTrue None r' y → block < r.geometry.blocks → r'.geometry ≡ r.geometry → live_at r'.blocks block ≡ 0 → HasWritten flushing r r' → left_in flushing r' y block + 1 ≤ left_in flushing r x block
+write_left flushing r r' x y block s' w' lt same now cost =
+    let a : due_count flushing r ≤ touched_count flushing r x block = count_le (is_touched flushing r x block) (is_due flushing r) (range_with_len 0 (translation_pages r.geometry)) (λ t due. or_left (is_due flushing r t) (is_of_some (entries r.geometry) (sectors_in r.geometry x block) t) due) in
     let b = touched_at_end flushing r' y block s' w' (rw same lt) now in
-    omega (arith, a, b, cost.due, was, now)
+    omega (arith, a, b, cost.due, now)
+
+pub write_law : Rattle.collection.specs.Left.WriteLaw
+write_law flushing r r' x y block s s' w w' lt same was now cost = write_left flushing r r' x y block s' w' lt same now cost
 
 -- ---- how small it is
 
@@ -200,6 +222,19 @@ touched_few r x block s w lt =
     let both : length all ≡ length own + length (keys_of r.mapping.moved) = Rattle.std.proofs.lemmas.List.length-append own (keys_of r.mapping.moved) in
     omega (arith, e, both, length_keys r.mapping.moved, exact_live r x block s w lt)
 
+-- a power of two from four on is even
+even_power : (n : ℕ) → count_ones n ≡ 1 → 4 ≤ n → n / 2 * 2 ≡ n
+even_power n one least = elim (cases_lt 0 (n % 2)) [
+  | inl odd ↦
+      let rest : count_ones (n / 2) ≡ 0 = (let step = ones_step n in omega arith) in
+      let none : n / 2 ≡ 0 = zero_from_ones (n / 2) rest in
+      absurd (omega arith)
+  | inr even ↦ omega arith
+]
+
+even_pages : (g : Geometry) → g.pages / 2 * 2 ≡ g.pages
+even_pages g = even_power g.pages (eqb-true (count_ones g.pages) 1 g.limits.page_count.power) g.limits.page_count.least
+
 few_fit : (g : Geometry) (live_pages moved : ℕ) → g.pages / 2 * 2 ≡ g.pages → live_pages + moved ≤ vmax g + 1 → live_pages ≤ vmax g → live_pages + min (live_pages + moved) (translation_pages g) + 1 ≤ g.pages
 few_fit g v m even le small =
     let pages = g.limits.page_count.least in
@@ -207,9 +242,9 @@ few_fit g v m even le small =
     omega arith
 
 pub left_law : Rattle.collection.specs.Left.LeftLaw
-left_law r x p even s w lt few =
+left_law r x p s w lt few =
     let e = touched_few r x p.block s w lt in
-    let f = few_fit r.geometry (live_at r.blocks p.block) (length r.mapping.moved) even few.moved few.small in
+    let f = few_fit r.geometry (live_at r.blocks p.block) (length r.mapping.moved) (even_pages r.geometry) few.moved few.small in
     omega (arith, e, f)
 
 pub pin_law : Rattle.collection.specs.Left.PinLaw
@@ -221,70 +256,60 @@ or_due : (r r' : Ram) (x : Image) (block t : ℕ) → (has_moved r'.mapping t �
 or_due r r' x block t moved due = or_left (is_due false r t) (is_of_some (entries r.geometry) (sectors_in r.geometry x block) t) (or_left (has_moved r.mapping t) false (moved (or_false (has_moved r'.mapping t) due)))
 
 pub kept_law : Rattle.collection.specs.Left.KeptLaw
-kept_law r r' x y block s s' w w' lt closed f =
+kept_law r r' x y block s s' w w' lt closed f l =
     let shut : is_shut r.blocks block ≡ true = shut_closed r.blocks block closed in
-    let e = touched_kept false r r' x y block f.goes.geometry shut f.leaves (λ t due. or_due r r' x block t (f.moved t) due) in
-    let fewer = shut_fewer r r' x y block s s' f.goes.geometry w w' f.leaves lt shut in
+    let e = touched_kept false r r' x y block f.goes.geometry shut l (λ t due. or_due r r' x block t (f.moved t) due) in
+    let fewer = shut_fewer r r' x y block s s' f.goes.geometry w w' l lt shut in
     omega (arith, e, fewer)
 
--- ---- a step, and the pin after it
+-- what is calm, of the block that is pinned
+pub half_of : (r : Ram) (p : Pinned) → IsCalm r → r.pin.block ≡ Some p → IsHalfDone r p
+half_of r p calm is = (let P : Option Pinned → Type 0 = λ o. MatchOption o (r.mapping.moved ≡ []) (IsHalfDone r) in subst P is calm.pinned)
 
-module _ (r b : Ram) (to : Option Pinned) where
-  pub but_pinned : (block : ℕ) → GoesBut block r b → GoesBut block r (pinned_to to b)
-  but_pinned block g = record { geometry = g.geometry; next = g.next; shut = g.shut }
+-- a block that is pinned after the call was before
+was_pinned : (r r' : Ram) (p : Pinned) → r'.pin ≡ r.pin → r'.pin.block ≡ Some p → r.pin.block ≡ Some p
+was_pinned r r' p same is = ap (λ (z : Pin). z.block) (sym same) ∙ is
 
-  pub goes_pinned : Goes r b → Goes r (pinned_to to b)
-  goes_pinned g = record { geometry = g.geometry; next = g.next; shut = g.shut }
+none_of : (l : List (ℕ × ℕ)) → length l ≤ 0 → l ≡ []
+none_of [] le = refl
+none_of (e ∷ l) le = absurd (omega arith)
 
-  pub went_pinned : (x y : Flash) → Went r x b y → Went r x (pinned_to to b) y
-  went_pinned x y w = record { log = w.log; leads = w.leads; follows = w.follows; next = w.next; wears = w.wears }
-
-  pub refreshes_pinned : Refreshes r b → Refreshes r (pinned_to to b)
-  refreshes_pinned f = record { each = f.each }
-
-  pub idle_pinned : IsIdle b → IsIdle (pinned_to to b)
-  idle_pinned i = record { moved = i.moved; unmarked = i.unmarked }
-
-  pub cost_pinned : (flushing : Bool) (block first : ℕ) (done : Progress) → StepCosts flushing block first r b (Ok done) → StepCosts flushing block first r (pinned_to to b) (Ok done)
-  cost_pinned flushing block first (step.Copied page) (low, high, c, f) = (low, high, record { stream = c.stream; put = put_pinned c.stream r b (record { block = to; marks = b.pin.marks }) c.put; moved = c.moved; due = c.due }, f)
-  cost_pinned flushing block first step.WroteBack c = record { put = put_pinned Meta r b (record { block = to; marks = b.pin.marks }) c.put; moved = c.moved; due = c.due }
-  cost_pinned flushing block first step.Erased (none, c) = (none, record { failures = c.failures; counts = c.counts; blocks = c.blocks; geometry = c.geometry; directory = c.directory; mapping = c.mapping; next = c.next; fault = c.fault })
-
-  pub stepped_pinned : (block : ℕ) (x y : Image) (done : Progress) → IsStepped block r x b y done → IsStepped block r x (pinned_to to b) y done
-  stepped_pinned block x y (step.Copied page) s = record { same = same_pinned r b x y (record { block = to; marks = b.pin.marks }) s.same; fewer = s.fewer; none = s.none }
-  stepped_pinned block x y step.WroteBack s = record { same = same_pinned r b x y (record { block = to; marks = b.pin.marks }) s.same; none = s.none }
-  stepped_pinned block x y step.Erased s = record { same = same_pinned r b x y (record { block = to; marks = b.pin.marks }) s.same; none = s.none }
-
--- the block is still closed, and no more sectors are moved than pages were passed
-pub half_on : (flushing : Bool) (r b : Ram) (p : Pinned) (done : Progress) → IsHalfDone r p → (done ≢ step.Erased → Goes r b) → StepCosts flushing p.block p.first r b (Ok done) → GoesOnHalf (pinned_to (pin_after p.block r.geometry.pages done) b) (pin_after p.block r.geometry.pages done)
-half_on flushing r b p (step.Copied page) h goes (low, high, c, f) =
-    let g : Goes r b = goes (λ e. (let no : ⊥ = cc in no)) in
-    record {
-      within = rw g.geometry h.within;
-      closed = (g.shut p.block h.within (shut_closed r.blocks p.block h.closed)).closed ∙ h.closed;
-      passed = (let m = c.moved in let q = h.passed in omega arith);
-      on_die = rw g.geometry (omega (arith, high));
-    }
-half_on flushing r b p step.WroteBack h goes c =
-    let g : Goes r b = goes (λ e. (let no : ⊥ = cc in no)) in
-    record {
-      within = rw g.geometry h.within;
-      closed = (g.shut p.block h.within (shut_closed r.blocks p.block h.closed)).closed ∙ h.closed;
-      passed = (let m = c.moved in let q = h.passed in let d = h.on_die in omega arith);
-      on_die = rw g.geometry (omega arith);
-    }
-half_on flushing r b p step.Erased h goes c = tt
-
-pub within_of : (flushing : Bool) (block first : ℕ) (r b : Ram) (done : Progress) → StepCosts flushing block first r b (Ok done) → Rattle.collection.specs.Whole.step_within r.geometry.pages done
-within_of flushing block first r b (step.Copied page) (low, high, c, f) = high
-within_of flushing block first r b step.WroteBack c = tt
-within_of flushing block first r b step.Erased c = tt
-
-pub idle_calm : (r : Ram) (block : ℕ) → IsIdle r → block < r.geometry.blocks → is_closed r.blocks block ≡ true → IsCalm (pinned_to (Some (record { block = block; first = 0 })) r)
-idle_calm r block i lt closed = record {
-  unmarked = i.unmarked;
-  pinned = record { within = lt; closed = closed; passed = (let e : length r.mapping.moved ≡ 0 = ap (λ l. length l) i.moved in omega arith); on_die = omega arith };
+half_kept : (r r' : Ram) (p : Pinned) → LeavesPin r r' → IsHalfDone r p → IsHalfDone r' p
+half_kept r r' p f h = record {
+  within = (let e = h.within in rw f.goes.geometry e);
+  closed = (f.goes.shut p.block h.within (shut_closed r.blocks p.block h.closed)).closed ∙ h.closed;
+  passed = (let e = h.passed in omega (arith, f.fewer));
+  on_die = (let e = h.on_die in rw f.goes.geometry e);
 }
 
-pub none_passed : (r : Ram) (image : Image) (block : ℕ) → HasPassed r image (record { block = block; first = 0 })
-none_passed r image block = record { none = λ p ge lt. absurd (omega arith) }
+pub calm_law : Rattle.collection.specs.Left.CalmLaw
+calm_law r r' f calm = record {
+  unmarked = ap (λ (z : Pin). z.marks) f.pin ∙ (calm.unmarked ∙ ap (λ g. replicate (translation_pages g) false) (sym f.goes.geometry));
+  pinned = (let P : Option Pinned → Type 0 = λ o. MatchOption o (r'.mapping.moved ≡ []) (IsHalfDone r') in subst P (ap (λ (z : Pin). z.block) (sym f.pin)) (by r.pin.block calm.pinned));
+}
+  where
+    by : (o : Option Pinned) → MatchOption o (r.mapping.moved ≡ []) (IsHalfDone r) → MatchOption o (r'.mapping.moved ≡ []) (IsHalfDone r')
+    by None none = none_of r'.mapping.moved (let e : length r.mapping.moved ≡ 0 = ap (λ l. length l) none in omega (arith, e, f.fewer))
+    by (Some p) h = half_kept r r' p f h
+
+pub passed_law : Rattle.collection.specs.Left.PassedLaw
+passed_law r r' x y calm f l h = λ p is.
+    let was : r.pin.block ≡ Some p = was_pinned r r' p f.pin is in
+    let half : IsHalfDone r p = half_of r p calm was in
+    let e : HoldsNoneIn r.geometry.pages p.block 0 p.first y = none_leaves r x y p.block 0 p.first (shut_closed r.blocks p.block half.closed) half.on_die l (h p was) in
+    let P : Geometry → Type 0 = λ g. HoldsNoneIn g.pages p.block 0 p.first y in
+    subst P (sym f.goes.geometry) e
+
+pub few_law : Rattle.collection.specs.Left.FewLaw
+few_law extra r r' x y s s' w w' calm f l few = λ p is.
+    let was : r.pin.block ≡ Some p = was_pinned r r' p f.pin is in
+    let half : IsHalfDone r p = half_of r p calm was in
+    let fewer = shut_fewer r r' x y p.block s s' f.goes.geometry w w' l half.within (shut_closed r.blocks p.block half.closed) in
+    let same : vmax r'.geometry ≡ vmax r.geometry = ap vmax f.goes.geometry in
+    let it = few p was in
+    let small = it.small in
+    let moved = it.moved in
+    record {
+      small = omega (arith, fewer, same, small);
+      moved = omega (arith, fewer, same, moved, f.fewer);
+    }

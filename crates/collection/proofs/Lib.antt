@@ -16,6 +16,7 @@ pub mod Rescues
 pub mod Blocks
 pub mod Memory
 pub mod Lives
+pub mod Turns
 pub mod Wears
 pub mod Truths
 pub mod Logs

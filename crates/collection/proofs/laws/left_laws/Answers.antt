@@ -1,4 +1,4 @@
-use Rattle.collection.proofs.Lefts.{pin_law, left_law, kept_law, passed_law, copy_law, write_law}
+use Rattle.collection.proofs.Lefts.{pin_law, left_law, kept_law, calm_law, passed_law, few_law, copy_law, write_law}
 use Rattle.collection.proofs.laws.left_laws.Goals as goal
 
 pub returns-clause-pinned : goal.returns-clause-pinned
@@ -9,6 +9,12 @@ returns-clause-below c = left_law
 
 pub returns-clause-kept : goal.returns-clause-kept
 returns-clause-kept c = kept_law
+
+pub returns-clause-calm : goal.returns-clause-calm
+returns-clause-calm c = calm_law
+
+pub returns-clause-few : goal.returns-clause-few
+returns-clause-few c = few_law
 
 pub returns-clause-passed : goal.returns-clause-passed
 returns-clause-passed c = passed_law

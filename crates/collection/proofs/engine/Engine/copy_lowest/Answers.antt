@@ -6,6 +6,7 @@ use Rattle.collection.specs.Safe.{ram}
 use Rattle.collection.proofs.Acts.{acts_ok, acts_err, acts_then, looked}
 use Rattle.collection.proofs.Looks.{none_from, ok_not_bus}
 use Rattle.collection.proofs.Lowest.{same_here, holds_none, copied_none, copied_from}
+use Rattle.collection.proofs.Turns.{touched_from}
 use Rattle.collection.proofs.engine.Engine.copy_lowest.Goals as goal
 
 pub returns-then-live-eq0-clause-truth : goal.returns-then-live-eq0-clause-truth
@@ -45,3 +46,8 @@ pub returns-clause-truth : goal.returns-clause-truth
 returns-clause-truth g c = λ honest w none.
     let still = ap (λ f. f.image) (c.in_ok-live.ensures.looks.same honest (ok_not_bus _)) in
     copied_from (ram c.args.self.now) (ram c.first_live.new.self) (ram c.copy_page.new.self) _ _ _ c.args.block c.args.first c.in-Some.page c.row-row.result c.in-Some.found _ c.in_ok-live.live w c.first_live.ensures.looks.memory still c.row-row.ensures.is (c.in_ok-live.ensures.within _ c.in-Some.is).1 c.requires.closed none (c.in_ok-live.ensures.truth honest w) c.in-Some.is (c.in_ok-copy_page.ensures.truth (c.first_live.ensures.looks.only_reads.honest_is ∙ honest))
+
+pub returns-clause-touched : goal.returns-clause-touched
+returns-clause-touched g c = λ honest w.
+    let still = ap (λ f. f.image) (c.in_ok-live.ensures.looks.same honest (ok_not_bus _)) in
+    touched_from c.args.flushing (ram c.args.self.now) (ram c.first_live.new.self) (ram c.copy_page.new.self) _ _ c.args.block c.args.first c.in-Some.page c.row-row.result c.in-Some.found _ c.in_ok-live.live w c.first_live.ensures.looks.memory still c.row-row.ensures.is (c.in_ok-live.ensures.within _ c.in-Some.is).1 (c.in_ok-live.ensures.truth honest w) c.in-Some.is (c.in_ok-copy_page.ensures.touched (c.first_live.ensures.looks.only_reads.honest_is ∙ honest))

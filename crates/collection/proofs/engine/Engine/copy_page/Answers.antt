@@ -4,8 +4,8 @@ use Rattle.page_layout.specs.Key.{key_of}
 use Rattle.budget.specs.Stream.{stream_of}
 use Rattle.collection.specs.Safe.{ram, page_in}
 use Rattle.collection.proofs.Copies.{may_copy, moved_out, marked_at, last_marked, goes_marked, cost_marked, refreshes_marked, moved_marked}
-use Rattle.collection.proofs.Copies.{pin_marked, only_marked}
-use Rattle.collection.proofs.Follows.{moved_only}
+use Rattle.collection.proofs.Copies.{pin_marked, followed}
+use Rattle.collection.proofs.Lefts.{copied_touches}
 use Rattle.collection.proofs.engine.Engine.copy_page.Goals as goal
 
 pub returns-in_err-replace-clause-truth : goal.returns-in_err-replace-clause-truth
@@ -25,10 +25,8 @@ returns-clause-cost g c = cost_marked c.args.flushing (key_of c.args.found.now) 
 pub returns-clause-pinned : goal.returns-clause-pinned
 returns-clause-pinned g c = λ off. pin_marked c.args.flushing c.key.result 0 (ram c.args.self.now) (ram c.replace.new.self) _ c.mark.ensures.marked off ∙ c.replace.ensures.pin
 
-pub returns-clause-alone : goal.returns-clause-alone
-returns-clause-alone g c = λ none.
-    let moved = moved_only (key_of c.args.found.now) c.in_ok-replace.field-0 c.args.self.now.mapping c.replace.new.self.mapping none c.in_ok-replace.ensures.mapping in
-    only_marked c.args.flushing c.key.result 0 (ram c.args.self.now) (ram c.replace.new.self) _ c.mark.ensures.marked (key_of c.args.found.now) moved
+pub returns-clause-touched : goal.returns-clause-touched
+returns-clause-touched g c = λ honest w live. copied_touches c.args.flushing (key_of c.args.found.now) c.args.row c.in_ok-replace.field-0 (ram c.args.self.now) _ _ c.requires.safe.memory c.requires.key live.newest (followed c.args.flushing (key_of c.args.found.now) c.in_ok-replace.field-0 (ram c.args.self.now) (ram c.replace.new.self) _ (marked_at c.args.flushing (key_of c.args.found.now) c.key.result (ram c.replace.new.self) _ c.key.ensures c.mark.ensures.marked) c.replace.ensures.goes.geometry c.replace.ensures.pin c.in_ok-replace.ensures.mapping)
 
 pub returns-clause-programmed : goal.returns-clause-programmed
 returns-clause-programmed g c = last_marked c.args.found.now.kind c.args.found.now.number (ram c.replace.new.self) _ _ _ (ap (λ r. r.next) c.mark.ensures.marked) (ap page_in c.mark.ensures.page) c.in_ok-replace.ensures.programmed

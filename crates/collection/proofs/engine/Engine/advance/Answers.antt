@@ -1,0 +1,57 @@
+use Rattle.std.proofs.Common.{◌≡◌, Ok, refl, ap, sym, ◌∙◌}
+use Rattle.std.proofs.lemmas.Result.{err_from_is_err_and}
+use Rattle.collection.specs.declared.engine.step.Progress.TheVariants as step
+use Rattle.collection.specs.Safe.{ram}
+use Rattle.collection.proofs.Acts.{acts_ok, acts_err}
+use Rattle.collection.proofs.Turns.{ok_told, ok_erased, told_erases, calm_on, steps_on}
+use Rattle.collection.proofs.engine.Engine.advance.Goals as goal
+
+pub returns-in_err-progress-clause-acts : goal.returns-in_err-progress-clause-acts
+returns-in_err-progress-clause-acts g c =
+    let p = err_from_is_err_and c.from_residual.result c.from_residual.ensures.1 in
+    rw (p.1, p.2) (acts_err _ _ _ c.in_err-progress.ensures.acts)
+
+pub returns-in_err-progress-clause-advances : goal.returns-in_err-progress-clause-advances
+returns-in_err-progress-clause-advances g c =
+    let p = err_from_is_err_and c.from_residual.result c.from_residual.ensures.1 in
+    let e = c.in_err-progress.ensures in
+    rw (p.1, p.2) (record {
+      goes = e.goes;
+      goes_still = λ ne. e.goes_still (λ is. (let no : ⊥ = cc in no));
+      keys = e.keys;
+      refreshes = e.refreshes;
+      cost = e.cost;
+      stays = (e.next, e.unmoved);
+      half_done = tt;
+      calm = λ off calm. tt;
+      idle = λ is. (let no : ⊥ = cc in absurd no);
+      released = λ is. (let no : ⊥ = cc in absurd no);
+      few_reads = e.reads;
+      erases_are = tt;
+      truth = e.truth;
+    })
+
+pub returns-clause-acts : goal.returns-clause-acts
+returns-clause-acts g c = acts_ok _ _ _ _ c.in_ok-progress.ensures.acts
+
+pub returns-clause-advances : goal.returns-clause-advances
+returns-clause-advances g c =
+    let done = c.in_ok-progress.progress in
+    let r = ram c.args.self.now in
+    let b = ram c.step_on.new.self in
+    let e = c.in_ok-progress.ensures in
+    rw c.told.ensures (record {
+      goes = e.goes;
+      goes_still = λ ne. e.goes_still (λ is. ne (ok_told done is));
+      keys = e.keys;
+      refreshes = e.refreshes;
+      cost = record { its = done; told_is = refl; cost = e.cost; next = e.next };
+      stays = tt;
+      half_done = e.half_done;
+      calm = λ off calm. calm_on r b c.args.pinned.block r.geometry.pages done e.goes.geometry (e.unmarked off calm.unmarked) e.next e.half_done (λ is. e.idle (ap (λ d. Ok d) is));
+      idle = λ is. e.idle (ok_erased done is);
+      released = λ is. e.released (ok_erased done is);
+      few_reads = e.reads;
+      erases_are = e.erases ∙ told_erases done _;
+      truth = λ known w passed. steps_on c.args.flushing c.args.pinned r b _ _ done e.acts.safe.memory c.requires.half_done e.goes.geometry e.cost e.next (e.truth known w passed) (λ page is. e.touched known w page (ap (λ d. Ok d) is));
+    })

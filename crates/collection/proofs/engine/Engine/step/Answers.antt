@@ -1,0 +1,14 @@
+use Rattle.std.proofs.Common.{◌≡◌}
+use Rattle.collection.specs.Turns.{Advances}
+use Rattle.collection.proofs.Acts.{acts_noted, not_standing}
+use Rattle.collection.proofs.Turns.{advances_noted, of_pinned}
+use Rattle.collection.proofs.engine.Engine.step.Goals as goal
+
+pub advance-answer-requires-clause-half_done : goal.advance-answer-requires-clause-half_done
+advance-answer-requires-clause-half_done g c = c.requires.half_done (not_standing _ _ c.in_ok-standing.ensures) c.unwrap-pinned.result c.unwrap-pinned.ensures
+
+pub returns-clause-stands : goal.returns-clause-stands
+returns-clause-stands g c = rw (c.noted.ensures.same, c.noted.ensures.noted) (acts_noted _ _ _ (not_standing _ _ c.in_ok-standing.ensures) c.advance-answer.ensures.acts)
+
+pub returns-clause-advances : goal.returns-clause-advances
+returns-clause-advances g c = λ none. rw (c.noted.ensures.same, c.noted.ensures.noted) (of_pinned (λ q. Advances g.N.PageSource.flash g.N.PageSource.honest g.N.PageSource.reads g.N.PageSource.erases c.args.flushing q c.args.self.now _ c.advance-answer.result) c.args.self.now.pinned c.unwrap-pinned.result c.unwrap-pinned.ensures (advances_noted c.args.flushing c.unwrap-pinned.result c.args.self.now c.advance-answer.new.self c.advance-answer.result c.advance-answer.ensures.advances))
