@@ -8,6 +8,7 @@ pub mod Lowest
 pub mod Steps
 pub mod Lefts
 pub mod Follows
+pub mod HalfDone
 pub mod Ledgers
 pub mod Rooms
 pub mod Noted

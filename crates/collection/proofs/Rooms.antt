@@ -7,7 +7,7 @@ use Rattle.page_layout.specs.declared.geometry.Geometry.{Geometry}
 use Rattle.page_layout.specs.declared.record.Key.{Key}
 use Rattle.page_layout.specs.Geometry.{need, vmax}
 use Rattle.page_layout.specs.Page.{Image}
-use Rattle.page_layout.specs.Counter.{counted}
+use Rattle.page_layout.specs.Counter.{counted, HasRisen}
 use Rattle.page_layout.specs.Array.{marks, array_of}
 use Rattle.page_layout.specs.Live.{live, keys, is_in_block}
 use Rattle.page_layout.specs.Newest.{newest}
@@ -28,7 +28,9 @@ use Rattle.collection.specs.Safe.{IsRam, is_shut}
 use Rattle.collection.specs.Pages.{newest_row}
 use Rattle.collection.specs.Truth.{IsTrue}
 use Rattle.collection.specs.Results.{IsSame, Leaves, Refused}
-use Rattle.collection.specs.Collect.{GoesOn, GoesBut, RestsOrErases, CollectCosts, CollectCounts, HasNoneWorth, RoomTells, IsRearranged, RoomRefused}
+use Rattle.collection.specs.Collect.{GoesOn, GoesBut, CollectCosts, CollectCounts, HasNoneWorth, RoomTells, IsRearranged, RoomRefused}
+use Rattle.collection.specs.declared.engine.Engine.{Engine}
+use Rattle.collection.specs.Acts.{RestsOrErases}
 use Rattle.collection.specs.Collect.{HasRegained, RoomCounts}
 use Rattle.collection.specs.Room.{IsMade, IsWorth, IsFundedOn}
 use Rattle.collection.proofs.Blocks.{left_then}
@@ -55,16 +57,20 @@ pub on_same : (r : Ram) → GoesOn r r
 on_same r = record { geometry = refl; next = omega arith; bad = λ b lt bad. record { row = refl; pointer = refl; closed = refl } }
 
 -- one more block is erased
-pub erased_more : (a b c : Ram) (before now after : ℕ) → RestsOrErases a b before now → after ≡ counted now → RestsOrErases a c before after
-erased_more a b c before now after (inl still) is = inr (elim (cases_lt (before + 1) (2 ^ 64)) [
-  | inl small ↦ inl (omega (arith, still.1, is))
-  | inr top ↦ inr (omega (arith, still.1, is))
-])
-erased_more a b c before now after (inr (inl rose)) is = inr (elim (cases_lt (now + 1) (2 ^ 64)) [
+pub risen_more : (before now after : ℕ) → (now ≡ before) ⊎ HasRisen before now → after ≡ counted now → HasRisen before after
+risen_more before now after (inl still) is = elim (cases_lt (before + 1) (2 ^ 64)) [
+  | inl small ↦ inl (omega (arith, still, is))
+  | inr top ↦ inr (omega (arith, still, is))
+]
+risen_more before now after (inr (inl rose)) is = elim (cases_lt (now + 1) (2 ^ 64)) [
   | inl small ↦ inl (omega (arith, is))
   | inr top ↦ inr (omega (arith, is))
-])
-erased_more a b c before now after (inr (inr top)) is = inr (inr (omega (arith, top, is)))
+]
+risen_more before now after (inr (inr top)) is = inr (omega (arith, top, is))
+
+pub erased_more : {N : Type 0} (erases : N → ℕ) (a b c : Engine N) → RestsOrErases erases a b → erases c.nand ≡ counted (erases b.nand) → c.pinned ≡ None → RestsOrErases erases a c
+erased_more erases a b c (inl still) is none = inr (risen_more (erases a.nand) (erases b.nand) (erases c.nand) (inl (ap (λ e. erases e.nand) still)) is, none)
+erased_more erases a b c (inr r) is none = inr (risen_more (erases a.nand) (erases b.nand) (erases c.nand) (inr r.0) is, none)
 
 pub still_bad : (a b : State) (k : ℕ) → IsLeftButLive a b k → is_good_at a.table k ≡ false → is_good_at b.table k ≡ false
 still_bad a b k l bad = ap is_good l.row ∙ bad
@@ -164,21 +170,21 @@ refused_room failures a b c Damaged s same f k = k
 refused_room failures a b c Bus s same f k = tt
 
 -- with fewer than nine free blocks, and none worth collecting, fewer than `need` are good
-pub short_or_nine : (r : Ram) (x : Image) → IsTrue None r x → IsMade r → ((counts_of r.blocks).good < need r.geometry) ⊎ (9 ≤ (counts_of r.blocks).free)
-short_or_nine r x w room = elim (cases_lt (counts_of r.blocks).good (need r.geometry)) [ inl few ↦ inl few | inr many ↦ inr (room.nine (marks x) w.live many) ]
+pub short_or_nine : (r : Ram) (x : Image) → IsTrue None r x → IsMade 0 r → ((counts_of r.blocks).good < need r.geometry) ⊎ (9 ≤ (counts_of r.blocks).free)
+short_or_nine r x w room = elim (cases_lt (counts_of r.blocks).good (need r.geometry)) [ inl few ↦ inl few | inr many ↦ inr (room.enough (marks x) w.live (omega (arith, many))) ]
 
-pub regained : (failures : ℕ) (a b : Ram) (y : Image) → IsTrue None b y → b.geometry ≡ a.geometry → IsMade b → IsFundedOn failures a b → HasRegained failures a b
+pub regained : (failures : ℕ) (a b : Ram) (y : Image) → IsTrue None b y → b.geometry ≡ a.geometry → IsMade 0 b → IsFundedOn failures a b → HasRegained failures a b
 regained failures a b y w same room f = record { its_failures = f.its_failures; good = f.good; funded = f.funded; nine = (let n = short_or_nine b y w room in rw (← same) n) }
 
-pub too_few : (failures : ℕ) (a b : Ram) (y : Image) → IsTrue None b y → b.geometry ≡ a.geometry → IsMade b → free_count b.blocks < 5 → RoomCounts failures a b (Err ReadOnly)
+pub too_few : (failures : ℕ) (a b : Ram) (y : Image) → IsTrue None b y → b.geometry ≡ a.geometry → IsMade 0 b → free_count b.blocks < 5 → RoomCounts failures a b (Err ReadOnly)
 too_few failures a b y w same room few = elim (short_or_nine b y w room) [ inl short ↦ inl (rw (← same) short) | inr nine ↦ absurd (omega arith) ]
 
-pub made_none : (r : Ram) (o : Option ℕ) → MatchOption o (IsMade r) (IsWorth r) → o ≡ None → IsMade r
-made_none r o m is = (let P : Option ℕ → Type 0 = λ x. MatchOption x (IsMade r) (IsWorth r) in subst P is m)
+pub made_none : (r : Ram) (o : Option ℕ) → MatchOption o (IsMade 0 r) (IsWorth 0 r) → o ≡ None → IsMade 0 r
+made_none r o m is = (let P : Option ℕ → Type 0 = λ x. MatchOption x (IsMade 0 r) (IsWorth 0 r) in subst P is m)
 
-pub made_some : (r : Ram) (o : Option ℕ) (block : ℕ) → MatchOption o (IsMade r) (IsWorth r) → o ≡ Some block → IsWorth r block
-made_some r o block m is = (let P : Option ℕ → Type 0 = λ x. MatchOption x (IsMade r) (IsWorth r) in subst P is m)
+pub made_some : (r : Ram) (o : Option ℕ) (block : ℕ) → MatchOption o (IsMade 0 r) (IsWorth 0 r) → o ≡ Some block → IsWorth 0 r block
+made_some r o block m is = (let P : Option ℕ → Type 0 = λ x. MatchOption x (IsMade 0 r) (IsWorth 0 r) in subst P is m)
 
-pub final_counts : (failures : ℕ) (a b : Ram) (y : Image) (result : Result (Unit {0}) WriteFault) → IsTrue None b y → b.geometry ≡ a.geometry → IsMade b → IsFundedOn failures a b → IfErr result (λ fault. (fault ≡ ReadOnly) × (free_count b.blocks < 5)) → RoomCounts failures a b result
+pub final_counts : (failures : ℕ) (a b : Ram) (y : Image) (result : Result (Unit {0}) WriteFault) → IsTrue None b y → b.geometry ≡ a.geometry → IsMade 0 b → IsFundedOn failures a b → IfErr result (λ fault. (fault ≡ ReadOnly) × (free_count b.blocks < 5)) → RoomCounts failures a b result
 final_counts failures a b y (Ok u) w same room f few = regained failures a b y w same room f
 final_counts failures a b y (Err fault) w same room f few = (let P : WriteFault → Type 0 = λ e. RoomCounts failures a b (Err e) in subst P (sym few.0) (too_few failures a b y w same room few.1))
