@@ -1,0 +1,31 @@
+use Rattle.std.proofs.Common.{Some, None}
+use Rattle.collection.specs.Safe.{ram}
+use Rattle.collection.proofs.HalfDone.{true_from, but_from, refreshes_from, emptied_from, counts_from, cost_from, acts_from, idle_half, passed_none, idle_few}
+use Rattle.collection.proofs.engine.Engine.collect_block.Goals as goal
+
+pub collect_from-requires-clause-half_done : goal.collect_from-requires-clause-half_done
+collect_from-requires-clause-half_done g c = idle_half (ram c.args.self.now) c.args.block _ c.requires.idle c.requires.block c.requires.closed
+
+pub returns-clause-acts : goal.returns-clause-acts
+returns-clause-acts g c = acts_from c.args.self.now _ _ _ c.collect_from.ensures.acts
+
+pub returns-clause-goes : goal.returns-clause-goes
+returns-clause-goes g c = but_from (ram c.args.self.now) _ _ c.args.block c.collect_from.ensures.goes
+
+pub returns-clause-refreshes : goal.returns-clause-refreshes
+returns-clause-refreshes g c = λ on. refreshes_from (ram c.args.self.now) _ _ (c.collect_from.ensures.refreshes on)
+
+pub returns-clause-cost : goal.returns-clause-cost
+returns-clause-cost g c = cost_from (ram c.args.self.now) _ _ c.args.flushing _ c.collect_from.ensures.cost
+
+pub returns-clause-truth : goal.returns-clause-truth
+returns-clause-truth g c = λ honest w. emptied_from (ram c.args.self.now) (ram c.collect_from.new.self) (Some (record { block = c.args.block; first = 0 })) c.args.block _ _ c.collect_from.result (c.collect_from.ensures.truth honest (true_from (ram c.args.self.now) (ram c.args.self.now) (Some (record { block = c.args.block; first = 0 })) None _ w) (passed_none (ram c.args.self.now) _ c.args.block))
+
+pub returns-clause-count : goal.returns-clause-count
+returns-clause-count g c = λ honest w small. counts_from (ram c.args.self.now) (ram c.collect_from.new.self) (Some (record { block = c.args.block; first = 0 })) c.collect_from.result (c.collect_from.ensures.count honest (true_from (ram c.args.self.now) (ram c.args.self.now) (Some (record { block = c.args.block; first = 0 })) None _ w) (passed_none (ram c.args.self.now) _ c.args.block) (idle_few (ram c.args.self.now) c.args.block (Some (record { block = c.args.block; first = 0 })) c.requires.idle small))
+
+pub returns-clause-thrifty : goal.returns-clause-thrifty
+returns-clause-thrifty g c = λ honest w small ne. c.collect_from.ensures.thrifty honest (true_from (ram c.args.self.now) (ram c.args.self.now) (Some (record { block = c.args.block; first = 0 })) None _ w) (passed_none (ram c.args.self.now) _ c.args.block) (idle_few (ram c.args.self.now) c.args.block (Some (record { block = c.args.block; first = 0 })) c.requires.idle small) ne
+
+pub returns-clause-few : goal.returns-clause-few
+returns-clause-few g c = λ honest w small ne. c.collect_from.ensures.few honest (true_from (ram c.args.self.now) (ram c.args.self.now) (Some (record { block = c.args.block; first = 0 })) None _ w) (passed_none (ram c.args.self.now) _ c.args.block) (idle_few (ram c.args.self.now) c.args.block (Some (record { block = c.args.block; first = 0 })) c.requires.idle small) ne
