@@ -17,7 +17,7 @@ use Rattle.allocation.proofs.SafeLemmas.{free_fits}
 use Rattle.allocation.proofs.TallyLemmas.{fits}
 use Rattle.allocation.proofs.CountLemmas.{count_within}
 use Rattle.collection.specs.State.{Ram}
-use Rattle.collection.specs.Safe.{IsRam, IsIdle}
+use Rattle.collection.specs.Safe.{IsRam}
 use Rattle.collection.specs.Truth.{IsTrue}
 use Rattle.collection.specs.Cost.{HasPut}
 use Rattle.collection.specs.Live.{HoldsNoneIn}
@@ -35,8 +35,7 @@ use Rattle.allocation.specs.Laws.{IsLeftButLive}
 use Rattle.collection.proofs.Blocks.{left_then}
 use Rattle.collection.proofs.Memory.{shut_same}
 use Rattle.collection.proofs.Puts.{same_then}
-use Rattle.collection.proofs.Finds.{none_yet, none_of_all}
-use Rattle.collection.proofs.Dues.{idle_due}
+use Rattle.collection.proofs.Finds.{none_of_all}
 use Rattle.collection.proofs.Lowest.{same_here, holds_none, shut_closed}
 
 pub fit : (r : Ram) → IsRam r → Fits r.geometry.pages (counts_of r.blocks)
@@ -75,9 +74,12 @@ programmed_more stream first now new d m same p put = record {
 
 -- ---- a collection begins
 
-pub begun : (flushing : Bool) (block : ℕ) (r : Ram) (known : Type 0) (x : Image) → IsRam r → IsIdle r → (known → IsTrue None r x) → IsUnderWay flushing block 0 r r known x x
-begun flushing block r known x s idle w =
-    let none : due_count flushing r ≡ 0 = idle_due flushing r idle in
+pub due_most : (flushing : Bool) (first now : Ram) → now.geometry ≡ first.geometry → due_count flushing now ≤ translation_pages first.geometry
+due_most flushing first now same = (let x = count_within (is_due flushing now) 0 (translation_pages now.geometry) in rw (← same) x)
+
+pub begun : (flushing : Bool) (block first : ℕ) (r : Ram) (known : Type 0) (x : Image) → IsRam r → (known → IsTrue None r x) → (known → HoldsNoneIn r.geometry.pages block 0 first x) → IsUnderWay flushing block first r r known x x
+begun flushing block first r known x s w passed =
+    let due : due_count flushing r ≤ translation_pages r.geometry = due_most flushing r r refl in
     record {
       ledger = record {
         copies = 0;
@@ -86,19 +88,16 @@ begun flushing block r known x s idle w =
         meta_pages = 0;
         pages = refl;
         programmed = record { account = no_page r.geometry.pages (counts_of r.blocks) (fit r s); next = omega arith };
-        for_copies = omega (arith, none);
-        for_pages = omega (arith, none);
+        for_copies = omega arith;
+        for_pages = omega (arith, due);
       };
       order = inl refl;
       busy = omega arith;
       programmed = omega arith;
-      truth = λ k. record { same = same_here r x (w k); copies_left = omega arith; none = none_yet r.geometry.pages block x 0 };
+      truth = λ k. record { same = same_here r x (w k); copies_left = omega arith; few = omega arith; none = passed k };
     }
 
 -- ---- a page is copied
-
-pub due_most : (flushing : Bool) (first now : Ram) → now.geometry ≡ first.geometry → due_count flushing now ≤ translation_pages first.geometry
-due_most flushing first now same = (let x = count_within (is_due flushing now) 0 (translation_pages now.geometry) in rw (← same) x)
 
 pub copied_more : (flushing : Bool) (block first page : ℕ) (old now new : Ram) (known : Type 0) (x y z : Image) → IsRam now → Goes old now → Goes now new → 1 < old.geometry.pages → IsUnderWay flushing block first old now known x y → first ≤ page → page < now.geometry.pages → HasCopied flushing now new → (known → IsTrue None now y → HoldsNoneIn now.geometry.pages block 0 first y → IsCopied block page now y new z) → IsUnderWay flushing block (page + 1) old new known x z
 copied_more flushing block first page old now new known x y z s goes then some u ge lt cost call =
@@ -125,7 +124,7 @@ copied_more flushing block first page old now new known x y z s goes then some u
       truth = λ k.
           let w = u.truth k in
           let c = call k w.same.truth (rw same w.none) in
-          record { same = same_then old now new x y z goes then.geometry w.same c.same; copies_left = omega (arith, w.copies_left, c.fewer); none = (let n = c.none in rw (← same) n) };
+          record { same = same_then old now new x y z goes then.geometry w.same c.same; copies_left = omega (arith, w.copies_left, c.fewer); few = omega (arith, w.few, c.fewer, cost.moved); none = (let n = c.none in rw (← same) n) };
     }
 
 -- ---- a translation page is written
@@ -154,7 +153,7 @@ written_more flushing block first old now new known x y z s s' goes then some wi
           let w = u.truth k in
           let c = call k w.same.truth (rw same w.none) in
           let h = holds_none new z block s' c.same.truth (rw same' within) c.none in
-          record { same = same_then old now new x y z goes then.geometry w.same c.same; copies_left = omega (arith, w.copies_left, c.none); none = none_of_all old.geometry.pages block z 0 old.geometry.pages (omega arith) (rw (← same') h) };
+          record { same = same_then old now new x y z goes then.geometry w.same c.same; copies_left = omega (arith, w.copies_left, c.none); few = omega (arith, w.few, c.none, cost.moved); none = none_of_all old.geometry.pages block z 0 old.geometry.pages (omega arith) (rw (← same') h) };
     }
 
 -- ---- it ends
@@ -174,42 +173,42 @@ less_work flushing block first old now new known x y s s' same u e =
 
 -- ---- the count
 
-few : (g : Geometry) (v copies written due : ℕ) → v ≤ vmax g → copies ≤ v → written + due ≤ copies → written + due ≤ translation_pages g → copies + written + 1 ≤ g.pages
-few g v copies written due small le a b = (let f = copies_fit g v small in omega (arith, f))
+few : (g : Geometry) (live_pages moved first copies written due : ℕ) → live_pages + moved ≤ vmax g + 0 → first ≤ moved → copies ≤ live_pages → written + due ≤ copies + first → written + due ≤ translation_pages g → copies + written + 1 ≤ g.pages
+few g live_pages moved first copies written due small begin le a b = (let f = copies_fit g (live_pages + moved) (omega (arith, small)) in omega (arith, f, begin, le, a, b))
 
-few_more : (g : Geometry) (v copies written due live : ℕ) → v ≤ vmax g → copies + live ≤ v → written + due ≤ copies → written + due ≤ translation_pages g → (0 < live) ⊎ (0 < due) → copies + written + 2 ≤ g.pages
-few_more g v copies written due live small le a b (inl some) = (let f = copies_fit g v small in omega (arith, f))
-few_more g v copies written due live small le a b (inr some) = (let f = copies_fit g v small in omega (arith, f))
+few_more : (g : Geometry) (live_pages moved first copies written due still : ℕ) → live_pages + moved ≤ vmax g + 0 → first ≤ moved → copies + still ≤ live_pages → written + due ≤ copies + first → written + due ≤ translation_pages g → (0 < still) ⊎ (0 < due) → copies + written + 2 ≤ g.pages
+few_more g live_pages moved first copies written due still small begin le a b (inl some) = (let f = copies_fit g (live_pages + moved) (omega (arith, small)) in omega (arith, f, begin, le, a, b))
+few_more g live_pages moved first copies written due still small begin le a b (inr some) = (let f = copies_fit g (live_pages + moved) (omega (arith, small)) in omega (arith, f, begin, le, a, b))
 
-pub counts_collected : (flushing : Bool) (block first : ℕ) (old now new : Ram) (known : Type 0) (x y : Image) → IsRam new → new.geometry ≡ old.geometry → known → live_at old.blocks block ≤ vmax old.geometry → IsUnderWay flushing block first old now known x y → HasErased block now new → Collected old.geometry.pages (counts_of old.blocks) (counts_of new.blocks)
-counts_collected flushing block first old now new known x y s same k small u e =
+pub counts_collected : (flushing : Bool) (block first : ℕ) (old now new : Ram) (known : Type 0) (x y : Image) → IsRam new → new.geometry ≡ old.geometry → known → live_at old.blocks block + length old.mapping.moved ≤ vmax old.geometry + 0 → due_count flushing old ≤ length old.mapping.moved → IsUnderWay flushing block first old now known x y → HasErased block now new → Collected old.geometry.pages (counts_of old.blocks) (counts_of new.blocks)
+counts_collected flushing block first old now new known x y s same k small begin u e =
     let w = u.truth k in
     let le : u.ledger.copies ≤ live_at old.blocks block = omega (arith, w.copies_left) in
-    let f = few old.geometry (live_at old.blocks block) u.ledger.copies u.ledger.written (due_count flushing now) small le u.ledger.for_copies u.ledger.for_pages in
+    let f = few old.geometry (live_at old.blocks block) (length old.mapping.moved) (due_count flushing old) u.ledger.copies u.ledger.written (due_count flushing now) small begin le u.ledger.for_copies u.ledger.for_pages in
     let fits_new : Fits old.geometry.pages (counts_of new.blocks) = (let P : Geometry → Type 0 = λ g. Fits g.pages (counts_of new.blocks) in subst P same (fit new s)) in
     collected old.geometry.pages e.failures u.ledger.data_pages u.ledger.meta_pages (counts_of old.blocks) (counts_of now.blocks) (counts_of new.blocks) u.ledger.programmed.account (omega (arith, u.ledger.pages, f)) e.counts fits_new
 
-pub counts_stuck : (flushing : Bool) (block first : ℕ) (old now new : Ram) (known : Type 0) (x y : Image) → known → live_at old.blocks block ≤ vmax old.geometry → IsUnderWay flushing block first old now known x y → (0 < live_at now.blocks block) ⊎ (0 < due_count flushing now) → StreamRunsOut now new → Stuck (counts_of old.blocks) (counts_of new.blocks)
-counts_stuck flushing block first old now new known x y k small u owed out =
+pub counts_stuck : (flushing : Bool) (block first : ℕ) (old now new : Ram) (known : Type 0) (x y : Image) → known → live_at old.blocks block + length old.mapping.moved ≤ vmax old.geometry + 0 → due_count flushing old ≤ length old.mapping.moved → IsUnderWay flushing block first old now known x y → (0 < live_at now.blocks block) ⊎ (0 < due_count flushing now) → StreamRunsOut now new → Stuck (counts_of old.blocks) (counts_of new.blocks)
+counts_stuck flushing block first old now new known x y k small begin u owed out =
     let w = u.truth k in
-    let f = few_more old.geometry (live_at old.blocks block) u.ledger.copies u.ledger.written (due_count flushing now) (live_at now.blocks block) small w.copies_left u.ledger.for_copies u.ledger.for_pages owed in
+    let f = few_more old.geometry (live_at old.blocks block) (length old.mapping.moved) (due_count flushing old) u.ledger.copies u.ledger.written (due_count flushing now) (live_at now.blocks block) small begin w.copies_left u.ledger.for_copies u.ledger.for_pages owed in
     stuck out.stream old.geometry.pages out.out.failures u.ledger.data_pages u.ledger.meta_pages (counts_of old.blocks) (counts_of now.blocks) (counts_of new.blocks) u.ledger.programmed.account (omega (arith, u.ledger.pages, f)) out.out.found
 
-thrift : (flushing : Bool) (block first : ℕ) (old now : Ram) (known : Type 0) (x y : Image) → known → live_at old.blocks block ≤ vmax old.geometry → IsUnderWay flushing block first old now known x y → IsThrifty old now
-thrift flushing block first old now known x y k small u =
+thrift : (flushing : Bool) (block first : ℕ) (old now : Ram) (known : Type 0) (x y : Image) → known → live_at old.blocks block + length old.mapping.moved ≤ vmax old.geometry + 0 → due_count flushing old ≤ length old.mapping.moved → IsUnderWay flushing block first old now known x y → IsThrifty old now
+thrift flushing block first old now known x y k small begin u =
     let w = u.truth k in
     let le : u.ledger.copies ≤ live_at old.blocks block = omega (arith, w.copies_left) in
-    let f = few old.geometry (live_at old.blocks block) u.ledger.copies u.ledger.written (due_count flushing now) small le u.ledger.for_copies u.ledger.for_pages in
+    let f = few old.geometry (live_at old.blocks block) (length old.mapping.moved) (due_count flushing old) u.ledger.copies u.ledger.written (due_count flushing now) small begin le u.ledger.for_copies u.ledger.for_pages in
     omega (arith, u.ledger.programmed.next, u.ledger.pages, f)
 
-pub thrifty_erased : (flushing : Bool) (block first : ℕ) (old now new : Ram) (known : Type 0) (x y : Image) → known → live_at old.blocks block ≤ vmax old.geometry → IsUnderWay flushing block first old now known x y → HasErased block now new → IsThrifty old new
-thrifty_erased flushing block first old now new known x y k small u e = (let t = thrift flushing block first old now known x y k small u in omega (arith, t, e.next, e.counts.good))
+pub thrifty_erased : (flushing : Bool) (block first : ℕ) (old now new : Ram) (known : Type 0) (x y : Image) → known → live_at old.blocks block + length old.mapping.moved ≤ vmax old.geometry + 0 → due_count flushing old ≤ length old.mapping.moved → IsUnderWay flushing block first old now known x y → HasErased block now new → IsThrifty old new
+thrifty_erased flushing block first old now new known x y k small begin u e = (let t = thrift flushing block first old now known x y k small begin u in omega (arith, t, e.next, e.counts.good))
 
-pub thrifty_refused : (flushing : Bool) (block first : ℕ) (old now new : Ram) (known : Type 0) (x y : Image) (fault : WriteFault) → known → live_at old.blocks block ≤ vmax old.geometry → IsUnderWay flushing block first old now known x y → FaultCosts now new fault → fault ≢ Damaged → fault ≢ Bus → IsThrifty old new
-thrifty_refused flushing block first old now new known x y ReadOnly k small u out nd nb = (let t = thrift flushing block first old now known x y k small u in omega (arith, t, out.out.next, out.out.found.good))
-thrifty_refused flushing block first old now new known x y SequenceSpent k small u out nd nb = (let t = thrift flushing block first old now known x y k small u in omega (arith, t, out.spent.tried.next, out.spent.tried.tries.good))
-thrifty_refused flushing block first old now new known x y Damaged k small u out nd nb = absurd (nd refl)
-thrifty_refused flushing block first old now new known x y Bus k small u out nd nb = absurd (nb refl)
+pub thrifty_refused : (flushing : Bool) (block first : ℕ) (old now new : Ram) (known : Type 0) (x y : Image) (fault : WriteFault) → known → live_at old.blocks block + length old.mapping.moved ≤ vmax old.geometry + 0 → due_count flushing old ≤ length old.mapping.moved → IsUnderWay flushing block first old now known x y → FaultCosts now new fault → fault ≢ Damaged → fault ≢ Bus → IsThrifty old new
+thrifty_refused flushing block first old now new known x y ReadOnly k small begin u out nd nb = (let t = thrift flushing block first old now known x y k small begin u in omega (arith, t, out.out.next, out.out.found.good))
+thrifty_refused flushing block first old now new known x y SequenceSpent k small begin u out nd nb = (let t = thrift flushing block first old now known x y k small begin u in omega (arith, t, out.spent.tried.next, out.spent.tried.tries.good))
+thrifty_refused flushing block first old now new known x y Damaged k small begin u out nd nb = absurd (nd refl)
+thrifty_refused flushing block first old now new known x y Bus k small begin u out nd nb = absurd (nb refl)
 
 pub refused_cost : (flushing : Bool) (block first : ℕ) (old now new : Ram) (known : Type 0) (x y : Image) (fault : WriteFault) → IsUnderWay flushing block first old now known x y → FaultCosts now new fault → CollectCosts flushing old new (Err fault)
 refused_cost flushing block first old now new known x y ReadOnly u out = record { mid = now; ledger = u.ledger; out = out }
@@ -217,11 +216,11 @@ refused_cost flushing block first old now new known x y SequenceSpent u out = re
 refused_cost flushing block first old now new known x y Damaged u out = tt
 refused_cost flushing block first old now new known x y Bus u out = tt
 
-pub refused_counts : (flushing : Bool) (block first : ℕ) (old now new : Ram) (known : Type 0) (x y : Image) (z : Image) (fault : WriteFault) → known → live_at old.blocks block ≤ vmax old.geometry → IsUnderWay flushing block first old now known x y → (fault ≡ ReadOnly → (0 < live_at now.blocks block) ⊎ (0 < due_count flushing now)) → FaultCosts now new fault → Refused now y new z fault → CollectCounts old new (Err fault)
-refused_counts flushing block first old now new known x y z ReadOnly k small u owed out r = counts_stuck flushing block first old now new known x y k small u (owed refl) out
-refused_counts flushing block first old now new known x y z SequenceSpent k small u owed out r = tt
-refused_counts flushing block first old now new known x y z Damaged k small u owed out r = r
-refused_counts flushing block first old now new known x y z Bus k small u owed out r = tt
+pub refused_counts : (flushing : Bool) (block first : ℕ) (old now new : Ram) (known : Type 0) (x y : Image) (z : Image) (fault : WriteFault) → known → live_at old.blocks block + length old.mapping.moved ≤ vmax old.geometry + 0 → due_count flushing old ≤ length old.mapping.moved → IsUnderWay flushing block first old now known x y → (fault ≡ ReadOnly → (0 < live_at now.blocks block) ⊎ (0 < due_count flushing now)) → FaultCosts now new fault → Refused now y new z fault → CollectCounts old new (Err fault)
+refused_counts flushing block first old now new known x y z ReadOnly k small begin u owed out r = counts_stuck flushing block first old now new known x y k small begin u (owed refl) out
+refused_counts flushing block first old now new known x y z SequenceSpent k small begin u owed out r = tt
+refused_counts flushing block first old now new known x y z Damaged k small begin u owed out r = r
+refused_counts flushing block first old now new known x y z Bus k small begin u owed out r = tt
 
 -- ---- a step, whichever it was
 

@@ -9,6 +9,7 @@ pub mod Steps
 pub mod Lefts
 pub mod Beside
 pub mod Follows
+pub mod HalfDone
 pub mod Ledgers
 pub mod Rooms
 pub mod Noted

@@ -1,5 +1,5 @@
 -- Collections one after another, until there is room.
-use Rattle.std.proofs.Common.{◌≡◌, ◌≢◌, ◌⊎◌, inl, inr, ℕ, ◌+◌, ◌/◌, ◌<◌, ◌≤◌, ◌^◌, Bool, true, false, not, ◌||◌, List, [], ◌∷◌, count_by, Option}
+use Rattle.std.proofs.Common.{◌≡◌, ◌≢◌, ◌⊎◌, inl, inr, ℕ, zero, suc, ◌&&◌, ◌==◌, length, ◌+◌, ◌/◌, ◌<◌, ◌≤◌, ◌^◌, Bool, true, false, not, ◌||◌, List, [], ◌∷◌, count_by, Option}
 use Rattle.std.proofs.Common.{Some, None, Result, Ok, Err, MatchOption, refl, ap, sym, ◌∙◌, subst, arith}
 use Rattle.std.proofs.lemmas.Bool.{cases_lt, eqb-true}
 use Rattle.std.specs.Prelude.{IfErr}
@@ -7,18 +7,22 @@ use Rattle.page_layout.specs.declared.geometry.Geometry.{Geometry}
 use Rattle.page_layout.specs.declared.record.Key.{Key}
 use Rattle.page_layout.specs.Geometry.{need, vmax}
 use Rattle.page_layout.specs.Page.{Image}
-use Rattle.page_layout.specs.Counter.{counted}
+use Rattle.page_layout.specs.Counter.{counted, HasRisen}
 use Rattle.page_layout.specs.Array.{marks, array_of}
 use Rattle.page_layout.specs.Live.{live, keys, is_in_block}
 use Rattle.page_layout.specs.Newest.{newest}
-use Rattle.page_layout.proofs.CountLemmas.{bit, count_by-cons}
-use Rattle.bad_blocks.specs.Table.{is_good, is_good_at}
+use Rattle.page_layout.proofs.CountLemmas.{bit, count_by-cons, count_by_none, count_in_range}
+use Rattle.bad_blocks.specs.Table.{is_good, is_good_at, good_count}
+use Rattle.page_layout.specs.declared.record.Record.{Record}
 use Rattle.budget.specs.Counts.{Fits}
 use Rattle.budget.specs.Spending.{Collected, IsFunded}
-use Rattle.budget.proofs.RoomLemmas.{collected_funded, never_stuck}
-use Rattle.allocation.specs.State.{State, live_at, free_count, is_closed}
+use Rattle.budget.proofs.RoomLemmas.{collected_funded, never_stuck, nine}
+use Rattle.allocation.specs.State.{State, live_at, pointer_at, holds, free_count, is_free, is_closed}
+use Rattle.allocation.proofs.TallyLemmas.{good_by_number}
+use Rattle.page_layout.specs.Count.{blocks_that}
+use Rattle.std.specs.List.{range_with_len}
 use Rattle.allocation.specs.Step.{IsVictim}
-use Rattle.allocation.specs.Counts.{counts_of}
+use Rattle.allocation.specs.Counts.{counts_of, IsLiveExact}
 use Rattle.allocation.specs.Laws.{IsLeftButLive}
 use Rattle.allocation.proofs.SafeLemmas.{closed_parts}
 use Rattle.collection.specs.declared.fault.WriteFault.{WriteFault}
@@ -28,7 +32,9 @@ use Rattle.collection.specs.Safe.{IsRam, is_shut}
 use Rattle.collection.specs.Pages.{newest_row}
 use Rattle.collection.specs.Truth.{IsTrue}
 use Rattle.collection.specs.Results.{IsSame, Leaves, Refused}
-use Rattle.collection.specs.Collect.{GoesOn, GoesBut, RestsOrErases, CollectCosts, CollectCounts, HasNoneWorth, RoomTells, IsRearranged, RoomRefused}
+use Rattle.collection.specs.Collect.{GoesOn, GoesBut, CollectCosts, CollectCounts, HasNoneWorth, RoomTells, IsRearranged, RoomRefused}
+use Rattle.collection.specs.declared.engine.Engine.{Engine}
+use Rattle.collection.specs.Acts.{RestsOrErases}
 use Rattle.collection.specs.Collect.{HasRegained, RoomCounts}
 use Rattle.collection.specs.Room.{IsMade, IsWorth, IsFundedOn}
 use Rattle.collection.proofs.Blocks.{left_then}
@@ -43,6 +49,47 @@ none_worth_none r s none = record { none = λ b lt closed. (let f : is_closed r.
 pub none_worth_large : (r : Ram) (v : ℕ) → IsRam r → IsVictim r.blocks r.blocks.geometry.blocks v → vmax r.geometry < live_at r.blocks v → HasNoneWorth r
 none_worth_large r v s w large = record { none = λ b lt closed. (let l = w.live_least b (rw s.blocks_of lt) closed in omega arith) }
 
+-- a good block is free, open or closed
+part_of : (x z d m : Bool) → bit x ≤ bit (x && z) + bit d + bit m + bit (x && not z && not (d || m))
+part_of false z d m = omega arith
+part_of true true d m = omega arith
+part_of true false true m = omega arith
+part_of true false false true = omega arith
+part_of true false false false = omega arith
+
+parts_at : (s : State) (b : ℕ) → bit (is_good_at s.table b) ≤ bit (is_free s b) + bit (holds s.data_open b) + bit (holds s.meta_open b) + bit (is_closed s b)
+parts_at s b = part_of (is_good_at s.table b) (pointer_at s b == 0) (holds s.data_open b) (holds s.meta_open b)
+
+count_four : (good p q r t : ℕ → Bool) (a n : ℕ) → ((b : ℕ) → bit (good b) ≤ bit (p b) + bit (q b) + bit (r b) + bit (t b)) → count_by good (range_with_len a n) ≤ count_by p (range_with_len a n) + count_by q (range_with_len a n) + count_by r (range_with_len a n) + count_by t (range_with_len a n)
+count_four good p q r t a zero le = omega arith
+count_four good p q r t a (suc n) le =
+    omega (arith, count_by-cons good a (range_with_len (a + 1) n), count_by-cons p a (range_with_len (a + 1) n), count_by-cons q a (range_with_len (a + 1) n), count_by-cons r a (range_with_len (a + 1) n), count_by-cons t a (range_with_len (a + 1) n), le a, count_four good p q r t (a + 1) n le)
+
+held_most : (o : Option ℕ) (n : ℕ) → count_by (holds o) (range_with_len 0 n) ≤ 1
+held_most None n = omega (arith, count_by_none (holds None) (range_with_len 0 n) (λ b. refl))
+held_most (Some b) n = count_in_range b 0 n
+
+good_most : (s : State) → length s.table ≡ s.geometry.blocks → good_count s.table ≤ free_count s + (count_by (holds s.data_open) (range_with_len 0 s.geometry.blocks) + count_by (holds s.meta_open) (range_with_len 0 s.geometry.blocks)) + blocks_that s.geometry (is_closed s)
+good_most s whole =
+    let four = count_four (is_good_at s.table) (is_free s) (holds s.data_open) (holds s.meta_open) (is_closed s) 0 s.geometry.blocks (parts_at s) in
+    let all : count_by (is_good_at s.table) (range_with_len 0 s.geometry.blocks) ≡ good_count s.table = ap (λ n. count_by (is_good_at s.table) (range_with_len 0 n)) (sym whole) ∙ good_by_number s.table in
+    omega (arith, four, all)
+
+none_enough : (more : ℕ) (r : Ram) → IsRam r → HasNoneWorth r → (ms : List (Option Record)) → IsLiveExact r.blocks ms → need r.geometry + more ≤ good_count r.blocks.table → 9 + more ≤ free_count r.blocks
+none_enough more r safe none ms exact enough =
+    let s : State = r.blocks in
+    let many : need s.geometry + more ≤ good_count s.table = rw safe.blocks_of enough in
+    nine s.geometry ms (is_closed s) more (free_count s) (count_by (holds s.data_open) (range_with_len 0 s.geometry.blocks) + count_by (holds s.meta_open) (range_with_len 0 s.geometry.blocks)) (omega (arith, good_most s safe.blocks.table_whole, many)) (omega (arith, held_most s.data_open s.geometry.blocks, held_most s.meta_open s.geometry.blocks)) (λ b lt closed.
+    let below : b < r.geometry.blocks = (let P : Geometry → Type 0 = λ g. b < g.blocks in subst P safe.blocks_of lt) in
+    let large : vmax s.geometry < live_at s b = (let P : Geometry → Type 0 = λ g. vmax g < live_at s b in subst P (sym safe.blocks_of) (none.none b below closed)) in
+    omega (arith, large, exact b lt))
+
+pub made_free : (more : ℕ) (r : Ram) → 9 + more ≤ free_count r.blocks → IsMade more r
+made_free more r free = record { room = inl free; enough = λ ms exact many. free }
+
+pub made_none_worth : (more : ℕ) (r : Ram) → IsRam r → HasNoneWorth r → IsMade more r
+made_none_worth more r s none = record { room = inr none; enough = none_enough more r s none }
+
 -- ---- blocks
 
 pub bad_shut : (s : State) (k : ℕ) → is_good_at s.table k ≡ false → is_shut s k ≡ true
@@ -55,16 +102,20 @@ pub on_same : (r : Ram) → GoesOn r r
 on_same r = record { geometry = refl; next = omega arith; bad = λ b lt bad. record { row = refl; pointer = refl; closed = refl } }
 
 -- one more block is erased
-pub erased_more : (a b c : Ram) (before now after : ℕ) → RestsOrErases a b before now → after ≡ counted now → RestsOrErases a c before after
-erased_more a b c before now after (inl still) is = inr (elim (cases_lt (before + 1) (2 ^ 64)) [
-  | inl small ↦ inl (omega (arith, still.1, is))
-  | inr top ↦ inr (omega (arith, still.1, is))
-])
-erased_more a b c before now after (inr (inl rose)) is = inr (elim (cases_lt (now + 1) (2 ^ 64)) [
+pub risen_more : (before now after : ℕ) → (now ≡ before) ⊎ HasRisen before now → after ≡ counted now → HasRisen before after
+risen_more before now after (inl still) is = elim (cases_lt (before + 1) (2 ^ 64)) [
+  | inl small ↦ inl (omega (arith, still, is))
+  | inr top ↦ inr (omega (arith, still, is))
+]
+risen_more before now after (inr (inl rose)) is = elim (cases_lt (now + 1) (2 ^ 64)) [
   | inl small ↦ inl (omega (arith, is))
   | inr top ↦ inr (omega (arith, is))
-])
-erased_more a b c before now after (inr (inr top)) is = inr (inr (omega (arith, top, is)))
+]
+risen_more before now after (inr (inr top)) is = inr (omega (arith, top, is))
+
+pub erased_more : {N : Type 0} (erases : N → ℕ) (a b c : Engine N) → RestsOrErases erases a b → erases c.nand ≡ counted (erases b.nand) → c.pinned ≡ None → RestsOrErases erases a c
+erased_more erases a b c (inl still) is none = inr (risen_more (erases a.nand) (erases b.nand) (erases c.nand) (inl (ap (λ e. erases e.nand) still)) is, none)
+erased_more erases a b c (inr r) is none = inr (risen_more (erases a.nand) (erases b.nand) (erases c.nand) (inr r.0) is, none)
 
 pub still_bad : (a b : State) (k : ℕ) → IsLeftButLive a b k → is_good_at a.table k ≡ false → is_good_at b.table k ≡ false
 still_bad a b k l bad = ap is_good l.row ∙ bad
@@ -164,21 +215,21 @@ refused_room failures a b c Damaged s same f k = k
 refused_room failures a b c Bus s same f k = tt
 
 -- with fewer than nine free blocks, and none worth collecting, fewer than `need` are good
-pub short_or_nine : (r : Ram) (x : Image) → IsTrue None r x → IsMade r → ((counts_of r.blocks).good < need r.geometry) ⊎ (9 ≤ (counts_of r.blocks).free)
-short_or_nine r x w room = elim (cases_lt (counts_of r.blocks).good (need r.geometry)) [ inl few ↦ inl few | inr many ↦ inr (room.nine (marks x) w.live many) ]
+pub short_or_nine : (r : Ram) (x : Image) → IsTrue None r x → IsMade 0 r → ((counts_of r.blocks).good < need r.geometry) ⊎ (9 ≤ (counts_of r.blocks).free)
+short_or_nine r x w room = elim (cases_lt (counts_of r.blocks).good (need r.geometry)) [ inl few ↦ inl few | inr many ↦ inr (room.enough (marks x) w.live (omega (arith, many))) ]
 
-pub regained : (failures : ℕ) (a b : Ram) (y : Image) → IsTrue None b y → b.geometry ≡ a.geometry → IsMade b → IsFundedOn failures a b → HasRegained failures a b
+pub regained : (failures : ℕ) (a b : Ram) (y : Image) → IsTrue None b y → b.geometry ≡ a.geometry → IsMade 0 b → IsFundedOn failures a b → HasRegained failures a b
 regained failures a b y w same room f = record { its_failures = f.its_failures; good = f.good; funded = f.funded; nine = (let n = short_or_nine b y w room in rw (← same) n) }
 
-pub too_few : (failures : ℕ) (a b : Ram) (y : Image) → IsTrue None b y → b.geometry ≡ a.geometry → IsMade b → free_count b.blocks < 5 → RoomCounts failures a b (Err ReadOnly)
+pub too_few : (failures : ℕ) (a b : Ram) (y : Image) → IsTrue None b y → b.geometry ≡ a.geometry → IsMade 0 b → free_count b.blocks < 5 → RoomCounts failures a b (Err ReadOnly)
 too_few failures a b y w same room few = elim (short_or_nine b y w room) [ inl short ↦ inl (rw (← same) short) | inr nine ↦ absurd (omega arith) ]
 
-pub made_none : (r : Ram) (o : Option ℕ) → MatchOption o (IsMade r) (IsWorth r) → o ≡ None → IsMade r
-made_none r o m is = (let P : Option ℕ → Type 0 = λ x. MatchOption x (IsMade r) (IsWorth r) in subst P is m)
+pub made_none : (r : Ram) (o : Option ℕ) → MatchOption o (IsMade 0 r) (IsWorth 0 r) → o ≡ None → IsMade 0 r
+made_none r o m is = (let P : Option ℕ → Type 0 = λ x. MatchOption x (IsMade 0 r) (IsWorth 0 r) in subst P is m)
 
-pub made_some : (r : Ram) (o : Option ℕ) (block : ℕ) → MatchOption o (IsMade r) (IsWorth r) → o ≡ Some block → IsWorth r block
-made_some r o block m is = (let P : Option ℕ → Type 0 = λ x. MatchOption x (IsMade r) (IsWorth r) in subst P is m)
+pub made_some : (r : Ram) (o : Option ℕ) (block : ℕ) → MatchOption o (IsMade 0 r) (IsWorth 0 r) → o ≡ Some block → IsWorth 0 r block
+made_some r o block m is = (let P : Option ℕ → Type 0 = λ x. MatchOption x (IsMade 0 r) (IsWorth 0 r) in subst P is m)
 
-pub final_counts : (failures : ℕ) (a b : Ram) (y : Image) (result : Result (Unit {0}) WriteFault) → IsTrue None b y → b.geometry ≡ a.geometry → IsMade b → IsFundedOn failures a b → IfErr result (λ fault. (fault ≡ ReadOnly) × (free_count b.blocks < 5)) → RoomCounts failures a b result
+pub final_counts : (failures : ℕ) (a b : Ram) (y : Image) (result : Result (Unit {0}) WriteFault) → IsTrue None b y → b.geometry ≡ a.geometry → IsMade 0 b → IsFundedOn failures a b → IfErr result (λ fault. (fault ≡ ReadOnly) × (free_count b.blocks < 5)) → RoomCounts failures a b result
 final_counts failures a b y (Ok u) w same room f few = regained failures a b y w same room f
 final_counts failures a b y (Err fault) w same room f few = (let P : WriteFault → Type 0 = λ e. RoomCounts failures a b (Err e) in subst P (sym few.0) (too_few failures a b y w same room few.1))

@@ -1,183 +1,31 @@
-use Rattle.std.proofs.Common.{◌≡◌, ◌∙◌, Ok, Err, length, ap, sym, refl, arith}
-use Rattle.std.proofs.lemmas.Result.{err_from_is_err_and}
-use Rattle.page_layout.specs.Counter.{counted}
+use Rattle.std.proofs.Common.{Some, None}
 use Rattle.collection.specs.Safe.{ram}
-use Rattle.collection.proofs.Acts.{acts_same, acts_then, acts_ok, acts_err}
-use Rattle.collection.proofs.Memory.{goes_same, goes_then}
-use Rattle.collection.proofs.Looks.{none_from}
-use Rattle.collection.proofs.Puts.{refused_then}
-use Rattle.collection.proofs.Copies.{keys_same, keys_then, refreshes_same, refreshes_then}
-use Rattle.collection.proofs.Ledgers.{begun, stepped, still_goes, still_erased, once_erased, room_next, steps_fall, but_then, ends_erased, erased_by}
-use Rattle.collection.proofs.Ledgers.{emptied_by, emptied_then, collected_cost, less_work, counts_collected, thrifty_erased, thrifty_refused}
-use Rattle.collection.proofs.Ledgers.{refused_cost, refused_counts, closed_still, released_from, undamaged}
-use Rattle.collection.proofs.PageReads.{none_read, read_more, read_all}
-use Rattle.collection.specs.Whole.{next_of}
+use Rattle.collection.proofs.HalfDone.{true_from, but_from, refreshes_from, emptied_from, counts_from, cost_from, acts_from, idle_half, passed_none, idle_few}
 use Rattle.collection.proofs.engine.Engine.collect_block.Goals as goal
 
-pub steps-init : goal.steps-init
-steps-init g c = record {
-  acts = acts_same _ c.requires.safe;
-  goes = goes_same (ram c.args.self.now);
-  as_erased = refl;
-  keys = keys_same c.args.self.now.mapping c.args.self.now.mapping refl;
-  refreshes = λ on. refreshes_same (ram c.args.self.now) (ram c.args.self.now) refl refl;
-  room = (let e : length c.args.self.now.mapping.moved ≡ 0 = ap length c.requires.idle.moved in omega arith);
-  closed = c.requires.closed;
-  reads = none_read c.args.flushing (ram c.args.self.now) _ c.requires.idle;
-  under_way = begun c.args.flushing c.args.block (ram c.args.self.now) _ _ c.requires.safe.memory c.requires.idle (λ k. k.1);
-}
+pub collect_from-requires-clause-half_done : goal.collect_from-requires-clause-half_done
+collect_from-requires-clause-half_done g c = idle_half (ram c.args.self.now) c.args.block _ c.requires.idle c.requires.block c.requires.closed
 
-pub steps-preserved : goal.steps-preserved
-steps-preserved g c =
-    let i = c.steps.invariant in
-    let old = ram c.args.self.now in
-    let now = ram c.steps.self in
-    let new = ram c.collect_step.new.self in
-    let is = sym c.next_page-going_on.ensures ∙ c.in-Some.is in
-    let goes = still_goes _ c.in-Some.next c.in_ok-step.step now new is c.in_ok-step.ensures.goes_still in
-    record {
-      acts = acts_then _ _ _ tt _ i.goes.geometry i.acts (acts_ok _ _ _ _ c.in_ok-step.ensures.acts);
-      goes = goes_then old now new i.goes goes;
-      as_erased = still_erased _ c.in-Some.next c.in_ok-step.step _ _ is c.in_ok-step.ensures.erases ∙ i.as_erased;
-      keys = keys_then _ _ _ i.keys c.collect_step.ensures.keys;
-      refreshes = λ on. refreshes_then old now new i.goes.geometry (i.refreshes on) (c.collect_step.ensures.refreshes on);
-      room = room_next c.args.flushing c.args.block c.steps.first c.in-Some.next _ now new c.in_ok-step.step c.collect_step.ensures.acts.safe.memory (c.pages-pages.ensures ∙ ap (λ x. x.pages) (sym (goes.geometry ∙ i.goes.geometry))) i.room is c.in_ok-step.ensures.cost;
-      closed = closed_still c.args.block now new goes (rw i.goes.geometry c.requires.block) i.closed;
-      reads = read_more c.args.flushing c.args.block c.steps.first c.in-Some.next old now new _ _ _ c.in_ok-step.step i.goes.geometry (goes.geometry ∙ i.goes.geometry) i.reads (ap (λ p. next_of p c.in_ok-step.step) (sym c.pages-pages.ensures) ∙ is) c.in_ok-step.ensures.cost c.collect_step.ensures.reads c.in_ok-step.ensures.copied_reads;
-      under_way = stepped c.args.flushing c.args.block c.steps.first c.in-Some.next old now new _ _ _ _ i.acts.safe.memory c.collect_step.ensures.acts.safe.memory i.goes c.requires.block i.under_way c.in_ok-step.step c.in_ok-step.ensures.goes_still (ap (λ p. next_of p c.in_ok-step.step) (sym c.pages-pages.ensures) ∙ is) c.in_ok-step.ensures.cost (λ k w none. c.in_ok-step.ensures.truth (i.acts.honest_is ∙ k.0) w none);
-    }
+pub returns-clause-acts : goal.returns-clause-acts
+returns-clause-acts g c = acts_from c.args.self.now _ _ _ c.collect_from.ensures.acts
 
-pub steps-smaller : goal.steps-smaller
-steps-smaller g c =
-    let i = c.steps.invariant in
-    let old = ram c.args.self.now in
-    let now = ram c.steps.self in
-    let new = ram c.collect_step.new.self in
-    let is = sym c.next_page-going_on.ensures ∙ c.in-Some.is in
-    steps_fall c.args.flushing c.args.block c.steps.first c.in-Some.next _ now new c.in_ok-step.step c.collect_step.ensures.acts.safe.memory is c.in_ok-step.ensures.cost
+pub returns-clause-goes : goal.returns-clause-goes
+returns-clause-goes g c = but_from (ram c.args.self.now) _ _ c.args.block c.collect_from.ensures.goes
 
--- ---- the block was erased
+pub returns-clause-refreshes : goal.returns-clause-refreshes
+returns-clause-refreshes g c = λ on. refreshes_from (ram c.args.self.now) _ _ (c.collect_from.ensures.refreshes on)
 
-pub returns-in_default-clause-goes : goal.returns-in_default-clause-goes
-returns-in_default-clause-goes g c = but_then c.args.block _ _ _ c.steps.invariant.goes c.collect_step.ensures.goes
+pub returns-clause-cost : goal.returns-clause-cost
+returns-clause-cost g c = cost_from (ram c.args.self.now) _ _ c.args.flushing _ c.collect_from.ensures.cost
 
-pub returns-in_default-clause-released : goal.returns-in_default-clause-released
-returns-in_default-clause-released g c =
-    let i = c.steps.invariant in
-    let old = ram c.args.self.now in
-    let now = ram c.steps.self in
-    let new = ram c.collect_step.new.self in
-    let e = ends_erased _ c.in_ok-step.step (sym c.next_page-going_on.ensures ∙ none_from c.next_page-going_on.result c.in_default.not-Some) in
-    released_from c.args.block old now new i.goes c.requires.block c.requires.closed (c.in_ok-step.ensures.released (ap Ok e))
+pub returns-clause-truth : goal.returns-clause-truth
+returns-clause-truth g c = λ honest w. emptied_from (ram c.args.self.now) (ram c.collect_from.new.self) (Some (record { block = c.args.block; first = 0 })) c.args.block _ _ c.collect_from.result (c.collect_from.ensures.truth honest (true_from (ram c.args.self.now) (ram c.args.self.now) (Some (record { block = c.args.block; first = 0 })) None _ w) (passed_none (ram c.args.self.now) _ c.args.block))
 
-pub returns-in_default-clause-reads : goal.returns-in_default-clause-reads
-returns-in_default-clause-reads g c = read_all c.args.flushing c.steps.first (ram c.args.self.now) (ram c.steps.self) _ _ _ c.steps.invariant.goes.geometry c.steps.invariant.reads c.collect_step.ensures.reads
+pub returns-clause-count : goal.returns-clause-count
+returns-clause-count g c = λ honest w small. counts_from (ram c.args.self.now) (ram c.collect_from.new.self) (Some (record { block = c.args.block; first = 0 })) c.collect_from.result (c.collect_from.ensures.count honest (true_from (ram c.args.self.now) (ram c.args.self.now) (Some (record { block = c.args.block; first = 0 })) None _ w) (passed_none (ram c.args.self.now) _ c.args.block) (idle_few (ram c.args.self.now) c.args.block (Some (record { block = c.args.block; first = 0 })) c.requires.idle small))
 
-pub returns-in_default-clause-erases : goal.returns-in_default-clause-erases
-returns-in_default-clause-erases g c =
-    let e = ends_erased _ c.in_ok-step.step (sym c.next_page-going_on.ensures ∙ none_from c.next_page-going_on.result c.in_default.not-Some) in
-    once_erased c.in_ok-step.step _ _ e c.in_ok-step.ensures.erases ∙ ap counted c.steps.invariant.as_erased
+pub returns-clause-thrifty : goal.returns-clause-thrifty
+returns-clause-thrifty g c = λ honest w small ne. c.collect_from.ensures.thrifty honest (true_from (ram c.args.self.now) (ram c.args.self.now) (Some (record { block = c.args.block; first = 0 })) None _ w) (passed_none (ram c.args.self.now) _ c.args.block) (idle_few (ram c.args.self.now) c.args.block (Some (record { block = c.args.block; first = 0 })) c.requires.idle small) ne
 
-pub returns-in_default-clause-refreshes : goal.returns-in_default-clause-refreshes
-returns-in_default-clause-refreshes g c = λ on. refreshes_then _ _ _ c.steps.invariant.goes.geometry (c.steps.invariant.refreshes on) (c.collect_step.ensures.refreshes on)
-
-pub returns-in_default-clause-cost : goal.returns-in_default-clause-cost
-returns-in_default-clause-cost g c =
-    let i = c.steps.invariant in
-    let old = ram c.args.self.now in
-    let now = ram c.steps.self in
-    let new = ram c.collect_step.new.self in
-    let e = ends_erased _ c.in_ok-step.step (sym c.next_page-going_on.ensures ∙ none_from c.next_page-going_on.result c.in_default.not-Some) in
-    collected_cost c.args.flushing c.args.block c.steps.first old now new _ _ _ i.under_way (erased_by c.args.flushing c.args.block c.steps.first now new c.in_ok-step.step e c.in_ok-step.ensures.cost)
-
-pub returns-in_default-clause-less_work : goal.returns-in_default-clause-less_work
-returns-in_default-clause-less_work g c =
-    let i = c.steps.invariant in
-    let old = ram c.args.self.now in
-    let now = ram c.steps.self in
-    let new = ram c.collect_step.new.self in
-    let e = ends_erased _ c.in_ok-step.step (sym c.next_page-going_on.ensures ∙ none_from c.next_page-going_on.result c.in_default.not-Some) in
-    less_work c.args.flushing c.args.block c.steps.first old now new _ _ _ i.acts.safe.memory c.collect_step.ensures.acts.safe.memory i.goes.geometry i.under_way (erased_by c.args.flushing c.args.block c.steps.first now new c.in_ok-step.step e c.in_ok-step.ensures.cost)
-
-pub returns-in_default-clause-acts : goal.returns-in_default-clause-acts
-returns-in_default-clause-acts g c = acts_then _ _ _ tt _ c.steps.invariant.goes.geometry c.steps.invariant.acts (acts_ok _ _ _ _ c.in_ok-step.ensures.acts)
-
-pub returns-in_default-clause-truth : goal.returns-in_default-clause-truth
-returns-in_default-clause-truth g c = λ honest w.
-    let i = c.steps.invariant in
-    let old = ram c.args.self.now in
-    let now = ram c.steps.self in
-    let new = ram c.collect_step.new.self in
-    let e = ends_erased _ c.in_ok-step.step (sym c.next_page-going_on.ensures ∙ none_from c.next_page-going_on.result c.in_default.not-Some) in
-    let so = i.under_way.truth (honest, w) in
-    emptied_then c.args.block c.steps.first _ old now new _ _ _ i.goes c.collect_step.ensures.goes.geometry so (emptied_by c.args.block now new _ _ c.in_ok-step.step e (c.in_ok-step.ensures.truth (i.acts.honest_is ∙ honest) so.same.truth (let n = so.none in rw i.goes.geometry n)))
-
-pub returns-in_default-clause-count : goal.returns-in_default-clause-count
-returns-in_default-clause-count g c = λ honest w small.
-    let i = c.steps.invariant in
-    let old = ram c.args.self.now in
-    let now = ram c.steps.self in
-    let new = ram c.collect_step.new.self in
-    let e = ends_erased _ c.in_ok-step.step (sym c.next_page-going_on.ensures ∙ none_from c.next_page-going_on.result c.in_default.not-Some) in
-    counts_collected c.args.flushing c.args.block c.steps.first old now new _ _ _ c.collect_step.ensures.acts.safe.memory (c.collect_step.ensures.goes.geometry ∙ i.goes.geometry) (honest, w) small i.under_way (erased_by c.args.flushing c.args.block c.steps.first now new c.in_ok-step.step e c.in_ok-step.ensures.cost)
-
-pub returns-in_default-clause-thrifty : goal.returns-in_default-clause-thrifty
-returns-in_default-clause-thrifty g c = λ honest w small ne.
-    let i = c.steps.invariant in
-    let old = ram c.args.self.now in
-    let now = ram c.steps.self in
-    let new = ram c.collect_step.new.self in
-    let e = ends_erased _ c.in_ok-step.step (sym c.next_page-going_on.ensures ∙ none_from c.next_page-going_on.result c.in_default.not-Some) in
-    thrifty_erased c.args.flushing c.args.block c.steps.first old now new _ _ _ (honest, w) small i.under_way (erased_by c.args.flushing c.args.block c.steps.first now new c.in_ok-step.step e c.in_ok-step.ensures.cost)
-
--- ---- a step was refused
-
-pub returns-in_err-step-clause-refreshes : goal.returns-in_err-step-clause-refreshes
-returns-in_err-step-clause-refreshes g c = λ on. refreshes_then _ _ _ c.steps.invariant.goes.geometry (c.steps.invariant.refreshes on) (c.collect_step.ensures.refreshes on)
-
-pub returns-in_err-step-clause-reads : goal.returns-in_err-step-clause-reads
-returns-in_err-step-clause-reads g c = read_all c.args.flushing c.steps.first (ram c.args.self.now) (ram c.steps.self) _ _ _ c.steps.invariant.goes.geometry c.steps.invariant.reads c.collect_step.ensures.reads
-
-pub returns-in_err-step-clause-cost : goal.returns-in_err-step-clause-cost
-returns-in_err-step-clause-cost g c =
-    let i = c.steps.invariant in
-    let old = ram c.args.self.now in
-    let now = ram c.steps.self in
-    let new = ram c.collect_step.new.self in
-    let p = err_from_is_err_and c.from_residual.result c.from_residual.ensures.1 in
-    rw (p.1, p.2) (refused_cost c.args.flushing c.args.block c.steps.first old now new _ _ _ _ i.under_way c.in_err-step.ensures.cost)
-
-pub returns-in_err-step-clause-acts : goal.returns-in_err-step-clause-acts
-returns-in_err-step-clause-acts g c =
-    let p = err_from_is_err_and c.from_residual.result c.from_residual.ensures.1 in
-    rw (p.1, p.2) (acts_then _ _ _ tt _ c.steps.invariant.goes.geometry c.steps.invariant.acts (acts_err _ _ _ c.in_err-step.ensures.acts))
-
-pub returns-in_err-step-clause-truth : goal.returns-in_err-step-clause-truth
-returns-in_err-step-clause-truth g c = λ honest w.
-    let i = c.steps.invariant in
-    let old = ram c.args.self.now in
-    let now = ram c.steps.self in
-    let new = ram c.collect_step.new.self in
-    let so = i.under_way.truth (honest, w) in
-    let p = err_from_is_err_and c.from_residual.result c.from_residual.ensures.1 in
-    rw (p.1, p.2) (refused_then old now new _ _ _ i.goes c.collect_step.ensures.goes.geometry _ so.same (c.in_err-step.ensures.truth (i.acts.honest_is ∙ honest) so.same.truth (let n = so.none in rw i.goes.geometry n)))
-
-pub returns-in_err-step-clause-count : goal.returns-in_err-step-clause-count
-returns-in_err-step-clause-count g c = λ honest w small.
-    let i = c.steps.invariant in
-    let old = ram c.args.self.now in
-    let now = ram c.steps.self in
-    let new = ram c.collect_step.new.self in
-    let so = i.under_way.truth (honest, w) in
-    let p = err_from_is_err_and c.from_residual.result c.from_residual.ensures.1 in
-    rw (p.1, p.2) (refused_counts c.args.flushing c.args.block c.steps.first old now new _ _ _ _ _ (honest, w) small i.under_way (λ is. c.in_err-step.ensures.owed (ap (λ f. Err f) is)) c.in_err-step.ensures.cost (c.in_err-step.ensures.truth (i.acts.honest_is ∙ honest) so.same.truth (let n = so.none in rw i.goes.geometry n)))
-
-pub returns-in_err-step-clause-thrifty : goal.returns-in_err-step-clause-thrifty
-returns-in_err-step-clause-thrifty g c = λ honest w small.
-    let i = c.steps.invariant in
-    let old = ram c.args.self.now in
-    let now = ram c.steps.self in
-    let new = ram c.collect_step.new.self in
-    let so = i.under_way.truth (honest, w) in
-    let p = err_from_is_err_and c.from_residual.result c.from_residual.ensures.1 in
-    rw (p.1, p.2) (λ ne. thrifty_refused c.args.flushing c.args.block c.steps.first old now new _ _ _ _ (honest, w) small i.under_way c.in_err-step.ensures.cost (undamaged _ _ _ _ _ (c.in_err-step.ensures.truth (i.acts.honest_is ∙ honest) so.same.truth (let n = so.none in rw i.goes.geometry n))) (λ e. ne (ap (λ f. Err f) e)))
+pub returns-clause-few : goal.returns-clause-few
+returns-clause-few g c = λ honest w small ne. c.collect_from.ensures.few honest (true_from (ram c.args.self.now) (ram c.args.self.now) (Some (record { block = c.args.block; first = 0 })) None _ w) (passed_none (ram c.args.self.now) _ c.args.block) (idle_few (ram c.args.self.now) c.args.block (Some (record { block = c.args.block; first = 0 })) c.requires.idle small) ne

@@ -1,12 +1,13 @@
-use Rattle.std.proofs.Common.{◌≡◌, ◌≤◌, ◌-◌, true, None, Ok, length}
+use Rattle.std.proofs.Common.{◌≡◌, ◌≤◌, ◌-◌, true, Some, None, Ok, length}
 use Rattle.allocation.specs.State.{is_closed}
 use Rattle.collection.specs.Safe.{ram, image_in}
 use Rattle.collection.specs.Truth.{IsTrue}
 use Rattle.collection.specs.Acts.{Acts}
 use Rattle.collection.specs.Results.{Goes}
 use Rattle.collection.specs.Collect.{KeepsKeys, Refreshes}
+use Rattle.collection.specs.Left.{HasPassed}
 use Rattle.collection.specs.Whole.{HasRead, IsUnderWay}
-use Rattle.collection.proofs.engine.Engine.collect_block.Given as goal
+use Rattle.collection.proofs.engine.Engine.collect_from.Given as goal
 
 abbrev pub invariant-steps : goal.invariant-steps
 invariant-steps g l = record {
@@ -15,10 +16,11 @@ invariant-steps g l = record {
   as_erased : g.N.PageSource.erases l.self.nand ≡ g.N.PageSource.erases l.fn.self.nand;
   keys : KeepsKeys l.fn.self.mapping l.self.mapping;
   refreshes : l.flushing ≡ true → Refreshes (ram l.fn.self) (ram l.self);
+  pinned : l.self.pinned ≡ Some (record { block = l.fn.pinned.block; first = l.first });
   room : length l.self.mapping.moved ≤ l.first;
-  closed : is_closed (ram l.self).blocks l.block ≡ true;
-  reads : HasRead l.flushing l.first (ram l.fn.self) (ram l.self) (g.N.PageSource.reads l.fn.self.nand) (g.N.PageSource.reads l.self.nand);
-  under_way : IsUnderWay l.flushing l.block l.first (ram l.fn.self) (ram l.self) ((g.N.PageSource.honest l.fn.self.nand ≡ true) × IsTrue None (ram l.fn.self) (image_in g.N.PageSource.flash l.fn.self)) (image_in g.N.PageSource.flash l.fn.self) (image_in g.N.PageSource.flash l.self);
+  closed : is_closed (ram l.self).blocks l.fn.pinned.block ≡ true;
+  reads : HasRead l.flushing l.fn.pinned.first l.first (ram l.fn.self) (ram l.self) (g.N.PageSource.reads l.fn.self.nand) (g.N.PageSource.reads l.self.nand);
+  under_way : IsUnderWay l.flushing l.fn.pinned.block l.first (ram l.fn.self) (ram l.self) ((g.N.PageSource.honest l.fn.self.nand ≡ true) × IsTrue None (ram l.fn.self) (image_in g.N.PageSource.flash l.fn.self) × HasPassed (ram l.fn.self) (image_in g.N.PageSource.flash l.fn.self) l.fn.pinned) (image_in g.N.PageSource.flash l.fn.self) (image_in g.N.PageSource.flash l.self);
 }
 
 abbrev pub decreases-steps : goal.decreases-steps
