@@ -1,20 +1,20 @@
 -- Which translation pages have to be written.
-use Rattle.std.proofs.Common.{◌≡◌, ◌≢◌, inl, inr, ℕ, ◌+◌, ◌/◌, ◌<◌, ◌≤◌, ◌==◌, ◌&&◌, ◌||◌, Bool, true, false, not, List, [], ◌∷◌, ◌++◌, length}
-use Rattle.std.proofs.Common.{get_or, set, replicate, count_by, refl, ap, sym, ◌∙◌, subst, arith, get_or-set_same, get_or-set_other}
+use Rattle.std.proofs.Common.{◌≡◌, ◌≢◌, inl, inr, ℕ, zero, suc, ◌+◌, ◌/◌, ◌<◌, ◌≤◌, ◌==◌, ◌&&◌, ◌||◌, Bool, true, false, not, List, [], ◌∷◌, ◌++◌, length}
+use Rattle.std.proofs.Common.{get_or, set, count_by, refl, ap, sym, ◌∙◌, subst, arith, get_or-set_same, get_or-set_other}
 use Rattle.std.specs.List.{range_with_len}
+use Rattle.std.specs.Map.{keys_of}
 use Rattle.std.proofs.lemmas.Bool.{cases_eq, eq-eqb, ne_eqb}
-use Rattle.std.proofs.lemmas.List.{get_or-replicate}
 use Rattle.page_layout.specs.declared.geometry.Geometry.{Geometry}
 use Rattle.page_layout.specs.declared.record.Key.{Key}
 use Rattle.page_layout.specs.declared.record.Key.TheVariants.{Sector, Translation, Table}
 use Rattle.page_layout.specs.Geometry.{translation_pages, entries}
 use Rattle.page_layout.specs.Live.{IsKeyOf}
-use Rattle.page_layout.proofs.CountLemmas.{bit}
+use Rattle.page_layout.proofs.CountLemmas.{bit, count_by-cons}
 use Rattle.page_layout.proofs.GeometryLemmas.{sector_entry}
 use Rattle.mapping_cache.specs.Mapping.{MappingState, per_page, moved_in, without, without_page, cleaned}
-use Rattle.allocation.proofs.CountLemmas.{count_moved, count_none_in}
+use Rattle.allocation.proofs.CountLemmas.{count_moved}
 use Rattle.collection.specs.State.{Ram}
-use Rattle.collection.specs.Safe.{IsRam, IsIdle}
+use Rattle.collection.specs.Safe.{IsRam}
 use Rattle.collection.specs.Settle.{SetsMapping, Cleans}
 use Rattle.collection.specs.Collect.{has_moved, is_marked, is_due, due_count, marks_after, IsUpToDate, Refreshes, HasNoneDue}
 
@@ -190,20 +190,20 @@ none_marked false r t is did = (let no : ⊥ = cc in absurd no)
 pub erased_refreshes : (r r' : Ram) → HasNoneDue true r → r'.geometry ≡ r.geometry → r'.mapping ≡ r.mapping → Refreshes r r'
 erased_refreshes r r' none g m = record { each = λ t within fresh unmarked. (let P : MappingState → Type 0 = λ x. IsUpToDate x t in subst P (sym m) (fresh (none_marked true r t (none t within) refl))) }
 
--- ---- at first
+-- ---- how many sectors are moved
 
-pub idle_due : (flushing : Bool) (r : Ram) → IsIdle r → due_count flushing r ≡ 0
-idle_due flushing r idle = count_none_in (is_due flushing r) 0 (translation_pages r.geometry) (λ t ge lt. none t)
-  where
-    no_mark : (t : ℕ) → get_or r.pin.marks t false ≡ false
-    no_mark t = ap (λ l. get_or l t false) idle.unmarked ∙ elim (Rattle.std.proofs.lemmas.Bool.cases_lt t (translation_pages r.geometry)) [
-      | inl below ↦ get_or-replicate (translation_pages r.geometry) t false false below
-      | inr past ↦ Rattle.std.proofs.lemmas.List.get_or_past (replicate (translation_pages r.geometry) false) t false (omega (arith, Rattle.std.proofs.lemmas.List.length-replicate (translation_pages r.geometry) false))
-    ]
+pub some_positive : (n : ℕ) → not (n == 0) ≡ true → 0 < n
+some_positive zero e = (let no : ⊥ = cc in absurd no)
+some_positive (suc n) e = omega arith
 
-    by : (b m : Bool) → m ≡ false → (not (0 == 0) || (b && m)) ≡ false
-    by true m is = is
-    by false m is = refl
+moved_count_head : (pp t : ℕ) (e : ℕ × ℕ) (ms : List (ℕ × ℕ)) (b : Bool) → (e.0 / pp == t) ≡ b → length (moved_in pp t (e ∷ ms)) ≡ bit b + length (moved_in pp t ms)
+moved_count_head pp t e ms true is = rw is (omega arith)
+moved_count_head pp t e ms false is = rw is (omega arith)
 
-    none : (t : ℕ) → is_due flushing r t ≡ false
-    none t = ap (λ l. not (length (moved_in (per_page r.mapping) t l) == 0) || (flushing && get_or r.pin.marks t false)) idle.moved ∙ by flushing (get_or r.pin.marks t false) (no_mark t)
+pub moved_count : (pp t : ℕ) (ms : List (ℕ × ℕ)) → length (moved_in pp t ms) ≡ count_by (λ n. n / pp == t) (keys_of ms)
+moved_count pp t [] = refl
+moved_count pp t (e ∷ ms) = omega (arith, moved_count_head pp t e ms (e.0 / pp == t) refl, moved_count pp t ms, count_by-cons (λ n. n / pp == t) e.0 (keys_of ms))
+
+pub length_keys : (ms : List (ℕ × ℕ)) → length (keys_of ms) ≡ length ms
+length_keys [] = refl
+length_keys (e ∷ ms) = omega (arith, length_keys ms)

@@ -1,12 +1,10 @@
 -- A half-done collection: what is due at first is no more than the sectors that are moved.
-use Rattle.std.proofs.Common.{◌≡◌, ◌≢◌, ◌⊎◌, inl, inr, ℕ, zero, suc, ◌+◌, ◌/◌, ◌<◌, ◌≤◌, ◌==◌, ◌&&◌, ◌||◌, Bool, true, false, not, List, [], ◌∷◌, length, replicate, get_or, count_by, min, Option, Some, None, refl, ap, sym, ◌∙◌, subst, arith, Result, Ok, Err, MatchOption}
-use Rattle.std.specs.List.{range_with_len}
+use Rattle.std.proofs.Common.{◌≡◌, ◌≢◌, ◌⊎◌, inl, inr, ℕ, ◌+◌, ◌/◌, ◌<◌, ◌≤◌, ◌==◌, ◌&&◌, ◌||◌, Bool, true, false, [], length, replicate, get_or, count_by, Option, Some, None, refl, ap, sym, ◌∙◌, subst, arith, Result, Ok, Err, MatchOption}
 use Rattle.std.specs.Map.{keys_of}
 use Rattle.page_layout.specs.Geometry.{translation_pages, vmax}
 use Rattle.page_layout.specs.Page.{Image}
-use Rattle.page_layout.proofs.CountLemmas.{bit, count_by-cons}
 use Rattle.budget.proofs.CopyLemmas.{touched_pages}
-use Rattle.mapping_cache.specs.Mapping.{MappingState, per_page, moved_in}
+use Rattle.mapping_cache.specs.Mapping.{per_page, moved_in}
 use Rattle.allocation.specs.State.{live_at, is_closed, free_count}
 use Rattle.allocation.specs.Counts.{counts_of}
 use Rattle.budget.specs.Spending.{IsFunded}
@@ -30,27 +28,12 @@ use Rattle.collection.specs.Results.{IsSame, Refused}
 use Rattle.collection.specs.Collect.{has_moved, is_marked, is_due, due_count, GoesBut, Refreshes, Ledger, CollectCosts, CollectCounts, IsEmptied, IsRearranged, RoomRefused, RoomTells, RoomCounts}
 use Rattle.collection.specs.Whole.{next_of}
 use Rattle.collection.specs.Left.{IsHalfDone, IsCalm, IsFew, HasPassed, PinIsFew, pin_after, pinned_to}
+use Rattle.collection.proofs.Dues.{some_positive, moved_count, length_keys}
 use Rattle.collection.proofs.Lowest.{shut_closed}
 use Rattle.collection.proofs.Rooms.{shut_fewer, on_same, erased_more, room_tells, rearranged_same, rearranged_then, room_refused, funded_same, funded_then, refused_room}
 use Rattle.collection.proofs.Finds.{none_yet}
 
 -- ---- what is due at first
-
-moved_head : (pp t : ℕ) (e : ℕ × ℕ) (ms : List (ℕ × ℕ)) (b : Bool) → (e.0 / pp == t) ≡ b → length (moved_in pp t (e ∷ ms)) ≡ bit b + length (moved_in pp t ms)
-moved_head pp t e ms true is = rw is (omega arith)
-moved_head pp t e ms false is = rw is (omega arith)
-
-moved_by_key : (pp t : ℕ) (ms : List (ℕ × ℕ)) → length (moved_in pp t ms) ≡ count_by (λ n. n / pp == t) (keys_of ms)
-moved_by_key pp t [] = refl
-moved_by_key pp t (e ∷ ms) = omega (arith, moved_head pp t e ms (e.0 / pp == t) refl, moved_by_key pp t ms, count_by-cons (λ n. n / pp == t) e.0 (keys_of ms))
-
-keys_length : (ms : List (ℕ × ℕ)) → length (keys_of ms) ≡ length ms
-keys_length [] = refl
-keys_length (e ∷ ms) = omega (arith, keys_length ms)
-
-some_there : (n : ℕ) → not (n == 0) ≡ true → 0 < n
-some_there zero e = (let no : ⊥ = cc in absurd no)
-some_there (suc n) e = omega arith
 
 unmarked_at : (r : Ram) (t : ℕ) → r.pin.marks ≡ replicate (translation_pages r.geometry) false → is_marked r t ≡ false
 unmarked_at r t unmarked = ap (λ l. get_or l t false) unmarked ∙ elim (Rattle.std.proofs.lemmas.Bool.cases_lt t (translation_pages r.geometry)) [
@@ -67,11 +50,11 @@ due_moved false false m none is = is
 pub due_few : (flushing : Bool) (r : Ram) → r.pin.marks ≡ replicate (translation_pages r.geometry) false → due_count flushing r ≤ length r.mapping.moved
 due_few flushing r unmarked =
     let has : (t : ℕ) → t < translation_pages r.geometry → is_due flushing r t ≡ true → 0 < count_by (λ n. n / per_page r.mapping == t) (keys_of r.mapping.moved) = λ t below is.
-        let moved : has_moved r.mapping t ≡ true = due_moved (has_moved r.mapping t) flushing (is_marked r t) (unmarked_at r t unmarked) is in
-        let some = some_there (length (moved_in (per_page r.mapping) t r.mapping.moved)) moved in
-        omega (arith, some, moved_by_key (per_page r.mapping) t r.mapping.moved) in
+    let moved : has_moved r.mapping t ≡ true = due_moved (has_moved r.mapping t) flushing (is_marked r t) (unmarked_at r t unmarked) is in
+    let some = some_positive (length (moved_in (per_page r.mapping) t r.mapping.moved)) moved in
+    omega (arith, some, moved_count (per_page r.mapping) t r.mapping.moved) in
     let e = touched_pages (per_page r.mapping) (translation_pages r.geometry) (keys_of r.mapping.moved) (is_due flushing r) has in
-    omega (arith, e, keys_length r.mapping.moved)
+    omega (arith, e, length_keys r.mapping.moved)
 
 -- ---- the pin after a step
 

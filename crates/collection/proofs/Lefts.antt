@@ -1,5 +1,5 @@
 -- How much of a half-done collection is left.
-use Rattle.std.proofs.Common.{◌≡◌, ◌⊎◌, inl, inr, ℕ, zero, suc, ◌+◌, ◌-◌, ◌*◌, ◌/◌, ◌%◌, ◌<◌, ◌≤◌, ◌==◌, ◌&&◌, ◌||◌, Bool, true, false, not, List, [], ◌∷◌, ◌++◌, length, filter, map, count_by, min, replicate, Option, Some, None, MatchOption, count_ones, refl, ap, sym, ◌∙◌, subst, arith}
+use Rattle.std.proofs.Common.{◌≡◌, ◌⊎◌, inl, inr, ℕ, ◌+◌, ◌*◌, ◌/◌, ◌%◌, ◌<◌, ◌≤◌, ◌==◌, ◌&&◌, ◌||◌, Bool, true, false, not, List, [], ◌∷◌, ◌++◌, length, filter, map, count_by, min, replicate, Option, Some, None, MatchOption, count_ones, refl, ap, sym, ◌∙◌, subst, arith}
 use Rattle.std.specs.List.{range_with_len}
 use Rattle.std.specs.Map.{keys_of}
 use Rattle.std.proofs.lemmas.Nat.{zero_from_ones}
@@ -25,22 +25,15 @@ use Rattle.collection.specs.Pages.{newest_row}
 use Rattle.collection.specs.Truth.{IsTrue}
 use Rattle.collection.specs.Live.{HoldsNoneIn}
 use Rattle.collection.specs.Results.{Leaves}
-use Rattle.collection.specs.Collect.{has_moved, is_due, due_count, HasWritten}
+use Rattle.collection.specs.Collect.{has_moved, is_due, due_count}
 use Rattle.collection.specs.Left.{sectors_in, is_of_some, is_touched, touched_count, left_in, IsHalfDone, IsCalm, LeavesPin, TouchesNoMore}
 use Rattle.collection.proofs.Copies.{exact_at}
-use Rattle.collection.proofs.Dues.{HasFollowed, other_due, same_due, unmarked_key}
+use Rattle.collection.proofs.Dues.{HasFollowed, other_due, same_due, unmarked_key, some_positive, moved_count, length_keys}
+use Rattle.collection.proofs.HalfDone.{calm_half}
 use Rattle.collection.proofs.Lowest.{shut_closed, none_leaves}
-use Rattle.collection.proofs.Rooms.{in_by, shut_fewer}
+use Rattle.collection.proofs.Rooms.{count_less, in_by, shut_fewer}
 
 -- ---- counts
-
-pub count_le : {X : Type 0} (p q : X → Bool) (xs : List X) → ((x : X) → q x ≡ true → p x ≡ true) → count_by q xs ≤ count_by p xs
-count_le p q [] imply = omega arith
-count_le p q (x ∷ xs) imply = (let rest = count_le p q xs imply in omega (arith, count_by-cons p x xs, count_by-cons q x xs, bits (q x) (p x) (imply x)))
-  where
-    bits : (a b : Bool) → (a ≡ true → b ≡ true) → bit a ≤ bit b
-    bits false b i = omega arith
-    bits true b i = (let e : bit b ≡ 1 = ap bit (i refl) in omega arith)
 
 filter_step : {X : Type 0} (p : X → Bool) (x : X) (xs : List X) (b : Bool) → p x ≡ b → length (filter p (x ∷ xs)) ≡ bit b + length (filter p xs)
 filter_step p x xs true is = rw is (omega arith)
@@ -77,10 +70,6 @@ or_left false b e = (let no : ⊥ = cc in absurd no)
 or_cases : (a b : Bool) → (a || b) ≡ true → (a ≡ true) ⊎ (b ≡ true)
 or_cases true b e = inl refl
 or_cases false b e = inr e
-
-some_positive : (n : ℕ) → not (n == 0) ≡ true → 0 < n
-some_positive zero e = (let no : ⊥ = cc in absurd no)
-some_positive (suc n) e = omega arith
 
 positive_some : (n : ℕ) → 0 < n → not (n == 0) ≡ true
 positive_some n e = ap not (ne_eqb n 0 (λ z. (let no : ⊥ = absurd (omega arith) in no)))
@@ -121,7 +110,7 @@ some_stays r r' x y block t same shut l is =
 -- as many translation pages are touched, or fewer
 pub touched_kept : (flushing : Bool) (r r' : Ram) (x y : Image) (block : ℕ) → r'.geometry ≡ r.geometry → is_shut r.blocks block ≡ true → Leaves r x y → ((t : ℕ) → is_due flushing r' t ≡ true → is_touched flushing r x block t ≡ true) → touched_count flushing r' y block ≤ touched_count flushing r x block
 touched_kept flushing r r' x y block same shut l due =
-    let e : count_by (is_touched flushing r' y block) (range_with_len 0 (translation_pages r.geometry)) ≤ touched_count flushing r x block = count_le (is_touched flushing r x block) (is_touched flushing r' y block) (range_with_len 0 (translation_pages r.geometry)) (λ t is. elim (or_cases (is_due flushing r' t) (is_of_some (entries r'.geometry) (sectors_in r'.geometry y block) t) is) [
+    let e : count_by (is_touched flushing r' y block) (range_with_len 0 (translation_pages r.geometry)) ≤ touched_count flushing r x block = count_less (is_touched flushing r x block) (is_touched flushing r' y block) (range_with_len 0 (translation_pages r.geometry)) (λ t is. elim (or_cases (is_due flushing r' t) (is_of_some (entries r'.geometry) (sectors_in r'.geometry y block) t) is) [
       | inl first ↦ due t first
       | inr second ↦ or_right (is_due flushing r t) (is_of_some (entries r.geometry) (sectors_in r.geometry x block) t) (some_stays r r' x y block t same shut l second)
     ]) in
@@ -175,29 +164,13 @@ or_none false b e = e
 touched_at_end : (flushing : Bool) (r : Ram) (x : Image) (block : ℕ) → IsRam r → IsTrue None r x → block < r.geometry.blocks → live_at r.blocks block ≡ 0 → touched_count flushing r x block ≡ due_count flushing r
 touched_at_end flushing r x block s w lt zero_is = Rattle.page_layout.proofs.CountLemmas.count_by-same (is_touched flushing r x block) (is_due flushing r) (range_with_len 0 (translation_pages r.geometry)) (λ t. or_none (is_due flushing r t) (is_of_some (entries r.geometry) (sectors_in r.geometry x block) t) (none_in_block r x block t s w lt zero_is))
 
--- whatever the block held before
-pub write_left : (flushing : Bool) (r r' : Ram) (x y : Image) (block : ℕ) → IsRam r' → IsTrue None r' y → block < r.geometry.blocks → r'.geometry ≡ r.geometry → live_at r'.blocks block ≡ 0 → HasWritten flushing r r' → left_in flushing r' y block + 1 ≤ left_in flushing r x block
-write_left flushing r r' x y block s' w' lt same now cost =
-    let a : due_count flushing r ≤ touched_count flushing r x block = count_le (is_touched flushing r x block) (is_due flushing r) (range_with_len 0 (translation_pages r.geometry)) (λ t due. or_left (is_due flushing r t) (is_of_some (entries r.geometry) (sectors_in r.geometry x block) t) due) in
+pub write_law : Rattle.collection.specs.Left.WriteLaw
+write_law flushing r r' x y block s' w' lt same now cost =
+    let a : due_count flushing r ≤ touched_count flushing r x block = count_less (is_touched flushing r x block) (is_due flushing r) (range_with_len 0 (translation_pages r.geometry)) (λ t due. or_left (is_due flushing r t) (is_of_some (entries r.geometry) (sectors_in r.geometry x block) t) due) in
     let b = touched_at_end flushing r' y block s' w' (rw same lt) now in
     omega (arith, a, b, cost.due, now)
 
-pub write_law : Rattle.collection.specs.Left.WriteLaw
-write_law flushing r r' x y block s s' w w' lt same was now cost = write_left flushing r r' x y block s' w' lt same now cost
-
 -- ---- how small it is
-
-moved_count_head : (pp t : ℕ) (e : ℕ × ℕ) (ms : List (ℕ × ℕ)) (b : Bool) → (e.0 / pp == t) ≡ b → length (moved_in pp t (e ∷ ms)) ≡ bit b + length (moved_in pp t ms)
-moved_count_head pp t e ms true is = rw is (omega arith)
-moved_count_head pp t e ms false is = rw is (omega arith)
-
-moved_count : (pp t : ℕ) (ms : List (ℕ × ℕ)) → length (moved_in pp t ms) ≡ count_by (λ n. n / pp == t) (keys_of ms)
-moved_count pp t [] = refl
-moved_count pp t (e ∷ ms) = omega (arith, moved_count_head pp t e ms (e.0 / pp == t) refl, moved_count pp t ms, count_by-cons (λ n. n / pp == t) e.0 (keys_of ms))
-
-length_keys : (ms : List (ℕ × ℕ)) → length (keys_of ms) ≡ length ms
-length_keys [] = refl
-length_keys (e ∷ ms) = omega (arith, length_keys ms)
 
 or_false : (b : Bool) → (b || false) ≡ true → b ≡ true
 or_false true e = refl
@@ -210,14 +183,14 @@ touched_few r x block s w lt =
     let page : ℕ → ℕ → Bool = λ t n. n / entries r.geometry == t in
     let pp : per_page r.mapping ≡ entries r.geometry = ap entries s.mapping_of in
     let has : (t : ℕ) → t < translation_pages r.geometry → is_touched false r x block t ≡ true → 0 < count_by (page t) all = λ t below is.
-        let sum = count_by-append (page t) own (keys_of r.mapping.moved) in
-        elim (or_cases (is_due false r t) (is_of_some (entries r.geometry) own t) is) [
-          | inl first ↦
-              let there : 0 < length (moved_in (per_page r.mapping) t r.mapping.moved) = some_positive (length (moved_in (per_page r.mapping) t r.mapping.moved)) (or_false (has_moved r.mapping t) first) in
-              let there' : 0 < length (moved_in (entries r.geometry) t r.mapping.moved) = (let P : ℕ → Type 0 = λ k. 0 < length (moved_in k t r.mapping.moved) in subst P pp there) in
-              omega (arith, sum, there', moved_count (entries r.geometry) t r.mapping.moved)
-          | inr second ↦ omega (arith, sum, some_positive (count_by (page t) own) second)
-        ] in
+    let sum = count_by-append (page t) own (keys_of r.mapping.moved) in
+    elim (or_cases (is_due false r t) (is_of_some (entries r.geometry) own t) is) [
+      | inl first ↦
+          let there : 0 < length (moved_in (per_page r.mapping) t r.mapping.moved) = some_positive (length (moved_in (per_page r.mapping) t r.mapping.moved)) (or_false (has_moved r.mapping t) first) in
+          let there' : 0 < length (moved_in (entries r.geometry) t r.mapping.moved) = (let P : ℕ → Type 0 = λ k. 0 < length (moved_in k t r.mapping.moved) in subst P pp there) in
+          omega (arith, sum, there', moved_count (entries r.geometry) t r.mapping.moved)
+      | inr second ↦ omega (arith, sum, some_positive (count_by (page t) own) second)
+    ] in
     let e = touched_pages (entries r.geometry) (translation_pages r.geometry) all (is_touched false r x block) has in
     let both : length all ≡ length own + length (keys_of r.mapping.moved) = Rattle.std.proofs.lemmas.List.length-append own (keys_of r.mapping.moved) in
     omega (arith, e, both, length_keys r.mapping.moved, exact_live r x block s w lt)
@@ -262,10 +235,6 @@ kept_law r r' x y block s s' w w' lt closed f l =
     let fewer = shut_fewer r r' x y block s s' f.goes.geometry w w' l lt shut in
     omega (arith, e, fewer)
 
--- what is calm, of the block that is pinned
-pub half_of : (r : Ram) (p : Pinned) → IsCalm r → r.pin.block ≡ Some p → IsHalfDone r p
-half_of r p calm is = (let P : Option Pinned → Type 0 = λ o. MatchOption o (r.mapping.moved ≡ []) (IsHalfDone r) in subst P is calm.pinned)
-
 -- a block that is pinned after the call was before
 was_pinned : (r r' : Ram) (p : Pinned) → r'.pin ≡ r.pin → r'.pin.block ≡ Some p → r.pin.block ≡ Some p
 was_pinned r r' p same is = ap (λ (z : Pin). z.block) (sym same) ∙ is
@@ -295,7 +264,7 @@ calm_law r r' f calm = record {
 pub passed_law : Rattle.collection.specs.Left.PassedLaw
 passed_law r r' x y calm f l h = λ p is.
     let was : r.pin.block ≡ Some p = was_pinned r r' p f.pin is in
-    let half : IsHalfDone r p = half_of r p calm was in
+    let half : IsHalfDone r p = calm_half r p calm was in
     let e : HoldsNoneIn r.geometry.pages p.block 0 p.first y = none_leaves r x y p.block 0 p.first (shut_closed r.blocks p.block half.closed) half.on_die l (h p was) in
     let P : Geometry → Type 0 = λ g. HoldsNoneIn g.pages p.block 0 p.first y in
     subst P (sym f.goes.geometry) e
@@ -303,7 +272,7 @@ passed_law r r' x y calm f l h = λ p is.
 pub few_law : Rattle.collection.specs.Left.FewLaw
 few_law extra r r' x y s s' w w' calm f l few = λ p is.
     let was : r.pin.block ≡ Some p = was_pinned r r' p f.pin is in
-    let half : IsHalfDone r p = half_of r p calm was in
+    let half : IsHalfDone r p = calm_half r p calm was in
     let fewer = shut_fewer r r' x y p.block s s' f.goes.geometry w w' l half.within (shut_closed r.blocks p.block half.closed) in
     let same : vmax r'.geometry ≡ vmax r.geometry = ap vmax f.goes.geometry in
     let it = few p was in

@@ -132,7 +132,7 @@ on_then block a b c x y closed = record {
 
 -- ---- newest pages in bad blocks
 
-count_less : (p q : Key → Bool) (ks : List Key) → ((key : Key) → q key ≡ true → p key ≡ true) → count_by q ks ≤ count_by p ks
+pub count_less : {X : Type 0} (p q : X → Bool) (ks : List X) → ((x : X) → q x ≡ true → p x ≡ true) → count_by q ks ≤ count_by p ks
 count_less p q [] imply = omega arith
 count_less p q (k ∷ ks) imply = (let rest = count_less p q ks imply in omega (arith, count_by-cons p k ks, count_by-cons q k ks, bits (q k) (p k) (imply k)))
   where

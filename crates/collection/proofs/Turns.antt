@@ -29,7 +29,7 @@ use Rattle.collection.specs.Turns.{Advances, erases_told}
 use Rattle.collection.proofs.Gates.{goes_noted, refused_noted}
 use Rattle.collection.proofs.Noted.{but_noted, fresh_noted}
 use Rattle.collection.proofs.Lowest.{shut_closed, holds_none}
-use Rattle.collection.proofs.Lefts.{copy_law, write_left}
+use Rattle.collection.proofs.Lefts.{copy_law, write_law}
 
 some_same : {A : Type 0} (x y : A) → Some x ≡ Some y → x ≡ y
 some_same x y e = cc
@@ -82,7 +82,6 @@ touched_from flushing r r1 r2 x x1 block first page row found body live w same s
     subst R same (subst Q still (subst P of_block touched))
 
 -- ---- how a step is told
-
 
 told_erased : (done : Progress) → told done ≡ Erased → done ≡ step.Erased
 told_erased (step.Copied page) is = (let no : ⊥ = cc in absurd no)
@@ -159,7 +158,7 @@ steps_on flushing p r b x y step.WroteBack s' h same c next s touched =
       fewer = λ is. (let no : ⊥ = cc in absurd no);
       none = λ ne. none;
       passed = λ q is. subst (HasPassed b y) (some_same to q (sym next ∙ is)) passed;
-      left = λ ne. write_left flushing r b x y p.block s' s.same.truth h.within same none c;
+      left = λ ne. write_law flushing r b x y p.block s' s.same.truth h.within same none c;
       few = λ few q is. subst (IsFew 0 b) (some_same to q (sym next ∙ is)) (few_on r b p to refl same (omega arith) (omega arith) few);
     }
 steps_on flushing p r b x y step.Erased s' h same c next s touched = record {

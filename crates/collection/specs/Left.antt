@@ -1,5 +1,5 @@
 -- A block that is collected from turn to turn, and how much of its collection is left.
-use Rattle.std.specs.Prelude.{◌≡◌, ◌≢◌, ◌⊎◌, ℕ, ◌+◌, ◌-◌, ◌*◌, ◌/◌, ◌<◌, ◌≤◌, ◌==◌, ◌||◌, Bool, true, false, not, List, [], length, replicate, filter, count_by, Option, Some, None, Result, Ok, Err, MatchOption}
+use Rattle.std.specs.Prelude.{◌≡◌, ◌≢◌, ℕ, ◌+◌, ◌-◌, ◌/◌, ◌<◌, ◌≤◌, ◌==◌, ◌||◌, Bool, true, false, not, List, [], length, replicate, filter, count_by, Option, Some, None, Ok, MatchOption}
 use Rattle.std.specs.List.{range_with_len}
 use Rattle.std.specs.Option.{ForSome}
 use Rattle.page_layout.specs.declared.geometry.Geometry.{Geometry}
@@ -8,13 +8,11 @@ use Rattle.page_layout.specs.Page.{Image}
 use Rattle.page_layout.specs.Geometry.{translation_pages, entries, vmax}
 use Rattle.page_layout.specs.Live.{is_in_block}
 use Rattle.allocation.specs.State.{live_at, is_closed}
-use Rattle.mapping_cache.specs.Mapping.{MappingState}
 use Rattle.collection.specs.declared.engine.Pinned.{Pinned}
 use Rattle.collection.specs.declared.engine.step.Progress.{Progress}
 use Rattle.collection.specs.declared.engine.step.Progress.TheVariants as progress
 use Rattle.collection.specs.declared.engine.turns.Step.{Step}
 use Rattle.collection.specs.declared.engine.turns.Step.TheVariants.{Copied, WroteBack, Erased}
-use Rattle.collection.specs.declared.fault.WriteFault.{WriteFault}
 use Rattle.collection.specs.State.{Ram}
 use Rattle.collection.specs.Pages.{newest_row}
 use Rattle.collection.specs.Live.{HoldsNoneIn}
@@ -162,6 +160,6 @@ FewLaw = (extra : ℕ) (old new : Ram) (before after : Image) → IsRam old → 
 abbrev pub CopyLaw : Type 0
 CopyLaw = (flushing : Bool) (old new : Ram) (before after : Image) (block : ℕ) → block < old.geometry.blocks → is_closed old.blocks block ≡ true → new.geometry ≡ old.geometry → Leaves old before after → TouchesNoMore flushing block old before new → live_at new.blocks block + 1 ≡ live_at old.blocks block → left_in flushing new after block + 1 ≤ left_in flushing old before block
 
--- EACH TRANSLATION PAGE THAT IS WRITTEN LOWERS IT, once no newest page is left
+-- EACH TRANSLATION PAGE THAT IS WRITTEN LOWERS IT, where no newest page is left then
 abbrev pub WriteLaw : Type 0
-WriteLaw = (flushing : Bool) (old new : Ram) (before after : Image) (block : ℕ) → IsRam old → IsRam new → IsTrue None old before → IsTrue None new after → block < old.geometry.blocks → new.geometry ≡ old.geometry → live_at old.blocks block ≡ 0 → live_at new.blocks block ≡ 0 → HasWritten flushing old new → left_in flushing new after block + 1 ≤ left_in flushing old before block
+WriteLaw = (flushing : Bool) (old new : Ram) (before after : Image) (block : ℕ) → IsRam new → IsTrue None new after → block < old.geometry.blocks → new.geometry ≡ old.geometry → live_at new.blocks block ≡ 0 → HasWritten flushing old new → left_in flushing new after block + 1 ≤ left_in flushing old before block

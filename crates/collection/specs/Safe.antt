@@ -1,5 +1,5 @@
 -- What holds of an engine whatever its die does.
-use Rattle.std.specs.Prelude.{◌≡◌, ℕ, ◌+◌, ◌/◌, ◌<◌, ◌^◌, ◌||◌, Bool, false, not, [], length, replicate, slice_get, Some, None}
+use Rattle.std.specs.Prelude.{◌≡◌, ℕ, ◌+◌, ◌/◌, ◌<◌, ◌^◌, ◌||◌, Bool, false, not, [], length, replicate, slice_get, Some}
 use Rattle.page_layout.specs.declared.geometry.Geometry.{Geometry}
 use Rattle.page_layout.specs.Geometry.{translation_pages, table_pages, row_count}
 use Rattle.page_layout.specs.Page.{Image, Page, page}

@@ -1,5 +1,5 @@
 -- What a step of the pinned block leaves.
-use Rattle.std.specs.Prelude.{◌≡◌, ◌≢◌, ℕ, ◌+◌, ◌-◌, ◌*◌, ◌≤◌, min, Bool, true, false, Result, Ok, Err, None, IfOk, OnOk, OnErr, MatchResult}
+use Rattle.std.specs.Prelude.{◌≡◌, ◌≢◌, ℕ, ◌+◌, ◌-◌, ◌*◌, ◌≤◌, min, Bool, true, false, Result, Ok, None, IfOk, OnOk, OnErr, MatchResult}
 use Rattle.std.specs.Option.{ForSome}
 use Rattle.page_layout.specs.Flash.{Flash}
 use Rattle.page_layout.specs.Counter.{counted}

@@ -88,11 +88,7 @@ impl<N: Nand> Engine<N> {
     }
 
     // One step of the collection of the pinned block, whatever fault stands.
-    pub(crate) fn step_on(
-        &mut self,
-        pinned: Pinned,
-        flushing: bool,
-    ) -> Result<Progress, WriteFault>
+    pub(crate) fn step_on(&mut self, pinned: Pinned, flushing: bool) -> Result<Progress, WriteFault>
         requires safe { IsSafe N.flash self.old }
         requires half_done { IsHalfDone (ram self.old) pinned }
         ensures acts { Acts N.flash N.honest N.calm N.failed self.old self.new result }

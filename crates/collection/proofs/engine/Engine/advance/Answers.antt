@@ -1,6 +1,5 @@
-use Rattle.std.proofs.Common.{◌≡◌, Ok, refl, ap, sym, ◌∙◌}
+use Rattle.std.proofs.Common.{Ok, refl, ap, ◌∙◌}
 use Rattle.std.proofs.lemmas.Result.{err_from_is_err_and}
-use Rattle.collection.specs.declared.engine.step.Progress.TheVariants as step
 use Rattle.collection.specs.Safe.{ram}
 use Rattle.collection.proofs.Acts.{acts_ok, acts_err}
 use Rattle.collection.proofs.Turns.{ok_told, ok_erased, told_erases, calm_on, steps_on}

@@ -1,4 +1,4 @@
-use Rattle.std.proofs.Common.{◌≡◌, ◌∙◌, Ok, Err, length, ap, sym, refl, arith}
+use Rattle.std.proofs.Common.{◌∙◌, Ok, Err, length, ap, sym, refl}
 use Rattle.std.proofs.lemmas.Result.{err_from_is_err_and}
 use Rattle.page_layout.specs.Counter.{counted}
 use Rattle.collection.specs.Safe.{ram}
