@@ -6,10 +6,11 @@ use Rattle.page_layout.specs.Array.{array_of}
 use Rattle.page_layout.specs.Flash.{Flash, Operation, Leads}
 use Rattle.promises.specs.Step.{State, Command, Reply, ArrayStep, ArrayRun}
 
--- a device between two commands: its die, and whether it is read-only
+-- a device between two commands: its die, whether it is read-only, and whether a block of it is being collected from turn to turn
 pub record DeviceView : Type 0 where
   pub flash : Flash
   pub ro : Bool
+  pub pinned : Bool
 
 -- the array that the die's image holds
 abbrev pub state_of : DeviceView → State
