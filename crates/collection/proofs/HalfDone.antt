@@ -180,9 +180,12 @@ pub calm_ok : (r : Ram) (result : Result (Unit {0}) WriteFault) → OnOk result 
 calm_ok r (Ok u) idle none = calm_by r idle none
 calm_ok r (Err fault) idle none = tt
 
+pub unpinned_idle : (r : Ram) → IsCalm r → r.pin.block ≡ None → IsIdle r
+unpinned_idle r calm none = record { moved = (let P : Option Pinned → Type 0 = λ o. MatchOption o (r.mapping.moved ≡ []) (IsHalfDone r) in subst P none calm.pinned); unmarked = calm.unmarked }
+
 pub calm_idle : (r : Ram) → IsCalm r → (9 ≤ free_count r.blocks) ⊎ (r.pin.block ≡ None) → free_count r.blocks < 9 + 0 → IsIdle r
 calm_idle r calm (inl nine) few = absurd (omega (arith, nine, few))
-calm_idle r calm (inr none) few = record { moved = (let P : Option Pinned → Type 0 = λ o. MatchOption o (r.mapping.moved ≡ []) (IsHalfDone r) in subst P none calm.pinned); unmarked = calm.unmarked }
+calm_idle r calm (inr none) few = unpinned_idle r calm none
 
 -- ---- the pinned block is finished
 
