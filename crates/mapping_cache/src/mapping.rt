@@ -199,6 +199,13 @@ impl Mapping {
         self.cache.contains(&sector)
     }
 
+    /// Whether a sector is on the moved list. It takes no memory, and a walk looks at the list.
+    pub fn is_moved(&self, sector: u32) -> bool
+        ensures { result ≡ is_some (moved_row self.now sector) }
+    {
+        row_in(&self.moved, sector).is_some()
+    }
+
     /// The least recently used sector with its slot, or none of an empty cache.
     pub fn least_recent(&self) -> Option<(u32, Slot)>
         ensures { result ≡ last_entry self.now.cached }
