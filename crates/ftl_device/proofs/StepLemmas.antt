@@ -1,5 +1,5 @@
 -- A step of the pinned block, as a turn takes it.
-use Rattle.std.proofs.Common.{◌≡◌, ◌≢◌, ◌⊎◌, ℕ, ◌+◌, ◌-◌, ◌^◌, ◌<◌, ◌≤◌, ◌==◌, ◌&&◌, ◌||◌, ◌∙◌, inl, inr, not, Bool, true, false, [], length, IsSome, None, Option, Some, Result, Ok, Err, OnOk, MatchResult, MatchOption, refl, sym, ap, subst, arith}
+use Rattle.std.proofs.Common.{◌≡◌, ◌≢◌, ◌⊎◌, ℕ, ◌+◌, ◌-◌, ◌^◌, ◌<◌, ◌≤◌, ◌==◌, ◌&&◌, ◌||◌, ◌∙◌, inl, inr, not, Bool, true, false, List, [], length, IsSome, None, Option, Some, Result, Ok, Err, OnOk, MatchResult, MatchOption, refl, sym, ap, subst, arith}
 use Rattle.std.proofs.lemmas.Bool.{cases_lt}
 use Rattle.page_layout.specs.Counter.{counted, HasRisen}
 use Rattle.page_layout.specs.declared.geometry.Geometry.{Geometry}
@@ -32,9 +32,17 @@ use Rattle.ftl_device.specs.Shortage.{StepCounts, HasUsed}
 use Rattle.ftl_device.proofs.SpentLemmas.{used_put, failed_at}
 use Rattle.ftl_device.proofs.Assumed.{shut_fewer, left_law, pin_law}
 use Rattle.collection.proofs.Logs.{went_same}
+use Rattle.bad_blocks.specs.Table.{is_good}
+use Rattle.collection.specs.State.{Pin}
+use Rattle.collection.specs.Results.{Goes}
+use Rattle.collection.specs.Collect.{RoomCounts, IsAiling, RescueCosts, IsRescued}
+use Rattle.ftl_device.specs.declared.fault.CallFault.{CallFault}
+use Rattle.ftl_device.specs.Calls.{HasMadeRoom, HasRescued}
+use Rattle.ftl_device.specs.Shortage.{LacksGood, CallShort}
+use Rattle.ftl_device.proofs.ShortageLemmas.{leaves_five}
 use Rattle.ftl_device.specs.Changes.{Leaves}
-use Rattle.ftl_device.proofs.RoomLemmas.{not_ailing}
-use Rattle.ftl_device.proofs.PinLemmas.{few_more}
+use Rattle.ftl_device.proofs.RoomLemmas.{not_ailing, good_fewer, rescue_worked}
+use Rattle.ftl_device.proofs.PinLemmas.{few_more, unpinned_moved}
 
 -- ---- the pinned block is closed
 
@@ -246,3 +254,103 @@ rescue_falls flash erases a b c (inr rose) e some none = inr (inl (subst (HasRis
 
 pub risen_same : (n m : ℕ) → m ≡ n → (before : ℕ) → HasRisen before n → HasRisen before m
 risen_same n m e before r = subst (HasRisen before) (sym e) r
+
+pub ok_map : {P Q : Type 0} (result : Result (Unit {0}) WriteFault) → (P → Q) → OnOk result P → OnOk result Q
+ok_map (Ok done) f h = f h
+ok_map (Err fault) f h = tt
+
+-- ---- the count after room was made
+
+used_more : (j k : ℕ) (a b : Ram) → j ≤ k → HasUsed j a b → HasUsed k a b
+used_more j k a b le u = record { data_pages = u.data_pages; meta_pages = u.meta_pages; few = omega (arith, u.few); account = u.account }
+
+abbrev of_call : Result (Unit {0}) CallFault → Result (Unit {0}) CallFault
+of_call r = r
+
+module _ (a b c : Ram) (s : IsRam a) (t : IsRam b) (u : IsRam c) (room : HasMadeRoom a b) (goes : GoesOn b c) (nine : RoomCounts 0 a b (Ok tt)) where
+  pub step_short : StepCounts b c (Ok tt) → LacksGood a c ⊎ (5 ≤ free_count c.blocks)
+  step_short counts =
+      let less = good_fewer b c t u goes in
+      let before = good_fewer a b s t room.goes in
+      elim nine.nine [
+        | inl few ↦ inl (inl (omega (arith, less)))
+        | inr free ↦ elim counts [
+            | inl used ↦ elim (leaves_five b c (of_call (Ok tt)) t free (used_more 1 2 b c (omega arith) used)) [ inl five ↦ inr five | inr three ↦ inl (inr (omega (arith, before))) ]
+            | inr given ↦ elim (cases_lt (free_count c.blocks) 5) [ inl few ↦ inl (inr (omega (arith, before, given))) | inr five ↦ inr five ]
+          ]
+      ]
+
+  pub step_short_of : (fault : WriteFault) → StepCounts b c (Err fault) → CallShort a c (Err (EngineFault fault))
+  step_short_of ReadOnly h =
+      let less = good_fewer b c t u goes in
+      let before = good_fewer a b s t room.goes in
+      elim nine.nine [
+        | inl few ↦ inl (omega (arith, less))
+        | inr free ↦ (let three = leaves_five b c (of_call (Err (EngineFault ReadOnly))) t free (record { mid = h.mid; geometry = h.geometry; used = used_more 0 1 b h.mid (omega arith) h.used; stream = h.stream; out = h.out }) in inr (omega (arith, before, three)))
+      ]
+  step_short_of SequenceSpent h = tt
+  step_short_of Damaged h = tt
+  step_short_of Bus h = tt
+
+-- ---- a rescue beside a pinned block
+
+vmax_less : (g : Geometry) → vmax g < g.pages
+vmax_less g = omega (arith, g.limits.page_count.least)
+
+-- fewer sectors are moved than a block has pages
+pub moved_less : (r : Ram) (x : Image) → Knows r x → length r.mapping.moved < r.geometry.pages
+moved_less r x k = at r.pin.block refl
+  where
+    at : (o : Option Pinned) → r.pin.block ≡ o → length r.mapping.moved < r.geometry.pages
+    at None is =
+        let none : r.mapping.moved ≡ [] = unpinned_moved r k.calm is in
+        let e : length r.mapping.moved ≡ 0 = ap (λ (l : List (ℕ × ℕ)). length l) none in
+        omega (arith, e, r.geometry.limits.page_count.least)
+    at (Some p) is = (let few = k.few p is in omega (arith, few.moved, vmax_less r.geometry))
+
+module _ (b c : Ram) (y z : Image) (s : IsRam b) (t : IsRam c) (goes : Goes b c) (pin : c.pin ≡ b.pin) (more : length c.mapping.moved ≤ length b.mapping.moved + 1) (k : Knows b y) where
+  few_rescued : IsTrue None c z → Rattle.collection.specs.Results.Leaves b y z → PinIsFew 1 c
+  few_rescued truth leaves q is =
+      let was : b.pin.block ≡ Some q = sym (ap (λ (x : Pin). x.block) pin) ∙ is in
+      let half = pinned_half b q k.calm was in
+      let few = k.few q was in
+      let fewer = shut_fewer b c y z q.block s t goes.geometry k.truth truth leaves half.within (closed_shut b.blocks q.block half.closed) in
+      let v : vmax c.geometry ≡ vmax b.geometry = ap vmax goes.geometry in
+      record { small = omega (arith, fewer, few.small, v); moved = omega (arith, fewer, few.moved, v, more) }
+
+  pub rescue_refused : (fault : WriteFault) → Refused b y c z fault → CallRefused b.geometry y c z (EngineFault fault)
+  rescue_refused ReadOnly r = record { truth = r.truth; array = r.array }
+  rescue_refused SequenceSpent r = record { truth = r.truth; array = r.array; few = few_rescued r.truth r.leaves }
+  rescue_refused Damaged r = r
+  rescue_refused Bus r = tt
+
+-- ---- no bad block has more newest pages, and none has one
+
+pub collected_rescued : (a b c : Ram) (x y : Image) → IsRam a → IsRam b → IsRam c → GoesOn a b → GoesOn b c → IsRearranged a x b y → HasNoneAiling b.blocks → KeepsBad b c → HasRescued a c
+collected_rescued a b c x y s t u first then r none keeps = record {
+  bad = λ k within was. omega (arith, r.bad k within was, keeps k (in_b k within) (still k within was));
+  fewer = λ same some. (some.0, some.1, less some.0 some.1);
+}
+  where
+    in_b : (k : ℕ) → k < a.geometry.blocks → k < b.geometry.blocks
+    in_b k within = (let e : b.geometry.blocks ≡ a.geometry.blocks = ap (λ (g : Geometry). g.blocks) first.geometry in omega arith)
+
+    still : (k : ℕ) → k < a.geometry.blocks → is_good_at a.blocks.table k ≡ false → is_good_at b.blocks.table k ≡ false
+    still k within was = ap is_good (first.bad k within was).row ∙ was
+
+    less : (k : ℕ) → IsAiling a.blocks k → live_at c.blocks k < live_at a.blocks k
+    less k ailing =
+        let many : a.blocks.geometry.blocks ≡ a.geometry.blocks = ap (λ (g : Geometry). g.blocks) s.blocks_of in
+        let within : k < a.geometry.blocks = (let w = ailing.within in omega (arith, w, many)) in
+        let there : k < b.geometry.blocks = in_b k within in
+        let bad : is_good_at b.blocks.table k ≡ false = still k within ailing.bad in
+        let own : b.blocks.geometry.blocks ≡ b.geometry.blocks = ap (λ (g : Geometry). g.blocks) t.blocks_of in
+        let zero : live_at b.blocks k ≡ 0 = none k (omega (arith, there, own)) bad in
+        omega (arith, keeps k there bad, zero, ailing.some)
+
+-- a page was rescued, so it has programmed
+pub rescue_works : {N : Type 0} (erases : N → ℕ) (a b c : Engine N) (y z : Image) (found : Bool) → IsRam (ram b) → IsRam (ram c) → HasAiling (ram b).blocks → RestsOrErases erases a b → erases c.nand ≡ erases b.nand → Goes (ram b) (ram c) → RescueCosts (ram b) (ram c) (Ok found) → IsRescued (ram b) y (ram c) z found → IsQuiet erases a c
+rescue_works {N} erases a b c y z found t u some (inl still) same goes cost d =
+    let was : HasAiling (ram a).blocks = (let P : Engine N → Type 0 = λ e. HasAiling (ram e).blocks in subst P still some) in
+    inl (rescue_worked erases a b c y z found t u was (inl still) same goes cost d)
+rescue_works erases a b c y z found t u some (inr rose) same goes cost d = inl (inr (subst (HasRisen (erases a.nand)) (sym same) rose.0))
