@@ -25,7 +25,7 @@ use Rattle.ftl_device.specs.declared.fault.DeviceFault.{DeviceFault}
 use Rattle.ftl_device.specs.declared.fault.DeviceFault.TheVariants.{OutOfRange, ReadOnly, SequenceSpent, OutOfMemory, Damaged, BusFault}
 use Rattle.ftl_device.specs.Begin.{begun_ram, is_bad_in, wear_in, free_in, is_scarce}
 use Rattle.ftl_device.specs.Device.{IsAcceptedFor}
-use Rattle.ftl_device.specs.Calls.{stop_of, IsWell}
+use Rattle.ftl_device.specs.Calls.{stop_of, PinIsTrue, IsWell}
 use Rattle.ftl_device.specs.Counts.{is_bad_by, IsShortIn, IsShown, IsLeft}
 use Rattle.ftl_device.specs.Run.{Exchange, die_in, AreFair, HasRun, Ran, accepted_device, RanFrom}
 use Rattle.bad_blocks.specs.Table.{wear_at, most_wear}
@@ -35,9 +35,13 @@ use Rattle.ftl_device.specs.Flush.{ShowsBad, First, first_of, IsFlushedOut}
 use Rattle.ftl_device.proofs.WearLemmas.{begun_wear}
 use Rattle.ftl_device.proofs.BlockLemmas.{given, good_same, bad_same, count_same}
 
+-- nothing is pinned yet
+begun_pinned : (r : Ram) (g : Geometry) (c : Claim) (stale : List ℕ) (image : Image) → r ≡ begun_ram g c stale → PinIsTrue r.fault r image
+begun_pinned r g c stale image is = (let P : Ram → Type 0 = λ q. PinIsTrue q.fault q image in subst P (sym is) ((λ p at. (let no : ⊥ = cc in absurd no)), (λ p at. (let no : ⊥ = cc in absurd no))))
+
 -- a device as it was started knows its image
 pub started_well : {N : Type 0} (flash : N → Flash) (d : Device N) (g : Geometry) (c : Claim) (stale : List ℕ) → ram d.engine ≡ begun_ram g c stale → IsTrue None (ram d.engine) (image_in flash d.engine) → IsWell flash d
-started_well flash d g c stale is truth = record { going = ap (λ (r : Ram). stop_of r.fault) is; truth = truth }
+started_well flash d g c stale is truth = record { going = ap (λ (r : Ram). stop_of r.fault) is; truth = truth; pinned = begun_pinned (ram d.engine) g c stale (image_in flash d.engine) is }
 
 -- ---- the same bad blocks
 

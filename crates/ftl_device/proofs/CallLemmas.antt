@@ -1,5 +1,5 @@
 -- What is true after a call.
-use Rattle.std.proofs.Common.{◌≡◌, ◌≢◌, ℕ, ◌+◌, ◌≤◌, List, None, Result, Ok, Err, MatchResult, refl, sym, ap, subst, ◌∙◌}
+use Rattle.std.proofs.Common.{◌≡◌, ◌≢◌, ℕ, ◌+◌, ◌≤◌, List, None, Option, Some, Result, Ok, Err, MatchResult, refl, sym, ap, subst, ◌∙◌}
 use Rattle.std.specs.Prelude.{OnOk}
 use Rattle.page_layout.specs.declared.geometry.Geometry.{Geometry}
 use Rattle.page_layout.specs.Page.{Image}
@@ -7,6 +7,7 @@ use Rattle.page_layout.specs.Flash.{Flash}
 use Rattle.mapping_cache.specs.Mapping.{HasLimitsOf}
 use Rattle.image_check.specs.Mountable.{IsMountable}
 use Rattle.collection.specs.declared.engine.Engine.{Engine}
+use Rattle.collection.specs.declared.fault.WriteFault.{WriteFault}
 use Rattle.collection.specs.declared.fault.WriteFault.TheVariants as engine_fault
 use Rattle.collection.specs.State.{Ram}
 use Rattle.collection.specs.Safe.{IsRam, ram, image_in}
@@ -17,23 +18,26 @@ use Rattle.ftl_device.specs.declared.fault.CallFault.{CallFault}
 use Rattle.ftl_device.specs.declared.fault.CallFault.TheVariants as call
 use Rattle.ftl_device.specs.declared.fault.DeviceFault.{DeviceFault}
 use Rattle.ftl_device.specs.declared.fault.DeviceFault.TheVariants.{BusFault, OutOfMemory}
-use Rattle.ftl_device.specs.Calls.{stop_of, IsWell, HoldsSector, CallRefused, standing_after, answer_of, IsMostRecent}
+use Rattle.ftl_device.specs.Calls.{stop_of, PinIsTrue, IsWell, HoldsSector, CallRefused, standing_after, answer_of, IsMostRecent}
 use Rattle.ftl_device.proofs.MountableLemmas.{restart_law}
 
+pub pin_at : (r : Ram) (image : Image) (fault : Option WriteFault) → r.fault ≡ fault → PinIsTrue fault r image → PinIsTrue r.fault r image
+pin_at r image fault is h = subst (λ f. PinIsTrue f r image) (sym is) h
+
 -- the engine isn't stopped, and what it knows is so
-pub well_ram : (answer : Result (Unit {0}) CallFault) (result : Result (Unit {0}) DeviceFault) (good n : ℕ) (bytes : List ℕ) (g : Geometry) (before after : Image) (r q : Ram) → r.fault ≡ standing_after answer → result ≡ answer_of q good answer → result ≢ Err BusFault → MatchResult answer (λ _. HoldsSector g n bytes before r after) (CallRefused g before r after) → (stop_of r.fault ≡ None) × IsTrue None r after
-well_ram (Ok done) result good n bytes g before after r q fault is ne h = (ap stop_of fault, h.truth)
-well_ram (Err (call.Engine engine_fault.ReadOnly)) result good n bytes g before after r q fault is ne h = (ap stop_of fault, h.truth)
-well_ram (Err (call.Engine engine_fault.SequenceSpent)) result good n bytes g before after r q fault is ne h = (ap stop_of fault, h.truth)
+pub well_ram : (answer : Result (Unit {0}) CallFault) (result : Result (Unit {0}) DeviceFault) (good n : ℕ) (bytes : List ℕ) (g : Geometry) (before after : Image) (r q : Ram) → r.fault ≡ standing_after answer → result ≡ answer_of q good answer → result ≢ Err BusFault → MatchResult answer (λ _. HoldsSector g n bytes before r after) (CallRefused g before r after) → (stop_of r.fault ≡ None) × IsTrue None r after × PinIsTrue r.fault r after
+well_ram (Ok done) result good n bytes g before after r q fault is ne h = (ap stop_of fault, h.truth.truth, pin_at r after None fault (h.truth.passed, h.truth.few))
+well_ram (Err (call.Engine engine_fault.ReadOnly)) result good n bytes g before after r q fault is ne h = (ap stop_of fault, h.truth, pin_at r after (Some engine_fault.ReadOnly) fault tt)
+well_ram (Err (call.Engine engine_fault.SequenceSpent)) result good n bytes g before after r q fault is ne h = (ap stop_of fault, h.truth, pin_at r after (Some engine_fault.SequenceSpent) fault h.few)
 well_ram (Err (call.Engine engine_fault.Damaged)) result good n bytes g before after r q fault is ne h = absurd h
 well_ram (Err (call.Engine engine_fault.Bus)) result good n bytes g before after r q fault is ne h = absurd (ne is)
-well_ram (Err call.OutOfMemory) result good n bytes g before after r q fault is ne h = (ap stop_of fault, h.truth)
+well_ram (Err call.OutOfMemory) result good n bytes g before after r q fault is ne h = (ap stop_of fault, h.truth.truth, pin_at r after None fault (h.truth.passed, h.truth.few))
 
-pub well_device : {N : Type 0} (flash : N → Flash) (d : Device N) (e : Engine N) → d.engine ≡ e → (stop_of e.fault ≡ None) × IsTrue None (ram e) (image_in flash e) → IsWell flash d
+pub well_device : {N : Type 0} (flash : N → Flash) (d : Device N) (e : Engine N) → d.engine ≡ e → (stop_of e.fault ≡ None) × IsTrue None (ram e) (image_in flash e) × PinIsTrue e.fault (ram e) (image_in flash e) → IsWell flash d
 well_device {N} flash d e same known =
-    let P : Engine N → Type 0 = λ x. (stop_of x.fault ≡ None) × IsTrue None (ram x) (image_in flash x) in
+    let P : Engine N → Type 0 = λ x. (stop_of x.fault ≡ None) × IsTrue None (ram x) (image_in flash x) × PinIsTrue x.fault (ram x) (image_in flash x) in
     let all : P d.engine = subst P (sym same) known in
-    record { going = all.0; truth = all.1 }
+    record { going = all.0; truth = all.1; pinned = all.2 }
 
 -- a growth was refused while the sector was made ready
 pub memory_only : (answer : Result (Unit {0}) CallFault) (result : Result (Unit {0}) DeviceFault) (good : ℕ) (q : Ram) → result ≡ answer_of q good answer → result ≡ Err OutOfMemory → answer ≡ Err call.OutOfMemory

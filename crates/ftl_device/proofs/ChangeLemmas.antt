@@ -26,10 +26,11 @@ use Rattle.ftl_device.specs.declared.fault.DeviceFault.TheVariants.{OutOfRange, 
 use Rattle.ftl_device.specs.Begin.{is_scarce}
 use Rattle.ftl_device.specs.Counts.{is_flush}
 use Rattle.ftl_device.specs.Device.{IsDevice}
-use Rattle.ftl_device.specs.Calls.{state_in, reply_of, stop_of, Says, CallTells, CallRefused, HoldsSector, standing_after, answer_of, MayChange, MayNot, IsBeyond, IsShortOf, IsMostRecent, HasCost, order_after}
+use Rattle.ftl_device.specs.Calls.{Knows, IsWell, state_in, reply_of, stop_of, Says, CallTells, CallRefused, HoldsSector, standing_after, answer_of, MayChange, MayNot, IsBeyond, IsShortOf, IsMostRecent, HasCost, order_after}
 use Rattle.ftl_device.specs.Shortage.{HasFunds, CallShort}
 use Rattle.ftl_device.specs.Changes.{Ends, Readies, HasLookedUp, Stays, Refuses, RefusesSector, ProgramsSector, Logs, Means, Changes}
 use Rattle.ftl_device.proofs.CallLemmas.{well_ram, well_device, memory_only, mountable_after, went_after, done_too}
+use Rattle.ftl_device.proofs.PinLemmas.{knows_well, unpinned_moved}
 use Rattle.ftl_device.proofs.CostLemmas.{closed_is, spent_is, never_memory}
 use Rattle.ftl_device.proofs.MountableLemmas.{stale_law, restart_law}
 use Rattle.ftl_device.proofs.ShownLemmas.{shown_refused, shown_after, left_after, left_refused}
@@ -117,7 +118,7 @@ module _ {N : Type 0} (flash : N → Flash) (honest calm : N → Bool) (failed :
   good_then = good_count (ram old.engine).blocks.table
 
   abbrev Holds : Engine N → Result (Unit {0}) CallFault → Type 0
-  Holds e answer = honest old.engine.nand ≡ true → IsTrue None (ram old.engine) (image_in flash old.engine) → MatchResult answer (λ _. HoldsSector old.engine.geometry n bytes (image_in flash old.engine) (ram e) (image_in flash e)) (CallRefused old.engine.geometry (image_in flash old.engine) (ram e) (image_in flash e))
+  Holds e answer = honest old.engine.nand ≡ true → Knows (ram old.engine) (image_in flash old.engine) → MatchResult answer (λ _. HoldsSector old.engine.geometry n bytes (image_in flash old.engine) (ram e) (image_in flash e)) (CallRefused old.engine.geometry (image_in flash old.engine) (ram e) (image_in flash e))
 
   module _ (answer : Result (Unit {0}) CallFault) (ends : Ends flash honest calm failed old.engine answer new.engine) (readies : Readies flash honest n 2 old.engine answer new.engine) (cost : OnOk answer (HasCost n (ram old.engine) (ram new.engine)))
       (checked : OnOk answer (HasLookedUp n (ram old.engine) (ram new.engine) (page_in new.engine.scratch))) (truth : Holds new.engine answer) where
@@ -143,7 +144,10 @@ module _ {N : Type 0} (flash : N → Flash) (honest calm : N → Bool) (failed :
       same_keys = λ e. readies.same_keys (memory_only answer replied good_then (ram new.engine) refl e);
     }
 
-    short : honest old.engine.nand ≡ true → IsTrue None (ram old.engine) (image_in flash old.engine) → CallShort (ram old.engine) (ram new.engine) answer
+    here : IsWell flash old → Knows (ram old.engine) (image_in flash old.engine)
+    here well = knows_well flash old device well may.going
+
+    short : honest old.engine.nand ≡ true → Knows (ram old.engine) (image_in flash old.engine) → CallShort (ram old.engine) (ram new.engine) answer
     short is_honest well = call_short (HasFunds (honest old.engine.nand) (ram old.engine) (image_in flash old.engine)) answer (ram old.engine) (ram new.engine) device.engine.memory readies.costs (is_honest, well, funded_begun (ram old.engine) old.read_only device.read_only may.writable)
 
     logs_done : honest old.engine.nand ≡ true → replied ≢ Err BusFault → Logs flash command old replied new
@@ -151,18 +155,18 @@ module _ {N : Type 0} (flash : N → Flash) (honest calm : N → Bool) (failed :
         let w = went_after flash old.engine new.engine new.engine answer replied good_then refl refl (ends.went is_honest) ne in
         record {
           went = w;
-          shown = λ well. shown_after flash old.engine new.engine new.engine w n bytes old.read_only answer replied good_then refl device.engine.memory ends.safe.memory ends.geometry refl refl ends.tells (short is_honest well.truth) (truth is_honest well.truth) ne;
-          left = λ well on. left_after flash command old.engine new.engine new.engine w old.read_only new.read_only answer replied good_then refl refl device.engine.memory device'.engine.memory ends.geometry device'.read_only on (short is_honest well.truth);
+          shown = λ well. shown_after flash old.engine new.engine new.engine w n bytes old.read_only answer replied good_then refl device.engine.memory ends.safe.memory ends.geometry refl refl ends.tells (short is_honest (here well)) (truth is_honest (here well)) ne;
+          left = λ well on. left_after flash command old.engine new.engine new.engine w old.read_only new.read_only answer replied good_then refl refl device.engine.memory device'.engine.memory ends.geometry device'.read_only on (short is_honest (here well));
           flushed = λ well its done. no_flush_is command no_flush _ its;
         }
 
-    means_done : honest old.engine.nand ≡ true → IsTrue None (ram old.engine) (image_in flash old.engine) → replied ≢ Err BusFault → Means flash command old replied new
+    means_done : honest old.engine.nand ≡ true → Knows (ram old.engine) (image_in flash old.engine) → replied ≢ Err BusFault → Means flash command old replied new
     means_done is_honest known ne =
-        let here = well_device flash new new.engine refl (well_ram answer replied good_then n bytes _ _ _ (ram new.engine) (ram new.engine) ends.fault refl ne (truth is_honest known)) in
+        let after = well_device flash new new.engine refl (well_ram answer replied good_then n bytes _ _ _ (ram new.engine) (ram new.engine) ends.fault refl ne (truth is_honest known)) in
         record {
           step = takes _ _ (step_of old.engine.geometry new.engine.geometry n bytes (image_in flash old.engine) (image_in flash new.engine) (ram old.engine) (ram new.engine) old.read_only new.read_only good_then may.within may.writable device'.read_only ends.geometry answer ends.tells (truth is_honest known) ne);
-          well = here;
-          mountable = λ most. mountable_after flash old.engine new new.engine refl ends.geometry ends.limits device'.engine.memory here most;
+          well = after;
+          mountable = λ most. mountable_after flash old.engine new new.engine refl ends.geometry ends.limits device'.engine.memory after most;
         }
 
     change_done : Changes flash honest calm failed n command old replied new
@@ -172,8 +176,8 @@ module _ {N : Type 0} (flash : N → Flash) (honest calm : N → Bool) (failed :
       refuses_sector = refuses_sector_done;
       programs = programs_done;
       logs = logs_done;
-      means = λ is_honest well ne. means_done is_honest well.truth ne;
-      stale = λ is_honest well is e. readies.cached (stale_law (ram old.engine) _ n well.truth (device.idle may.going).moved may.within is) (memory_only answer replied good_then (ram new.engine) refl e);
+      means = λ is_honest well ne. means_done is_honest (here well) ne;
+      stale = λ is_honest well unpinned is e. readies.cached (stale_law (ram old.engine) _ n well.truth (unpinned_moved (ram old.engine) (device.calm may.going) unpinned) may.within is) (memory_only answer replied good_then (ram new.engine) refl e);
     }
 
   -- the device noted nothing else
@@ -299,5 +303,5 @@ module _ {N : Type 0} (flash : N → Flash) (honest calm : N → Bool) (failed :
       well = well;
       mountable = λ most. restart_law (ram old.engine) _ device.engine.memory well.truth most;
     };
-    stale = λ is_honest well is e. absurd (never_memory (ram old.engine) old.read_only n fault not e);
+    stale = λ is_honest well unpinned is e. absurd (never_memory (ram old.engine) old.read_only n fault not e);
   }

@@ -10,7 +10,8 @@ use Rattle.collection.specs.declared.engine.Engine.{Engine}
 use Rattle.collection.specs.declared.fault.WriteFault.{WriteFault}
 use Rattle.collection.specs.declared.fault.WriteFault.TheVariants.{ReadOnly, SequenceSpent, Damaged, Bus}
 use Rattle.collection.specs.State.{Ram}
-use Rattle.collection.specs.Safe.{IsSafe, IsIdle, ram, image_in, page_in}
+use Rattle.collection.specs.Safe.{IsSafe, ram, image_in, page_in}
+use Rattle.collection.specs.Left.{IsCalm, LeavesPin}
 use Rattle.collection.specs.Settle.{HasNoMore}
 use Rattle.collection.specs.Cost.{HasPut, PageCosts}
 use Rattle.collection.specs.Log.{Went}
@@ -24,8 +25,8 @@ use Rattle.ftl_device.specs.Read.{IsLookedUp}
 use Rattle.ftl_device.specs.Shortage.{HasFunds}
 use Rattle.ftl_device.specs.Changes.{Ends, Readies, HasLookedUp}
 use Rattle.ftl_device.proofs.ReadyLemmas.{recent_kept}
-use Rattle.ftl_device.proofs.RoomLemmas.{idle_kept, idle_loaded}
-use Rattle.ftl_device.proofs.PrepareLemmas.{limits_loaded, went_loaded}
+use Rattle.ftl_device.proofs.Assumed.{calm_law}
+use Rattle.ftl_device.proofs.PrepareLemmas.{beside_now, limits_loaded, went_loaded}
 use Rattle.ftl_device.proofs.CostLemmas.{page_tells}
 use Rattle.ftl_device.proofs.FlushLoops.{limits_then}
 use Rattle.ftl_device.proofs.SpentLemmas.{room_page, page_refused, call_kept}
@@ -60,7 +61,7 @@ module _ {N : Type 0} (flash : N → Flash) (honest calm : N → Bool) (failed :
     failed_is = more;
     rose = λ e. rose (let is : ended (call.Engine fault) ≡ ended (call.Engine Bus) = e in cc);
     limits = limits;
-    idle = λ none. (let no : Some fault ≡ None = sym stands ∙ none in let never : ⊥ = cc in absurd never);
+    calm_memory = λ none. (let no : Some fault ≡ None = sym stands ∙ none in let never : ⊥ = cc in absurd never);
     tells = call_tells fault (ram old) (ram new) tells;
     went = λ is_honest ne. went is_honest (λ same. ne (ap (λ f. ended (call.Engine f)) same));
   }
@@ -68,7 +69,7 @@ module _ {N : Type 0} (flash : N → Flash) (honest calm : N → Bool) (failed :
   -- ---- a sector was made ready, and then cached or not
 
   module _ (old mid : Engine N) (safe : IsSafe flash mid) (going : mid.fault ≡ None) (geometry : mid.geometry ≡ old.geometry) (as_honest : honest mid.nand ≡ honest old.nand) (as_calm : calm mid.nand ≡ calm old.nand)
-      (more : failed old.nand ≤ failed mid.nand) (limits : HasLimitsOf old.mapping mid.mapping) (idle : IsIdle (ram mid)) (fewer : good_count (ram mid).blocks.table ≤ good_count (ram old).blocks.table)
+      (more : failed old.nand ≤ failed mid.nand) (limits : HasLimitsOf old.mapping mid.mapping) (calm_mid : IsCalm (ram mid)) (fewer : good_count (ram mid).blocks.table ≤ good_count (ram old).blocks.table)
       (went : honest old.nand ≡ true → Went (ram old) (flash old.nand) (ram mid) (flash mid.nand)) where
     pub ends_memory : (new : Engine N) → new ≡ mid → Ends flash honest calm failed old (Err call.OutOfMemory) new
     ends_memory new same = subst (λ e. Ends flash honest calm failed old (Err call.OutOfMemory) e) (sym same) (record {
@@ -80,7 +81,7 @@ module _ {N : Type 0} (flash : N → Flash) (honest calm : N → Bool) (failed :
       failed_is = more;
       rose = λ e. (let is : ended call.OutOfMemory ≡ ended (call.Engine Bus) = e in let no : ⊥ = cc in absurd no);
       limits = limits;
-      idle = λ none. idle;
+      calm_memory = λ none. calm_mid;
       tells = tt;
       went = λ is_honest ne. went is_honest;
     })
@@ -95,7 +96,7 @@ module _ {N : Type 0} (flash : N → Flash) (honest calm : N → Bool) (failed :
       failed_is = subst (λ (e : Engine N). failed old.nand ≤ failed e.nand) (sym is) more;
       rose = λ e. (let no : ⊥ = cc in absurd no);
       limits = limits_loaded mid new n row is old.mapping limits;
-      idle = λ none. idle_loaded mid new n row is idle;
+      calm_memory = λ none. calm_law (ram mid) (ram new) (beside_now mid new n row is) calm_mid;
       tells = subst (λ (e : Engine N). good_count (ram e).blocks.table ≤ good_count (ram old).blocks.table) (sym is) fewer;
       went = λ is_honest ne. went_loaded mid new n row is flash (ram old) (flash old.nand) (went is_honest);
     }
@@ -103,7 +104,7 @@ module _ {N : Type 0} (flash : N → Flash) (honest calm : N → Bool) (failed :
   -- ---- a page of it comes after
 
   module _ (old mid new : Engine N) (made : Unit {0}) (before : Ends flash honest calm failed old (Ok made) mid) (safe : IsSafe flash new) (goes : Goes (ram mid) (ram new)) (as_honest : honest new.nand ≡ honest mid.nand) (as_calm : calm new.nand ≡ calm mid.nand)
-      (more : failed mid.nand ≤ failed new.nand) (pin : (ram new).pin ≡ (ram mid).pin) (no_more : HasNoMore mid.mapping new.mapping) where
+      (more : failed mid.nand ≤ failed new.nand) (beside : LeavesPin (ram mid) (ram new)) (no_more : HasNoMore mid.mapping new.mapping) where
     ended_fault : (answer : Result (Unit {0}) WriteFault) → new.fault ≡ fault_after mid.fault answer → new.fault ≡ standing_after (call_of answer)
     ended_fault (Ok done) is = is ∙ before.fault
     ended_fault (Err fault) is = is
@@ -130,7 +131,7 @@ module _ {N : Type 0} (flash : N → Flash) (honest calm : N → Bool) (failed :
       failed_is = omega (arith, more, before.failed_is);
       rose = λ e. risen_over (failed old.nand) (failed mid.nand) (failed new.nand) before.failed_is (ended_rose answer (rose before.fault) e);
       limits = limits_then old.mapping mid.mapping new.mapping before.limits no_more.limits;
-      idle = λ none. idle_kept (ram mid) (ram new) goes.geometry no_more pin (before.idle before.fault);
+      calm_memory = λ none. calm_law (ram mid) (ram new) beside (before.calm_memory before.fault);
       tells = ended_tells answer (cost before.fault);
       went = λ is_honest ne. ended_went answer (went (before.honest_is ∙ is_honest)) is_honest ne;
     }

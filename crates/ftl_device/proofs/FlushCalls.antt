@@ -20,17 +20,17 @@ use Rattle.ftl_device.specs.declared.fault.CallFault.{CallFault}
 use Rattle.ftl_device.specs.declared.fault.CallFault.TheVariants as call
 use Rattle.ftl_device.specs.declared.fault.DeviceFault.{DeviceFault}
 use Rattle.ftl_device.specs.declared.fault.DeviceFault.TheVariants.{OutOfRange, ReadOnly, SequenceSpent, OutOfMemory, Damaged, BusFault}
-use Rattle.ftl_device.specs.Calls.{stop_of, KeepsArray, CallRefused, CallTells, standing_after, answer_of}
+use Rattle.ftl_device.specs.Calls.{stop_of, PinIsTrue, KeepsArray, CallRefused, CallTells, standing_after, answer_of}
 use Rattle.ftl_device.specs.Counts.{is_bad_by, IsShown, IsLeft}
 use Rattle.ftl_device.specs.Shortage.{CallShort, FlushShort}
 use Rattle.ftl_device.specs.Flush.{IsFlushed, MayNotFlush, ShowsBad, first_of, IsFlushedOut}
-use Rattle.ftl_device.proofs.CallLemmas.{well_ram}
+use Rattle.ftl_device.proofs.CallLemmas.{well_ram, pin_at}
 use Rattle.ftl_device.proofs.CountLemmas.{short_law, bad_now_law}
 use Rattle.ftl_device.proofs.ShownLemmas.{shown_after}
 use Rattle.ftl_device.proofs.FlushLemmas.{fresh_law, anywhere_law, shown_bad_law, shown_wear_law}
 
-pub flush_well : (answer : Result (Unit {0}) CallFault) (result : Result (Unit {0}) DeviceFault) (good : ℕ) (g : Geometry) (before after : Image) (r q : Ram) → r.fault ≡ standing_after answer → result ≡ answer_of q good answer → result ≢ Err BusFault → MatchResult answer (λ _. KeepsArray g before r after) (CallRefused g before r after) → (stop_of r.fault ≡ None) × IsTrue None r after
-flush_well (Ok done) result good g before after r q fault is ne h = (ap stop_of fault, h.truth)
+pub flush_well : (answer : Result (Unit {0}) CallFault) (result : Result (Unit {0}) DeviceFault) (good : ℕ) (g : Geometry) (before after : Image) (r q : Ram) → r.fault ≡ standing_after answer → result ≡ answer_of q good answer → result ≢ Err BusFault → MatchResult answer (λ _. KeepsArray g before r after) (CallRefused g before r after) → (stop_of r.fault ≡ None) × IsTrue None r after × PinIsTrue r.fault r after
+flush_well (Ok done) result good g before after r q fault is ne h = (ap stop_of fault, h.truth.truth, pin_at r after None fault (h.truth.passed, h.truth.few))
 flush_well (Err f) result good g before after r q fault is ne h = well_ram (Err f) result good 0 [] g before after r q fault is ne h
 
 pub flush_shown : {N : Type 0} (flash : N → Flash) (old e last : Engine N) (w : Went (ram old) (flash old.nand) (ram last) (flash last.nand)) (ro : Bool) (answer : Result (Unit {0}) CallFault) (result : Result (Unit {0}) DeviceFault) (good : ℕ) → last ≡ e → IsRam (ram old) → IsRam (ram e) → e.geometry ≡ old.geometry → good ≡ good_count (ram old).blocks.table
@@ -88,9 +88,9 @@ shows_bad old r s t same before safe truth f w b lt =
 pub flushed_out : (answer : Result (Unit {0}) CallFault) (old r : Ram) (s t : Flash) → r.geometry ≡ old.geometry → IsRam old → IsRam r → IsTrue None old s.image → MatchResult answer (λ _. KeepsArray old.geometry s.image r t.image) (CallRefused old.geometry s.image r t.image) → OnOk answer (IsFlushed r t.image)
     → (w : Went old s r t) → OnOk answer (IsFlushedOut (first_of old) w.log t.image)
 flushed_out (Ok done) old r s t same before safe known h f w = record {
-  anywhere = goes_anywhere old.geometry r t.image same safe h.truth f;
-  fresh = is_fresh old.geometry r t.image same h.truth f;
-  bad = shows_bad old r s t same before safe h.truth f w;
-  wear = shows_wear old r s t same known safe h.truth f w;
+  anywhere = goes_anywhere old.geometry r t.image same safe h.truth.truth f;
+  fresh = is_fresh old.geometry r t.image same h.truth.truth f;
+  bad = shows_bad old r s t same before safe h.truth.truth f w;
+  wear = shows_wear old r s t same known safe h.truth.truth f w;
 }
 flushed_out (Err fault) old r s t same before safe known h f w = tt

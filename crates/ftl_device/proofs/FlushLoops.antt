@@ -1,4 +1,5 @@
 -- What the steps of a flush keep, one after another.
+use Rattle.std.proofs.Common.{MatchResult}
 use Rattle.std.proofs.Common.{◌≡◌, inl, inr, ℕ, ◌+◌, ◌*◌, ◌/◌, ◌<◌, ◌≤◌, None, refl, sym, ap, subst, ◌∙◌, arith, Result, Err, Ok, OnOk}
 use Rattle.std.proofs.lemmas.Bool.{cases_eq}
 use Rattle.page_layout.specs.declared.geometry.Geometry.{Geometry}
@@ -25,32 +26,36 @@ use Rattle.collection.specs.Truth.{IsTrue}
 use Rattle.collection.specs.Tables.{SpellsTable}
 use Rattle.collection.specs.Safe.{IsRam}
 use Rattle.collection.specs.Cost.{HasPut, HasRunOut, PageCosts}
-use Rattle.collection.specs.Results.{IsSame, Refused, IsTabled, KeepsTable}
+use Rattle.collection.specs.Results.{IsSame, Refused, IsWrittenBack, IsTabled, KeepsTable}
 use Rattle.ftl_device.specs.declared.fault.CallFault.TheVariants.{Engine}
-use Rattle.ftl_device.specs.Calls.{KeepsArray, CallRefused}
+use Rattle.collection.specs.Left.{LeavesPin}
+use Rattle.ftl_device.specs.Calls.{Knows, KeepsArray, CallRefused}
+use Rattle.ftl_device.proofs.PinLemmas.{keeps_beside, refused_beside}
 use Rattle.ftl_device.specs.Flush.{IsClean, KeepsClean, KeepsTables, AddsPages, FailsAmong, RunsOut, SpellsAll, WritesTables, IsFlushed}
 
-pub keeps_same : (r : Ram) (image : Image) → IsTrue None r image → KeepsArray r.geometry image r image
+pub keeps_same : (r : Ram) (image : Image) → Knows r image → KeepsArray r.geometry image r image
 keeps_same r image w = record { truth = w; array = refl }
 
 pub keeps_then : (g : Geometry) (b c : Ram) (x y z : Image) → b.geometry ≡ g → KeepsArray g x b y → KeepsArray b.geometry y c z → KeepsArray g x c z
 keeps_then g b c x y z same k l = record { truth = l.truth; array = (let P : Geometry → Type 0 = λ h. array_of h z ≡ array_of h y in subst P same l.array ∙ k.array) }
 
 pub keeps_refused : (g : Geometry) (b c : Ram) (x y z : Image) (fault : WriteFault) → b.geometry ≡ g → KeepsArray g x b y → CallRefused b.geometry y c z (Engine fault) → CallRefused g x c z (Engine fault)
-keeps_refused g b c x y z ReadOnly same k l = keeps_then g b c x y z same k l
-keeps_refused g b c x y z SequenceSpent same k l = keeps_then g b c x y z same k l
+keeps_refused g b c x y z ReadOnly same k l = record { truth = l.truth; array = (let P : Geometry → Type 0 = λ h. array_of h z ≡ array_of h y in subst P same l.array ∙ k.array) }
+keeps_refused g b c x y z SequenceSpent same k l = record { truth = l.truth; array = (let P : Geometry → Type 0 = λ h. array_of h z ≡ array_of h y in subst P same l.array ∙ k.array); few = l.few }
 keeps_refused g b c x y z Damaged same k l = l
 keeps_refused g b c x y z Bus same k l = tt
 
 -- the same after a call of the engine
-pub engine_keeps : (g : Geometry) (b c : Ram) (x y z : Image) → b.geometry ≡ g → KeepsArray g x b y → IsSame b y c z → KeepsArray g x c z
-engine_keeps g b c x y z same k l = keeps_then g b c x y z same k (record { truth = l.truth; array = l.array })
+pub engine_keeps : (g : Geometry) (b c : Ram) (x y z : Image) → b.geometry ≡ g → IsRam b → IsRam c → LeavesPin b c → KeepsArray g x b y → IsSame b y c z → KeepsArray g x c z
+engine_keeps g b c x y z same s t beside k l = keeps_then g b c x y z same k (keeps_beside b c y z s t beside k.truth l)
 
-pub engine_refused : (g : Geometry) (b c : Ram) (x y z : Image) (fault : WriteFault) → b.geometry ≡ g → KeepsArray g x b y → Refused b y c z fault → CallRefused g x c z (Engine fault)
-engine_refused g b c x y z ReadOnly same k l = engine_keeps g b c x y z same k l
-engine_refused g b c x y z SequenceSpent same k l = engine_keeps g b c x y z same k l
-engine_refused g b c x y z Damaged same k l = l
-engine_refused g b c x y z Bus same k l = tt
+pub engine_refused : (g : Geometry) (b c : Ram) (x y z : Image) (fault : WriteFault) → b.geometry ≡ g → IsRam b → IsRam c → LeavesPin b c → KeepsArray g x b y → Refused b y c z fault → CallRefused g x c z (Engine fault)
+engine_refused g b c x y z fault same s t beside k l = keeps_refused g b c x y z fault same k (refused_beside b c y z s t beside k.truth fault l)
+
+-- a translation page was written back
+pub back_after : (result : Result (Unit {0}) WriteFault) (t : ℕ) (g : Geometry) (b c : Ram) (x y z : Image) → b.geometry ≡ g → IsRam b → IsRam c → LeavesPin b c → KeepsArray g x b y → MatchResult result (λ done. IsWrittenBack t b y c z) (Refused b y c z) → MatchResult result (λ done. KeepsArray g x c z) (λ fault. CallRefused g x c z (Engine fault))
+back_after (Ok done) t g b c x y z same s s' beside k l = engine_keeps g b c x y z same s s' beside k l.same
+back_after (Err fault) t g b c x y z same s s' beside k l = engine_refused g b c x y z fault same s s' beside k l
 
 pub limits_then : (a b c : MappingState) → HasLimitsOf a b → HasLimitsOf b c → HasLimitsOf a c
 limits_then a b c x y = record { geometry = y.geometry ∙ x.geometry; capacity = y.capacity ∙ x.capacity }
@@ -69,12 +74,12 @@ pages_more k a b c same x h = record {
       subst (λ n. Spending a.geometry.pages first (counts_of c.blocks) 0 n) e all;
 }
 
-pub tables_none : (r : Ram) (image : Image) → IsTrue None r image → KeepsTables 0 r image r image
+pub tables_none : (r : Ram) (image : Image) → Knows r image → KeepsTables 0 r image r image
 tables_none r image w = record { keeps = keeps_same r image w; tables = λ as_many u lt. absurd (omega arith) }
 
-pub tables_more : (k : ℕ) (a b c : Ram) (x y z : Image) → b.geometry ≡ a.geometry → KeepsTable a.blocks b.blocks → KeepsTable b.blocks c.blocks → KeepsTables k a x b y → IsTabled k b y c z → KeepsTables (k + 1) a x c z
-tables_more k a b c x y z same before after h t = record {
-  keeps = engine_keeps a.geometry b c x y z same h.keeps t.same;
+pub tables_more : (k : ℕ) (a b c : Ram) (x y z : Image) → b.geometry ≡ a.geometry → IsRam b → IsRam c → LeavesPin b c → KeepsTable a.blocks b.blocks → KeepsTable b.blocks c.blocks → KeepsTables k a x b y → IsTabled k b y c z → KeepsTables (k + 1) a x c z
+tables_more k a b c x y z same s s' beside before after h t = record {
+  keeps = engine_keeps a.geometry b c x y z same s s' beside h.keeps t.same;
   tables = λ as_many u lt.
       let first : good_count b.blocks.table ≡ good_count a.blocks.table = omega (arith, before.fewer, after.fewer) in
       let then : good_count c.blocks.table ≡ good_count b.blocks.table = omega (arith, before.fewer, after.fewer) in
@@ -88,8 +93,8 @@ tables_more k a b c x y z same before after h t = record {
       ];
 }
 
-pub tabled_refused : (k : ℕ) (a b c : Ram) (x y z : Image) (fault : WriteFault) → b.geometry ≡ a.geometry → KeepsTables k a x b y → Refused b y c z fault → CallRefused a.geometry x c z (Engine fault)
-tabled_refused k a b c x y z fault same h l = engine_refused a.geometry b c x y z fault same h.keeps l
+pub tabled_refused : (k : ℕ) (a b c : Ram) (x y z : Image) (fault : WriteFault) → b.geometry ≡ a.geometry → IsRam b → IsRam c → LeavesPin b c → KeepsTables k a x b y → Refused b y c z fault → CallRefused a.geometry x c z (Engine fault)
+tabled_refused k a b c x y z fault same s t beside h l = engine_refused a.geometry b c x y z fault same s t beside h.keeps l
 
 -- ---- translation pages
 

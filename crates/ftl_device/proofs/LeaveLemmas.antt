@@ -7,7 +7,8 @@ use Rattle.collection.specs.declared.engine.Engine.{Engine}
 use Rattle.collection.specs.declared.fault.WriteFault.{WriteFault}
 use Rattle.collection.specs.declared.fault.WriteFault.TheVariants.{ReadOnly, SequenceSpent, Damaged, Bus}
 use Rattle.collection.specs.State.{Ram}
-use Rattle.collection.specs.Safe.{IsSafe, IsIdle, ram}
+use Rattle.collection.specs.Safe.{IsSafe, ram}
+use Rattle.collection.specs.Left.{IsCalm}
 use Rattle.budget.specs.declared.stream.Stream.{Stream}
 use Rattle.collection.specs.Acts.{Stands}
 use Rattle.collection.specs.Cost.{PageCosts, WriteBackCosts}
@@ -18,7 +19,6 @@ use Rattle.ftl_device.specs.declared.fault.CallFault.TheVariants as call
 use Rattle.ftl_device.specs.Calls.{Tells, CallTells, standing_after}
 use Rattle.ftl_device.specs.Changes.{Leaves, Ends}
 use Rattle.ftl_device.proofs.EndLemmas.{call_of}
-use Rattle.ftl_device.proofs.RoomLemmas.{idle_kept}
 
 pub tells_then : {B : Type 0} (a b c : Ram) (result : Result B WriteFault) → good_count b.blocks.table ≤ good_count a.blocks.table → Tells b c result → Tells a c result
 tells_then a b c (Ok answer) fewer h = omega (arith, fewer, h)
@@ -110,8 +110,8 @@ module _ {N : Type 0} (flash : N → Flash) (honest calm : N → Bool) (failed :
   }
 
   -- and as the end of the part of a device's call that asks the die
-  pub leaves_ends : (old new : Engine N) (result : Result (Unit {0}) WriteFault) → Leaves flash honest calm failed old result new → HasLimitsOf old.mapping new.mapping → (new.fault ≡ None → IsIdle (ram new)) → Ends flash honest calm failed old (call_of result) new
-  leaves_ends old new result l limits idle = record {
+  pub leaves_ends : (old new : Engine N) (result : Result (Unit {0}) WriteFault) → Leaves flash honest calm failed old result new → HasLimitsOf old.mapping new.mapping → (new.fault ≡ None → IsCalm (ram new)) → Ends flash honest calm failed old (call_of result) new
+  leaves_ends old new result l limits calm_now = record {
     safe = l.safe;
     fault = call_fault result (ram new) l.fault;
     geometry = l.geometry;
@@ -120,7 +120,7 @@ module _ {N : Type 0} (flash : N → Flash) (honest calm : N → Bool) (failed :
     failed_is = l.failed_is;
     rose = λ bus. l.rose (call_bus result bus);
     limits = limits;
-    idle = idle;
+    calm_memory = calm_now;
     tells = call_tells result (ram old) (ram new) l.tells;
     went = λ is_honest ne. l.went is_honest (λ bus. ne (ap call_of bus));
   }
@@ -147,9 +147,6 @@ module _ {N : Type 0} (flash : N → Flash) (honest calm : N → Bool) (failed :
 
 pub limits_same : (a b : MappingState) → b ≡ a → HasLimitsOf a b
 limits_same a b is = record { geometry = ap (λ (m : MappingState). m.geometry) is; capacity = ap (λ (m : MappingState). m.capacity) is }
-
-pub idle_still : (a b : Ram) → b.geometry ≡ a.geometry → b.mapping ≡ a.mapping → b.pin ≡ a.pin → IsIdle a → IsIdle b
-idle_still a b same mapping pin idle = idle_kept a b same (record { moved = omega (arith, ap (λ (m : MappingState). length m.moved) mapping); limits = limits_same a.mapping b.mapping mapping }) pin idle
 
 -- ---- what the engine's answers cost, as what the memory tells
 

@@ -1,3 +1,6 @@
+pub mod Assumed
+pub mod PinLemmas
+pub mod StepLemmas
 pub mod BlockLemmas
 pub mod WearLemmas
 pub mod BeginLemmas

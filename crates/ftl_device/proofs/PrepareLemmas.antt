@@ -1,5 +1,5 @@
 -- A sector is made ready, one step after another.
-use Rattle.std.proofs.Common.{◌≡◌, ◌≢◌, ℕ, ◌≤◌, ◌∙◌, None, Option, Some, Result, Ok, Err, OnOk, IfErr, MatchResult, refl, sym, ap, subst, arith}
+use Rattle.std.proofs.Common.{◌≡◌, ◌≢◌, ℕ, ◌≤◌, ◌∙◌, None, Option, Some, Result, Ok, Err, OnOk, IfErr, MatchResult, MatchOption, [], refl, sym, ap, subst, arith}
 use Rattle.page_layout.specs.declared.geometry.Geometry.{Geometry}
 use Rattle.page_layout.specs.declared.record.Key.TheVariants.{Sector}
 use Rattle.page_layout.specs.Page.{Image}
@@ -11,15 +11,21 @@ use Rattle.mapping_cache.specs.declared.slot.Slot.{Slot}
 use Rattle.mapping_cache.specs.Mapping.{MappingState, HasLimitsOf, slot_of, loaded, loaded_by}
 use Rattle.collection.specs.declared.engine.Engine.{Engine}
 use Rattle.collection.specs.State.{Ram}
-use Rattle.collection.specs.Safe.{IsIdle, ram, image_in}
+use Rattle.collection.specs.Safe.{IsRam, ram, image_in}
+use Rattle.collection.specs.Left.{IsCalm, IsHalfDone, LeavesPin, PinHasPassed, PinIsFew}
+use Rattle.collection.specs.declared.engine.Pinned.{Pinned}
+use Rattle.collection.proofs.Beside.{beside_same, beside_loaded}
+use Rattle.collection.proofs.Memory.{goes_same}
 use Rattle.collection.specs.Truth.{IsTrue}
 use Rattle.collection.specs.Log.{Went}
 use Rattle.collection.specs.Looks.{IsReadFault}
 use Rattle.collection.specs.Settle.{HasNoMore}
 use Rattle.collection.specs.Pages.{newest_row}
 use Rattle.ftl_device.specs.declared.fault.CallFault.TheVariants.{Engine as EngineFault}
-use Rattle.ftl_device.specs.Calls.{Tells, KeepsArray, IsFound, CallRefused, HasMadeRoom}
-use Rattle.ftl_device.proofs.RoomLemmas.{idle_kept, idle_found}
+use Rattle.ftl_device.specs.Calls.{Tells, Knows, KeepsArray, IsFound, CallRefused, HasMadeRoom}
+use Rattle.ftl_device.proofs.PinLemmas.{knows_beside}
+use Rattle.ftl_device.proofs.Assumed.{calm_law}
+use Rattle.collection.proofs.Puts.{leaves_same}
 
 -- ---- counts
 
@@ -50,20 +56,35 @@ module _ (c d : Ram) (fault : Option WriteFault) (is : d ≡ record c { fault = 
       let noted : IsTrue None (record c { fault = fault }) x = record { whole = w.whole; one = w.one; below = w.below; filled = w.filled; live = w.live; worn = w.worn; tables = w.tables; maps = w.maps } in
       subst (λ r. IsTrue None r x) (sym is) noted
 
+  calm_found : IsCalm c → IsCalm d
+  calm_found k = subst IsCalm (sym is) (record { unmarked = k.unmarked; pinned = half c.pin.block k.pinned })
+    where
+      half : (o : Option Pinned) → MatchOption o (c.mapping.moved ≡ []) (IsHalfDone c) → MatchOption o (c.mapping.moved ≡ []) (IsHalfDone (record c { fault = fault }))
+      half None h = h
+      half (Some p) h = record { within = h.within; closed = h.closed; passed = h.passed; on_die = h.on_die }
+
+  knows_found : (x : Image) → Knows c x → Knows d x
+  knows_found x k = record {
+    truth = truth_found x k.truth;
+    calm = calm_found k.calm;
+    passed = (let P : Ram → Type 0 = λ r. PinHasPassed r x in subst P (sym is) (λ p at. k.passed p at));
+    few = subst (PinIsFew 0) (sym is) (λ p at. (let h = k.few p at in record { small = h.small; moved = h.moved }));
+  }
+
   pub found_after : (result : Result (Option ℕ) WriteFault) (n : ℕ) (g : Geometry) (x : Image) (t u : Flash) → KeepsArray g x c t.image → (result ≢ Err Bus → u ≡ t)
       → MatchResult result (λ row. row ≡ newest_row t.image (Sector n)) (λ f. f ≡ Bus)
       → MatchResult result (λ row. IsFound n row g x d u.image) (λ f. CallRefused g x d u.image (EngineFault f))
   found_after (Ok row) n g x t u keeps same row_is =
       let unread : u ≡ t = same (λ e. (let no : ⊥ = cc in no)) in
-      subst (λ (s : Flash). IsFound n row g x d s.image) (sym unread) (record { keeps = record { truth = truth_found t.image keeps.truth; array = keeps.array }; row_is = row_is })
+      subst (λ (s : Flash). IsFound n row g x d s.image) (sym unread) (record { keeps = record { truth = knows_found t.image keeps.truth; array = keeps.array }; row_is = row_is })
   found_after (Err ReadOnly) n g x t u keeps same of_bus = (let no : ⊥ = cc in absurd no)
   found_after (Err SequenceSpent) n g x t u keeps same of_bus = (let no : ⊥ = cc in absurd no)
   found_after (Err Damaged) n g x t u keeps same of_bus = (let no : ⊥ = cc in absurd no)
   found_after (Err Bus) n g x t u keeps same of_bus = tt
 
-  pub idle_after : (result : Result (Option ℕ) WriteFault) (a b : Ram) → HasMadeRoom a b → c.geometry ≡ b.geometry → HasNoMore b.mapping c.mapping → c.pin ≡ b.pin → OnOk result (IsIdle d)
-  idle_after (Ok row) a b room same no_more pin = idle_found c d fault is (idle_kept b c same no_more pin room.idle)
-  idle_after (Err f) a b room same no_more pin = tt
+  pub calm_after : (result : Result (Option ℕ) WriteFault) (a b : Ram) → HasMadeRoom a b → LeavesPin b c → OnOk result (IsCalm d)
+  calm_after (Ok row) a b room beside = calm_found (calm_law b c beside room.calm)
+  calm_after (Err f) a b room beside = tt
 
 -- ---- the entry is cached last
 
@@ -75,6 +96,9 @@ loaded_limits m n row = by (slot_of m n)
     by None = record { geometry = refl; capacity = refl }
 
 module _ {N : Type 0} (e f : Engine N) (n : ℕ) (row : Option ℕ) (is : f ≡ record e { mapping = loaded e.mapping n row }) where
+  pub beside_now : LeavesPin (ram e) (ram f)
+  beside_now = beside_loaded (ram e) (ram f) n row (ap (λ (x : Engine N). ram x) is)
+
   pub limits_loaded : (m : MappingState) → HasLimitsOf m e.mapping → HasLimitsOf m f.mapping
   limits_loaded m l =
       let P : Engine N → Type 0 = λ x. HasLimitsOf m x.mapping in
@@ -86,7 +110,8 @@ module _ {N : Type 0} (e f : Engine N) (n : ℕ) (row : Option ℕ) (is : f ≡ 
       let P : Engine N → Type 0 = λ x. Went a s (ram x) (flash x.nand) in
       subst P (sym is) (record { log = w.log; leads = w.leads; follows = w.follows; next = w.next; wears = w.wears })
 
-  pub keeps_loaded : (flash : N → Flash) (g : Geometry) (before : Image) → KeepsArray g before (ram e) (image_in flash e) → IsTrue None (ram f) (image_in flash e) → KeepsArray g before (ram f) (image_in flash f)
-  keeps_loaded flash g before kept truth =
+  pub keeps_loaded : (flash : N → Flash) (g : Geometry) (before : Image) → IsRam (ram e) → IsRam (ram f) → KeepsArray g before (ram e) (image_in flash e) → IsTrue None (ram f) (image_in flash e) → KeepsArray g before (ram f) (image_in flash f)
+  keeps_loaded flash g before s t kept truth =
       let same : image_in flash f ≡ image_in flash e = ap (λ (x : Engine N). image_in flash x) is in
-      subst (λ i. KeepsArray g before (ram f) i) (sym same) (record { truth = truth; array = kept.array })
+      let knows : Knows (ram f) (image_in flash e) = knows_beside (ram e) (ram f) _ _ s t beside_now kept.truth truth (leaves_same (ram e) (image_in flash e) (image_in flash e) refl) in
+      subst (λ i. KeepsArray g before (ram f) i) (sym same) (record { truth = knows; array = kept.array })

@@ -1,7 +1,10 @@
 -- What a look-up makes of the mapping, and what a read gives.
-use Rattle.std.proofs.Common.{◌≡◌, ◌⊎◌, ℕ, ◌<◌, Bool, List, [], length, get_or, slice_get, Option, Some, None, IsSome, Result, Ok, Err, refl, sym}
+use Rattle.std.proofs.Common.{◌≡◌, ◌⊎◌, ℕ, ◌<◌, ◌==◌, Bool, true, false, eqb, List, [], ◌∷◌, length, get_or, slice_get, Option, Some, None, IsSome, Result, Ok, Err, MatchOption, refl, sym}
 use Rattle.std.proofs.Common.{ap, subst, ◌∙◌, inl, inr, arith}
-use Rattle.std.specs.Prelude.{IsOk, IfOk, OnOk, OnErr}
+use Rattle.std.specs.Prelude.{IsOk, IfOk, OnOk, OnErr, is_some}
+use Rattle.std.specs.Map.{lookup}
+use Rattle.std.proofs.lemmas.Bool.{cond-true, cond-false, ne_eqb}
+use Rattle.mapping_cache.proofs.Entries.{by_test, eqb_self}
 use Rattle.std.proofs.lemmas.List.FromFn.{length-map-range_with_len, get_or-map-range_with_len}
 use Rattle.std.proofs.lemmas.Option.{slice_get-get_or}
 use Rattle.page_layout.specs.declared.geometry.Geometry.{Geometry}
@@ -11,12 +14,21 @@ use Rattle.page_layout.specs.Array.{array_of, sector_of}
 use Rattle.promises.specs.Step.{State, ReadsSector}
 use Rattle.mapping_cache.specs.declared.slot.Slot.{Slot}
 use Rattle.mapping_cache.specs.declared.mapping.LoadFault.{LoadFault}
-use Rattle.mapping_cache.specs.Mapping.{MappingState, IsMapping, HasLimitsOf, CanLoad, slot_of, pending, used, without, loaded, loaded_by}
+use Rattle.mapping_cache.specs.Mapping.{MappingState, IsMapping, HasLimitsOf, CanLoad, slot_of, moved_row, pending, used, without, loaded, loaded_by}
 use Rattle.mapping_cache.proofs.Steps.{pending-used, pending-inserted}
 use Rattle.collection.specs.declared.engine.Engine.{Engine}
+use Rattle.collection.specs.declared.engine.Pinned.{Pinned}
 use Rattle.collection.specs.declared.fault.WriteFault.{WriteFault}
+use Rattle.collection.specs.declared.fault.WriteFault.TheVariants.{ReadOnly, SequenceSpent, Damaged, Bus}
+use Rattle.collection.specs.Left.{IsCalm, IsHalfDone, PinHasPassed, PinIsFew}
+use Rattle.ftl_device.specs.Calls.{PinIsTrue, IsWell, stop_of}
+use Rattle.ftl_device.specs.Device.{IsDevice}
+use Rattle.ftl_device.specs.Begin.{is_scarce}
+use Rattle.allocation.specs.State.{free_count}
+use Rattle.allocation.specs.View.{state}
 use Rattle.collection.specs.State.{Ram}
-use Rattle.collection.specs.Safe.{ram, image_in, page_in}
+use Rattle.collection.specs.Truth.{IsTrue}
+use Rattle.collection.specs.Safe.{IsSafe, ram, image_in, page_in}
 use Rattle.collection.specs.Looks.{IsRead, FindsRow, GivesSector}
 use Rattle.ftl_device.specs.declared.device.Device.{Device}
 use Rattle.ftl_device.specs.Calls.{array_in, state_in}
@@ -32,8 +44,9 @@ module _ (m : MappingState) (n : ℕ) (row : Option ℕ) (v : IsMapping m) where
   used_by (Some s) is some = refl
 
   -- a sector that is loaded was looked up
-  pub looked_up : CanLoad m n → LooksUp n row m (loaded m n row)
-  looked_up can = record {
+  pub looked_up : moved_row m n ≡ None → CanLoad m n → LooksUp n row m (loaded m n row)
+  looked_up still can = record {
+    moved = λ some. (let no : false ≡ true = subst IsSome still some in let never : ⊥ = cc in absurd never);
     hit = λ some. used_by (slot_of m n) refl some;
     miss = λ none. inr (record { room = can; loaded_is = refl });
     lacking = lacking_by can (slot_of m n) refl;
@@ -41,27 +54,39 @@ module _ (m : MappingState) (n : ℕ) (row : Option ℕ) (v : IsMapping m) where
 
 -- one that is not cached may stay so
 pub left_out : (m : MappingState) (n : ℕ) (row : Option ℕ) → (IsSome (slot_of m n) → ⊥) → LooksUp n row m m
-left_out m n row uncached = record { hit = λ some. absurd (uncached some); miss = λ none. inl refl; lacking = λ k. refl }
+left_out m n row uncached = record { hit = λ some. absurd (uncached some); moved = λ some. refl; miss = λ none. inl refl; lacking = λ k. refl }
 
--- ---- no sector is moved by a look-up
-
-loaded_unmoved : (m : MappingState) (n : ℕ) (row : Option ℕ) (o : Option Slot) → m.moved ≡ [] → (loaded_by o m n row).moved ≡ []
-loaded_unmoved m n row (Some s) none = none
-loaded_unmoved m n row None none = ap (without n) none
-
-pub loaded_moves_none : (m : MappingState) (n : ℕ) (row : Option ℕ) → m.moved ≡ [] → (loaded m n row).moved ≡ []
-loaded_moves_none m n row none = loaded_unmoved m n row (slot_of m n) none
-
-pub unmoved : (n : ℕ) (row : Option ℕ) (m m' : MappingState) → LooksUp n row m m' → m.moved ≡ [] → m'.moved ≡ []
-unmoved n row m m' l none = at (slot_of m n) refl
+-- nor is one that is moved
+pub moved_out : (m : MappingState) (n : ℕ) (row : Option ℕ) → IsMapping m → IsSome (moved_row m n) → LooksUp n row m m
+moved_out m n row v some = left_out m n row (λ cached. at (moved_row m n) refl some cached)
   where
-    missed : (m' ≡ m) ⊎ IsCachedNow n row m m' → m'.moved ≡ []
-    missed (inl same) = ap (λ (z : MappingState). z.moved) same ∙ none
-    missed (inr now) = ap (λ (z : MappingState). z.moved) now.loaded_is ∙ loaded_unmoved m n row (slot_of m n) none
+    at : (o : Option ℕ) → moved_row m n ≡ o → IsSome o → IsSome (slot_of m n) → ⊥
+    at None is none cached = (let never : ⊥ = cc in never)
+    at (Some r) is some cached = (let no : false ≡ true = subst IsSome (v.apart n r is) cached in let never : ⊥ = cc in never)
 
-    at : (o : Option Slot) → slot_of m n ≡ o → m'.moved ≡ []
-    at None is = missed (l.miss is)
-    at (Some s) is = ap (λ (z : MappingState). z.moved) (l.hit (subst IsSome (sym is) refl)) ∙ none
+pub not_moved_here : (m : MappingState) (n : ℕ) → is_some (moved_row m n) ≡ false → moved_row m n ≡ None
+not_moved_here m n h = at (moved_row m n) h
+  where
+    at : (o : Option ℕ) → is_some o ≡ false → o ≡ None
+    at None h = refl
+    at (Some r) h = (let no : ⊥ = cc in absurd no)
+
+-- ---- the moved list, where the sector is not on it
+
+without_head : (n : ℕ) (e : ℕ × ℕ) (ms : List (ℕ × ℕ)) → eqb n e.0 ≡ false → without n ms ≡ ms → without n (e ∷ ms) ≡ e ∷ ms
+without_head n e ms other rest =
+    let apart : (e.0 == n) ≡ false = ne_eqb e.0 n (λ same. (let yes : eqb n e.0 ≡ true = ap (eqb n) same ∙ eqb_self n in let no : ⊥ = cc in no)) in
+    rw apart (ap (λ l. e ∷ l) rest)
+
+without_none : (n : ℕ) (ms : List (ℕ × ℕ)) → lookup (eqb n) ms ≡ None → without n ms ≡ ms
+without_none n [] none = refl
+without_none n (e ∷ ms) none = by_test (eqb n e.0)
+    (λ t. (let some : lookup (eqb n) (e ∷ ms) ≡ Some e.1 = cond-true _ _ _ t in let no : ⊥ = cc in absurd no))
+    (λ f. without_head n e ms f (without_none n ms (sym (cond-false (eqb n e.0) (Some e.1) (lookup (eqb n) ms) f) ∙ none)))
+
+loaded_moved : (m : MappingState) (n : ℕ) (row : Option ℕ) (o : Option Slot) → moved_row m n ≡ None → (loaded_by o m n row).moved ≡ m.moved
+loaded_moved m n row (Some s) none = refl
+loaded_moved m n row None none = without_none n m.moved none
 
 -- ---- what a look-up leaves of the engine
 
@@ -70,16 +95,74 @@ loaded_limits m n row (Some s) = record { geometry = refl; capacity = refl }
 loaded_limits m n row None = record { geometry = refl; capacity = refl }
 
 module _ {N : Type 0} (old new : Engine N) (n : ℕ) (row : Option ℕ) where
+  abbrev the_engine : MappingState → Engine N
+  the_engine m = record old { mapping = m }
+
   mapping_is : (m : MappingState) → new ≡ record old { mapping = m } → new.mapping ≡ m
   mapping_is m is = ap (λ (z : Engine N). z.mapping) is
 
-  pub looked_by : (result : Result (Unit {0}) LoadFault) → IsMapping old.mapping → CanLoad old.mapping n → OnOk result (new ≡ record old { mapping = loaded old.mapping n row }) → OnErr result (new ≡ old) → (IsSome (slot_of old.mapping n) → IsOk result) → LooksUp n row old.mapping new.mapping
-  looked_by (Ok done) v can is same hit = rw (mapping_is (loaded old.mapping n row) is) (looked_up old.mapping n row v can)
-  looked_by (Err fault) v can is same hit = (let e : new.mapping ≡ old.mapping = ap (λ (z : Engine N). z.mapping) same in rw e (left_out old.mapping n row (λ some. let no = hit some in let never : ⊥ = cc in never)))
+  pub looked_by : (result : Result (Unit {0}) LoadFault) → IsMapping old.mapping → moved_row old.mapping n ≡ None → CanLoad old.mapping n → OnOk result (new ≡ record old { mapping = loaded old.mapping n row }) → OnErr result (new ≡ old) → (IsSome (slot_of old.mapping n) → IsOk result) → LooksUp n row old.mapping new.mapping
+  looked_by (Ok done) v still can is same hit = rw (mapping_is (loaded old.mapping n row) is) (looked_up old.mapping n row v still can)
+  looked_by (Err fault) v still can is same hit = (let e : new.mapping ≡ old.mapping = ap (λ (z : Engine N). z.mapping) same in rw e (left_out old.mapping n row (λ some. let no = hit some in let never : ⊥ = cc in never)))
+
+  -- the engine otherwise, and the moved list
+  pub moved_by : (result : Result (Unit {0}) LoadFault) → moved_row old.mapping n ≡ None → OnOk result (new ≡ record old { mapping = loaded old.mapping n row }) → OnErr result (new ≡ old) → new.mapping.moved ≡ old.mapping.moved
+  moved_by (Ok done) still is same = ap (λ (z : Engine N). z.mapping.moved) is ∙ loaded_moved old.mapping n row (slot_of old.mapping n) still
+  moved_by (Err fault) still is same = ap (λ (z : Engine N). z.mapping.moved) same
+
+  pub others_by : (result : Result (Unit {0}) LoadFault) → OnOk result (new ≡ record old { mapping = loaded old.mapping n row }) → OnErr result (new ≡ old) → new ≡ record old { mapping = new.mapping }
+  others_by (Ok done) is same = is ∙ ap (λ (m : MappingState). the_engine m) (sym (mapping_is (loaded old.mapping n row) is))
+  others_by (Err fault) is same = same ∙ ap (λ (m : MappingState). the_engine m) (sym (ap (λ (z : Engine N). z.mapping) same))
 
   pub limits_by : (result : Result (Unit {0}) LoadFault) → OnOk result (new ≡ record old { mapping = loaded old.mapping n row }) → OnErr result (new ≡ old) → HasLimitsOf old.mapping new.mapping
   limits_by (Ok done) is same = rw (mapping_is (loaded old.mapping n row) is) (loaded_limits old.mapping n row (slot_of old.mapping n))
   limits_by (Err fault) is same = (let e : new.mapping ≡ old.mapping = ap (λ (z : Engine N). z.mapping) same in rw e (record { geometry = refl; capacity = refl }))
+
+-- ---- what is known of a pinned block, where the moved list and all but the mapping stay
+
+pub calm_mapped : (a b : Ram) → b ≡ record a { mapping = b.mapping } → b.mapping.moved ≡ a.mapping.moved → IsCalm a → IsCalm b
+calm_mapped a b is moved k = subst IsCalm (sym is) (record { unmarked = k.unmarked; pinned = half a.pin.block k.pinned })
+  where
+    half : (o : Option Pinned) → MatchOption o (a.mapping.moved ≡ []) (IsHalfDone a) → MatchOption o (b.mapping.moved ≡ []) (IsHalfDone (record a { mapping = b.mapping }))
+    half None none = moved ∙ none
+    half (Some p) h = record { within = h.within; closed = h.closed; passed = (let e : length b.mapping.moved ≡ length a.mapping.moved = ap (λ (l : List (ℕ × ℕ)). length l) moved in omega (arith, h.passed)); on_die = h.on_die }
+
+few_mapped : (extra : ℕ) (a b : Ram) → b ≡ record a { mapping = b.mapping } → b.mapping.moved ≡ a.mapping.moved → PinIsFew extra a → PinIsFew extra b
+few_mapped extra a b is moved few = subst (PinIsFew extra) (sym is) (λ p at. (let h = few p at in record { small = h.small; moved = (let e : length b.mapping.moved ≡ length a.mapping.moved = ap (λ (l : List (ℕ × ℕ)). length l) moved in omega (arith, h.moved)) }))
+
+passed_mapped : (a b : Ram) (x : Image) → b ≡ record a { mapping = b.mapping } → PinHasPassed a x → PinHasPassed b x
+passed_mapped a b x is passed = (let P : Ram → Type 0 = λ r. PinHasPassed r x in subst P (sym is) (λ p at. passed p at))
+
+pub pin_mapped : (fault : Option WriteFault) (a b : Ram) (x : Image) → b ≡ record a { mapping = b.mapping } → b.mapping.moved ≡ a.mapping.moved → PinIsTrue fault a x → PinIsTrue fault b x
+pin_mapped None a b x is moved k = (passed_mapped a b x is k.0, few_mapped 0 a b is moved k.1)
+pin_mapped (Some ReadOnly) a b x is moved k = tt
+pin_mapped (Some SequenceSpent) a b x is moved k = few_mapped 1 a b is moved k
+pin_mapped (Some Damaged) a b x is moved k = tt
+pin_mapped (Some Bus) a b x is moved k = tt
+
+pub device_mapped : {N : Type 0} (flash : N → Flash) (d : Device N) (e : Engine N) → IsDevice flash d → IsSafe flash e → e ≡ record d.engine { mapping = e.mapping } → e.mapping.moved ≡ d.engine.mapping.moved → IsDevice flash (record { engine = e; read_only = d.read_only })
+device_mapped {N} flash d e device safe is moved =
+    let fault : e.fault ≡ d.engine.fault = ap (λ (z : Engine N). z.fault) is in
+    record {
+      engine = safe;
+      read_only = device.read_only ∙ ap (λ (z : Engine N). is_scarce (free_count (state z.blocks))) (sym is);
+      refuses = λ f. device.refuses (sym fault ∙ f);
+      spent = λ f. ap (λ (z : Engine N). z.next) is ∙ device.spent (sym fault ∙ f);
+      calm = λ f. calm_mapped (ram d.engine) (ram e) (ap (λ (z : Engine N). ram z) is) moved (device.calm (sym fault ∙ f));
+    }
+
+pub read_well : {N : Type 0} (flash : N → Flash) (d new : Device N) (e : Engine N) → ram e ≡ ram d.engine → flash e.nand ≡ flash d.engine.nand → new ≡ record d { engine = record e { mapping = new.engine.mapping } } → new.engine.mapping.moved ≡ e.mapping.moved → IsWell flash d → IsTrue None (ram new.engine) (image_in flash d.engine) → IsWell flash new
+read_well {N} flash d new e memory kept is moved well truth =
+    let s : flash new.engine.nand ≡ flash d.engine.nand = ap (λ (z : Device N). flash z.engine.nand) is ∙ kept in
+    let whole : ram new.engine ≡ record (ram d.engine) { mapping = new.engine.mapping } = ap (λ (z : Device N). ram z.engine) is ∙ ap (λ (r : Ram). record r { mapping = new.engine.mapping }) memory in
+    let fault : new.engine.fault ≡ d.engine.fault = ap (λ (r : Ram). r.fault) whole in
+    let same : new.engine.mapping.moved ≡ d.engine.mapping.moved = moved ∙ ap (λ (r : Ram). r.mapping.moved) memory in
+    let its : PinIsTrue d.engine.fault (ram new.engine) (image_in flash d.engine) = pin_mapped d.engine.fault (ram d.engine) (ram new.engine) (image_in flash d.engine) whole same well.pinned in
+    record {
+      going = ap stop_of fault ∙ well.going;
+      truth = subst (λ (f : Flash). IsTrue None (ram new.engine) f.image) (sym s) truth;
+      pinned = subst (λ (f : Flash). PinIsTrue new.engine.fault (ram new.engine) f.image) (sym s) (subst (λ g. PinIsTrue g (ram new.engine) (image_in flash d.engine)) (sym fault) its);
+    }
 
 -- ---- the row that a look-up found
 

@@ -29,6 +29,8 @@ use Rattle.collection.specs.Settle.{Cleans}
 use Rattle.collection.specs.Results.{IsWritten}
 use Rattle.ftl_device.specs.declared.fault.CallFault.{CallFault}
 use Rattle.ftl_device.specs.declared.fault.CallFault.TheVariants.{Engine}
+use Rattle.collection.specs.Left.{LeavesPin}
+use Rattle.ftl_device.proofs.PinLemmas.{knows_beside}
 use Rattle.ftl_device.specs.Calls.{IsMostRecent, KeepsArray, HoldsSector}
 
 -- ---- an entry by its place
@@ -145,10 +147,10 @@ recent_kept n old new keys first = ap (λ ks. slice_get ks 0) keys ∙ first
 
 -- ---- a sector that was made ready and written
 
-pub written_ready : (g : Geometry) (n : ℕ) (kind : Kind) (body : List ℕ) (mid new : Ram) (before between after : Image) → mid.geometry ≡ g → KeepsArray g before mid between → IsWritten kind n body mid between new after
+pub written_ready : (g : Geometry) (n : ℕ) (kind : Kind) (body : List ℕ) (mid new : Ram) (before between after : Image) → mid.geometry ≡ g → IsRam mid → IsRam new → LeavesPin mid new → KeepsArray g before mid between → IsWritten kind n body mid between new after
     → HoldsSector g n (content_of_kind g kind body) before new after
-written_ready g n kind body mid new before between after same kept written = record {
-  truth = written.truth;
+written_ready g n kind body mid new before between after same s t beside kept written = record {
+  truth = knows_beside mid new between after s t beside kept.truth written.truth written.leaves;
   array = ap (λ h. array_of h after) (sym same) ∙ (written.array
       ∙ (ap (λ h. slice_set (array_of h between) n (content_of_kind h kind body)) same ∙ ap (λ xs. slice_set xs n (content_of_kind g kind body)) kept.array));
 }

@@ -1,6 +1,6 @@
 -- What making room leaves, and what no call moves.
-use Rattle.std.proofs.Common.{◌≡◌, ℕ, zero, suc, ◌+◌, ◌/◌, ◌<◌, ◌≤◌, ◌∙◌, inl, inr, Bool, true, false, not, ◌||◌, cond, List, [], ◌∷◌, length}
-use Rattle.std.proofs.Common.{get_or, replicate, Option, Some, None, Result, Ok, Err, OnOk, IfErr, refl, sym, ap, subst, arith}
+use Rattle.std.proofs.Common.{◌≡◌, ◌≢◌, ℕ, zero, suc, ◌+◌, ◌/◌, ◌<◌, ◌≤◌, ◌∙◌, inl, inr, Bool, true, false, not, ◌||◌, cond, List, [], ◌∷◌, length}
+use Rattle.std.proofs.Common.{get_or, replicate, Option, Some, None, Result, Ok, Err, OnOk, IfErr, MatchResult, refl, sym, ap, subst, arith}
 use Rattle.std.proofs.lemmas.List.{get_or-replicate}
 use Rattle.std.proofs.lemmas.List.Sums.{sum_by-cons}
 use Rattle.page_layout.specs.declared.geometry.Geometry.{Geometry}
@@ -14,15 +14,19 @@ use Rattle.collection.specs.declared.engine.Engine.{Engine}
 use Rattle.collection.specs.declared.fault.WriteFault.{WriteFault}
 use Rattle.collection.specs.declared.fault.WriteFault.TheVariants.{ReadOnly, SequenceSpent, Damaged, Bus}
 use Rattle.collection.specs.State.{Ram, Pin}
-use Rattle.collection.specs.Safe.{IsRam, IsIdle, is_shut, ram}
+use Rattle.collection.specs.Safe.{IsRam, is_shut, ram, image_in}
+use Rattle.collection.specs.Left.{IsCalm, PinIsFew}
+use Rattle.collection.specs.Truth.{IsTrue}
+use Rattle.collection.specs.Acts.{RestsOrErases}
+use Rattle.page_layout.specs.Flash.{Flash}
 use Rattle.collection.specs.Settle.{HasNoMore}
 use Rattle.collection.specs.Results.{Goes, fault_after}
-use Rattle.collection.specs.Collect.{GoesOn, KeepsKeys, Refreshes, IsUpToDate, HasRoom, RoomTells, RestsOrErases, IsRearranged, RoomRefused}
+use Rattle.collection.specs.Collect.{GoesOn, KeepsKeys, Refreshes, IsUpToDate, HasRoom, RoomTells, IsRearranged, RoomRefused}
 use Rattle.collection.specs.Collect.{IsAiling, HasAiling, HasNoneAiling, RescueCosts, IsRescued}
 use Rattle.ftl_device.specs.declared.fault.CallFault.TheVariants.{Engine as EngineFault}
-use Rattle.ftl_device.specs.Calls.{Tells, CallTells, KeepsArray, CallRefused, HasMadeRoom, HasRescued, HasRested, HasWorked}
+use Rattle.ftl_device.specs.Calls.{Tells, CallTells, Knows, KeepsArray, CallRefused, HasMadeRoom, HasRescued, HasWorked}
 use Rattle.ftl_device.specs.Flush.{KeepsClean}
-use Rattle.ftl_device.proofs.ReadLemmas.{loaded_moves_none}
+use Rattle.ftl_device.proofs.PinLemmas.{few_more, knows_none}
 
 -- ---- good blocks
 
@@ -65,12 +69,12 @@ room_tells (Err SequenceSpent) a b s t goes h = h
 room_tells (Err Damaged) a b s t goes h = tt
 room_tells (Err Bus) a b s t goes h = tt
 
-pub room_made : (result : Result (Unit {0}) WriteFault) (a b : Ram) → GoesOn a b → KeepsKeys a.mapping b.mapping → OnOk result (HasRoom b) → OnOk result (IsIdle b) → OnOk result (HasMadeRoom a b)
-room_made (Ok done) a b goes keys room idle = record { goes = goes; keys = keys; room = room; idle = idle }
-room_made (Err fault) a b goes keys room idle = tt
+pub room_made : (result : Result (Unit {0}) WriteFault) (a b : Ram) → GoesOn a b → KeepsKeys a.mapping b.mapping → OnOk result (HasRoom b) → OnOk result (IsCalm b) → OnOk result (HasMadeRoom a b)
+room_made (Ok done) a b goes keys room calm = record { goes = goes; keys = keys; room = room; calm = calm }
+room_made (Err fault) a b goes keys room calm = tt
 
 -- a translation page that lacked no row lacks none
-clean_now : (a b : Ram) → IsRam a → IsRam b → b.geometry ≡ a.geometry → Refreshes a b → IsIdle b → KeepsClean a.geometry a.mapping b.mapping
+clean_now : (a b : Ram) → IsRam a → IsRam b → b.geometry ≡ a.geometry → Refreshes a b → IsCalm b → KeepsClean a.geometry a.mapping b.mapping
 clean_now a b s t same r idle = record {
   still = λ p within was.
       let here : entries a.geometry ≡ per_page a.mapping = ap entries (sym s.mapping_of) in
@@ -82,46 +86,27 @@ clean_now a b s t same r idle = record {
       record { none = λ n of_page. now n (ap (λ e. n / e) (sym there) ∙ of_page) };
 }
 
-pub room_cleans : (result : Result (Unit {0}) WriteFault) (flushing : Bool) (a b : Ram) → IsRam a → IsRam b → b.geometry ≡ a.geometry → (flushing ≡ true → Refreshes a b) → OnOk result (IsIdle b) → flushing ≡ true → OnOk result (KeepsClean a.geometry a.mapping b.mapping)
+pub room_cleans : (result : Result (Unit {0}) WriteFault) (flushing : Bool) (a b : Ram) → IsRam a → IsRam b → b.geometry ≡ a.geometry → (flushing ≡ true → Refreshes a b) → OnOk result (IsCalm b) → flushing ≡ true → OnOk result (KeepsClean a.geometry a.mapping b.mapping)
 room_cleans (Ok done) flushing a b s t same r idle on = clean_now a b s t same (r on) idle
 room_cleans (Err fault) flushing a b s t same r idle on = tt
 
 -- ---- the array stays
 
-pub keeps_room : (a b : Ram) (x y : Image) → IsRearranged a x b y → KeepsArray a.geometry x b y
-keeps_room a b x y r = record { truth = r.truth; array = r.array }
+pub keeps_room : (a b : Ram) (x y : Image) → IsRearranged a x b y → Knows b y → KeepsArray a.geometry x b y
+keeps_room a b x y r k = record { truth = k; array = r.array }
 
-pub refused_room : (a b : Ram) (x y : Image) (fault : WriteFault) → RoomRefused a x b y fault → CallRefused a.geometry x b y (EngineFault fault)
-refused_room a b x y ReadOnly r = keeps_room a b x y r
-refused_room a b x y SequenceSpent r = keeps_room a b x y r
-refused_room a b x y Damaged r = r
-refused_room a b x y Bus r = tt
+pub refused_room : (a b : Ram) (x y : Image) (fault : WriteFault) → RoomRefused a x b y fault → (fault ≢ Bus → PinIsFew 0 b) → CallRefused a.geometry x b y (EngineFault fault)
+refused_room a b x y ReadOnly r few = record { truth = r.truth; array = r.array }
+refused_room a b x y SequenceSpent r few = record { truth = r.truth; array = r.array; few = few_more b (few (λ e. (let no : ⊥ = cc in no))) }
+refused_room a b x y Damaged r few = r
+refused_room a b x y Bus r few = tt
 
--- ---- nothing is moved
-
-pub idle_kept : (a b : Ram) → b.geometry ≡ a.geometry → HasNoMore a.mapping b.mapping → b.pin ≡ a.pin → IsIdle a → IsIdle b
-idle_kept a b same m pin idle = record {
-  moved = none b.mapping.moved (let e : length a.mapping.moved ≡ 0 = ap length idle.moved in omega (arith, m.moved));
-  unmarked = ap (λ (p : Pin). p.marks) pin ∙ (idle.unmarked ∙ ap (λ g. replicate (translation_pages g) false) (sym same));
-}
-  where
-    none : (ms : List (ℕ × ℕ)) → length ms ≤ 0 → ms ≡ []
-    none [] le = refl
-    none (x ∷ xs) le = absurd (omega arith)
-
-pub idle_mapping : (a b : Ram) → b.geometry ≡ a.geometry → b.mapping.moved ≡ a.mapping.moved → b.pin ≡ a.pin → IsIdle a → IsIdle b
-idle_mapping a b same moved pin idle = record {
-  moved = moved ∙ idle.moved;
-  unmarked = ap (λ (p : Pin). p.marks) pin ∙ (idle.unmarked ∙ ap (λ g. replicate (translation_pages g) false) (sym same));
-}
-
--- a look-up
-pub idle_found : (a b : Ram) (fault : Option WriteFault) → b ≡ record a { fault = fault } → IsIdle a → IsIdle b
-idle_found a b fault is idle = (let P : Ram → Type 0 = IsIdle in subst P (sym is) (record { moved = idle.moved; unmarked = idle.unmarked }))
-
--- a sector is cached
-pub idle_loaded : {N : Type 0} (e f : Engine N) (n : ℕ) (row : Option ℕ) → f ≡ record e { mapping = loaded e.mapping n row } → IsIdle (ram e) → IsIdle (ram f)
-idle_loaded {N} e f n row is idle = (let P : Engine N → Type 0 = λ x. IsIdle (ram x) in subst P (sym is) (record { moved = loaded_moves_none e.mapping n row idle.moved; unmarked = idle.unmarked }))
+-- what is known of the pinned block then: where nothing was done it is as it was, and else none is pinned
+pub room_knows : {N : Type 0} (flash : N → Flash) (erases : N → ℕ) (result : Result (Unit {0}) WriteFault) (e f : Engine N) → OnOk result (IsCalm (ram f)) → OnOk result (RestsOrErases erases e f) → MatchResult result (λ done. IsRearranged (ram e) (image_in flash e) (ram f) (image_in flash f)) (RoomRefused (ram e) (image_in flash e) (ram f) (image_in flash f))
+    → (result ≢ Err Bus → PinIsFew 0 (ram f)) → Knows (ram e) (image_in flash e) → MatchResult result (λ done. Knows (ram f) (image_in flash f)) (λ fault. fault ≢ Bus → PinIsFew 0 (ram f))
+room_knows {N} flash erases (Ok done) e f calm (inl same) r few k = (let P : Engine N → Type 0 = λ z. Knows (ram z) (image_in flash z) in subst P (sym same) k)
+room_knows flash erases (Ok done) e f calm (inr erased) r few k = knows_none (ram f) (image_in flash f) r.truth calm erased.1
+room_knows flash erases (Err fault) e f calm or r few k = λ ne. few (λ is. ne (cc))
 
 -- what holds of a call that was done holds where no fault stands after it
 pub when_done : (P : Type 0) (result : Result (Unit {0}) WriteFault) (fault : Option WriteFault) → fault ≡ fault_after None result → OnOk result P → fault ≡ None → P
@@ -213,19 +198,16 @@ rescue_told (Err SequenceSpent) b c t u goes h = h.spent.spent.last
 rescue_told (Err Damaged) b c t u goes h = tt
 rescue_told (Err Bus) b c t u goes h = tt
 
-pub never_rested : (a b : Ram) → HasAiling a.blocks → HasRested a b
-never_rested a b some = λ none. (let z : live_at a.blocks some.0 ≡ 0 = none some.0 some.1.within some.1.bad in absurd (omega (arith, some.1.some)))
-
 pub not_ailing : (s : State) → HasNoneAiling s → HasAiling s → ⊥
 not_ailing s none some = (let zero : live_at s some.0 ≡ 0 = none some.0 some.1.within some.1.bad in omega (arith, some.1.some))
 
 -- where some bad block had a newest page as room was made
-pub rescue_worked : (a b c : Ram) (y z : Image) (found : Bool) (before now after : ℕ) → IsRam b → IsRam c → HasAiling a.blocks → RestsOrErases a b before now → after ≡ now → Goes b c → RescueCosts b c (Ok found) → IsRescued b y c z found → HasWorked a c before after
-rescue_worked a b c y z found before now after t u some (inr rose) same goes cost d = (let P : ℕ → Type 0 = λ n. HasWorked a c before n in subst P (sym same) (inr rose))
-rescue_worked a b c y z true before now after t u some (inl still) same goes cost d =
-    let fewer : good_count c.blocks.table ≤ good_count b.blocks.table = good_fewer b c t u (goes_on b c t goes) in
-    let from : b.next ≡ a.next = ap (λ (r : Ram). r.next) still.0 in
+pub rescue_worked : {N : Type 0} (erases : N → ℕ) (a b c : Engine N) (y z : Image) (found : Bool) → IsRam (ram b) → IsRam (ram c) → HasAiling (ram a).blocks → RestsOrErases erases a b → erases c.nand ≡ erases b.nand → Goes (ram b) (ram c) → RescueCosts (ram b) (ram c) (Ok found) → IsRescued (ram b) y (ram c) z found → HasWorked (ram a) (ram c) (erases a.nand) (erases c.nand)
+rescue_worked erases a b c y z found t u some (inr rose) same goes cost d = (let P : ℕ → Type 0 = λ n. HasWorked (ram a) (ram c) (erases a.nand) n in subst P (sym same) (inr rose.0))
+rescue_worked erases a b c y z true t u some (inl still) same goes cost d =
+    let fewer : good_count (ram c).blocks.table ≤ good_count (ram b).blocks.table = good_fewer (ram b) (ram c) t u (goes_on (ram b) (ram c) t goes) in
+    let from : b.next ≡ a.next = ap (λ (e : Engine _). e.next) still in
     inl (omega (arith, cost.programmed.next, cost.some))
-rescue_worked a b c y z false before now after t u some (inl still) same goes cost d =
-    let ailing : HasAiling b.blocks = (let P : Ram → Type 0 = λ r. HasAiling r.blocks in subst P (sym still.0) some) in
-    absurd (not_ailing b.blocks (d.none refl) ailing)
+rescue_worked {N} erases a b c y z false t u some (inl still) same goes cost d =
+    let ailing : HasAiling (ram b).blocks = (let P : Engine N → Type 0 = λ e. HasAiling (ram e).blocks in subst P (sym still) some) in
+    absurd (not_ailing (ram b).blocks (d.none refl) ailing)

@@ -14,7 +14,7 @@ use Rattle.promises.specs.Legal.{accounts_of}
 use Rattle.image_check.specs.Accepted.{Acceptance}
 use Rattle.image_check.specs.Stale.{stale_sectors}
 use Rattle.collection.specs.State.{Ram}
-use Rattle.collection.specs.Safe.{IsIdle}
+use Rattle.collection.specs.Left.{IsCalm}
 use Rattle.collection.specs.Truth.{IsTrue}
 use Rattle.collection.specs.Log.{IsAccounted}
 use Rattle.ftl_device.specs.Begin.{begun_mapping, begun_ram, is_bad_in, free_in, is_scarce}
@@ -42,9 +42,9 @@ directory_row h c directory k row fits same is at =
 
 -- ---- what it begins with
 
--- nothing is moved or marked yet
-pub started_idle : (g : Geometry) (c : Claim) (stale : List ℕ) (r : Ram) → r ≡ begun_ram g c stale → IsIdle r
-started_idle g c stale r is = subst IsIdle (sym is) (record { moved = refl; unmarked = refl })
+-- nothing is pinned, moved or marked yet
+pub started_calm : (g : Geometry) (c : Claim) (stale : List ℕ) (r : Ram) → r ≡ begun_ram g c stale → IsCalm r
+started_calm g c stale r is = subst IsCalm (sym is) (record { unmarked = refl; pinned = refl })
 
 -- the count of free blocks that was looked at is the engine's
 pub same_scarce : (n : ℕ) (r whole : Ram) → n ≡ free_count whole.blocks → r ≡ whole → is_scarce n ≡ is_scarce (free_count r.blocks)

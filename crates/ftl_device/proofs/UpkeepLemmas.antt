@@ -23,13 +23,14 @@ use Rattle.ftl_device.specs.declared.fault.DeviceFault.{DeviceFault}
 use Rattle.ftl_device.specs.declared.fault.DeviceFault.TheVariants.{OutOfRange, ReadOnly, SequenceSpent, OutOfMemory, Damaged, BusFault}
 use Rattle.ftl_device.specs.Begin.{is_scarce}
 use Rattle.ftl_device.specs.Device.{IsDevice}
-use Rattle.ftl_device.specs.Calls.{state_in, reply_of, stop_of, CallTells, CallRefused, KeepsArray, answer_of}
+use Rattle.ftl_device.specs.Calls.{Knows, IsWell, state_in, reply_of, stop_of, CallTells, CallRefused, KeepsArray, answer_of}
 use Rattle.ftl_device.specs.Counts.{is_bad_by, is_flush, IsLeft}
 use Rattle.ftl_device.specs.Flush.{MayFlush, MayNotFlush, first_of, IsFlushedOut}
 use Rattle.ftl_device.specs.Shortage.{CallShort}
 use Rattle.ftl_device.specs.Changes.{Ends, Logs, Means, Upkeeps}
 use Rattle.ftl_device.proofs.CallLemmas.{well_device, memory_only, mountable_after, went_after}
 use Rattle.ftl_device.proofs.ChangeLemmas.{Why, refuses_made, refuses_at_once, stays_same, not_past}
+use Rattle.ftl_device.proofs.PinLemmas.{knows_well}
 use Rattle.ftl_device.proofs.FlushCalls.{flush_well, flush_shown, flush_refused, flush_left_refused}
 use Rattle.ftl_device.proofs.MountableLemmas.{restart_law}
 
@@ -73,11 +74,11 @@ module _ {N : Type 0} (flash : N → Flash) (honest calm : N → Bool) (failed :
   pub record IsUpkept (answer : Result (Unit {0}) CallFault) (e : Engine N) : Type 0 where
     pub ends : Ends flash honest calm failed old.engine answer e
     pub no_memory : answer ≢ Err call.OutOfMemory
-    pub truth : honest old.engine.nand ≡ true → IsTrue None (ram old.engine) (image_in flash old.engine) → MatchResult answer (λ _. KeepsArray old.engine.geometry (image_in flash old.engine) (ram e) (image_in flash e)) (CallRefused old.engine.geometry (image_in flash old.engine) (ram e) (image_in flash e))
-    pub lacks : honest old.engine.nand ≡ true → IsTrue None (ram old.engine) (image_in flash old.engine) → (fault : CallFault) → answer ≡ Err fault → CallShort (ram old.engine) (ram e) answer
-    pub left : honest old.engine.nand ≡ true → IsTrue None (ram old.engine) (image_in flash old.engine) → (w : Went (ram old.engine) (flash old.engine.nand) (ram e) (flash e.nand)) → (ro : Bool) → ro ≡ is_scarce (free_count (ram e).blocks) → ro ≡ true
+    pub truth : honest old.engine.nand ≡ true → Knows (ram old.engine) (image_in flash old.engine) → MatchResult answer (λ _. KeepsArray old.engine.geometry (image_in flash old.engine) (ram e) (image_in flash e)) (CallRefused old.engine.geometry (image_in flash old.engine) (ram e) (image_in flash e))
+    pub lacks : honest old.engine.nand ≡ true → Knows (ram old.engine) (image_in flash old.engine) → (fault : CallFault) → answer ≡ Err fault → CallShort (ram old.engine) (ram e) answer
+    pub left : honest old.engine.nand ≡ true → Knows (ram old.engine) (image_in flash old.engine) → (w : Went (ram old.engine) (flash old.engine.nand) (ram e) (flash e.nand)) → (ro : Bool) → ro ≡ is_scarce (free_count (ram e).blocks) → ro ≡ true
         → IsLeft command old.engine.geometry (is_bad_by (ram old.engine)) [] w.log old.read_only (answer_of (ram e) good_then answer)
-    pub worth : honest old.engine.nand ≡ true → IsTrue None (ram old.engine) (image_in flash old.engine) → (w : Went (ram old.engine) (flash old.engine.nand) (ram e) (flash e.nand)) → is_flush command ≡ true → OnOk answer (IsFlushedOut (first_of (ram old.engine)) w.log (image_in flash e))
+    pub worth : honest old.engine.nand ≡ true → Knows (ram old.engine) (image_in flash old.engine) → (w : Went (ram old.engine) (flash old.engine.nand) (ram e) (flash e.nand)) → is_flush command ≡ true → OnOk answer (IsFlushedOut (first_of (ram old.engine)) w.log (image_in flash e))
 
   module _ (new : Device N) (device : IsDevice flash old) (device' : IsDevice flash new) (may : MayFlush (ram old.engine) old.read_only)
       (takes : (reply : Reply) (s : State) → QuietStep (state_in flash old) reply s → ArrayStep old.engine.geometry (state_in flash old) command reply s) where
@@ -85,23 +86,26 @@ module _ {N : Type 0} (flash : N → Flash) (honest calm : N → Bool) (failed :
       abbrev replied : Result (Unit {0}) DeviceFault
       replied = answer_of (ram new.engine) good_then answer
 
+      here : IsWell flash old → Knows (ram old.engine) (image_in flash old.engine)
+      here well = knows_well flash old device well may.going
+
       logs_done : honest old.engine.nand ≡ true → replied ≢ Err BusFault → Logs flash command old replied new
       logs_done is_honest ne =
           let w = went_after flash old.engine new.engine new.engine answer replied good_then refl refl (k.ends.went is_honest) ne in
           record {
             went = w;
-            shown = λ well. flush_shown flash old.engine new.engine new.engine w old.read_only answer replied good_then refl device.engine.memory k.ends.safe.memory k.ends.geometry refl refl k.ends.tells (k.lacks is_honest well.truth) (k.truth is_honest well.truth) ne;
-            left = λ well on. k.left is_honest well.truth w new.read_only device'.read_only on;
-            flushed = λ well its done. done_only _ answer good_then (ram new.engine) (k.worth is_honest well.truth w its) done;
+            shown = λ well. flush_shown flash old.engine new.engine new.engine w old.read_only answer replied good_then refl device.engine.memory k.ends.safe.memory k.ends.geometry refl refl k.ends.tells (k.lacks is_honest (here well)) (k.truth is_honest (here well)) ne;
+            left = λ well on. k.left is_honest (here well) w new.read_only device'.read_only on;
+            flushed = λ well its done. done_only _ answer good_then (ram new.engine) (k.worth is_honest (here well) w its) done;
           }
 
-      means_done : honest old.engine.nand ≡ true → IsTrue None (ram old.engine) (image_in flash old.engine) → replied ≢ Err BusFault → Means flash command old replied new
+      means_done : honest old.engine.nand ≡ true → Knows (ram old.engine) (image_in flash old.engine) → replied ≢ Err BusFault → Means flash command old replied new
       means_done is_honest known ne =
-          let here = well_device flash new new.engine refl (flush_well answer replied good_then _ _ _ (ram new.engine) (ram new.engine) k.ends.fault refl ne (k.truth is_honest known)) in
+          let after = well_device flash new new.engine refl (flush_well answer replied good_then _ _ _ (ram new.engine) (ram new.engine) k.ends.fault refl ne (k.truth is_honest known)) in
           record {
             step = takes _ _ (quiet_step old.engine.geometry new.engine.geometry (image_in flash old.engine) (image_in flash new.engine) (ram old.engine) (ram new.engine) old.read_only new.read_only good_then may.writable device'.read_only k.ends.geometry answer k.ends.tells (k.truth is_honest known) k.no_memory ne);
-            well = here;
-            mountable = λ most. mountable_after flash old.engine new new.engine refl k.ends.geometry k.ends.limits device'.engine.memory here most;
+            well = after;
+            mountable = λ most. mountable_after flash old.engine new new.engine refl k.ends.geometry k.ends.limits device'.engine.memory after most;
           }
 
       upkeep_done : Upkeeps flash honest calm failed command old replied new
@@ -115,7 +119,7 @@ module _ {N : Type 0} (flash : N → Flash) (honest calm : N → Bool) (failed :
           memory = λ e. k.no_memory (memory_only answer replied good_then (ram new.engine) refl e);
         };
         logs = logs_done;
-        means = λ is_honest well ne. means_done is_honest well.truth ne;
+        means = λ is_honest well ne. means_done is_honest (here well) ne;
       }
 
     -- the device noted nothing else

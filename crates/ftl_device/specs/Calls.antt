@@ -1,5 +1,5 @@
 -- What the calls of a device promise.
-use Rattle.std.specs.Prelude.{◌≡◌, ◌⊎◌, ℕ, ◌+◌, ◌-◌, ◌<◌, ◌≤◌, ◌^◌, Bool, true, false, List, [], slice_get, slice_set, Option, Some, None, IsSome}
+use Rattle.std.specs.Prelude.{◌≡◌, ◌≢◌, ◌⊎◌, ℕ, ◌+◌, ◌-◌, ◌<◌, ◌≤◌, ◌^◌, Bool, true, false, List, [], slice_get, slice_set, Option, Some, None, IsSome}
 use Rattle.std.specs.Prelude.{Result, Ok, Err}
 use Rattle.std.specs.Map.{keys_of}
 use Rattle.page_layout.specs.declared.geometry.Geometry.{Geometry}
@@ -19,12 +19,14 @@ use Rattle.promises.specs.Step as step
 use Rattle.promises.specs.Step.{State, Reply}
 use Rattle.collection.specs.declared.fault.WriteFault.{WriteFault}
 use Rattle.collection.specs.declared.fault.WriteFault.TheVariants as engine_fault
+use Rattle.collection.specs.declared.engine.Engine as engines
 use Rattle.collection.specs.State.{Ram}
-use Rattle.collection.specs.Safe.{IsRam, IsIdle, ram, image_in}
+use Rattle.collection.specs.Safe.{IsRam, ram, image_in}
+use Rattle.collection.specs.Left.{IsCalm, PinHasPassed, PinIsFew, left}
 use Rattle.collection.specs.Pages.{newest_row}
 use Rattle.collection.specs.Truth.{IsTrue}
 use Rattle.collection.specs.Cost.{HasPut}
-use Rattle.collection.specs.Collect.{GoesOn, KeepsKeys, HasRoom, IsAiling, HasAiling, HasNoneAiling}
+use Rattle.collection.specs.Collect.{GoesOn, KeepsKeys, HasRoom, IsAiling, HasAiling}
 use Rattle.ftl_device.specs.declared.device.Device.{Device}
 use Rattle.ftl_device.specs.declared.fault.CallFault.{CallFault}
 use Rattle.ftl_device.specs.declared.fault.CallFault.TheVariants as call
@@ -80,10 +82,27 @@ stop_of (Some engine_fault.Bus) = Some BusFault
 
 -- ---- what is true of the image between two calls, where the die is honest
 
+-- WHAT IS KNOWN where no fault stands: the memory is true of the image, and of a pinned block no page that was passed is a newest page, and few
+-- are left
+pub record Knows (r : Ram) (image : Image) : Type 0 where
+  pub truth : IsTrue None r image
+  pub calm : IsCalm r
+  pub passed : PinHasPassed r image
+  pub few : PinIsFew 0 r
+
+-- and of a pinned block whatever fault stands: a rescue may have moved one sector more and then found no sequence
+abbrev pub PinIsTrue : Option WriteFault → Ram → Image → Type 0
+PinIsTrue None r image = PinHasPassed r image × PinIsFew 0 r
+PinIsTrue (Some engine_fault.ReadOnly) r image = Unit {0}
+PinIsTrue (Some engine_fault.SequenceSpent) r image = PinIsFew 1 r
+PinIsTrue (Some engine_fault.Damaged) r image = Unit {0}
+PinIsTrue (Some engine_fault.Bus) r image = Unit {0}
+
 -- the device isn't stopped, and what it knows of the image is so
 pub record IsWell {N : Type 0} (flash : N → Flash) (d : Device N) : Type 0 where
   pub going : stop_of d.engine.fault ≡ None
   pub truth : IsTrue None (ram d.engine) (image_in flash d.engine)
+  pub pinned : PinIsTrue d.engine.fault (ram d.engine) (image_in flash d.engine)
 
 -- ---- when a call is refused
 
@@ -118,7 +137,7 @@ pub record HasMadeRoom (old new : Ram) : Type 0 where
   pub goes : GoesOn old new
   pub keys : KeepsKeys old.mapping new.mapping
   pub room : HasRoom new
-  pub idle : IsIdle new
+  pub calm : IsCalm new
 
 -- room was made, and then a place for a sector's entry
 pub record IsReady (n : ℕ) (old new : Ram) : Type 0 where
@@ -158,10 +177,21 @@ Tells old new (Err engine_fault.SequenceSpent) = new.next ≡ 2 ^ 64 - 1
 Tells old new (Err engine_fault.Damaged) = Unit {0}
 Tells old new (Err engine_fault.Bus) = Unit {0}
 
--- the array is as it was, and what the memory knows of the image is so
+-- the array is as it was, and what is known of the image is so
 pub record KeepsArray (g : Geometry) (before : Image) (new : Ram) (after : Image) : Type 0 where
+  pub truth : Knows new after
+  pub array : array_of g after ≡ array_of g before
+
+-- the same where a fault stands: of a pinned block nothing is known
+pub record KeepsSectors (g : Geometry) (before : Image) (new : Ram) (after : Image) : Type 0 where
   pub truth : IsTrue None new after
   pub array : array_of g after ≡ array_of g before
+
+-- or that few pages of it are left, but for a sector that a rescue has moved
+pub record KeepsFew (g : Geometry) (before : Image) (new : Ram) (after : Image) : Type 0 where
+  pub truth : IsTrue None new after
+  pub array : array_of g after ≡ array_of g before
+  pub few : PinIsFew 1 new
 
 -- and the row is that of the sector's newest page
 pub record IsFound (n : ℕ) (row : Option ℕ) (g : Geometry) (before : Image) (new : Ram) (after : Image) : Type 0 where
@@ -185,15 +215,15 @@ standing_after (Err call.OutOfMemory) = None
 
 -- what is true of the image where it was refused
 abbrev pub CallRefused : Geometry → Image → Ram → Image → CallFault → Type 0
-CallRefused g before new after (Engine engine_fault.ReadOnly) = KeepsArray g before new after
-CallRefused g before new after (Engine engine_fault.SequenceSpent) = KeepsArray g before new after
+CallRefused g before new after (Engine engine_fault.ReadOnly) = KeepsSectors g before new after
+CallRefused g before new after (Engine engine_fault.SequenceSpent) = KeepsFew g before new after
 CallRefused g before new after (Engine engine_fault.Damaged) = ⊥
 CallRefused g before new after (Engine engine_fault.Bus) = Unit {0}
 CallRefused g before new after call.OutOfMemory = KeepsArray g before new after
 
 -- sector n holds these bytes, and all others what they held
 pub record HoldsSector (g : Geometry) (n : ℕ) (bytes : List ℕ) (before : Image) (new : Ram) (after : Image) : Type 0 where
-  pub truth : IsTrue None new after
+  pub truth : Knows new after
   pub array : array_of g after ≡ slice_set (array_of g before) n bytes
 
 -- ---- the device around it
@@ -253,15 +283,33 @@ pub record HasRescued (old new : Ram) : Type 0 where
   pub bad : (b : ℕ) → b < old.geometry.blocks → is_good_at old.blocks.table b ≡ false → live_at new.blocks b ≤ live_at old.blocks b
   pub fewer : good_count new.blocks.table ≡ good_count old.blocks.table → HasAiling old.blocks → (block : ℕ) × IsAiling old.blocks block × (live_at new.blocks block < live_at old.blocks block)
 
+-- no bad block has more newest pages than before
+abbrev pub KeepsBad : Ram → Ram → Type 0
+KeepsBad old new = (b : ℕ) → b < old.geometry.blocks → is_good_at old.blocks.table b ≡ false → live_at new.blocks b ≤ live_at old.blocks b
+
 -- IT HAS PROGRAMMED OR ERASED: each program takes a sequence, and the count of erases rises with each erase
 abbrev pub HasWorked : (old new : Ram) (erases_before erases_after : ℕ) → Type 0
 HasWorked old new erases_before erases_after = (old.next < new.next) ⊎ HasRisen erases_before erases_after
 
--- no bad block had one: nothing has changed
-abbrev pub HasRested : Ram → Ram → Type 0
-HasRested old new = HasNoneAiling old.blocks → new ≡ old
+-- or it has done neither: then twelve blocks are free, unless too few are good
+abbrev pub IsQuiet : {N : Type 0} → (erases : N → ℕ) → (old new : engines.Engine N) → Type 0
+IsQuiet erases old new = HasWorked (ram old) (ram new) (erases old.nand) (erases new.nand) ⊎ (need new.geometry + 3 ≤ good_count (ram new).blocks.table → 12 ≤ free_count (ram new).blocks)
+
+-- it has erased, or less is left of the collection under way
+abbrev pub HasLess : {N : Type 0} → (flash : N → Flash) → (erases : N → ℕ) → (old new : engines.Engine N) → Type 0
+HasLess flash erases old new = HasRisen (erases old.nand) (erases new.nand) ⊎ (left (ram new) (image_in flash new) < left (ram old) (image_in flash old))
+
+-- A TURN THAT IS DONE where no bad block holds a newest page: nothing has changed, or it has erased or
+-- left less to do
+abbrev pub HasFallen : {N : Type 0} → (flash : N → Flash) → (erases : N → ℕ) → (old new : engines.Engine N) → Type 0
+HasFallen flash erases old new = (new ≡ old) ⊎ HasLess flash erases old new
 
 -- ---- laws
+
+-- What is left of the collection under way is less than a block's pages. It is so of a device that is well and not read-only: `ReadOnly` stands
+-- in no other.
+abbrev pub LeftBelowLaw : Type 0
+LeftBelowLaw = (r : Ram) (image : Image) → IsRam r → IsTrue None r image → PinIsTrue r.fault r image → stop_of r.fault ≡ None → r.fault ≢ Some engine_fault.ReadOnly → left r image < r.geometry.pages
 
 -- where no sector is moved, a sector that is stale in the image is cached
 abbrev pub StaleLaw : Type 0

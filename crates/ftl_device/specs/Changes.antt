@@ -16,7 +16,8 @@ use Rattle.collection.specs.declared.engine.Engine.{Engine}
 use Rattle.collection.specs.declared.fault.WriteFault.{WriteFault}
 use Rattle.collection.specs.declared.fault.WriteFault.TheVariants.{Bus}
 use Rattle.collection.specs.State.{Ram}
-use Rattle.collection.specs.Safe.{IsSafe, IsIdle, ram, image_in, page_in}
+use Rattle.collection.specs.Safe.{IsSafe, ram, image_in, page_in}
+use Rattle.collection.specs.Left.{IsCalm}
 use Rattle.collection.specs.Cost.{HasPut}
 use Rattle.collection.specs.Log.{Went}
 use Rattle.collection.specs.Results.{fault_after}
@@ -55,7 +56,7 @@ pub record Ends {N : Type 0} (flash : N → Flash) (honest calm : N → Bool) (f
   pub failed_is : failed old.nand ≤ failed new.nand
   pub rose : result ≡ Err (call.Engine Bus) → HasRisen (failed old.nand) (failed new.nand)
   pub limits : HasLimitsOf old.mapping new.mapping
-  pub idle : new.fault ≡ None → IsIdle (ram new)
+  pub calm_memory : new.fault ≡ None → IsCalm (ram new)
   pub tells : CallTells (ram old) (ram new) result
   pub went : honest old.nand ≡ true → result ≢ Err (call.Engine Bus) → Went (ram old) (flash old.nand) (ram new) (flash new.nand)
 
@@ -142,7 +143,7 @@ pub record Changes {N : Type 0} (flash : N → Flash) (honest calm : N → Bool)
   pub programs : ProgramsSector n old result new
   pub logs : honest old.engine.nand ≡ true → result ≢ Err BusFault → Logs flash command old result new
   pub means : honest old.engine.nand ≡ true → IsWell flash old → result ≢ Err BusFault → Means flash command old result new
-  pub stale : honest old.engine.nand ≡ true → IsWell flash old → is_stale old.engine.geometry (image_in flash old.engine) n ≡ true → result ≢ Err OutOfMemory
+  pub stale : honest old.engine.nand ≡ true → IsWell flash old → old.engine.pinned ≡ None → is_stale old.engine.geometry (image_in flash old.engine) n ≡ true → result ≢ Err OutOfMemory
 
 -- A CALL THAT CHANGES NO SECTOR: a flush, or a turn
 pub record Upkeeps {N : Type 0} (flash : N → Flash) (honest calm : N → Bool) (failed : N → ℕ) (command : Command) (old : Device N) (result : Result (Unit {0}) DeviceFault) (new : Device N) : Type 0 where

@@ -1,6 +1,6 @@
 -- Which faults a read answers, and what it leaves in memory.
 use Rattle.std.specs.Prelude.{◌≡◌, ◌⊎◌, ℕ, List, Option, Some, None, IsSome, Result, Ok, Err}
-use Rattle.mapping_cache.specs.Mapping.{MappingState, CanLoad, slot_of, pending, used, loaded}
+use Rattle.mapping_cache.specs.Mapping.{MappingState, CanLoad, slot_of, moved_row, pending, used, loaded}
 use Rattle.collection.specs.declared.fault.WriteFault.TheVariants as write
 use Rattle.page_layout.specs.Page.{Page}
 use Rattle.collection.specs.State.{Ram}
@@ -22,10 +22,11 @@ pub record IsCachedNow (n : ℕ) (row : Option ℕ) (old new : MappingState) : T
   pub room : CanLoad old n
   pub loaded_is : new ≡ loaded old n row
 
--- A LOOK-UP that found this row. A cached sector becomes the most recently used, and another may be cached with the row. No row is lost that a
--- translation page lacks.
+-- A LOOK-UP that found this row. A cached sector becomes the most recently used, and another may be cached with the row, but not one that is moved. No row
+-- is lost that a translation page lacks.
 pub record LooksUp (n : ℕ) (row : Option ℕ) (old new : MappingState) : Type 0 where
   pub hit : IsSome (slot_of old n) → new ≡ used old n
+  pub moved : IsSome (moved_row old n) → new ≡ old
   pub miss : slot_of old n ≡ None → (new ≡ old) ⊎ IsCachedNow n row old new
   pub lacking : (k : ℕ) → pending new k ≡ pending old k
 

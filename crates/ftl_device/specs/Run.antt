@@ -214,7 +214,7 @@ pub record RanFrom {N : Type 0} (flash : N → Flash) (s : Flash) (c : Claim) (x
 pub record Happened {N : Type 0} (flash : N → Flash) (old : Device N) (x : Exchange) (new : Device N) : Type 0 where
   pub step : ArrayStep old.engine.geometry (state_in flash old) x.command (reply_in x) (state_in flash new)
   pub went : Went (ram old.engine) (flash old.engine.nand) (ram new.engine) (flash new.engine.nand)
-  pub stale : needs_no_memory old.engine.geometry (image_in flash old.engine) x.command ≡ true → x.result ≢ Err OutOfMemory
+  pub stale : old.engine.pinned ≡ None → needs_no_memory old.engine.geometry (image_in flash old.engine) x.command ≡ true → x.result ≢ Err OutOfMemory
   pub shown : (bad : ℕ → Bool) (next : ℕ) (before : List Operation) → ((b : ℕ) → b < old.engine.geometry.blocks → is_bad_by (ram new.engine) b ≡ bad_of old.engine.geometry.pages bad (before ++ went.log) b) → new.engine.next ≡ next + programs_in (before ++ went.log)
       → IfErr x.result (IsShown old.engine.geometry bad next before went.log old.read_only (image_in flash new.engine))
   pub left : (bad : ℕ → Bool) (before : List Operation) → ((b : ℕ) → b < old.engine.geometry.blocks → is_bad_by (ram new.engine) b ≡ bad_of old.engine.geometry.pages bad (before ++ went.log) b) → new.read_only ≡ true

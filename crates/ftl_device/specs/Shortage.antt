@@ -13,12 +13,11 @@ use Rattle.collection.specs.declared.fault.WriteFault.{WriteFault}
 use Rattle.collection.specs.declared.fault.WriteFault.TheVariants as engine_fault
 use Rattle.collection.specs.State.{Ram}
 use Rattle.collection.specs.Safe.{IsRam}
-use Rattle.collection.specs.Truth.{IsTrue}
 use Rattle.collection.specs.Cost.{HasRunOut, HasSpent}
 use Rattle.ftl_device.specs.declared.fault.CallFault.{CallFault}
 use Rattle.ftl_device.specs.declared.fault.CallFault.TheVariants as call
 use Rattle.ftl_device.specs.declared.fault.CallFault.TheVariants.{Engine}
-use Rattle.ftl_device.specs.Calls.{HasMadeRoom}
+use Rattle.ftl_device.specs.Calls.{Knows, HasMadeRoom}
 use Rattle.ftl_device.specs.Flush.{WritesTables}
 
 -- at most so many pages were programmed, in either stream
@@ -60,9 +59,9 @@ CallCounts old new (Err call.OutOfMemory) = (5 ≤ free_count new.blocks) ⊎ (3
 abbrev pub LacksGood : Ram → Ram → Type 0
 LacksGood old new = (good_count new.blocks.table < need old.geometry) ⊎ (3 + good_count new.blocks.table ≤ good_count old.blocks.table)
 
--- what has to be known before a call for its free blocks to be counted: the memory is true of the image, and it has five blocks' pages
+-- what has to be known before a call for its free blocks to be counted: the memory is true of the image, and the pool has five blocks' pages
 abbrev pub HasFunds : Bool → Ram → Image → Type 0
-HasFunds honest r image = (honest ≡ true) × IsTrue None r image × IsFunded r.geometry.pages 0 (counts_of r.blocks)
+HasFunds honest r image = (honest ≡ true) × Knows r image × IsFunded r.geometry.pages 0 (counts_of r.blocks)
 
 -- Room was made. Where so much is known, nine blocks are free, unless fewer are good than the geometry asks for.
 pub record AfterRoom (known : Type 0) (old new : Ram) : Type 0 where
@@ -120,6 +119,16 @@ CallShort old new (Err (Engine engine_fault.SequenceSpent)) = Unit {0}
 CallShort old new (Err (Engine engine_fault.Damaged)) = Unit {0}
 CallShort old new (Err (Engine engine_fault.Bus)) = Unit {0}
 CallShort old new (Err call.OutOfMemory) = LacksGood old new ⊎ (5 ≤ free_count new.blocks)
+
+-- ---- a step of a collection
+
+-- it takes one page at most, in either stream, or gives a block back, or loses one
+abbrev pub StepCounts : Ram → Ram → Result (Unit {0}) WriteFault → Type 0
+StepCounts old new (Ok done) = HasUsed 1 old new ⊎ (free_count old.blocks + good_count new.blocks.table ≤ free_count new.blocks + good_count old.blocks.table)
+StepCounts old new (Err engine_fault.ReadOnly) = HasFailed 0 old new
+StepCounts old new (Err engine_fault.SequenceSpent) = Unit {0}
+StepCounts old new (Err engine_fault.Damaged) = Unit {0}
+StepCounts old new (Err engine_fault.Bus) = Unit {0}
 
 -- ---- a flush
 

@@ -4,10 +4,10 @@ ghost use Rattle.std.specs.Map.{keys_of};
 ghost use Rattle.page_layout.specs.Geometry.{translation_pages, table_pages};
 ghost use Rattle.budget.specs.Spending.{IsFunded};
 ghost use Rattle.allocation.specs.Counts.{counts_of};
-ghost use Rattle.collection.specs.Safe.{IsSafe, IsIdle, ram, image_in};
-ghost use Rattle.collection.specs.Truth.{IsTrue};
+ghost use Rattle.collection.specs.Safe.{IsSafe, ram, image_in};
+ghost use Rattle.collection.specs.Left.{IsCalm, LeavesPin};
 ghost use Rattle.collection.specs.Results.{KeepsTable};
-ghost use Rattle.ftl_device.specs.Calls.{KeepsArray, CallRefused};
+ghost use Rattle.ftl_device.specs.Calls.{Knows, KeepsArray, CallRefused};
 ghost use Rattle.ftl_device.specs.Flush.{IsClean, KeepsClean, SpellsAll, KeepsTables, AddsPages, FailsAmong, RunsOut, IsFlushed, WritesTables, MayFlush};
 ghost use Rattle.ftl_device.specs.Flush.{MayNotFlush};
 ghost use Rattle.ftl_device.specs.Shortage.{HasFunds, FlushCounts, FlushShort};
@@ -26,18 +26,18 @@ use onfi_cycles::Nand;
 fn flush_translation<N: Nand>(engine: &mut Engine<N>, t: u32) -> Result<(), WriteFault>
     requires safe { IsSafe N.flash engine.old }
     requires going { engine.old.fault ≡ None }
-    requires idle { IsIdle (ram engine.old) }
+    requires calm { IsCalm (ram engine.old) }
     requires page { t < translation_pages engine.old.geometry }
     ensures leaves { Leaves N.flash N.honest N.calm N.failed engine.old result engine.new }
     ensures keys { keys_of engine.new.mapping.cached ≡ keys_of engine.old.mapping.cached }
     ensures limits { HasLimitsOf engine.old.mapping engine.new.mapping }
-    ensures idle { engine.new.fault ≡ None → IsIdle (ram engine.new) }
+    ensures calm { engine.new.fault ≡ None → IsCalm (ram engine.new) }
     ensures clean { OnOk result (IsClean engine.old.geometry t engine.new.mapping) }
     ensures cleans { OnOk result (KeepsClean engine.old.geometry engine.old.mapping engine.new.mapping) }
-    ensures count { N.honest engine.old.nand ≡ true → IsTrue None (ram engine.old) (image_in N.flash engine.old) →
+    ensures count { N.honest engine.old.nand ≡ true → Knows (ram engine.old) (image_in N.flash engine.old) →
         (failures : ℕ) → IsFunded engine.old.geometry.pages failures (counts_of (ram engine.old).blocks) →
         FlushCounts failures (ram engine.old) (ram engine.new) result }
-    ensures truth { N.honest engine.old.nand ≡ true → IsTrue None (ram engine.old) (image_in N.flash engine.old) →
+    ensures truth { N.honest engine.old.nand ≡ true → Knows (ram engine.old) (image_in N.flash engine.old) →
         MatchResult result
         (λ _. KeepsArray engine.old.geometry (image_in N.flash engine.old) (ram engine.new) (image_in N.flash engine.new))
         (λ fault. CallRefused engine.old.geometry (image_in N.flash engine.old) (ram engine.new) (image_in N.flash engine.new) (CallFault.Engine fault)) }
@@ -53,16 +53,16 @@ fn flush_translation<N: Nand>(engine: &mut Engine<N>, t: u32) -> Result<(), Writ
 fn flush_translations<N: Nand>(engine: &mut Engine<N>) -> Result<(), WriteFault>
     requires safe { IsSafe N.flash engine.old }
     requires going { engine.old.fault ≡ None }
-    requires idle { IsIdle (ram engine.old) }
+    requires calm { IsCalm (ram engine.old) }
     ensures leaves { Leaves N.flash N.honest N.calm N.failed engine.old result engine.new }
     ensures keys { keys_of engine.new.mapping.cached ≡ keys_of engine.old.mapping.cached }
     ensures limits { HasLimitsOf engine.old.mapping engine.new.mapping }
-    ensures idle { engine.new.fault ≡ None → IsIdle (ram engine.new) }
+    ensures calm { engine.new.fault ≡ None → IsCalm (ram engine.new) }
     ensures clean { OnOk result ((t : ℕ) → t < translation_pages engine.old.geometry → IsClean engine.old.geometry t engine.new.mapping) }
-    ensures count { N.honest engine.old.nand ≡ true → IsTrue None (ram engine.old) (image_in N.flash engine.old) →
+    ensures count { N.honest engine.old.nand ≡ true → Knows (ram engine.old) (image_in N.flash engine.old) →
         (failures : ℕ) → IsFunded engine.old.geometry.pages failures (counts_of (ram engine.old).blocks) →
         FlushCounts failures (ram engine.old) (ram engine.new) result }
-    ensures truth { N.honest engine.old.nand ≡ true → IsTrue None (ram engine.old) (image_in N.flash engine.old) →
+    ensures truth { N.honest engine.old.nand ≡ true → Knows (ram engine.old) (image_in N.flash engine.old) →
         MatchResult result
         (λ _. KeepsArray engine.old.geometry (image_in N.flash engine.old) (ram engine.new) (image_in N.flash engine.new))
         (λ fault. CallRefused engine.old.geometry (image_in N.flash engine.old) (ram engine.new) (image_in N.flash engine.new) (CallFault.Engine fault)) }
@@ -79,11 +79,11 @@ fn write_tables_once<N: Nand>(engine: &mut Engine<N>) -> Result<(), WriteFault>
     requires going { engine.old.fault ≡ None }
     ensures leaves { Leaves N.flash N.honest N.calm N.failed engine.old result engine.new }
     ensures mapping { engine.new.mapping ≡ engine.old.mapping }
-    ensures pin { (ram engine.new).pin ≡ (ram engine.old).pin }
+    ensures beside { LeavesPin (ram engine.old) (ram engine.new) }
     ensures table { KeepsTable (ram engine.old).blocks (ram engine.new).blocks }
     ensures cost { OnOk result (AddsPages (table_pages engine.old.geometry) (ram engine.old) (ram engine.new)) }
     ensures out { result ≡ Err WriteFault.ReadOnly → FailsAmong (table_pages engine.old.geometry) (ram engine.old) (ram engine.new) }
-    ensures truth { N.honest engine.old.nand ≡ true → IsTrue None (ram engine.old) (image_in N.flash engine.old) →
+    ensures truth { N.honest engine.old.nand ≡ true → Knows (ram engine.old) (image_in N.flash engine.old) →
         MatchResult result
         (λ _. KeepsTables (table_pages engine.old.geometry) (ram engine.old) (image_in N.flash engine.old) (ram engine.new) (image_in N.flash engine.new))
         (λ fault. CallRefused engine.old.geometry (image_in N.flash engine.old) (ram engine.new) (image_in N.flash engine.new) (CallFault.Engine fault)) }
@@ -100,10 +100,10 @@ fn write_tables<N: Nand>(engine: &mut Engine<N>) -> Result<(), WriteFault>
     requires going { engine.old.fault ≡ None }
     ensures leaves { Leaves N.flash N.honest N.calm N.failed engine.old result engine.new }
     ensures mapping { engine.new.mapping ≡ engine.old.mapping }
-    ensures pin { (ram engine.new).pin ≡ (ram engine.old).pin }
+    ensures beside { LeavesPin (ram engine.old) (ram engine.new) }
     ensures cost { OnOk result (WritesTables (ram engine.old) (ram engine.new)) }
     ensures out { result ≡ Err WriteFault.ReadOnly → RunsOut (ram engine.old) (ram engine.new) }
-    ensures truth { N.honest engine.old.nand ≡ true → IsTrue None (ram engine.old) (image_in N.flash engine.old) →
+    ensures truth { N.honest engine.old.nand ≡ true → Knows (ram engine.old) (image_in N.flash engine.old) →
         MatchResult result
         (λ _. SpellsAll engine.old.geometry (image_in N.flash engine.old) (ram engine.new) (image_in N.flash engine.new))
         (λ fault. CallRefused engine.old.geometry (image_in N.flash engine.old) (ram engine.new) (image_in N.flash engine.new) (CallFault.Engine fault)) }
@@ -121,17 +121,17 @@ fn write_tables<N: Nand>(engine: &mut Engine<N>) -> Result<(), WriteFault>
 pub(crate) fn flush_ready<N: Nand>(engine: &mut Engine<N>) -> Result<(), CallFault>
     requires safe { IsSafe N.flash engine.old }
     requires going { engine.old.fault ≡ None }
-    requires idle { IsIdle (ram engine.old) }
+    requires calm { IsCalm (ram engine.old) }
     ensures ends { Ends N.flash N.honest N.calm N.failed engine.old result engine.new }
     ensures memory { result ≢ Err CallFault.OutOfMemory }
     ensures keys { keys_of engine.new.mapping.cached ≡ keys_of engine.old.mapping.cached }
     ensures clean { OnOk result ((t : ℕ) → t < translation_pages engine.old.geometry → IsClean engine.old.geometry t engine.new.mapping) }
     ensures count { HasFunds (N.honest engine.old.nand) (ram engine.old) (image_in N.flash engine.old) → FlushShort (ram engine.old) (ram engine.new) result }
-    ensures truth { N.honest engine.old.nand ≡ true → IsTrue None (ram engine.old) (image_in N.flash engine.old) →
+    ensures truth { N.honest engine.old.nand ≡ true → Knows (ram engine.old) (image_in N.flash engine.old) →
         MatchResult result
         (λ _. KeepsArray engine.old.geometry (image_in N.flash engine.old) (ram engine.new) (image_in N.flash engine.new))
         (CallRefused engine.old.geometry (image_in N.flash engine.old) (ram engine.new) (image_in N.flash engine.new)) }
-    ensures flushed { N.honest engine.old.nand ≡ true → IsTrue None (ram engine.old) (image_in N.flash engine.old) →
+    ensures flushed { N.honest engine.old.nand ≡ true → Knows (ram engine.old) (image_in N.flash engine.old) →
         OnOk result (IsFlushed (ram engine.new) (image_in N.flash engine.new)) }
 {
     flush_translations(engine)?;

@@ -24,7 +24,7 @@ use onfi_cycles::Nand;
 
 impl<N: Nand> Device<N> {
     // A sector that was read becomes the most recently used. One that was not cached is cached where
-    // no dirty entry has to leave for it; where memory is refused, it isn't.
+    // it is not moved and no dirty entry has to leave for it; where memory is refused, it isn't.
     fn remember(&mut self, sector: u32, row: Option<u32>)
         requires device { IsDevice N.flash self.old }
         requires sector { sector < self.old.engine.geometry.sectors }
@@ -35,7 +35,11 @@ impl<N: Nand> Device<N> {
         ensures limits { HasLimitsOf self.old.engine.mapping self.new.engine.mapping }
         ensures truth { (image : Image) → IsTrue None (ram self.old.engine) image → row ≡ newest_row image (Sector sector) →
             IsTrue None (ram self.new.engine) image }
+        ensures moved { self.new.engine.mapping.moved ≡ self.old.engine.mapping.moved }
     {
+        if self.engine.mapping.is_moved(sector) {
+            return;
+        }
         if self.engine.mapping.can_load(sector) {
             let _ = self.engine.cache_sector(sector, row);
         }
@@ -62,8 +66,9 @@ impl<N: Nand> Device<N> {
     /// written or was trimmed. It programs and erases nothing, and makes at most two page reads, and
     /// at most one where the sector's row is in memory.
     ///
-    /// A cached sector becomes the most recently used. Another is cached where the cache isn't full or
-    /// its least recently used entry is clean, and memory is there; else it is read all the same.
+    /// A cached sector becomes the most recently used. Another is cached where its page isn't one that a
+    /// collection under way has moved, the cache isn't full or its least recently used entry is clean,
+    /// and memory is there; else it is read all the same.
     ///
     /// Whatever the die does, the sector's row is the one that memory has, or else the one that a sound
     /// page of the sector's translation page gives, and no other row is cached. What it gives is 00h

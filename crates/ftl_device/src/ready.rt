@@ -8,13 +8,15 @@ ghost use Rattle.page_layout.specs.declared.record.Key.TheVariants.{Sector};
 ghost use Rattle.page_layout.specs.Array.{zeros};
 ghost use Rattle.mapping_cache.specs.Mapping.{CanLoad, HasLimitsOf, slot_of};
 ghost use Rattle.collection.specs.Pages.{newest_row};
-ghost use Rattle.collection.specs.Safe.{IsSafe, IsIdle, ram, image_in, page_in};
+ghost use Rattle.collection.specs.Safe.{IsSafe, ram, image_in, page_in};
+ghost use Rattle.collection.specs.Left.{IsCalm, LeavesPin, PinIsFew};
+ghost use Rattle.collection.specs.Acts.{RestsOrErases};
 ghost use Rattle.collection.specs.Truth.{IsTrue};
 ghost use Rattle.collection.specs.Settle.{HasNoMore};
 ghost use Rattle.collection.specs.Looks.{FindsRow, IsReadFault};
 ghost use Rattle.collection.specs.Results.{IsSame, Refused, fault_after};
-ghost use Rattle.collection.specs.Collect.{KeepsKeys, RestsOrErases, IsRearranged, RoomRefused, RoomCounts};
-ghost use Rattle.ftl_device.specs.Calls.{IsFound, KeepsArray, HoldsSector, CallRefused, HasMadeRoom};
+ghost use Rattle.collection.specs.Collect.{KeepsKeys, IsRearranged, RoomRefused, RoomCounts};
+ghost use Rattle.ftl_device.specs.Calls.{Knows, IsFound, KeepsArray, HoldsSector, CallRefused, HasMadeRoom};
 ghost use Rattle.ftl_device.specs.Calls.{HasMadePlace, IsReady, HasCost};
 ghost use Rattle.budget.specs.Spending.{IsFunded};
 ghost use Rattle.allocation.specs.Counts.{counts_of};
@@ -31,17 +33,21 @@ use onfi_cycles::Nand;
 pub(crate) fn make_room<N: Nand>(engine: &mut Engine<N>, flushing: bool) -> Result<(), WriteFault>
     requires safe { IsSafe N.flash engine.old }
     requires going { engine.old.fault ≡ None }
-    requires idle { IsIdle (ram engine.old) }
+    requires calm { IsCalm (ram engine.old) }
     ensures leaves { Leaves N.flash N.honest N.calm N.failed engine.old result engine.new }
     ensures made { OnOk result (HasMadeRoom (ram engine.old) (ram engine.new)) }
-    ensures erases { OnOk result (RestsOrErases (ram engine.old) (ram engine.new) (N.erases engine.old.nand) (N.erases engine.new.nand)) }
+    ensures erases { OnOk result (RestsOrErases N.erases engine.old engine.new) }
     ensures keys { KeepsKeys engine.old.mapping engine.new.mapping }
     ensures cleans { flushing ≡ true → OnOk result (KeepsClean engine.old.geometry engine.old.mapping engine.new.mapping) }
-    ensures truth { N.honest engine.old.nand ≡ true → IsTrue None (ram engine.old) (image_in N.flash engine.old) →
+    ensures truth { N.honest engine.old.nand ≡ true → Knows (ram engine.old) (image_in N.flash engine.old) →
         MatchResult result
         (λ _. IsRearranged (ram engine.old) (image_in N.flash engine.old) (ram engine.new) (image_in N.flash engine.new))
         (RoomRefused (ram engine.old) (image_in N.flash engine.old) (ram engine.new) (image_in N.flash engine.new)) }
-    ensures count { N.honest engine.old.nand ≡ true → IsTrue None (ram engine.old) (image_in N.flash engine.old) →
+    ensures pinned { N.honest engine.old.nand ≡ true → Knows (ram engine.old) (image_in N.flash engine.old) →
+        MatchResult result
+        (λ _. Knows (ram engine.new) (image_in N.flash engine.new))
+        (λ fault. fault ≢ WriteFault.Bus → PinIsFew 0 (ram engine.new)) }
+    ensures count { N.honest engine.old.nand ≡ true → Knows (ram engine.old) (image_in N.flash engine.old) →
         (failures : ℕ) → IsFunded engine.old.geometry.pages failures (counts_of (ram engine.old).blocks) →
         RoomCounts failures (ram engine.old) (ram engine.new) result }
 {
@@ -56,7 +62,7 @@ fn make_place<N: Nand>(engine: &mut Engine<N>, sector: u32) -> Result<(), WriteF
     ensures leaves { Leaves N.flash N.honest N.calm N.failed engine.old result engine.new }
     ensures place { OnOk result (CanLoad engine.new.mapping sector) }
     ensures keys { keys_of engine.new.mapping.cached ≡ keys_of engine.old.mapping.cached }
-    ensures pin { (ram engine.new).pin ≡ (ram engine.old).pin }
+    ensures beside { LeavesPin (ram engine.old) (ram engine.new) }
     ensures no_more { HasNoMore engine.old.mapping engine.new.mapping }
     ensures cost { OnOk result (HasMadePlace sector (ram engine.old) (ram engine.new)) }
     ensures costs { PlaceCosts (ram engine.old) (ram engine.new) result }
@@ -112,7 +118,7 @@ fn find_row<N: Nand>(engine: &mut Engine<N>, sector: u32) -> Result<Option<u32>,
 fn prepare<N: Nand>(engine: &mut Engine<N>, sector: u32) -> Result<Option<u32>, WriteFault>
     requires safe { IsSafe N.flash engine.old }
     requires going { engine.old.fault ≡ None }
-    requires idle { IsIdle (ram engine.old) }
+    requires calm { IsCalm (ram engine.old) }
     requires sector { sector < engine.old.geometry.sectors }
     ensures leaves { Leaves N.flash N.honest N.calm N.failed engine.old result engine.new }
     ensures place { OnOk result (CanLoad engine.new.mapping sector) }
@@ -120,11 +126,11 @@ fn prepare<N: Nand>(engine: &mut Engine<N>, sector: u32) -> Result<Option<u32>, 
     ensures checked { IfOk result (FindsRow (ram engine.new) sector (page_in engine.new.scratch)) }
     ensures keys { keys_of engine.new.mapping.cached ≡ keys_of engine.old.mapping.cached }
     ensures limits { HasLimitsOf engine.old.mapping engine.new.mapping }
-    ensures idle { OnOk result (IsIdle (ram engine.new)) }
+    ensures calm { OnOk result (IsCalm (ram engine.new)) }
     ensures cost { OnOk result (IsReady sector (ram engine.old) (ram engine.new)) }
     ensures costs { RoomCosts (HasFunds (N.honest engine.old.nand) (ram engine.old) (image_in N.flash engine.old)) 1
         (ram engine.old) (ram engine.new) result }
-    ensures truth { N.honest engine.old.nand ≡ true → IsTrue None (ram engine.old) (image_in N.flash engine.old) →
+    ensures truth { N.honest engine.old.nand ≡ true → Knows (ram engine.old) (image_in N.flash engine.old) →
         MatchResult result
         (λ row. IsFound sector row engine.old.geometry (image_in N.flash engine.old) (ram engine.new) (image_in N.flash engine.new))
         (λ fault. CallRefused engine.old.geometry (image_in N.flash engine.old) (ram engine.new) (image_in N.flash engine.new) (CallFault.Engine fault)) }
@@ -138,14 +144,14 @@ fn prepare<N: Nand>(engine: &mut Engine<N>, sector: u32) -> Result<Option<u32>, 
 fn make_ready<N: Nand>(engine: &mut Engine<N>, sector: u32) -> Result<(), CallFault>
     requires safe { IsSafe N.flash engine.old }
     requires going { engine.old.fault ≡ None }
-    requires idle { IsIdle (ram engine.old) }
+    requires calm { IsCalm (ram engine.old) }
     requires sector { sector < engine.old.geometry.sectors }
     ensures ends { Ends N.flash N.honest N.calm N.failed engine.old result engine.new }
     ensures readies { Readies N.flash N.honest sector 1 engine.old result engine.new }
     ensures holds { OnOk result (IsSome (slot_of engine.new.mapping sector)) }
     ensures checked { OnOk result (IsLookedUp sector (ram engine.new) (page_in engine.new.scratch)) }
     ensures cost { OnOk result (IsReady sector (ram engine.old) (ram engine.new)) }
-    ensures truth { N.honest engine.old.nand ≡ true → IsTrue None (ram engine.old) (image_in N.flash engine.old) →
+    ensures truth { N.honest engine.old.nand ≡ true → Knows (ram engine.old) (image_in N.flash engine.old) →
         MatchResult result
         (λ _. KeepsArray engine.old.geometry (image_in N.flash engine.old) (ram engine.new) (image_in N.flash engine.new))
         (CallRefused engine.old.geometry (image_in N.flash engine.old) (ram engine.new) (image_in N.flash engine.new)) }
@@ -163,14 +169,14 @@ pub(crate) fn write_ready<N: Nand>(
 ) -> Result<(), CallFault>
     requires safe { IsSafe N.flash engine.old }
     requires going { engine.old.fault ≡ None }
-    requires idle { IsIdle (ram engine.old) }
+    requires calm { IsCalm (ram engine.old) }
     requires sector { sector < engine.old.geometry.sectors }
     requires body { length body.now ≡ engine.old.geometry.data_bytes }
     ensures ends { Ends N.flash N.honest N.calm N.failed engine.old result engine.new }
     ensures readies { Readies N.flash N.honest sector 2 engine.old result engine.new }
     ensures cost { OnOk result (HasCost sector (ram engine.old) (ram engine.new)) }
     ensures checked { OnOk result (HasLookedUp sector (ram engine.old) (ram engine.new) (page_in engine.new.scratch)) }
-    ensures truth { N.honest engine.old.nand ≡ true → IsTrue None (ram engine.old) (image_in N.flash engine.old) →
+    ensures truth { N.honest engine.old.nand ≡ true → Knows (ram engine.old) (image_in N.flash engine.old) →
         MatchResult result
         (λ _. HoldsSector engine.old.geometry sector body.now (image_in N.flash engine.old) (ram engine.new) (image_in N.flash engine.new))
         (CallRefused engine.old.geometry (image_in N.flash engine.old) (ram engine.new) (image_in N.flash engine.new)) }
@@ -184,13 +190,13 @@ pub(crate) fn write_ready<N: Nand>(
 pub(crate) fn trim_ready<N: Nand>(engine: &mut Engine<N>, sector: u32) -> Result<(), CallFault>
     requires safe { IsSafe N.flash engine.old }
     requires going { engine.old.fault ≡ None }
-    requires idle { IsIdle (ram engine.old) }
+    requires calm { IsCalm (ram engine.old) }
     requires sector { sector < engine.old.geometry.sectors }
     ensures ends { Ends N.flash N.honest N.calm N.failed engine.old result engine.new }
     ensures readies { Readies N.flash N.honest sector 2 engine.old result engine.new }
     ensures cost { OnOk result (HasCost sector (ram engine.old) (ram engine.new)) }
     ensures checked { OnOk result (HasLookedUp sector (ram engine.old) (ram engine.new) (page_in engine.new.scratch)) }
-    ensures truth { N.honest engine.old.nand ≡ true → IsTrue None (ram engine.old) (image_in N.flash engine.old) →
+    ensures truth { N.honest engine.old.nand ≡ true → Knows (ram engine.old) (image_in N.flash engine.old) →
         MatchResult result
         (λ _. HoldsSector engine.old.geometry sector (zeros engine.old.geometry) (image_in N.flash engine.old) (ram engine.new) (image_in N.flash engine.new))
         (CallRefused engine.old.geometry (image_in N.flash engine.old) (ram engine.new) (image_in N.flash engine.new)) }

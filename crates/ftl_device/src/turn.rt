@@ -1,15 +1,18 @@
-//! A turn: a page is rescued from a bad block.
-ghost use Rattle.std.specs.Prelude.{◌≡◌, ◌≢◌, ◌-◌, ◌≤◌, ◌^◌, true, false, Err, None, OnOk, MatchResult};
+//! A turn: a page is rescued from a bad block, or a collection goes one step further.
+ghost use Rattle.std.specs.Prelude.{◌≡◌, ◌≢◌, ◌-◌, ◌+◌, ◌<◌, ◌≤◌, ◌^◌, ℕ, true, false, Ok, Err, None, IsSome, IfErr, OnOk, MatchResult};
+ghost use Rattle.page_layout.specs.Counter.{HasRisen};
 ghost use Rattle.promises.specs.Step.{Turn};
-ghost use Rattle.collection.specs.Safe.{IsSafe, IsIdle, ram, image_in};
-ghost use Rattle.collection.specs.Truth.{IsTrue};
-ghost use Rattle.collection.specs.Collect.{HasAiling};
+ghost use Rattle.bad_blocks.specs.Table.{good_count};
+ghost use Rattle.mapping_cache.specs.Mapping.{HasLimitsOf};
+ghost use Rattle.collection.specs.Safe.{IsSafe, ram, image_in};
+ghost use Rattle.collection.specs.Left.{IsCalm};
+ghost use Rattle.collection.specs.Collect.{GoesOn, HasAiling, HasNoneAiling};
 ghost use Rattle.ftl_device.specs.Device.{IsDevice};
-ghost use Rattle.ftl_device.specs.Calls.{IsWell, KeepsArray, CallRefused, HasRescued};
-ghost use Rattle.ftl_device.specs.Calls.{HasRested, HasWorked};
-ghost use Rattle.ftl_device.specs.Changes.{Ends, Upkeeps};
-ghost use Rattle.allocation.specs.State.{free_count};
-ghost use Rattle.ftl_device.specs.Shortage.{HasFunds, CallShort};
+ghost use Rattle.ftl_device.specs.Calls.{IsWell, Knows, KeepsArray, CallRefused, HasRescued, KeepsBad};
+ghost use Rattle.ftl_device.specs.Calls.{HasWorked, HasLess, HasFallen, IsQuiet};
+ghost use Rattle.ftl_device.specs.Changes.{Leaves, Ends, Upkeeps};
+ghost use Rattle.allocation.specs.State.{free_count, live_at};
+ghost use Rattle.ftl_device.specs.Shortage.{HasFunds, CallShort, StepCounts};
 
 use crate::device::Device;
 use crate::fault::{CallFault, DeviceFault};
@@ -17,38 +20,113 @@ use crate::ready::make_room;
 use collection::{Engine, WriteFault};
 use onfi_cycles::Nand;
 
-// Copies the page of lowest row that a bad block holds, after room was made. With none it does nothing.
+// The free blocks beyond `RESERVE` up to which idle turns collect: a rescue needs two, and one is over.
+const MORE: u32 = 3;
+
+// Takes the collection of the pinned block one step further.
+fn step_pinned<N: Nand>(engine: &mut Engine<N>) -> Result<(), WriteFault>
+    requires safe { IsSafe N.flash engine.old }
+    requires going { engine.old.fault ≡ None }
+    requires calm { IsCalm (ram engine.old) }
+    requires pinned { IsSome engine.old.pinned }
+    ensures leaves { Leaves N.flash N.honest N.calm N.failed engine.old result engine.new }
+    ensures limits { HasLimitsOf engine.old.mapping engine.new.mapping }
+    ensures calm { engine.new.fault ≡ None → IsCalm (ram engine.new) }
+    ensures goes { GoesOn (ram engine.old) (ram engine.new) }
+    ensures counts { StepCounts (ram engine.old) (ram engine.new) result }
+    ensures risen { OnOk result ((before : ℕ) → HasRisen before (N.erases engine.old.nand) → HasRisen before (N.erases engine.new.nand)) }
+    ensures worked { OnOk result (HasWorked (ram engine.old) (ram engine.new) (N.erases engine.old.nand) (N.erases engine.new.nand)) }
+    ensures less { N.honest engine.old.nand ≡ true → Knows (ram engine.old) (image_in N.flash engine.old) →
+        OnOk result (HasLess N.flash N.erases engine.old engine.new) }
+    ensures bad { N.honest engine.old.nand ≡ true → Knows (ram engine.old) (image_in N.flash engine.old) →
+        OnOk result (KeepsBad (ram engine.old) (ram engine.new)) }
+    ensures truth { N.honest engine.old.nand ≡ true → Knows (ram engine.old) (image_in N.flash engine.old) →
+        MatchResult result
+        (λ _. KeepsArray engine.old.geometry (image_in N.flash engine.old) (ram engine.new) (image_in N.flash engine.new))
+        (λ fault. CallRefused engine.old.geometry (image_in N.flash engine.old) (ram engine.new) (image_in N.flash engine.new) (CallFault.Engine fault)) }
+{
+    engine.step(false)?;
+    Ok(())
+}
+
+// Goes on with the collection under way; with none, one begins where fewer than twelve blocks are free
+// and one is worth it.
+fn collect_on<N: Nand>(engine: &mut Engine<N>) -> Result<(), WriteFault>
+    requires safe { IsSafe N.flash engine.old }
+    requires going { engine.old.fault ≡ None }
+    requires calm { IsCalm (ram engine.old) }
+    ensures leaves { Leaves N.flash N.honest N.calm N.failed engine.old result engine.new }
+    ensures limits { HasLimitsOf engine.old.mapping engine.new.mapping }
+    ensures calm { engine.new.fault ≡ None → IsCalm (ram engine.new) }
+    ensures goes { GoesOn (ram engine.old) (ram engine.new) }
+    ensures counts { StepCounts (ram engine.old) (ram engine.new) result }
+    ensures risen { OnOk result ((before : ℕ) → HasRisen before (N.erases engine.old.nand) → HasRisen before (N.erases engine.new.nand)) }
+    ensures quiet { N.honest engine.old.nand ≡ true → Knows (ram engine.old) (image_in N.flash engine.old) →
+        OnOk result (IsQuiet N.erases engine.old engine.new) }
+    ensures falls { N.honest engine.old.nand ≡ true → Knows (ram engine.old) (image_in N.flash engine.old) →
+        OnOk result (HasFallen N.flash N.erases engine.old engine.new) }
+    ensures bad { N.honest engine.old.nand ≡ true → Knows (ram engine.old) (image_in N.flash engine.old) →
+        OnOk result (KeepsBad (ram engine.old) (ram engine.new)) }
+    ensures truth { N.honest engine.old.nand ≡ true → Knows (ram engine.old) (image_in N.flash engine.old) →
+        MatchResult result
+        (λ _. KeepsArray engine.old.geometry (image_in N.flash engine.old) (ram engine.new) (image_in N.flash engine.new))
+        (λ fault. CallRefused engine.old.geometry (image_in N.flash engine.old) (ram engine.new) (image_in N.flash engine.new) (CallFault.Engine fault)) }
+{
+    if engine.pinned.is_some() {
+        return step_pinned(engine);
+    }
+    let worth = engine.worth(MORE);
+    let Some(block) = worth else {
+        return Ok(());
+    };
+    engine.pin(block);
+    step_pinned(engine)
+}
+
+// Makes room; then copies the page of lowest row that a bad block holds, or, where none holds one,
+// collects.
 fn turn_ready<N: Nand>(engine: &mut Engine<N>) -> Result<(), CallFault>
     requires safe { IsSafe N.flash engine.old }
     requires going { engine.old.fault ≡ None }
-    requires idle { IsIdle (ram engine.old) }
+    requires calm { IsCalm (ram engine.old) }
     ensures ends { Ends N.flash N.honest N.calm N.failed engine.old result engine.new }
     ensures memory { result ≢ Err CallFault.OutOfMemory }
     ensures count { HasFunds (N.honest engine.old.nand) (ram engine.old) (image_in N.flash engine.old) →
         5 ≤ free_count (ram engine.old).blocks → CallShort (ram engine.old) (ram engine.new) result }
-    ensures rested { HasRested (ram engine.old) (ram engine.new) }
-    ensures truth { N.honest engine.old.nand ≡ true → IsTrue None (ram engine.old) (image_in N.flash engine.old) →
+    ensures quiet { N.honest engine.old.nand ≡ true → Knows (ram engine.old) (image_in N.flash engine.old) →
+        OnOk result (IsQuiet N.erases engine.old engine.new) }
+    ensures falls { N.honest engine.old.nand ≡ true → Knows (ram engine.old) (image_in N.flash engine.old) → HasNoneAiling (ram engine.old).blocks →
+        OnOk result (HasFallen N.flash N.erases engine.old engine.new) }
+    ensures truth { N.honest engine.old.nand ≡ true → Knows (ram engine.old) (image_in N.flash engine.old) →
         MatchResult result
         (λ _. KeepsArray engine.old.geometry (image_in N.flash engine.old) (ram engine.new) (image_in N.flash engine.new))
         (CallRefused engine.old.geometry (image_in N.flash engine.old) (ram engine.new) (image_in N.flash engine.new)) }
-    ensures rescued { N.honest engine.old.nand ≡ true → IsTrue None (ram engine.old) (image_in N.flash engine.old) →
+    ensures rescued { N.honest engine.old.nand ≡ true → Knows (ram engine.old) (image_in N.flash engine.old) →
         OnOk result (HasRescued (ram engine.old) (ram engine.new)) }
-    ensures worked { N.honest engine.old.nand ≡ true → IsTrue None (ram engine.old) (image_in N.flash engine.old) → HasAiling (ram engine.old).blocks →
+    ensures worked { N.honest engine.old.nand ≡ true → Knows (ram engine.old) (image_in N.flash engine.old) → HasAiling (ram engine.old).blocks →
         OnOk result (HasWorked (ram engine.old) (ram engine.new) (N.erases engine.old.nand) (N.erases engine.new.nand)) }
 {
-    if !engine.needs_rescue() {
+    make_room(engine, false)?;
+    if engine.needs_rescue() {
+        engine.rescue_one()?;
         return Ok(());
     }
-    make_room(engine, false)?;
-    engine.rescue_one()?;
+    collect_on(engine)?;
     Ok(())
 }
 
 impl<N: Nand> Device<N> {
-    /// Gives the device an idle moment. Where a bad block holds a newest page, room is made as by
-    /// `write`, and the one of lowest row is copied out; where its sector is then moved and not
-    /// cached, its translation page is written back. With no such page nothing is asked of the die;
-    /// with one, a turn that is done has programmed or erased.
+    /// Gives the device an idle moment. Room is made as by `write`. Then, where a bad block holds a
+    /// newest page, the one of lowest row is copied out; where its sector is then moved and not cached,
+    /// its translation page is written back. Else, where a block is being collected, its collection
+    /// goes one step further: one page is copied, or one translation page is written back, or the
+    /// block is erased. Else, where fewer than twelve blocks are free and the closed block of fewest
+    /// newest pages has at most `Geometry::vmax`, its collection begins with such a step. Else nothing
+    /// is asked of the die.
+    ///
+    /// A turn that is done without programming or erasing leaves twelve free blocks, where three more
+    /// are good than the geometry asks for. Turns without failures in between which all program have
+    /// an erase among as many of them as a block has pages.
     ///
     /// # Errors
     ///
@@ -62,7 +140,10 @@ impl<N: Nand> Device<N> {
         ensures device { IsDevice N.flash self.new }
         ensures geometry { self.new.engine.geometry ≡ self.old.engine.geometry }
         ensures upkeeps { Upkeeps N.flash N.honest N.calm N.failed Turn self.old result self.new }
-        ensures rested { HasRested (ram self.old.engine) (ram self.new.engine) }
+        ensures quiet { N.honest self.old.engine.nand ≡ true → IsWell N.flash self.old →
+            OnOk result (IsQuiet N.erases self.old.engine self.new.engine) }
+        ensures falls { N.honest self.old.engine.nand ≡ true → IsWell N.flash self.old → HasNoneAiling (ram self.old.engine).blocks →
+            OnOk result (HasFallen N.flash N.erases self.old.engine self.new.engine) }
         ensures rescued { N.honest self.old.engine.nand ≡ true → IsWell N.flash self.old →
             OnOk result (HasRescued (ram self.old.engine) (ram self.new.engine)) }
         ensures worked { N.honest self.old.engine.nand ≡ true → IsWell N.flash self.old → HasAiling (ram self.old.engine).blocks →

@@ -5,7 +5,8 @@ ghost use Rattle.page_layout.specs.Geometry.{need};
 ghost use Rattle.bad_blocks.specs.Table.{good_count};
 ghost use Rattle.allocation.specs.State.{free_count};
 ghost use Rattle.promises.specs.Step.{Write, Trim};
-ghost use Rattle.collection.specs.Safe.{IsSafe, IsIdle, ram};
+ghost use Rattle.collection.specs.Safe.{IsSafe, ram};
+ghost use Rattle.collection.specs.Left.{IsCalm};
 ghost use Rattle.ftl_device.specs.Device.{IsDevice};
 ghost use Rattle.ftl_device.specs.Calls.{stop_of, standing_after, MayChange, MayNot, answer_of};
 ghost use Rattle.ftl_device.specs.Changes.{Changes};
@@ -71,7 +72,7 @@ impl<N: Nand> Device<N> {
         requires fault { self.old.engine.fault ≡ standing_after answer }
         requires scarce { answer ≡ Err (CallFault.Engine WriteFault.ReadOnly) → free_count (ram self.old.engine).blocks < 5 }
         requires fewer { answer ≡ Err (CallFault.Engine WriteFault.ReadOnly) → good_count (ram self.old.engine).blocks.table ≤ good }
-        requires idle { self.old.engine.fault ≡ None → IsIdle (ram self.old.engine) }
+        requires calm { self.old.engine.fault ≡ None → IsCalm (ram self.old.engine) }
         requires spent { answer ≡ Err (CallFault.Engine WriteFault.SequenceSpent) → self.old.engine.next ≡ 2 ^ 64 - 1 }
         ensures engine { self.new.engine ≡ self.old.engine }
         ensures device { IsDevice N.flash self.new }
@@ -113,7 +114,8 @@ impl<N: Nand> Device<N> {
     ///   `SequenceSpent`, `ReadOnly` or `BusFault` as it is programmed.
     /// - while the row that the sector has so far is looked up: `Damaged` or `BusFault`.
     /// - `OutOfMemory` where a growth was refused as the sector was to be cached, which never is where
-    ///   it is cached or is stale in the image. Nothing of the sector was programmed.
+    ///   it is cached, nor where it is stale in the image and no block was pinned as the call began.
+    ///   Nothing of the sector was programmed.
     /// - while its page is programmed: `SequenceSpent`, `ReadOnly` or `BusFault`.
     ///
     /// What they mean, and what they leave:

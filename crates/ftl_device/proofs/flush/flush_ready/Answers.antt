@@ -1,17 +1,18 @@
 use Rattle.std.proofs.Common.{◌∙◌, Ok, refl}
 use Rattle.std.proofs.lemmas.Result.{err_from_is_err_and}
 use Rattle.collection.specs.Safe.{ram}
-use Rattle.ftl_device.proofs.FlushLoops.{limits_then, keeps_then, clean_then, flushed_by}
-use Rattle.ftl_device.proofs.RoomLemmas.{keeps_room}
+use Rattle.ftl_device.proofs.FlushLoops.{limits_then, keeps_then, keeps_refused, clean_then, flushed_by}
+use Rattle.ftl_device.proofs.RoomLemmas.{keeps_room, refused_room}
 use Rattle.ftl_device.proofs.SpentLemmas.{flush_first, flush_room, flush_done, flush_stuck, flush_tables}
-use Rattle.ftl_device.proofs.LeaveLemmas.{leaves_then, leaves_ends, leaves_stuck, limits_same, idle_still}
+use Rattle.ftl_device.proofs.LeaveLemmas.{leaves_then, leaves_ends, leaves_stuck, limits_same}
+use Rattle.ftl_device.proofs.Assumed.{calm_law}
 use Rattle.ftl_device.proofs.flush.flush_ready.Goals as goal
 
 pub returns-clause-flushed : goal.returns-clause-flushed
 returns-clause-flushed g c = λ honest w.
     let first = c.in_ok-flush_translations.ensures.truth honest w in
     let room = c.in_ok-make_room.ensures.truth (c.flush_translations.ensures.leaves.honest_is ∙ honest) first.truth in
-    let spells = c.in_ok-write_tables.ensures.truth (c.make_room.ensures.leaves.honest_is ∙ (c.flush_translations.ensures.leaves.honest_is ∙ honest)) room.truth in
+    let spells = c.in_ok-write_tables.ensures.truth (c.make_room.ensures.leaves.honest_is ∙ (c.flush_translations.ensures.leaves.honest_is ∙ honest)) (c.in_ok-make_room.ensures.pinned (c.flush_translations.ensures.leaves.honest_is ∙ honest) first.truth) in
     let same = c.make_room.ensures.leaves.geometry ∙ c.flush_translations.ensures.leaves.geometry in
     flushed_by c.args.engine.now.geometry c.make_room.new.engine.geometry c.make_room.new.engine.mapping (ram c.write_tables.new.engine) _ _ (c.write_tables.ensures.leaves.geometry ∙ same) same
     (clean_then c.args.engine.now.geometry c.flush_translations.new.engine.geometry c.flush_translations.new.engine.mapping c.make_room.new.engine.mapping c.flush_translations.ensures.leaves.geometry c.in_ok-flush_translations.ensures.clean (c.in_ok-make_room.ensures.cleans refl))
@@ -58,12 +59,31 @@ returns-in_err-write_tables-clause-ends g c =
 
 pub returns-clause-ends : goal.returns-clause-ends
 returns-clause-ends g c = leaves_ends g.N.PageSource.flash g.N.PageSource.honest g.N.PageSource.calm g.N.PageSource.failed c.args.engine.now c.write_tables.new.engine (Ok tt) (leaves_then g.N.PageSource.flash g.N.PageSource.honest g.N.PageSource.calm g.N.PageSource.failed c.args.engine.now c.make_room.new.engine c.write_tables.new.engine _ _ (leaves_then g.N.PageSource.flash g.N.PageSource.honest g.N.PageSource.calm g.N.PageSource.failed c.args.engine.now c.flush_translations.new.engine c.make_room.new.engine _ _ c.in_ok-flush_translations.ensures.leaves c.in_ok-make_room.ensures.leaves) c.in_ok-write_tables.ensures.leaves)
-    (limits_then _ _ _ (limits_then _ _ _ c.flush_translations.ensures.limits c.make_room.ensures.keys.limits) (limits_same _ _ c.write_tables.ensures.mapping)) (λ none. idle_still (ram c.make_room.new.engine) (ram c.write_tables.new.engine) c.write_tables.ensures.leaves.geometry c.write_tables.ensures.mapping c.write_tables.ensures.pin c.in_ok-make_room.ensures.made.idle)
+    (limits_then _ _ _ (limits_then _ _ _ c.flush_translations.ensures.limits c.make_room.ensures.keys.limits) (limits_same _ _ c.write_tables.ensures.mapping)) (λ none. calm_law (ram c.make_room.new.engine) (ram c.write_tables.new.engine) c.write_tables.ensures.beside c.in_ok-make_room.ensures.made.calm)
 
 pub returns-clause-truth : goal.returns-clause-truth
 returns-clause-truth g c = λ honest w.
     let first = c.in_ok-flush_translations.ensures.truth honest w in
     let still = c.flush_translations.ensures.leaves.honest_is ∙ honest in
     let room = c.in_ok-make_room.ensures.truth still first.truth in
-    let spells = c.in_ok-write_tables.ensures.truth (c.make_room.ensures.leaves.honest_is ∙ still) room.truth in
-    keeps_then _ _ _ _ _ _ (c.make_room.ensures.leaves.geometry ∙ c.flush_translations.ensures.leaves.geometry) (keeps_then _ _ _ _ _ _ c.flush_translations.ensures.leaves.geometry first (keeps_room (ram c.flush_translations.new.engine) (ram c.make_room.new.engine) _ _ room)) spells.keeps
+    let knows = c.in_ok-make_room.ensures.pinned still first.truth in
+    let spells = c.in_ok-write_tables.ensures.truth (c.make_room.ensures.leaves.honest_is ∙ still) knows in
+    keeps_then _ _ _ _ _ _ (c.make_room.ensures.leaves.geometry ∙ c.flush_translations.ensures.leaves.geometry) (keeps_then _ _ _ _ _ _ c.flush_translations.ensures.leaves.geometry first (keeps_room (ram c.flush_translations.new.engine) (ram c.make_room.new.engine) _ _ room knows)) spells.keeps
+
+pub returns-in_err-make_room-clause-truth : goal.returns-in_err-make_room-clause-truth
+returns-in_err-make_room-clause-truth g c =
+    let p = err_from_is_err_and c.from_residual-in_err-make_room.result c.from_residual-in_err-make_room.ensures.1 in
+    rw (p.1, p.2) (λ honest w.
+    let first = c.in_ok-flush_translations.ensures.truth honest w in
+    let still = c.flush_translations.ensures.leaves.honest_is ∙ honest in
+    keeps_refused c.args.engine.now.geometry (ram c.flush_translations.new.engine) (ram c.make_room.new.engine) _ _ _ _ c.flush_translations.ensures.leaves.geometry first (refused_room (ram c.flush_translations.new.engine) (ram c.make_room.new.engine) _ _ _ (c.in_err-make_room.ensures.truth still first.truth) (c.in_err-make_room.ensures.pinned still first.truth)))
+
+pub returns-in_err-write_tables-clause-truth : goal.returns-in_err-write_tables-clause-truth
+returns-in_err-write_tables-clause-truth g c =
+    let p = err_from_is_err_and c.from_residual-in_err-write_tables.result c.from_residual-in_err-write_tables.ensures.1 in
+    rw (p.1, p.2) (λ honest w.
+    let first = c.in_ok-flush_translations.ensures.truth honest w in
+    let still = c.flush_translations.ensures.leaves.honest_is ∙ honest in
+    let room = c.in_ok-make_room.ensures.truth still first.truth in
+    let knows = c.in_ok-make_room.ensures.pinned still first.truth in
+    keeps_refused c.args.engine.now.geometry (ram c.make_room.new.engine) (ram c.write_tables.new.engine) _ _ _ _ (c.make_room.ensures.leaves.geometry ∙ c.flush_translations.ensures.leaves.geometry) (keeps_then _ _ _ _ _ _ c.flush_translations.ensures.leaves.geometry first (keeps_room (ram c.flush_translations.new.engine) (ram c.make_room.new.engine) _ _ room knows)) (c.in_err-write_tables.ensures.truth (c.make_room.ensures.leaves.honest_is ∙ still) knows))

@@ -1,14 +1,30 @@
-use Rattle.std.proofs.Common.{refl}
+use Rattle.std.proofs.Common.{◌∙◌, refl}
 use Rattle.std.proofs.lemmas.Result.{err_from_is_err_and}
 use Rattle.collection.specs.Safe.{ram}
-use Rattle.ftl_device.proofs.RoomLemmas.{idle_kept}
-use Rattle.ftl_device.proofs.FlushLoops.{keeps_cleaned}
+use Rattle.ftl_device.proofs.Assumed.{calm_law}
+use Rattle.ftl_device.proofs.PinLemmas.{beside_back}
+use Rattle.ftl_device.proofs.RoomLemmas.{keeps_room, refused_room}
+use Rattle.ftl_device.proofs.FlushLoops.{keeps_cleaned, keeps_same, back_after}
 use Rattle.ftl_device.proofs.SpentLemmas.{funded_here, written_counts, unroomed_counts}
 use Rattle.ftl_device.proofs.LeaveLemmas.{leaves_by, leaves_same, leaves_then, back_told}
 use Rattle.ftl_device.proofs.flush.flush_translation.Goals as goal
 
-pub returns-clause-idle : goal.returns-clause-idle
-returns-clause-idle g c = λ none. idle_kept (ram c.make_room.new.engine) (ram c.write_back.new.self) c.write_back.ensures.goes.geometry c.write_back.ensures.no_more c.write_back.ensures.pin c.in_ok-make_room.ensures.made.idle
+pub returns-clause-calm : goal.returns-clause-calm
+returns-clause-calm g c = λ none. calm_law (ram c.make_room.new.engine) (ram c.write_back.new.self) (beside_back c.write_back.result (ram c.make_room.new.engine) (ram c.write_back.new.self) _ c.write_back.ensures.pin c.write_back.ensures.goes c.write_back.ensures.cleaned c.write_back.ensures.mapping) c.in_ok-make_room.ensures.made.calm
+
+pub returns-then-not-lacks-clause-truth : goal.returns-then-not-lacks-clause-truth
+returns-then-not-lacks-clause-truth g c = λ honest w. keeps_same (ram c.args.engine.now) _ w
+
+pub returns-in_err-make_room-clause-truth : goal.returns-in_err-make_room-clause-truth
+returns-in_err-make_room-clause-truth g c =
+    let p = err_from_is_err_and c.from_residual.result c.from_residual.ensures.1 in
+    rw (p.1, p.2) (λ honest w. refused_room (ram c.args.engine.now) (ram c.make_room.new.engine) _ _ _ (c.in_err-make_room.ensures.truth honest w) (c.in_err-make_room.ensures.pinned honest w))
+
+pub returns-clause-truth : goal.returns-clause-truth
+returns-clause-truth g c = λ honest w.
+    let room = c.in_ok-make_room.ensures.truth honest w in
+    back_after c.write_back.result _ c.args.engine.now.geometry (ram c.make_room.new.engine) (ram c.write_back.new.self) _ _ _ c.make_room.ensures.leaves.geometry c.make_room.ensures.leaves.safe.memory c.write_back.ensures.stands.safe.memory (beside_back c.write_back.result (ram c.make_room.new.engine) (ram c.write_back.new.self) _ c.write_back.ensures.pin c.write_back.ensures.goes c.write_back.ensures.cleaned c.write_back.ensures.mapping)
+    (keeps_room (ram c.args.engine.now) (ram c.make_room.new.engine) _ _ room (c.in_ok-make_room.ensures.pinned honest w)) (c.write_back.ensures.truth (c.make_room.ensures.leaves.honest_is ∙ honest) c.in_ok-make_room.ensures.leaves.fault room.truth)
 
 pub returns-clause-cleans : goal.returns-clause-cleans
 returns-clause-cleans g c = keeps_cleaned c.write_back.result c.args.engine.now.geometry c.args.engine.now.mapping c.make_room.new.engine.mapping c.write_back.new.self.mapping c.args.t (c.in_ok-make_room.ensures.cleans refl) c.write_back.ensures.cleans

@@ -11,7 +11,7 @@ translations-init g c = record {
   leaves = leaves_same g.N.PageSource.flash g.N.PageSource.honest g.N.PageSource.calm g.N.PageSource.failed c.args.engine.now c.requires.safe c.requires.going;
   keys = refl;
   limits = record { geometry = refl; capacity = refl };
-  idle = c.requires.idle;
+  calm = c.requires.calm;
   clean = λ t lt. absurd (omega arith);
   count = λ honest w failures funded. funded_here failures (ram c.args.engine.now) funded;
   truth = λ honest w. keeps_same (ram c.args.engine.now) _ w;
@@ -22,7 +22,7 @@ translations-preserved g c = record {
   leaves = leaves_then g.N.PageSource.flash g.N.PageSource.honest g.N.PageSource.calm g.N.PageSource.failed c.args.engine.now c.translations.engine c.flush_translation.new.engine _ _ c.translations.invariant.leaves c.in_ok-flush_translation.ensures.leaves;
   keys = c.flush_translation.ensures.keys ∙ c.translations.invariant.keys;
   limits = limits_then _ _ _ c.translations.invariant.limits c.flush_translation.ensures.limits;
-  idle = c.flush_translation.ensures.idle c.in_ok-flush_translation.ensures.leaves.fault;
+  calm = c.flush_translation.ensures.calm c.in_ok-flush_translation.ensures.leaves.fault;
   clean = clean_more c.translations.t _ _ _ _ c.translations.invariant.leaves.geometry (omega arith) c.translations.invariant.clean c.in_ok-flush_translation.ensures.cleans c.in_ok-flush_translation.ensures.clean;
   count = λ honest w failures funded.
       counts_then failures (Ok tt) (ram c.args.engine.now) (ram c.translations.engine) (ram c.flush_translation.new.engine) c.translations.invariant.leaves.geometry c.in_ok-flush_translation.ensures.leaves.tells (c.translations.invariant.count honest w failures funded)

@@ -1,11 +1,11 @@
-use Rattle.std.proofs.Common.{◌≡◌, ◌<◌, ℕ, true, None, Ok}
+use Rattle.std.proofs.Common.{◌≡◌, ◌<◌, ℕ, true, Ok}
 use Rattle.std.specs.Map.{keys_of}
 use Rattle.budget.specs.Spending.{IsFunded}
 use Rattle.allocation.specs.Counts.{counts_of}
-use Rattle.collection.specs.Safe.{IsIdle, ram, image_in}
-use Rattle.collection.specs.Truth.{IsTrue}
+use Rattle.collection.specs.Safe.{ram, image_in}
+use Rattle.collection.specs.Left.{IsCalm}
 use Rattle.mapping_cache.specs.Mapping.{HasLimitsOf}
-use Rattle.ftl_device.specs.Calls.{KeepsArray}
+use Rattle.ftl_device.specs.Calls.{Knows, KeepsArray}
 use Rattle.ftl_device.specs.Flush.{IsClean}
 use Rattle.ftl_device.specs.Shortage.{FlushFunded}
 use Rattle.ftl_device.specs.Changes.{Leaves}
@@ -16,8 +16,8 @@ invariant-translations g l = record {
   leaves : Leaves {A = Unit {0}} g.N.PageSource.flash g.N.PageSource.honest g.N.PageSource.calm g.N.PageSource.failed l.initial.engine (Ok tt) l.engine;
   keys : keys_of l.engine.mapping.cached ≡ keys_of l.initial.engine.mapping.cached;
   limits : HasLimitsOf l.initial.engine.mapping l.engine.mapping;
-  idle : IsIdle (ram l.engine);
+  calm : IsCalm (ram l.engine);
   clean : (t : ℕ) → t < l.t → IsClean l.initial.engine.geometry t l.engine.mapping;
-  count : g.N.PageSource.honest l.initial.engine.nand ≡ true → IsTrue None (ram l.initial.engine) (image_in g.N.PageSource.flash l.initial.engine) → (failures : ℕ) → IsFunded l.initial.engine.geometry.pages failures (counts_of (ram l.initial.engine).blocks) → FlushFunded failures (ram l.initial.engine) (ram l.engine);
-  truth : g.N.PageSource.honest l.initial.engine.nand ≡ true → IsTrue None (ram l.initial.engine) (image_in g.N.PageSource.flash l.initial.engine) → KeepsArray l.initial.engine.geometry (image_in g.N.PageSource.flash l.initial.engine) (ram l.engine) (image_in g.N.PageSource.flash l.engine);
+  count : g.N.PageSource.honest l.initial.engine.nand ≡ true → Knows (ram l.initial.engine) (image_in g.N.PageSource.flash l.initial.engine) → (failures : ℕ) → IsFunded l.initial.engine.geometry.pages failures (counts_of (ram l.initial.engine).blocks) → FlushFunded failures (ram l.initial.engine) (ram l.engine);
+  truth : g.N.PageSource.honest l.initial.engine.nand ≡ true → Knows (ram l.initial.engine) (image_in g.N.PageSource.flash l.initial.engine) → KeepsArray l.initial.engine.geometry (image_in g.N.PageSource.flash l.initial.engine) (ram l.engine) (image_in g.N.PageSource.flash l.engine);
 }

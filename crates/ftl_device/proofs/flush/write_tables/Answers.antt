@@ -1,6 +1,7 @@
 use Rattle.std.proofs.Common.{◌∙◌, arith}
 use Rattle.std.proofs.lemmas.Result.{err_from_is_err_and}
 use Rattle.collection.specs.Safe.{ram}
+use Rattle.collection.proofs.Beside.{beside_then}
 use Rattle.ftl_device.proofs.FlushLoops.{first_fails, later_fails, first_round, next_round, last_round, spells_first, spells_next}
 use Rattle.ftl_device.proofs.LeaveLemmas.{leaves_then}
 use Rattle.ftl_device.proofs.flush.write_tables.Goals as goal
@@ -9,7 +10,7 @@ pub rounds-init : goal.rounds-init
 rounds-init g c = record {
   leaves = c.in_ok-write_tables_once.ensures.leaves;
   mapping = c.write_tables_once.ensures.mapping;
-  pin = c.write_tables_once.ensures.pin;
+  beside = c.write_tables_once.ensures.beside;
   most = omega (arith, c.good-good.ensures);
   fewer = omega (arith, c.good-good.ensures, c.write_tables_once.ensures.table.fewer);
   cost = first_round c.good-good.result (ram c.args.engine.now) (ram c.write_tables_once.new.engine) c.requires.safe.memory c.good-good.ensures c.in_ok-write_tables_once.ensures.cost;
@@ -20,7 +21,7 @@ pub rounds-preserved : goal.rounds-preserved
 rounds-preserved g c = record {
   leaves = leaves_then g.N.PageSource.flash g.N.PageSource.honest g.N.PageSource.calm g.N.PageSource.failed c.args.engine.now c.rounds.engine c.write_tables_once-in-rounds.new.engine _ _ c.rounds.invariant.leaves c.in_ok-write_tables_once-2.ensures.leaves;
   mapping = c.write_tables_once-in-rounds.ensures.mapping ∙ c.rounds.invariant.mapping;
-  pin = c.write_tables_once-in-rounds.ensures.pin ∙ c.rounds.invariant.pin;
+  beside = beside_then _ _ _ c.rounds.invariant.beside c.write_tables_once-in-rounds.ensures.beside;
   most = omega (arith, c.good-good-in-rounds.ensures, c.rounds.invariant.fewer, c.rounds.invariant.most);
   fewer = omega (arith, c.good-good-in-rounds.ensures, c.write_tables_once-in-rounds.ensures.table.fewer);
   cost = next_round c.rounds.good c.good-good-in-rounds.result (ram c.args.engine.now) (ram c.rounds.engine) (ram c.write_tables_once-in-rounds.new.engine) c.rounds.invariant.leaves.geometry c.good-good-in-rounds.ensures (omega (arith, c.good.ensures, c.good-good-in-rounds.ensures, c.rounds-test.true)) c.rounds.invariant.cost c.in_ok-write_tables_once-2.ensures.cost;
@@ -46,3 +47,6 @@ pub returns-in_err-write_tables_once-2-clause-leaves : goal.returns-in_err-write
 returns-in_err-write_tables_once-2-clause-leaves g c =
     let p = err_from_is_err_and c.from_residual-in_err-write_tables_once-2.result c.from_residual-in_err-write_tables_once-2.ensures.1 in
     rw (p.1, p.2) (leaves_then g.N.PageSource.flash g.N.PageSource.honest g.N.PageSource.calm g.N.PageSource.failed c.args.engine.now c.rounds.engine c.write_tables_once-in-rounds.new.engine _ _ c.rounds.invariant.leaves c.in_err-write_tables_once-2.ensures.leaves)
+
+pub returns-in_err-write_tables_once-2-clause-beside : goal.returns-in_err-write_tables_once-2-clause-beside
+returns-in_err-write_tables_once-2-clause-beside g c = beside_then _ _ _ c.rounds.invariant.beside c.write_tables_once-in-rounds.ensures.beside

@@ -1,8 +1,9 @@
-use Rattle.std.proofs.Common.{◌≡◌, ◌≤◌, true, None, Ok}
+use Rattle.std.proofs.Common.{◌≡◌, ◌≤◌, true, Ok}
 use Rattle.bad_blocks.specs.Table.{good_count}
 use Rattle.collection.specs.Safe.{ram, image_in}
-use Rattle.collection.specs.Truth.{IsTrue}
+use Rattle.collection.specs.Left.{LeavesPin}
 use Rattle.ftl_device.proofs.FlushLoops.{HasRounds, SpellsWhere}
+use Rattle.ftl_device.specs.Calls.{Knows}
 use Rattle.ftl_device.specs.Changes.{Leaves}
 use Rattle.ftl_device.proofs.flush.write_tables.Given as goal
 
@@ -10,11 +11,11 @@ abbrev pub invariant-rounds : goal.invariant-rounds
 invariant-rounds g l = record {
   leaves : Leaves {A = Unit {0}} g.N.PageSource.flash g.N.PageSource.honest g.N.PageSource.calm g.N.PageSource.failed l.fn.engine (Ok tt) l.engine;
   mapping : l.engine.mapping ≡ l.fn.engine.mapping;
-  pin : (ram l.engine).pin ≡ (ram l.fn.engine).pin;
+  beside : LeavesPin (ram l.fn.engine) (ram l.engine);
   most : l.good ≤ good_count (ram l.fn.engine).blocks.table;
   fewer : good_count (ram l.engine).blocks.table ≤ l.good;
   cost : HasRounds l.good (ram l.fn.engine) (ram l.engine);
-  truth : g.N.PageSource.honest l.fn.engine.nand ≡ true → IsTrue None (ram l.fn.engine) (image_in g.N.PageSource.flash l.fn.engine) → SpellsWhere l.good l.fn.engine.geometry (image_in g.N.PageSource.flash l.fn.engine) (ram l.engine) (image_in g.N.PageSource.flash l.engine);
+  truth : g.N.PageSource.honest l.fn.engine.nand ≡ true → Knows (ram l.fn.engine) (image_in g.N.PageSource.flash l.fn.engine) → SpellsWhere l.good l.fn.engine.geometry (image_in g.N.PageSource.flash l.fn.engine) (ram l.engine) (image_in g.N.PageSource.flash l.engine);
 }
 
 abbrev pub decreases-rounds : goal.decreases-rounds

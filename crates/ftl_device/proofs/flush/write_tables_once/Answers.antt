@@ -5,7 +5,9 @@ use Rattle.budget.specs.declared.stream.Stream.TheVariants.{Meta}
 use Rattle.collection.specs.Safe.{ram}
 use Rattle.collection.proofs.Memory.{table_then}
 use Rattle.ftl_device.specs.Flush.{AddsPages}
-use Rattle.ftl_device.proofs.FlushLoops.{page_fails, pages_none, pages_more, tables_none, tables_more}
+use Rattle.collection.proofs.Beside.{beside_then}
+use Rattle.ftl_device.proofs.PinLemmas.{beside_here, beside_mapping}
+use Rattle.ftl_device.proofs.FlushLoops.{page_fails, pages_none, pages_more, tables_none, tables_more, tabled_refused}
 use Rattle.ftl_device.proofs.LeaveLemmas.{leaves_by, leaves_same, leaves_then, page_told}
 use Rattle.ftl_device.proofs.flush.write_tables_once.Goals as goal
 
@@ -13,7 +15,7 @@ pub pages-init : goal.pages-init
 pages-init g c = record {
   leaves = leaves_same g.N.PageSource.flash g.N.PageSource.honest g.N.PageSource.calm g.N.PageSource.failed c.args.engine.now c.requires.safe c.requires.going;
   mapping = refl;
-  pin = refl;
+  beside = beside_here (ram c.args.engine.now);
   table = record { fewer = omega arith; same = λ as_many. refl };
   cost = pages_none (ram c.args.engine.now);
   truth = λ honest w. tables_none (ram c.args.engine.now) _ w;
@@ -24,12 +26,12 @@ pages-preserved g c = record {
   leaves = leaves_then g.N.PageSource.flash g.N.PageSource.honest g.N.PageSource.calm g.N.PageSource.failed c.args.engine.now c.pages.engine c.write_table.new.self _ (Ok tt) c.pages.invariant.leaves
       (leaves_by g.N.PageSource.flash g.N.PageSource.honest g.N.PageSource.calm g.N.PageSource.failed c.pages.engine c.write_table.new.self (Ok tt) c.pages.invariant.leaves.fault c.in_ok-write_table.ensures.stands c.write_table.ensures.goes.geometry (page_told Meta (Ok tt) (ram c.pages.engine) (ram c.write_table.new.self) (c.in_ok-write_table.ensures.cost c.pages.invariant.leaves.fault)));
   mapping = c.write_table.ensures.mapping ∙ c.pages.invariant.mapping;
-  pin = c.write_table.ensures.pin ∙ c.pages.invariant.pin;
+  beside = beside_then _ _ _ c.pages.invariant.beside (beside_mapping (ram c.pages.engine) (ram c.write_table.new.self) c.write_table.ensures.pin c.write_table.ensures.goes c.write_table.ensures.mapping);
   table = table_then _ _ _ c.pages.invariant.table c.write_table.ensures.table;
   cost = pages_more c.pages.u (ram c.args.engine.now) _ (ram c.write_table.new.self) c.pages.invariant.leaves.geometry c.pages.invariant.cost (c.in_ok-write_table.ensures.cost c.pages.invariant.leaves.fault);
   truth = λ honest w.
       let before = c.pages.invariant.truth honest w in
-      tables_more c.pages.u (ram c.args.engine.now) _ (ram c.write_table.new.self) _ _ _ c.pages.invariant.leaves.geometry c.pages.invariant.table c.write_table.ensures.table before (c.in_ok-write_table.ensures.truth (c.pages.invariant.leaves.honest_is ∙ honest) c.pages.invariant.leaves.fault before.keeps.truth);
+      tables_more c.pages.u (ram c.args.engine.now) _ (ram c.write_table.new.self) _ _ _ c.pages.invariant.leaves.geometry c.pages.invariant.leaves.safe.memory c.write_table.ensures.stands.safe.memory (beside_mapping (ram c.pages.engine) (ram c.write_table.new.self) c.write_table.ensures.pin c.write_table.ensures.goes c.write_table.ensures.mapping) c.pages.invariant.table c.write_table.ensures.table before (c.in_ok-write_table.ensures.truth (c.pages.invariant.leaves.honest_is ∙ honest) c.pages.invariant.leaves.fault before.keeps.truth.truth);
 }
 
 pub returns-clause-cost : goal.returns-clause-cost
@@ -47,3 +49,13 @@ returns-in_err-write_table-clause-leaves g c =
     let p = err_from_is_err_and c.from_residual.result c.from_residual.ensures.1 in
     rw (p.1, p.2) (leaves_then g.N.PageSource.flash g.N.PageSource.honest g.N.PageSource.calm g.N.PageSource.failed c.args.engine.now c.pages.engine c.write_table.new.self _ (Err _) c.pages.invariant.leaves
     (leaves_by g.N.PageSource.flash g.N.PageSource.honest g.N.PageSource.calm g.N.PageSource.failed c.pages.engine c.write_table.new.self (Err _) c.pages.invariant.leaves.fault c.in_err-write_table.ensures.stands c.write_table.ensures.goes.geometry (page_told Meta (Err _) (ram c.pages.engine) (ram c.write_table.new.self) (c.in_err-write_table.ensures.cost c.pages.invariant.leaves.fault))))
+
+pub returns-in_err-write_table-clause-beside : goal.returns-in_err-write_table-clause-beside
+returns-in_err-write_table-clause-beside g c = beside_then _ _ _ c.pages.invariant.beside (beside_mapping (ram c.pages.engine) (ram c.write_table.new.self) c.write_table.ensures.pin c.write_table.ensures.goes c.write_table.ensures.mapping)
+
+pub returns-in_err-write_table-clause-truth : goal.returns-in_err-write_table-clause-truth
+returns-in_err-write_table-clause-truth g c =
+    let p = err_from_is_err_and c.from_residual.result c.from_residual.ensures.1 in
+    rw (p.1, p.2) (λ honest w.
+    let before = c.pages.invariant.truth honest w in
+    tabled_refused c.pages.u (ram c.args.engine.now) (ram c.pages.engine) (ram c.write_table.new.self) _ _ _ _ c.pages.invariant.leaves.geometry c.pages.invariant.leaves.safe.memory c.write_table.ensures.stands.safe.memory (beside_mapping (ram c.pages.engine) (ram c.write_table.new.self) c.write_table.ensures.pin c.write_table.ensures.goes c.write_table.ensures.mapping) before (c.in_err-write_table.ensures.truth (c.pages.invariant.leaves.honest_is ∙ honest) c.pages.invariant.leaves.fault before.keeps.truth.truth))

@@ -1,8 +1,9 @@
-use Rattle.std.proofs.Common.{◌≡◌, true, None, Ok}
+use Rattle.std.proofs.Common.{◌≡◌, true, Ok}
 use Rattle.collection.specs.Safe.{ram, image_in}
-use Rattle.collection.specs.Truth.{IsTrue}
+use Rattle.collection.specs.Left.{LeavesPin}
 use Rattle.collection.specs.Results.{KeepsTable}
 use Rattle.ftl_device.specs.Flush.{KeepsTables, AddsPages}
+use Rattle.ftl_device.specs.Calls.{Knows}
 use Rattle.ftl_device.specs.Changes.{Leaves}
 use Rattle.ftl_device.proofs.flush.write_tables_once.Given as goal
 
@@ -10,8 +11,8 @@ abbrev pub invariant-pages : goal.invariant-pages
 invariant-pages g l = record {
   leaves : Leaves {A = Unit {0}} g.N.PageSource.flash g.N.PageSource.honest g.N.PageSource.calm g.N.PageSource.failed l.initial.engine (Ok tt) l.engine;
   mapping : l.engine.mapping ≡ l.initial.engine.mapping;
-  pin : (ram l.engine).pin ≡ (ram l.initial.engine).pin;
+  beside : LeavesPin (ram l.initial.engine) (ram l.engine);
   table : KeepsTable (ram l.initial.engine).blocks (ram l.engine).blocks;
   cost : AddsPages l.u (ram l.initial.engine) (ram l.engine);
-  truth : g.N.PageSource.honest l.initial.engine.nand ≡ true → IsTrue None (ram l.initial.engine) (image_in g.N.PageSource.flash l.initial.engine) → KeepsTables l.u (ram l.initial.engine) (image_in g.N.PageSource.flash l.initial.engine) (ram l.engine) (image_in g.N.PageSource.flash l.engine);
+  truth : g.N.PageSource.honest l.initial.engine.nand ≡ true → Knows (ram l.initial.engine) (image_in g.N.PageSource.flash l.initial.engine) → KeepsTables l.u (ram l.initial.engine) (image_in g.N.PageSource.flash l.initial.engine) (ram l.engine) (image_in g.N.PageSource.flash l.engine);
 }

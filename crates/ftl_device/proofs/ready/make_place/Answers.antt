@@ -4,6 +4,7 @@ use Rattle.ftl_device.proofs.ReadyLemmas.{least_page, place_made}
 use Rattle.ftl_device.proofs.CostLemmas.{place_there, place_taken}
 use Rattle.ftl_device.proofs.SpentLemmas.{place_free, place_costs}
 use Rattle.ftl_device.proofs.LeaveLemmas.{leaves_by, leaves_same, back_told}
+use Rattle.ftl_device.proofs.PinLemmas.{beside_here, beside_back}
 use Rattle.ftl_device.proofs.ready.make_place.Goals as goal
 
 pub write_back-requires-clause-page : goal.write_back-requires-clause-page
@@ -35,3 +36,12 @@ returns-in-None-clause-leaves g c = leaves_same g.N.PageSource.flash g.N.PageSou
 
 pub returns-in-Some-clause-leaves : goal.returns-in-Some-clause-leaves
 returns-in-Some-clause-leaves g c = leaves_by g.N.PageSource.flash g.N.PageSource.honest g.N.PageSource.calm g.N.PageSource.failed c.args.engine.now c.write_back.new.self c.write_back.result c.requires.going c.write_back.ensures.stands c.write_back.ensures.goes.geometry (back_told c.write_back.result (ram c.args.engine.now) (ram c.write_back.new.self) (c.write_back.ensures.cost c.requires.going))
+
+pub returns-then-can_load-clause-beside : goal.returns-then-can_load-clause-beside
+returns-then-can_load-clause-beside g c = beside_here (ram c.args.engine.now)
+
+pub returns-in-None-clause-beside : goal.returns-in-None-clause-beside
+returns-in-None-clause-beside g c = beside_here (ram c.args.engine.now)
+
+pub returns-in-Some-clause-beside : goal.returns-in-Some-clause-beside
+returns-in-Some-clause-beside g c = beside_back c.write_back.result (ram c.args.engine.now) (ram c.write_back.new.self) _ c.write_back.ensures.pin c.write_back.ensures.goes c.write_back.ensures.cleaned c.write_back.ensures.mapping

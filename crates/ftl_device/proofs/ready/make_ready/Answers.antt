@@ -37,7 +37,7 @@ pub returns-in_err-cache_sector-clause-ends : goal.returns-in_err-cache_sector-c
 returns-in_err-cache_sector-clause-ends g c =
     let p = err_from_is_err_and c.from_residual-in_err-cache_sector.result c.from_residual-in_err-cache_sector.ensures.1 in
     rw (p.1, p.2) (ends_memory g.N.PageSource.flash g.N.PageSource.honest g.N.PageSource.calm g.N.PageSource.failed c.args.engine.now c.prepare.new.engine c.prepare.ensures.leaves.safe c.in_ok-row.ensures.leaves.fault c.prepare.ensures.leaves.geometry c.prepare.ensures.leaves.honest_is c.prepare.ensures.leaves.calm_is c.prepare.ensures.leaves.failed_is
-    c.prepare.ensures.limits c.in_ok-row.ensures.idle c.in_ok-row.ensures.leaves.tells (λ honest. c.in_ok-row.ensures.leaves.went honest (λ e. (let no : ⊥ = cc in no))) c.cache_sector.new.self c.in_err-cache_sector.ensures.refused)
+    c.prepare.ensures.limits c.in_ok-row.ensures.calm c.in_ok-row.ensures.leaves.tells (λ honest. c.in_ok-row.ensures.leaves.went honest (λ e. (let no : ⊥ = cc in no))) c.cache_sector.new.self c.in_err-cache_sector.ensures.refused)
 
 pub returns-in_err-cache_sector-clause-readies : goal.returns-in_err-cache_sector-clause-readies
 returns-in_err-cache_sector-clause-readies g c =
@@ -56,7 +56,7 @@ returns-in_err-cache_sector-clause-readies g c =
 pub returns-clause-ends : goal.returns-clause-ends
 returns-clause-ends g c =
     ends_loaded g.N.PageSource.flash g.N.PageSource.honest g.N.PageSource.calm g.N.PageSource.failed c.args.engine.now c.prepare.new.engine c.prepare.ensures.leaves.safe c.in_ok-row.ensures.leaves.fault c.prepare.ensures.leaves.geometry c.prepare.ensures.leaves.honest_is c.prepare.ensures.leaves.calm_is c.prepare.ensures.leaves.failed_is
-    c.prepare.ensures.limits c.in_ok-row.ensures.idle c.in_ok-row.ensures.leaves.tells (λ honest. c.in_ok-row.ensures.leaves.went honest (λ e. (let no : ⊥ = cc in no))) c.cache_sector.new.self c.args.sector _ c.in_ok-cache_sector.ensures.loaded c.cache_sector.ensures.safe
+    c.prepare.ensures.limits c.in_ok-row.ensures.calm c.in_ok-row.ensures.leaves.tells (λ honest. c.in_ok-row.ensures.leaves.went honest (λ e. (let no : ⊥ = cc in no))) c.cache_sector.new.self c.args.sector _ c.in_ok-cache_sector.ensures.loaded c.cache_sector.ensures.safe
 
 pub returns-clause-readies : goal.returns-clause-readies
 returns-clause-readies g c = record {
@@ -77,4 +77,4 @@ returns-clause-checked g c = is_looked_up c.prepare.new.engine c.cache_sector.ne
 pub returns-clause-truth : goal.returns-clause-truth
 returns-clause-truth g c = λ honest w.
     let found = c.in_ok-row.ensures.truth honest w in
-    keeps_loaded c.prepare.new.engine c.cache_sector.new.self c.args.sector _ c.in_ok-cache_sector.ensures.loaded g.N.PageSource.flash _ _ found.keeps (c.cache_sector.ensures.truth _ found.keeps.truth found.row_is)
+    keeps_loaded c.prepare.new.engine c.cache_sector.new.self c.args.sector _ c.in_ok-cache_sector.ensures.loaded g.N.PageSource.flash _ _ c.prepare.ensures.leaves.safe.memory c.cache_sector.ensures.safe.memory found.keeps (c.cache_sector.ensures.truth _ found.keeps.truth.truth found.row_is)

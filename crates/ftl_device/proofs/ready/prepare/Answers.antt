@@ -6,7 +6,7 @@ use Rattle.ftl_device.proofs.RoomLemmas.{keeps_room, refused_room}
 use Rattle.ftl_device.proofs.FlushLoops.{engine_keeps, engine_refused}
 use Rattle.ftl_device.proofs.ReadyLemmas.{place_stays}
 use Rattle.ftl_device.proofs.CostLemmas.{ready_found}
-use Rattle.ftl_device.proofs.PrepareLemmas.{tells_found, went_found, found_after, idle_after}
+use Rattle.ftl_device.proofs.PrepareLemmas.{tells_found, went_found, found_after, calm_after}
 use Rattle.ftl_device.proofs.ReadLemmas.{finds_noted}
 use Rattle.ftl_device.specs.Shortage.{HasFunds}
 use Rattle.ftl_device.proofs.SpentLemmas.{after_room, room_refused, place_refused, found_costs}
@@ -19,14 +19,15 @@ returns-clause-place g c = place_stays c.find_row.result (ram c.make_place.new.e
 pub returns-clause-cost : goal.returns-clause-cost
 returns-clause-cost g c = ready_found c.find_row.result c.args.sector (ram c.args.engine.now) (ram c.make_room.new.engine) (ram c.make_place.new.engine) (ram c.find_row.new.engine) _ c.in_ok-make_room.ensures.made c.find_row.ensures.memory c.in_ok-make_place.ensures.cost
 
-pub returns-clause-idle : goal.returns-clause-idle
-returns-clause-idle g c = idle_after (ram c.make_place.new.engine) (ram c.find_row.new.engine) _ c.find_row.ensures.memory c.find_row.result (ram c.args.engine.now) (ram c.make_room.new.engine) c.in_ok-make_room.ensures.made c.make_place.ensures.leaves.geometry c.make_place.ensures.no_more c.make_place.ensures.pin
+pub returns-clause-calm : goal.returns-clause-calm
+returns-clause-calm g c = calm_after (ram c.make_place.new.engine) (ram c.find_row.new.engine) _ c.find_row.ensures.memory c.find_row.result (ram c.args.engine.now) (ram c.make_room.new.engine) c.in_ok-make_room.ensures.made c.make_place.ensures.beside
 
 pub returns-clause-truth : goal.returns-clause-truth
 returns-clause-truth g c = λ honest w.
     let room = c.in_ok-make_room.ensures.truth honest w in
+    let knows = c.in_ok-make_room.ensures.pinned honest w in
     let place = c.in_ok-make_place.ensures.truth (c.make_room.ensures.leaves.honest_is ∙ honest) room.truth in
-    let keeps = engine_keeps c.args.engine.now.geometry (ram c.make_room.new.engine) (ram c.make_place.new.engine) (image_in g.N.PageSource.flash c.args.engine.now) _ _ c.make_room.ensures.leaves.geometry (keeps_room (ram c.args.engine.now) (ram c.make_room.new.engine) _ _ room) place in
+    let keeps = engine_keeps c.args.engine.now.geometry (ram c.make_room.new.engine) (ram c.make_place.new.engine) (image_in g.N.PageSource.flash c.args.engine.now) _ _ c.make_room.ensures.leaves.geometry c.make_room.ensures.leaves.safe.memory c.make_place.ensures.leaves.safe.memory c.make_place.ensures.beside (keeps_room (ram c.args.engine.now) (ram c.make_room.new.engine) _ _ room knows) place in
     let still = c.make_place.ensures.leaves.honest_is ∙ (c.make_room.ensures.leaves.honest_is ∙ honest) in
     found_after (ram c.make_place.new.engine) (ram c.find_row.new.engine) _ c.find_row.ensures.memory c.find_row.result c.args.sector c.args.engine.now.geometry _ (g.N.PageSource.flash c.make_place.new.engine.nand) (g.N.PageSource.flash c.find_row.new.engine.nand)
     keeps (c.find_row.ensures.same still) (c.find_row.ensures.truth still place.truth)
@@ -36,12 +37,13 @@ returns-in_err-make_place-clause-truth g c =
     let p = err_from_is_err_and c.from_residual-in_err-make_place.result c.from_residual-in_err-make_place.ensures.1 in
     rw (p.1, p.2) (λ honest w.
     let room = c.in_ok-make_room.ensures.truth honest w in
-    engine_refused c.args.engine.now.geometry (ram c.make_room.new.engine) (ram c.make_place.new.engine) (image_in g.N.PageSource.flash c.args.engine.now) _ _ _ c.make_room.ensures.leaves.geometry (keeps_room (ram c.args.engine.now) (ram c.make_room.new.engine) _ _ room) (c.in_err-make_place.ensures.truth (c.make_room.ensures.leaves.honest_is ∙ honest) room.truth))
+    let knows = c.in_ok-make_room.ensures.pinned honest w in
+    engine_refused c.args.engine.now.geometry (ram c.make_room.new.engine) (ram c.make_place.new.engine) (image_in g.N.PageSource.flash c.args.engine.now) _ _ _ c.make_room.ensures.leaves.geometry c.make_room.ensures.leaves.safe.memory c.make_place.ensures.leaves.safe.memory c.make_place.ensures.beside (keeps_room (ram c.args.engine.now) (ram c.make_room.new.engine) _ _ room knows) (c.in_err-make_place.ensures.truth (c.make_room.ensures.leaves.honest_is ∙ honest) room.truth))
 
 pub returns-in_err-make_room-clause-truth : goal.returns-in_err-make_room-clause-truth
 returns-in_err-make_room-clause-truth g c =
     let p = err_from_is_err_and c.from_residual.result c.from_residual.ensures.1 in
-    rw (p.1, p.2) (λ honest w. refused_room (ram c.args.engine.now) (ram c.make_room.new.engine) _ _ _ (c.in_err-make_room.ensures.truth honest w))
+    rw (p.1, p.2) (λ honest w. refused_room (ram c.args.engine.now) (ram c.make_room.new.engine) _ _ _ (c.in_err-make_room.ensures.truth honest w) (c.in_err-make_room.ensures.pinned honest w))
 
 pub returns-clause-checked : goal.returns-clause-checked
 returns-clause-checked g c = finds_noted c.find_row.result (ram c.make_place.new.engine) (ram c.find_row.new.engine) c.args.sector _ _ c.find_row.ensures.memory c.find_row.ensures.checked

@@ -3,6 +3,7 @@ use Rattle.std.proofs.lemmas.Result.{err_from_is_err_and}
 use Rattle.page_layout.specs.declared.record.Kind.TheVariants.{Trim}
 use Rattle.page_layout.specs.Array.{zeros}
 use Rattle.collection.specs.Safe.{ram}
+use Rattle.collection.proofs.Beside.{beside_same}
 use Rattle.ftl_device.proofs.ReadyLemmas.{written_ready}
 use Rattle.ftl_device.proofs.CostLemmas.{cost_of}
 use Rattle.ftl_device.proofs.EndLemmas.{ends_page, readies_kept, readies_page, looked_up_before}
@@ -27,7 +28,7 @@ pub returns-in_err-trim_sector-clause-ends : goal.returns-in_err-trim_sector-cla
 returns-in_err-trim_sector-clause-ends g c =
     let p = err_from_is_err_and c.from_residual-in_err-trim_sector.result c.from_residual-in_err-trim_sector.ensures.1 in
     rw (p.1, p.2) (ends_page g.N.PageSource.flash g.N.PageSource.honest g.N.PageSource.calm g.N.PageSource.failed c.args.engine.now c.make_ready.new.engine c.trim_sector.new.self _ c.in_ok-make_ready.ensures.ends c.trim_sector.ensures.stands.safe c.trim_sector.ensures.goes c.trim_sector.ensures.stands.honest_is c.trim_sector.ensures.stands.calm_is
-    c.trim_sector.ensures.stands.failed_is c.trim_sector.ensures.pin c.trim_sector.ensures.no_more (Err _) c.in_err-trim_sector.ensures.stands.fault c.in_err-trim_sector.ensures.stands.rose c.in_err-trim_sector.ensures.cost c.in_err-trim_sector.ensures.stands.went)
+    c.trim_sector.ensures.stands.failed_is (beside_same (ram c.make_ready.new.engine) (ram c.trim_sector.new.self) c.trim_sector.ensures.pin c.trim_sector.ensures.goes c.trim_sector.ensures.moved c.trim_sector.ensures.no_more.limits) c.trim_sector.ensures.no_more (Err _) c.in_err-trim_sector.ensures.stands.fault c.in_err-trim_sector.ensures.stands.rose c.in_err-trim_sector.ensures.cost c.in_err-trim_sector.ensures.stands.went)
 
 pub returns-in_err-trim_sector-clause-readies : goal.returns-in_err-trim_sector-clause-readies
 returns-in_err-trim_sector-clause-readies g c =
@@ -40,14 +41,14 @@ returns-in_err-trim_sector-clause-truth g c =
     let p = err_from_is_err_and c.from_residual-in_err-trim_sector.result c.from_residual-in_err-trim_sector.ensures.1 in
     rw (p.1, p.2) (λ honest w.
     let kept = c.in_ok-make_ready.ensures.truth honest w in
-    engine_refused c.args.engine.now.geometry (ram c.make_ready.new.engine) (ram c.trim_sector.new.self) _ _ _ _ c.in_ok-make_ready.ensures.ends.geometry kept (c.in_err-trim_sector.ensures.truth (c.in_ok-make_ready.ensures.ends.honest_is ∙ honest) c.in_ok-make_ready.ensures.ends.fault kept.truth))
+    engine_refused c.args.engine.now.geometry (ram c.make_ready.new.engine) (ram c.trim_sector.new.self) _ _ _ _ c.in_ok-make_ready.ensures.ends.geometry c.in_ok-make_ready.ensures.ends.safe.memory c.trim_sector.ensures.stands.safe.memory (beside_same (ram c.make_ready.new.engine) (ram c.trim_sector.new.self) c.trim_sector.ensures.pin c.trim_sector.ensures.goes c.trim_sector.ensures.moved c.trim_sector.ensures.no_more.limits) kept (c.in_err-trim_sector.ensures.truth (c.in_ok-make_ready.ensures.ends.honest_is ∙ honest) c.in_ok-make_ready.ensures.ends.fault kept.truth.truth))
 
 -- ---- it was programmed
 
 pub returns-clause-ends : goal.returns-clause-ends
 returns-clause-ends g c =
     ends_page g.N.PageSource.flash g.N.PageSource.honest g.N.PageSource.calm g.N.PageSource.failed c.args.engine.now c.make_ready.new.engine c.trim_sector.new.self _ c.in_ok-make_ready.ensures.ends c.trim_sector.ensures.stands.safe c.trim_sector.ensures.goes c.trim_sector.ensures.stands.honest_is c.trim_sector.ensures.stands.calm_is
-    c.trim_sector.ensures.stands.failed_is c.trim_sector.ensures.pin c.trim_sector.ensures.no_more (Ok _) c.in_ok-trim_sector.ensures.stands.fault c.in_ok-trim_sector.ensures.stands.rose c.in_ok-trim_sector.ensures.cost c.in_ok-trim_sector.ensures.stands.went
+    c.trim_sector.ensures.stands.failed_is (beside_same (ram c.make_ready.new.engine) (ram c.trim_sector.new.self) c.trim_sector.ensures.pin c.trim_sector.ensures.goes c.trim_sector.ensures.moved c.trim_sector.ensures.no_more.limits) c.trim_sector.ensures.no_more (Ok _) c.in_ok-trim_sector.ensures.stands.fault c.in_ok-trim_sector.ensures.stands.rose c.in_ok-trim_sector.ensures.cost c.in_ok-trim_sector.ensures.stands.went
 
 pub returns-clause-readies : goal.returns-clause-readies
 returns-clause-readies g c = readies_page g.N.PageSource.flash g.N.PageSource.honest c.args.sector c.args.engine.now c.make_ready.new.engine c.trim_sector.new.self c.in_ok-make_ready.ensures.ends.geometry _ c.in_ok-make_ready.ensures.readies c.trim_sector.ensures.keys
@@ -62,5 +63,5 @@ returns-clause-checked g c = looked_up_before c.args.engine.now c.make_ready.new
 pub returns-clause-truth : goal.returns-clause-truth
 returns-clause-truth g c = λ honest well.
     let kept = c.in_ok-make_ready.ensures.truth honest well in
-    written_ready c.args.engine.now.geometry c.args.sector Trim (zeros c.make_ready.new.engine.geometry) (ram c.make_ready.new.engine) (ram c.trim_sector.new.self) _ _ _ c.in_ok-make_ready.ensures.ends.geometry kept
-    (c.in_ok-trim_sector.ensures.truth (c.in_ok-make_ready.ensures.ends.honest_is ∙ honest) c.in_ok-make_ready.ensures.ends.fault kept.truth)
+    written_ready c.args.engine.now.geometry c.args.sector Trim (zeros c.make_ready.new.engine.geometry) (ram c.make_ready.new.engine) (ram c.trim_sector.new.self) _ _ _ c.in_ok-make_ready.ensures.ends.geometry c.in_ok-make_ready.ensures.ends.safe.memory c.trim_sector.ensures.stands.safe.memory (beside_same (ram c.make_ready.new.engine) (ram c.trim_sector.new.self) c.trim_sector.ensures.pin c.trim_sector.ensures.goes c.trim_sector.ensures.moved c.trim_sector.ensures.no_more.limits) kept
+    (c.in_ok-trim_sector.ensures.truth (c.in_ok-make_ready.ensures.ends.honest_is ∙ honest) c.in_ok-make_ready.ensures.ends.fault kept.truth.truth)

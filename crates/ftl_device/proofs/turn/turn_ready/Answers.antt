@@ -1,93 +1,45 @@
-use Rattle.std.proofs.Common.{◌∙◌, inr, Ok, Err, refl}
+use Rattle.std.proofs.Common.{◌∙◌, Ok, Err, refl}
 use Rattle.std.proofs.lemmas.Result.{err_from_is_err_and}
 use Rattle.collection.specs.Safe.{ram}
-use Rattle.ftl_device.proofs.FlushLoops.{limits_then, engine_keeps, engine_refused}
-use Rattle.ftl_device.proofs.RoomLemmas.{never_rested, rescued_none, rescued_by, rescue_told, keeps_room}
-use Rattle.ftl_device.proofs.RoomLemmas.{refused_room, not_ailing, rescue_worked}
+use Rattle.ftl_device.proofs.Assumed.{calm_law}
+use Rattle.ftl_device.proofs.FlushLoops.{limits_then, engine_keeps, keeps_then, keeps_refused}
+use Rattle.ftl_device.proofs.RoomLemmas.{rescued_by, rescue_told, keeps_room, refused_room, rescue_worked}
 use Rattle.ftl_device.proofs.SpentLemmas.{rescue_short, rescue_stuck, unroomed_short}
-use Rattle.ftl_device.proofs.LeaveLemmas.{leaves_by, leaves_same, leaves_then, leaves_done, leaves_ends, leaves_stuck}
+use Rattle.ftl_device.proofs.LeaveLemmas.{leaves_by, leaves_then, leaves_done, leaves_ends, leaves_stuck}
+use Rattle.ftl_device.proofs.StepLemmas.{moved_less, rescue_refused, step_short, step_short_of, worked_then, quiet_then, fallen_then, none_worked, rescue_falls, risen_same, collected_rescued, rescue_works}
 use Rattle.ftl_device.proofs.turn.turn_ready.Goals as goal
 
--- ---- no bad block has a newest page
-
-pub returns-then-not-needs_rescue-clause-rescued : goal.returns-then-not-needs_rescue-clause-rescued
-returns-then-not-needs_rescue-clause-rescued g c = λ honest w. rescued_none (ram c.args.engine.now) c.if-not-needs_rescue.ensures.none
-
-pub returns-then-not-needs_rescue-clause-worked : goal.returns-then-not-needs_rescue-clause-worked
-returns-then-not-needs_rescue-clause-worked g c = λ honest w some. absurd (not_ailing (ram c.args.engine.now).blocks c.if-not-needs_rescue.ensures.none some)
-
 -- ---- no room was made
-
-pub returns-in_err-make_room-clause-rested : goal.returns-in_err-make_room-clause-rested
-returns-in_err-make_room-clause-rested g c = never_rested (ram c.args.engine.now) (ram c.make_room.new.engine) c.if-not-needs_rescue.ensures.some
 
 pub returns-in_err-make_room-clause-truth : goal.returns-in_err-make_room-clause-truth
 returns-in_err-make_room-clause-truth g c =
     let p = err_from_is_err_and c.from_residual.result c.from_residual.ensures.1 in
-    rw (p.1, p.2) (λ honest w. refused_room (ram c.args.engine.now) (ram c.make_room.new.engine) _ _ _ (c.in_err-make_room.ensures.truth honest w))
-
--- ---- the rescue was refused
-
-pub returns-in_err-rescue_one-clause-rested : goal.returns-in_err-rescue_one-clause-rested
-returns-in_err-rescue_one-clause-rested g c = never_rested (ram c.args.engine.now) (ram c.rescue_one.new.self) c.if-not-needs_rescue.ensures.some
-
-pub returns-in_err-rescue_one-clause-truth : goal.returns-in_err-rescue_one-clause-truth
-returns-in_err-rescue_one-clause-truth g c =
-    let p = err_from_is_err_and c.from_residual-in_err-rescue_one.result c.from_residual-in_err-rescue_one.ensures.1 in
-    rw (p.1, p.2) (λ honest w.
-    let room = c.in_ok-make_room.ensures.truth honest w in
-    engine_refused c.args.engine.now.geometry (ram c.make_room.new.engine) (ram c.rescue_one.new.self) _ _ _ _ c.make_room.ensures.leaves.geometry (keeps_room (ram c.args.engine.now) (ram c.make_room.new.engine) _ _ room) (c.in_err-rescue_one.ensures.truth (c.make_room.ensures.leaves.honest_is ∙ honest) c.in_ok-make_room.ensures.leaves.fault room.truth))
-
--- ---- a page was rescued
-
-pub returns-clause-rested : goal.returns-clause-rested
-returns-clause-rested g c = never_rested (ram c.args.engine.now) (ram c.rescue_one.new.self) c.if-not-needs_rescue.ensures.some
-
-pub returns-clause-truth : goal.returns-clause-truth
-returns-clause-truth g c = λ honest w.
-    let room = c.in_ok-make_room.ensures.truth honest w in
-    let one = c.in_ok-rescue_one.ensures.truth (c.make_room.ensures.leaves.honest_is ∙ honest) c.in_ok-make_room.ensures.leaves.fault room.truth in
-    engine_keeps c.args.engine.now.geometry (ram c.make_room.new.engine) (ram c.rescue_one.new.self) _ _ _ c.make_room.ensures.leaves.geometry (keeps_room (ram c.args.engine.now) (ram c.make_room.new.engine) _ _ room) one.same
-
-pub returns-clause-rescued : goal.returns-clause-rescued
-returns-clause-rescued g c = λ honest w.
-    let room = c.in_ok-make_room.ensures.truth honest w in
-    let one = c.in_ok-rescue_one.ensures.truth (c.make_room.ensures.leaves.honest_is ∙ honest) c.in_ok-make_room.ensures.leaves.fault room.truth in
-    rescued_by (ram c.args.engine.now) (ram c.make_room.new.engine) (ram c.rescue_one.new.self) _ _ _ _ c.requires.safe.memory c.make_room.ensures.leaves.safe.memory c.rescue_one.ensures.stands.safe.memory c.in_ok-make_room.ensures.made.goes c.rescue_one.ensures.goes room one
-
-pub returns-clause-worked : goal.returns-clause-worked
-returns-clause-worked g c = λ honest w some.
-    let room = c.in_ok-make_room.ensures.truth honest w in
-    let one = c.in_ok-rescue_one.ensures.truth (c.make_room.ensures.leaves.honest_is ∙ honest) c.in_ok-make_room.ensures.leaves.fault room.truth in
-    rescue_worked (ram c.args.engine.now) (ram c.make_room.new.engine) (ram c.rescue_one.new.self) _ _ _ _ _ _ c.make_room.ensures.leaves.safe.memory c.rescue_one.ensures.stands.safe.memory some c.in_ok-make_room.ensures.erases c.rescue_one.ensures.erases c.rescue_one.ensures.goes (c.in_ok-rescue_one.ensures.cost c.in_ok-make_room.ensures.leaves.fault) one
-
--- ---- the count
-
-pub returns-then-not-needs_rescue-clause-count : goal.returns-then-not-needs_rescue-clause-count
-returns-then-not-needs_rescue-clause-count g c = λ known five. inr five
+    rw (p.1, p.2) (λ honest w. refused_room (ram c.args.engine.now) (ram c.make_room.new.engine) _ _ _ (c.in_err-make_room.ensures.truth honest w) (c.in_err-make_room.ensures.pinned honest w))
 
 pub returns-in_err-make_room-clause-count : goal.returns-in_err-make_room-clause-count
 returns-in_err-make_room-clause-count g c =
     let p = err_from_is_err_and c.from_residual.result c.from_residual.ensures.1 in
     rw (p.1, p.2) (λ known five. unroomed_short _ (ram c.args.engine.now) (ram c.make_room.new.engine) (c.in_err-make_room.ensures.count known.0 known.1 0 known.2))
 
-pub returns-in_err-rescue_one-clause-count : goal.returns-in_err-rescue_one-clause-count
-returns-in_err-rescue_one-clause-count g c =
-    let p = err_from_is_err_and c.from_residual-in_err-rescue_one.result c.from_residual-in_err-rescue_one.ensures.1 in
-    rw (p.1, p.2) (λ known five. rescue_stuck (ram c.args.engine.now) (ram c.make_room.new.engine) (ram c.rescue_one.new.self) c.requires.safe.memory c.make_room.ensures.leaves.safe.memory c.rescue_one.ensures.stands.safe.memory c.in_ok-make_room.ensures.made c.rescue_one.ensures.goes (c.in_ok-make_room.ensures.count known.0 known.1 0 known.2) _ (c.in_err-rescue_one.ensures.cost c.in_ok-make_room.ensures.leaves.fault))
-
-pub returns-clause-count : goal.returns-clause-count
-returns-clause-count g c = λ known five. rescue_short (ram c.args.engine.now) (ram c.make_room.new.engine) (ram c.rescue_one.new.self) c.requires.safe.memory c.make_room.ensures.leaves.safe.memory c.rescue_one.ensures.stands.safe.memory c.in_ok-make_room.ensures.made c.rescue_one.ensures.goes (c.in_ok-make_room.ensures.count known.0 known.1 0 known.2) _ (c.in_ok-rescue_one.ensures.cost c.in_ok-make_room.ensures.leaves.fault)
-
--- ---- how it ends
-
-pub returns-then-not-needs_rescue-clause-ends : goal.returns-then-not-needs_rescue-clause-ends
-returns-then-not-needs_rescue-clause-ends g c = leaves_ends g.N.PageSource.flash g.N.PageSource.honest g.N.PageSource.calm g.N.PageSource.failed c.args.engine.now c.args.engine.now (Ok tt) (leaves_same g.N.PageSource.flash g.N.PageSource.honest g.N.PageSource.calm g.N.PageSource.failed c.args.engine.now c.requires.safe c.requires.going) (record { geometry = refl; capacity = refl }) (λ none. c.requires.idle)
-
 pub returns-in_err-make_room-clause-ends : goal.returns-in_err-make_room-clause-ends
 returns-in_err-make_room-clause-ends g c =
     let p = err_from_is_err_and c.from_residual.result c.from_residual.ensures.1 in
     rw (p.1, p.2) (leaves_stuck g.N.PageSource.flash g.N.PageSource.honest g.N.PageSource.calm g.N.PageSource.failed c.args.engine.now c.make_room.new.engine _ c.in_err-make_room.ensures.leaves c.make_room.ensures.keys.limits)
+
+-- ---- the rescue was refused
+
+pub returns-in_err-rescue_one-clause-truth : goal.returns-in_err-rescue_one-clause-truth
+returns-in_err-rescue_one-clause-truth g c =
+    let p = err_from_is_err_and c.from_residual-in_err-rescue_one.result c.from_residual-in_err-rescue_one.ensures.1 in
+    rw (p.1, p.2) (λ honest w.
+    let room = c.in_ok-make_room.ensures.truth honest w in
+    let knows = c.in_ok-make_room.ensures.pinned honest w in
+    keeps_refused c.args.engine.now.geometry (ram c.make_room.new.engine) (ram c.rescue_one.new.self) _ _ _ _ c.make_room.ensures.leaves.geometry (keeps_room (ram c.args.engine.now) (ram c.make_room.new.engine) _ _ room knows) (rescue_refused (ram c.make_room.new.engine) (ram c.rescue_one.new.self) _ _ c.make_room.ensures.leaves.safe.memory c.rescue_one.ensures.stands.safe.memory c.rescue_one.ensures.goes c.rescue_one.ensures.pin c.rescue_one.ensures.one_more knows _ (c.in_err-rescue_one.ensures.truth (c.make_room.ensures.leaves.honest_is ∙ honest) c.in_ok-make_room.ensures.leaves.fault room.truth (moved_less (ram c.make_room.new.engine) _ knows))))
+
+pub returns-in_err-rescue_one-clause-count : goal.returns-in_err-rescue_one-clause-count
+returns-in_err-rescue_one-clause-count g c =
+    let p = err_from_is_err_and c.from_residual-in_err-rescue_one.result c.from_residual-in_err-rescue_one.ensures.1 in
+    rw (p.1, p.2) (λ known five. rescue_stuck (ram c.args.engine.now) (ram c.make_room.new.engine) (ram c.rescue_one.new.self) c.requires.safe.memory c.make_room.ensures.leaves.safe.memory c.rescue_one.ensures.stands.safe.memory c.in_ok-make_room.ensures.made c.rescue_one.ensures.goes (c.in_ok-make_room.ensures.count known.0 known.1 0 known.2) _ (c.in_err-rescue_one.ensures.cost c.in_ok-make_room.ensures.leaves.fault))
 
 pub returns-in_err-rescue_one-clause-ends : goal.returns-in_err-rescue_one-clause-ends
 returns-in_err-rescue_one-clause-ends g c =
@@ -95,8 +47,88 @@ returns-in_err-rescue_one-clause-ends g c =
     rw (p.1, p.2) (leaves_stuck g.N.PageSource.flash g.N.PageSource.honest g.N.PageSource.calm g.N.PageSource.failed c.args.engine.now c.rescue_one.new.self _ (leaves_then g.N.PageSource.flash g.N.PageSource.honest g.N.PageSource.calm g.N.PageSource.failed c.args.engine.now c.make_room.new.engine c.rescue_one.new.self _ _ c.in_ok-make_room.ensures.leaves (leaves_by g.N.PageSource.flash g.N.PageSource.honest g.N.PageSource.calm g.N.PageSource.failed c.make_room.new.engine c.rescue_one.new.self (Err _) c.in_ok-make_room.ensures.leaves.fault c.in_err-rescue_one.ensures.stands c.rescue_one.ensures.goes.geometry
     (rescue_told (Err _) (ram c.make_room.new.engine) (ram c.rescue_one.new.self) c.make_room.ensures.leaves.safe.memory c.rescue_one.ensures.stands.safe.memory c.rescue_one.ensures.goes (c.in_err-rescue_one.ensures.cost c.in_ok-make_room.ensures.leaves.fault)))) (limits_then _ _ _ c.make_room.ensures.keys.limits c.rescue_one.ensures.keys.limits))
 
-pub returns-clause-ends : goal.returns-clause-ends
-returns-clause-ends g c = leaves_ends g.N.PageSource.flash g.N.PageSource.honest g.N.PageSource.calm g.N.PageSource.failed c.args.engine.now c.rescue_one.new.self (Ok tt) (leaves_done g.N.PageSource.flash g.N.PageSource.honest g.N.PageSource.calm g.N.PageSource.failed c.args.engine.now c.rescue_one.new.self _ tt (leaves_then g.N.PageSource.flash g.N.PageSource.honest g.N.PageSource.calm g.N.PageSource.failed c.args.engine.now c.make_room.new.engine c.rescue_one.new.self _ _ c.in_ok-make_room.ensures.leaves
+-- ---- a page was rescued
+
+pub returns-then-needs_rescue-clause-truth : goal.returns-then-needs_rescue-clause-truth
+returns-then-needs_rescue-clause-truth g c = λ honest w.
+    let room = c.in_ok-make_room.ensures.truth honest w in
+    let knows = c.in_ok-make_room.ensures.pinned honest w in
+    let one = c.in_ok-rescue_one.ensures.truth (c.make_room.ensures.leaves.honest_is ∙ honest) c.in_ok-make_room.ensures.leaves.fault room.truth (moved_less (ram c.make_room.new.engine) _ knows) in
+    engine_keeps c.args.engine.now.geometry (ram c.make_room.new.engine) (ram c.rescue_one.new.self) _ _ _ c.make_room.ensures.leaves.geometry c.make_room.ensures.leaves.safe.memory c.rescue_one.ensures.stands.safe.memory c.in_ok-rescue_one.ensures.beside (keeps_room (ram c.args.engine.now) (ram c.make_room.new.engine) _ _ room knows) one.same
+
+pub returns-then-needs_rescue-clause-rescued : goal.returns-then-needs_rescue-clause-rescued
+returns-then-needs_rescue-clause-rescued g c = λ honest w.
+    let room = c.in_ok-make_room.ensures.truth honest w in
+    let one = c.in_ok-rescue_one.ensures.truth (c.make_room.ensures.leaves.honest_is ∙ honest) c.in_ok-make_room.ensures.leaves.fault room.truth (moved_less (ram c.make_room.new.engine) _ (c.in_ok-make_room.ensures.pinned honest w)) in
+    rescued_by (ram c.args.engine.now) (ram c.make_room.new.engine) (ram c.rescue_one.new.self) _ _ _ _ c.requires.safe.memory c.make_room.ensures.leaves.safe.memory c.rescue_one.ensures.stands.safe.memory c.in_ok-make_room.ensures.made.goes c.rescue_one.ensures.goes room one
+
+pub returns-then-needs_rescue-clause-worked : goal.returns-then-needs_rescue-clause-worked
+returns-then-needs_rescue-clause-worked g c = λ honest w some.
+    let room = c.in_ok-make_room.ensures.truth honest w in
+    let one = c.in_ok-rescue_one.ensures.truth (c.make_room.ensures.leaves.honest_is ∙ honest) c.in_ok-make_room.ensures.leaves.fault room.truth (moved_less (ram c.make_room.new.engine) _ (c.in_ok-make_room.ensures.pinned honest w)) in
+    rescue_worked g.N.PageSource.erases c.args.engine.now c.make_room.new.engine c.rescue_one.new.self _ _ _ c.make_room.ensures.leaves.safe.memory c.rescue_one.ensures.stands.safe.memory some c.in_ok-make_room.ensures.erases c.rescue_one.ensures.erases c.rescue_one.ensures.goes (c.in_ok-rescue_one.ensures.cost c.in_ok-make_room.ensures.leaves.fault) one
+
+pub returns-then-needs_rescue-clause-quiet : goal.returns-then-needs_rescue-clause-quiet
+returns-then-needs_rescue-clause-quiet g c = λ honest w.
+    let room = c.in_ok-make_room.ensures.truth honest w in
+    let one = c.in_ok-rescue_one.ensures.truth (c.make_room.ensures.leaves.honest_is ∙ honest) c.in_ok-make_room.ensures.leaves.fault room.truth (moved_less (ram c.make_room.new.engine) _ (c.in_ok-make_room.ensures.pinned honest w)) in
+    rescue_works g.N.PageSource.erases c.args.engine.now c.make_room.new.engine c.rescue_one.new.self _ _ _ c.make_room.ensures.leaves.safe.memory c.rescue_one.ensures.stands.safe.memory (c.if-needs_rescue.ensures.some) c.in_ok-make_room.ensures.erases c.rescue_one.ensures.erases c.rescue_one.ensures.goes (c.in_ok-rescue_one.ensures.cost c.in_ok-make_room.ensures.leaves.fault) one
+
+pub returns-then-needs_rescue-clause-falls : goal.returns-then-needs_rescue-clause-falls
+returns-then-needs_rescue-clause-falls g c = λ honest w none. rescue_falls g.N.PageSource.flash g.N.PageSource.erases c.args.engine.now c.make_room.new.engine c.rescue_one.new.self c.in_ok-make_room.ensures.erases c.rescue_one.ensures.erases c.if-needs_rescue.ensures.some none
+
+pub returns-then-needs_rescue-clause-count : goal.returns-then-needs_rescue-clause-count
+returns-then-needs_rescue-clause-count g c = λ known five. rescue_short (ram c.args.engine.now) (ram c.make_room.new.engine) (ram c.rescue_one.new.self) c.requires.safe.memory c.make_room.ensures.leaves.safe.memory c.rescue_one.ensures.stands.safe.memory c.in_ok-make_room.ensures.made c.rescue_one.ensures.goes (c.in_ok-make_room.ensures.count known.0 known.1 0 known.2) _ (c.in_ok-rescue_one.ensures.cost c.in_ok-make_room.ensures.leaves.fault)
+
+pub returns-then-needs_rescue-clause-ends : goal.returns-then-needs_rescue-clause-ends
+returns-then-needs_rescue-clause-ends g c = leaves_ends g.N.PageSource.flash g.N.PageSource.honest g.N.PageSource.calm g.N.PageSource.failed c.args.engine.now c.rescue_one.new.self (Ok tt) (leaves_done g.N.PageSource.flash g.N.PageSource.honest g.N.PageSource.calm g.N.PageSource.failed c.args.engine.now c.rescue_one.new.self _ tt (leaves_then g.N.PageSource.flash g.N.PageSource.honest g.N.PageSource.calm g.N.PageSource.failed c.args.engine.now c.make_room.new.engine c.rescue_one.new.self _ _ c.in_ok-make_room.ensures.leaves
     (leaves_by g.N.PageSource.flash g.N.PageSource.honest g.N.PageSource.calm g.N.PageSource.failed c.make_room.new.engine c.rescue_one.new.self (Ok _) c.in_ok-make_room.ensures.leaves.fault c.in_ok-rescue_one.ensures.stands c.rescue_one.ensures.goes.geometry
     (rescue_told (Ok _) (ram c.make_room.new.engine) (ram c.rescue_one.new.self) c.make_room.ensures.leaves.safe.memory c.rescue_one.ensures.stands.safe.memory c.rescue_one.ensures.goes (c.in_ok-rescue_one.ensures.cost c.in_ok-make_room.ensures.leaves.fault)))))
-    (limits_then _ _ _ c.make_room.ensures.keys.limits c.rescue_one.ensures.keys.limits) (λ none. c.in_ok-rescue_one.ensures.idle)
+    (limits_then _ _ _ c.make_room.ensures.keys.limits c.rescue_one.ensures.keys.limits) (λ none. calm_law (ram c.make_room.new.engine) (ram c.rescue_one.new.self) c.in_ok-rescue_one.ensures.beside c.in_ok-make_room.ensures.made.calm)
+
+-- ---- a step was refused
+
+pub returns-in_err-collect_on-clause-truth : goal.returns-in_err-collect_on-clause-truth
+returns-in_err-collect_on-clause-truth g c =
+    let p = err_from_is_err_and c.from_residual-in_err-collect_on.result c.from_residual-in_err-collect_on.ensures.1 in
+    rw (p.1, p.2) (λ honest w.
+    let room = c.in_ok-make_room.ensures.truth honest w in
+    let knows = c.in_ok-make_room.ensures.pinned honest w in
+    keeps_refused c.args.engine.now.geometry (ram c.make_room.new.engine) (ram c.collect_on.new.engine) _ _ _ _ c.make_room.ensures.leaves.geometry (keeps_room (ram c.args.engine.now) (ram c.make_room.new.engine) _ _ room knows) (c.in_err-collect_on.ensures.truth (c.make_room.ensures.leaves.honest_is ∙ honest) knows))
+
+pub returns-in_err-collect_on-clause-count : goal.returns-in_err-collect_on-clause-count
+returns-in_err-collect_on-clause-count g c =
+    let p = err_from_is_err_and c.from_residual-in_err-collect_on.result c.from_residual-in_err-collect_on.ensures.1 in
+    rw (p.1, p.2) (λ known five. step_short_of (ram c.args.engine.now) (ram c.make_room.new.engine) (ram c.collect_on.new.engine) c.requires.safe.memory c.make_room.ensures.leaves.safe.memory c.collect_on.ensures.leaves.safe.memory c.in_ok-make_room.ensures.made c.collect_on.ensures.goes (c.in_ok-make_room.ensures.count known.0 known.1 0 known.2) _ c.in_err-collect_on.ensures.counts)
+
+pub returns-in_err-collect_on-clause-ends : goal.returns-in_err-collect_on-clause-ends
+returns-in_err-collect_on-clause-ends g c =
+    let p = err_from_is_err_and c.from_residual-in_err-collect_on.result c.from_residual-in_err-collect_on.ensures.1 in
+    rw (p.1, p.2) (leaves_stuck g.N.PageSource.flash g.N.PageSource.honest g.N.PageSource.calm g.N.PageSource.failed c.args.engine.now c.collect_on.new.engine _ (leaves_then g.N.PageSource.flash g.N.PageSource.honest g.N.PageSource.calm g.N.PageSource.failed c.args.engine.now c.make_room.new.engine c.collect_on.new.engine _ _ c.in_ok-make_room.ensures.leaves c.in_err-collect_on.ensures.leaves) (limits_then _ _ _ c.make_room.ensures.keys.limits c.collect_on.ensures.limits))
+
+-- ---- a collection went on
+
+pub returns-clause-truth : goal.returns-clause-truth
+returns-clause-truth g c = λ honest w.
+    let room = c.in_ok-make_room.ensures.truth honest w in
+    let knows = c.in_ok-make_room.ensures.pinned honest w in
+    keeps_then _ _ _ _ _ _ c.make_room.ensures.leaves.geometry (keeps_room (ram c.args.engine.now) (ram c.make_room.new.engine) _ _ room knows) (c.in_ok-collect_on.ensures.truth (c.make_room.ensures.leaves.honest_is ∙ honest) knows)
+
+pub returns-clause-rescued : goal.returns-clause-rescued
+returns-clause-rescued g c = λ honest w.
+    collected_rescued (ram c.args.engine.now) (ram c.make_room.new.engine) (ram c.collect_on.new.engine) _ _ c.requires.safe.memory c.make_room.ensures.leaves.safe.memory c.collect_on.ensures.leaves.safe.memory c.in_ok-make_room.ensures.made.goes c.collect_on.ensures.goes (c.in_ok-make_room.ensures.truth honest w) c.if-needs_rescue.ensures.none (c.in_ok-collect_on.ensures.bad (c.make_room.ensures.leaves.honest_is ∙ honest) (c.in_ok-make_room.ensures.pinned honest w))
+
+pub returns-clause-worked : goal.returns-clause-worked
+returns-clause-worked g c = λ honest w some. none_worked g.N.PageSource.erases c.args.engine.now c.make_room.new.engine c.collect_on.new.engine c.in_ok-make_room.ensures.erases c.in_ok-collect_on.ensures.risen c.if-needs_rescue.ensures.none some
+
+pub returns-clause-quiet : goal.returns-clause-quiet
+returns-clause-quiet g c = λ honest w. quiet_then g.N.PageSource.erases c.args.engine.now c.make_room.new.engine c.collect_on.new.engine c.in_ok-make_room.ensures.erases c.in_ok-collect_on.ensures.risen (c.in_ok-collect_on.ensures.quiet (c.make_room.ensures.leaves.honest_is ∙ honest) (c.in_ok-make_room.ensures.pinned honest w))
+
+pub returns-clause-falls : goal.returns-clause-falls
+returns-clause-falls g c = λ honest w none. fallen_then g.N.PageSource.flash g.N.PageSource.erases c.args.engine.now c.make_room.new.engine c.collect_on.new.engine c.in_ok-make_room.ensures.erases c.in_ok-collect_on.ensures.risen (c.in_ok-collect_on.ensures.falls (c.make_room.ensures.leaves.honest_is ∙ honest) (c.in_ok-make_room.ensures.pinned honest w))
+
+pub returns-clause-count : goal.returns-clause-count
+returns-clause-count g c = λ known five. step_short (ram c.args.engine.now) (ram c.make_room.new.engine) (ram c.collect_on.new.engine) c.requires.safe.memory c.make_room.ensures.leaves.safe.memory c.collect_on.ensures.leaves.safe.memory c.in_ok-make_room.ensures.made c.collect_on.ensures.goes (c.in_ok-make_room.ensures.count known.0 known.1 0 known.2) c.in_ok-collect_on.ensures.counts
+
+pub returns-clause-ends : goal.returns-clause-ends
+returns-clause-ends g c = leaves_ends g.N.PageSource.flash g.N.PageSource.honest g.N.PageSource.calm g.N.PageSource.failed c.args.engine.now c.collect_on.new.engine (Ok tt) (leaves_then g.N.PageSource.flash g.N.PageSource.honest g.N.PageSource.calm g.N.PageSource.failed c.args.engine.now c.make_room.new.engine c.collect_on.new.engine _ _ c.in_ok-make_room.ensures.leaves c.in_ok-collect_on.ensures.leaves) (limits_then _ _ _ c.make_room.ensures.keys.limits c.collect_on.ensures.limits) c.collect_on.ensures.calm

@@ -1,9 +1,10 @@
-use Rattle.std.proofs.Common.{arith, ap, ◌∙◌}
-use Rattle.collection.specs.Safe.{ram}
+use Rattle.std.proofs.Common.{arith, ap, sym, subst, None, ◌∙◌}
+use Rattle.collection.specs.Safe.{ram, image_in}
+use Rattle.collection.specs.Truth.{IsTrue}
 use Rattle.collection.proofs.Looks.{ok_not_bus}
 use Rattle.ftl_device.proofs.CallLemmas.{mountable_kept}
 use Rattle.ftl_device.proofs.MountableLemmas.{restart_law}
-use Rattle.ftl_device.proofs.ReadLemmas.{read_step, read_done}
+use Rattle.ftl_device.proofs.ReadLemmas.{read_step, read_done, read_well}
 use Rattle.ftl_device.proofs.device.Device.read.Goals as goal
 
 pub returns-in-Ok-clause-memory : goal.returns-in-Ok-clause-memory
@@ -19,3 +20,6 @@ pub returns-in-Ok-clause-mountable : goal.returns-in-Ok-clause-mountable
 returns-in-Ok-clause-mountable g c = λ honest well not_bus most.
     let kept = ap (λ d. g.N.PageSource.flash d.engine.nand) c.remember.ensures.same ∙ c.in-Ok.ensures.looks.same honest (ok_not_bus c.in-Ok.row) in
     mountable_kept g.N.PageSource.flash c.args.self.now.engine c.remember.new.self.engine kept c.requires.device.engine.memory well.truth most
+
+pub returns-in-Ok-clause-well : goal.returns-in-Ok-clause-well
+returns-in-Ok-clause-well g c = λ honest well not_bus. read_well g.N.PageSource.flash c.args.self.now c.remember.new.self c.read_sector.new.self c.in-Ok.ensures.looks.memory (c.in-Ok.ensures.looks.same honest (ok_not_bus c.in-Ok.row)) c.remember.ensures.same c.remember.ensures.moved well (c.remember.ensures.truth _ (subst (λ r. IsTrue None r (image_in g.N.PageSource.flash c.args.self.now.engine)) (sym c.in-Ok.ensures.looks.memory) well.truth) (c.in-Ok.ensures.truth honest well.truth).found)

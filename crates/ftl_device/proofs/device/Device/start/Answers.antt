@@ -6,7 +6,7 @@ use Rattle.collection.specs.State.{Ram}
 use Rattle.collection.specs.Safe.{ram}
 use Rattle.collection.specs.Truth.{IsTrue}
 use Rattle.ftl_device.proofs.GeometryLemmas.{same_geometry}
-use Rattle.ftl_device.proofs.StartLemmas.{begun_from, started_idle, directory_row, same_scarce, started_good, started_truth, started_free, started_accounts}
+use Rattle.ftl_device.proofs.StartLemmas.{begun_from, started_calm, directory_row, same_scarce, started_good, started_truth, started_free, started_accounts}
 use Rattle.ftl_device.proofs.device.Device.start.Goals as goal
 
 geometry_is : (g h : Geometry) (claim given : Claim) → sizes_of g ≡ claim.sizes → sizes_of h ≡ given.sizes → given ≡ claim → g ≡ h
@@ -36,7 +36,7 @@ returns-in-Ok-new-clause-device g c =
       read_only = same_scarce c.free-read_only.result (ram c.in-Ok-new.engine) _ c.free-read_only.ensures c.in-Ok-new.ensures.memory;
       refuses = λ e. absurd (cc (none, e));
       spent = λ e. absurd (cc (none, e));
-      idle = λ going. started_idle (g.N.PageSource.flash c.args.nand).geometry c.args.accepted.claim c.args.accepted.stale (ram c.in-Ok-new.engine) (returns-in-Ok-new-clause-begun g c);
+      calm = λ going. started_calm (g.N.PageSource.flash c.args.nand).geometry c.args.accepted.claim c.args.accepted.stale (ram c.in-Ok-new.engine) (returns-in-Ok-new-clause-begun g c);
     }
 
 pub returns-in-Ok-new-clause-good : goal.returns-in-Ok-new-clause-good

@@ -2,7 +2,8 @@ use Rattle.std.proofs.Common.{refl}
 use Rattle.std.proofs.lemmas.Result.{err_from_is_err_and}
 use Rattle.promises.specs.Step as step
 use Rattle.collection.specs.Safe.{ram}
-use Rattle.ftl_device.specs.Calls.{HasRescued, HasWorked}
+use Rattle.ftl_device.specs.Calls.{HasRescued, HasWorked, HasFallen, IsQuiet}
+use Rattle.ftl_device.proofs.PinLemmas.{knows_well}
 use Rattle.ftl_device.proofs.CostLemmas.{done_after}
 use Rattle.ftl_device.proofs.ShownLemmas.{left_after}
 use Rattle.ftl_device.proofs.SpentLemmas.{funded_begun, five_free}
@@ -26,7 +27,13 @@ returns-clause-upkeeps g c = upkept_by g.N.PageSource.flash g.N.PageSource.hones
     })
 
 pub returns-clause-rescued : goal.returns-clause-rescued
-returns-clause-rescued g c = λ honest w. done_after (λ e. HasRescued (ram c.args.self.now.engine) (ram e)) c.turn_ready-answer.new.engine c.finish.new.self.engine c.turn_ready-answer.result c.finish.result c.good-good.result c.finish.ensures.engine c.finish.ensures.answer (c.turn_ready-answer.ensures.rescued honest w.truth)
+returns-clause-rescued g c = λ honest w. done_after (λ e. HasRescued (ram c.args.self.now.engine) (ram e)) c.turn_ready-answer.new.engine c.finish.new.self.engine c.turn_ready-answer.result c.finish.result c.good-good.result c.finish.ensures.engine c.finish.ensures.answer (c.turn_ready-answer.ensures.rescued honest (knows_well g.N.PageSource.flash c.args.self.now c.requires.device w c.in_ok-may_flush.ensures.may.going))
+
+pub returns-clause-quiet : goal.returns-clause-quiet
+returns-clause-quiet g c = λ honest w. done_after (λ e. IsQuiet g.N.PageSource.erases c.args.self.now.engine e) c.turn_ready-answer.new.engine c.finish.new.self.engine c.turn_ready-answer.result c.finish.result c.good-good.result c.finish.ensures.engine c.finish.ensures.answer (c.turn_ready-answer.ensures.quiet honest (knows_well g.N.PageSource.flash c.args.self.now c.requires.device w c.in_ok-may_flush.ensures.may.going))
+
+pub returns-clause-falls : goal.returns-clause-falls
+returns-clause-falls g c = λ honest w none. done_after (λ e. HasFallen g.N.PageSource.flash g.N.PageSource.erases c.args.self.now.engine e) c.turn_ready-answer.new.engine c.finish.new.self.engine c.turn_ready-answer.result c.finish.result c.good-good.result c.finish.ensures.engine c.finish.ensures.answer (c.turn_ready-answer.ensures.falls honest (knows_well g.N.PageSource.flash c.args.self.now c.requires.device w c.in_ok-may_flush.ensures.may.going) none)
 
 pub returns-clause-worked : goal.returns-clause-worked
-returns-clause-worked g c = λ honest w some. done_after (λ e. HasWorked (ram c.args.self.now.engine) (ram e) (g.N.PageSource.erases c.args.self.now.engine.nand) (g.N.PageSource.erases e.nand)) c.turn_ready-answer.new.engine c.finish.new.self.engine c.turn_ready-answer.result c.finish.result c.good-good.result c.finish.ensures.engine c.finish.ensures.answer (c.turn_ready-answer.ensures.worked honest w.truth some)
+returns-clause-worked g c = λ honest w some. done_after (λ e. HasWorked (ram c.args.self.now.engine) (ram e) (g.N.PageSource.erases c.args.self.now.engine.nand) (g.N.PageSource.erases e.nand)) c.turn_ready-answer.new.engine c.finish.new.self.engine c.turn_ready-answer.result c.finish.result c.good-good.result c.finish.ensures.engine c.finish.ensures.answer (c.turn_ready-answer.ensures.worked honest (knows_well g.N.PageSource.flash c.args.self.now c.requires.device w c.in_ok-may_flush.ensures.may.going) some)
