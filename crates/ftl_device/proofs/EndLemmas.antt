@@ -25,7 +25,7 @@ use Rattle.ftl_device.specs.Read.{IsLookedUp}
 use Rattle.ftl_device.specs.Shortage.{HasFunds}
 use Rattle.ftl_device.specs.Changes.{Ends, Readies, HasLookedUp}
 use Rattle.ftl_device.proofs.ReadyLemmas.{recent_kept}
-use Rattle.ftl_device.proofs.Assumed.{calm_law}
+use Rattle.collection.proofs.Lefts.{calm_law}
 use Rattle.ftl_device.proofs.PrepareLemmas.{beside_now, limits_loaded, went_loaded}
 use Rattle.ftl_device.proofs.CostLemmas.{page_tells}
 use Rattle.ftl_device.proofs.FlushLoops.{limits_then}

@@ -1,4 +1,3 @@
-pub mod Assumed
 pub mod PinLemmas
 pub mod StepLemmas
 pub mod BlockLemmas

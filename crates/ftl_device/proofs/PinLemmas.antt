@@ -18,7 +18,7 @@ use Rattle.ftl_device.specs.declared.fault.CallFault.TheVariants.{Engine as Engi
 use Rattle.ftl_device.specs.declared.device.Device.{Device}
 use Rattle.ftl_device.specs.Device.{IsDevice}
 use Rattle.ftl_device.specs.Calls.{Knows, PinIsTrue, IsWell, KeepsArray, KeepsFew, CallRefused, stop_of}
-use Rattle.ftl_device.proofs.Assumed.{calm_law, passed_law, few_law, left_law, pin_law}
+use Rattle.collection.proofs.Lefts.{calm_law, passed_law, few_law}
 
 -- ---- few pages are left
 

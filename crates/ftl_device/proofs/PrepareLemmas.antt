@@ -24,7 +24,7 @@ use Rattle.collection.specs.Pages.{newest_row}
 use Rattle.ftl_device.specs.declared.fault.CallFault.TheVariants.{Engine as EngineFault}
 use Rattle.ftl_device.specs.Calls.{Tells, Knows, KeepsArray, IsFound, CallRefused, HasMadeRoom}
 use Rattle.ftl_device.proofs.PinLemmas.{knows_beside}
-use Rattle.ftl_device.proofs.Assumed.{calm_law}
+use Rattle.collection.proofs.Lefts.{calm_law}
 use Rattle.collection.proofs.Puts.{leaves_same}
 
 -- ---- counts

@@ -30,14 +30,15 @@ use Rattle.ftl_device.specs.declared.fault.CallFault.TheVariants.{Engine as Engi
 use Rattle.ftl_device.specs.Calls.{Tells, Knows, KeepsArray, CallRefused, HasWorked, KeepsBad, HasLess, HasFallen, IsQuiet}
 use Rattle.ftl_device.specs.Shortage.{StepCounts, HasUsed}
 use Rattle.ftl_device.proofs.SpentLemmas.{used_put, failed_at}
-use Rattle.ftl_device.proofs.Assumed.{shut_fewer, left_law, pin_law}
+use Rattle.collection.proofs.Lefts.{left_any, left_law, pin_law}
+use Rattle.collection.proofs.Rooms.{shut_fewer}
 use Rattle.collection.proofs.Logs.{went_same}
 use Rattle.bad_blocks.specs.Table.{is_good}
 use Rattle.collection.specs.State.{Pin}
 use Rattle.collection.specs.Results.{Goes}
 use Rattle.collection.specs.Collect.{RoomCounts, IsAiling, RescueCosts, IsRescued}
 use Rattle.ftl_device.specs.declared.fault.CallFault.{CallFault}
-use Rattle.ftl_device.specs.Calls.{HasMadeRoom, HasRescued}
+use Rattle.ftl_device.specs.Calls.{HasMadeRoom, HasRescued, PinIsTrue, LeftBelowLaw, stop_of}
 use Rattle.ftl_device.specs.Shortage.{LacksGood, CallShort}
 use Rattle.ftl_device.proofs.ShortageLemmas.{leaves_five}
 use Rattle.ftl_device.specs.Changes.{Leaves}
@@ -354,3 +355,19 @@ rescue_works {N} erases a b c y z found t u some (inl still) same goes cost d =
     let was : HasAiling (ram a).blocks = (let P : Engine N → Type 0 = λ e. HasAiling (ram e).blocks in subst P still some) in
     inl (rescue_worked erases a b c y z found t u was (inl still) same goes cost d)
 rescue_works erases a b c y z found t u some (inr rose) same goes cost d = inl (inr (subst (HasRisen (erases a.nand)) (sym same) rose.0))
+
+-- ---- less is left than a block has pages
+
+below_by : (o : Option Pinned) (r : Ram) (x : Image) → IsRam r → IsTrue None r x → r.pin.block ≡ o → PinIsFew 1 r → left r x < r.geometry.pages
+below_by None r x s w at few = (let l : left r x ≡ r.geometry.pages - 1 = ap (λ o. left_of o r x) at in omega (arith, l, r.geometry.limits.page_count.least))
+below_by (Some p) r x s w at few = (let l : left r x ≡ left_in false r x p.block = ap (λ o. left_of o r x) at in let b = left_any r x p s w (few p at) in omega (arith, l, b))
+
+pub left_below : LeftBelowLaw
+left_below r x s w its going ne = at r.fault refl
+  where
+    at : (f : Option WriteFault) → r.fault ≡ f → left r x < r.geometry.pages
+    at None is = (let k : PinIsTrue None r x = subst (λ f. PinIsTrue f r x) is its in below_by r.pin.block r x s w refl (few_more r k.1))
+    at (Some ReadOnly) is = absurd (ne is)
+    at (Some SequenceSpent) is = (let k : PinIsTrue (Some SequenceSpent) r x = subst (λ f. PinIsTrue f r x) is its in below_by r.pin.block r x s w refl k)
+    at (Some Damaged) is = (let no : stop_of (Some Damaged) ≡ None = sym (ap stop_of is) ∙ going in let never : ⊥ = cc in absurd never)
+    at (Some Bus) is = (let no : stop_of (Some Bus) ≡ None = sym (ap stop_of is) ∙ going in let never : ⊥ = cc in absurd never)

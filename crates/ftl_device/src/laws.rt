@@ -1,5 +1,5 @@
 ghost use Rattle.ftl_device.specs.Begin.{BeginLaw, FreeLaw, GoodLaw, AccountsLaw};
-ghost use Rattle.ftl_device.specs.Calls.{StaleLaw, RestartLaw};
+ghost use Rattle.ftl_device.specs.Calls.{StaleLaw, RestartLaw, LeftBelowLaw};
 ghost use Rattle.ftl_device.specs.Counts.{FreeNowLaw, GoodNowLaw, BadNowLaw, ShortLaw};
 ghost use Rattle.ftl_device.specs.Shortage.{LeavesFiveLaw, TablesLeaveLaw};
 ghost use Rattle.ftl_device.specs.Flush.{FreshLaw, AnywhereLaw, ShownBadLaw, ShownWearLaw};
@@ -14,11 +14,13 @@ pub fn begin_laws()
 {}
 
 /// A sector that is stale in the image is cached, where none is moved, so caching it takes no memory;
-/// and what a device holds between two calls is an image that it may be started from again. (This
-/// project.)
+/// what a device holds between two calls is an image that it may be started from again; and what is
+/// left of the collection under way is less than a block's pages, unless the device is read-only.
+/// (This project.)
 pub fn restart_laws()
     ensures stale { StaleLaw }
     ensures restart { RestartLaw }
+    ensures below { LeftBelowLaw }
 {}
 
 /// At every call: the good and the free blocks of a memory that agrees with the image are those that

@@ -5,7 +5,7 @@ use Rattle.ftl_device.proofs.FlushLoops.{limits_then, keeps_then, keeps_refused,
 use Rattle.ftl_device.proofs.RoomLemmas.{keeps_room, refused_room}
 use Rattle.ftl_device.proofs.SpentLemmas.{flush_first, flush_room, flush_done, flush_stuck, flush_tables}
 use Rattle.ftl_device.proofs.LeaveLemmas.{leaves_then, leaves_ends, leaves_stuck, limits_same}
-use Rattle.ftl_device.proofs.Assumed.{calm_law}
+use Rattle.collection.proofs.Lefts.{calm_law}
 use Rattle.ftl_device.proofs.flush.flush_ready.Goals as goal
 
 pub returns-clause-flushed : goal.returns-clause-flushed

@@ -1,7 +1,7 @@
 use Rattle.std.proofs.Common.{◌∙◌, refl}
 use Rattle.std.proofs.lemmas.Result.{err_from_is_err_and}
 use Rattle.collection.specs.Safe.{ram}
-use Rattle.ftl_device.proofs.Assumed.{calm_law}
+use Rattle.collection.proofs.Lefts.{calm_law}
 use Rattle.ftl_device.proofs.PinLemmas.{beside_back}
 use Rattle.ftl_device.proofs.RoomLemmas.{keeps_room, refused_room}
 use Rattle.ftl_device.proofs.FlushLoops.{keeps_cleaned, keeps_same, back_after}

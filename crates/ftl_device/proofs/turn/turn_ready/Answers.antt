@@ -1,7 +1,7 @@
 use Rattle.std.proofs.Common.{◌∙◌, Ok, Err, refl}
 use Rattle.std.proofs.lemmas.Result.{err_from_is_err_and}
 use Rattle.collection.specs.Safe.{ram}
-use Rattle.ftl_device.proofs.Assumed.{calm_law}
+use Rattle.collection.proofs.Lefts.{calm_law}
 use Rattle.ftl_device.proofs.FlushLoops.{limits_then, engine_keeps, keeps_then, keeps_refused}
 use Rattle.ftl_device.proofs.RoomLemmas.{rescued_by, rescue_told, keeps_room, refused_room, rescue_worked}
 use Rattle.ftl_device.proofs.SpentLemmas.{rescue_short, rescue_stuck, unroomed_short}

@@ -21,5 +21,5 @@ returns-clause-upkeeps g c = upkept_by g.N.PageSource.flash g.N.PageSource.hones
       truth = c.flush_ready-answer.ensures.truth;
       lacks = λ honest w. flush_lacks c.flush_ready-answer.result (ram c.args.self.now.engine) (ram c.flush_ready-answer.new.engine) (c.flush_ready-answer.ensures.count (honest, w, funded_begun (ram c.args.self.now.engine) c.args.self.now.read_only c.requires.device.read_only c.in_ok-may_flush.ensures.may.writable));
       left = λ honest w log ro flag on. flush_left_after g.N.PageSource.flash step.Flush c.args.self.now.engine c.flush_ready-answer.new.engine c.flush_ready-answer.new.engine log c.args.self.now.read_only ro c.flush_ready-answer.result _ _ refl refl c.requires.device.engine.memory c.flush_ready-answer.ensures.ends.safe.memory c.flush_ready-answer.ensures.ends.geometry flag on refl (c.flush_ready-answer.ensures.count (honest, w, funded_begun (ram c.args.self.now.engine) c.args.self.now.read_only c.requires.device.read_only c.in_ok-may_flush.ensures.may.writable));
-      worth = λ honest w log its. flushed_out c.flush_ready-answer.result (ram c.args.self.now.engine) (ram c.flush_ready-answer.new.engine) (g.N.PageSource.flash c.args.self.now.engine.nand) (g.N.PageSource.flash c.flush_ready-answer.new.engine.nand) c.flush_ready-answer.ensures.ends.geometry c.requires.device.engine.memory c.flush_ready-answer.ensures.ends.safe.memory w (c.flush_ready-answer.ensures.truth honest w) (c.flush_ready-answer.ensures.flushed honest w) log;
+      worth = λ honest w log its. flushed_out c.flush_ready-answer.result (ram c.args.self.now.engine) (ram c.flush_ready-answer.new.engine) (g.N.PageSource.flash c.args.self.now.engine.nand) (g.N.PageSource.flash c.flush_ready-answer.new.engine.nand) c.flush_ready-answer.ensures.ends.geometry c.requires.device.engine.memory c.flush_ready-answer.ensures.ends.safe.memory w.truth (c.flush_ready-answer.ensures.truth honest w) (c.flush_ready-answer.ensures.flushed honest w) log;
     })

@@ -27,11 +27,11 @@ returns-in-Flush-clause-happened g c = λ honest w ne.
     let logs = c.flush.ensures.upkeeps.logs honest ne in
     let means = c.flush.ensures.upkeeps.means honest w ne in
     rw c.in-Flush.is (changed g.N.PageSource.flash c.args.self.now c.flush.new.self c.flush.result ne c.requires.device.engine.memory c.flush.ensures.device.engine.memory c.flush.ensures.geometry means.well logs.went c.flush.ensures.upkeeps.refuses.says (logs.shown w)
-    step.Flush c.args.bytes.now (logs.flushed w) (logs.left w) (quiet_sound _ _ c.flush.result means.step) (λ none. c.flush.ensures.upkeeps.refuses_upkeep.memory) means.step)
+    step.Flush c.args.bytes.now (logs.flushed w) (logs.left w) (quiet_sound _ _ c.flush.result means.step) (λ unpinned none. c.flush.ensures.upkeeps.refuses_upkeep.memory) means.step)
 
 pub returns-in-Turn-clause-happened : goal.returns-in-Turn-clause-happened
 returns-in-Turn-clause-happened g c = λ honest w ne.
     let logs = c.turn.ensures.upkeeps.logs honest ne in
     let means = c.turn.ensures.upkeeps.means honest w ne in
     rw c.in-Turn.is (changed g.N.PageSource.flash c.args.self.now c.turn.new.self c.turn.result ne c.requires.device.engine.memory c.turn.ensures.device.engine.memory c.turn.ensures.geometry means.well logs.went c.turn.ensures.upkeeps.refuses.says (logs.shown w)
-    step.Turn c.args.bytes.now (logs.flushed w) (logs.left w) (quiet_sound _ _ c.turn.result means.step) (λ none. c.turn.ensures.upkeeps.refuses_upkeep.memory) means.step)
+    step.Turn c.args.bytes.now (logs.flushed w) (logs.left w) (quiet_sound _ _ c.turn.result means.step) (λ unpinned none. c.turn.ensures.upkeeps.refuses_upkeep.memory) means.step)
