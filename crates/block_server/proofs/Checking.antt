@@ -1,5 +1,6 @@
 -- What was served over a checked die.
 use Rattle.std.proofs.Common.{◌≡◌, ◌≢◌, ◌⊎◌, inl, inr, ℕ, ◌≤◌, Bool, true, List, map, Option, None, Some, Result, Ok, Err, refl, sym, ap, subst, ◌∙◌}
+use Rattle.std.specs.Prelude.{is_some}
 use Rattle.page_layout.specs.declared.geometry.Geometry.{Geometry}
 use Rattle.page_layout.specs.Page.{Image, IsImage}
 use Rattle.page_layout.specs.Array.{HasOneArray}
@@ -57,8 +58,8 @@ pub refusal_is : (e : Refusal) → e ≡ Source → refused_as e ≡ refused_as 
 refusal_is e is = ap refused_as is
 
 -- the run of the headline, and its log
-record RunsLegally (g : Geometry) (c : Claim) (s t : Flash) (ro : Bool) (xs : List Exchange) : Type 0 where
-  pub run : HasRun (accepted_first g c) (accepted_device s c) (record { flash = t; ro = ro }) xs
+record RunsLegally (g : Geometry) (c : Claim) (s t : Flash) (ro pinned : Bool) (xs : List Exchange) : Type 0 where
+  pub run : HasRun (accepted_first g c) (accepted_device s c) (record { flash = t; ro = ro; pinned = pinned }) xs
   pub legal : IsLegal g s.image (is_bad_in c) (log_of run.events)
 
 -- Of a die as it was handed in, as the checker left it, and as the device gives it back.
@@ -90,21 +91,21 @@ module _ {N : Type 0} (flash : N → Flash) (honest : N → Bool) (failed : N �
 
   -- the exchanges that lead to this device
   module _ (xs : List Exchange) (e : Device N) (runs_to : RunsTo flash honest failed d xs e) where
-    runs : honest nand ≡ true → RunsLegally g c (flash nand) (flash e.engine.nand) e.read_only xs
+    runs : honest nand ≡ true → RunsLegally g c (flash nand) (flash e.engine.nand) e.read_only (is_some e.engine.pinned) xs
     runs h =
         let ran : Ran flash d xs e = (runs_to.1 (ap honest nand_is ∙ (honest_is ∙ h)) (well h)).1 in
         let from : RanFrom flash (flash checked) a.claim xs e = ran_accepted flash (flash checked) a d e xs (ap flash nand_is) begun (accepted h) (free (honest_is ∙ h) (accepted h)) (accounts (honest_is ∙ h) (accepted h)) ran in
-        let first : RunsLegally (flash checked).geometry a.claim (flash checked) (flash e.engine.nand) e.read_only xs = record { run = from.run; legal = from.legal } in
-        let then : RunsLegally (flash nand).geometry a.claim (flash nand) (flash e.engine.nand) e.read_only xs =
-        subst (λ (f : Flash). RunsLegally f.geometry a.claim f (flash e.engine.nand) e.read_only xs) (same h) first in
-        let there : RunsLegally g a.claim (flash nand) (flash e.engine.nand) e.read_only xs =
-        subst (λ k. RunsLegally k a.claim (flash nand) (flash e.engine.nand) e.read_only xs) sized then in
-        subst (λ k. RunsLegally g k (flash nand) (flash e.engine.nand) e.read_only xs) claim_is there
+        let first : RunsLegally (flash checked).geometry a.claim (flash checked) (flash e.engine.nand) e.read_only (is_some e.engine.pinned) xs = record { run = from.run; legal = from.legal } in
+        let then : RunsLegally (flash nand).geometry a.claim (flash nand) (flash e.engine.nand) e.read_only (is_some e.engine.pinned) xs =
+        subst (λ (f : Flash). RunsLegally f.geometry a.claim f (flash e.engine.nand) e.read_only (is_some e.engine.pinned) xs) (same h) first in
+        let there : RunsLegally g a.claim (flash nand) (flash e.engine.nand) e.read_only (is_some e.engine.pinned) xs =
+        subst (λ k. RunsLegally k a.claim (flash nand) (flash e.engine.nand) e.read_only (is_some e.engine.pinned) xs) sized then in
+        subst (λ k. RunsLegally g k (flash nand) (flash e.engine.nand) e.read_only (is_some e.engine.pinned) xs) claim_is there
 
     holds_to : HoldsTo flash honest nand g capacity c xs e.engine.nand
     holds_to h =
         let its = runs h in
-        record { agrees = (acceptance h).agrees; one = one_array h; ro = e.read_only; run = its.run; legal = its.legal }
+        record { agrees = (acceptance h).agrees; one = one_array h; ro = e.read_only; pinned = is_some e.engine.pinned; run = its.run; legal = its.legal }
 
     -- the call that came then, and that the bus failed in
     has_failed : (x : Exchange) (f : Device N) → AreKnown xs → x.result ≡ Err BusFault → Tells flash honest failed e x f → HasFailed failed e.engine.nand x f.engine.nand

@@ -31,7 +31,8 @@ pub record Headline (g : Geometry) (capacity : ℕ) (c : Claim) (s t : Flash) (x
   pub agrees : Agrees g capacity s.image c
   pub one : HasOneArray g s.image
   pub ro : Bool
-  pub run : HasRun (accepted_first g c) (accepted_device s c) (record { flash = t; ro = ro }) xs
+  pub pinned : Bool
+  pub run : HasRun (accepted_first g c) (accepted_device s c) (record { flash = t; ro = ro; pinned = pinned }) xs
   pub legal : IsLegal g s.image (is_bad_in c) (log_of run.events)
 
 -- the headline holds of these exchanges, which leave the die so

@@ -81,6 +81,7 @@ few_left old now new p first y z fault s s' same still within closed moved pin f
     let less : live_at new.blocks p.block ≤ live_at now.blocks p.block = refused_fewer now new p.block y z fault s s' still w (rw same within) closed refused ne in
     let e : q ≡ record { block = p.block; first = first } = (let e2 : Some (record { block = p.block; first = first }) ≡ Some q = sym pin ∙ is in let f : record { block = p.block; first = first } ≡ q = cc in sym f) in
     let at : IsFew 0 new (record { block = p.block; first = first }) = record {
+      within = rw (still, same) within;
       small = rw (still, same) (omega (arith, less, left, few.small));
       moved = rw (still, same) (omega (arith, less, fewer, moved, few.moved));
     } in
@@ -165,8 +166,8 @@ idle_half r block to idle lt closed = record { within = lt; closed = closed; pas
 pub passed_none : (r : Ram) (x : Image) (block : ℕ) → HasPassed r x (record { block = block; first = 0 })
 passed_none r x block = none_yet r.geometry.pages block x 0
 
-pub idle_few : (r : Ram) (block : ℕ) (to : Option Pinned) → IsIdle r → live_at r.blocks block ≤ vmax r.geometry → IsFew 0 (pinned_to to r) (record { block = block; first = 0 })
-idle_few r block to idle small = record { small = small; moved = (let e : length r.mapping.moved ≡ 0 = ap (λ l. length l) idle.moved in omega (arith, e, small)) }
+pub idle_few : (r : Ram) (block : ℕ) (to : Option Pinned) → block < r.geometry.blocks → IsIdle r → live_at r.blocks block ≤ vmax r.geometry → IsFew 0 (pinned_to to r) (record { block = block; first = 0 })
+idle_few r block to lt idle small = record { within = lt; small = small; moved = (let e : length r.mapping.moved ≡ 0 = ap (λ l. length l) idle.moved in omega (arith, e, small)) }
 
 -- ---- between calls
 

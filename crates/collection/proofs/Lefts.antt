@@ -215,13 +215,13 @@ few_fit g v m even le small =
     omega arith
 
 pub left_law : Rattle.collection.specs.Left.LeftLaw
-left_law r x p s w lt few =
-    let e = touched_few r x p.block s w lt in
+left_law r x p s w few =
+    let e = touched_few r x p.block s w few.within in
     let f = few_fit r.geometry (live_at r.blocks p.block) (length r.mapping.moved) (even_pages r.geometry) few.moved few.small in
     omega (arith, e, f)
 
 pub pin_law : Rattle.collection.specs.Left.PinLaw
-pin_law r p none small = record { small = small; moved = (let e : length r.mapping.moved ≡ 0 = ap (λ l. length l) none in omega (arith, e, small)) }
+pin_law r p lt none small = record { within = lt; small = small; moved = (let e : length r.mapping.moved ≡ 0 = ap (λ l. length l) none in omega (arith, e, small)) }
 
 -- ---- other calls
 
@@ -279,6 +279,7 @@ few_law extra r r' x y s s' w w' calm f l few = λ p is.
     let small = it.small in
     let moved = it.moved in
     record {
+      within = (let lt = half.within in rw f.goes.geometry lt);
       small = omega (arith, fewer, same, small);
       moved = omega (arith, fewer, same, moved, f.fewer);
     }

@@ -87,7 +87,7 @@ module _ (fault : Option WriteFault) where
   calm_noted b (Err f) k = tt
 
   pub few_noted : (b : Ram) → PinIsFew 0 b → PinIsFew 0 (record b { fault = fault })
-  few_noted b k = λ p is. (let few = k p is in record { small = few.small; moved = few.moved })
+  few_noted b k = λ p is. (let few = k p is in record { within = few.within; small = few.small; moved = few.moved })
 
   pub rescued_noted : (a b : Ram) (x y : Image) (result : Result Bool WriteFault) → MatchResult result (IsRescued a x b y) (Refused a x b y) → MatchResult result (IsRescued a x (record b { fault = fault }) y) (Refused a x (record b { fault = fault }) y)
   rescued_noted a b x y (Ok found) k = record { same = same_noted fault a b x y k.same; some = k.some; none = k.none; bad = k.bad }

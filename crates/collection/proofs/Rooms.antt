@@ -2,7 +2,7 @@
 use Rattle.std.proofs.Common.{◌≡◌, ◌≢◌, ◌⊎◌, inl, inr, ℕ, zero, suc, ◌&&◌, ◌==◌, length, ◌+◌, ◌/◌, ◌<◌, ◌≤◌, ◌^◌, Bool, true, false, not, ◌||◌, List, [], ◌∷◌, count_by, Option}
 use Rattle.std.proofs.Common.{Some, None, Result, Ok, Err, MatchOption, refl, ap, sym, ◌∙◌, subst, arith}
 use Rattle.std.proofs.lemmas.Bool.{cases_lt, eqb-true}
-use Rattle.std.specs.Prelude.{IfErr}
+use Rattle.std.specs.Prelude.{IfErr, MatchResult}
 use Rattle.page_layout.specs.declared.geometry.Geometry.{Geometry}
 use Rattle.page_layout.specs.declared.record.Key.{Key}
 use Rattle.page_layout.specs.Geometry.{need, vmax}
@@ -233,3 +233,8 @@ made_some r o block m is = (let P : Option ℕ → Type 0 = λ x. MatchOption x 
 pub final_counts : (failures : ℕ) (a b : Ram) (y : Image) (result : Result (Unit {0}) WriteFault) → IsTrue None b y → b.geometry ≡ a.geometry → IsMade 0 b → IsFundedOn failures a b → IfErr result (λ fault. (fault ≡ ReadOnly) × (free_count b.blocks < 5)) → RoomCounts failures a b result
 final_counts failures a b y (Ok u) w same room f few = regained failures a b y w same room f
 final_counts failures a b y (Err fault) w same room f few = (let P : WriteFault → Type 0 = λ e. RoomCounts failures a b (Err e) in subst P (sym few.0) (too_few failures a b y w same room few.1))
+
+-- the answer of the last look at the free blocks
+pub enough_truth : (a b : Ram) (x y : Image) (result : Result (Unit {0}) WriteFault) → IsRearranged a x b y → IfErr result (λ fault. (fault ≡ ReadOnly) × (free_count b.blocks < 5)) → MatchResult result (λ u. IsRearranged a x b y) (RoomRefused a x b y)
+enough_truth a b x y (Ok u) k few = k
+enough_truth a b x y (Err fault) k few = (let P : WriteFault → Type 0 = λ f. RoomRefused a x b y f in subst P (sym few.0) k)

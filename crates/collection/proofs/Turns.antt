@@ -24,7 +24,7 @@ use Rattle.collection.specs.Live.{HoldsNoneIn, IsLivePage, FindsFirst, IsFirstLi
 use Rattle.collection.specs.Results.{Goes, fault_after}
 use Rattle.collection.specs.Collect.{Refreshes, StepCosts, FaultCosts, IsStepped}
 use Rattle.collection.specs.Whole.{erases_after}
-use Rattle.collection.specs.Left.{IsHalfDone, IsCalm, IsFew, HasPassed, TouchesNoMore, StepsOn, is_touched, told, pin_after, pinned_to}
+use Rattle.collection.specs.Left.{IsHalfDone, IsCalm, IsFew, HasPassed, TouchesNoMore, HasStepped, StepsOn, is_touched, told, pin_after, pinned_to}
 use Rattle.collection.specs.Turns.{Advances, erases_told}
 use Rattle.collection.proofs.Gates.{goes_noted, refused_noted}
 use Rattle.collection.proofs.Noted.{but_noted, fresh_noted}
@@ -120,13 +120,18 @@ calm_on r b block pages done same unmarked next half idle = record {
     by None is = (idle (none_erased block pages done (sym next ∙ is))).moved
     by (Some q) is = half q is
 
+pub stepped_on : (flushing : Bool) (p : Pinned) (r b : Ram) (done : Progress) → StepCosts flushing p.block p.first r b (Ok done) → b.pin.block ≡ pin_after p.block r.geometry.pages done → HasStepped flushing p r b (told done)
+stepped_on flushing p r b (step.Copied page) (low, high, c, f) next = record { cost = c; next = (page, low, high, next) }
+stepped_on flushing p r b step.WroteBack c next = record { cost = c; next = next }
+stepped_on flushing p r b step.Erased (none, c) next = record { cost = c; next = next }
+
 few_on : (r b : Ram) (p q : Pinned) → q.block ≡ p.block → b.geometry ≡ r.geometry → live_at b.blocks p.block ≤ live_at r.blocks p.block → live_at b.blocks p.block + length b.mapping.moved ≤ live_at r.blocks p.block + length r.mapping.moved → IsFew 0 r p → IsFew 0 b q
 few_on r b p q at same fewer sum few =
     let small = few.small in
     let moved = few.moved in
     let size : vmax b.geometry ≡ vmax r.geometry = ap vmax same in
     let live : live_at b.blocks q.block ≡ live_at b.blocks p.block = ap (live_at b.blocks) at in
-    record { small = omega arith; moved = omega arith }
+    record { within = (let lt = few.within in rw (same, at) lt); small = omega arith; moved = omega arith }
 
 -- a block without newest pages has none among its first
 none_in : (pages block : ℕ) (image : Image) → HoldsNone pages block image → HoldsNoneIn pages block 0 pages image

@@ -1,5 +1,5 @@
 -- A block that is collected from turn to turn, and how much of its collection is left.
-use Rattle.std.specs.Prelude.{◌≡◌, ◌≢◌, ℕ, ◌+◌, ◌-◌, ◌/◌, ◌<◌, ◌≤◌, ◌==◌, ◌||◌, Bool, true, false, not, List, [], length, replicate, filter, count_by, Option, Some, None, Ok, MatchOption}
+use Rattle.std.specs.Prelude.{◌≡◌, ◌≢◌, ℕ, ◌+◌, ◌-◌, ◌/◌, ◌<◌, ◌≤◌, ◌==◌, ◌||◌, Bool, true, false, not, List, [], length, replicate, filter, count_by, Option, Some, None, MatchOption}
 use Rattle.std.specs.List.{range_with_len}
 use Rattle.std.specs.Option.{ForSome}
 use Rattle.page_layout.specs.declared.geometry.Geometry.{Geometry}
@@ -19,7 +19,7 @@ use Rattle.collection.specs.Live.{HoldsNoneIn}
 use Rattle.collection.specs.Safe.{IsRam}
 use Rattle.collection.specs.Truth.{IsTrue}
 use Rattle.collection.specs.Results.{Goes, Leaves, IsSame}
-use Rattle.collection.specs.Collect.{is_due, has_moved, HasWritten, StepCosts}
+use Rattle.collection.specs.Collect.{is_due, has_moved, HasCopied, HasWritten, HasErased}
 
 -- ---- how much is left
 
@@ -68,6 +68,7 @@ pub record IsCalm (r : Ram) : Type 0 where
 -- of a block with few newest pages: those that it still has and the sectors that are moved are no more than the pages of a victim worth
 -- collecting, but for so many
 pub record IsFew (extra : ℕ) (r : Ram) (p : Pinned) : Type 0 where
+  pub within : p.block < r.geometry.blocks
   pub small : live_at r.blocks p.block ≤ vmax r.geometry
   pub moved : live_at r.blocks p.block + length r.mapping.moved ≤ vmax r.geometry + extra
 
@@ -113,12 +114,22 @@ pin_after block pages progress.Erased = None
 abbrev pub pinned_to : Option Pinned → Ram → Ram
 pinned_to to r = record r { pin = record { block = to; marks = r.pin.marks } }
 
--- A STEP THAT IS DONE, whatever the die does: what it cost, and what is pinned then
+-- what a step costs: a copy, a translation page, or the erase
+abbrev pub StepSpends : Bool → Pinned → Ram → Ram → Step → Type 0
+StepSpends flushing p old new Copied = HasCopied flushing old new
+StepSpends flushing p old new WroteBack = HasWritten flushing old new
+StepSpends flushing p old new Erased = HasErased p.block old new
+
+-- and what is pinned then: the block from the page on that follows the copied one; once all were copied, from the end on; nothing after the erase
+abbrev pub PinsOn : ℕ → Pinned → Option Pinned → Step → Type 0
+PinsOn pages p pin Copied = (page : ℕ) × (p.first ≤ page) × (page < pages) × (pin ≡ Some (record { block = p.block; first = page + 1 }))
+PinsOn pages p pin WroteBack = pin ≡ Some (record { block = p.block; first = pages })
+PinsOn pages p pin Erased = pin ≡ None
+
+-- A STEP THAT IS DONE, whatever the die does
 pub record HasStepped (flushing : Bool) (p : Pinned) (old new : Ram) (step : Step) : Type 0 where
-  pub its : Progress
-  pub told_is : step ≡ told its
-  pub cost : StepCosts flushing p.block p.first old new (Ok its)
-  pub next : new.pin.block ≡ pin_after p.block old.geometry.pages its
+  pub cost : StepSpends flushing p old new step
+  pub next : PinsOn old.geometry.pages p new.pin.block step
 
 -- WHERE THE DIE IS HONEST: the array is as it was, a copy leaves the block one newest page less, the other steps find none in it, and each but the
 -- erase leaves less to do
@@ -134,11 +145,11 @@ pub record StepsOn (flushing : Bool) (p : Pinned) (old : Ram) (before : Image) (
 
 -- THE NUMBER LEFT IS BELOW THE PAGES OF A BLOCK, also where a rescue has moved one sector more and then found no sequence
 abbrev pub LeftLaw : Type 0
-LeftLaw = (r : Ram) (image : Image) (p : Pinned) → IsRam r → IsTrue None r image → p.block < r.geometry.blocks → IsFew 1 r p → left_in false r image p.block < r.geometry.pages
+LeftLaw = (r : Ram) (image : Image) (p : Pinned) → IsRam r → IsTrue None r image → IsFew 1 r p → left_in false r image p.block < r.geometry.pages
 
 -- as few as of a victim worth collecting, where nothing is moved yet
 abbrev pub PinLaw : Type 0
-PinLaw = (r : Ram) (p : Pinned) → r.mapping.moved ≡ [] → live_at r.blocks p.block ≤ vmax r.geometry → IsFew 0 r p
+PinLaw = (r : Ram) (p : Pinned) → p.block < r.geometry.blocks → r.mapping.moved ≡ [] → live_at r.blocks p.block ≤ vmax r.geometry → IsFew 0 r p
 
 -- ANOTHER CALL NEVER RAISES IT
 abbrev pub KeptLaw : Type 0

@@ -1,6 +1,7 @@
 -- A run that begins with an accepted certificate.
 use Rattle.std.proofs.Common.{◌≡◌, ◌↔◌, ℕ, ◌+◌, ◌<◌, min, true, Bool, not, List, [], ◌∷◌, ◌++◌, ◌&&◌, ◌||◌, inl, inr, None, Result, Ok, Err, sym, ap}
-use Rattle.std.proofs.Common.{subst, ◌∙◌, arith}
+use Rattle.std.proofs.Common.{subst, ◌∙◌, arith, false}
+use Rattle.std.specs.Prelude.{is_some}
 use Rattle.std.specs.List.{list_all}
 use Rattle.page_layout.specs.declared.geometry.Geometry.{Geometry}
 use Rattle.page_layout.specs.Page.{Image}
@@ -135,8 +136,9 @@ ran_accepted {N} flash s a d new calls die is accepted scarce accounts ran =
     let c = a.claim in
     let first : runs.DeviceView = accepted_device s c in
     let its = accounts_of s.geometry s.image (is_bad_in c) in
-    let as_device : Flash → Bool → runs.DeviceView = λ f ro. record { flash = f; ro = ro } in
-    let begins : die_in flash d ≡ first = ap (λ f. as_device f d.read_only) die ∙ ap (as_device s) scarce in
+    let as_device : Flash → Bool → Bool → runs.DeviceView = λ f ro pinned. record { flash = f; ro = ro; pinned = pinned } in
+    let unpinned : is_some d.engine.pinned ≡ false = ap (λ (r : Ram). is_some r.pin.block) is in
+    let begins : die_in flash d ≡ first = ap (λ f. as_device f d.read_only (is_some d.engine.pinned)) die ∙ (ap (λ ro. as_device s ro (is_some d.engine.pinned)) scarce ∙ ap (as_device s (is_scarce (free_in s.geometry c s.image))) unpinned) in
     let whole : RanWith flash (ram d.engine) (die_in flash d) its calls new = record { run = ran.run; legal = ran.follows.legal its accounts; next = ran.next } in
     let there : RanWith flash (begun_ram s.geometry c a.stale) first its calls new =
     subst (λ r. RanWith flash r first its calls new) is (subst (λ o. RanWith flash (ram d.engine) o its calls new) begins whole) in

@@ -22,7 +22,6 @@ use Rattle.allocation.specs.Counts.{counts_of}
 use Rattle.collection.specs.declared.fault.WriteFault.{WriteFault}
 use Rattle.collection.specs.declared.fault.WriteFault.TheVariants.{ReadOnly, SequenceSpent, Damaged, Bus}
 use Rattle.collection.specs.State.{Ram}
-use Rattle.collection.specs.Truth.{IsTrue}
 use Rattle.collection.specs.Tables.{SpellsTable}
 use Rattle.collection.specs.Safe.{IsRam}
 use Rattle.collection.specs.Cost.{HasPut, HasRunOut, PageCosts}

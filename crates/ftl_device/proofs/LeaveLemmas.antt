@@ -1,5 +1,5 @@
 -- Calls of the engine one after another, where no fault stood.
-use Rattle.std.proofs.Common.{◌≡◌, ◌≤◌, ◌∙◌, Bool, ℕ, length, None, Some, Result, Ok, Err, refl, ap, arith}
+use Rattle.std.proofs.Common.{◌≡◌, ◌≤◌, ◌∙◌, Bool, ℕ, None, Some, Result, Ok, Err, refl, ap, arith}
 use Rattle.bad_blocks.specs.Table.{good_count}
 use Rattle.page_layout.specs.Flash.{Flash}
 use Rattle.mapping_cache.specs.Mapping.{MappingState, HasLimitsOf}

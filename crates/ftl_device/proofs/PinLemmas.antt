@@ -1,29 +1,27 @@
 -- What is known of a pinned block, and what calls leave of it that are no step.
-use Rattle.std.proofs.Common.{◌≡◌, ◌≢◌, ◌⊎◌, ℕ, ◌<◌, ◌≤◌, ◌∙◌, inl, inr, Bool, true, None, Option, Some, Result, Ok, Err, OnOk, OnErr, MatchResult, MatchOption, [], refl, sym, ap, subst, arith}
-use Rattle.page_layout.specs.declared.geometry.Geometry.{Geometry}
+use Rattle.std.proofs.Common.{◌≡◌, ℕ, inl, inr, None, Result, Ok, Err, OnOk, OnErr, MatchOption, [], refl, subst, arith}
 use Rattle.page_layout.specs.Page.{Image}
 use Rattle.page_layout.specs.Flash.{Flash}
-use Rattle.mapping_cache.specs.Mapping.{MappingState, cleaned}
-use Rattle.collection.specs.declared.engine.Engine.{Engine}
+use Rattle.mapping_cache.specs.Mapping.{cleaned}
 use Rattle.collection.specs.declared.fault.WriteFault.{WriteFault}
 use Rattle.collection.specs.declared.fault.WriteFault.TheVariants.{ReadOnly, SequenceSpent, Damaged, Bus}
 use Rattle.collection.specs.State.{Ram}
 use Rattle.collection.specs.Safe.{IsRam, ram, image_in}
 use Rattle.collection.specs.Truth.{IsTrue}
 use Rattle.collection.specs.Results.{Leaves, IsSame, Goes, Refused}
-use Rattle.collection.specs.Left.{IsCalm, IsHalfDone, LeavesPin, PinHasPassed, PinIsFew}
+use Rattle.collection.specs.Left.{IsCalm, IsHalfDone, LeavesPin, PinIsFew}
 use Rattle.collection.proofs.Memory.{goes_same}
 use Rattle.collection.proofs.Beside.{beside_same, beside_written}
 use Rattle.ftl_device.specs.declared.fault.CallFault.TheVariants.{Engine as EngineFault}
 use Rattle.ftl_device.specs.declared.device.Device.{Device}
 use Rattle.ftl_device.specs.Device.{IsDevice}
-use Rattle.ftl_device.specs.Calls.{Knows, PinIsTrue, IsWell, KeepsArray, KeepsFew, CallRefused, stop_of}
+use Rattle.ftl_device.specs.Calls.{Knows, PinIsTrue, IsWell, KeepsArray, CallRefused}
 use Rattle.collection.proofs.Lefts.{calm_law, passed_law, few_law}
 
 -- ---- few pages are left
 
 pub few_more : (r : Ram) → PinIsFew 0 r → PinIsFew 1 r
-few_more r few p is = (let h = few p is in record { small = h.small; moved = omega (arith, h.moved) })
+few_more r few p is = (let h = few p is in record { within = h.within; small = h.small; moved = omega (arith, h.moved) })
 
 -- ---- a call that is no step
 

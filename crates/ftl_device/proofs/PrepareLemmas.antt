@@ -14,12 +14,10 @@ use Rattle.collection.specs.State.{Ram}
 use Rattle.collection.specs.Safe.{IsRam, ram, image_in}
 use Rattle.collection.specs.Left.{IsCalm, IsHalfDone, LeavesPin, PinHasPassed, PinIsFew}
 use Rattle.collection.specs.declared.engine.Pinned.{Pinned}
-use Rattle.collection.proofs.Beside.{beside_same, beside_loaded}
-use Rattle.collection.proofs.Memory.{goes_same}
+use Rattle.collection.proofs.Beside.{beside_loaded}
 use Rattle.collection.specs.Truth.{IsTrue}
 use Rattle.collection.specs.Log.{Went}
 use Rattle.collection.specs.Looks.{IsReadFault}
-use Rattle.collection.specs.Settle.{HasNoMore}
 use Rattle.collection.specs.Pages.{newest_row}
 use Rattle.ftl_device.specs.declared.fault.CallFault.TheVariants.{Engine as EngineFault}
 use Rattle.ftl_device.specs.Calls.{Tells, Knows, KeepsArray, IsFound, CallRefused, HasMadeRoom}
@@ -68,7 +66,7 @@ module _ (c d : Ram) (fault : Option WriteFault) (is : d ≡ record c { fault = 
     truth = truth_found x k.truth;
     calm = calm_found k.calm;
     passed = (let P : Ram → Type 0 = λ r. PinHasPassed r x in subst P (sym is) (λ p at. k.passed p at));
-    few = subst (PinIsFew 0) (sym is) (λ p at. (let h = k.few p at in record { small = h.small; moved = h.moved }));
+    few = subst (PinIsFew 0) (sym is) (λ p at. (let h = k.few p at in record { within = h.within; small = h.small; moved = h.moved }));
   }
 
   pub found_after : (result : Result (Option ℕ) WriteFault) (n : ℕ) (g : Geometry) (x : Image) (t u : Flash) → KeepsArray g x c t.image → (result ≢ Err Bus → u ≡ t)

@@ -1,5 +1,5 @@
 -- What a look-up makes of the mapping, and what a read gives.
-use Rattle.std.proofs.Common.{◌≡◌, ◌⊎◌, ℕ, ◌<◌, ◌==◌, Bool, true, false, eqb, List, [], ◌∷◌, length, get_or, slice_get, Option, Some, None, IsSome, Result, Ok, Err, MatchOption, refl, sym}
+use Rattle.std.proofs.Common.{◌≡◌, ℕ, ◌<◌, ◌==◌, Bool, true, false, eqb, List, [], ◌∷◌, length, get_or, slice_get, Option, Some, None, IsSome, Result, Ok, Err, MatchOption, refl, sym}
 use Rattle.std.proofs.Common.{ap, subst, ◌∙◌, inl, inr, arith}
 use Rattle.std.specs.Prelude.{IsOk, IfOk, OnOk, OnErr, is_some}
 use Rattle.std.specs.Map.{lookup}
@@ -32,7 +32,7 @@ use Rattle.collection.specs.Safe.{IsSafe, ram, image_in, page_in}
 use Rattle.collection.specs.Looks.{IsRead, FindsRow, GivesSector}
 use Rattle.ftl_device.specs.declared.device.Device.{Device}
 use Rattle.ftl_device.specs.Calls.{array_in, state_in}
-use Rattle.ftl_device.specs.Read.{LooksUp, IsCachedNow, IsLookedUp, HasRead}
+use Rattle.ftl_device.specs.Read.{LooksUp, IsLookedUp, HasRead}
 
 module _ (m : MappingState) (n : ℕ) (row : Option ℕ) (v : IsMapping m) where
   lacking_by : CanLoad m n → (o : Option Slot) → slot_of m n ≡ o → (k : ℕ) → pending (loaded_by o m n row) k ≡ pending m k
@@ -128,7 +128,7 @@ calm_mapped a b is moved k = subst IsCalm (sym is) (record { unmarked = k.unmark
     half (Some p) h = record { within = h.within; closed = h.closed; passed = (let e : length b.mapping.moved ≡ length a.mapping.moved = ap (λ (l : List (ℕ × ℕ)). length l) moved in omega (arith, h.passed)); on_die = h.on_die }
 
 few_mapped : (extra : ℕ) (a b : Ram) → b ≡ record a { mapping = b.mapping } → b.mapping.moved ≡ a.mapping.moved → PinIsFew extra a → PinIsFew extra b
-few_mapped extra a b is moved few = subst (PinIsFew extra) (sym is) (λ p at. (let h = few p at in record { small = h.small; moved = (let e : length b.mapping.moved ≡ length a.mapping.moved = ap (λ (l : List (ℕ × ℕ)). length l) moved in omega (arith, h.moved)) }))
+few_mapped extra a b is moved few = subst (PinIsFew extra) (sym is) (λ p at. (let h = few p at in record { within = h.within; small = h.small; moved = (let e : length b.mapping.moved ≡ length a.mapping.moved = ap (λ (l : List (ℕ × ℕ)). length l) moved in omega (arith, h.moved)) }))
 
 passed_mapped : (a b : Ram) (x : Image) → b ≡ record a { mapping = b.mapping } → PinHasPassed a x → PinHasPassed b x
 passed_mapped a b x is passed = (let P : Ram → Type 0 = λ r. PinHasPassed r x in subst P (sym is) (λ p at. passed p at))

@@ -1,6 +1,6 @@
 -- What making room leaves, and what no call moves.
 use Rattle.std.proofs.Common.{◌≡◌, ◌≢◌, ℕ, zero, suc, ◌+◌, ◌/◌, ◌<◌, ◌≤◌, ◌∙◌, inl, inr, Bool, true, false, not, ◌||◌, cond, List, [], ◌∷◌, length}
-use Rattle.std.proofs.Common.{get_or, replicate, Option, Some, None, Result, Ok, Err, OnOk, IfErr, MatchResult, refl, sym, ap, subst, arith}
+use Rattle.std.proofs.Common.{get_or, Option, Some, None, Result, Ok, Err, OnOk, IfErr, MatchResult, refl, sym, ap, subst, arith}
 use Rattle.std.proofs.lemmas.List.{get_or-replicate}
 use Rattle.std.proofs.lemmas.List.Sums.{sum_by-cons}
 use Rattle.page_layout.specs.declared.geometry.Geometry.{Geometry}
@@ -9,17 +9,15 @@ use Rattle.page_layout.specs.Geometry.{entries, translation_pages}
 use Rattle.bad_blocks.specs.declared.table.TableRow.{TableRow}
 use Rattle.bad_blocks.specs.Table.{is_good, is_good_at, good_count}
 use Rattle.allocation.specs.State.{State, live_at, is_closed}
-use Rattle.mapping_cache.specs.Mapping.{per_page, loaded}
+use Rattle.mapping_cache.specs.Mapping.{per_page}
 use Rattle.collection.specs.declared.engine.Engine.{Engine}
 use Rattle.collection.specs.declared.fault.WriteFault.{WriteFault}
 use Rattle.collection.specs.declared.fault.WriteFault.TheVariants.{ReadOnly, SequenceSpent, Damaged, Bus}
-use Rattle.collection.specs.State.{Ram, Pin}
+use Rattle.collection.specs.State.{Ram}
 use Rattle.collection.specs.Safe.{IsRam, is_shut, ram, image_in}
 use Rattle.collection.specs.Left.{IsCalm, PinIsFew}
-use Rattle.collection.specs.Truth.{IsTrue}
 use Rattle.collection.specs.Acts.{RestsOrErases}
 use Rattle.page_layout.specs.Flash.{Flash}
-use Rattle.collection.specs.Settle.{HasNoMore}
 use Rattle.collection.specs.Results.{Goes, fault_after}
 use Rattle.collection.specs.Collect.{GoesOn, KeepsKeys, Refreshes, IsUpToDate, HasRoom, RoomTells, IsRearranged, RoomRefused}
 use Rattle.collection.specs.Collect.{IsAiling, HasAiling, HasNoneAiling, RescueCosts, IsRescued}

@@ -1,7 +1,7 @@
 -- A run goes on by one call.
-use Rattle.std.proofs.Common.{◌≡◌, ◌≢◌, ◌↔◌, ℕ, ◌+◌, ◌<◌, ◌≤◌, min, inl, inr, Bool, true, List, [], ◌∷◌, ◌++◌, Result, Ok, Err, refl, sym, ap, subst}
+use Rattle.std.proofs.Common.{◌≡◌, ◌≢◌, ◌↔◌, ℕ, ◌+◌, ◌<◌, ◌≤◌, min, inl, inr, Bool, true, not, ◌&&◌, List, [], ◌∷◌, ◌++◌, Option, Some, Result, Ok, Err, refl, sym, ap, subst}
 use Rattle.std.proofs.Common.{◌∙◌, None, arith, append_assoc}
-use Rattle.std.specs.Prelude.{IfErr}
+use Rattle.std.specs.Prelude.{IfErr, is_some}
 use Rattle.std.proofs.lemmas.List.{map-append, append-nil}
 use Rattle.page_layout.specs.declared.geometry.Geometry.{Geometry}
 use Rattle.page_layout.specs.Page.{Image, Page}
@@ -89,6 +89,11 @@ no_memory : (result : Result (Unit {0}) DeviceFault) → IfErr result IsReadRefu
 no_memory (Ok done) of_read e = (let no : ⊥ = cc in no)
 no_memory (Err fault) of_read e = (let same : fault ≡ OutOfMemory = cc in subst IsReadRefusal same of_read)
 
+-- no block was pinned, and the sector was stale
+pub unpinned_stale : {A : Type 0} (pinned : Option A) (stale : Bool) → (not (is_some pinned) && stale) ≡ true → (pinned ≡ None) × (stale ≡ true)
+unpinned_stale None stale is = (refl, is)
+unpinned_stale (Some p) stale is = (let no : ⊥ = cc in absurd no)
+
 -- a step isn't answered `Damaged`
 pub write_sound : (g : Geometry) (s t : step.State) (n : ℕ) (bytes : List ℕ) (result : Result (Unit {0}) DeviceFault) → WriteStep g s n bytes (reply_of result) t → NoDamage result
 write_sound g s t n bytes (Ok done) is = tt
@@ -114,7 +119,7 @@ module _ {N : Type 0} (flash : N → Flash) (old new : Device N) (result : Resul
   read_happened n bytes p q is kept leaves flag of_read = record {
     step = is;
     went = went_none (ram old.engine) (ram new.engine) (flash old.engine.nand) (flash new.engine.nand) (leaves_mapping n result (ram old.engine) (ram new.engine) p q bytes leaves ne) kept;
-    stale = λ unpinned old_entry. no_memory result of_read;
+    stale = λ any. no_memory result of_read;
     shown = λ bad next before bads spent. read_shown old.engine.geometry bad next before [] old.read_only (image_in flash new.engine) n bytes (state_in flash old) (state_in flash new) result of_read is ne;
     flushed = λ is. (let no : ⊥ = cc in absurd no);
     left = λ bad before bads on. read_left old.engine.geometry bad before [] old.read_only n result (sym flag ∙ on);
@@ -123,7 +128,7 @@ module _ {N : Type 0} (flash : N → Flash) (old new : Device N) (result : Resul
   module _ (safe : IsRam (ram old.engine)) (safe' : IsRam (ram new.engine)) (sized : new.engine.geometry ≡ old.engine.geometry) (well : IsWell flash new) (w : Went (ram old.engine) (flash old.engine.nand) (ram new.engine) (flash new.engine.nand)) (says : IfErr result (Says (ram old.engine) (ram new.engine)))
       (shown : IfErr result (IsShown old.engine.geometry (is_bad_by (ram old.engine)) old.engine.next [] w.log old.read_only (image_in flash new.engine))) where
     -- a call that may change sectors
-    pub changed : (command : step.Command) (bytes : List ℕ) → (is_flush command ≡ true → result ≡ Ok tt → IsFlushedOut (first_of (ram old.engine)) w.log (image_in flash new.engine)) → (new.read_only ≡ true → IsLeft command old.engine.geometry (is_bad_by (ram old.engine)) [] w.log old.read_only result) → NoDamage result → (old.engine.pinned ≡ None → needs_no_memory old.engine.geometry (image_in flash old.engine) command ≡ true → result ≢ Err OutOfMemory) → ArrayStep old.engine.geometry (state_in flash old) command (answer_to command bytes result) (state_in flash new) → Happened flash old (record { command = command; result = result; bytes = bytes }) new
+    pub changed : (command : step.Command) (bytes : List ℕ) → (is_flush command ≡ true → result ≡ Ok tt → IsFlushedOut (first_of (ram old.engine)) w.log (image_in flash new.engine)) → (new.read_only ≡ true → IsLeft command old.engine.geometry (is_bad_by (ram old.engine)) [] w.log old.read_only result) → NoDamage result → (needs_no_memory (is_some old.engine.pinned) old.engine.geometry (image_in flash old.engine) command ≡ true → result ≢ Err OutOfMemory) → ArrayStep old.engine.geometry (state_in flash old) command (answer_to command bytes result) (state_in flash new) → Happened flash old (record { command = command; result = result; bytes = bytes }) new
     changed command bytes flushed left is stale whole = record {
       flushed = flushed;
       step = whole;
@@ -223,7 +228,7 @@ module _ {N : Type 0} (flash : N → Flash) (old mid new : Device N) (done : Lis
         let its = h.flushed is done in
         let mid_bad : (b : ℕ) → b < mid.engine.geometry.blocks → is_bad_by (ram new.engine) b ≡ bad_of mid.engine.geometry.pages (is_bad_by (ram mid.engine)) h.went.log b = λ b lt. bad_now_law (ram mid.engine) (ram new.engine) h.went.log b mid_safe.blocks_of h.went.follows lt in
         flushed_then (ram old.engine) (ram mid.engine) (ram new.engine) (log_of ran.run.events) h.went.log (image_in flash new.engine) sized most ran.wears mid_bad (bads_then mid.engine.geometry sized) its;
-    stale = λ old_entry e. h.stale ? (subst (λ (g : Geometry). needs_no_memory g (image_in flash mid.engine) x.command ≡ true) (sym sized) old_entry) e;
+    stale = λ need e. h.stale (subst (λ (g : Geometry). needs_no_memory (is_some mid.engine.pinned) g (image_in flash mid.engine) x.command ≡ true) (sym sized) need) e;
     mountable = λ most. mountable_after flash old.engine new new.engine refl (sized' ∙ sized) limits safe' well most;
   }
 

@@ -5,7 +5,7 @@ use Rattle.page_layout.specs.Counter.{counted, HasRisen}
 use Rattle.page_layout.specs.declared.geometry.Geometry.{Geometry}
 use Rattle.page_layout.specs.Page.{Image}
 use Rattle.page_layout.specs.Flash.{Flash}
-use Rattle.page_layout.specs.Geometry.{vmax, need}
+use Rattle.page_layout.specs.Geometry.{vmax}
 use Rattle.page_layout.specs.Array.{marks}
 use Rattle.bad_blocks.specs.Table.{is_good_at, good_count}
 use Rattle.budget.specs.declared.stream.Stream.TheVariants.{Meta}
@@ -20,17 +20,16 @@ use Rattle.collection.specs.State.{Ram}
 use Rattle.collection.specs.Safe.{IsSafe, IsRam, is_shut, ram, image_in}
 use Rattle.collection.specs.Truth.{IsTrue}
 use Rattle.collection.specs.Results.{IsSame, Refused}
-use Rattle.collection.specs.Collect.{GoesBut, GoesOn, KeepsKeys, HasCopied, HasWritten, FaultCosts, IsRearranged, HasAiling, HasNoneAiling}
-use Rattle.collection.specs.Left.{IsCalm, IsHalfDone, PinIsFew, PinHasPassed, StepsOn, HasStepped, left, left_in, left_of}
-use Rattle.collection.proofs.Told.{StepSpends, spends, stays_pinned}
-use Rattle.collection.specs.Turns.{Advances, erases_told}
+use Rattle.collection.specs.Collect.{GoesBut, GoesOn, FaultCosts, IsRearranged, HasAiling, HasNoneAiling}
+use Rattle.collection.specs.Left.{IsCalm, IsHalfDone, PinIsFew, PinHasPassed, StepsOn, StepSpends, HasStepped, PinsOn, left, left_in, left_of}
+use Rattle.collection.specs.Turns.{erases_told}
 use Rattle.collection.specs.Room.{IsMade, IsWorth}
 use Rattle.collection.specs.Acts.{RestsOrErases}
 use Rattle.ftl_device.specs.declared.fault.CallFault.TheVariants.{Engine as EngineFault}
 use Rattle.ftl_device.specs.Calls.{Tells, Knows, KeepsArray, CallRefused, HasWorked, KeepsBad, HasLess, HasFallen, IsQuiet}
 use Rattle.ftl_device.specs.Shortage.{StepCounts, HasUsed}
 use Rattle.ftl_device.proofs.SpentLemmas.{used_put, failed_at}
-use Rattle.collection.proofs.Lefts.{left_any, left_law, pin_law}
+use Rattle.collection.proofs.Lefts.{left_law, pin_law}
 use Rattle.collection.proofs.Rooms.{shut_fewer}
 use Rattle.collection.proofs.Logs.{went_same}
 use Rattle.bad_blocks.specs.Table.{is_good}
@@ -117,6 +116,12 @@ step_worked p a b Erased n m c e = inr (risen_counted n m e)
 
 -- ---- where the die is honest
 
+-- the block stays pinned, unless it was erased
+stays_pinned : (p : Pinned) (pages : ℕ) (pin : Option Pinned) (step : Step) → PinsOn pages p pin step → step ≢ Erased → (first : ℕ) × (pin ≡ Some (record { block = p.block; first = first }))
+stays_pinned p pages pin Copied next ne = (next.0 + 1, next.3)
+stays_pinned p pages pin WroteBack next ne = (pages, next)
+stays_pinned p pages pin Erased next ne = absurd (ne refl)
+
 -- it has erased, or less is left
 pub step_less : (p : Pinned) (a b : Ram) (x y : Image) (step : Step) (n m : ℕ) → a.pin.block ≡ Some p → HasStepped false p a b step → m ≡ erases_told step n → StepsOn false p a x b y step → HasRisen n m ⊎ (left b y < left a x)
 step_less p a b x y step n m at h e s = by step refl
@@ -124,7 +129,7 @@ step_less p a b x y step n m at h e s = by step refl
     now : step ≢ Erased → left b y < left a x
     now ne =
         let was : left a x ≡ left_in false a x p.block = ap (λ o. left_of o a x) at in
-        let pin = stays_pinned false p a b step h ne in
+        let pin = stays_pinned p a.geometry.pages b.pin.block step h.next ne in
         let l : left b y ≡ left_in false b y p.block = ap (λ o. left_of o b y) pin.1 in
         omega (arith, l, was, s.left ne)
 
@@ -148,7 +153,7 @@ module _ (p : Pinned) (a b : Ram) (x y : Image) (s : IsRam a) (t : IsRam b) (sam
       let fewer = shut_fewer a b x y q.block s t same k.truth truth leaves half.within (closed_shut a.blocks q.block half.closed) in
       let v : vmax b.geometry ≡ vmax a.geometry = ap vmax same in
       let m : length b.mapping.moved ≡ length a.mapping.moved = ap (λ (z : Rattle.mapping_cache.specs.Mapping.MappingState). length z.moved) mapping in
-      record { small = omega (arith, fewer, few.small, v); moved = omega (arith, fewer, few.moved, v, m) }
+      record { within = (let lt = few.within in rw same lt); small = omega (arith, fewer, few.small, v); moved = omega (arith, fewer, few.moved, v, m) }
 
   pub step_refused : (fault : WriteFault) → b.pin.block ≡ a.pin.block → b.mapping ≡ a.mapping → Refused a x b y fault → CallRefused a.geometry x b y (EngineFault fault)
   step_refused ReadOnly pin mapping r = record { truth = r.truth; array = r.array }
@@ -160,13 +165,13 @@ module _ (p : Pinned) (a b : Ram) (x y : Image) (s : IsRam a) (t : IsRam b) (sam
 
 -- one is pinned, of a victim worth it
 module _ {N : Type 0} (flash : N → Flash) (e f : Engine N) (block : ℕ) (is : f ≡ record e { pinned = Some (record { block = block; first = 0 }) }) where
-  pub knows_pinned : IsCalm (ram f) → PinHasPassed (ram f) (image_in flash f) → IsWorth 3 (ram e) block → e.mapping.moved ≡ [] → Knows (ram e) (image_in flash e) → Knows (ram f) (image_in flash f)
-  knows_pinned calm passed worth none k = record {
+  pub knows_pinned : IsRam (ram e) → IsCalm (ram f) → PinHasPassed (ram f) (image_in flash f) → IsWorth 3 (ram e) block → e.mapping.moved ≡ [] → Knows (ram e) (image_in flash e) → Knows (ram f) (image_in flash f)
+  knows_pinned s calm passed worth none k = record {
     truth = (let P : Engine N → Type 0 = λ z. IsTrue None (ram z) (image_in flash z) in subst P (sym is) (record { whole = k.truth.whole; one = k.truth.one; below = k.truth.below; filled = k.truth.filled; live = k.truth.live; worn = k.truth.worn; tables = k.truth.tables; maps = k.truth.maps }));
     calm = calm;
     passed = passed;
     few = (let P : Engine N → Type 0 = λ z. PinIsFew 0 (ram z) in subst P (sym is) (λ p at.
-        let its : Rattle.collection.specs.Left.IsFew 0 (ram (record e { pinned = Some (record { block = block; first = 0 }) })) (record { block = block; first = 0 }) = pin_law (ram (record e { pinned = Some (record { block = block; first = 0 }) })) (record { block = block; first = 0 }) none worth.small in
+        let its : Rattle.collection.specs.Left.IsFew 0 (ram (record e { pinned = Some (record { block = block; first = 0 }) })) (record { block = block; first = 0 }) = pin_law (ram (record e { pinned = Some (record { block = block; first = 0 }) })) (record { block = block; first = 0 }) (let lt = worth.victim.within in let many = ap (λ (g : Geometry). g.blocks) s.blocks_of in omega (arith, lt, many)) none worth.small in
         let same : Some (record { block = block; first = 0 }) ≡ Some p = at in
         subst (λ q. Rattle.collection.specs.Left.IsFew 0 (ram (record e { pinned = Some (record { block = block; first = 0 }) })) q) (some_same _ p same) its));
   }
@@ -181,7 +186,7 @@ module _ {N : Type 0} (flash : N → Flash) (e f : Engine N) (block : ℕ) (is :
       let at : f.pinned ≡ Some (record { block = block; first = 0 }) = ap (λ (z : Engine N). z.pinned) is in
       let l : left (ram f) (image_in flash f) ≡ left_in false (ram f) (image_in flash f) block = ap (λ o. left_of o (ram f) (image_in flash f)) at in
       let few = few_more (ram f) k.few (record { block = block; first = 0 }) at in
-      let below = left_law (ram f) (image_in flash f) (record { block = block; first = 0 }) safe k.truth half.within few in
+      let below = left_law (ram f) (image_in flash f) (record { block = block; first = 0 }) safe k.truth few in
       let g : f.geometry ≡ e.geometry = ap (λ (z : Engine N). z.geometry) is in
       let pages : f.geometry.pages ≡ e.geometry.pages = ap (λ (h : Geometry). h.pages) g in
       let was : left (ram e) (image_in flash e) ≡ e.geometry.pages - 1 = ap (λ o. left_of o (ram e) (image_in flash e)) none in
@@ -317,7 +322,7 @@ module _ (b c : Ram) (y z : Image) (s : IsRam b) (t : IsRam c) (goes : Goes b c)
       let few = k.few q was in
       let fewer = shut_fewer b c y z q.block s t goes.geometry k.truth truth leaves half.within (closed_shut b.blocks q.block half.closed) in
       let v : vmax c.geometry ≡ vmax b.geometry = ap vmax goes.geometry in
-      record { small = omega (arith, fewer, few.small, v); moved = omega (arith, fewer, few.moved, v, more) }
+      record { within = (let lt = few.within in rw goes.geometry lt); small = omega (arith, fewer, few.small, v); moved = omega (arith, fewer, few.moved, v, more) }
 
   pub rescue_refused : (fault : WriteFault) → Refused b y c z fault → CallRefused b.geometry y c z (EngineFault fault)
   rescue_refused ReadOnly r = record { truth = r.truth; array = r.array }
@@ -360,7 +365,7 @@ rescue_works erases a b c y z found t u some (inr rose) same goes cost d = inl (
 
 below_by : (o : Option Pinned) (r : Ram) (x : Image) → IsRam r → IsTrue None r x → r.pin.block ≡ o → PinIsFew 1 r → left r x < r.geometry.pages
 below_by None r x s w at few = (let l : left r x ≡ r.geometry.pages - 1 = ap (λ o. left_of o r x) at in omega (arith, l, r.geometry.limits.page_count.least))
-below_by (Some p) r x s w at few = (let l : left r x ≡ left_in false r x p.block = ap (λ o. left_of o r x) at in let b = left_any r x p s w (few p at) in omega (arith, l, b))
+below_by (Some p) r x s w at few = (let l : left r x ≡ left_in false r x p.block = ap (λ o. left_of o r x) at in let b = left_law r x p s w (few p at) in omega (arith, l, b))
 
 pub left_below : LeftBelowLaw
 left_below r x s w its going ne = at r.fault refl

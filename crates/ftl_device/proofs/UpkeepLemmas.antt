@@ -13,7 +13,6 @@ use Rattle.collection.specs.declared.engine.Engine.{Engine}
 use Rattle.collection.specs.declared.fault.WriteFault.TheVariants as engine_fault
 use Rattle.collection.specs.State.{Ram}
 use Rattle.collection.specs.Safe.{ram, image_in}
-use Rattle.collection.specs.Truth.{IsTrue}
 use Rattle.collection.specs.Log.{Went}
 use Rattle.collection.proofs.Logs.{went_same}
 use Rattle.ftl_device.specs.declared.device.Device.{Device}

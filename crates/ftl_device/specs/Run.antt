@@ -1,5 +1,5 @@
 -- A RUN OF A DEVICE: commands that it is told one after another, what it answered to each, and what its die held after each.
-use Rattle.std.specs.Prelude.{◌≡◌, ◌≢◌, ◌⊎◌, ℕ, ◌+◌, ◌<◌, ◌≤◌, Bool, true, List, [], ◌∷◌, ◌++◌, length, map, replicate, unwrap_or, Option}
+use Rattle.std.specs.Prelude.{◌≡◌, ◌≢◌, ◌⊎◌, ℕ, ◌+◌, ◌<◌, ◌≤◌, Bool, true, false, not, ◌&&◌, List, [], ◌∷◌, ◌++◌, length, map, replicate, unwrap_or, is_some, Option}
 use Rattle.std.specs.Prelude.{None, Some, IsSome, Result, Ok, Err, IfErr, OnErr}
 use Rattle.std.specs.Option.{ForSome}
 use Rattle.std.specs.List.{AllByRecursion, AllZip}
@@ -75,13 +75,14 @@ exchange_of call = record { command = told call; result = unwrap_or call.reply (
 abbrev pub exchanges_of : List Call → List Exchange
 exchanges_of calls = map exchange_of calls
 
--- the command asks for no memory: its sector is stale in the image, so it is cached, or it names none
-abbrev pub needs_no_memory : Geometry → Image → step.Command → Bool
-needs_no_memory g image (step.Read sector) = is_stale g image sector
-needs_no_memory g image (step.Write sector body) = is_stale g image sector
-needs_no_memory g image (step.Trim sector) = is_stale g image sector
-needs_no_memory g image step.Flush = true
-needs_no_memory g image step.Turn = true
+-- the command asks for no memory, where a block is pinned or not: it changes no sector, or one that is stale in the image, which is cached where no
+-- block is pinned
+abbrev pub needs_no_memory : (pinned : Bool) → Geometry → Image → step.Command → Bool
+needs_no_memory pinned g image (step.Read sector) = true
+needs_no_memory pinned g image (step.Write sector body) = not pinned && is_stale g image sector
+needs_no_memory pinned g image (step.Trim sector) = not pinned && is_stale g image sector
+needs_no_memory pinned g image step.Flush = true
+needs_no_memory pinned g image step.Turn = true
 
 -- the room that a call begins with, for the bytes of a read
 abbrev pub room_for : Geometry → Command → List ℕ
@@ -157,16 +158,16 @@ HaveKept old new = AllZip HasKept old new
 
 -- a device between two commands
 abbrev pub die_in : {N : Type 0} → (N → Flash) → Device N → runs.DeviceView
-die_in flash d = record { flash = flash d.engine.nand; ro = d.read_only }
+die_in flash d = record { flash = flash d.engine.nand; ro = d.read_only; pinned = is_some d.engine.pinned }
 
 -- What is so of each event, where `before` is the log up to it. `ReadOnly` comes in a shortage, with fewer than five free blocks, and has its
 -- counts, and `SequenceSpent` the last sequence, by the image and the one log; a call that leaves the device read-only does so in a shortage,
--- or is a flush in which two blocks failed; a command whose sector was stale in the image, or that names none, took no memory; and afterwards
+-- or is a flush in which two blocks failed; a command that changes no sector took no memory, and so did one whose sector was stale in the image while no block was pinned; and afterwards
 -- the image has a certificate.
 pub record IsFair (first : First) (old : runs.DeviceView) (before : List Operation) (event : Event) (x : Exchange) : Type 0 where
   pub shown : (fault : DeviceFault) → x.result ≡ Err fault → IsShown first.geometry first.bad first.next before event.piece old.ro event.left.flash.image fault
   pub left : event.left.ro ≡ true → IsLeft x.command first.geometry first.bad before event.piece old.ro x.result
-  pub stale : needs_no_memory first.geometry old.flash.image x.command ≡ true → x.result ≢ Err OutOfMemory
+  pub stale : needs_no_memory old.pinned first.geometry old.flash.image x.command ≡ true → x.result ≢ Err OutOfMemory
   pub flushed : is_flush x.command ≡ true → x.result ≡ Ok tt → IsFlushedOut first (before ++ event.piece) event.left.flash.image
   pub mountable : first.capacity + first.geometry.pages ≤ 65536 → IsMountable first.geometry (first.capacity + first.geometry.pages) event.left.flash.image
 
@@ -200,7 +201,7 @@ abbrev pub accepted_first : Geometry → Claim → First
 accepted_first g c = record { geometry = g; capacity = c.capacity; bad = is_bad_in c; wear = wear_in c; next = c.next }
 
 abbrev pub accepted_device : Flash → Claim → runs.DeviceView
-accepted_device s c = record { flash = s; ro = is_scarce (free_in s.geometry c s.image) }
+accepted_device s c = record { flash = s; ro = is_scarce (free_in s.geometry c s.image); pinned = false }
 
 pub record RanFrom {N : Type 0} (flash : N → Flash) (s : Flash) (c : Claim) (xs : List Exchange) (new : Device N) : Type 0 where
   pub run : HasRun (accepted_first s.geometry c) (accepted_device s c) (die_in flash new) xs
@@ -214,7 +215,7 @@ pub record RanFrom {N : Type 0} (flash : N → Flash) (s : Flash) (c : Claim) (x
 pub record Happened {N : Type 0} (flash : N → Flash) (old : Device N) (x : Exchange) (new : Device N) : Type 0 where
   pub step : ArrayStep old.engine.geometry (state_in flash old) x.command (reply_in x) (state_in flash new)
   pub went : Went (ram old.engine) (flash old.engine.nand) (ram new.engine) (flash new.engine.nand)
-  pub stale : old.engine.pinned ≡ None → needs_no_memory old.engine.geometry (image_in flash old.engine) x.command ≡ true → x.result ≢ Err OutOfMemory
+  pub stale : needs_no_memory (is_some old.engine.pinned) old.engine.geometry (image_in flash old.engine) x.command ≡ true → x.result ≢ Err OutOfMemory
   pub shown : (bad : ℕ → Bool) (next : ℕ) (before : List Operation) → ((b : ℕ) → b < old.engine.geometry.blocks → is_bad_by (ram new.engine) b ≡ bad_of old.engine.geometry.pages bad (before ++ went.log) b) → new.engine.next ≡ next + programs_in (before ++ went.log)
       → IfErr x.result (IsShown old.engine.geometry bad next before went.log old.read_only (image_in flash new.engine))
   pub left : (bad : ℕ → Bool) (before : List Operation) → ((b : ℕ) → b < old.engine.geometry.blocks → is_bad_by (ram new.engine) b ≡ bad_of old.engine.geometry.pages bad (before ++ went.log) b) → new.read_only ≡ true

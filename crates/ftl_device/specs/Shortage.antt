@@ -1,5 +1,5 @@
 -- Why a call that began with nine free blocks runs short of them only where blocks fail.
-use Rattle.std.specs.Prelude.{◌≡◌, ◌⊎◌, ℕ, ◌+◌, ◌<◌, ◌≤◌, Bool, true, None, Result, Ok, Err}
+use Rattle.std.specs.Prelude.{◌≡◌, ◌⊎◌, ℕ, ◌+◌, ◌<◌, ◌≤◌, Bool, true, Result, Ok, Err}
 use Rattle.page_layout.specs.Geometry.{need}
 use Rattle.page_layout.specs.Page.{Image}
 use Rattle.bad_blocks.specs.Table.{good_count}

@@ -1,10 +1,9 @@
-use Rattle.std.proofs.Common.{◌≡◌, ◌∙◌, inl, inr, Bool, Option, None, Some, IsSome, Ok, false, refl, sym, ap, subst}
+use Rattle.std.proofs.Common.{◌≡◌, ◌∙◌, inl, inr, Bool, Option, None, Some, false, refl, ap}
 use Rattle.std.specs.Prelude.{is_some}
 use Rattle.collection.specs.declared.engine.Pinned.{Pinned}
-use Rattle.collection.specs.declared.engine.Engine.{Engine}
-use Rattle.collection.specs.Safe.{ram, image_in}
+use Rattle.collection.specs.Safe.{ram}
 use Rattle.ftl_device.proofs.PinLemmas.{unpinned_moved}
-use Rattle.ftl_device.proofs.StepLemmas.{ok_map, pinned_half, knows_pinned, less_pinned, bad_pinned, counts_pinned, truth_pinned, worked_pinned, quiet_none}
+use Rattle.ftl_device.proofs.StepLemmas.{ok_map, pinned_half, knows_pinned, less_pinned, bad_pinned, counts_pinned, truth_pinned, worked_pinned}
 use Rattle.ftl_device.proofs.turn.collect_on.Goals as goal
 
 none_pinned : (o : Option Pinned) (b : Bool) → b ≡ is_some o → b ≡ false → o ≡ None
@@ -22,11 +21,11 @@ returns-clause-quiet g c = λ honest k. ok_map c.step_pinned-2.result (λ w. inl
 
 pub returns-clause-falls : goal.returns-clause-falls
 returns-clause-falls g c = λ honest k.
-    let known = (knows_pinned g.N.PageSource.flash c.args.engine.now c.pin.new.self c.in-Some.block c.pin.ensures.pinned (c.pin.ensures.calm c.requires.going) (c.pin.ensures.passed _) c.in-Some.ensures (unpinned_moved (ram c.args.engine.now) c.requires.calm (none_pinned c.args.engine.now.pinned c.is_some.result c.is_some.ensures c.if-is_some.false)) k) in
+    let known = (knows_pinned g.N.PageSource.flash c.args.engine.now c.pin.new.self c.in-Some.block c.pin.ensures.pinned c.requires.safe.memory (c.pin.ensures.calm c.requires.going) (c.pin.ensures.passed _) c.in-Some.ensures (unpinned_moved (ram c.args.engine.now) c.requires.calm (none_pinned c.args.engine.now.pinned c.is_some.result c.is_some.ensures c.if-is_some.false)) k) in
     ok_map c.step_pinned-2.result (λ h. inr (less_pinned g.N.PageSource.flash c.args.engine.now c.pin.new.self c.in-Some.block c.pin.ensures.pinned g.N.PageSource.erases c.step_pinned-2.new.engine (none_pinned c.args.engine.now.pinned c.is_some.result c.is_some.ensures c.if-is_some.false) c.pin.ensures.safe.memory (pinned_half (ram c.pin.new.self) _ (c.pin.ensures.calm c.requires.going) (ap (λ z. z.pinned) c.pin.ensures.pinned)) known h)) (c.step_pinned-2.ensures.less (ap (λ z. g.N.PageSource.honest z.nand) c.pin.ensures.pinned ∙ honest) known)
 
 pub returns-clause-bad : goal.returns-clause-bad
-returns-clause-bad g c = λ honest k. ok_map c.step_pinned-2.result (λ h. bad_pinned g.N.PageSource.flash c.args.engine.now c.pin.new.self c.in-Some.block c.pin.ensures.pinned c.step_pinned-2.new.engine h) (c.step_pinned-2.ensures.bad (ap (λ z. g.N.PageSource.honest z.nand) c.pin.ensures.pinned ∙ honest) (knows_pinned g.N.PageSource.flash c.args.engine.now c.pin.new.self c.in-Some.block c.pin.ensures.pinned (c.pin.ensures.calm c.requires.going) (c.pin.ensures.passed _) c.in-Some.ensures (unpinned_moved (ram c.args.engine.now) c.requires.calm (none_pinned c.args.engine.now.pinned c.is_some.result c.is_some.ensures c.if-is_some.false)) k))
+returns-clause-bad g c = λ honest k. ok_map c.step_pinned-2.result (λ h. bad_pinned g.N.PageSource.flash c.args.engine.now c.pin.new.self c.in-Some.block c.pin.ensures.pinned c.step_pinned-2.new.engine h) (c.step_pinned-2.ensures.bad (ap (λ z. g.N.PageSource.honest z.nand) c.pin.ensures.pinned ∙ honest) (knows_pinned g.N.PageSource.flash c.args.engine.now c.pin.new.self c.in-Some.block c.pin.ensures.pinned c.requires.safe.memory (c.pin.ensures.calm c.requires.going) (c.pin.ensures.passed _) c.in-Some.ensures (unpinned_moved (ram c.args.engine.now) c.requires.calm (none_pinned c.args.engine.now.pinned c.is_some.result c.is_some.ensures c.if-is_some.false)) k))
 
 pub returns-clause-truth : goal.returns-clause-truth
-returns-clause-truth g c = λ honest k. truth_pinned g.N.PageSource.flash c.args.engine.now c.pin.new.self c.in-Some.block c.pin.ensures.pinned c.step_pinned-2.result (ram c.step_pinned-2.new.engine) _ (c.step_pinned-2.ensures.truth (ap (λ z. g.N.PageSource.honest z.nand) c.pin.ensures.pinned ∙ honest) (knows_pinned g.N.PageSource.flash c.args.engine.now c.pin.new.self c.in-Some.block c.pin.ensures.pinned (c.pin.ensures.calm c.requires.going) (c.pin.ensures.passed _) c.in-Some.ensures (unpinned_moved (ram c.args.engine.now) c.requires.calm (none_pinned c.args.engine.now.pinned c.is_some.result c.is_some.ensures c.if-is_some.false)) k))
+returns-clause-truth g c = λ honest k. truth_pinned g.N.PageSource.flash c.args.engine.now c.pin.new.self c.in-Some.block c.pin.ensures.pinned c.step_pinned-2.result (ram c.step_pinned-2.new.engine) _ (c.step_pinned-2.ensures.truth (ap (λ z. g.N.PageSource.honest z.nand) c.pin.ensures.pinned ∙ honest) (knows_pinned g.N.PageSource.flash c.args.engine.now c.pin.new.self c.in-Some.block c.pin.ensures.pinned c.requires.safe.memory (c.pin.ensures.calm c.requires.going) (c.pin.ensures.passed _) c.in-Some.ensures (unpinned_moved (ram c.args.engine.now) c.requires.calm (none_pinned c.args.engine.now.pinned c.is_some.result c.is_some.ensures c.if-is_some.false)) k))

@@ -1,7 +1,6 @@
 use Rattle.std.proofs.Common.{Ok, Err, refl}
 use Rattle.std.proofs.lemmas.Result.{err_from_is_err_and}
 use Rattle.collection.specs.Safe.{ram}
-use Rattle.collection.proofs.Told.{spends}
 use Rattle.ftl_device.proofs.RoomLemmas.{good_fewer}
 use Rattle.ftl_device.proofs.LeaveLemmas.{leaves_by, leaves_done, leaves_refused}
 use Rattle.ftl_device.proofs.StepLemmas.{some_pin, pinned_half, step_goes_on, step_told, step_counted, step_stuck, risen_told, step_worked, step_less, step_keeps, step_bad, step_refused}
@@ -69,7 +68,7 @@ returns-clause-calm g c = λ none.
 pub returns-clause-counts : goal.returns-clause-counts
 returns-clause-counts g c =
     let q = some_pin c.args.engine.now.pinned c.requires.pinned in
-    step_counted q.0 (ram c.args.engine.now) (ram c.step.new.self) _ (spends _ q.0 _ _ _ (c.in_ok-step.ensures.advances c.requires.going q.0 q.1).cost)
+    step_counted q.0 (ram c.args.engine.now) (ram c.step.new.self) _ (c.in_ok-step.ensures.advances c.requires.going q.0 q.1).cost.cost
 
 pub returns-clause-risen : goal.returns-clause-risen
 returns-clause-risen g c = λ before r.
@@ -80,7 +79,7 @@ pub returns-clause-worked : goal.returns-clause-worked
 returns-clause-worked g c =
     let q = some_pin c.args.engine.now.pinned c.requires.pinned in
     let a = c.in_ok-step.ensures.advances c.requires.going q.0 q.1 in
-    step_worked q.0 (ram c.args.engine.now) (ram c.step.new.self) _ _ _ (spends _ q.0 _ _ _ a.cost) a.erases_are
+    step_worked q.0 (ram c.args.engine.now) (ram c.step.new.self) _ _ _ a.cost.cost a.erases_are
 
 pub returns-clause-less : goal.returns-clause-less
 returns-clause-less g c = λ honest k.

@@ -1,4 +1,4 @@
-use Rattle.std.proofs.Common.{◌∙◌, Ok, Err, refl}
+use Rattle.std.proofs.Common.{◌∙◌, Ok, Err}
 use Rattle.std.proofs.lemmas.Result.{err_from_is_err_and}
 use Rattle.collection.specs.Safe.{ram}
 use Rattle.collection.proofs.Lefts.{calm_law}
@@ -6,7 +6,7 @@ use Rattle.ftl_device.proofs.FlushLoops.{limits_then, engine_keeps, keeps_then, 
 use Rattle.ftl_device.proofs.RoomLemmas.{rescued_by, rescue_told, keeps_room, refused_room, rescue_worked}
 use Rattle.ftl_device.proofs.SpentLemmas.{rescue_short, rescue_stuck, unroomed_short}
 use Rattle.ftl_device.proofs.LeaveLemmas.{leaves_by, leaves_then, leaves_done, leaves_ends, leaves_stuck}
-use Rattle.ftl_device.proofs.StepLemmas.{moved_less, rescue_refused, step_short, step_short_of, worked_then, quiet_then, fallen_then, none_worked, rescue_falls, risen_same, collected_rescued, rescue_works}
+use Rattle.ftl_device.proofs.StepLemmas.{moved_less, rescue_refused, step_short, step_short_of, quiet_then, fallen_then, none_worked, rescue_falls, collected_rescued, rescue_works}
 use Rattle.ftl_device.proofs.turn.turn_ready.Goals as goal
 
 -- ---- no room was made

@@ -1,8 +1,8 @@
-use Rattle.std.proofs.Common.{Ok, refl, ap, ◌∙◌}
+use Rattle.std.proofs.Common.{Ok, ap, ◌∙◌}
 use Rattle.std.proofs.lemmas.Result.{err_from_is_err_and}
 use Rattle.collection.specs.Safe.{ram}
 use Rattle.collection.proofs.Acts.{acts_ok, acts_err}
-use Rattle.collection.proofs.Turns.{ok_told, ok_erased, told_erases, calm_on, steps_on}
+use Rattle.collection.proofs.Turns.{ok_told, ok_erased, told_erases, calm_on, stepped_on, steps_on}
 use Rattle.collection.proofs.engine.Engine.advance.Goals as goal
 
 pub returns-in_err-progress-clause-acts : goal.returns-in_err-progress-clause-acts
@@ -44,7 +44,7 @@ returns-clause-advances g c =
       goes_still = λ ne. e.goes_still (λ is. ne (ok_told done is));
       keys = e.keys;
       refreshes = e.refreshes;
-      cost = record { its = done; told_is = refl; cost = e.cost; next = e.next };
+      cost = stepped_on c.args.flushing c.args.pinned r b done e.cost e.next;
       stays = tt;
       half_done = e.half_done;
       calm = λ off calm. calm_on r b c.args.pinned.block r.geometry.pages done e.goes.geometry (e.unmarked off calm.unmarked) e.next e.half_done (λ is. e.idle (ap (λ d. Ok d) is));

@@ -22,10 +22,10 @@ pub returns-clause-truth : goal.returns-clause-truth
 returns-clause-truth g c = λ honest w. emptied_from (ram c.args.self.now) (ram c.collect_from.new.self) (Some (record { block = c.args.block; first = 0 })) c.args.block _ _ c.collect_from.result (c.collect_from.ensures.truth honest (true_from (ram c.args.self.now) (ram c.args.self.now) (Some (record { block = c.args.block; first = 0 })) None _ w) (passed_none (ram c.args.self.now) _ c.args.block))
 
 pub returns-clause-count : goal.returns-clause-count
-returns-clause-count g c = λ honest w small. counts_from (ram c.args.self.now) (ram c.collect_from.new.self) (Some (record { block = c.args.block; first = 0 })) c.collect_from.result (c.collect_from.ensures.count honest (true_from (ram c.args.self.now) (ram c.args.self.now) (Some (record { block = c.args.block; first = 0 })) None _ w) (passed_none (ram c.args.self.now) _ c.args.block) (idle_few (ram c.args.self.now) c.args.block (Some (record { block = c.args.block; first = 0 })) c.requires.idle small))
+returns-clause-count g c = λ honest w small. counts_from (ram c.args.self.now) (ram c.collect_from.new.self) (Some (record { block = c.args.block; first = 0 })) c.collect_from.result (c.collect_from.ensures.count honest (true_from (ram c.args.self.now) (ram c.args.self.now) (Some (record { block = c.args.block; first = 0 })) None _ w) (passed_none (ram c.args.self.now) _ c.args.block) (idle_few (ram c.args.self.now) c.args.block (Some (record { block = c.args.block; first = 0 })) c.requires.block c.requires.idle small))
 
 pub returns-clause-thrifty : goal.returns-clause-thrifty
-returns-clause-thrifty g c = λ honest w small ne. c.collect_from.ensures.thrifty honest (true_from (ram c.args.self.now) (ram c.args.self.now) (Some (record { block = c.args.block; first = 0 })) None _ w) (passed_none (ram c.args.self.now) _ c.args.block) (idle_few (ram c.args.self.now) c.args.block (Some (record { block = c.args.block; first = 0 })) c.requires.idle small) ne
+returns-clause-thrifty g c = λ honest w small ne. c.collect_from.ensures.thrifty honest (true_from (ram c.args.self.now) (ram c.args.self.now) (Some (record { block = c.args.block; first = 0 })) None _ w) (passed_none (ram c.args.self.now) _ c.args.block) (idle_few (ram c.args.self.now) c.args.block (Some (record { block = c.args.block; first = 0 })) c.requires.block c.requires.idle small) ne
 
 pub returns-clause-few : goal.returns-clause-few
-returns-clause-few g c = λ honest w small ne. c.collect_from.ensures.few honest (true_from (ram c.args.self.now) (ram c.args.self.now) (Some (record { block = c.args.block; first = 0 })) None _ w) (passed_none (ram c.args.self.now) _ c.args.block) (idle_few (ram c.args.self.now) c.args.block (Some (record { block = c.args.block; first = 0 })) c.requires.idle small) ne
+returns-clause-few g c = λ honest w small ne. c.collect_from.ensures.few honest (true_from (ram c.args.self.now) (ram c.args.self.now) (Some (record { block = c.args.block; first = 0 })) None _ w) (passed_none (ram c.args.self.now) _ c.args.block) (idle_few (ram c.args.self.now) c.args.block (Some (record { block = c.args.block; first = 0 })) c.requires.block c.requires.idle small) ne

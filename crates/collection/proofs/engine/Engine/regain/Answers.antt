@@ -5,7 +5,7 @@ use Rattle.collection.proofs.Acts.{acts_then, acts_ok, acts_err}
 use Rattle.collection.proofs.Looks.{none_from, ok_not_bus}
 use Rattle.collection.proofs.HalfDone.{calm_idle, calm_by}
 use Rattle.collection.proofs.Copies.{keys_then, refreshes_then}
-use Rattle.collection.proofs.Rooms.{on_then, erased_more, rearranged_then, room_refused, funded_then, refused_room, made_none, made_some, final_counts}
+use Rattle.collection.proofs.Rooms.{enough_truth, room_tells, on_then, erased_more, rearranged_then, room_refused, funded_then, refused_room, made_none, made_some, final_counts}
 use Rattle.collection.proofs.engine.Engine.regain.Goals as goal
 
 pub rounds-init : goal.rounds-init
@@ -56,7 +56,24 @@ returns-in_default-clause-count g c = λ honest w passed few failures enough.
     let made = made_none (ram c.rounds.self) c.worth-worth.result c.worth-worth.ensures (none_from c.worth-worth.result c.in_default.not-Some) in
     final_counts failures (ram c.args.self.now) (ram c.rounds.self) _ c.enough.result (i.truth honest w passed).truth i.goes.geometry made (i.count honest w passed few failures enough) c.enough.ensures.err
 
+pub returns-in_default-clause-truth : goal.returns-in_default-clause-truth
+returns-in_default-clause-truth g c = λ honest w passed. enough_truth (ram c.args.self.now) (ram c.rounds.self) _ _ c.enough.result (c.rounds.invariant.truth honest w passed) c.enough.ensures.err
+
+pub returns-in_default-clause-few : goal.returns-in_default-clause-few
+returns-in_default-clause-few g c = λ honest w passed few ne. c.rounds.invariant.few honest w passed few
+
 -- ---- a collection was refused
+
+pub returns-in_err-finish-clause-few : goal.returns-in_err-finish-clause-few
+returns-in_err-finish-clause-few g c =
+    let p = err_from_is_err_and c.from_residual.result c.from_residual.ensures.1 in
+    rw (p.1, p.2) c.in_err-finish.ensures.few
+
+pub returns-in_err-collect_block-clause-tells : goal.returns-in_err-collect_block-clause-tells
+returns-in_err-collect_block-clause-tells g c =
+    let p = err_from_is_err_and c.from_residual-in_err-collect_block.result c.from_residual-in_err-collect_block.ensures.1 in
+    rw (p.1, p.2) (room_tells c.args.flushing (ram c.rounds.self) (ram c.collect_block.new.self) _ c.in_err-collect_block.ensures.cost)
+
 
 pub returns-in_err-collect_block-clause-goes : goal.returns-in_err-collect_block-clause-goes
 returns-in_err-collect_block-clause-goes g c =

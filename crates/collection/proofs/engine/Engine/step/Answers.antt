@@ -1,4 +1,3 @@
-use Rattle.std.proofs.Common.{◌≡◌}
 use Rattle.collection.specs.Turns.{Advances}
 use Rattle.collection.proofs.Acts.{acts_noted, not_standing}
 use Rattle.collection.proofs.Turns.{advances_noted, of_pinned}

@@ -1,5 +1,4 @@
-use Rattle.std.proofs.Common.{sym, ◌∙◌, subst}
-use Rattle.std.specs.Prelude.{IsSome, is_some}
+use Rattle.std.proofs.Common.{sym, ◌∙◌}
 use Rattle.ftl_device.proofs.ReadLemmas.{looked_by, limits_by, moved_by, others_by, moved_out, not_moved_here, device_mapped}
 use Rattle.ftl_device.proofs.device.Device.remember.Goals as goal
 

@@ -1,7 +1,7 @@
 use Rattle.promises.specs.Step as step
 use Rattle.page_layout.specs.Array.{zeros}
 use Rattle.collection.specs.Safe.{page_in}
-use Rattle.ftl_device.proofs.RunLemmas.{read_happened, changed, write_sound, quiet_sound}
+use Rattle.ftl_device.proofs.RunLemmas.{read_happened, unpinned_stale, changed, write_sound, quiet_sound}
 use Rattle.ftl_device.proofs.device.Device.tell.Goals as goal
 
 pub returns-in-Read-clause-happened : goal.returns-in-Read-clause-happened
@@ -13,25 +13,25 @@ returns-in-Write-clause-happened g c = λ honest w ne.
     let logs = c.write.ensures.changes.logs honest ne in
     let means = c.write.ensures.changes.means honest w ne in
     rw c.in-Write.is (changed g.N.PageSource.flash c.args.self.now c.write.new.self c.write.result ne c.requires.device.engine.memory c.write.ensures.device.engine.memory c.write.ensures.geometry means.well logs.went c.write.ensures.changes.refuses.says (logs.shown w)
-    (step.Write c.in-Write.sector c.in-Write.body.now) c.args.bytes.now (logs.flushed w) (logs.left w) (write_sound _ _ _ c.in-Write.sector c.in-Write.body.now c.write.result means.step) (c.write.ensures.changes.stale honest w) means.step)
+    (step.Write c.in-Write.sector c.in-Write.body.now) c.args.bytes.now (logs.flushed w) (logs.left w) (write_sound _ _ _ c.in-Write.sector c.in-Write.body.now c.write.result means.step) (λ need. (let its = unpinned_stale c.args.self.now.engine.pinned _ need in c.write.ensures.changes.stale honest w its.0 its.1)) means.step)
 
 pub returns-in-Trim-clause-happened : goal.returns-in-Trim-clause-happened
 returns-in-Trim-clause-happened g c = λ honest w ne.
     let logs = c.trim.ensures.changes.logs honest ne in
     let means = c.trim.ensures.changes.means honest w ne in
     rw c.in-Trim.is (changed g.N.PageSource.flash c.args.self.now c.trim.new.self c.trim.result ne c.requires.device.engine.memory c.trim.ensures.device.engine.memory c.trim.ensures.geometry means.well logs.went c.trim.ensures.changes.refuses.says (logs.shown w)
-    (step.Trim c.in-Trim.sector) c.args.bytes.now (logs.flushed w) (logs.left w) (write_sound _ _ _ c.in-Trim.sector (zeros c.args.self.now.engine.geometry) c.trim.result means.step) (c.trim.ensures.changes.stale honest w) means.step)
+    (step.Trim c.in-Trim.sector) c.args.bytes.now (logs.flushed w) (logs.left w) (write_sound _ _ _ c.in-Trim.sector (zeros c.args.self.now.engine.geometry) c.trim.result means.step) (λ need. (let its = unpinned_stale c.args.self.now.engine.pinned _ need in c.trim.ensures.changes.stale honest w its.0 its.1)) means.step)
 
 pub returns-in-Flush-clause-happened : goal.returns-in-Flush-clause-happened
 returns-in-Flush-clause-happened g c = λ honest w ne.
     let logs = c.flush.ensures.upkeeps.logs honest ne in
     let means = c.flush.ensures.upkeeps.means honest w ne in
     rw c.in-Flush.is (changed g.N.PageSource.flash c.args.self.now c.flush.new.self c.flush.result ne c.requires.device.engine.memory c.flush.ensures.device.engine.memory c.flush.ensures.geometry means.well logs.went c.flush.ensures.upkeeps.refuses.says (logs.shown w)
-    step.Flush c.args.bytes.now (logs.flushed w) (logs.left w) (quiet_sound _ _ c.flush.result means.step) (λ unpinned none. c.flush.ensures.upkeeps.refuses_upkeep.memory) means.step)
+    step.Flush c.args.bytes.now (logs.flushed w) (logs.left w) (quiet_sound _ _ c.flush.result means.step) (λ any. c.flush.ensures.upkeeps.refuses_upkeep.memory) means.step)
 
 pub returns-in-Turn-clause-happened : goal.returns-in-Turn-clause-happened
 returns-in-Turn-clause-happened g c = λ honest w ne.
     let logs = c.turn.ensures.upkeeps.logs honest ne in
     let means = c.turn.ensures.upkeeps.means honest w ne in
     rw c.in-Turn.is (changed g.N.PageSource.flash c.args.self.now c.turn.new.self c.turn.result ne c.requires.device.engine.memory c.turn.ensures.device.engine.memory c.turn.ensures.geometry means.well logs.went c.turn.ensures.upkeeps.refuses.says (logs.shown w)
-    step.Turn c.args.bytes.now (logs.flushed w) (logs.left w) (quiet_sound _ _ c.turn.result means.step) (λ unpinned none. c.turn.ensures.upkeeps.refuses_upkeep.memory) means.step)
+    step.Turn c.args.bytes.now (logs.flushed w) (logs.left w) (quiet_sound _ _ c.turn.result means.step) (λ any. c.turn.ensures.upkeeps.refuses_upkeep.memory) means.step)
