@@ -9,7 +9,7 @@ from collections import OrderedDict
 
 SECTOR, TRIM, TRANSLATION, TABLE = 1, 2, 3, 4
 DATA, META = 0, 1
-RESERVE, FLOOR, MOST_WEAR = 9, 5, 16777215
+RESERVE, TURN_RESERVE, FLOOR, MOST_WEAR = 9, 12, 5, 16777215
 TORN = "torn"
 
 
@@ -203,6 +203,7 @@ class Device:
         self.cache = OrderedDict()
         self.moved = {}
         self.marked = set()
+        self.pinned = None
         for n in m.stale:
             self.cache[n] = [m.newest.get((1, n)), True]
         self.read_only = self.free() < FLOOR
@@ -273,32 +274,55 @@ class Device:
             if flushing:
                 self.marked.add(page.number // self.g.E)
 
-    def collect(self, block, flushing):
-        g = self.g
+    def pin(self, block):
+        assert self.pinned is None and self.is_closed(block)
         self.collected += 1
-        assert self.is_closed(block)
+        self.pinned = block
+
+    def step(self, flushing):
+        """One step of the collection of the pinned block; whether it was the last."""
+        g, block = self.g, self.pinned
         for row in range(block * g.P, (block + 1) * g.P):
             page = self.die.rows[row]
             if page is not None and page is not TORN and self.newest.get(page.key()) == row:
                 self.copy(row, flushing)
+                return False
         for t in range(g.T):
             if t in self.marked or any(n // g.E == t for n in self.moved):
                 self.write_back(t)
+                return False
         if self.die.erase(block):
             self.wear[block] = min(MOST_WEAR, self.wear[block] + 1)
             self.pointer[block] = 0
         else:
             self.cls[block] = 2
+        self.pinned = None
+        return True
+
+    def finish(self, flushing):
+        while not self.step(flushing):
+            pass
+        self.marked = set()
+
+    def collect(self, block, flushing):
+        self.pin(block)
+        self.finish(flushing)
 
     def victim(self):
         blocks = [b for b in range(self.g.B) if self.is_closed(b)]
         return min(blocks, key=lambda b: (self.live[b], self.wear[b], b)) if blocks else None
 
+    def worth(self, free):
+        """The block that is worth collecting, where fewer than so many are free."""
+        victim = self.victim()
+        if self.free() >= free or victim is None or self.live[victim] > self.g.vmax:
+            return None
+        return victim
+
     def make_room(self, flushing):
-        while self.free() < RESERVE:
-            victim = self.victim()
-            if victim is None or self.live[victim] > self.g.vmax:
-                break
+        if self.pinned is not None and self.free() < RESERVE:
+            self.finish(flushing)
+        while (victim := self.worth(RESERVE)) is not None:
             self.collect(victim, flushing)
         if self.free() < FLOOR:
             raise ReadOnly()
@@ -329,7 +353,7 @@ class Device:
             if n not in self.cache:
                 row = self.newest.get((1, n))
                 self.evict()
-                self.cache[n] = [row, False]
+                self.cache[n] = [row, self.moved.pop(n, None) is not None]
             self.cache.move_to_end(n)
             row = self.put(DATA, kind, n, byte)
             self.cache[n] = [row, True]
@@ -353,10 +377,13 @@ class Device:
                 self.cache[n] = [row, False]
         return 0 if row is None else self.die.rows[row].body
 
+    def lacks(self, t):
+        return any(n // self.g.E == t for n in [n for n, e in self.cache.items() if e[1]] + list(self.moved))
+
     def flush(self):
         def body():
             for t in range(self.g.T):
-                if any(n // self.g.E == t and e[1] for n, e in self.cache.items()):
+                if self.lacks(t):
                     self.make_room(True)
                     self.write_back(t)
             self.make_room(True)
@@ -368,20 +395,23 @@ class Device:
                     break
         return self.call(body)
 
-    def turn(self):
-        if not self.read_only and not any(self.cls[b] and self.live[b] for b in range(self.g.B)):
-            return "Done"
+    def rescue(self, row):
+        page = self.die.rows[row]
+        self.copy(row, False)
+        if page.kind < 3 and page.number in self.moved:
+            self.write_back(page.number // self.g.E)
 
+    def turn(self):
         def body():
             self.make_room(False)
             rows = [r for r in self.newest.values() if self.cls[r // self.g.P]]
-            if not rows:
-                return
-            row = min(rows)
-            number = self.die.rows[row].number
-            self.copy(row, False)
-            if self.moved:
-                self.write_back(number // self.g.E)
+            if rows:
+                self.rescue(min(rows))
+            elif self.pinned is not None:
+                self.step(False)
+            elif (victim := self.worth(TURN_RESERVE)) is not None:
+                self.pin(victim)
+                self.step(False)
         return self.call(body)
 
 

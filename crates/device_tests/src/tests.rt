@@ -16,3 +16,4 @@ mod recorder;
 mod restarts;
 mod rows;
 mod script;
+mod turn_rows;

@@ -1,11 +1,12 @@
 // Cases: a device, what it is asked, and all that is so then.
 ghost use Rattle.onfi_cycles.specs.Driver.{flash_by};
-ghost use Rattle.collection.specs.Safe.{IsSafe, IsIdle, ram};
+ghost use Rattle.collection.specs.Safe.{IsSafe, ram};
+ghost use Rattle.collection.specs.Left.{IsCalm};
 ghost use Rattle.ftl_device.specs.Device.{IsDevice};
 ghost use Rattle.std.specs.Prelude.{◌≡◌, None, IfOk};
 
 use super::again::{Mounted, hold_mounted};
-use super::bench::{after_calls, formatted, recorded, small, unwired, wired};
+use super::bench::{formatted, given_up, recorded, small, started, unwired, wired};
 use super::calls::{Call, hold_call, hold_calls};
 use super::pages::{PageAt, hold_pages, hold_spare};
 use super::recorder::{Cycle, Operation, Recorder, changes_of, cycles_of};
@@ -28,8 +29,8 @@ pub enum Step {
     Refused(DeviceFault, &'static [Call]),
     // So many writes of a sector, each with the count of those before it, modulo 256. All are done.
     Over(u32, u16),
-    // For each sector from 0 on, as many as this, a write with its number, and then the writes of
-    // `Over` of that sector.
+    // For each sector from 0 on, as many as this, a write with its number and one, and then the writes
+    // of `Over` of that sector.
     Spread(u32, u32, u16),
 }
 
@@ -40,6 +41,8 @@ pub enum Told {
     All,
     // Those that aren't page reads, and the pages.
     Changes,
+    // Those that aren't page reads, and no pages.
+    ChangesAlone,
     // None, and no pages.
     Nothing,
 }
@@ -68,8 +71,9 @@ pub struct Case {
     pub failing: &'static [u16],
     // So many bytes 00h are left by them: none, or those of a page.
     pub page_left: usize,
-    // What an earlier device with a cache of four was told.
-    pub before: &'static [Call],
+    // What an earlier device was told, and the capacity of its cache.
+    pub before: &'static [Step],
+    pub before_capacity: u32,
     pub capacity: u32,
     // The next sequence of the certificate, where it isn't what the mount said.
     pub next: Option<[u8; 8]>,
@@ -102,6 +106,7 @@ pub const QUIET: Case = Case {
     failing: &[],
     page_left: 0,
     before: &[],
+    before_capacity: 4,
     capacity: 4,
     next: None,
     steps: &[],
@@ -151,7 +156,7 @@ fn hold_spread<N: Nand>(
             rt,
             device,
             name,
-            Call::Write(sector, (sector % 256) as u8),
+            Call::Write(sector, (sector % 255 + 1) as u8),
             Ok(()),
         );
         hold_over(rt, device, name, other, times);
@@ -239,12 +244,13 @@ fn collect_all<N: Nand>(
     blocks: &[(u32, bool)],
 ) -> Result<(), Fail>
     requires safe { IsSafe N.flash engine.old }
-    requires idle { engine.old.fault ≡ None → IsIdle (ram engine.old) }
+    requires calm { engine.old.fault ≡ None → IsCalm (ram engine.old) }
 {
     for its in blocks {
         let (block, flushing) = *its;
         assert!(rt; block < engine.geometry.blocks());
         assert!(rt; engine.closed(block));
+        assert!(rt; engine.pinned.is_none());
         engine.collect(block, flushing)?;
     }
     Ok(())
@@ -268,7 +274,7 @@ fn hold_asked(rt: &impl Abort, alloc: Global, seen: &[Cycle], case: &Case) -> Re
     let want = cycles_of(alloc, case.operations)?;
     match case.told {
         Told::All => assert_eq!(rt; seen, want.as_slice(), "{}", case.name),
-        Told::Changes => assert_eq!(rt;
+        Told::Changes | Told::ChangesAlone => assert_eq!(rt;
             changes_of(alloc, seen)?.as_slice(),
             want.as_slice(),
             "{}",
@@ -289,7 +295,7 @@ fn hold_all_pages<S: PageSource>(
     requires { (S.flash source.old).geometry ≡ geometry.now }
     ensures { (S.flash source.new).geometry ≡ geometry.now }
 {
-    if matches!(case.told, Told::Nothing) {
+    if matches!(case.told, Told::Nothing | Told::ChangesAlone) {
         return Ok(());
     }
     hold_pages(rt, source, geometry, case.name, case.pages)?;
@@ -316,13 +322,29 @@ fn hold_die(
     }
 }
 
+// The die after what the earlier device of a case was told, and its geometry.
+fn after_steps<N: Nand + Drop>(
+    rt: &impl Abort,
+    alloc: Global,
+    nand: N,
+    geometry: &Geometry,
+    case: &Case,
+) -> Result<(N, Geometry), Fail>
+    requires { (N.flash nand).geometry ≡ geometry.now }
+    ensures { IfOk result (λ pair. (N.flash pair.0).geometry ≡ pair.1) }
+{
+    let mut device = started(alloc, nand, geometry, case.before_capacity)?;
+    hold_steps(rt, &mut device, case.name, case.before);
+    Ok(given_up(device))
+}
+
 // The device of a case.
 fn device_of(rt: &impl Abort, alloc: Global, case: &Case) -> Result<Device<Driver<Recorder>>, Fail>
     ensures { IfOk result (IsDevice (flash_by (λ bus. bus.die.state))) }
 {
     let geometry = small()?;
     let driver = formatted(alloc, geometry, case.failing, case.page_left)?;
-    let (driver, geometry) = after_calls(rt, alloc, driver, &geometry, case.before)?;
+    let (driver, geometry) = after_steps(rt, alloc, driver, &geometry, case)?;
     recorded(rt, alloc, driver, &geometry, case.capacity, case.next)
 }
 

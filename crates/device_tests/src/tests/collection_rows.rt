@@ -415,9 +415,9 @@ const FLUSHED: Case = Case {
             (24, 2, 2, 2, 0),
         ],
         calls: &[
-            Read(0, 0),
-            Read(1, 1),
-            Read(20, 20),
+            Read(0, 1),
+            Read(1, 2),
+            Read(20, 21),
             Read(21, 21),
             Read(22, 0),
             Read(31, 79),

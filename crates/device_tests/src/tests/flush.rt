@@ -56,7 +56,7 @@ const FLUSHES: [Case; 4] = [
     // The die may be mounted at any capacity then.
     Case {
         name: "a cache of one after a flush",
-        before: &[Write(5, 0x5A), Flush],
+        before: &[Done(&[Write(5, 0x5A), Flush])],
         capacity: 1,
         steps: &[Done(&[Read(5, 0x5A)])],
         cached: &[5],

@@ -115,7 +115,7 @@ fn mount_needs_room_for_stale_sectors(rt: HostRuntime) -> Result<(), Fail> {
 const RESTARTS: [Case; 3] = [
     Case {
         name: "a cache with just the room for three stale sectors",
-        before: &THREE,
+        before: &[Done(&THREE)],
         capacity: 3,
         steps: &[Done(&[Read(0, 3), Read(1, 4), Read(2, 5), Read(3, 0)])],
         cached: &[0, 1, 2],
@@ -130,7 +130,7 @@ const RESTARTS: [Case; 3] = [
     // A certificate whose next sequence is 2^64 - 1 is accepted, and its device only reads.
     Case {
         name: "sequences run out",
-        before: &[Write(7, 0x66)],
+        before: &[Done(&[Write(7, 0x66)])],
         next: Some([0xFF; 8]),
         steps: &[
             Refused(

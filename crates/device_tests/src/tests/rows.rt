@@ -139,13 +139,13 @@ const CACHES: [Case; 4] = [
     // page, and one of a sector without a page for none at all.
     Case {
         name: "a sector that was read is cached",
-        before: &[
+        before: &[Done(&[
             Write(0, 7),
             Write(1, 7),
             Write(2, 7),
             Write(3, 7),
             Write(16, 9),
-        ],
+        ])],
         steps: &[
             Done(&[Read(3, 7), Read(3, 7), Read(6, 0)]),
             Done(&[Read(6, 0), Read(3, 7)]),

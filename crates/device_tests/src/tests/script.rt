@@ -257,22 +257,22 @@ const ROWS: [Row; 6] = [
             Stage {
                 capacity: 4,
                 next: 247,
-                blocks: (9, 27, 12),
+                blocks: (10, 27, 13),
             },
             Stage {
                 capacity: 1,
-                next: 615,
+                next: 610,
                 blocks: (9, 23, 58),
             },
             Stage {
                 capacity: 16,
-                next: 831,
+                next: 824,
                 blocks: (9, 20, 87),
             },
             Stage {
                 capacity: 2,
-                next: 1159,
-                blocks: (9, 18, 129),
+                next: 1151,
+                blocks: (9, 18, 128),
             },
         ],
     },
@@ -285,22 +285,22 @@ const ROWS: [Row; 6] = [
         devices: &[
             Stage {
                 capacity: 3,
-                next: 252,
-                blocks: (9, 27, 11),
+                next: 251,
+                blocks: (10, 27, 11),
             },
             Stage {
                 capacity: 64,
-                next: 469,
-                blocks: (9, 24, 35),
+                next: 467,
+                blocks: (9, 24, 34),
             },
             Stage {
                 capacity: 32,
-                next: 658,
-                blocks: (9, 22, 56),
+                next: 657,
+                blocks: (9, 22, 55),
             },
             Stage {
                 capacity: 40,
-                next: 837,
+                next: 850,
                 blocks: (9, 20, 75),
             },
         ],
@@ -312,23 +312,23 @@ const ROWS: [Row; 6] = [
         devices: &[
             Stage {
                 capacity: 5,
-                next: 247,
-                blocks: (8, 21, 3),
+                next: 250,
+                blocks: (10, 21, 5),
             },
             Stage {
                 capacity: 48,
-                next: 484,
-                blocks: (9, 20, 18),
+                next: 492,
+                blocks: (9, 19, 19),
             },
             Stage {
                 capacity: 1,
-                next: 863,
-                blocks: (8, 16, 43),
+                next: 872,
+                blocks: (9, 16, 43),
             },
             Stage {
                 capacity: 3,
-                next: 1221,
-                blocks: (9, 15, 66),
+                next: 1242,
+                blocks: (9, 15, 67),
             },
         ],
     },
@@ -339,23 +339,23 @@ const ROWS: [Row; 6] = [
         devices: &[
             Stage {
                 capacity: 2,
-                next: 280,
-                blocks: (9, 21, 6),
+                next: 284,
+                blocks: (10, 21, 7),
             },
             Stage {
                 capacity: 48,
-                next: 515,
-                blocks: (9, 19, 18),
+                next: 518,
+                blocks: (9, 19, 20),
             },
             Stage {
                 capacity: 64,
-                next: 710,
-                blocks: (9, 18, 29),
+                next: 721,
+                blocks: (9, 18, 31),
             },
             Stage {
                 capacity: 50,
-                next: 913,
-                blocks: (9, 17, 40),
+                next: 939,
+                blocks: (9, 17, 45),
             },
         ],
     },
@@ -376,13 +376,13 @@ const ROWS: [Row; 6] = [
             },
             Stage {
                 capacity: 1,
-                next: 796,
-                blocks: (8, 30, 176),
+                next: 797,
+                blocks: (9, 30, 177),
             },
             Stage {
                 capacity: 32,
-                next: 971,
-                blocks: (8, 29, 220),
+                next: 974,
+                blocks: (8, 29, 221),
             },
         ],
     },
@@ -393,8 +393,8 @@ const ROWS: [Row; 6] = [
         devices: &[
             Stage {
                 capacity: 8,
-                next: 205,
-                blocks: (9, 29, 30),
+                next: 206,
+                blocks: (9, 29, 31),
             },
             Stage {
                 capacity: 64,
@@ -403,13 +403,13 @@ const ROWS: [Row; 6] = [
             },
             Stage {
                 capacity: 40,
-                next: 605,
-                blocks: (8, 27, 123),
+                next: 613,
+                blocks: (9, 27, 124),
             },
             Stage {
                 capacity: 33,
-                next: 792,
-                blocks: (8, 26, 163),
+                next: 796,
+                blocks: (9, 26, 161),
             },
         ],
     },
