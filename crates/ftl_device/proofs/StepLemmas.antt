@@ -281,9 +281,9 @@ module _ (a b c : Ram) (s : IsRam a) (t : IsRam b) (u : IsRam c) (room : HasMade
       elim nine.nine [
         | inl few ↦ inl (inl (omega (arith, less)))
         | inr free ↦ elim counts [
-            | inl used ↦ elim (leaves_five b c (of_call (Ok tt)) t free (used_more 1 2 b c (omega arith) used)) [ inl five ↦ inr five | inr three ↦ inl (inr (omega (arith, before))) ]
-            | inr given ↦ elim (cases_lt (free_count c.blocks) 5) [ inl few ↦ inl (inr (omega (arith, before, given))) | inr five ↦ inr five ]
-          ]
+          | inl used ↦ elim (leaves_five b c (of_call (Ok tt)) t free (used_more 1 2 b c (omega arith) used)) [ inl five ↦ inr five | inr three ↦ inl (inr (omega (arith, before))) ]
+          | inr given ↦ elim (cases_lt (free_count c.blocks) 5) [ inl few ↦ inl (inr (omega (arith, before, given))) | inr five ↦ inr five ]
+        ]
       ]
 
   pub step_short_of : (fault : WriteFault) → StepCounts b c (Err fault) → CallShort a c (Err (EngineFault fault))

@@ -74,7 +74,6 @@ returns-in_err-collect_block-clause-tells g c =
     let p = err_from_is_err_and c.from_residual-in_err-collect_block.result c.from_residual-in_err-collect_block.ensures.1 in
     rw (p.1, p.2) (room_tells c.args.flushing (ram c.rounds.self) (ram c.collect_block.new.self) _ c.in_err-collect_block.ensures.cost)
 
-
 pub returns-in_err-collect_block-clause-goes : goal.returns-in_err-collect_block-clause-goes
 returns-in_err-collect_block-clause-goes g c =
     let worth = made_some (ram c.rounds.self) c.worth-worth.result c.in-Some.block c.worth-worth.ensures c.in-Some.is in
