@@ -1,6 +1,8 @@
 -- A half-done collection: what is due at first is no more than the sectors that are moved.
 use Rattle.std.proofs.Common.{◌≡◌, ◌≢◌, ◌⊎◌, inl, inr, ℕ, ◌+◌, ◌/◌, ◌<◌, ◌≤◌, ◌==◌, ◌&&◌, ◌||◌, Bool, true, false, [], length, replicate, get_or, count_by, Option, Some, None, refl, ap, sym, ◌∙◌, subst, arith, Result, Ok, Err, MatchOption}
 use Rattle.std.specs.Map.{keys_of}
+use Rattle.std.proofs.lemmas.Bool.{cases_lt}
+use Rattle.std.proofs.lemmas.List.{get_or-replicate, get_or_past, length-replicate}
 use Rattle.page_layout.specs.Geometry.{translation_pages, vmax}
 use Rattle.page_layout.specs.Page.{Image}
 use Rattle.budget.proofs.CopyLemmas.{touched_pages}
@@ -27,7 +29,7 @@ use Rattle.collection.specs.Truth.{IsTrue}
 use Rattle.collection.specs.Results.{IsSame, Refused}
 use Rattle.collection.specs.Collect.{has_moved, is_marked, is_due, due_count, GoesBut, Refreshes, Ledger, CollectCosts, CollectCounts, IsEmptied, IsRearranged, RoomRefused, RoomTells, RoomCounts}
 use Rattle.collection.specs.Whole.{next_of}
-use Rattle.collection.specs.Left.{IsHalfDone, IsCalm, IsFew, HasPassed, PinIsFew, pin_after, pinned_to}
+use Rattle.collection.specs.Left.{IdleLaw, IsHalfDone, IsCalm, IsFew, HasPassed, PinIsFew, pin_after, pinned_to}
 use Rattle.collection.proofs.Dues.{some_positive, moved_count, length_keys}
 use Rattle.collection.proofs.Lowest.{shut_closed}
 use Rattle.collection.proofs.Rooms.{shut_fewer, on_same, erased_more, room_tells, rearranged_same, rearranged_then, room_refused, funded_same, funded_then, refused_room}
@@ -36,9 +38,9 @@ use Rattle.collection.proofs.Finds.{none_yet}
 -- ---- what is due at first
 
 unmarked_at : (r : Ram) (t : ℕ) → r.pin.marks ≡ replicate (translation_pages r.geometry) false → is_marked r t ≡ false
-unmarked_at r t unmarked = ap (λ l. get_or l t false) unmarked ∙ elim (Rattle.std.proofs.lemmas.Bool.cases_lt t (translation_pages r.geometry)) [
-  | inl below ↦ Rattle.std.proofs.lemmas.List.get_or-replicate (translation_pages r.geometry) t false false below
-  | inr past ↦ Rattle.std.proofs.lemmas.List.get_or_past (replicate (translation_pages r.geometry) false) t false (omega (arith, Rattle.std.proofs.lemmas.List.length-replicate (translation_pages r.geometry) false))
+unmarked_at r t unmarked = ap (λ l. get_or l t false) unmarked ∙ elim (cases_lt t (translation_pages r.geometry)) [
+  | inl below ↦ get_or-replicate (translation_pages r.geometry) t false false below
+  | inr past ↦ get_or_past (replicate (translation_pages r.geometry) false) t false (omega (arith, length-replicate (translation_pages r.geometry) false))
 ]
 
 due_moved : (a flushing m : Bool) → m ≡ false → (a || (flushing && m)) ≡ true → a ≡ true
@@ -55,6 +57,9 @@ due_few flushing r unmarked =
     omega (arith, some, moved_count (per_page r.mapping) t r.mapping.moved) in
     let e = touched_pages (per_page r.mapping) (translation_pages r.geometry) (keys_of r.mapping.moved) (is_due flushing r) has in
     omega (arith, e, length_keys r.mapping.moved)
+
+pub idle_law : IdleLaw
+idle_law flushing r idle = (let e : length r.mapping.moved ≡ 0 = ap (λ l. length l) idle.moved in omega (arith, e, due_few flushing r idle.unmarked))
 
 -- ---- the pin after a step
 

@@ -13,6 +13,7 @@ pub mod HalfDone
 pub mod Ledgers
 pub mod Rooms
 pub mod Noted
+pub mod Made
 pub mod Rescues
 pub mod Blocks
 pub mod Memory

@@ -1,17 +1,14 @@
 -- A fault that is noted after a collection changes nothing else that is known.
-use Rattle.std.proofs.Common.{◌≡◌, ◌⊎◌, inl, inr, [], MatchOption, ℕ, ◌≤◌, Bool, true, false, Option, Some, None, Result, Ok, Err}
-use Rattle.std.specs.Prelude.{MatchResult, IfErr, OnOk}
+use Rattle.std.proofs.Common.{◌⊎◌, inl, inr, ℕ, ◌≤◌, Bool, true, false, Option, Some, None, Result, Ok, Err}
+use Rattle.std.specs.Prelude.{MatchResult, OnOk}
 use Rattle.page_layout.specs.Page.{Image}
 use Rattle.collection.specs.declared.fault.WriteFault.{WriteFault}
 use Rattle.collection.specs.declared.fault.WriteFault.TheVariants.{ReadOnly, SequenceSpent, Damaged, Bus}
 use Rattle.allocation.specs.State.{free_count}
-use Rattle.collection.specs.declared.engine.Pinned.{Pinned}
 use Rattle.collection.specs.State.{Ram}
 use Rattle.collection.specs.Results.{Refused, fault_after}
 use Rattle.collection.specs.Collect.{GoesBut, GoesOn, Refreshes, HasNoneWorth, HasRoom, CollectCosts, IsEmptied, IsRearranged, RoomRefused}
-use Rattle.collection.specs.Acts.{RestsOrErases}
-use Rattle.collection.specs.declared.engine.Engine.{Engine}
-use Rattle.collection.specs.Left.{IsHalfDone, IsCalm, PinIsFew}
+use Rattle.collection.specs.Left.{PinIsFew}
 use Rattle.collection.specs.Collect.{RoomTells, RoomCounts, StreamRunsOut, StreamSpends, RescueCosts, IsRescued}
 use Rattle.collection.proofs.Gates.{true_noted, same_noted, refused_noted}
 
@@ -46,15 +43,11 @@ module _ (fault : Option WriteFault) where
   rearranged_noted : (a b : Ram) (x y : Image) → IsRearranged a x b y → IsRearranged a x (record b { fault = fault }) y
   rearranged_noted a b x y k = record { truth = true_noted fault None b y k.truth; array = k.array; bad = k.bad }
 
-  room_refused_noted : (a b : Ram) (x y : Image) (f : WriteFault) → RoomRefused a x b y f → RoomRefused a x (record b { fault = fault }) y f
+  pub room_refused_noted : (a b : Ram) (x y : Image) (f : WriteFault) → RoomRefused a x b y f → RoomRefused a x (record b { fault = fault }) y f
   room_refused_noted a b x y ReadOnly k = rearranged_noted a b x y k
   room_refused_noted a b x y SequenceSpent k = rearranged_noted a b x y k
   room_refused_noted a b x y Damaged k = k
   room_refused_noted a b x y Bus k = tt
-
-  pub made_noted : (a b : Ram) (x y : Image) (result : Result (Unit {0}) WriteFault) → MatchResult result (λ u. IsRearranged a x b y) (RoomRefused a x b y) → MatchResult result (λ u. IsRearranged a x (record b { fault = fault }) y) (RoomRefused a x (record b { fault = fault }) y)
-  made_noted a b x y (Ok u) k = rearranged_noted a b x y k
-  made_noted a b x y (Err f) k = room_refused_noted a b x y f k
 
   worth_noted : (b : Ram) → (9 ≤ free_count b.blocks) ⊎ HasNoneWorth b → (9 ≤ free_count b.blocks) ⊎ HasNoneWorth (record b { fault = fault })
   worth_noted b (inl nine) = inl nine
@@ -71,20 +64,11 @@ module _ (fault : Option WriteFault) where
   counts_noted failures a b (Err Damaged) k = k
   counts_noted failures a b (Err Bus) k = k
 
-  pub tells_noted : (b : Ram) (result : Result (Unit {0}) WriteFault) → IfErr result (RoomTells b) → IfErr result (RoomTells (record b { fault = fault }))
-  tells_noted b (Ok u) k = k
-  tells_noted b (Err ReadOnly) k = k
-  tells_noted b (Err SequenceSpent) k = k
-  tells_noted b (Err Damaged) k = k
-  tells_noted b (Err Bus) k = k
-
-  half_noted : (b : Ram) (o : Option Pinned) → MatchOption o (b.mapping.moved ≡ []) (IsHalfDone b) → MatchOption o (b.mapping.moved ≡ []) (IsHalfDone (record b { fault = fault }))
-  half_noted b None k = k
-  half_noted b (Some p) k = record { within = k.within; closed = k.closed; passed = k.passed; on_die = k.on_die }
-
-  pub calm_noted : (b : Ram) (result : Result (Unit {0}) WriteFault) → OnOk result (IsCalm b) → OnOk result (IsCalm (record b { fault = fault }))
-  calm_noted b (Ok u) k = record { unmarked = k.unmarked; pinned = half_noted b b.pin.block k.pinned }
-  calm_noted b (Err f) k = tt
+  pub tells_noted : (b : Ram) (f : WriteFault) → RoomTells b f → RoomTells (record b { fault = fault }) f
+  tells_noted b ReadOnly k = k
+  tells_noted b SequenceSpent k = k
+  tells_noted b Damaged k = k
+  tells_noted b Bus k = k
 
   pub few_noted : (b : Ram) → PinIsFew 0 b → PinIsFew 0 (record b { fault = fault })
   few_noted b k = λ p is. (let few = k p is in record { within = few.within; small = few.small; moved = few.moved })
@@ -92,10 +76,6 @@ module _ (fault : Option WriteFault) where
   pub rescued_noted : (a b : Ram) (x y : Image) (result : Result Bool WriteFault) → MatchResult result (IsRescued a x b y) (Refused a x b y) → MatchResult result (IsRescued a x (record b { fault = fault }) y) (Refused a x (record b { fault = fault }) y)
   rescued_noted a b x y (Ok found) k = record { same = same_noted fault a b x y k.same; some = k.some; none = k.none; bad = k.bad }
   rescued_noted a b x y (Err f) k = refused_noted fault a b x y f k
-
-pub erases_noted : {N : Type 0} (erases : N → ℕ) (a b : Engine N) (result : Result (Unit {0}) WriteFault) → OnOk result (RestsOrErases erases a b) → OnOk result (RestsOrErases erases a (record b { fault = fault_after b.fault result }))
-erases_noted erases a b (Ok u) k = k
-erases_noted erases a b (Err f) k = tt
 
 pub rescue_cost_noted : (a b : Ram) (result : Result Bool WriteFault) → RescueCosts a b result → RescueCosts a (record b { fault = fault_after b.fault result }) result
 rescue_cost_noted a b (Ok false) k = k

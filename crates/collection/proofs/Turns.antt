@@ -1,5 +1,5 @@
 -- A step of the pinned block, and what is pinned after it.
-use Rattle.std.proofs.Common.{◌≡◌, ◌≢◌, ℕ, ◌+◌, ◌*◌, ◌/◌, ◌<◌, ◌≤◌, Bool, true, false, List, [], length, replicate, Option, Some, None, MatchOption, Result, Ok, Err, refl, ap, sym, ◌∙◌, subst, arith}
+use Rattle.std.proofs.Common.{◌≡◌, ◌≢◌, ℕ, ◌+◌, ◌-◌, ◌*◌, ◌/◌, ◌<◌, ◌≤◌, Bool, true, false, List, [], length, replicate, Option, Some, None, MatchOption, Result, Ok, Err, refl, ap, sym, ◌∙◌, subst, arith}
 use Rattle.std.specs.Option.{ForSome}
 use Rattle.std.proofs.lemmas.Nat.{div-mul-add}
 use Rattle.page_layout.specs.declared.geometry.Geometry.{Geometry}
@@ -14,7 +14,7 @@ use Rattle.collection.specs.declared.engine.Pinned.{Pinned}
 use Rattle.collection.specs.declared.engine.step.Progress.{Progress}
 use Rattle.collection.specs.declared.engine.step.Progress.TheVariants as step
 use Rattle.collection.specs.declared.engine.turns.Step.{Step}
-use Rattle.collection.specs.declared.engine.turns.Step.TheVariants.{Erased}
+use Rattle.collection.specs.declared.engine.turns.Step.TheVariants.{Copied, Erased}
 use Rattle.collection.specs.declared.fault.WriteFault.{WriteFault}
 use Rattle.collection.specs.declared.fault.WriteFault.TheVariants.{ReadOnly, SequenceSpent, Damaged, Bus}
 use Rattle.collection.specs.State.{Ram}
@@ -102,6 +102,12 @@ pub told_erases : (done : Progress) (count : ℕ) → erases_after done count �
 told_erases (step.Copied page) count = refl
 told_erases step.WroteBack count = refl
 told_erases step.Erased count = refl
+
+-- a copy tells its page by what is pinned then
+pub copied_told : (pin : Option Pinned) (block pages first before after : ℕ) (done : Progress) → pin ≡ pin_after block pages done → ((page : ℕ) → ok_as Progress done ≡ ok_as Progress (step.Copied page) → after ≤ before + 2 * (page + 1 - first)) → ok_as Step (told done) ≡ ok_as Step Copied → (page : ℕ) × (pin ≡ Some (record { block = block; first = page + 1 })) × (after ≤ before + 2 * (page + 1 - first))
+copied_told pin block pages first before after (step.Copied page) next reads is = (page, next, reads page refl)
+copied_told pin block pages first before after step.WroteBack next reads is = (let no : ⊥ = cc in absurd no)
+copied_told pin block pages first before after step.Erased next reads is = (let no : ⊥ = cc in absurd no)
 
 -- ---- what a step leaves
 
@@ -202,6 +208,7 @@ module _ {N : Type 0} {flash : N → Flash} {honest : N → Bool} {reads erases 
     idle = λ is. (let no : ⊥ = cc in absurd no);
     released = λ is. (let no : ⊥ = cc in absurd no);
     few_reads = k.few_reads;
+    copied_reads = λ is. (let no : ⊥ = cc in absurd no);
     erases_are = tt;
     truth = λ known w passed. refused_noted (Some f) (ram a) (ram b) _ _ f (k.truth known w passed);
   }

@@ -16,10 +16,10 @@ use Rattle.collection.specs.declared.engine.turns.Step.TheVariants.{Copied, Wrot
 use Rattle.collection.specs.State.{Ram}
 use Rattle.collection.specs.Pages.{newest_row}
 use Rattle.collection.specs.Live.{HoldsNoneIn}
-use Rattle.collection.specs.Safe.{IsRam}
+use Rattle.collection.specs.Safe.{IsRam, IsIdle}
 use Rattle.collection.specs.Truth.{IsTrue}
 use Rattle.collection.specs.Results.{Goes, Leaves, IsSame}
-use Rattle.collection.specs.Collect.{is_due, has_moved, HasCopied, HasWritten, HasErased}
+use Rattle.collection.specs.Collect.{is_due, due_count, has_moved, HasCopied, HasWritten, HasErased}
 
 -- ---- how much is left
 
@@ -142,6 +142,10 @@ pub record StepsOn (flushing : Bool) (p : Pinned) (old : Ram) (before : Image) (
   pub few : IsFew 0 old p → PinIsFew 0 new
 
 -- ---- laws
+
+-- an idle memory has no translation page that has to be written
+abbrev pub IdleLaw : Type 0
+IdleLaw = (flushing : Bool) (r : Ram) → IsIdle r → due_count flushing r ≡ 0
 
 -- THE NUMBER LEFT IS BELOW THE PAGES OF A BLOCK, also where a rescue has moved one sector more and then found no sequence
 abbrev pub LeftLaw : Type 0

@@ -1,5 +1,6 @@
 -- When collections stop, and what they leave of the pool.
-use Rattle.std.specs.Prelude.{◌≡◌, ◌⊎◌, ℕ, ◌+◌, ◌<◌, ◌≤◌, List, Option}
+use Rattle.std.specs.Prelude.{◌≡◌, ◌≢◌, ◌⊎◌, ℕ, ◌+◌, ◌<◌, ◌≤◌, Bool, true, List, Option, None, Result, Err, IsOk, OnOk, IfErr, MatchResult}
+use Rattle.page_layout.specs.Flash.{Flash}
 use Rattle.page_layout.specs.declared.record.Record.{Record}
 use Rattle.page_layout.specs.Geometry.{need, vmax}
 use Rattle.bad_blocks.specs.Table.{good_count}
@@ -7,8 +8,26 @@ use Rattle.budget.specs.Spending.{IsFunded}
 use Rattle.allocation.specs.State.{free_count, live_at}
 use Rattle.allocation.specs.Step.{IsVictim}
 use Rattle.allocation.specs.Counts.{counts_of, IsLiveExact}
+use Rattle.collection.specs.declared.engine.Engine.{Engine}
+use Rattle.collection.specs.declared.engine.room.Reserve.{Reserve}
+use Rattle.collection.specs.declared.engine.room.Reserve.TheVariants.{Call, Turn}
+use Rattle.collection.specs.declared.fault.WriteFault.{WriteFault}
+use Rattle.collection.specs.declared.fault.WriteFault.TheVariants.{Bus}
 use Rattle.collection.specs.State.{Ram}
-use Rattle.collection.specs.Collect.{HasNoneWorth}
+use Rattle.collection.specs.Safe.{ram, image_in}
+use Rattle.collection.specs.Truth.{IsTrue}
+use Rattle.collection.specs.Acts.{RestsOrErases}
+use Rattle.collection.specs.Left.{IsCalm, PinHasPassed, PinIsFew}
+use Rattle.collection.specs.Collect.{KeepsKeys, Refreshes, GoesOn, HasNoneWorth, RoomTells, IsRearranged, RoomRefused}
+
+-- free blocks beyond nine
+abbrev pub beyond : Reserve → ℕ
+beyond Call = 0
+beyond Turn = 3
+
+-- the free blocks up to which collections go on
+abbrev pub wanted : Reserve → ℕ
+wanted reserve = 9 + beyond reserve
 
 -- No block is collected: so many are free, nine and some more, or none is worth it. With right live counts and `need` good blocks, and as many
 -- more, so many are free.
@@ -27,3 +46,16 @@ pub record IsFundedOn (failures : ℕ) (old now : Ram) : Type 0 where
   pub its_failures : ℕ
   pub good : (counts_of old.blocks).good ≡ (counts_of now.blocks).good + its_failures
   pub funded : IsFunded old.geometry.pages (failures + its_failures) (counts_of now.blocks)
+
+-- MAKING ROOM, where no fault stood: the cache stays, and bad blocks do; nothing was done for it where nine blocks were free. Where the die is
+-- honest, the array is as it was.
+pub record MakesRoom {N : Type 0} (flash : N → Flash) (honest : N → Bool) (erases : N → ℕ) (flushing : Bool) (old new : Engine N) (result : Result (Unit {0}) WriteFault) : Type 0 where
+  pub calm : OnOk result (IsCalm (ram new))
+  pub goes : GoesOn (ram old) (ram new)
+  pub keys : KeepsKeys old.mapping new.mapping
+  pub refreshes : flushing ≡ true → Refreshes (ram old) (ram new)
+  pub works : OnOk result (RestsOrErases erases old new)
+  pub rests : 9 ≤ free_count (ram old).blocks → IsOk result × (new ≡ old)
+  pub tells : IfErr result (RoomTells (ram new))
+  pub truth : honest old.nand ≡ true → IsTrue None (ram old) (image_in flash old) → PinHasPassed (ram old) (image_in flash old) → MatchResult result (λ done. IsRearranged (ram old) (image_in flash old) (ram new) (image_in flash new)) (RoomRefused (ram old) (image_in flash old) (ram new) (image_in flash new))
+  pub few : honest old.nand ≡ true → IsTrue None (ram old) (image_in flash old) → PinHasPassed (ram old) (image_in flash old) → PinIsFew 0 (ram old) → result ≢ Err Bus → PinIsFew 0 (ram new)

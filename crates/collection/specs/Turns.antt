@@ -1,5 +1,5 @@
 -- What a step of the pinned block leaves.
-use Rattle.std.specs.Prelude.{◌≡◌, ◌≢◌, ℕ, ◌+◌, ◌-◌, ◌*◌, ◌≤◌, min, Bool, true, false, Result, Ok, None, IfOk, OnOk, OnErr, MatchResult}
+use Rattle.std.specs.Prelude.{◌≡◌, ◌≢◌, ℕ, ◌+◌, ◌-◌, ◌*◌, ◌≤◌, min, Bool, true, false, Result, Ok, Some, None, IfOk, OnOk, OnErr, MatchResult}
 use Rattle.std.specs.Option.{ForSome}
 use Rattle.page_layout.specs.Flash.{Flash}
 use Rattle.page_layout.specs.Counter.{counted}
@@ -35,5 +35,7 @@ pub record Advances {N : Type 0} (flash : N → Flash) (honest : N → Bool) (re
   pub released : result ≡ Ok Erased → IsReleased p.block (ram old).blocks (ram new).blocks
   -- each page from the cursor on is read once at most, and so is the translation page that tells of it; and one that is written back
   pub few_reads : reads new.nand ≤ reads old.nand + (2 * (old.geometry.pages - p.first) + min (due_count flushing (ram old)) 1)
+  -- a copy reads on from the cursor, up to the page that it copies
+  pub copied_reads : result ≡ Ok Copied → (page : ℕ) × (new.pinned ≡ Some (record { block = p.block; first = page + 1 })) × (reads new.nand ≤ reads old.nand + 2 * (page + 1 - p.first))
   pub erases_are : IfOk result (λ step. erases new.nand ≡ erases_told step (erases old.nand))
   pub truth : honest old.nand ≡ true → IsTrue None (ram old) (image_in flash old) → HasPassed (ram old) (image_in flash old) p → MatchResult result (StepsOn flushing p (ram old) (image_in flash old) (ram new) (image_in flash new)) (Refused (ram old) (image_in flash old) (ram new) (image_in flash new))

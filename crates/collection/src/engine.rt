@@ -24,7 +24,7 @@ mod turns;
 mod write;
 mod write_back;
 
-pub use room::{LEAST_FREE, RESERVE};
+pub use room::{LEAST_FREE, Reserve};
 pub use turns::Step;
 
 /// The data area and the spare area of one page. (This project.)

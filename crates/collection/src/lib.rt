@@ -10,6 +10,6 @@ mod engine;
 mod fault;
 mod laws;
 
-pub use engine::{Buffer, Engine, LEAST_FREE, Pinned, RESERVE, Step};
+pub use engine::{Buffer, Engine, LEAST_FREE, Pinned, Reserve, Step};
 pub use fault::WriteFault;
 pub use laws::left_laws;

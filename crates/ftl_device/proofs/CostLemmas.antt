@@ -152,6 +152,10 @@ page_tells engine_fault.Bus a b c fewer h = tt
 
 -- ---- what the device answers
 
+pub on_any : {P : Type 0} (result : Result (Unit {0}) CallFault) → P → OnOk result P
+on_any (Ok done) p = p
+on_any (Err fault) p = tt
+
 -- what is so of a call that was done is so of the answer, whatever else the device notes
 pub done_after : {N : Type 0} (P : Engine N → Type 0) (e last : Engine N) (answer : Result (Unit {0}) CallFault) (result : Result (Unit {0}) DeviceFault) (good : ℕ) → last ≡ e → result ≡ answer_of (ram last) good answer → OnOk answer (P e) → OnOk result (P last)
 done_after P e last answer result good same is h = subst (λ r. OnOk r (P last)) (sym is) (done_too (P last) answer good (ram last) (subst (λ x. OnOk answer (P x)) (sym same) h))

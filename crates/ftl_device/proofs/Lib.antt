@@ -1,5 +1,6 @@
 pub mod PinLemmas
 pub mod StepLemmas
+pub mod TurnLemmas
 pub mod BlockLemmas
 pub mod WearLemmas
 pub mod BeginLemmas

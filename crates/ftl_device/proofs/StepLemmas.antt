@@ -30,17 +30,19 @@ use Rattle.ftl_device.specs.Calls.{Tells, Knows, KeepsArray, CallRefused, HasWor
 use Rattle.ftl_device.specs.Shortage.{StepCounts, HasUsed}
 use Rattle.ftl_device.proofs.SpentLemmas.{used_put, failed_at}
 use Rattle.collection.proofs.Lefts.{left_law, pin_law}
-use Rattle.collection.proofs.Rooms.{shut_fewer}
+use Rattle.mapping_cache.specs.Mapping.{HasLimitsOf}
+use Rattle.collection.proofs.Rooms.{shut_fewer, on_same}
 use Rattle.collection.proofs.Logs.{went_same}
 use Rattle.bad_blocks.specs.Table.{is_good}
 use Rattle.collection.specs.State.{Pin}
 use Rattle.collection.specs.Results.{Goes}
 use Rattle.collection.specs.Collect.{RoomCounts, IsAiling, RescueCosts, IsRescued}
 use Rattle.ftl_device.specs.declared.fault.CallFault.{CallFault}
-use Rattle.ftl_device.specs.Calls.{HasMadeRoom, HasRescued, PinIsTrue, LeftBelowLaw, stop_of}
+use Rattle.ftl_device.specs.Calls.{HasMadeRoom, HasRescued}
 use Rattle.ftl_device.specs.Shortage.{LacksGood, CallShort}
 use Rattle.ftl_device.proofs.ShortageLemmas.{leaves_five}
-use Rattle.ftl_device.specs.Changes.{Leaves}
+use Rattle.ftl_device.specs.Changes.{Leaves, CollectsOn}
+use Rattle.ftl_device.proofs.LeaveLemmas.{leaves_same, leaves_then}
 use Rattle.ftl_device.proofs.RoomLemmas.{not_ailing, good_fewer, rescue_worked}
 use Rattle.ftl_device.proofs.PinLemmas.{few_more, unpinned_moved}
 
@@ -161,6 +163,10 @@ module _ (p : Pinned) (a b : Ram) (x y : Image) (s : IsRam a) (t : IsRam b) (sam
   step_refused Damaged pin mapping r = r
   step_refused Bus pin mapping r = tt
 
+pub ok_map : {P Q : Type 0} (result : Result (Unit {0}) WriteFault) → (P → Q) → OnOk result P → OnOk result Q
+ok_map (Ok done) f h = f h
+ok_map (Err fault) f h = tt
+
 -- ---- a collection begins
 
 -- one is pinned, of a victim worth it
@@ -215,8 +221,8 @@ module _ {N : Type 0} (flash : N → Flash) (e f : Engine N) (block : ℕ) (is :
   pub worked_pinned : (erases : N → ℕ) (new : Engine N) → HasWorked (ram f) (ram new) (erases f.nand) (erases new.nand) → HasWorked (ram e) (ram new) (erases e.nand) (erases new.nand)
   worked_pinned erases new h = (let P : Engine N → Type 0 = λ z. HasWorked (ram z) (ram new) (erases z.nand) (erases new.nand) in subst P is h)
 
-  module _ (honest calm : N → Bool) (failed : N → ℕ) where
-    pub leaves_pinned : IsSafe flash f → e.fault ≡ None → Leaves {A = Unit {0}} flash honest calm failed e (Ok tt) f
+  module _ (honest calm : N → Bool) (erases failed : N → ℕ) where
+    leaves_pinned : IsSafe flash f → e.fault ≡ None → Leaves {A = Unit {0}} flash honest calm failed e (Ok tt) f
     leaves_pinned safe none = (let P : Engine N → Type 0 = λ z. IsSafe flash z → Leaves {A = Unit {0}} flash honest calm failed e (Ok tt) z in subst P (sym is) (λ s. record {
       safe = s;
       fault = none;
@@ -228,6 +234,35 @@ module _ {N : Type 0} (flash : N → Flash) (e f : Engine N) (block : ℕ) (is :
       tells = omega arith;
       went = λ is_honest ne. (let w = went_same (ram e) (flash e.nand) in record { log = w.log; leads = w.leads; follows = w.follows; next = w.next; wears = w.wears });
     }) safe)
+
+    -- the step after it is one of the engine before
+    pub collects_pinned : (new : Engine N) (result : Result (Unit {0}) WriteFault) → IsSafe flash f → e.fault ≡ None → (Knows (ram e) (image_in flash e) → Knows (ram f) (image_in flash f)) → CollectsOn flash honest calm erases failed f result new → CollectsOn flash honest calm erases failed e result new
+    collects_pinned new result safe going begun k = record {
+      leaves = leaves_then flash honest calm failed e f new tt result (leaves_pinned safe going) k.leaves;
+      limits = (let P : Engine N → Type 0 = λ z. HasLimitsOf z.mapping new.mapping in subst P is k.limits);
+      calm_memory = k.calm_memory;
+      goes = goes_pinned new k.goes;
+      counts = counts_pinned (ram new) result k.counts;
+      risen = (let P : Engine N → Type 0 = λ z. OnOk result ((before : ℕ) → HasRisen before (erases z.nand) → HasRisen before (erases new.nand)) in subst P is k.risen);
+      bad = λ known w. ok_map result (bad_pinned new) (k.bad (honest_pinned ∙ known) (begun w));
+      truth = λ known w. truth_pinned result (ram new) (image_in flash new) (k.truth (honest_pinned ∙ known) (begun w));
+    }
+      where
+        honest_pinned : honest f.nand ≡ honest e.nand
+        honest_pinned = ap (λ (z : Engine N). honest z.nand) is
+
+-- none begins
+pub collects_none : {N : Type 0} (flash : N → Flash) (honest calm : N → Bool) (erases failed : N → ℕ) (e : Engine N) → IsSafe flash e → e.fault ≡ None → IsCalm (ram e) → CollectsOn flash honest calm erases failed e (Ok tt) e
+collects_none flash honest calm erases failed e safe going calm_now = record {
+  leaves = leaves_same flash honest calm failed e safe going;
+  limits = record { geometry = refl; capacity = refl };
+  calm_memory = λ none. calm_now;
+  goes = on_same (ram e);
+  counts = inr (omega arith);
+  risen = λ before r. r;
+  bad = λ known w k within bad. omega arith;
+  truth = λ known w. record { truth = w; array = refl };
+}
 
 -- no block is worth it, or so many are free
 pub quiet_none : {N : Type 0} (erases : N → ℕ) (e : Engine N) (x : Image) → IsMade 3 (ram e) → IsTrue None (ram e) x → IsQuiet erases e e
@@ -248,6 +283,13 @@ pub fallen_then : {N : Type 0} (flash : N → Flash) (erases : N → ℕ) (a b c
 fallen_then {N} flash erases a b c (inl same) risen h = (let P : Engine N → Type 0 = λ z. HasFallen flash erases z c in subst P same h)
 fallen_then flash erases a b c (inr rose) risen h = inr (inl (risen (erases a.nand) rose.0))
 
+-- with twelve free blocks and nothing pinned nothing is done for room, and no page is rescued that was in no bad block
+pub no_rescue : {N : Type 0} (a b : Engine N) → b ≡ a → HasNoneAiling (ram a).blocks → HasAiling (ram b).blocks → ⊥
+no_rescue {N} a b same none some = not_ailing (ram b).blocks (let P : Engine N → Type 0 = λ z. HasNoneAiling (ram z).blocks in subst P (sym same) none) some
+
+pub resting : {N : Type 0} (a b : Engine N) → b ≡ a → a.pinned ≡ None → 12 ≤ free_count (ram a).blocks → (b.pinned ≡ None) × (12 ≤ free_count (ram b).blocks)
+resting {N} a b same none twelve = (let P : Engine N → Type 0 = λ z. (z.pinned ≡ None) × (12 ≤ free_count (ram z).blocks) in subst P (sym same) (none, twelve))
+
 -- a bad block had one before and has none now: it was collected, or its last newest page has left it
 pub none_worked : {N : Type 0} (erases : N → ℕ) (a b c : Engine N) → RestsOrErases erases a b → ((before : ℕ) → HasRisen before (erases b.nand) → HasRisen before (erases c.nand)) → HasNoneAiling (ram b).blocks → HasAiling (ram a).blocks → HasWorked (ram a) (ram c) (erases a.nand) (erases c.nand)
 none_worked {N} erases a b c (inl same) risen none some = absurd (not_ailing (ram b).blocks none (let P : Engine N → Type 0 = λ z. HasAiling (ram z).blocks in subst P (sym same) some))
@@ -260,10 +302,6 @@ rescue_falls flash erases a b c (inr rose) e some none = inr (inl (subst (HasRis
 
 pub risen_same : (n m : ℕ) → m ≡ n → (before : ℕ) → HasRisen before n → HasRisen before m
 risen_same n m e before r = subst (HasRisen before) (sym e) r
-
-pub ok_map : {P Q : Type 0} (result : Result (Unit {0}) WriteFault) → (P → Q) → OnOk result P → OnOk result Q
-ok_map (Ok done) f h = f h
-ok_map (Err fault) f h = tt
 
 -- ---- the count after room was made
 
@@ -360,19 +398,3 @@ rescue_works {N} erases a b c y z found t u some (inl still) same goes cost d =
     let was : HasAiling (ram a).blocks = (let P : Engine N → Type 0 = λ e. HasAiling (ram e).blocks in subst P still some) in
     inl (rescue_worked erases a b c y z found t u was (inl still) same goes cost d)
 rescue_works erases a b c y z found t u some (inr rose) same goes cost d = inl (inr (subst (HasRisen (erases a.nand)) (sym same) rose.0))
-
--- ---- less is left than a block has pages
-
-below_by : (o : Option Pinned) (r : Ram) (x : Image) → IsRam r → IsTrue None r x → r.pin.block ≡ o → PinIsFew 1 r → left r x < r.geometry.pages
-below_by None r x s w at few = (let l : left r x ≡ r.geometry.pages - 1 = ap (λ o. left_of o r x) at in omega (arith, l, r.geometry.limits.page_count.least))
-below_by (Some p) r x s w at few = (let l : left r x ≡ left_in false r x p.block = ap (λ o. left_of o r x) at in let b = left_law r x p s w (few p at) in omega (arith, l, b))
-
-pub left_below : LeftBelowLaw
-left_below r x s w its going ne = at r.fault refl
-  where
-    at : (f : Option WriteFault) → r.fault ≡ f → left r x < r.geometry.pages
-    at None is = (let k : PinIsTrue None r x = subst (λ f. PinIsTrue f r x) is its in below_by r.pin.block r x s w refl (few_more r k.1))
-    at (Some ReadOnly) is = absurd (ne is)
-    at (Some SequenceSpent) is = (let k : PinIsTrue (Some SequenceSpent) r x = subst (λ f. PinIsTrue f r x) is its in below_by r.pin.block r x s w refl k)
-    at (Some Damaged) is = (let no : stop_of (Some Damaged) ≡ None = sym (ap stop_of is) ∙ going in let never : ⊥ = cc in absurd never)
-    at (Some Bus) is = (let no : stop_of (Some Bus) ≡ None = sym (ap stop_of is) ∙ going in let never : ⊥ = cc in absurd never)

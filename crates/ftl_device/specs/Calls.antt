@@ -1,5 +1,5 @@
 -- What the calls of a device promise.
-use Rattle.std.specs.Prelude.{◌≡◌, ◌≢◌, ◌⊎◌, ℕ, ◌+◌, ◌-◌, ◌<◌, ◌≤◌, ◌^◌, Bool, true, false, List, [], slice_get, slice_set, Option, Some, None, IsSome}
+use Rattle.std.specs.Prelude.{◌≡◌, ◌⊎◌, ℕ, ◌+◌, ◌-◌, ◌<◌, ◌≤◌, ◌^◌, Bool, true, false, List, [], slice_get, slice_set, Option, Some, None, IsSome}
 use Rattle.std.specs.Prelude.{Result, Ok, Err}
 use Rattle.std.specs.Map.{keys_of}
 use Rattle.page_layout.specs.declared.geometry.Geometry.{Geometry}
@@ -28,6 +28,7 @@ use Rattle.collection.specs.Truth.{IsTrue}
 use Rattle.collection.specs.Cost.{HasPut}
 use Rattle.collection.specs.Collect.{GoesOn, KeepsKeys, HasRoom, IsAiling, HasAiling}
 use Rattle.ftl_device.specs.declared.device.Device.{Device}
+use Rattle.ftl_device.specs.Device.{IsDevice}
 use Rattle.ftl_device.specs.declared.fault.CallFault.{CallFault}
 use Rattle.ftl_device.specs.declared.fault.CallFault.TheVariants as call
 use Rattle.ftl_device.specs.declared.fault.CallFault.TheVariants.{Engine}
@@ -306,10 +307,14 @@ HasFallen flash erases old new = (new ≡ old) ⊎ HasLess flash erases old new
 
 -- ---- laws
 
--- What is left of the collection under way is less than a block's pages. It is so of a device that is well and not read-only: `ReadOnly` stands
--- in no other.
-abbrev pub LeftBelowLaw : Type 0
-LeftBelowLaw = (r : Ram) (image : Image) → IsRam r → IsTrue None r image → PinIsTrue r.fault r image → stop_of r.fault ≡ None → r.fault ≢ Some engine_fault.ReadOnly → left r image < r.geometry.pages
+-- WHAT IS LEFT of the collection under way is less than a block's pages, of a device that is not read-only
+abbrev pub LeftBelowLaw : {N : Type 0} → (N → Flash) → Type 0
+LeftBelowLaw {N} flash = (d : Device N) → IsDevice flash d → IsWell flash d → d.read_only ≡ false → left (ram d.engine) (image_in flash d.engine) < d.engine.geometry.pages
+
+-- SO OF AS MANY TURNS IN A ROW as a block has pages, each without a failure and begun while no bad block held a newest page, one has erased or
+-- changed nothing
+abbrev pub TurnsLaw : {N : Type 0} → (flash : N → Flash) → (erases : N → ℕ) → Type 0
+TurnsLaw {N} flash erases = (engine_at : ℕ → engines.Engine N) (pages : ℕ) → left (ram (engine_at 0)) (image_in flash (engine_at 0)) < pages → ((k : ℕ) → k < pages → HasFallen flash erases (engine_at k) (engine_at (k + 1))) → (k : ℕ) × (k < pages) × ((engine_at (k + 1) ≡ engine_at k) ⊎ HasRisen (erases (engine_at k).nand) (erases (engine_at (k + 1)).nand))
 
 -- where no sector is moved, a sector that is stale in the image is cached
 abbrev pub StaleLaw : Type 0

@@ -1,5 +1,5 @@
 -- What the calls promise: each clause that `write` and `trim` share, or `flush` and `turn`, or the calls within them, stands here once.
-use Rattle.std.specs.Prelude.{◌≡◌, ◌≢◌, ◌↔◌, ℕ, ◌+◌, ◌-◌, ◌^◌, ◌<◌, ◌≤◌, Bool, true, false, [], None, IsSome, Result, Ok, Err, IfErr, OnOk}
+use Rattle.std.specs.Prelude.{◌≡◌, ◌≢◌, ◌↔◌, ℕ, ◌+◌, ◌-◌, ◌^◌, ◌<◌, ◌≤◌, Bool, true, false, [], None, IsSome, Result, Ok, Err, IfErr, OnOk, MatchResult}
 use Rattle.std.specs.Option.{ForSome}
 use Rattle.std.specs.Map.{keys_of}
 use Rattle.page_layout.specs.Counter.{HasRisen}
@@ -18,6 +18,7 @@ use Rattle.collection.specs.declared.fault.WriteFault.TheVariants.{Bus}
 use Rattle.collection.specs.State.{Ram}
 use Rattle.collection.specs.Safe.{IsSafe, ram, image_in, page_in}
 use Rattle.collection.specs.Left.{IsCalm}
+use Rattle.collection.specs.Collect.{GoesOn}
 use Rattle.collection.specs.Cost.{HasPut}
 use Rattle.collection.specs.Log.{Went}
 use Rattle.collection.specs.Results.{fault_after}
@@ -26,11 +27,11 @@ use Rattle.ftl_device.specs.declared.fault.CallFault.{CallFault}
 use Rattle.ftl_device.specs.declared.fault.CallFault.TheVariants as call
 use Rattle.ftl_device.specs.declared.fault.DeviceFault.{DeviceFault}
 use Rattle.ftl_device.specs.declared.fault.DeviceFault.TheVariants.{OutOfRange, ReadOnly, SequenceSpent, OutOfMemory, BusFault}
-use Rattle.ftl_device.specs.Calls.{state_in, reply_of, stop_of, IsWell, Says, Tells, CallTells, standing_after, IsMostRecent, IsReady, HasCost, order_after}
+use Rattle.ftl_device.specs.Calls.{state_in, reply_of, stop_of, IsWell, Says, Tells, CallTells, standing_after, IsMostRecent, IsReady, HasCost, order_after, Knows, KeepsArray, KeepsBad, CallRefused}
 use Rattle.ftl_device.specs.Counts.{is_bad_by, is_flush, IsShown, IsLeft}
 use Rattle.ftl_device.specs.Read.{IsLookedUp}
 use Rattle.ftl_device.specs.Flush.{first_of, IsFlushedOut}
-use Rattle.ftl_device.specs.Shortage.{HasFunds, CallRoomCosts}
+use Rattle.ftl_device.specs.Shortage.{HasFunds, CallRoomCosts, StepCounts}
 
 -- ---- inside the device
 
@@ -68,6 +69,17 @@ pub record Readies {N : Type 0} (flash : N → Flash) (honest : N → Bool) (n p
   pub same_keys : result ≡ Err call.OutOfMemory → keys_of new.mapping.cached ≡ keys_of old.mapping.cached
   pub cached : IsSome (slot_of old.mapping n) → result ≢ Err call.OutOfMemory
   pub costs : CallRoomCosts (HasFunds (honest old.nand) (ram old) (image_in flash old)) pages (ram old) (ram new) result
+
+-- and of a step of a collection that a turn takes: bad blocks get no page; where the die is honest the array stays
+pub record CollectsOn {N : Type 0} (flash : N → Flash) (honest calm : N → Bool) (erases failed : N → ℕ) (old : Engine N) (result : Result (Unit {0}) WriteFault) (new : Engine N) : Type 0 where
+  pub leaves : Leaves flash honest calm failed old result new
+  pub limits : HasLimitsOf old.mapping new.mapping
+  pub calm_memory : new.fault ≡ None → IsCalm (ram new)
+  pub goes : GoesOn (ram old) (ram new)
+  pub counts : StepCounts (ram old) (ram new) result
+  pub risen : OnOk result ((before : ℕ) → HasRisen before (erases old.nand) → HasRisen before (erases new.nand))
+  pub bad : honest old.nand ≡ true → Knows (ram old) (image_in flash old) → OnOk result (KeepsBad (ram old) (ram new))
+  pub truth : honest old.nand ≡ true → Knows (ram old) (image_in flash old) → MatchResult result (λ done. KeepsArray old.geometry (image_in flash old) (ram new) (image_in flash new)) (λ fault. CallRefused old.geometry (image_in flash old) (ram new) (image_in flash new) (call.Engine fault))
 
 -- THE ROW THAT THE SECTOR HAD WAS LOOKED UP before a page of it was programmed: memory knew it once there was room, or else this page of
 -- entries gives it, a sound translation page

@@ -1,8 +1,10 @@
 ghost use Rattle.ftl_device.specs.Begin.{BeginLaw, FreeLaw, GoodLaw, AccountsLaw};
-ghost use Rattle.ftl_device.specs.Calls.{StaleLaw, RestartLaw, LeftBelowLaw};
+ghost use Rattle.ftl_device.specs.Calls.{StaleLaw, RestartLaw, LeftBelowLaw, TurnsLaw};
 ghost use Rattle.ftl_device.specs.Counts.{FreeNowLaw, GoodNowLaw, BadNowLaw, ShortLaw};
 ghost use Rattle.ftl_device.specs.Shortage.{LeavesFiveLaw, TablesLeaveLaw};
 ghost use Rattle.ftl_device.specs.Flush.{FreshLaw, AnywhereLaw, ShownBadLaw, ShownWearLaw};
+
+use onfi_cycles::Nand;
 
 /// An accepted certificate gives a memory that agrees with the image, the good and the free blocks
 /// that the image shows, and the accounts with which a log begins. (This project.)
@@ -14,13 +16,19 @@ pub fn begin_laws()
 {}
 
 /// A sector that is stale in the image is cached, where none is moved, so caching it takes no memory;
-/// what a device holds between two calls is an image that it may be started from again; and what is
-/// left of the collection under way is less than a block's pages, unless the device is read-only.
-/// (This project.)
+/// and what a device holds between two calls is an image that it may be started from again. (This
+/// project.)
 pub fn restart_laws()
     ensures stale { StaleLaw }
     ensures restart { RestartLaw }
-    ensures below { LeftBelowLaw }
+{}
+
+/// What is left of the collection under way is less than a block's pages, unless the device is
+/// read-only. So of as many turns in a row as a block has pages, each of them what `turn` says of one
+/// without a failure, one erases a block or changes nothing. (This project.)
+pub fn turn_laws<N: Nand>()
+    ensures below { LeftBelowLaw N.flash }
+    ensures turns { TurnsLaw N.flash N.erases }
 {}
 
 /// At every call: the good and the free blocks of a memory that agrees with the image are those that

@@ -1,5 +1,5 @@
 //! A sector is made ready: its entry is cached before anything of it is programmed.
-ghost use Rattle.std.specs.Prelude.{◌≡◌, ◌≢◌, ℕ, ◌<◌, ◌≤◌, true, length, Some, None, Ok, Err, IfOk, IfErr, IsSome, OnOk, MatchResult};
+ghost use Rattle.std.specs.Prelude.{◌≡◌, ◌≢◌, ℕ, ◌<◌, ◌≤◌, true, length, Some, None, Ok, Err, IsOk, IfOk, IfErr, IsSome, OnOk, MatchResult};
 ghost use Rattle.std.specs.Option.{ForSome};
 ghost use Rattle.std.specs.Map.{keys_of};
 ghost use Rattle.page_layout.specs.Counter.{HasRisen};
@@ -19,6 +19,7 @@ ghost use Rattle.collection.specs.Collect.{KeepsKeys, IsRearranged, RoomRefused,
 ghost use Rattle.ftl_device.specs.Calls.{Knows, IsFound, KeepsArray, HoldsSector, CallRefused, HasMadeRoom};
 ghost use Rattle.ftl_device.specs.Calls.{HasMadePlace, IsReady, HasCost};
 ghost use Rattle.budget.specs.Spending.{IsFunded};
+ghost use Rattle.allocation.specs.State.{free_count};
 ghost use Rattle.allocation.specs.Counts.{counts_of};
 ghost use Rattle.ftl_device.specs.Flush.{KeepsClean};
 ghost use Rattle.ftl_device.specs.Read.{IsLookedUp};
@@ -36,6 +37,7 @@ pub(crate) fn make_room<N: Nand>(engine: &mut Engine<N>, flushing: bool) -> Resu
     requires calm { IsCalm (ram engine.old) }
     ensures leaves { Leaves N.flash N.honest N.calm N.failed engine.old result engine.new }
     ensures made { OnOk result (HasMadeRoom (ram engine.old) (ram engine.new)) }
+    ensures rests { 9 ≤ free_count (ram engine.old).blocks → IsOk result × (engine.new ≡ engine.old) }
     ensures erases { OnOk result (RestsOrErases N.erases engine.old engine.new) }
     ensures keys { KeepsKeys engine.old.mapping engine.new.mapping }
     ensures cleans { flushing ≡ true → OnOk result (KeepsClean engine.old.geometry engine.old.mapping engine.new.mapping) }

@@ -1,27 +1,22 @@
 //! A turn: a page is rescued from a bad block, or a collection goes one step further.
-ghost use Rattle.std.specs.Prelude.{◌≡◌, ◌≢◌, ◌-◌, ◌+◌, ◌<◌, ◌≤◌, ◌^◌, ℕ, true, false, Ok, Err, None, IsSome, IfErr, OnOk, MatchResult};
-ghost use Rattle.page_layout.specs.Counter.{HasRisen};
+ghost use Rattle.std.specs.Prelude.{◌≡◌, ◌≢◌, ◌-◌, ◌+◌, ◌<◌, ◌≤◌, ◌^◌, ℕ, true, false, Ok, Err, None, IsSome, IsOk, IfErr, OnOk, MatchResult};
 ghost use Rattle.promises.specs.Step.{Turn};
 ghost use Rattle.bad_blocks.specs.Table.{good_count};
-ghost use Rattle.mapping_cache.specs.Mapping.{HasLimitsOf};
 ghost use Rattle.collection.specs.Safe.{IsSafe, ram, image_in};
 ghost use Rattle.collection.specs.Left.{IsCalm};
-ghost use Rattle.collection.specs.Collect.{GoesOn, HasAiling, HasNoneAiling};
+ghost use Rattle.collection.specs.Collect.{HasAiling, HasNoneAiling};
 ghost use Rattle.ftl_device.specs.Device.{IsDevice};
-ghost use Rattle.ftl_device.specs.Calls.{IsWell, Knows, KeepsArray, CallRefused, HasRescued, KeepsBad};
+ghost use Rattle.ftl_device.specs.Calls.{IsWell, Knows, KeepsArray, CallRefused, HasRescued};
 ghost use Rattle.ftl_device.specs.Calls.{HasWorked, HasLess, HasFallen, IsQuiet};
-ghost use Rattle.ftl_device.specs.Changes.{Leaves, Ends, Upkeeps};
+ghost use Rattle.ftl_device.specs.Changes.{CollectsOn, Ends, Upkeeps};
 ghost use Rattle.allocation.specs.State.{free_count, live_at};
-ghost use Rattle.ftl_device.specs.Shortage.{HasFunds, CallShort, StepCounts};
+ghost use Rattle.ftl_device.specs.Shortage.{HasFunds, CallShort};
 
 use crate::device::Device;
 use crate::fault::{CallFault, DeviceFault};
 use crate::ready::make_room;
-use collection::{Engine, WriteFault};
+use collection::{Engine, Reserve, WriteFault};
 use onfi_cycles::Nand;
-
-// The free blocks beyond `RESERVE` up to which idle turns collect: a rescue needs two, and one is over.
-const MORE: u32 = 3;
 
 // Takes the collection of the pinned block one step further.
 fn step_pinned<N: Nand>(engine: &mut Engine<N>) -> Result<(), WriteFault>
@@ -29,21 +24,10 @@ fn step_pinned<N: Nand>(engine: &mut Engine<N>) -> Result<(), WriteFault>
     requires going { engine.old.fault ≡ None }
     requires calm { IsCalm (ram engine.old) }
     requires pinned { IsSome engine.old.pinned }
-    ensures leaves { Leaves N.flash N.honest N.calm N.failed engine.old result engine.new }
-    ensures limits { HasLimitsOf engine.old.mapping engine.new.mapping }
-    ensures calm { engine.new.fault ≡ None → IsCalm (ram engine.new) }
-    ensures goes { GoesOn (ram engine.old) (ram engine.new) }
-    ensures counts { StepCounts (ram engine.old) (ram engine.new) result }
-    ensures risen { OnOk result ((before : ℕ) → HasRisen before (N.erases engine.old.nand) → HasRisen before (N.erases engine.new.nand)) }
+    ensures collects { CollectsOn N.flash N.honest N.calm N.erases N.failed engine.old result engine.new }
     ensures worked { OnOk result (HasWorked (ram engine.old) (ram engine.new) (N.erases engine.old.nand) (N.erases engine.new.nand)) }
     ensures less { N.honest engine.old.nand ≡ true → Knows (ram engine.old) (image_in N.flash engine.old) →
         OnOk result (HasLess N.flash N.erases engine.old engine.new) }
-    ensures bad { N.honest engine.old.nand ≡ true → Knows (ram engine.old) (image_in N.flash engine.old) →
-        OnOk result (KeepsBad (ram engine.old) (ram engine.new)) }
-    ensures truth { N.honest engine.old.nand ≡ true → Knows (ram engine.old) (image_in N.flash engine.old) →
-        MatchResult result
-        (λ _. KeepsArray engine.old.geometry (image_in N.flash engine.old) (ram engine.new) (image_in N.flash engine.new))
-        (λ fault. CallRefused engine.old.geometry (image_in N.flash engine.old) (ram engine.new) (image_in N.flash engine.new) (CallFault.Engine fault)) }
 {
     engine.step(false)?;
     Ok(())
@@ -55,27 +39,17 @@ fn collect_on<N: Nand>(engine: &mut Engine<N>) -> Result<(), WriteFault>
     requires safe { IsSafe N.flash engine.old }
     requires going { engine.old.fault ≡ None }
     requires calm { IsCalm (ram engine.old) }
-    ensures leaves { Leaves N.flash N.honest N.calm N.failed engine.old result engine.new }
-    ensures limits { HasLimitsOf engine.old.mapping engine.new.mapping }
-    ensures calm { engine.new.fault ≡ None → IsCalm (ram engine.new) }
-    ensures goes { GoesOn (ram engine.old) (ram engine.new) }
-    ensures counts { StepCounts (ram engine.old) (ram engine.new) result }
-    ensures risen { OnOk result ((before : ℕ) → HasRisen before (N.erases engine.old.nand) → HasRisen before (N.erases engine.new.nand)) }
+    ensures collects { CollectsOn N.flash N.honest N.calm N.erases N.failed engine.old result engine.new }
+    ensures rests { engine.old.pinned ≡ None → 12 ≤ free_count (ram engine.old).blocks → IsOk result × (engine.new ≡ engine.old) }
     ensures quiet { N.honest engine.old.nand ≡ true → Knows (ram engine.old) (image_in N.flash engine.old) →
         OnOk result (IsQuiet N.erases engine.old engine.new) }
     ensures falls { N.honest engine.old.nand ≡ true → Knows (ram engine.old) (image_in N.flash engine.old) →
         OnOk result (HasFallen N.flash N.erases engine.old engine.new) }
-    ensures bad { N.honest engine.old.nand ≡ true → Knows (ram engine.old) (image_in N.flash engine.old) →
-        OnOk result (KeepsBad (ram engine.old) (ram engine.new)) }
-    ensures truth { N.honest engine.old.nand ≡ true → Knows (ram engine.old) (image_in N.flash engine.old) →
-        MatchResult result
-        (λ _. KeepsArray engine.old.geometry (image_in N.flash engine.old) (ram engine.new) (image_in N.flash engine.new))
-        (λ fault. CallRefused engine.old.geometry (image_in N.flash engine.old) (ram engine.new) (image_in N.flash engine.new) (CallFault.Engine fault)) }
 {
     if engine.pinned.is_some() {
         return step_pinned(engine);
     }
-    let worth = engine.worth(MORE);
+    let worth = engine.worth(Reserve::Turn);
     let Some(block) = worth else {
         return Ok(());
     };
@@ -93,6 +67,8 @@ fn turn_ready<N: Nand>(engine: &mut Engine<N>) -> Result<(), CallFault>
     ensures memory { result ≢ Err CallFault.OutOfMemory }
     ensures count { HasFunds (N.honest engine.old.nand) (ram engine.old) (image_in N.flash engine.old) →
         5 ≤ free_count (ram engine.old).blocks → CallShort (ram engine.old) (ram engine.new) result }
+    ensures rests { HasNoneAiling (ram engine.old).blocks → engine.old.pinned ≡ None → 12 ≤ free_count (ram engine.old).blocks →
+        IsOk result × (engine.new ≡ engine.old) }
     ensures quiet { N.honest engine.old.nand ≡ true → Knows (ram engine.old) (image_in N.flash engine.old) →
         OnOk result (IsQuiet N.erases engine.old engine.new) }
     ensures falls { N.honest engine.old.nand ≡ true → Knows (ram engine.old) (image_in N.flash engine.old) → HasNoneAiling (ram engine.old).blocks →
@@ -122,7 +98,8 @@ impl<N: Nand> Device<N> {
     /// goes one step further: one page is copied, or one translation page is written back, or the
     /// block is erased. Else, where fewer than twelve blocks are free and the closed block of fewest
     /// newest pages has at most `Geometry::vmax`, its collection begins with such a step. Else nothing
-    /// is asked of the die.
+    /// is asked of the die: so with twelve free blocks, no collection under way and no newest page in a
+    /// bad block.
     ///
     /// A turn that is done without programming or erasing leaves twelve free blocks, where three more
     /// are good than the geometry asks for. Turns without failures in between which all program have
@@ -140,6 +117,8 @@ impl<N: Nand> Device<N> {
         ensures device { IsDevice N.flash self.new }
         ensures geometry { self.new.engine.geometry ≡ self.old.engine.geometry }
         ensures upkeeps { Upkeeps N.flash N.honest N.calm N.failed Turn self.old result self.new }
+        ensures rests { HasNoneAiling (ram self.old.engine).blocks → self.old.engine.pinned ≡ None → 12 ≤ free_count (ram self.old.engine).blocks →
+            OnOk result (self.new.engine ≡ self.old.engine) }
         ensures quiet { N.honest self.old.engine.nand ≡ true → IsWell N.flash self.old →
             OnOk result (IsQuiet N.erases self.old.engine self.new.engine) }
         ensures falls { N.honest self.old.engine.nand ≡ true → IsWell N.flash self.old → HasNoneAiling (ram self.old.engine).blocks →

@@ -1,14 +1,14 @@
 //! Free blocks are what a call needs before it programs.
-ghost use Rattle.std.specs.Prelude.{◌≡◌, ◌≢◌, ◌⊎◌, ℕ, ◌<◌, ◌≤◌, true, Err, None, OnOk, IfErr, MatchResult, MatchOption};
+ghost use Rattle.std.specs.Prelude.{◌≡◌, ◌⊎◌, ℕ, ◌<◌, ◌≤◌, true, Err, None, OnOk, IfErr, MatchResult, MatchOption};
 ghost use Rattle.budget.specs.Spending.{IsFunded};
 ghost use Rattle.allocation.specs.State.{free_count};
 ghost use Rattle.allocation.specs.Counts.{counts_of};
 ghost use Rattle.collection.specs.Safe.{IsSafe, ram, image_in};
 ghost use Rattle.collection.specs.Truth as truth;
-ghost use Rattle.collection.specs.Collect.{KeepsKeys, Refreshes, GoesOn, HasRoom, RoomTells, IsRearranged, RoomRefused, RoomCounts};
-ghost use Rattle.collection.specs.Room.{IsMade, IsWorth, IsFundedOn};
+ghost use Rattle.collection.specs.Collect.{HasRoom, RoomCounts};
+ghost use Rattle.collection.specs.Room.{wanted, beyond, IsMade, IsWorth, IsFundedOn, MakesRoom};
 ghost use Rattle.collection.specs.Left.{IsCalm, PinHasPassed, PinIsFew};
-ghost use Rattle.collection.specs.Acts.{Acts, Stands, RestsOrErases};
+ghost use Rattle.collection.specs.Acts.{Acts, Stands};
 
 use super::Engine;
 use crate::fault::WriteFault;
@@ -18,19 +18,36 @@ use onfi_cycles::Nand;
 /// two failures; one is over. With fewer a device only reads. (This project.)
 pub const LEAST_FREE: u32 = 5;
 
-/// The free blocks up to which room is made: the least that a call may begin with, two that it opens,
-/// and one for each of two failures. (This project.)
-pub const RESERVE: u32 = 9;
+/// How far collections go. (This project.)
+#[derive(Clone, Copy, Debug, PartialEq, Eq)]
+pub enum Reserve {
+    /// Up to what a call needs: the least that it may begin with, two that it opens, and one for each
+    /// of two failures.
+    Call,
+    /// Up to what idle turns leave: three more, since a rescue needs two, and one is over.
+    Turn,
+}
+
+impl Reserve {
+    /// The free blocks up to which collections go on: 9 for a call, 12 for idle turns. (This project.)
+    pub fn blocks(self) -> u32
+        ensures { result ≡ wanted self }
+    {
+        match self {
+            Reserve::Call => 9,
+            Reserve::Turn => 12,
+        }
+    }
+}
 
 impl<N: Nand> Engine<N> {
-    /// The block that is worth collecting, where fewer than nine blocks and `more` are free: the next
+    /// The block that is worth collecting, where fewer blocks are free than this reserve has: the next
     /// victim, if it has at most `Geometry::vmax` live pages. (This project.)
-    pub fn worth(&self, more: u32) -> Option<u32>
+    pub fn worth(&self, reserve: Reserve) -> Option<u32>
         requires safe { IsSafe N.flash self.now }
-        requires more { more ≤ 3 }
-        ensures { MatchOption result (IsMade more (ram self.now)) (IsWorth more (ram self.now)) }
+        ensures { MatchOption result (IsMade (beyond reserve) (ram self.now)) (IsWorth (beyond reserve) (ram self.now)) }
     {
-        if self.blocks.free() >= RESERVE + more {
+        if self.blocks.free() >= reserve.blocks() {
             return None;
         }
         let victim = self.blocks.victim();
@@ -58,30 +75,18 @@ impl<N: Nand> Engine<N> {
         requires safe { IsSafe N.flash self.old }
         requires calm { IsCalm (ram self.old) }
         ensures acts { Acts N.flash N.honest N.calm N.failed self.old self.new result }
-        ensures calm { OnOk result (IsCalm (ram self.new)) }
+        ensures makes { MakesRoom N.flash N.honest N.erases flushing self.old self.new result }
         ensures unpinned { OnOk result ((9 ≤ free_count (ram self.new).blocks) ⊎ (self.new.pinned ≡ None)) }
-        ensures goes { GoesOn (ram self.old) (ram self.new) }
-        ensures keys { KeepsKeys self.old.mapping self.new.mapping }
-        ensures refreshes { flushing ≡ true → Refreshes (ram self.old) (ram self.new) }
-        ensures erases { OnOk result (RestsOrErases N.erases self.old self.new) }
-        ensures tells { IfErr result (RoomTells (ram self.new)) }
-        ensures truth { N.honest self.old.nand ≡ true → truth.IsTrue None (ram self.old) (image_in N.flash self.old) →
-            PinHasPassed (ram self.old) (image_in N.flash self.old) →
-            MatchResult result
-            (λ _. IsRearranged (ram self.old) (image_in N.flash self.old) (ram self.new) (image_in N.flash self.new))
-            (RoomRefused (ram self.old) (image_in N.flash self.old) (ram self.new) (image_in N.flash self.new)) }
         ensures count { N.honest self.old.nand ≡ true → truth.IsTrue None (ram self.old) (image_in N.flash self.old) →
             PinHasPassed (ram self.old) (image_in N.flash self.old) → PinIsFew 0 (ram self.old) →
             (failures : ℕ) → IsFunded self.old.geometry.pages failures (counts_of (ram self.old).blocks) →
             MatchResult result
             (λ _. IsFundedOn failures (ram self.old) (ram self.new))
             (λ fault. RoomCounts failures (ram self.old) (ram self.new) (Err fault)) }
-        ensures few { N.honest self.old.nand ≡ true → truth.IsTrue None (ram self.old) (image_in N.flash self.old) →
-            PinHasPassed (ram self.old) (image_in N.flash self.old) → PinIsFew 0 (ram self.old) →
-            result ≢ Err WriteFault.Bus → PinIsFew 0 (ram self.new) }
     {
+        let wanted = Reserve::Call.blocks();
         match self.pinned {
-            Some(pinned) if self.blocks.free() < RESERVE => self.collect_from(pinned, flushing),
+            Some(pinned) if self.blocks.free() < wanted => self.collect_from(pinned, flushing),
             _ => Ok(()),
         }
     }
@@ -92,29 +97,16 @@ impl<N: Nand> Engine<N> {
         requires safe { IsSafe N.flash self.old }
         requires calm { IsCalm (ram self.old) }
         ensures acts { Acts N.flash N.honest N.calm N.failed self.old self.new result }
-        ensures calm { OnOk result (IsCalm (ram self.new)) }
-        ensures goes { GoesOn (ram self.old) (ram self.new) }
-        ensures keys { KeepsKeys self.old.mapping self.new.mapping }
-        ensures refreshes { flushing ≡ true → Refreshes (ram self.old) (ram self.new) }
+        ensures makes { MakesRoom N.flash N.honest N.erases flushing self.old self.new result }
         ensures room { OnOk result (HasRoom (ram self.new)) }
-        ensures erases { OnOk result (RestsOrErases N.erases self.old self.new) }
-        ensures tells { IfErr result (RoomTells (ram self.new)) }
-        ensures truth { N.honest self.old.nand ≡ true → truth.IsTrue None (ram self.old) (image_in N.flash self.old) →
-            PinHasPassed (ram self.old) (image_in N.flash self.old) →
-            MatchResult result
-            (λ _. IsRearranged (ram self.old) (image_in N.flash self.old) (ram self.new) (image_in N.flash self.new))
-            (RoomRefused (ram self.old) (image_in N.flash self.old) (ram self.new) (image_in N.flash self.new)) }
         ensures count { N.honest self.old.nand ≡ true → truth.IsTrue None (ram self.old) (image_in N.flash self.old) →
             PinHasPassed (ram self.old) (image_in N.flash self.old) → PinIsFew 0 (ram self.old) →
             (failures : ℕ) → IsFunded self.old.geometry.pages failures (counts_of (ram self.old).blocks) →
             RoomCounts failures (ram self.old) (ram self.new) result }
-        ensures few { N.honest self.old.nand ≡ true → truth.IsTrue None (ram self.old) (image_in N.flash self.old) →
-            PinHasPassed (ram self.old) (image_in N.flash self.old) → PinIsFew 0 (ram self.old) →
-            result ≢ Err WriteFault.Bus → PinIsFew 0 (ram self.new) }
     {
         self.finish(flushing)?;
         'rounds: loop {
-            let worth = self.worth(0);
+            let worth = self.worth(Reserve::Call);
             let Some(block) = worth else {
                 return self.enough();
             };
@@ -149,25 +141,12 @@ impl<N: Nand> Engine<N> {
         requires safe { IsSafe N.flash self.old }
         requires calm { self.old.fault ≡ None → IsCalm (ram self.old) }
         ensures stands { Stands N.flash N.honest N.calm N.failed self.old self.new result }
-        ensures calm { OnOk result (IsCalm (ram self.new)) }
-        ensures goes { GoesOn (ram self.old) (ram self.new) }
-        ensures keys { KeepsKeys self.old.mapping self.new.mapping }
-        ensures refreshes { flushing ≡ true → Refreshes (ram self.old) (ram self.new) }
+        ensures makes { self.old.fault ≡ None → MakesRoom N.flash N.honest N.erases flushing self.old self.new result }
         ensures room { OnOk result (HasRoom (ram self.new)) }
-        ensures erases { OnOk result (RestsOrErases N.erases self.old self.new) }
-        ensures tells { self.old.fault ≡ None → IfErr result (RoomTells (ram self.new)) }
-        ensures truth { N.honest self.old.nand ≡ true → self.old.fault ≡ None → truth.IsTrue None (ram self.old) (image_in N.flash self.old) →
-            PinHasPassed (ram self.old) (image_in N.flash self.old) →
-            MatchResult result
-            (λ _. IsRearranged (ram self.old) (image_in N.flash self.old) (ram self.new) (image_in N.flash self.new))
-            (RoomRefused (ram self.old) (image_in N.flash self.old) (ram self.new) (image_in N.flash self.new)) }
         ensures count { N.honest self.old.nand ≡ true → self.old.fault ≡ None → truth.IsTrue None (ram self.old) (image_in N.flash self.old) →
             PinHasPassed (ram self.old) (image_in N.flash self.old) → PinIsFew 0 (ram self.old) →
             (failures : ℕ) → IsFunded self.old.geometry.pages failures (counts_of (ram self.old).blocks) →
             RoomCounts failures (ram self.old) (ram self.new) result }
-        ensures few { N.honest self.old.nand ≡ true → self.old.fault ≡ None → truth.IsTrue None (ram self.old) (image_in N.flash self.old) →
-            PinHasPassed (ram self.old) (image_in N.flash self.old) → PinIsFew 0 (ram self.old) →
-            result ≢ Err WriteFault.Bus → PinIsFew 0 (ram self.new) }
     {
         self.standing()?;
         let answer = self.regain(flushing);

@@ -1,6 +1,6 @@
 //! A block is collected from turn to turn.
 ghost use Rattle.std.specs.Prelude.{◌≡◌, ◌≢◌, ◌⊎◌, ℕ, ◌+◌, ◌-◌, ◌*◌, ◌<◌, ◌≤◌, true, false, min, replicate, Some, None, IsSome, Ok, Err, IfOk, OnOk, OnErr, MatchResult};
-ghost use Rattle.std.specs.Option.{ForSome};
+ghost use Rattle.std.specs.Option.{option_map, ForSome};
 ghost use Rattle.page_layout.specs.Page.{Image};
 ghost use Rattle.page_layout.specs.Geometry.{translation_pages};
 ghost use Rattle.allocation.specs.State.{is_closed, live_at};
@@ -62,8 +62,7 @@ fn next_pin(block: u32, pages: u32, progress: Progress) -> Option<Pinned>
 impl<N: Nand> Engine<N> {
     /// The block that is being collected from turn to turn. (This project.)
     pub fn pinned(&self) -> Option<u32>
-        ensures none { (ram self.now).pin.block ≡ None → result ≡ None }
-        ensures some { ForSome (ram self.now).pin.block (λ p. result ≡ Some p.block) }
+        ensures { result ≡ option_map (λ p. p.block) self.now.pinned }
     {
         match self.pinned {
             Some(pinned) => Some(pinned.block),
@@ -71,17 +70,17 @@ impl<N: Nand> Engine<N> {
         }
     }
 
-    /// Begins the collection of a closed block, where none is pinned: each `step` takes it further.
-    /// Nothing is asked of the die. (This project.)
+    /// Begins the collection of a closed block, where none is pinned: each `step` takes it further, if
+    /// no sector is moved yet and no translation page is marked. Nothing is asked of the die. (This
+    /// project.)
     pub fn pin(&mut self, block: u32)
         requires safe { IsSafe N.flash self.old }
-        requires idle { self.old.fault ≡ None → IsIdle (ram self.old) }
         requires unpinned { self.old.pinned ≡ None }
         requires block { block < self.old.geometry.blocks }
         requires closed { is_closed (ram self.old).blocks block ≡ true }
         ensures safe { IsSafe N.flash self.new }
         ensures pinned { self.new ≡ record self.old { pinned = Some (record { block = block; first = 0 }) } }
-        ensures calm { self.old.fault ≡ None → IsCalm (ram self.new) }
+        ensures calm { IsIdle (ram self.old) → IsCalm (ram self.new) }
         ensures passed { (image : Image) → PinHasPassed (ram self.new) image }
     {
         self.pinned = Some(Pinned { block, first: 0 });

@@ -1,5 +1,9 @@
+use Rattle.collection.proofs.HalfDone.{idle_law}
 use Rattle.collection.proofs.Lefts.{pin_law, left_law, kept_law, calm_law, passed_law, few_law, copy_law, write_law}
 use Rattle.collection.proofs.laws.left_laws.Goals as goal
+
+pub returns-clause-idle : goal.returns-clause-idle
+returns-clause-idle c = idle_law
 
 pub returns-clause-pinned : goal.returns-clause-pinned
 returns-clause-pinned c = pin_law

@@ -1,5 +1,4 @@
 use Rattle.ftl_device.proofs.MountableLemmas.{stale_law, restart_law}
-use Rattle.ftl_device.proofs.StepLemmas.{left_below}
 use Rattle.ftl_device.proofs.laws.restart_laws.Goals as goal
 
 pub returns-clause-stale : goal.returns-clause-stale
@@ -7,6 +6,3 @@ returns-clause-stale c = stale_law
 
 pub returns-clause-restart : goal.returns-clause-restart
 returns-clause-restart c = restart_law
-
-pub returns-clause-below : goal.returns-clause-below
-returns-clause-below c = left_below

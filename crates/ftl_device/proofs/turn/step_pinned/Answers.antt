@@ -6,74 +6,53 @@ use Rattle.ftl_device.proofs.LeaveLemmas.{leaves_by, leaves_done, leaves_refused
 use Rattle.ftl_device.proofs.StepLemmas.{some_pin, pinned_half, step_goes_on, step_told, step_counted, step_stuck, risen_told, step_worked, step_less, step_keeps, step_bad, step_refused}
 use Rattle.ftl_device.proofs.turn.step_pinned.Goals as goal
 
--- ---- it was refused
-
-pub returns-in_err-step-clause-goes : goal.returns-in_err-step-clause-goes
-returns-in_err-step-clause-goes g c =
-    let q = some_pin c.args.engine.now.pinned c.requires.pinned in
-    let a = c.in_err-step.ensures.advances c.requires.going q.0 q.1 in
-    step_goes_on q.0 (ram c.args.engine.now) (ram c.step.new.self) (pinned_half (ram c.args.engine.now) q.0 c.requires.calm q.1) a.goes
-
-pub returns-in_err-step-clause-leaves : goal.returns-in_err-step-clause-leaves
-returns-in_err-step-clause-leaves g c =
+-- it was refused
+pub returns-in_err-step-clause-collects : goal.returns-in_err-step-clause-collects
+returns-in_err-step-clause-collects g c =
     let p = err_from_is_err_and c.from_residual.result c.from_residual.ensures.1 in
     let q = some_pin c.args.engine.now.pinned c.requires.pinned in
+    let old = ram c.args.engine.now in
+    let new = ram c.step.new.self in
     let a = c.in_err-step.ensures.advances c.requires.going q.0 q.1 in
-    rw (p.1, p.2) (leaves_refused g.N.PageSource.flash g.N.PageSource.honest g.N.PageSource.calm g.N.PageSource.failed _ _ c.args.engine.now c.step.new.self _ (leaves_by g.N.PageSource.flash g.N.PageSource.honest g.N.PageSource.calm g.N.PageSource.failed c.args.engine.now c.step.new.self (Err _) c.requires.going c.in_err-step.ensures.stands a.goes.geometry
-    (step_told q.0 (ram c.args.engine.now) (ram c.step.new.self) _ (good_fewer (ram c.args.engine.now) (ram c.step.new.self) c.requires.safe.memory c.in_err-step.ensures.stands.safe.memory (returns-in_err-step-clause-goes g c)) a.cost)))
+    let t = c.in_err-step.ensures.stands in
+    let goes = step_goes_on q.0 old new (pinned_half old q.0 c.requires.calm q.1) a.goes in
+    let told = step_told q.0 old new _ (good_fewer old new c.requires.safe.memory t.safe.memory goes) a.cost in
+    let leaves = leaves_refused g.N.PageSource.flash g.N.PageSource.honest g.N.PageSource.calm g.N.PageSource.failed _ _ c.args.engine.now c.step.new.self _
+    (leaves_by g.N.PageSource.flash g.N.PageSource.honest g.N.PageSource.calm g.N.PageSource.failed c.args.engine.now c.step.new.self (Err _) c.requires.going t a.goes.geometry told) in
+    rw (p.1, p.2) (record {
+      leaves = leaves;
+      limits = a.keys.limits;
+      calm_memory = λ none. (let stands = leaves.fault in let no : ⊥ = cc in absurd no);
+      goes = goes;
+      counts = step_stuck old new _ a.cost;
+      risen = tt;
+      bad = λ honest k. tt;
+      truth = λ honest k. step_refused q.0 old new _ _ c.requires.safe.memory t.safe.memory a.goes.geometry k q.1 _ a.stays.0 a.stays.1 (a.truth honest k.truth (k.passed q.0 q.1));
+    })
 
-pub returns-in_err-step-clause-limits : goal.returns-in_err-step-clause-limits
-returns-in_err-step-clause-limits g c =
+-- it was taken
+pub returns-clause-collects : goal.returns-clause-collects
+returns-clause-collects g c =
     let q = some_pin c.args.engine.now.pinned c.requires.pinned in
-    (c.in_err-step.ensures.advances c.requires.going q.0 q.1).keys.limits
-
-pub returns-in_err-step-clause-counts : goal.returns-in_err-step-clause-counts
-returns-in_err-step-clause-counts g c =
-    let p = err_from_is_err_and c.from_residual.result c.from_residual.ensures.1 in
-    let q = some_pin c.args.engine.now.pinned c.requires.pinned in
-    rw (p.1, p.2) (step_stuck (ram c.args.engine.now) (ram c.step.new.self) _ (c.in_err-step.ensures.advances c.requires.going q.0 q.1).cost)
-
-pub returns-in_err-step-clause-truth : goal.returns-in_err-step-clause-truth
-returns-in_err-step-clause-truth g c =
-    let p = err_from_is_err_and c.from_residual.result c.from_residual.ensures.1 in
-    let q = some_pin c.args.engine.now.pinned c.requires.pinned in
-    let a = c.in_err-step.ensures.advances c.requires.going q.0 q.1 in
-    rw (p.1, p.2) (λ honest k. step_refused q.0 (ram c.args.engine.now) (ram c.step.new.self) _ _ c.requires.safe.memory c.in_err-step.ensures.stands.safe.memory a.goes.geometry k q.1 _ a.stays.0 a.stays.1 (a.truth honest k.truth (k.passed q.0 q.1)))
-
--- ---- it was taken
-
-pub returns-clause-goes : goal.returns-clause-goes
-returns-clause-goes g c =
-    let q = some_pin c.args.engine.now.pinned c.requires.pinned in
+    let old = ram c.args.engine.now in
+    let new = ram c.step.new.self in
     let a = c.in_ok-step.ensures.advances c.requires.going q.0 q.1 in
-    step_goes_on q.0 (ram c.args.engine.now) (ram c.step.new.self) (pinned_half (ram c.args.engine.now) q.0 c.requires.calm q.1) a.goes
-
-pub returns-clause-leaves : goal.returns-clause-leaves
-returns-clause-leaves g c =
-    let q = some_pin c.args.engine.now.pinned c.requires.pinned in
-    let a = c.in_ok-step.ensures.advances c.requires.going q.0 q.1 in
-    leaves_done g.N.PageSource.flash g.N.PageSource.honest g.N.PageSource.calm g.N.PageSource.failed c.args.engine.now c.step.new.self _ tt (leaves_by g.N.PageSource.flash g.N.PageSource.honest g.N.PageSource.calm g.N.PageSource.failed c.args.engine.now c.step.new.self (Ok _) c.requires.going c.in_ok-step.ensures.stands a.goes.geometry
-    (good_fewer (ram c.args.engine.now) (ram c.step.new.self) c.requires.safe.memory c.in_ok-step.ensures.stands.safe.memory (returns-clause-goes g c)))
-
-pub returns-clause-limits : goal.returns-clause-limits
-returns-clause-limits g c =
-    let q = some_pin c.args.engine.now.pinned c.requires.pinned in
-    (c.in_ok-step.ensures.advances c.requires.going q.0 q.1).keys.limits
-
-pub returns-clause-calm : goal.returns-clause-calm
-returns-clause-calm g c = λ none.
-    let q = some_pin c.args.engine.now.pinned c.requires.pinned in
-    (c.in_ok-step.ensures.advances c.requires.going q.0 q.1).calm refl c.requires.calm
-
-pub returns-clause-counts : goal.returns-clause-counts
-returns-clause-counts g c =
-    let q = some_pin c.args.engine.now.pinned c.requires.pinned in
-    step_counted q.0 (ram c.args.engine.now) (ram c.step.new.self) _ (c.in_ok-step.ensures.advances c.requires.going q.0 q.1).cost.cost
-
-pub returns-clause-risen : goal.returns-clause-risen
-returns-clause-risen g c = λ before r.
-    let q = some_pin c.args.engine.now.pinned c.requires.pinned in
-    risen_told before _ _ _ (c.in_ok-step.ensures.advances c.requires.going q.0 q.1).erases_are r
+    let t = c.in_ok-step.ensures.stands in
+    let goes = step_goes_on q.0 old new (pinned_half old q.0 c.requires.calm q.1) a.goes in
+    let calm = a.calm refl c.requires.calm in
+    record {
+      leaves = leaves_done g.N.PageSource.flash g.N.PageSource.honest g.N.PageSource.calm g.N.PageSource.failed c.args.engine.now c.step.new.self _ tt
+          (leaves_by g.N.PageSource.flash g.N.PageSource.honest g.N.PageSource.calm g.N.PageSource.failed c.args.engine.now c.step.new.self (Ok _) c.requires.going t a.goes.geometry (good_fewer old new c.requires.safe.memory t.safe.memory goes));
+      limits = a.keys.limits;
+      calm_memory = λ none. calm;
+      goes = goes;
+      counts = step_counted q.0 old new _ a.cost.cost;
+      risen = λ before r. risen_told before _ _ _ a.erases_are r;
+      bad = λ honest k.
+          let on = a.truth honest k.truth (k.passed q.0 q.1) in
+          step_bad q.0 old new _ _ c.requires.safe.memory t.safe.memory a.goes.geometry k q.1 on.same.truth on.same.leaves;
+      truth = λ honest k. step_keeps q.0 old new _ _ c.requires.safe.memory t.safe.memory a.goes.geometry k q.1 _ calm (a.truth honest k.truth (k.passed q.0 q.1));
+    }
 
 pub returns-clause-worked : goal.returns-clause-worked
 returns-clause-worked g c =
@@ -86,16 +65,3 @@ returns-clause-less g c = λ honest k.
     let q = some_pin c.args.engine.now.pinned c.requires.pinned in
     let a = c.in_ok-step.ensures.advances c.requires.going q.0 q.1 in
     step_less q.0 (ram c.args.engine.now) (ram c.step.new.self) _ _ _ _ _ q.1 a.cost a.erases_are (a.truth honest k.truth (k.passed q.0 q.1))
-
-pub returns-clause-bad : goal.returns-clause-bad
-returns-clause-bad g c = λ honest k.
-    let q = some_pin c.args.engine.now.pinned c.requires.pinned in
-    let a = c.in_ok-step.ensures.advances c.requires.going q.0 q.1 in
-    let on = a.truth honest k.truth (k.passed q.0 q.1) in
-    step_bad q.0 (ram c.args.engine.now) (ram c.step.new.self) _ _ c.requires.safe.memory c.in_ok-step.ensures.stands.safe.memory a.goes.geometry k q.1 on.same.truth on.same.leaves
-
-pub returns-clause-truth : goal.returns-clause-truth
-returns-clause-truth g c = λ honest k.
-    let q = some_pin c.args.engine.now.pinned c.requires.pinned in
-    let a = c.in_ok-step.ensures.advances c.requires.going q.0 q.1 in
-    step_keeps q.0 (ram c.args.engine.now) (ram c.step.new.self) _ _ c.requires.safe.memory c.in_ok-step.ensures.stands.safe.memory a.goes.geometry k q.1 _ (a.calm refl c.requires.calm) (a.truth honest k.truth (k.passed q.0 q.1))

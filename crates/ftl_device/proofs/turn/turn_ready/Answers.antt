@@ -1,4 +1,4 @@
-use Rattle.std.proofs.Common.{◌∙◌, Ok, Err}
+use Rattle.std.proofs.Common.{◌∙◌, Ok, Err, refl, arith}
 use Rattle.std.proofs.lemmas.Result.{err_from_is_err_and}
 use Rattle.collection.specs.Safe.{ram}
 use Rattle.collection.proofs.Lefts.{calm_law}
@@ -6,7 +6,7 @@ use Rattle.ftl_device.proofs.FlushLoops.{limits_then, engine_keeps, keeps_then, 
 use Rattle.ftl_device.proofs.RoomLemmas.{rescued_by, rescue_told, keeps_room, refused_room, rescue_worked}
 use Rattle.ftl_device.proofs.SpentLemmas.{rescue_short, rescue_stuck, unroomed_short}
 use Rattle.ftl_device.proofs.LeaveLemmas.{leaves_by, leaves_then, leaves_done, leaves_ends, leaves_stuck}
-use Rattle.ftl_device.proofs.StepLemmas.{moved_less, rescue_refused, step_short, step_short_of, quiet_then, fallen_then, none_worked, rescue_falls, collected_rescued, rescue_works}
+use Rattle.ftl_device.proofs.StepLemmas.{no_rescue, resting, moved_less, rescue_refused, step_short, step_short_of, quiet_then, fallen_then, none_worked, rescue_falls, collected_rescued, rescue_works}
 use Rattle.ftl_device.proofs.turn.turn_ready.Goals as goal
 
 -- ---- no room was made
@@ -94,17 +94,17 @@ returns-in_err-collect_on-clause-truth g c =
     rw (p.1, p.2) (λ honest w.
     let room = c.in_ok-make_room.ensures.truth honest w in
     let knows = c.in_ok-make_room.ensures.pinned honest w in
-    keeps_refused c.args.engine.now.geometry (ram c.make_room.new.engine) (ram c.collect_on.new.engine) _ _ _ _ c.make_room.ensures.leaves.geometry (keeps_room (ram c.args.engine.now) (ram c.make_room.new.engine) _ _ room knows) (c.in_err-collect_on.ensures.truth (c.make_room.ensures.leaves.honest_is ∙ honest) knows))
+    keeps_refused c.args.engine.now.geometry (ram c.make_room.new.engine) (ram c.collect_on.new.engine) _ _ _ _ c.make_room.ensures.leaves.geometry (keeps_room (ram c.args.engine.now) (ram c.make_room.new.engine) _ _ room knows) (c.in_err-collect_on.ensures.collects.truth (c.make_room.ensures.leaves.honest_is ∙ honest) knows))
 
 pub returns-in_err-collect_on-clause-count : goal.returns-in_err-collect_on-clause-count
 returns-in_err-collect_on-clause-count g c =
     let p = err_from_is_err_and c.from_residual-in_err-collect_on.result c.from_residual-in_err-collect_on.ensures.1 in
-    rw (p.1, p.2) (λ known five. step_short_of (ram c.args.engine.now) (ram c.make_room.new.engine) (ram c.collect_on.new.engine) c.requires.safe.memory c.make_room.ensures.leaves.safe.memory c.collect_on.ensures.leaves.safe.memory c.in_ok-make_room.ensures.made c.collect_on.ensures.goes (c.in_ok-make_room.ensures.count known.0 known.1 0 known.2) _ c.in_err-collect_on.ensures.counts)
+    rw (p.1, p.2) (λ known five. step_short_of (ram c.args.engine.now) (ram c.make_room.new.engine) (ram c.collect_on.new.engine) c.requires.safe.memory c.make_room.ensures.leaves.safe.memory c.collect_on.ensures.collects.leaves.safe.memory c.in_ok-make_room.ensures.made c.collect_on.ensures.collects.goes (c.in_ok-make_room.ensures.count known.0 known.1 0 known.2) _ c.in_err-collect_on.ensures.collects.counts)
 
 pub returns-in_err-collect_on-clause-ends : goal.returns-in_err-collect_on-clause-ends
 returns-in_err-collect_on-clause-ends g c =
     let p = err_from_is_err_and c.from_residual-in_err-collect_on.result c.from_residual-in_err-collect_on.ensures.1 in
-    rw (p.1, p.2) (leaves_stuck g.N.PageSource.flash g.N.PageSource.honest g.N.PageSource.calm g.N.PageSource.failed c.args.engine.now c.collect_on.new.engine _ (leaves_then g.N.PageSource.flash g.N.PageSource.honest g.N.PageSource.calm g.N.PageSource.failed c.args.engine.now c.make_room.new.engine c.collect_on.new.engine _ _ c.in_ok-make_room.ensures.leaves c.in_err-collect_on.ensures.leaves) (limits_then _ _ _ c.make_room.ensures.keys.limits c.collect_on.ensures.limits))
+    rw (p.1, p.2) (leaves_stuck g.N.PageSource.flash g.N.PageSource.honest g.N.PageSource.calm g.N.PageSource.failed c.args.engine.now c.collect_on.new.engine _ (leaves_then g.N.PageSource.flash g.N.PageSource.honest g.N.PageSource.calm g.N.PageSource.failed c.args.engine.now c.make_room.new.engine c.collect_on.new.engine _ _ c.in_ok-make_room.ensures.leaves c.in_err-collect_on.ensures.collects.leaves) (limits_then _ _ _ c.make_room.ensures.keys.limits c.collect_on.ensures.collects.limits))
 
 -- ---- a collection went on
 
@@ -112,23 +112,43 @@ pub returns-clause-truth : goal.returns-clause-truth
 returns-clause-truth g c = λ honest w.
     let room = c.in_ok-make_room.ensures.truth honest w in
     let knows = c.in_ok-make_room.ensures.pinned honest w in
-    keeps_then _ _ _ _ _ _ c.make_room.ensures.leaves.geometry (keeps_room (ram c.args.engine.now) (ram c.make_room.new.engine) _ _ room knows) (c.in_ok-collect_on.ensures.truth (c.make_room.ensures.leaves.honest_is ∙ honest) knows)
+    keeps_then _ _ _ _ _ _ c.make_room.ensures.leaves.geometry (keeps_room (ram c.args.engine.now) (ram c.make_room.new.engine) _ _ room knows) (c.in_ok-collect_on.ensures.collects.truth (c.make_room.ensures.leaves.honest_is ∙ honest) knows)
 
 pub returns-clause-rescued : goal.returns-clause-rescued
 returns-clause-rescued g c = λ honest w.
-    collected_rescued (ram c.args.engine.now) (ram c.make_room.new.engine) (ram c.collect_on.new.engine) _ _ c.requires.safe.memory c.make_room.ensures.leaves.safe.memory c.collect_on.ensures.leaves.safe.memory c.in_ok-make_room.ensures.made.goes c.collect_on.ensures.goes (c.in_ok-make_room.ensures.truth honest w) c.if-needs_rescue.ensures.none (c.in_ok-collect_on.ensures.bad (c.make_room.ensures.leaves.honest_is ∙ honest) (c.in_ok-make_room.ensures.pinned honest w))
+    collected_rescued (ram c.args.engine.now) (ram c.make_room.new.engine) (ram c.collect_on.new.engine) _ _ c.requires.safe.memory c.make_room.ensures.leaves.safe.memory c.collect_on.ensures.collects.leaves.safe.memory c.in_ok-make_room.ensures.made.goes c.collect_on.ensures.collects.goes (c.in_ok-make_room.ensures.truth honest w) c.if-needs_rescue.ensures.none (c.in_ok-collect_on.ensures.collects.bad (c.make_room.ensures.leaves.honest_is ∙ honest) (c.in_ok-make_room.ensures.pinned honest w))
 
 pub returns-clause-worked : goal.returns-clause-worked
-returns-clause-worked g c = λ honest w some. none_worked g.N.PageSource.erases c.args.engine.now c.make_room.new.engine c.collect_on.new.engine c.in_ok-make_room.ensures.erases c.in_ok-collect_on.ensures.risen c.if-needs_rescue.ensures.none some
+returns-clause-worked g c = λ honest w some. none_worked g.N.PageSource.erases c.args.engine.now c.make_room.new.engine c.collect_on.new.engine c.in_ok-make_room.ensures.erases c.in_ok-collect_on.ensures.collects.risen c.if-needs_rescue.ensures.none some
 
 pub returns-clause-quiet : goal.returns-clause-quiet
-returns-clause-quiet g c = λ honest w. quiet_then g.N.PageSource.erases c.args.engine.now c.make_room.new.engine c.collect_on.new.engine c.in_ok-make_room.ensures.erases c.in_ok-collect_on.ensures.risen (c.in_ok-collect_on.ensures.quiet (c.make_room.ensures.leaves.honest_is ∙ honest) (c.in_ok-make_room.ensures.pinned honest w))
+returns-clause-quiet g c = λ honest w. quiet_then g.N.PageSource.erases c.args.engine.now c.make_room.new.engine c.collect_on.new.engine c.in_ok-make_room.ensures.erases c.in_ok-collect_on.ensures.collects.risen (c.in_ok-collect_on.ensures.quiet (c.make_room.ensures.leaves.honest_is ∙ honest) (c.in_ok-make_room.ensures.pinned honest w))
 
 pub returns-clause-falls : goal.returns-clause-falls
-returns-clause-falls g c = λ honest w none. fallen_then g.N.PageSource.flash g.N.PageSource.erases c.args.engine.now c.make_room.new.engine c.collect_on.new.engine c.in_ok-make_room.ensures.erases c.in_ok-collect_on.ensures.risen (c.in_ok-collect_on.ensures.falls (c.make_room.ensures.leaves.honest_is ∙ honest) (c.in_ok-make_room.ensures.pinned honest w))
+returns-clause-falls g c = λ honest w none. fallen_then g.N.PageSource.flash g.N.PageSource.erases c.args.engine.now c.make_room.new.engine c.collect_on.new.engine c.in_ok-make_room.ensures.erases c.in_ok-collect_on.ensures.collects.risen (c.in_ok-collect_on.ensures.falls (c.make_room.ensures.leaves.honest_is ∙ honest) (c.in_ok-make_room.ensures.pinned honest w))
 
 pub returns-clause-count : goal.returns-clause-count
-returns-clause-count g c = λ known five. step_short (ram c.args.engine.now) (ram c.make_room.new.engine) (ram c.collect_on.new.engine) c.requires.safe.memory c.make_room.ensures.leaves.safe.memory c.collect_on.ensures.leaves.safe.memory c.in_ok-make_room.ensures.made c.collect_on.ensures.goes (c.in_ok-make_room.ensures.count known.0 known.1 0 known.2) c.in_ok-collect_on.ensures.counts
+returns-clause-count g c = λ known five. step_short (ram c.args.engine.now) (ram c.make_room.new.engine) (ram c.collect_on.new.engine) c.requires.safe.memory c.make_room.ensures.leaves.safe.memory c.collect_on.ensures.collects.leaves.safe.memory c.in_ok-make_room.ensures.made c.collect_on.ensures.collects.goes (c.in_ok-make_room.ensures.count known.0 known.1 0 known.2) c.in_ok-collect_on.ensures.collects.counts
 
 pub returns-clause-ends : goal.returns-clause-ends
-returns-clause-ends g c = leaves_ends g.N.PageSource.flash g.N.PageSource.honest g.N.PageSource.calm g.N.PageSource.failed c.args.engine.now c.collect_on.new.engine (Ok tt) (leaves_then g.N.PageSource.flash g.N.PageSource.honest g.N.PageSource.calm g.N.PageSource.failed c.args.engine.now c.make_room.new.engine c.collect_on.new.engine _ _ c.in_ok-make_room.ensures.leaves c.in_ok-collect_on.ensures.leaves) (limits_then _ _ _ c.make_room.ensures.keys.limits c.collect_on.ensures.limits) c.collect_on.ensures.calm
+returns-clause-ends g c = leaves_ends g.N.PageSource.flash g.N.PageSource.honest g.N.PageSource.calm g.N.PageSource.failed c.args.engine.now c.collect_on.new.engine (Ok tt) (leaves_then g.N.PageSource.flash g.N.PageSource.honest g.N.PageSource.calm g.N.PageSource.failed c.args.engine.now c.make_room.new.engine c.collect_on.new.engine _ _ c.in_ok-make_room.ensures.leaves c.in_ok-collect_on.ensures.collects.leaves) (limits_then _ _ _ c.make_room.ensures.keys.limits c.collect_on.ensures.collects.limits) c.collect_on.ensures.collects.calm_memory
+
+-- ---- nothing was to be done
+
+pub returns-in_err-make_room-clause-rests : goal.returns-in_err-make_room-clause-rests
+returns-in_err-make_room-clause-rests g c = λ none unpinned twelve. (let failed = (c.in_err-make_room.ensures.rests (omega (arith, twelve))).0 in let never : ⊥ = cc in absurd never)
+
+pub returns-in_err-rescue_one-clause-rests : goal.returns-in_err-rescue_one-clause-rests
+returns-in_err-rescue_one-clause-rests g c = λ none unpinned twelve. absurd (no_rescue c.args.engine.now c.make_room.new.engine (c.in_ok-make_room.ensures.rests (omega (arith, twelve))).1 none (c.if-needs_rescue.ensures.some))
+
+pub returns-then-needs_rescue-clause-rests : goal.returns-then-needs_rescue-clause-rests
+returns-then-needs_rescue-clause-rests g c = λ none unpinned twelve. absurd (no_rescue c.args.engine.now c.make_room.new.engine (c.in_ok-make_room.ensures.rests (omega (arith, twelve))).1 none (c.if-needs_rescue.ensures.some))
+
+pub returns-in_err-collect_on-clause-rests : goal.returns-in_err-collect_on-clause-rests
+returns-in_err-collect_on-clause-rests g c = λ none unpinned twelve. (let at = resting c.args.engine.now c.make_room.new.engine (c.in_ok-make_room.ensures.rests (omega (arith, twelve))).1 unpinned twelve in let failed = (c.in_err-collect_on.ensures.rests at.0 at.1).0 in let never : ⊥ = cc in absurd never)
+
+pub returns-clause-rests : goal.returns-clause-rests
+returns-clause-rests g c = λ none unpinned twelve.
+    let still = (c.in_ok-make_room.ensures.rests (omega (arith, twelve))).1 in
+    let at = resting c.args.engine.now c.make_room.new.engine still unpinned twelve in
+    (refl, (c.in_ok-collect_on.ensures.rests at.0 at.1).1 ∙ still)

@@ -2,7 +2,7 @@ use Rattle.std.proofs.Common.{Ok, ap, ◌∙◌}
 use Rattle.std.proofs.lemmas.Result.{err_from_is_err_and}
 use Rattle.collection.specs.Safe.{ram}
 use Rattle.collection.proofs.Acts.{acts_ok, acts_err}
-use Rattle.collection.proofs.Turns.{ok_told, ok_erased, told_erases, calm_on, stepped_on, steps_on}
+use Rattle.collection.proofs.Turns.{ok_told, ok_erased, copied_told, told_erases, calm_on, stepped_on, steps_on}
 use Rattle.collection.proofs.engine.Engine.advance.Goals as goal
 
 pub returns-in_err-progress-clause-acts : goal.returns-in_err-progress-clause-acts
@@ -26,6 +26,7 @@ returns-in_err-progress-clause-advances g c =
       idle = λ is. (let no : ⊥ = cc in absurd no);
       released = λ is. (let no : ⊥ = cc in absurd no);
       few_reads = e.reads;
+      copied_reads = λ is. (let no : ⊥ = cc in absurd no);
       erases_are = tt;
       truth = e.truth;
     })
@@ -51,6 +52,7 @@ returns-clause-advances g c =
       idle = λ is. e.idle (ok_erased done is);
       released = λ is. e.released (ok_erased done is);
       few_reads = e.reads;
+      copied_reads = copied_told c.step_on.new.self.pinned c.args.pinned.block r.geometry.pages c.args.pinned.first _ _ done e.next e.copied_reads;
       erases_are = e.erases ∙ told_erases done _;
       truth = λ known w passed. steps_on c.args.flushing c.args.pinned r b _ _ done e.acts.safe.memory c.requires.half_done e.goes.geometry e.cost e.next (e.truth known w passed) (λ page is. e.touched known w page (ap (λ d. Ok d) is));
     })

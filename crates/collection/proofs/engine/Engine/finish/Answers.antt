@@ -1,25 +1,41 @@
+use Rattle.std.proofs.Common.{◌≡◌, arith}
 use Rattle.collection.specs.Safe.{ram}
 use Rattle.collection.proofs.Acts.{acts_same}
 use Rattle.collection.proofs.Rooms.{on_same, on_then}
-use Rattle.collection.proofs.HalfDone.{calm_half, finished_truth, finished_counts}
+use Rattle.collection.proofs.HalfDone.{calm_half, calm_ok, finished_erases, finished_tells, finished_truth, finished_counts}
+use Rattle.collection.proofs.Made.{nothing_made}
 use Rattle.collection.proofs.engine.Engine.finish.Goals as goal
 
-pub returns-in-Some-clause-goes : goal.returns-in-Some-clause-goes
-returns-in-Some-clause-goes g c =
-    let half = calm_half (ram c.args.self.now) c.in-Some.pinned c.requires.calm c.in-Some.is in
-    on_then c.in-Some.pinned.block (ram c.args.self.now) (ram c.args.self.now) (ram c.collect_from.new.self) (on_same (ram c.args.self.now)) c.collect_from.ensures.goes half.closed
-
-pub returns-in-Some-clause-truth : goal.returns-in-Some-clause-truth
-returns-in-Some-clause-truth g c = λ honest w passed. finished_truth c.in-Some.pinned.block (ram c.args.self.now) (ram c.collect_from.new.self) _ _ c.collect_from.result c.requires.safe.memory c.collect_from.ensures.acts.safe.memory c.collect_from.ensures.goes.geometry w (c.collect_from.ensures.truth honest w (passed c.in-Some.pinned c.in-Some.is))
+pub returns-in-Some-clause-makes : goal.returns-in-Some-clause-makes
+returns-in-Some-clause-makes g c =
+    let p = c.in-Some.pinned in
+    let old = ram c.args.self.now in
+    let new = ram c.collect_from.new.self in
+    let half = calm_half old p c.requires.calm c.in-Some.is in
+    let e = c.collect_from.ensures in
+    record {
+      calm = calm_ok new c.collect_from.result e.idle e.unpinned;
+      goes = on_then p.block old old new (on_same old) e.goes half.closed;
+      keys = e.keys;
+      refreshes = e.refreshes;
+      works = finished_erases g.N.PageSource.erases c.args.self.now c.collect_from.new.self c.collect_from.result e.erases e.unpinned;
+      rests = λ nine. (let most : c.blocks-wanted.result ≡ 9 = c.blocks-wanted.ensures in absurd (omega (arith, nine, most, c.if-free-wanted.true, c.free.ensures)));
+      tells = finished_tells c.args.flushing old new c.collect_from.result e.cost;
+      truth = λ honest w passed. finished_truth p.block old new _ _ c.collect_from.result c.requires.safe.memory e.acts.safe.memory e.goes.geometry w (e.truth honest w (passed p c.in-Some.is));
+      few = λ honest w passed few ne. e.few honest w (passed p c.in-Some.is) (few p c.in-Some.is) ne;
+    }
 
 pub returns-in-Some-clause-count : goal.returns-in-Some-clause-count
 returns-in-Some-clause-count g c = λ honest w passed few failures funded. finished_counts failures (ram c.args.self.now) (ram c.collect_from.new.self) c.collect_from.result c.requires.safe.memory funded (c.collect_from.ensures.count honest w (passed c.in-Some.pinned c.in-Some.is) (few c.in-Some.pinned c.in-Some.is))
 
-pub returns-in-Some-clause-few : goal.returns-in-Some-clause-few
-returns-in-Some-clause-few g c = λ honest w passed few ne. c.collect_from.ensures.few honest w (passed c.in-Some.pinned c.in-Some.is) (few c.in-Some.pinned c.in-Some.is) ne
-
 pub returns-in_default-clause-acts : goal.returns-in_default-clause-acts
 returns-in_default-clause-acts g c = acts_same c.args.self.now c.requires.safe
 
+pub returns-in_default-clause-makes : goal.returns-in_default-clause-makes
+returns-in_default-clause-makes g c = nothing_made c.args.flushing c.args.self.now c.requires.calm
+
 pub returns-in_default-2-clause-acts : goal.returns-in_default-2-clause-acts
 returns-in_default-2-clause-acts g c = acts_same c.args.self.now c.requires.safe
+
+pub returns-in_default-2-clause-makes : goal.returns-in_default-2-clause-makes
+returns-in_default-2-clause-makes g c = nothing_made c.args.flushing c.args.self.now c.requires.calm

@@ -3,26 +3,19 @@ use Rattle.budget.specs.Spending.{IsFunded}
 use Rattle.allocation.specs.Counts.{counts_of}
 use Rattle.allocation.specs.State.{free_count}
 use Rattle.collection.specs.Safe.{ram, image_in}
-use Rattle.collection.specs.Left.{IsCalm, PinHasPassed, PinIsFew}
+use Rattle.collection.specs.Left.{PinHasPassed, PinIsFew}
 use Rattle.collection.specs.Truth.{IsTrue}
-use Rattle.collection.specs.Acts.{Acts, RestsOrErases}
-use Rattle.collection.specs.Collect.{KeepsKeys, Refreshes, GoesOn, IsRearranged}
-use Rattle.collection.specs.Room.{IsFundedOn}
+use Rattle.collection.specs.Acts.{Acts}
+use Rattle.collection.specs.Room.{IsFundedOn, MakesRoom}
 use Rattle.collection.specs.Whole.{work_left}
 use Rattle.collection.proofs.engine.Engine.regain.Given as goal
 
 abbrev pub invariant-rounds : goal.invariant-rounds
 invariant-rounds g l = record {
   acts : Acts {A = Unit {0}} g.N.PageSource.flash g.N.PageSource.honest g.N.PageSource.calm g.N.PageSource.failed l.fn.self l.self (Ok tt);
-  calm : IsCalm (ram l.self);
+  makes : MakesRoom g.N.PageSource.flash g.N.PageSource.honest g.N.PageSource.erases l.flushing l.fn.self l.self (Ok tt);
   unpinned : (9 ≤ free_count (ram l.self).blocks) ⊎ (l.self.pinned ≡ None);
-  goes : GoesOn (ram l.fn.self) (ram l.self);
-  erases : RestsOrErases g.N.PageSource.erases l.fn.self l.self;
-  keys : KeepsKeys l.fn.self.mapping l.self.mapping;
-  refreshes : l.flushing ≡ true → Refreshes (ram l.fn.self) (ram l.self);
-  truth : g.N.PageSource.honest l.fn.self.nand ≡ true → IsTrue None (ram l.fn.self) (image_in g.N.PageSource.flash l.fn.self) → PinHasPassed (ram l.fn.self) (image_in g.N.PageSource.flash l.fn.self) → IsRearranged (ram l.fn.self) (image_in g.N.PageSource.flash l.fn.self) (ram l.self) (image_in g.N.PageSource.flash l.self);
   count : g.N.PageSource.honest l.fn.self.nand ≡ true → IsTrue None (ram l.fn.self) (image_in g.N.PageSource.flash l.fn.self) → PinHasPassed (ram l.fn.self) (image_in g.N.PageSource.flash l.fn.self) → PinIsFew 0 (ram l.fn.self) → (failures : ℕ) → IsFunded l.fn.self.geometry.pages failures (counts_of (ram l.fn.self).blocks) → IsFundedOn failures (ram l.fn.self) (ram l.self);
-  few : g.N.PageSource.honest l.fn.self.nand ≡ true → IsTrue None (ram l.fn.self) (image_in g.N.PageSource.flash l.fn.self) → PinHasPassed (ram l.fn.self) (image_in g.N.PageSource.flash l.fn.self) → PinIsFew 0 (ram l.fn.self) → PinIsFew 0 (ram l.self);
 }
 
 abbrev pub decreases-rounds : goal.decreases-rounds

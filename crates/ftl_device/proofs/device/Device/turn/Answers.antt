@@ -1,10 +1,10 @@
-use Rattle.std.proofs.Common.{refl}
+use Rattle.std.proofs.Common.{◌≡◌, refl}
 use Rattle.std.proofs.lemmas.Result.{err_from_is_err_and}
 use Rattle.promises.specs.Step as step
 use Rattle.collection.specs.Safe.{ram}
 use Rattle.ftl_device.specs.Calls.{HasRescued, HasWorked, HasFallen, IsQuiet}
 use Rattle.ftl_device.proofs.PinLemmas.{knows_well}
-use Rattle.ftl_device.proofs.CostLemmas.{done_after}
+use Rattle.ftl_device.proofs.CostLemmas.{done_after, on_any}
 use Rattle.ftl_device.proofs.ShownLemmas.{left_after}
 use Rattle.ftl_device.proofs.SpentLemmas.{funded_begun, five_free}
 use Rattle.ftl_device.proofs.UpkeepLemmas.{upkept_by, not_upkept}
@@ -25,6 +25,9 @@ returns-clause-upkeeps g c = upkept_by g.N.PageSource.flash g.N.PageSource.hones
       left = λ honest w log ro flag on. left_after g.N.PageSource.flash step.Turn c.args.self.now.engine c.turn_ready-answer.new.engine c.turn_ready-answer.new.engine log c.args.self.now.read_only ro c.turn_ready-answer.result _ _ refl refl c.requires.device.engine.memory c.turn_ready-answer.ensures.ends.safe.memory c.turn_ready-answer.ensures.ends.geometry flag on (c.turn_ready-answer.ensures.count (honest, w, funded_begun (ram c.args.self.now.engine) c.args.self.now.read_only c.requires.device.read_only c.in_ok-may_flush.ensures.may.writable) (five_free (ram c.args.self.now.engine) c.args.self.now.read_only c.requires.device.read_only c.in_ok-may_flush.ensures.may.writable));
       worth = λ honest w log its. (let no : ⊥ = cc in absurd no);
     })
+
+pub returns-clause-rests : goal.returns-clause-rests
+returns-clause-rests g c = λ none unpinned twelve. done_after (λ e. e ≡ c.args.self.now.engine) c.turn_ready-answer.new.engine c.finish.new.self.engine c.turn_ready-answer.result c.finish.result c.good-good.result c.finish.ensures.engine c.finish.ensures.answer (on_any c.turn_ready-answer.result (c.turn_ready-answer.ensures.rests none unpinned twelve).1)
 
 pub returns-clause-rescued : goal.returns-clause-rescued
 returns-clause-rescued g c = λ honest w. done_after (λ e. HasRescued (ram c.args.self.now.engine) (ram e)) c.turn_ready-answer.new.engine c.finish.new.self.engine c.turn_ready-answer.result c.finish.result c.good-good.result c.finish.ensures.engine c.finish.ensures.answer (c.turn_ready-answer.ensures.rescued honest (knows_well g.N.PageSource.flash c.args.self.now c.requires.device w c.in_ok-may_flush.ensures.may.going))
