@@ -31,9 +31,13 @@ use Rattle.ftl_device.specs.declared.fault.DeviceFault.TheVariants.{OutOfRange, 
 use Rattle.ftl_device.specs.Calls.{IsWell, Says, state_in, reply_of, read_reply_of}
 use Rattle.ftl_device.specs.Counts.{is_bad_by, is_flush, IsShown, IsLeft}
 use Rattle.ftl_device.specs.Read.{LeavesRead, IsReadRefusal}
-use Rattle.ftl_device.specs.Run.{answer_to, reply_in, Exchange, needs_no_memory, die_in, IsFair, AreFair, HasRun, Ran, Happened}
+use Rattle.command_queue.specs.Commands.{needs_no_memory}
+use Rattle.command_queue.specs.Exchanges.{answer_to, reply_in, Exchange}
+use Rattle.command_queue.specs.Run.{die_in, IsFair, AreFair, HasRun, Ran}
+use Rattle.command_queue.specs.Told.{Happened}
 use Rattle.ftl_device.specs.Flush.{ShowsBad, First, first_of, IsFlushedOut}
-use Rattle.ftl_device.proofs.CountLemmas.{NoDamage, shown_on, left_on, bad_now_law}
+use Rattle.ftl_device.proofs.CountLemmas.{bad_now_law}
+use Rattle.command_queue.proofs.RefusalLemmas.{NoDamage, shown_on, left_on}
 use Rattle.ftl_device.proofs.CallLemmas.{mountable_after}
 
 -- ---- one call

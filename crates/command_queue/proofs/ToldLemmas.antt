@@ -16,8 +16,10 @@ use Rattle.ftl_device.specs.declared.fault.DeviceFault.{DeviceFault}
 use Rattle.ftl_device.specs.declared.fault.DeviceFault.TheVariants.{OutOfRange, ReadOnly, SequenceSpent, OutOfMemory, Damaged, BusFault}
 use Rattle.ftl_device.specs.Device.{IsDevice}
 use Rattle.ftl_device.specs.Calls.{stop_of, IsWell}
-use Rattle.ftl_device.specs.Run.{Exchange, IsKnown, AreKnown, Stops, AreRefused, StaysStopped, Ran, Tells, AreTold, WasTold, AreHalted, EndsBy, Until, RunsTo}
-use Rattle.ftl_device.proofs.RunLemmas.{ran_none, ran_more}
+use Rattle.command_queue.specs.Exchanges.{Exchange, IsKnown, AreKnown, Stops, AreRefused, StaysStopped}
+use Rattle.command_queue.specs.Run.{Ran}
+use Rattle.command_queue.specs.Told.{Tells, AreTold, WasTold, AreHalted, EndsBy, Until, RunsTo}
+use Rattle.command_queue.proofs.RunLemmas.{ran_none, ran_more}
 
 -- ---- lists
 

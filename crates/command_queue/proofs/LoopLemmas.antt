@@ -7,11 +7,13 @@ use Rattle.page_layout.specs.declared.geometry.Geometry.{Geometry}
 use Rattle.page_layout.specs.Flash.{Flash}
 use Rattle.ftl_device.specs.declared.device.Device.{Device}
 use Rattle.ftl_device.specs.declared.fault.DeviceFault.{DeviceFault}
-use Rattle.ftl_device.specs.declared.run.Call.{Call}
+use Rattle.command_queue.specs.declared.command.Call.{Call}
 use Rattle.ftl_device.specs.Device.{IsDevice}
-use Rattle.ftl_device.specs.Run.{command_of, told, Exchange, exchange_of, exchanges_of, HasRoom, IsWhole, AreWhole, AreAnswered, KeepsBytes, HasKept}
-use Rattle.ftl_device.specs.Run.{HaveKept, Tells, WasTold}
-use Rattle.ftl_device.proofs.ToldLemmas.{all_more, told_none, told_more}
+use Rattle.command_queue.specs.Commands.{command_of, told, HasRoom, IsWhole, AreWhole, AreAnswered, KeepsBytes, HasKept}
+use Rattle.command_queue.specs.Exchanges.{Exchange, exchange_of, exchanges_of}
+use Rattle.command_queue.specs.Commands.{HaveKept}
+use Rattle.command_queue.specs.Told.{Tells, WasTold}
+use Rattle.command_queue.proofs.ToldLemmas.{all_more, told_none, told_more}
 
 -- ---- lists
 

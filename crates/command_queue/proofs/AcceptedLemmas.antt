@@ -28,7 +28,8 @@ use Rattle.ftl_device.specs.Begin.{begun_ram, is_bad_in, wear_in, free_in, is_sc
 use Rattle.ftl_device.specs.Device.{IsAcceptedFor}
 use Rattle.ftl_device.specs.Calls.{stop_of, PinIsTrue, IsWell}
 use Rattle.ftl_device.specs.Counts.{is_bad_by, IsShortIn, IsShown, IsLeft}
-use Rattle.ftl_device.specs.Run.{Exchange, die_in, AreFair, HasRun, Ran, accepted_device, RanFrom}
+use Rattle.command_queue.specs.Exchanges.{Exchange}
+use Rattle.command_queue.specs.Run.{die_in, AreFair, HasRun, Ran, accepted_device, RanFrom}
 use Rattle.bad_blocks.specs.Table.{wear_at, most_wear}
 use Rattle.allocation.specs.Begun.{begun}
 use Rattle.std.proofs.lemmas.Option.{slice_get_within}
