@@ -5,5 +5,6 @@ pub mod Read
 pub mod Counts
 pub mod Flush
 pub mod Shortage
+pub mod Turn
 pub mod Changes
 pub mod Run
