@@ -104,6 +104,7 @@ moved_out r r' old new row row' rec body s s' same w l of_key lt shut out p =
         leaves = leaves_written r (last_record rec.kind rec.number row' r') row' body old new p.writes out;
       };
       gone = gone_copied r.geometry old new row row' rec (last_record rec.kind rec.number row' r') body l.mark refl p.writes (λ e. ne (ap (λ k. k / r.geometry.pages) e));
+      others = λ k ne. p.writes.newest_others k (λ e. ne (ap (newest_row old) (sym e) ∙ l.newest));
       fewer = omega (arith, before, after, less);
     }
 
@@ -161,6 +162,9 @@ module _ (flushing : Bool) (key : Key) (row : ℕ) (r b r' : Ram) (is : r' ≡ r
   cost_marked stream s of_key cost same pin sets = record {
     stream = stream;
     put = rw is (record { failures = cost.failures; put = cost.put; next = cost.next });
+    key = key;
+    row = row;
+    sets = rw is sets;
     moved = (let l = moves_one key row r.mapping b.mapping sets in rw is l);
     due = copied_due flushing key row r r' s of_key (followed same pin sets);
   }
@@ -169,7 +173,7 @@ module _ (flushing : Bool) (key : Key) (row : ℕ) (r b r' : Ram) (is : r' ≡ r
   refreshes_marked on s of_key same pin sets = copied_refreshes key row r r' s of_key (let P : Bool → Type 0 = λ x. HasFollowed x key row r r' in subst P on (followed same pin sets))
 
   pub moved_marked : (from : ℕ) (x y : Image) → IsMovedOut from r x b y → IsMovedOut from r x r' y
-  moved_marked from x y m = record { same = record { truth = true_marked y m.same.truth; array = m.same.array; leaves = m.same.leaves }; gone = m.gone; fewer = (let f = m.fewer in rw is f) }
+  moved_marked from x y m = record { same = record { truth = true_marked y m.same.truth; array = m.same.array; leaves = m.same.leaves }; gone = m.gone; others = m.others; fewer = (let f = m.fewer in rw is f) }
 
   pub pin_marked : flushing ≡ false → r'.pin ≡ b.pin
   pin_marked off = (let f : Bool → Pin = λ x. record { block = b.pin.block; marks = marks_after x b.geometry key b.pin.marks } in ap (λ (z : Ram). z.pin) is ∙ ap f off)

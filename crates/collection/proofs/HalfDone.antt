@@ -1,5 +1,5 @@
 -- A half-done collection: what is due at first is no more than the sectors that are moved.
-use Rattle.std.proofs.Common.{◌≡◌, ◌≢◌, ◌⊎◌, inl, inr, ℕ, ◌+◌, ◌/◌, ◌<◌, ◌≤◌, ◌==◌, ◌&&◌, ◌||◌, Bool, true, false, [], length, replicate, get_or, count_by, Option, Some, None, refl, ap, sym, ◌∙◌, subst, arith, Result, Ok, Err, MatchOption}
+use Rattle.std.proofs.Common.{◌≡◌, ◌≢◌, ◌⊎◌, inl, inr, ℕ, ◌+◌, ◌/◌, ◌<◌, ◌≤◌, ◌==◌, ◌&&◌, ◌||◌, Bool, true, false, List, [], ◌∷◌, length, replicate, get_or, count_by, Option, Some, None, refl, ap, sym, ◌∙◌, subst, arith, Result, Ok, Err, MatchOption}
 use Rattle.std.specs.Map.{keys_of}
 use Rattle.std.proofs.lemmas.Bool.{cases_lt}
 use Rattle.std.proofs.lemmas.List.{get_or-replicate, get_or_past, length-replicate}
@@ -17,6 +17,8 @@ use Rattle.std.specs.Prelude.{IfErr, OnOk, MatchResult}
 use Rattle.collection.specs.declared.engine.Pinned.{Pinned}
 use Rattle.collection.specs.declared.engine.step.Progress.{Progress}
 use Rattle.collection.specs.declared.engine.step.Progress.TheVariants as step_is
+use Rattle.collection.specs.declared.engine.turns.Step.{Step}
+use Rattle.collection.specs.declared.engine.turns.Step.TheVariants as steps
 use Rattle.collection.specs.declared.fault.WriteFault.{WriteFault}
 use Rattle.collection.specs.declared.fault.WriteFault.TheVariants.{ReadOnly, SequenceSpent, Damaged, Bus}
 use Rattle.collection.specs.State.{Ram}
@@ -24,10 +26,10 @@ use Rattle.collection.specs.declared.engine.Engine.{Engine}
 use Rattle.collection.specs.Safe.{IsRam, IsIdle, ram}
 use Rattle.collection.specs.Acts.{Acts, RestsOrErases}
 use Rattle.collection.specs.Log.{Went}
-use Rattle.collection.specs.Room.{IsFundedOn}
+use Rattle.collection.specs.Room.{IsFundedOn, IsWorth, Collects}
 use Rattle.collection.specs.Truth.{IsTrue}
 use Rattle.collection.specs.Results.{IsSame, Refused}
-use Rattle.collection.specs.Collect.{has_moved, is_marked, is_due, due_count, GoesBut, Refreshes, Ledger, CollectCosts, CollectCounts, IsEmptied, IsRearranged, RoomRefused, RoomTells, RoomCounts}
+use Rattle.collection.specs.Collect.{has_moved, is_marked, is_due, due_count, GoesBut, Refreshes, LeadTo, Ledger, CollectCosts, HasCollected, CollectsFew, CollectCounts, IsEmptied, IsRearranged, RoomRefused, RoomTells, RoomCounts}
 use Rattle.collection.specs.Whole.{next_of}
 use Rattle.collection.specs.Left.{IdleLaw, IsHalfDone, IsCalm, IsFew, HasPassed, PinIsFew, pin_after, pinned_to}
 use Rattle.collection.proofs.Dues.{some_positive, moved_count, length_keys}
@@ -110,8 +112,18 @@ module _ (a b : Ram) (to : Option Pinned) where
   pub refreshes_from : Refreshes (pinned_to to a) b → Refreshes a b
   refreshes_from f = record { each = f.each }
 
+  lead_from : (flushing : Bool) (taken : List Step) (now : Ram) → LeadTo flushing (pinned_to to a) taken now → LeadTo flushing a taken now
+  lead_from flushing [] now l = l
+  lead_from flushing (steps.Copied ∷ before) now l = (l.0, lead_from flushing before l.0 l.1, l.2)
+  lead_from flushing (steps.WroteBack ∷ before) now l = (l.0, lead_from flushing before l.0 l.1, l.2)
+  lead_from flushing (steps.Erased ∷ before) now l = l
+
   ledger_from : (flushing : Bool) → Ledger flushing (pinned_to to a) b → Ledger flushing a b
   ledger_from flushing l = record {
+    steps_taken = l.steps_taken;
+    lead = lead_from flushing l.steps_taken b l.lead;
+    copies_are = l.copies_are;
+    written_are = l.written_are;
     copies = l.copies;
     written = l.written;
     data_pages = l.data_pages;
@@ -145,12 +157,41 @@ module _ (a b : Ram) (to : Option Pinned) where
   pub went_from : (x y : Flash) → Went (pinned_to to a) x b y → Went a x b y
   went_from x y w = record { log = w.log; leads = w.leads; follows = w.follows; next = w.next; wears = w.wears }
 
-pub cost_from : (a b : Ram) (to : Option Pinned) (flushing : Bool) (result : Result (Unit {0}) WriteFault) → CollectCosts flushing (pinned_to to a) b result → CollectCosts flushing a b result
-cost_from a b to flushing (Ok u) k = record { mid = k.mid; ledger = ledger_from a k.mid to flushing k.ledger; failures = k.failures; erased = k.erased; next = k.next }
-cost_from a b to flushing (Err ReadOnly) k = record { mid = k.mid; ledger = ledger_from a k.mid to flushing k.ledger; out = k.out }
-cost_from a b to flushing (Err SequenceSpent) k = record { mid = k.mid; ledger = ledger_from a k.mid to flushing k.ledger; out = k.out }
-cost_from a b to flushing (Err Damaged) k = k
-cost_from a b to flushing (Err Bus) k = k
+pub cost_from : (a b : Ram) (to : Option Pinned) (flushing : Bool) (block : ℕ) (result : Result (Unit {0}) WriteFault) → CollectCosts flushing block (pinned_to to a) b result → CollectCosts flushing block a b result
+cost_from a b to flushing block (Ok u) k = record { mid = k.mid; ledger = ledger_from a k.mid to flushing k.ledger; none = k.none; erase = k.erase }
+cost_from a b to flushing block (Err ReadOnly) k = record { mid = k.mid; ledger = ledger_from a k.mid to flushing k.ledger; out = k.out }
+cost_from a b to flushing block (Err SequenceSpent) k = record { mid = k.mid; ledger = ledger_from a k.mid to flushing k.ledger; out = k.out }
+cost_from a b to flushing block (Err Damaged) k = k
+cost_from a b to flushing block (Err Bus) k = k
+
+pub sparing_from : (a b : Ram) (to : Option Pinned) (flushing : Bool) (block : ℕ) (result : Result (Unit {0}) WriteFault) → OnOk result (CollectsFew flushing block (pinned_to to a) b) → OnOk result (CollectsFew flushing block a b)
+sparing_from a b to flushing block (Ok u) k =
+    let c = k.collected in
+    let l = c.ledger in
+    record {
+      collected = record {
+        mid = c.mid;
+        ledger = record {
+          steps_taken = l.steps_taken;
+          lead = lead_from a c.mid to flushing l.steps_taken c.mid l.lead;
+          copies_are = l.copies_are;
+          written_are = l.written_are;
+          copies = l.copies;
+          written = l.written;
+          data_pages = l.data_pages;
+          meta_pages = l.meta_pages;
+          pages = l.pages;
+          programmed = record { account = l.programmed.account; next = l.programmed.next };
+          for_copies = l.for_copies;
+          for_pages = l.for_pages;
+        };
+        none = c.none;
+        erase = c.erase;
+      };
+      copies = k.copies;
+      written = k.written;
+    }
+sparing_from a b to flushing block (Err fault) k = tt
 
 pub acts_from : {A N : Type 0} {flash : N → Flash} {honest calm : N → Bool} {failed : N → ℕ} (a b : Engine N) (to : Option Pinned) (result : Result A WriteFault) → Acts flash honest calm failed (record a { pinned = to }) b result → Acts flash honest calm failed a b result
 acts_from a b to result p = record {
@@ -203,9 +244,22 @@ pub finished_erases : {N : Type 0} (erases : N → ℕ) (a c : Engine N) (result
 finished_erases erases a c (Ok u) is none = erased_more erases a a c (inl refl) is none
 finished_erases erases a c (Err fault) is none = tt
 
-pub finished_tells : (flushing : Bool) (a c : Ram) (result : Result (Unit {0}) WriteFault) → CollectCosts flushing a c result → IfErr result (RoomTells c)
-finished_tells flushing a c (Ok u) cost = tt
-finished_tells flushing a c (Err fault) cost = room_tells flushing a c fault cost
+pub finished_tells : (flushing : Bool) (block : ℕ) (a c : Ram) (result : Result (Unit {0}) WriteFault) → CollectCosts flushing block a c result → IfErr result (RoomTells c)
+finished_tells flushing block a c (Ok u) cost = tt
+finished_tells flushing block a c (Err fault) cost = room_tells flushing block a c fault cost
+
+-- with fewer than nine free blocks none is pinned once that one is finished
+pub unpinned_now : (r : Ram) → (9 ≤ free_count r.blocks) ⊎ (r.pin.block ≡ None) → free_count r.blocks < 9 + 0 → r.pin.block ≡ None
+unpinned_now r (inl nine) few = absurd (omega (arith, nine, few))
+unpinned_now r (inr none) few = none
+
+-- one block more
+pub collects_more : (flushing : Bool) (block : ℕ) (a b c : Ram) → (blocks : List ℕ) × Collects flushing a blocks b → b.pin.block ≡ None → IsWorth 0 b block → HasCollected flushing block b c → (blocks : List ℕ) × Collects flushing a blocks c
+collects_more flushing block a b c before none worth cost = (let P : Option Pinned → Type 0 = λ o. MatchOption o (IsWorth 0 b block) (λ q. q.block ≡ block) in (block ∷ before.0, (b, before.1, record { scarce = omega (arith, worth.scarce); which = subst P (sym none) worth }, cost)))
+
+pub finished_collects : (flushing : Bool) (p : Pinned) (a c : Ram) (result : Result (Unit {0}) WriteFault) → a.pin.block ≡ Some p → free_count a.blocks < 9 → CollectCosts flushing p.block a c result → OnOk result ((blocks : List ℕ) × Collects flushing a blocks c)
+finished_collects flushing p a c (Ok u) is scarce cost = (let P : Option Pinned → Type 0 = λ o. MatchOption o (IsWorth 0 a p.block) (λ q. q.block ≡ p.block) in (p.block ∷ [], (a, refl, record { scarce = scarce; which = subst P (sym is) refl }, cost)))
+finished_collects flushing p a c (Err fault) is scarce cost = tt
 
 pub finished_truth : (block : ℕ) (a c : Ram) (x z : Image) (result : Result (Unit {0}) WriteFault) → IsRam a → IsRam c → c.geometry ≡ a.geometry → IsTrue None a x → MatchResult result (λ u. IsEmptied block a x c z) (Refused a x c z) → MatchResult result (λ u. IsRearranged a x c z) (RoomRefused a x c z)
 finished_truth block a c x z (Ok u) s s' same w k = rearranged_then a a c x x z s s' (on_same a) same (rearranged_same a x w) k.same

@@ -1,5 +1,5 @@
 -- What a collection costs, step after step.
-use Rattle.std.proofs.Common.{◌≡◌, ◌≢◌, ◌⊎◌, inl, inr, ℕ, ◌+◌, ◌-◌, ◌<◌, ◌≤◌, min, Bool, true, length, Some, None, Result, Ok, Err, refl, ap, ◌∙◌, subst, arith}
+use Rattle.std.proofs.Common.{◌≡◌, ◌≢◌, ◌⊎◌, inl, inr, ℕ, ◌+◌, ◌-◌, ◌<◌, ◌≤◌, min, Bool, true, [], ◌∷◌, length, Some, None, Result, Ok, Err, refl, ap, ◌∙◌, subst, arith}
 use Rattle.page_layout.specs.declared.geometry.Geometry.{Geometry}
 use Rattle.page_layout.specs.Geometry.{translation_pages, vmax}
 use Rattle.page_layout.specs.Page.{Image}
@@ -23,7 +23,7 @@ use Rattle.collection.specs.Cost.{HasPut}
 use Rattle.collection.specs.Live.{HoldsNoneIn}
 use Rattle.collection.specs.Results.{Goes, Refused}
 use Rattle.collection.specs.Collect.{is_due, due_count, HasCopied, HasWritten, HasErased, HasProgrammed, HasCollected, StreamRunsOut, IsCopied}
-use Rattle.collection.specs.Collect.{IsEmptied, IsThrifty, FaultCosts, CollectCosts, CollectCounts, StepCosts, IsStepped, GoesBut, IsReleased}
+use Rattle.collection.specs.Collect.{CollectsFew, HasNoneDue, IsEmptied, IsThrifty, FaultCosts, CollectCosts, CollectCounts, StepCosts, IsStepped, GoesBut, IsReleased}
 use Rattle.bad_blocks.specs.declared.table.TableRow.{TableRow}
 use Rattle.bad_blocks.specs.Table.{most_wear}
 use Rattle.collection.specs.Whole.{next_of, erases_after, step_within, busy_of, work_left, IsSoFar, IsUnderWay}
@@ -31,6 +31,7 @@ use Rattle.collection.specs.declared.fault.WriteFault.{WriteFault}
 use Rattle.collection.specs.declared.fault.WriteFault.TheVariants.{ReadOnly, SequenceSpent, Damaged, Bus}
 use Rattle.collection.specs.declared.engine.step.Progress.{Progress}
 use Rattle.collection.specs.declared.engine.step.Progress.TheVariants as step_is
+use Rattle.collection.specs.declared.engine.turns.Step.TheVariants as steps
 use Rattle.allocation.specs.Laws.{IsLeftButLive}
 use Rattle.collection.proofs.Blocks.{left_then}
 use Rattle.collection.proofs.Memory.{shut_same}
@@ -82,8 +83,12 @@ begun flushing block first r known x s w passed =
     let due : due_count flushing r ≤ translation_pages r.geometry = due_most flushing r r refl in
     record {
       ledger = record {
+        steps_taken = [];
+        lead = refl;
         copies = 0;
         written = 0;
+        copies_are = refl;
+        written_are = refl;
         data_pages = 0;
         meta_pages = 0;
         pages = refl;
@@ -109,8 +114,12 @@ copied_more flushing block first page old now new known x y z s goes then some u
     let more : busy_of new ≤ busy_of now + 1 = rw then.geometry b in
     record {
       ledger = record {
+        steps_taken = steps.Copied ∷ u.ledger.steps_taken;
+        lead = (now, u.ledger.lead, cost);
         copies = u.ledger.copies + 1;
         written = u.ledger.written;
+        copies_are = ap (λ n. n + 1) u.ledger.copies_are;
+        written_are = u.ledger.written_are;
         data_pages = u.ledger.data_pages + data_of cost.stream;
         meta_pages = u.ledger.meta_pages + meta_of cost.stream;
         pages = omega (arith, u.ledger.pages, one);
@@ -137,8 +146,12 @@ written_more flushing block first old now new known x y z s s' goes then some wi
     let more : busy_of new ≤ busy_of now + 1 = rw then.geometry b in
     record {
       ledger = record {
+        steps_taken = steps.WroteBack ∷ u.ledger.steps_taken;
+        lead = (now, u.ledger.lead, cost);
         copies = u.ledger.copies;
         written = u.ledger.written + 1;
+        copies_are = u.ledger.copies_are;
+        written_are = ap (λ n. n + 1) u.ledger.written_are;
         data_pages = u.ledger.data_pages + data_of Meta;
         meta_pages = u.ledger.meta_pages + meta_of Meta;
         pages = omega (arith, u.ledger.pages);
@@ -158,8 +171,18 @@ written_more flushing block first old now new known x y z s s' goes then some wi
 
 -- ---- it ends
 
-pub collected_cost : (flushing : Bool) (block first : ℕ) (old now new : Ram) (known : Type 0) (x y : Image) → IsUnderWay flushing block first old now known x y → HasErased block now new → HasCollected flushing old new
-collected_cost flushing block first old now new known x y u e = record { mid = now; ledger = u.ledger; failures = e.failures; erased = e.counts; next = e.next }
+pub collected_cost : (flushing : Bool) (block first : ℕ) (old now new : Ram) (known : Type 0) (x y : Image) → IsUnderWay flushing block first old now known x y → HasNoneDue flushing now → HasErased block now new → HasCollected flushing block old new
+collected_cost flushing block first old now new known x y u none e = record { mid = now; ledger = u.ledger; none = none; erase = e }
+
+-- where the die is honest and none was due
+pub collected_few : (flushing : Bool) (block first : ℕ) (old now new : Ram) (known : Type 0) (x y : Image) → known → due_count flushing old ≡ 0 → IsUnderWay flushing block first old now known x y → HasNoneDue flushing now → HasErased block now new → CollectsFew flushing block old new
+collected_few flushing block first old now new known x y k idle u none e =
+    let w = u.truth k in
+    record {
+      collected = record { mid = now; ledger = u.ledger; none = none; erase = e };
+      copies = omega (arith, w.copies_left);
+      written = omega (arith, w.copies_left, u.ledger.for_copies, u.ledger.for_pages, idle);
+    }
 
 erase_busy : (blocks f : ℕ) (old new : Counts) → old.free ≤ blocks → new.free ≤ blocks → Erased f old new → new.good + (blocks + 2 - (new.free + min new.data_left 1 + min new.meta_left 1)) + 1 ≤ old.good + (blocks + 2 - (old.free + min old.data_left 1 + min old.meta_left 1))
 erase_busy blocks f old new was within e = omega (arith, e.good, e.free, e.data_same, e.meta_same)
@@ -210,7 +233,7 @@ thrifty_refused flushing block first old now new known x y SequenceSpent k small
 thrifty_refused flushing block first old now new known x y Damaged k small begin u out nd nb = absurd (nd refl)
 thrifty_refused flushing block first old now new known x y Bus k small begin u out nd nb = absurd (nb refl)
 
-pub refused_cost : (flushing : Bool) (block first : ℕ) (old now new : Ram) (known : Type 0) (x y : Image) (fault : WriteFault) → IsUnderWay flushing block first old now known x y → FaultCosts now new fault → CollectCosts flushing old new (Err fault)
+pub refused_cost : (flushing : Bool) (block first : ℕ) (old now new : Ram) (known : Type 0) (x y : Image) (fault : WriteFault) → IsUnderWay flushing block first old now known x y → FaultCosts now new fault → CollectCosts flushing block old new (Err fault)
 refused_cost flushing block first old now new known x y ReadOnly u out = record { mid = now; ledger = u.ledger; out = out }
 refused_cost flushing block first old now new known x y SequenceSpent u out = record { mid = now; ledger = u.ledger; out = out }
 refused_cost flushing block first old now new known x y Damaged u out = tt
@@ -260,6 +283,9 @@ within_by flushing block first pages now new step_is.Erased same cost = tt
 
 pub erased_by : (flushing : Bool) (block first : ℕ) (now new : Ram) (step : Progress) → step ≡ step_is.Erased → StepCosts flushing block first now new (Ok step) → HasErased block now new
 erased_by flushing block first now new step is cost = (let P : Progress → Type 0 = λ s. StepCosts flushing block first now new (Ok s) in let c = subst P is cost in c.1)
+
+pub none_due_by : (flushing : Bool) (block first : ℕ) (now new : Ram) (step : Progress) → step ≡ step_is.Erased → StepCosts flushing block first now new (Ok step) → HasNoneDue flushing now
+none_due_by flushing block first now new step is cost = (let P : Progress → Type 0 = λ s. StepCosts flushing block first now new (Ok s) in let c = subst P is cost in c.0)
 
 pub emptied_by : (block : ℕ) (now new : Ram) (y z : Image) (step : Progress) → step ≡ step_is.Erased → IsStepped block now y new z step → IsEmptied block now y new z
 emptied_by block now new y z step is k = (let P : Progress → Type 0 = λ s. IsStepped block now y new z s in subst P is k)

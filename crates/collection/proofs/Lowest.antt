@@ -1,5 +1,5 @@
 -- The first live page of a block is copied, and the lowest translation page written.
-use Rattle.std.proofs.Common.{◌≡◌, inl, inr, ℕ, ◌+◌, ◌*◌, ◌/◌, ◌<◌, ◌≤◌, Bool, true, false, not, ◌||◌, List, set, Option, Some, None}
+use Rattle.std.proofs.Common.{◌≡◌, inl, inr, ℕ, ◌+◌, ◌*◌, ◌/◌, ◌<◌, ◌≤◌, Bool, true, false, not, ◌||◌, ◌&&◌, List, set, Option, Some, None}
 use Rattle.std.proofs.Common.{MatchOption, refl, ap, sym, ◌∙◌, subst, arith}
 use Rattle.std.proofs.lemmas.Nat.{div-mul-add}
 use Rattle.page_layout.specs.declared.geometry.Geometry.{Geometry}
@@ -18,7 +18,7 @@ use Rattle.collection.specs.Truth.{IsTrue}
 use Rattle.collection.specs.Cost.{HasPut}
 use Rattle.collection.specs.Live.{NotAt, HoldsNoneIn, IsLivePage, FindsFirst, IsFirstLive}
 use Rattle.collection.specs.Results.{IsSame, Leaves}
-use Rattle.collection.specs.Collect.{is_due, due_count, IsLowestDue, HasNoneDue, IsMovedOut, IsCopied, HasWritten}
+use Rattle.collection.specs.Collect.{has_moved, is_marked, is_due, due_count, IsLowestDue, HasNoneDue, IsMovedOut, IsCopied, HasWritten}
 use Rattle.collection.specs.Settle.{HasNoMore}
 use Rattle.mapping_cache.specs.Mapping.{cleaned}
 use Rattle.budget.specs.declared.stream.Stream.TheVariants.{Meta}
@@ -98,9 +98,18 @@ put_pinned stream r b p cost = record { failures = cost.failures; put = cost.put
 pub same_pinned : (r b : Ram) (x y : Image) (p : Pin) → IsSame r x b y → IsSame r x (record b { pin = p }) y
 same_pinned r b x y p k = (let w = k.truth in record { truth = record { whole = w.whole; one = w.one; below = w.below; filled = w.filled; live = w.live; worn = w.worn; tables = w.tables; maps = w.maps }; array = k.array; leaves = k.leaves })
 
+moved_only : (a flushing m : Bool) → (a || (flushing && m)) ≡ true → flushing ≡ false → a ≡ true
+moved_only true flushing m is off = refl
+moved_only false true m is off = (let no : ⊥ = cc in absurd no)
+moved_only false false m is off = is
+
 pub written_cost : (flushing : Bool) (t : ℕ) (r b : Ram) (p : Pin) → IsRam r → IsLowestDue flushing r t → HasPut Meta r b → HasNoMore r.mapping b.mapping → b.geometry ≡ r.geometry → b.mapping ≡ cleaned r.mapping t → p.marks ≡ set r.pin.marks t false → HasWritten flushing r (record b { pin = p })
 written_cost flushing t r b p s low cost more same mapping marks = record {
   put = put_pinned Meta r b p cost;
+  page = t;
+  lowest = low;
+  of_moved = moved_only (has_moved r.mapping t) flushing (is_marked r t) low.due;
+  mapping = mapping;
   moved = more.moved;
   due = written_due t r (record b { pin = p }) s low.within (record { geometry = same; mapping = mapping; marks = marks }) flushing low.due;
 }

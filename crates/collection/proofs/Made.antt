@@ -1,5 +1,5 @@
 -- What making room says holds of nothing done, of the last look at the free blocks, and of a fault that is noted.
-use Rattle.std.proofs.Common.{◌≡◌, ℕ, ◌<◌, ◌≤◌, Bool, Result, Ok, Err, Some, refl, ap, sym, inl, subst, arith}
+use Rattle.std.proofs.Common.{◌≡◌, ℕ, ◌<◌, ◌≤◌, Bool, [], Result, Ok, Err, Some, refl, ap, sym, inl, subst, arith}
 use Rattle.std.specs.Prelude.{IfErr}
 use Rattle.page_layout.specs.Flash.{Flash}
 use Rattle.allocation.specs.State.{free_count}
@@ -24,6 +24,7 @@ module _ {N : Type 0} {flash : N → Flash} {honest : N → Bool} {erases : N �
     keys = keys_same a.mapping a.mapping refl;
     refreshes = λ on. refreshes_same (ram a) (ram a) refl refl;
     works = inl refl;
+    collects = ([], refl);
     rests = λ nine. (refl, refl);
     tells = tt;
     truth = λ known w passed. rearranged_same (ram a) _ w;
@@ -46,6 +47,7 @@ module _ {N : Type 0} {flash : N → Flash} {honest : N → Bool} {erases : N �
         keys = k.keys;
         refreshes = k.refreshes;
         works = tt;
+        collects = tt;
         rests = λ nine. absurd (not_resting a b k (omega (arith, few)) nine);
         tells = short;
         truth = λ known w passed. enough_truth (ram a) (ram b) _ _ (Err fault) (k.truth known w passed) e;
@@ -56,6 +58,7 @@ module _ {N : Type 0} {flash : N → Flash} {honest : N → Bool} {erases : N �
   makes_noted a b (Ok u) k = k
   makes_noted a b (Err f) k = record {
     calm = tt;
+    collects = tt;
     goes = on_noted (Some f) (ram a) (ram b) k.goes;
     keys = k.keys;
     refreshes = λ on. fresh_noted (Some f) (ram a) (ram b) (k.refreshes on);

@@ -7,7 +7,7 @@ use Rattle.collection.specs.declared.fault.WriteFault.TheVariants.{ReadOnly, Seq
 use Rattle.allocation.specs.State.{free_count}
 use Rattle.collection.specs.State.{Ram}
 use Rattle.collection.specs.Results.{Refused, fault_after}
-use Rattle.collection.specs.Collect.{GoesBut, GoesOn, Refreshes, HasNoneWorth, HasRoom, CollectCosts, IsEmptied, IsRearranged, RoomRefused}
+use Rattle.collection.specs.Collect.{GoesBut, GoesOn, Refreshes, HasNoneWorth, HasRoom, CollectCosts, CollectsFew, IsEmptied, IsRearranged, RoomRefused}
 use Rattle.collection.specs.Left.{PinIsFew}
 use Rattle.collection.specs.Collect.{RoomTells, RoomCounts, StreamRunsOut, StreamSpends, RescueCosts, IsRescued}
 use Rattle.collection.proofs.Gates.{true_noted, same_noted, refused_noted}
@@ -28,13 +28,6 @@ module _ (fault : Option WriteFault) where
 
   pub fresh_noted : (a b : Ram) → Refreshes a b → Refreshes a (record b { fault = fault })
   fresh_noted a b x = record { each = x.each }
-
-  pub cost_noted : (flushing : Bool) (a b : Ram) (result : Result (Unit {0}) WriteFault) → CollectCosts flushing a b result → CollectCosts flushing a (record b { fault = fault }) result
-  cost_noted flushing a b (Ok u) x = record { mid = x.mid; ledger = x.ledger; failures = x.failures; erased = x.erased; next = x.next }
-  cost_noted flushing a b (Err ReadOnly) x = record { mid = x.mid; ledger = x.ledger; out = out_noted fault b x.mid x.out }
-  cost_noted flushing a b (Err SequenceSpent) x = record { mid = x.mid; ledger = x.ledger; out = spent_noted fault b x.mid x.out }
-  cost_noted flushing a b (Err Damaged) x = tt
-  cost_noted flushing a b (Err Bus) x = tt
 
   pub emptied_noted : (block : ℕ) (a b : Ram) (x y : Image) (result : Result (Unit {0}) WriteFault) → MatchResult result (λ u. IsEmptied block a x b y) (Refused a x b y) → MatchResult result (λ u. IsEmptied block a x (record b { fault = fault }) y) (Refused a x (record b { fault = fault }) y)
   emptied_noted block a b x y (Ok u) k = record { same = same_noted fault a b x y k.same; none = k.none }
@@ -74,8 +67,19 @@ module _ (fault : Option WriteFault) where
   few_noted b k = λ p is. (let few = k p is in record { within = few.within; small = few.small; moved = few.moved })
 
   pub rescued_noted : (a b : Ram) (x y : Image) (result : Result Bool WriteFault) → MatchResult result (IsRescued a x b y) (Refused a x b y) → MatchResult result (IsRescued a x (record b { fault = fault }) y) (Refused a x (record b { fault = fault }) y)
-  rescued_noted a b x y (Ok found) k = record { same = same_noted fault a b x y k.same; some = k.some; none = k.none; bad = k.bad }
+  rescued_noted a b x y (Ok found) k = record { same = same_noted fault a b x y k.same; lowest = k.lowest; some = k.some; none = k.none; bad = k.bad }
   rescued_noted a b x y (Err f) k = refused_noted fault a b x y f k
+
+pub cost_noted : (flushing : Bool) (block : ℕ) (a b : Ram) (result : Result (Unit {0}) WriteFault) → CollectCosts flushing block a b result → CollectCosts flushing block a (record b { fault = fault_after b.fault result }) result
+cost_noted flushing block a b (Ok u) x = x
+cost_noted flushing block a b (Err ReadOnly) x = record { mid = x.mid; ledger = x.ledger; out = out_noted (Some ReadOnly) b x.mid x.out }
+cost_noted flushing block a b (Err SequenceSpent) x = record { mid = x.mid; ledger = x.ledger; out = spent_noted (Some SequenceSpent) b x.mid x.out }
+cost_noted flushing block a b (Err Damaged) x = tt
+cost_noted flushing block a b (Err Bus) x = tt
+
+pub sparing_noted : (flushing : Bool) (block : ℕ) (a b : Ram) (result : Result (Unit {0}) WriteFault) → OnOk result (CollectsFew flushing block a b) → OnOk result (CollectsFew flushing block a (record b { fault = fault_after b.fault result }))
+sparing_noted flushing block a b (Ok u) k = k
+sparing_noted flushing block a b (Err f) k = tt
 
 pub rescue_cost_noted : (a b : Ram) (result : Result Bool WriteFault) → RescueCosts a b result → RescueCosts a (record b { fault = fault_after b.fault result }) result
 rescue_cost_noted a b (Ok false) k = k

@@ -1,5 +1,5 @@
 -- A page is found in a bad block, and leaves it.
-use Rattle.std.proofs.Common.{◌≡◌, inl, inr, ℕ, ◌+◌, ◌*◌, ◌/◌, ◌<◌, ◌≤◌, true, false, List, Option, Some, None, Ok, Err, refl, ap, sym, ◌∙◌, subst, arith}
+use Rattle.std.proofs.Common.{◌≡◌, ◌≢◌, inl, inr, ℕ, ◌+◌, ◌*◌, ◌/◌, ◌<◌, ◌≤◌, true, false, List, Option, Some, None, Ok, Err, refl, ap, sym, ◌∙◌, subst, arith}
 use Rattle.std.proofs.lemmas.Bool.{cases_lt, cases_eq}
 use Rattle.std.proofs.lemmas.Nat.{div-mul-add}
 use Rattle.page_layout.specs.declared.geometry.Geometry.{Geometry}
@@ -16,19 +16,22 @@ use Rattle.budget.specs.Spending.{data_of, meta_of}
 use Rattle.budget.proofs.AccountLemmas.{no_page}
 use Rattle.allocation.specs.Counts.{counts_of}
 use Rattle.allocation.specs.Laws.{IsLeftButLive}
-use Rattle.page_layout.specs.Geometry.{row_count}
+use Rattle.page_layout.specs.Geometry.{row_count, entries}
 use Rattle.page_layout.proofs.GeometryLemmas.{row_within}
 use Rattle.collection.specs.Cost.{HasPut}
 use Rattle.collection.specs.Looks.{IsReadFault}
-use Rattle.collection.specs.Results.{IsSame, Goes, Refused}
+use Rattle.collection.specs.Results.{IsSame, IsWrittenBack, Goes, Refused}
 use Rattle.collection.specs.Truth.{IsTrue}
 use Rattle.collection.specs.Live.{NotAt, HoldsNoneIn, FindsFirst, IsFirstLive, IsFoundIn, IsLivePage}
 use Rattle.collection.specs.Collect.{IsAiling, HasNoneAiling, IsFirstAiling, FindsAiling, IsMovedOut, HasCopied, HasProgrammed, StreamRunsOut}
 use Rattle.collection.specs.Collect.{StreamSpends, FaultCosts, FollowCosts, RescueCosts, IsRescued}
-use Rattle.collection.specs.Collect.{KeepsKeys, IsFollowed}
+use Rattle.collection.specs.Collect.{KeepsKeys, IsFollowed, IsFollowedBy, LeavesLowest}
 use Rattle.collection.specs.Settle.{SetsMapping}
 use Rattle.collection.specs.Left.{LeavesPin}
 use Rattle.page_layout.specs.declared.record.Key.{Key}
+use Rattle.page_layout.specs.declared.record.Key.TheVariants.{Sector, Translation, Table}
+use Rattle.page_layout.specs.Key.{key_of}
+use Rattle.mapping_cache.specs.Mapping.{MappingState, slot_of}
 use Rattle.std.proofs.Math.Nat.{div-lt_iff_lt-mul}
 use Rattle.collection.proofs.Finds.{none_all}
 use Rattle.collection.proofs.Copies.{keys_then}
@@ -124,15 +127,37 @@ module _ (a b : Ram) (x x1 : Image) (row : ℕ) (found : Record) (body : List �
       let P : Ram → Type 0 = λ z. Q z x in
       subst P same (subst (Q b) still k)
 
-  pub rescued : (c d : Ram) (y z : Image) → IsRam c → IsRam d → Goes a c → d.geometry ≡ c.geometry → IsMovedOut row a x c y → (IsTrue None c y → IsSame c y d z) → IsRescued a x d z true
+  -- the one that was found has left its row, and the others are where they were
+  left_lowest : (c d : Ram) (y z : Image) → Goes a c → IsMovedOut row a x c y → IsFollowedBy (key_of found) c y d z → LeavesLowest a x z
+  left_lowest c d y z goes m f =
+      let within : row / a.geometry.pages < a.geometry.blocks = (let P : Geometry → Type 0 = λ g. row / a.geometry.pages < g.blocks in subst P s.blocks_of of_bad.within) in
+      let left : IsLeftButLive a.blocks c.blocks (row / a.geometry.pages) = goes.shut (row / a.geometry.pages) within (bad_shut a.blocks (row / a.geometry.pages) of_bad.bad) in
+      let shut : is_shut c.blocks (row / c.geometry.pages) ≡ true = ap (λ (g : Geometry). is_shut c.blocks (row / g.pages)) goes.geometry ∙ bad_shut c.blocks (row / a.geometry.pages) (still_bad a.blocks c.blocks (row / a.geometry.pages) left of_bad.bad) in
+      let L : Geometry → Type 0 = λ g. (i p : ℕ) → i < g.blocks → is_good_at a.blocks.table i ≡ false → p < g.pages → i * g.pages + p < row → NotAt (i * g.pages + p) x in
+      record {
+        row = row;
+        key = key_of found;
+        ailing = of_bad;
+        newest = first_found.live.newest;
+        lowest = subst L s.blocks_of first_found.lowest;
+        gone = λ key q. elim (f.same.leaves.each key) [
+          | inl stayed ↦ m.gone key (sym stayed ∙ q)
+          | inr out ↦ (let no : true ≡ false = sym shut ∙ out row q in let never : ⊥ = cc in never)
+        ];
+        others = λ other ne far. f.others other (λ n is. (let P : Geometry → Type 0 = λ g. other ≢ Translation (n / entries g) in subst P (sym goes.geometry) (far n is))) ∙ m.others other ne;
+      }
+
+  pub rescued : (c d : Ram) (y z : Image) → IsRam c → IsRam d → Goes a c → d.geometry ≡ c.geometry → IsMovedOut row a x c y → (IsTrue None c y → IsFollowedBy (key_of found) c y d z) → IsRescued a x d z true
   rescued c d y z sc sd goes after m follow =
-      let k : IsSame c y d z = follow m.same.truth in
+      let f : IsFollowedBy (key_of found) c y d z = follow m.same.truth in
+      let k : IsSame c y d z = f.same in
       let all : IsSame a x d z = same_then a c d x y z goes after m.same k in
       let within : row / a.geometry.pages < a.geometry.blocks = (let P : Geometry → Type 0 = λ g. row / a.geometry.pages < g.blocks in subst P s.blocks_of of_bad.within) in
       let left : IsLeftButLive a.blocks c.blocks (row / a.geometry.pages) = goes.shut (row / a.geometry.pages) within (bad_shut a.blocks (row / a.geometry.pages) of_bad.bad) in
       let less : live_at d.blocks (row / a.geometry.pages) ≤ live_at c.blocks (row / a.geometry.pages) = shut_fewer c d y z (row / a.geometry.pages) sc sd after m.same.truth k.truth k.leaves (rw goes.geometry within) (bad_shut c.blocks (row / a.geometry.pages) (still_bad a.blocks c.blocks (row / a.geometry.pages) left of_bad.bad)) in
       record {
         same = all;
+        lowest = λ t. left_lowest c d y z goes m f;
         some = λ t. (row / a.geometry.pages, of_bad, omega (arith, m.fewer, less));
         none = λ f. (let never : ⊥ = cc in absurd never);
         bad = λ i lt bad. shut_fewer a d x z i s sd (after ∙ goes.geometry) w k.truth all.leaves lt (bad_shut a.blocks i bad);
@@ -143,6 +168,7 @@ none_rescued a b x x1 body live same still w finds is =
     let none : HasNoneAiling a.blocks = (let P : Option (ℕ × Record) → Type 0 = λ o. FindsAiling a.blocks body x o in subst P is finds) in
     let r : IsRescued a x a x false = record {
       same = same_here a x w;
+      lowest = λ t. (let never : ⊥ = cc in absurd never);
       some = λ t. (let never : ⊥ = cc in absurd never);
       none = λ f. none;
       bad = λ i lt bad. omega arith;
@@ -156,6 +182,13 @@ rescued_beside key key' a b c d same goes sets keeps pin is follows keeps' pin' 
     let Q : Ram → Type 0 = λ r. KeepsKeys r.mapping c.mapping in
     let F : Key → Type 0 = λ k. IsFollowed k c.mapping d.mapping in
     followed_beside key sets.0 a d c.mapping (pin' ∙ (pin ∙ ap (λ (r : Ram). r.pin) same)) goes (keys_then a.mapping c.mapping d.mapping (subst Q same keeps) keeps') (subst P same sets.1) (subst F is follows)
+
+-- where its translation page was written, or no page was
+pub followed_none : (key : Key) (r : Ram) (x : Image) → IsTrue None r x → IsFollowedBy key r x r x
+followed_none key r x w = record { same = same_here r x w; others = λ other far. refl }
+
+pub followed_by : (key : Key) (n : ℕ) (a b : Ram) (x y : Image) → key ≡ Sector n → IsWrittenBack (n / entries a.geometry) a x b y → IsFollowedBy key a x b y
+followed_by key n a b x y is k = record { same = k.same; others = λ other far. k.others other (far n is) }
 
 -- ---- what it costs
 

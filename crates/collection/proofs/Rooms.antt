@@ -185,11 +185,11 @@ room_refused a b c x y z Bus s s' on same k e = tt
 
 -- ---- what a refusal tells
 
-pub room_tells : (flushing : Bool) (b c : Ram) (fault : WriteFault) → CollectCosts flushing b c (Err fault) → RoomTells c fault
-room_tells flushing b c ReadOnly cost = (let z = cost.out.out.none.none_free in omega arith)
-room_tells flushing b c SequenceSpent cost = cost.out.spent.last
-room_tells flushing b c Damaged cost = tt
-room_tells flushing b c Bus cost = tt
+pub room_tells : (flushing : Bool) (block : ℕ) (b c : Ram) (fault : WriteFault) → CollectCosts flushing block b c (Err fault) → RoomTells c fault
+room_tells flushing block b c ReadOnly cost = (let z = cost.out.out.none.none_free in omega arith)
+room_tells flushing block b c SequenceSpent cost = cost.out.spent.last
+room_tells flushing block b c Damaged cost = tt
+room_tells flushing block b c Bus cost = tt
 
 -- ---- the count
 

@@ -157,6 +157,7 @@ module _ (r r2 : Ram) (m3 : MappingState) (x x2 : Image) (t row : ℕ) (body : L
       array = array_unwritten r.geometry _ row body x x2 (λ n e. apart n e) p.writes;
       leaves = leaves_written r _ row body x x2 p.writes out;
     };
+    others = λ k ne. p.writes.newest_others k (λ e. ne (sym e));
     row = row;
     newest_is = p.writes.newest_now;
     filled = record {

@@ -1,5 +1,5 @@
 -- What a collection of a block does, step by step and as a whole.
-use Rattle.std.specs.Prelude.{◌≡◌, ◌≢◌, ◌⊎◌, ℕ, ◌+◌, ◌-◌, ◌*◌, ◌/◌, ◌<◌, ◌≤◌, ◌==◌, ◌^◌, ◌||◌, ◌&&◌, min, Bool, true, false, not, List, length}
+use Rattle.std.specs.Prelude.{◌≡◌, ◌≢◌, ◌⊎◌, ℕ, ◌+◌, ◌-◌, ◌*◌, ◌/◌, ◌<◌, ◌≤◌, ◌==◌, ◌^◌, ◌||◌, ◌&&◌, min, Bool, true, false, not, List, [], ◌∷◌, length}
 use Rattle.std.specs.Prelude.{slice_set, get_or, count_by, Option, Some, None, IsSome, Result, Ok, Err}
 use Rattle.std.specs.List.{range_with_len}
 use Rattle.std.specs.Map.{keys_of}
@@ -17,6 +17,8 @@ use Rattle.budget.specs.declared.stream.Stream.TheVariants.{Meta}
 use Rattle.budget.specs.Counts.{Erased}
 use Rattle.budget.specs.Spending.{Spending, Collected, Stuck, IsFunded}
 use Rattle.mapping_cache.specs.Mapping.{MappingState, HasLimitsOf, per_page, pending, slot_of, moved_in, cleaned}
+use Rattle.collection.specs.declared.engine.turns.Step.{Step}
+use Rattle.collection.specs.declared.engine.turns.Step.TheVariants as steps
 use Rattle.allocation.specs.State.{State, live_at, is_closed, is_free, free_count}
 use Rattle.allocation.specs.Step.{erased, without}
 use Rattle.allocation.specs.Counts.{counts_of}
@@ -26,8 +28,10 @@ use Rattle.collection.specs.declared.fault.WriteFault.TheVariants.{ReadOnly, Seq
 use Rattle.collection.specs.declared.engine.step.Progress.{Progress}
 use Rattle.collection.specs.declared.engine.step.Progress.TheVariants as step
 use Rattle.collection.specs.State.{Ram}
+use Rattle.collection.specs.Pages.{newest_row}
 use Rattle.collection.specs.Safe.{is_shut}
 use Rattle.collection.specs.Cost.{HasPut, HasRunOut, HasSpent}
+use Rattle.collection.specs.Settle.{SetsMapping}
 use Rattle.collection.specs.Live.{NotAt, HoldsNoneIn, IsLivePage}
 use Rattle.collection.specs.Results.{IsSame}
 use Rattle.collection.specs.Truth.{IsTrue}
@@ -114,16 +118,23 @@ pub record HasErased (block : ℕ) (old new : Ram) : Type 0 where
   pub next : new.next ≡ old.next
   pub fault : new.fault ≡ old.fault
 
--- a page was copied: at most one more sector is moved, and at most one translation page more has to be written
+-- a page of a key was copied, and its new row set: at most one more sector is moved, and at most one translation page more has to be written
 pub record HasCopied (flushing : Bool) (old new : Ram) : Type 0 where
   pub stream : Stream
   pub put : HasPut stream old new
+  pub key : Key
+  pub row : ℕ
+  pub sets : SetsMapping key row old.mapping new.mapping
   pub moved : length new.mapping.moved ≤ length old.mapping.moved + 1
   pub due : due_count flushing new ≤ due_count flushing old + 1
 
--- a translation page was written: one less has to be
+-- The lowest translation page that has to be written was, and lacks no row: one less has to be. UNLESS FLUSHING, a sector of it was moved.
 pub record HasWritten (flushing : Bool) (old new : Ram) : Type 0 where
   pub put : HasPut Meta old new
+  pub page : ℕ
+  pub lowest : IsLowestDue flushing old page
+  pub of_moved : flushing ≡ false → has_moved old.mapping page ≡ true
+  pub mapping : new.mapping ≡ cleaned old.mapping page
   pub moved : length new.mapping.moved ≤ length old.mapping.moved
   pub due : due_count flushing new + 1 ≤ due_count flushing old
 
@@ -152,10 +163,12 @@ StepCosts flushing block first old new (Err fault) = FaultCosts old new fault
 
 -- ---- what it does, where the die is honest
 
--- the page of the row was copied: the array is as it was, no newest page is in the row, and its block has one less
+-- the page of the row was copied: the array is as it was, no newest page is in the row, each other one is where it was, and its block has one
+-- less
 pub record IsMovedOut (row : ℕ) (old : Ram) (before : Image) (new : Ram) (after : Image) : Type 0 where
   pub same : IsSame old before new after
   pub gone : NotAt row after
+  pub others : (key : Key) → newest_row before key ≢ Some row → newest_row after key ≡ newest_row before key
   pub fewer : live_at new.blocks (row / old.geometry.pages) + 1 ≡ live_at old.blocks (row / old.geometry.pages)
 
 -- a page was copied: the array is as it was, the block has one newest page less, and none up to that page
@@ -186,11 +199,37 @@ pub record HasProgrammed (first now : Ram) (data_pages meta_pages : ℕ) : Type 
   pub account : Spending first.geometry.pages (counts_of first.blocks) (counts_of now.blocks) data_pages meta_pages
   pub next : now.next + (counts_of now.blocks).good ≡ first.next + (data_pages + meta_pages) + (counts_of first.blocks).good
 
--- So far so many pages were copied and so many translation pages written back. As many more have to be written as are due, and with them
--- they are no more than the copies and those that were due at first, and no more than there are.
+-- THE STEPS OF A COLLECTION before its erase, the latest first: each copies a page, or writes a translation page back. Before them nothing has
+-- changed but the pin.
+abbrev pub LeadTo : Bool → Ram → List Step → Ram → Type 0
+LeadTo flushing old [] new = new ≡ record old { pin = record { block = new.pin.block; marks = old.pin.marks } }
+LeadTo flushing old (steps.Copied ∷ before) new = (mid : Ram) × LeadTo flushing old before mid × HasCopied flushing mid new
+LeadTo flushing old (steps.WroteBack ∷ before) new = (mid : Ram) × LeadTo flushing old before mid × HasWritten flushing mid new
+LeadTo flushing old (steps.Erased ∷ before) new = ⊥
+
+-- how many of them are copies
+abbrev pub copies_in : List Step → ℕ
+copies_in [] = 0
+copies_in (steps.Copied ∷ before) = copies_in before + 1
+copies_in (steps.WroteBack ∷ before) = copies_in before
+copies_in (steps.Erased ∷ before) = copies_in before
+
+-- and how many write a translation page back
+abbrev pub written_in : List Step → ℕ
+written_in [] = 0
+written_in (steps.Copied ∷ before) = written_in before
+written_in (steps.WroteBack ∷ before) = written_in before + 1
+written_in (steps.Erased ∷ before) = written_in before
+
+-- So far so many pages were copied and so many translation pages written back, step by step. As many more have to be written as are due, and
+-- with them they are no more than the copies and those that were due at first, and no more than there are.
 pub record Ledger (flushing : Bool) (first now : Ram) : Type 0 where
+  pub steps_taken : List Step
+  pub lead : LeadTo flushing first steps_taken now
   pub copies : ℕ
   pub written : ℕ
+  pub copies_are : copies ≡ copies_in steps_taken
+  pub written_are : written ≡ written_in steps_taken
   pub data_pages : ℕ
   pub meta_pages : ℕ
   pub pages : data_pages + meta_pages ≡ copies + written
@@ -198,13 +237,19 @@ pub record Ledger (flushing : Bool) (first now : Ram) : Type 0 where
   pub for_copies : written + due_count flushing now ≤ copies + due_count flushing first
   pub for_pages : written + due_count flushing now ≤ translation_pages first.geometry
 
--- copies, translation pages, and the erase
-pub record HasCollected (flushing : Bool) (old new : Ram) : Type 0 where
+-- copies, translation pages until none has to be written, and the erase of the block
+pub record HasCollected (flushing : Bool) (block : ℕ) (old new : Ram) : Type 0 where
   pub mid : Ram
   pub ledger : Ledger flushing old mid
-  pub failures : ℕ
-  pub erased : Erased failures (counts_of mid.blocks) (counts_of new.blocks)
-  pub next : new.next ≡ mid.next
+  pub none : HasNoneDue flushing mid
+  pub erase : HasErased block mid new
+
+-- WHERE THE DIE IS HONEST, and none was due before: a block with so many newest pages costs as many copies at most, and as many translation
+-- pages, and no more of these than there are
+pub record CollectsFew (flushing : Bool) (block : ℕ) (old new : Ram) : Type 0 where
+  pub collected : HasCollected flushing block old new
+  pub copies : collected.ledger.copies ≤ live_at old.blocks block
+  pub written : collected.ledger.written ≤ min (live_at old.blocks block) (translation_pages old.geometry)
 
 -- copies and translation pages, and one more page that found no block, or no sequence
 pub record HasStuck (flushing : Bool) (old new : Ram) : Type 0 where
@@ -217,12 +262,12 @@ pub record HasSpentIn (flushing : Bool) (old new : Ram) : Type 0 where
   pub ledger : Ledger flushing old mid
   pub out : StreamSpends mid new
 
-abbrev pub CollectCosts : Bool → Ram → Ram → Result (Unit {0}) WriteFault → Type 0
-CollectCosts flushing old new (Ok done) = HasCollected flushing old new
-CollectCosts flushing old new (Err ReadOnly) = HasStuck flushing old new
-CollectCosts flushing old new (Err SequenceSpent) = HasSpentIn flushing old new
-CollectCosts flushing old new (Err Damaged) = Unit {0}
-CollectCosts flushing old new (Err Bus) = Unit {0}
+abbrev pub CollectCosts : Bool → ℕ → Ram → Ram → Result (Unit {0}) WriteFault → Type 0
+CollectCosts flushing block old new (Ok done) = HasCollected flushing block old new
+CollectCosts flushing block old new (Err ReadOnly) = HasStuck flushing old new
+CollectCosts flushing block old new (Err SequenceSpent) = HasSpentIn flushing old new
+CollectCosts flushing block old new (Err Damaged) = Unit {0}
+CollectCosts flushing block old new (Err Bus) = Unit {0}
 
 -- ---- the count, where the die is honest and the block has at most vmax newest pages
 
@@ -357,9 +402,26 @@ RescueCosts old new (Err SequenceSpent) = RescueSpends old new
 RescueCosts old new (Err Damaged) = Unit {0}
 RescueCosts old new (Err Bus) = Unit {0}
 
--- the array is as it was; there was a newest page in a bad block just where it says so, and one of them has left its block
+-- the array is as it was, and each newest page is where it was but that of the translation page of the key's sector
+pub record IsFollowedBy (key : Key) (old : Ram) (before : Image) (new : Ram) (after : Image) : Type 0 where
+  pub same : IsSame old before new after
+  pub others : (other : Key) → ((n : ℕ) → key ≡ Sector n → other ≢ Translation (n / entries old.geometry)) → newest_row after other ≡ newest_row before other
+
+-- ONE PAGE, THAT OF LOWEST ROW among the newest ones in bad blocks, has left its row. Each other newest page is where it was but, of a sector's,
+-- its translation page.
+pub record LeavesLowest (old : Ram) (before after : Image) : Type 0 where
+  pub row : ℕ
+  pub key : Key
+  pub ailing : IsAiling old.blocks (row / old.geometry.pages)
+  pub newest : newest_row before key ≡ Some row
+  pub lowest : (b p : ℕ) → b < old.geometry.blocks → is_good_at old.blocks.table b ≡ false → p < old.geometry.pages → b * old.geometry.pages + p < row → NotAt (b * old.geometry.pages + p) before
+  pub gone : NotAt row after
+  pub others : (other : Key) → newest_row before other ≢ Some row → ((n : ℕ) → key ≡ Sector n → other ≢ Translation (n / entries old.geometry)) → newest_row after other ≡ newest_row before other
+
+-- the array is as it was; there was a newest page in a bad block just where it says so, and the one of lowest row has left its block
 pub record IsRescued (old : Ram) (before : Image) (new : Ram) (after : Image) (found : Bool) : Type 0 where
   pub same : IsSame old before new after
+  pub lowest : found ≡ true → LeavesLowest old before after
   pub some : found ≡ true → (block : ℕ) × IsAiling old.blocks block × (live_at new.blocks block < live_at old.blocks block)
   pub none : found ≡ false → HasNoneAiling old.blocks
   pub bad : (b : ℕ) → b < old.geometry.blocks → is_good_at old.blocks.table b ≡ false → live_at new.blocks b ≤ live_at old.blocks b

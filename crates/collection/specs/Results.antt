@@ -117,9 +117,10 @@ pub record IsWritten (kind : Kind) (n : ℕ) (body : List ℕ) (old : Ram) (befo
   pub row : ℕ
   pub writes : Writes old.geometry (last_record kind n row new) row body before after
 
--- the array is as it was, and the newest translation page t has the row of each of its sectors, and none past the last sector
+-- the array is as it was, each other newest page is where it was, and the newest translation page t has the row of each of its sectors, and none past the last sector
 pub record IsWrittenBack (t : ℕ) (old : Ram) (before : Image) (new : Ram) (after : Image) : Type 0 where
   pub same : IsSame old before new after
+  pub others : (key : Key) → key ≢ Translation t → newest_row after key ≡ newest_row before key
   pub row : ℕ
   pub newest_is : newest_row after (Translation t) ≡ Some row
   pub filled : IsFilled t (body_at after row) old.geometry after

@@ -1,5 +1,5 @@
 -- When collections stop, and what they leave of the pool.
-use Rattle.std.specs.Prelude.{◌≡◌, ◌≢◌, ◌⊎◌, ℕ, ◌+◌, ◌<◌, ◌≤◌, Bool, true, List, Option, None, Result, Err, IsOk, OnOk, IfErr, MatchResult}
+use Rattle.std.specs.Prelude.{◌≡◌, ◌≢◌, ◌⊎◌, ℕ, ◌+◌, ◌<◌, ◌≤◌, Bool, true, List, [], ◌∷◌, Option, None, MatchOption, Result, Err, IsOk, OnOk, IfErr, MatchResult}
 use Rattle.page_layout.specs.Flash.{Flash}
 use Rattle.page_layout.specs.declared.record.Record.{Record}
 use Rattle.page_layout.specs.Geometry.{need, vmax}
@@ -18,7 +18,7 @@ use Rattle.collection.specs.Safe.{ram, image_in}
 use Rattle.collection.specs.Truth.{IsTrue}
 use Rattle.collection.specs.Acts.{RestsOrErases}
 use Rattle.collection.specs.Left.{IsCalm, PinHasPassed, PinIsFew}
-use Rattle.collection.specs.Collect.{KeepsKeys, Refreshes, GoesOn, HasNoneWorth, RoomTells, IsRearranged, RoomRefused}
+use Rattle.collection.specs.Collect.{KeepsKeys, Refreshes, GoesOn, HasNoneWorth, HasCollected, RoomTells, IsRearranged, RoomRefused}
 
 -- free blocks beyond nine
 abbrev pub beyond : Reserve → ℕ
@@ -41,20 +41,32 @@ pub record IsWorth (more : ℕ) (r : Ram) (block : ℕ) : Type 0 where
   pub victim : IsVictim r.blocks r.blocks.geometry.blocks block
   pub small : live_at r.blocks block ≤ vmax r.geometry
 
+-- the block that is collected next for a call: with fewer than nine free it is the pinned one, and with none pinned the next victim, if that has
+-- few live pages
+pub record IsNextFor (r : Ram) (block : ℕ) : Type 0 where
+  pub scarce : free_count r.blocks < 9
+  pub which : MatchOption r.pin.block (IsWorth 0 r block) (λ p. p.block ≡ block)
+
+-- WHICH BLOCKS WERE COLLECTED, the latest first: each was the next one then, and was copied out of and erased
+abbrev pub Collects : Bool → Ram → List ℕ → Ram → Type 0
+Collects flushing old [] new = new ≡ old
+Collects flushing old (block ∷ before) new = (mid : Ram) × Collects flushing old before mid × IsNextFor mid block × HasCollected flushing block mid new
+
 -- with so many failures before, and its own, the pool still holds five blocks' pages but for a block for each failure
 pub record IsFundedOn (failures : ℕ) (old now : Ram) : Type 0 where
   pub its_failures : ℕ
   pub good : (counts_of old.blocks).good ≡ (counts_of now.blocks).good + its_failures
   pub funded : IsFunded old.geometry.pages (failures + its_failures) (counts_of now.blocks)
 
--- MAKING ROOM, where no fault stood: the cache stays, and bad blocks do; nothing was done for it where nine blocks were free. Where the die is
--- honest, the array is as it was.
+-- MAKING ROOM, where no fault stood: the cache stays, and bad blocks do; the pinned block was collected first, and then each time the next
+-- victim; nothing was done where nine blocks were free. Where the die is honest, the array is as it was.
 pub record MakesRoom {N : Type 0} (flash : N → Flash) (honest : N → Bool) (erases : N → ℕ) (flushing : Bool) (old new : Engine N) (result : Result (Unit {0}) WriteFault) : Type 0 where
   pub calm : OnOk result (IsCalm (ram new))
   pub goes : GoesOn (ram old) (ram new)
   pub keys : KeepsKeys old.mapping new.mapping
   pub refreshes : flushing ≡ true → Refreshes (ram old) (ram new)
   pub works : OnOk result (RestsOrErases erases old new)
+  pub collects : OnOk result ((blocks : List ℕ) × Collects flushing (ram old) blocks (ram new))
   pub rests : 9 ≤ free_count (ram old).blocks → IsOk result × (new ≡ old)
   pub tells : IfErr result (RoomTells (ram new))
   pub truth : honest old.nand ≡ true → IsTrue None (ram old) (image_in flash old) → PinHasPassed (ram old) (image_in flash old) → MatchResult result (λ done. IsRearranged (ram old) (image_in flash old) (ram new) (image_in flash new)) (RoomRefused (ram old) (image_in flash old) (ram new) (image_in flash new))

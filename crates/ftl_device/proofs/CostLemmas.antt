@@ -129,7 +129,7 @@ place_then n old mid new geometry blocks next p = record {
 pub ready_then : (n : ℕ) (old mid new : Ram) → new.geometry ≡ mid.geometry → new.blocks ≡ mid.blocks → new.next ≡ mid.next → IsReady n old mid → IsReady n old new
 ready_then n old mid new geometry blocks next p = record { mid = p.mid; room = p.room; place = place_then n p.mid mid new geometry blocks next p.place }
 
-pub ready_found : (result : Result (Option ℕ) WriteFault) (n : ℕ) (old first mid new : Ram) (fault : Option WriteFault) → HasMadeRoom old first → new ≡ record mid { fault = fault } → HasMadePlace n first mid → OnOk result (IsReady n old new)
+pub ready_found : (result : Result (Option ℕ) WriteFault) (n : ℕ) (old first mid new : Ram) (fault : Option WriteFault) → HasMadeRoom false old first → new ≡ record mid { fault = fault } → HasMadePlace n first mid → OnOk result (IsReady n old new)
 ready_found (Ok row) n old first mid new fault room is p = record { mid = first; room = room; place = place_then n first mid new (ap (λ (r : Ram). r.geometry) is) (ap (λ (r : Ram). r.blocks) is) (ap (λ (r : Ram). r.next) is) p }
 ready_found (Err f) n old first mid new fault room is p = tt
 

@@ -1,6 +1,7 @@
 pub mod PinLemmas
 pub mod StepLemmas
 pub mod TurnLemmas
+pub mod TurnedLemmas
 pub mod BlockLemmas
 pub mod WearLemmas
 pub mod BeginLemmas

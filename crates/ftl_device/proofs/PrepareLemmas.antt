@@ -1,5 +1,5 @@
 -- A sector is made ready, one step after another.
-use Rattle.std.proofs.Common.{◌≡◌, ◌≢◌, ℕ, ◌≤◌, ◌∙◌, None, Option, Some, Result, Ok, Err, OnOk, IfErr, MatchResult, MatchOption, [], refl, sym, ap, subst, arith}
+use Rattle.std.proofs.Common.{◌≡◌, ◌≢◌, ℕ, ◌≤◌, ◌∙◌, None, Option, Some, Result, Ok, Err, OnOk, IfErr, MatchResult, MatchOption, false, [], refl, sym, ap, subst, arith}
 use Rattle.page_layout.specs.declared.geometry.Geometry.{Geometry}
 use Rattle.page_layout.specs.declared.record.Key.TheVariants.{Sector}
 use Rattle.page_layout.specs.Page.{Image}
@@ -80,7 +80,7 @@ module _ (c d : Ram) (fault : Option WriteFault) (is : d ≡ record c { fault = 
   found_after (Err Damaged) n g x t u keeps same of_bus = (let no : ⊥ = cc in absurd no)
   found_after (Err Bus) n g x t u keeps same of_bus = tt
 
-  pub calm_after : (result : Result (Option ℕ) WriteFault) (a b : Ram) → HasMadeRoom a b → LeavesPin b c → OnOk result (IsCalm d)
+  pub calm_after : (result : Result (Option ℕ) WriteFault) (a b : Ram) → HasMadeRoom false a b → LeavesPin b c → OnOk result (IsCalm d)
   calm_after (Ok row) a b room beside = calm_found (calm_law b c beside room.calm)
   calm_after (Err f) a b room beside = tt
 

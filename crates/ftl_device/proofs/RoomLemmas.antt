@@ -1,6 +1,6 @@
 -- What making room leaves, and what no call moves.
 use Rattle.std.proofs.Common.{◌≡◌, ◌≢◌, ℕ, zero, suc, ◌+◌, ◌/◌, ◌<◌, ◌≤◌, ◌∙◌, inl, inr, Bool, true, false, not, ◌||◌, cond, List, [], ◌∷◌, length}
-use Rattle.std.proofs.Common.{get_or, Option, Some, None, Result, Ok, Err, OnOk, IfErr, MatchResult, refl, sym, ap, subst, arith}
+use Rattle.std.proofs.Common.{get_or, Option, Some, None, Result, Ok, Err, IsOk, OnOk, IfErr, MatchResult, refl, sym, ap, subst, arith}
 use Rattle.std.proofs.lemmas.List.{get_or-replicate}
 use Rattle.std.proofs.lemmas.List.Sums.{sum_by-cons}
 use Rattle.page_layout.specs.declared.geometry.Geometry.{Geometry}
@@ -8,7 +8,7 @@ use Rattle.page_layout.specs.Page.{Image}
 use Rattle.page_layout.specs.Geometry.{entries, translation_pages}
 use Rattle.bad_blocks.specs.declared.table.TableRow.{TableRow}
 use Rattle.bad_blocks.specs.Table.{is_good, is_good_at, good_count}
-use Rattle.allocation.specs.State.{State, live_at, is_closed}
+use Rattle.allocation.specs.State.{State, live_at, free_count, is_closed}
 use Rattle.mapping_cache.specs.Mapping.{per_page}
 use Rattle.collection.specs.declared.engine.Engine.{Engine}
 use Rattle.collection.specs.declared.fault.WriteFault.{WriteFault}
@@ -17,6 +17,7 @@ use Rattle.collection.specs.State.{Ram}
 use Rattle.collection.specs.Safe.{IsRam, is_shut, ram, image_in}
 use Rattle.collection.specs.Left.{IsCalm, PinIsFew}
 use Rattle.collection.specs.Acts.{RestsOrErases}
+use Rattle.collection.specs.Room.{Collects}
 use Rattle.page_layout.specs.Flash.{Flash}
 use Rattle.collection.specs.Results.{Goes, fault_after}
 use Rattle.collection.specs.Collect.{GoesOn, KeepsKeys, Refreshes, IsUpToDate, HasRoom, RoomTells, IsRearranged, RoomRefused}
@@ -67,9 +68,9 @@ room_tells (Err SequenceSpent) a b s t goes h = h
 room_tells (Err Damaged) a b s t goes h = tt
 room_tells (Err Bus) a b s t goes h = tt
 
-pub room_made : (result : Result (Unit {0}) WriteFault) (a b : Ram) → GoesOn a b → KeepsKeys a.mapping b.mapping → OnOk result (HasRoom b) → OnOk result (IsCalm b) → OnOk result (HasMadeRoom a b)
-room_made (Ok done) a b goes keys room calm = record { goes = goes; keys = keys; room = room; calm = calm }
-room_made (Err fault) a b goes keys room calm = tt
+pub room_made : {N : Type 0} (flushing : Bool) (result : Result (Unit {0}) WriteFault) (e f : Engine N) → OnOk result ((blocks : List ℕ) × Collects flushing (ram e) blocks (ram f)) → (9 ≤ free_count (ram e).blocks → IsOk result × (f ≡ e)) → GoesOn (ram e) (ram f) → KeepsKeys e.mapping f.mapping → OnOk result (HasRoom (ram f)) → OnOk result (IsCalm (ram f)) → OnOk result (HasMadeRoom flushing (ram e) (ram f))
+room_made flushing (Ok done) e f collects rests goes keys room calm = record { collects = collects; rests = λ nine. ap (λ (z : Engine _). ram z) (rests nine).1; goes = goes; keys = keys; room = room; calm = calm }
+room_made flushing (Err fault) e f collects rests goes keys room calm = tt
 
 -- a translation page that lacked no row lacks none
 clean_now : (a b : Ram) → IsRam a → IsRam b → b.geometry ≡ a.geometry → Refreshes a b → IsCalm b → KeepsClean a.geometry a.mapping b.mapping

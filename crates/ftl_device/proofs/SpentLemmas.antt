@@ -99,7 +99,7 @@ place_costs (Err Bus) a b h = tt
 -- ---- room
 
 module _ (known : Type 0) where
-  pub after_room : (a b : Ram) → IsRam b → HasMadeRoom a b → (known → RoomCounts 0 a b (Ok tt)) → AfterRoom known a b
+  pub after_room : (a b : Ram) → IsRam b → HasMadeRoom false a b → (known → RoomCounts 0 a b (Ok tt)) → AfterRoom known a b
   after_room a b safe room h = record { safe = safe; room = room; nine = λ k. (h k).nine }
 
   pub room_refused : (fault : WriteFault) (a b : Ram) → Tells {A = Unit {0}} a b (Err fault) → (known → RoomCounts 0 a b (Err fault)) → RoomCosts {A = Option ℕ} known 1 a b (Err fault)
@@ -310,7 +310,7 @@ account_out stream a b c d m one nine acc h =
     let gone = stuck stream a.geometry.pages h.failures d m (counts_of a.blocks) (counts_of b.blocks) (counts_of c.blocks) acc few h.found in
     omega (arith, gone.few)
 
-module _ (a b c : Ram) (s : IsRam a) (t : IsRam b) (u : IsRam c) (room : HasMadeRoom a b) (goes : Goes b c) (nine : RoomCounts 0 a b (Ok tt)) where
+module _ (a b c : Ram) (s : IsRam a) (t : IsRam b) (u : IsRam c) (room : HasMadeRoom false a b) (goes : Goes b c) (nine : RoomCounts 0 a b (Ok tt)) where
   less_then : good_count c.blocks.table ≤ good_count b.blocks.table
   less_then = good_fewer b c t u (goes_on b c t goes)
 

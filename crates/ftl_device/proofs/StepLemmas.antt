@@ -311,7 +311,7 @@ used_more j k a b le u = record { data_pages = u.data_pages; meta_pages = u.meta
 abbrev of_call : Result (Unit {0}) CallFault → Result (Unit {0}) CallFault
 of_call r = r
 
-module _ (a b c : Ram) (s : IsRam a) (t : IsRam b) (u : IsRam c) (room : HasMadeRoom a b) (goes : GoesOn b c) (nine : RoomCounts 0 a b (Ok tt)) where
+module _ (a b c : Ram) (s : IsRam a) (t : IsRam b) (u : IsRam c) (room : HasMadeRoom false a b) (goes : GoesOn b c) (nine : RoomCounts 0 a b (Ok tt)) where
   pub step_short : StepCounts b c (Ok tt) → LacksGood a c ⊎ (5 ≤ free_count c.blocks)
   step_short counts =
       let less = good_fewer b c t u goes in

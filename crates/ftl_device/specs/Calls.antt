@@ -23,6 +23,7 @@ use Rattle.collection.specs.declared.engine.Engine as engines
 use Rattle.collection.specs.State.{Ram}
 use Rattle.collection.specs.Safe.{IsRam, ram, image_in}
 use Rattle.collection.specs.Left.{IsCalm, PinHasPassed, PinIsFew, left}
+use Rattle.collection.specs.Room.{Collects}
 use Rattle.collection.specs.Pages.{newest_row}
 use Rattle.collection.specs.Truth.{IsTrue}
 use Rattle.collection.specs.Cost.{HasPut}
@@ -132,9 +133,12 @@ pub record HasMadePlace (n : ℕ) (old new : Ram) : Type 0 where
   pub free : CanLoad old.mapping n → (new.blocks ≡ old.blocks) × (new.next ≡ old.next)
   pub taken : (CanLoad old.mapping n → ⊥) → HasPut Meta old new
 
--- Room was made: blocks were collected until five are free, and nine unless none is worth it. The cached sectors stay, and their order; bad
--- blocks stay as they are.
-pub record HasMadeRoom (old new : Ram) : Type 0 where
+-- ROOM WAS MADE: blocks were collected until five are free, and nine unless none is worth it. The pinned block was first, and then each time the
+-- next victim; with nine free none was. Unless flushing, each translation page that was written had a moved sector. The cached sectors stay,
+-- and their order; bad blocks stay as they are.
+pub record HasMadeRoom (flushing : Bool) (old new : Ram) : Type 0 where
+  pub collects : (blocks : List ℕ) × Collects flushing old blocks new
+  pub rests : 9 ≤ free_count old.blocks → new ≡ old
   pub goes : GoesOn old new
   pub keys : KeepsKeys old.mapping new.mapping
   pub room : HasRoom new
@@ -143,7 +147,7 @@ pub record HasMadeRoom (old new : Ram) : Type 0 where
 -- room was made, and then a place for a sector's entry
 pub record IsReady (n : ℕ) (old new : Ram) : Type 0 where
   pub mid : Ram
-  pub room : HasMadeRoom old mid
+  pub room : HasMadeRoom false old mid
   pub place : HasMadePlace n mid new
 
 -- one translation page is programmed, and then one page of a sector
@@ -161,7 +165,7 @@ pub record HasPutSector (n : ℕ) (old new : Ram) : Type 0 where
 -- WHAT A CALL COSTS: what making room does, and then that
 pub record HasCost (n : ℕ) (old new : Ram) : Type 0 where
   pub mid : Ram
-  pub room : HasMadeRoom old mid
+  pub room : HasMadeRoom false old mid
   pub put : HasPutSector n mid new
 
 -- plain LRU: the cached sectors after sector n was used, the most recently used first

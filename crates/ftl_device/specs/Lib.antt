@@ -5,4 +5,5 @@ pub mod Read
 pub mod Counts
 pub mod Flush
 pub mod Shortage
+pub mod Turn
 pub mod Changes

@@ -1,5 +1,5 @@
 -- Why a call that began with nine free blocks runs short of them only where blocks fail.
-use Rattle.std.specs.Prelude.{◌≡◌, ◌⊎◌, ℕ, ◌+◌, ◌<◌, ◌≤◌, Bool, true, Result, Ok, Err}
+use Rattle.std.specs.Prelude.{◌≡◌, ◌⊎◌, ℕ, ◌+◌, ◌<◌, ◌≤◌, Bool, true, false, Result, Ok, Err}
 use Rattle.page_layout.specs.Geometry.{need}
 use Rattle.page_layout.specs.Page.{Image}
 use Rattle.bad_blocks.specs.Table.{good_count}
@@ -66,7 +66,7 @@ HasFunds honest r image = (honest ≡ true) × Knows r image × IsFunded r.geome
 -- Room was made. Where so much is known, nine blocks are free, unless fewer are good than the geometry asks for.
 pub record AfterRoom (known : Type 0) (old new : Ram) : Type 0 where
   pub safe : IsRam new
-  pub room : HasMadeRoom old new
+  pub room : HasMadeRoom false old new
   pub nine : known → (good_count new.blocks.table < need old.geometry) ⊎ (9 ≤ free_count new.blocks)
 
 -- and then at most so many pages were programmed

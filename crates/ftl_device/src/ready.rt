@@ -36,7 +36,7 @@ pub(crate) fn make_room<N: Nand>(engine: &mut Engine<N>, flushing: bool) -> Resu
     requires going { engine.old.fault ≡ None }
     requires calm { IsCalm (ram engine.old) }
     ensures leaves { Leaves N.flash N.honest N.calm N.failed engine.old result engine.new }
-    ensures made { OnOk result (HasMadeRoom (ram engine.old) (ram engine.new)) }
+    ensures made { OnOk result (HasMadeRoom flushing (ram engine.old) (ram engine.new)) }
     ensures rests { 9 ≤ free_count (ram engine.old).blocks → IsOk result × (engine.new ≡ engine.old) }
     ensures erases { OnOk result (RestsOrErases N.erases engine.old engine.new) }
     ensures keys { KeepsKeys engine.old.mapping engine.new.mapping }

@@ -1,5 +1,5 @@
 //! A turn: a page is rescued from a bad block, or a collection goes one step further.
-ghost use Rattle.std.specs.Prelude.{◌≡◌, ◌≢◌, ◌-◌, ◌+◌, ◌<◌, ◌≤◌, ◌^◌, ℕ, true, false, Ok, Err, None, IsSome, IsOk, IfErr, OnOk, MatchResult};
+ghost use Rattle.std.specs.Prelude.{◌≡◌, ◌≢◌, ◌⊎◌, ◌-◌, ◌+◌, ◌<◌, ◌≤◌, ◌^◌, ℕ, true, false, Ok, Err, None, IsSome, IsOk, IfErr, OnOk, MatchResult};
 ghost use Rattle.promises.specs.Step.{Turn};
 ghost use Rattle.bad_blocks.specs.Table.{good_count};
 ghost use Rattle.collection.specs.Safe.{IsSafe, ram, image_in};
@@ -8,6 +8,7 @@ ghost use Rattle.collection.specs.Collect.{HasAiling, HasNoneAiling};
 ghost use Rattle.ftl_device.specs.Device.{IsDevice};
 ghost use Rattle.ftl_device.specs.Calls.{IsWell, Knows, KeepsArray, CallRefused, HasRescued};
 ghost use Rattle.ftl_device.specs.Calls.{HasWorked, HasLess, HasFallen, IsQuiet};
+ghost use Rattle.ftl_device.specs.Turn.{HasGoneOn, HasTurned};
 ghost use Rattle.ftl_device.specs.Changes.{CollectsOn, Ends, Upkeeps};
 ghost use Rattle.allocation.specs.State.{free_count, live_at};
 ghost use Rattle.ftl_device.specs.Shortage.{HasFunds, CallShort};
@@ -25,6 +26,7 @@ fn step_pinned<N: Nand>(engine: &mut Engine<N>) -> Result<(), WriteFault>
     requires calm { IsCalm (ram engine.old) }
     requires pinned { IsSome engine.old.pinned }
     ensures collects { CollectsOn N.flash N.honest N.calm N.erases N.failed engine.old result engine.new }
+    ensures gone_on { OnOk result (HasGoneOn (ram engine.old) (ram engine.new)) }
     ensures worked { OnOk result (HasWorked (ram engine.old) (ram engine.new) (N.erases engine.old.nand) (N.erases engine.new.nand)) }
     ensures less { N.honest engine.old.nand ≡ true → Knows (ram engine.old) (image_in N.flash engine.old) →
         OnOk result (HasLess N.flash N.erases engine.old engine.new) }
@@ -40,6 +42,7 @@ fn collect_on<N: Nand>(engine: &mut Engine<N>) -> Result<(), WriteFault>
     requires going { engine.old.fault ≡ None }
     requires calm { IsCalm (ram engine.old) }
     ensures collects { CollectsOn N.flash N.honest N.calm N.erases N.failed engine.old result engine.new }
+    ensures gone_on { OnOk result ((ram engine.new ≡ ram engine.old) ⊎ HasGoneOn (ram engine.old) (ram engine.new)) }
     ensures rests { engine.old.pinned ≡ None → 12 ≤ free_count (ram engine.old).blocks → IsOk result × (engine.new ≡ engine.old) }
     ensures quiet { N.honest engine.old.nand ≡ true → Knows (ram engine.old) (image_in N.flash engine.old) →
         OnOk result (IsQuiet N.erases engine.old engine.new) }
@@ -65,6 +68,7 @@ fn turn_ready<N: Nand>(engine: &mut Engine<N>) -> Result<(), CallFault>
     requires calm { IsCalm (ram engine.old) }
     ensures ends { Ends N.flash N.honest N.calm N.failed engine.old result engine.new }
     ensures memory { result ≢ Err CallFault.OutOfMemory }
+    ensures turned { OnOk result (HasTurned (ram engine.old) (ram engine.new)) }
     ensures count { HasFunds (N.honest engine.old.nand) (ram engine.old) (image_in N.flash engine.old) →
         5 ≤ free_count (ram engine.old).blocks → CallShort (ram engine.old) (ram engine.new) result }
     ensures rests { HasNoneAiling (ram engine.old).blocks → engine.old.pinned ≡ None → 12 ≤ free_count (ram engine.old).blocks →
@@ -117,6 +121,7 @@ impl<N: Nand> Device<N> {
         ensures device { IsDevice N.flash self.new }
         ensures geometry { self.new.engine.geometry ≡ self.old.engine.geometry }
         ensures upkeeps { Upkeeps N.flash N.honest N.calm N.failed Turn self.old result self.new }
+        ensures turned { OnOk result (HasTurned (ram self.old.engine) (ram self.new.engine)) }
         ensures rests { HasNoneAiling (ram self.old.engine).blocks → self.old.engine.pinned ≡ None → 12 ≤ free_count (ram self.old.engine).blocks →
             OnOk result (self.new.engine ≡ self.old.engine) }
         ensures quiet { N.honest self.old.engine.nand ≡ true → IsWell N.flash self.old →

@@ -6,7 +6,7 @@ ghost use Rattle.allocation.specs.State.{is_closed, live_at};
 ghost use Rattle.collection.specs.Safe.{IsSafe, IsIdle, ram, image_in};
 ghost use Rattle.collection.specs.Truth as truth;
 ghost use Rattle.collection.specs.Results.{Refused};
-ghost use Rattle.collection.specs.Collect.{KeepsKeys, Refreshes, GoesBut, IsReleased, IsEmptied, CollectCosts, CollectCounts, IsThrifty};
+ghost use Rattle.collection.specs.Collect.{KeepsKeys, Refreshes, GoesBut, IsReleased, IsEmptied, CollectCosts, CollectsFew, CollectCounts, IsThrifty, due_count};
 ghost use Rattle.collection.specs.Whole.{next_of, step_within, work_left};
 ghost use Rattle.collection.specs.Left.{IsHalfDone, IsFew, HasPassed, PinIsFew};
 ghost use Rattle.collection.specs.Acts.{Acts, Stands};
@@ -52,7 +52,10 @@ impl<N: Nand> Engine<N> {
         ensures released { OnOk result (IsReleased pinned.block (ram self.old).blocks (ram self.new).blocks) }
         ensures keys { KeepsKeys self.old.mapping self.new.mapping }
         ensures refreshes { flushing ≡ true → Refreshes (ram self.old) (ram self.new) }
-        ensures cost { CollectCosts flushing (ram self.old) (ram self.new) result }
+        ensures cost { CollectCosts flushing pinned.block (ram self.old) (ram self.new) result }
+        ensures sparing { N.honest self.old.nand ≡ true → truth.IsTrue None (ram self.old) (image_in N.flash self.old) →
+            HasPassed (ram self.old) (image_in N.flash self.old) pinned → due_count flushing (ram self.old) ≡ 0 →
+            OnOk result (CollectsFew flushing pinned.block (ram self.old) (ram self.new)) }
         ensures reads { N.reads self.new.nand ≤
             N.reads self.old.nand + (2 * (self.old.geometry.pages - pinned.first) + min self.old.geometry.pages (translation_pages self.old.geometry)) }
         ensures erases { OnOk result (N.erases self.new.nand ≡ counted (N.erases self.old.nand)) }
@@ -98,7 +101,9 @@ impl<N: Nand> Engine<N> {
         ensures released { OnOk result (IsReleased block (ram self.old).blocks (ram self.new).blocks) }
         ensures keys { KeepsKeys self.old.mapping self.new.mapping }
         ensures refreshes { flushing ≡ true → Refreshes (ram self.old) (ram self.new) }
-        ensures cost { CollectCosts flushing (ram self.old) (ram self.new) result }
+        ensures cost { CollectCosts flushing block (ram self.old) (ram self.new) result }
+        ensures sparing { N.honest self.old.nand ≡ true → truth.IsTrue None (ram self.old) (image_in N.flash self.old) →
+            OnOk result (CollectsFew flushing block (ram self.old) (ram self.new)) }
         ensures reads { N.reads self.new.nand ≤
             N.reads self.old.nand + (2 * self.old.geometry.pages + min self.old.geometry.pages (translation_pages self.old.geometry)) }
         ensures erases { OnOk result (N.erases self.new.nand ≡ counted (N.erases self.old.nand)) }
@@ -150,9 +155,9 @@ impl<N: Nand> Engine<N> {
     pub fn collect(&mut self, block: u32, flushing: bool) -> Result<(), WriteFault>
         requires safe { IsSafe N.flash self.old }
         requires idle { self.old.fault ≡ None → IsIdle (ram self.old) }
-        requires unpinned { self.old.pinned ≡ None }
+        requires unpinned { self.old.fault ≡ None → self.old.pinned ≡ None }
         requires block { block < self.old.geometry.blocks }
-        requires closed { is_closed (ram self.old).blocks block ≡ true }
+        requires closed { self.old.fault ≡ None → is_closed (ram self.old).blocks block ≡ true }
         ensures stands { Stands N.flash N.honest N.calm N.failed self.old self.new result }
         ensures idle { OnOk result (IsIdle (ram self.new)) }
         ensures unpinned { OnOk result (self.new.pinned ≡ None) }
@@ -163,7 +168,9 @@ impl<N: Nand> Engine<N> {
         ensures reads { N.reads self.new.nand ≤
             N.reads self.old.nand + (2 * self.old.geometry.pages + min self.old.geometry.pages (translation_pages self.old.geometry)) }
         ensures erases { OnOk result (N.erases self.new.nand ≡ counted (N.erases self.old.nand)) }
-        ensures cost { self.old.fault ≡ None → CollectCosts flushing (ram self.old) (ram self.new) result }
+        ensures cost { self.old.fault ≡ None → CollectCosts flushing block (ram self.old) (ram self.new) result }
+        ensures sparing { N.honest self.old.nand ≡ true → self.old.fault ≡ None → truth.IsTrue None (ram self.old) (image_in N.flash self.old) →
+            OnOk result (CollectsFew flushing block (ram self.old) (ram self.new)) }
         ensures truth { N.honest self.old.nand ≡ true → self.old.fault ≡ None → truth.IsTrue None (ram self.old) (image_in N.flash self.old) →
             MatchResult result
             (λ _. IsEmptied block (ram self.old) (image_in N.flash self.old) (ram self.new) (image_in N.flash self.new))

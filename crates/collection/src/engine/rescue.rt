@@ -10,8 +10,8 @@ ghost use Rattle.collection.specs.Safe.{IsSafe, ram, image_in, page_in};
 ghost use Rattle.collection.specs.Left.{LeavesPin};
 ghost use Rattle.collection.specs.Truth as truth;
 ghost use Rattle.collection.specs.Live.{IsFoundIn};
-ghost use Rattle.collection.specs.Results.{IsSame, Refused, Goes};
-ghost use Rattle.collection.specs.Collect.{KeepsKeys, IsAiling, HasAiling, HasNoneAiling, FollowCosts, IsFollowed, RescueCosts, IsRescued, FindsAiling};
+ghost use Rattle.collection.specs.Results.{Refused, Goes};
+ghost use Rattle.collection.specs.Collect.{KeepsKeys, IsAiling, HasAiling, HasNoneAiling, FollowCosts, IsFollowed, RescueCosts, IsFollowedBy, IsRescued, FindsAiling};
 ghost use Rattle.collection.specs.Acts.{OnlyLooks, Acts, Stands};
 
 use super::Engine;
@@ -84,7 +84,7 @@ impl<N: Nand> Engine<N> {
         ensures unmoved { OnErr result (self.new.mapping ≡ self.old.mapping) }
         ensures cost { FollowCosts (ram self.old) (ram self.new) result }
         ensures truth { N.honest self.old.nand ≡ true → truth.IsTrue None (ram self.old) (image_in N.flash self.old) →
-            MatchResult result (λ _. IsSame (ram self.old) (image_in N.flash self.old) (ram self.new) (image_in N.flash self.new)) (Refused (ram self.old) (image_in N.flash self.old) (ram self.new) (image_in N.flash self.new)) }
+            MatchResult result (λ _. IsFollowedBy key (ram self.old) (image_in N.flash self.old) (ram self.new) (image_in N.flash self.new)) (Refused (ram self.old) (image_in N.flash self.old) (ram self.new) (image_in N.flash self.new)) }
     {
         let Key::Sector(n) = key else {
             return Ok(());
@@ -128,8 +128,8 @@ impl<N: Nand> Engine<N> {
     /// answers whether there was one. A cached sector's row becomes dirty; of another sector the
     /// translation page is written back.
     ///
-    /// The array stays, and so do the sectors that are cached, and their order; no block is erased, and
-    /// no bad block gets a page. No more sectors are moved afterwards, and a pinned block stays so.
+    /// The array stays, and so do the sectors that are cached, and their order; each other newest page
+    /// stays where it is, no block is erased, and no bad block gets a page. No more sectors are moved afterwards, and a pinned block stays so.
     ///
     /// # Errors
     ///

@@ -117,7 +117,11 @@ impl<N: Nand> Engine<N> {
     /// Sees that there are free blocks enough for a call that programs: where fewer than nine are free,
     /// the collection of the pinned block is finished; then, while fewer than nine are free and the
     /// closed block of fewest live pages has at most `Geometry::vmax`, it is collected, in a flush as
-    /// `collect` does there. Afterwards at least five blocks are free.
+    /// `collect` does there. Afterwards at least five blocks are free. With nine free blocks nothing is
+    /// done.
+    ///
+    /// No translation page may be marked: only a `step` while flushing marks any, and who takes such
+    /// steps goes on with them until the block is erased, which takes all marks off.
     ///
     /// The array stays, and so do the sectors that are cached, and their order; bad blocks stay as they
     /// are, and get no page. Where a block was erased, none is pinned and no sector is moved

@@ -143,8 +143,11 @@ impl<N: Nand> Engine<N> {
     /// one more, or where the erase fails it is grown bad.
     ///
     /// The array stays, and so do the sectors that are cached, and their order. Each step but the
-    /// erase leaves less to do. One page is programmed at most, and one more for each failure; no page
-    /// is read twice.
+    /// erase leaves less to do. One page is programmed at most, and one more for each failure. It
+    /// reads each page of the block once at most, from where the last step ended, and with it the
+    /// translation page that tells whether it is the newest of its sector; a copy reads no page past
+    /// the one that it copies. Where a translation page is written back, that is read too. Unless
+    /// flushing, a sector of it was moved.
     ///
     /// # Errors
     ///

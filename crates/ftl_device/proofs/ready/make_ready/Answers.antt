@@ -1,4 +1,4 @@
-use Rattle.std.proofs.Common.{◌∙◌, Err, ap}
+use Rattle.std.proofs.Common.{◌∙◌, Err, ap, sym, subst}
 use Rattle.std.specs.Map.{keys_of}
 use Rattle.std.proofs.lemmas.Result.{err_from_is_err_and}
 use Rattle.collection.specs.Safe.{ram, image_in}
@@ -6,6 +6,7 @@ use Rattle.ftl_device.proofs.ReadyLemmas.{same_slots, most_recent}
 use Rattle.ftl_device.proofs.CostLemmas.{order_ready, ready_then}
 use Rattle.ftl_device.proofs.EndLemmas.{ends_refused, ends_memory, ends_loaded}
 use Rattle.ftl_device.proofs.ReadLemmas.{is_looked_up}
+use Rattle.ftl_device.specs.Calls.{KeepsArray}
 use Rattle.ftl_device.specs.Shortage.{HasFunds}
 use Rattle.ftl_device.proofs.PrepareLemmas.{keeps_loaded}
 use Rattle.ftl_device.proofs.SpentLemmas.{room_kept, room_to_call}
@@ -50,6 +51,11 @@ returns-in_err-cache_sector-clause-readies g c =
       cached = λ some _. (let done = c.in_err-cache_sector.ensures.cached (same_slots c.args.sector c.args.engine.now.mapping c.prepare.new.engine.mapping c.prepare.ensures.keys some) in let no : ⊥ = cc in no);
       costs = room_kept (HasFunds (g.N.PageSource.honest c.args.engine.now.nand) (ram c.args.engine.now) (image_in g.N.PageSource.flash c.args.engine.now)) 1 (ram c.args.engine.now) (ram c.prepare.new.engine) (ram c.cache_sector.new.self) (ap (λ e. (ram e).blocks) c.in_err-cache_sector.ensures.refused) c.in_ok-row.ensures.costs;
     })
+
+pub returns-in_err-cache_sector-clause-truth : goal.returns-in_err-cache_sector-clause-truth
+returns-in_err-cache_sector-clause-truth g c =
+    let p = err_from_is_err_and c.from_residual-in_err-cache_sector.result c.from_residual-in_err-cache_sector.ensures.1 in
+    rw (p.1, p.2) (λ honest w. subst (λ e. KeepsArray c.args.engine.now.geometry (image_in g.N.PageSource.flash c.args.engine.now) (ram e) (image_in g.N.PageSource.flash e)) (sym c.in_err-cache_sector.ensures.refused) (c.in_ok-row.ensures.truth honest w).keeps)
 
 -- ---- it is cached
 

@@ -4,7 +4,7 @@ use Rattle.ftl_device.proofs.LeaveLemmas.{leaves_by}
 use Rattle.ftl_device.proofs.ready.make_room.Goals as goal
 
 pub returns-clause-made : goal.returns-clause-made
-returns-clause-made g c = room_made c.make_room.result (ram c.args.engine.now) (ram c.make_room.new.self) (c.make_room.ensures.makes c.requires.going).goes (c.make_room.ensures.makes c.requires.going).keys c.make_room.ensures.room (c.make_room.ensures.makes c.requires.going).calm
+returns-clause-made g c = room_made c.args.flushing c.make_room.result c.args.engine.now c.make_room.new.self (c.make_room.ensures.makes c.requires.going).collects (c.make_room.ensures.makes c.requires.going).rests (c.make_room.ensures.makes c.requires.going).goes (c.make_room.ensures.makes c.requires.going).keys c.make_room.ensures.room (c.make_room.ensures.makes c.requires.going).calm
 
 pub returns-clause-cleans : goal.returns-clause-cleans
 returns-clause-cleans g c = room_cleans c.make_room.result c.args.flushing (ram c.args.engine.now) (ram c.make_room.new.self) c.requires.safe.memory c.make_room.ensures.stands.safe.memory (c.make_room.ensures.makes c.requires.going).goes.geometry (c.make_room.ensures.makes c.requires.going).refreshes (c.make_room.ensures.makes c.requires.going).calm

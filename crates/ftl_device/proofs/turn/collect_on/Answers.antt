@@ -4,6 +4,7 @@ use Rattle.collection.specs.declared.engine.Pinned.{Pinned}
 use Rattle.collection.specs.Safe.{ram}
 use Rattle.collection.proofs.HalfDone.{unpinned_idle}
 use Rattle.ftl_device.proofs.StepLemmas.{ok_map, pinned_half, knows_pinned, less_pinned, worked_pinned, collects_none, collects_pinned}
+use Rattle.ftl_device.proofs.TurnedLemmas.{gone_begun}
 use Rattle.ftl_device.proofs.turn.collect_on.Goals as goal
 
 none_pinned : (o : Option Pinned) (b : Bool) → b ≡ is_some o → b ≡ false → o ≡ None
@@ -15,7 +16,20 @@ none_pinned (Some p) b is off = (let no : ⊥ = cc in absurd no)
 pub returns-in_default-clause-collects : goal.returns-in_default-clause-collects
 returns-in_default-clause-collects g c = collects_none g.N.PageSource.flash g.N.PageSource.honest g.N.PageSource.calm g.N.PageSource.erases g.N.PageSource.failed c.args.engine.now c.requires.safe c.requires.going c.requires.calm
 
+pub returns-in_default-clause-gone_on : goal.returns-in_default-clause-gone_on
+returns-in_default-clause-gone_on g c = inl refl
+
+-- ---- one goes on
+
+pub returns-then-is_some-clause-gone_on : goal.returns-then-is_some-clause-gone_on
+returns-then-is_some-clause-gone_on g c = ok_map c.step_pinned.result (λ h. inr h) c.step_pinned.ensures.gone_on
+
 -- ---- one begins
+
+pub returns-clause-gone_on : goal.returns-clause-gone_on
+returns-clause-gone_on g c =
+    let none = none_pinned c.args.engine.now.pinned c.is_some.result c.is_some.ensures c.if-is_some.false in
+    ok_map c.step_pinned-2.result (λ h. inr (gone_begun _ (ram c.args.engine.now) (ram c.pin.new.self) (ram c.step_pinned-2.new.engine) (ap (λ z. ram z) c.pin.ensures.pinned) none refl c.in-Some.ensures h)) c.step_pinned-2.ensures.gone_on
 
 pub returns-clause-collects : goal.returns-clause-collects
 returns-clause-collects g c =

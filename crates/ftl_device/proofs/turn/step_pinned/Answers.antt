@@ -4,6 +4,7 @@ use Rattle.collection.specs.Safe.{ram}
 use Rattle.ftl_device.proofs.RoomLemmas.{good_fewer}
 use Rattle.ftl_device.proofs.LeaveLemmas.{leaves_by, leaves_done, leaves_refused}
 use Rattle.ftl_device.proofs.StepLemmas.{some_pin, pinned_half, step_goes_on, step_told, step_counted, step_stuck, risen_told, step_worked, step_less, step_keeps, step_bad, step_refused}
+use Rattle.ftl_device.proofs.TurnedLemmas.{gone_pinned}
 use Rattle.ftl_device.proofs.turn.step_pinned.Goals as goal
 
 -- it was refused
@@ -53,6 +54,11 @@ returns-clause-collects g c =
           step_bad q.0 old new _ _ c.requires.safe.memory t.safe.memory a.goes.geometry k q.1 on.same.truth on.same.leaves;
       truth = λ honest k. step_keeps q.0 old new _ _ c.requires.safe.memory t.safe.memory a.goes.geometry k q.1 _ calm (a.truth honest k.truth (k.passed q.0 q.1));
     }
+
+pub returns-clause-gone_on : goal.returns-clause-gone_on
+returns-clause-gone_on g c =
+    let q = some_pin c.args.engine.now.pinned c.requires.pinned in
+    gone_pinned q.0 (ram c.args.engine.now) (ram c.step.new.self) _ q.1 (c.in_ok-step.ensures.advances c.requires.going q.0 q.1).cost
 
 pub returns-clause-worked : goal.returns-clause-worked
 returns-clause-worked g c =

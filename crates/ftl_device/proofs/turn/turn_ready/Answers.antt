@@ -7,6 +7,7 @@ use Rattle.ftl_device.proofs.RoomLemmas.{rescued_by, rescue_told, keeps_room, re
 use Rattle.ftl_device.proofs.SpentLemmas.{rescue_short, rescue_stuck, unroomed_short}
 use Rattle.ftl_device.proofs.LeaveLemmas.{leaves_by, leaves_then, leaves_done, leaves_ends, leaves_stuck}
 use Rattle.ftl_device.proofs.StepLemmas.{no_rescue, resting, moved_less, rescue_refused, step_short, step_short_of, quiet_then, fallen_then, none_worked, rescue_falls, collected_rescued, rescue_works}
+use Rattle.ftl_device.proofs.TurnedLemmas.{rescue_turned, collect_turned}
 use Rattle.ftl_device.proofs.turn.turn_ready.Goals as goal
 
 -- ---- no room was made
@@ -68,6 +69,13 @@ returns-then-needs_rescue-clause-worked g c = λ honest w some.
     let one = c.in_ok-rescue_one.ensures.truth (c.make_room.ensures.leaves.honest_is ∙ honest) c.in_ok-make_room.ensures.leaves.fault room.truth (moved_less (ram c.make_room.new.engine) _ (c.in_ok-make_room.ensures.pinned honest w)) in
     rescue_worked g.N.PageSource.erases c.args.engine.now c.make_room.new.engine c.rescue_one.new.self _ _ _ c.make_room.ensures.leaves.safe.memory c.rescue_one.ensures.stands.safe.memory some c.in_ok-make_room.ensures.erases c.rescue_one.ensures.erases c.rescue_one.ensures.goes (c.in_ok-rescue_one.ensures.cost c.in_ok-make_room.ensures.leaves.fault) one
 
+pub returns-then-needs_rescue-clause-turned : goal.returns-then-needs_rescue-clause-turned
+returns-then-needs_rescue-clause-turned g c = record {
+  mid = ram c.make_room.new.engine;
+  room = c.in_ok-make_room.ensures.made;
+  on = rescue_turned (ram c.make_room.new.engine) (ram c.rescue_one.new.self) _ c.if-needs_rescue.ensures.some (c.in_ok-rescue_one.ensures.cost c.in_ok-make_room.ensures.leaves.fault);
+}
+
 pub returns-then-needs_rescue-clause-quiet : goal.returns-then-needs_rescue-clause-quiet
 returns-then-needs_rescue-clause-quiet g c = λ honest w.
     let room = c.in_ok-make_room.ensures.truth honest w in
@@ -120,6 +128,13 @@ returns-clause-rescued g c = λ honest w.
 
 pub returns-clause-worked : goal.returns-clause-worked
 returns-clause-worked g c = λ honest w some. none_worked g.N.PageSource.erases c.args.engine.now c.make_room.new.engine c.collect_on.new.engine c.in_ok-make_room.ensures.erases c.in_ok-collect_on.ensures.collects.risen c.if-needs_rescue.ensures.none some
+
+pub returns-clause-turned : goal.returns-clause-turned
+returns-clause-turned g c = record {
+  mid = ram c.make_room.new.engine;
+  room = c.in_ok-make_room.ensures.made;
+  on = collect_turned (ram c.make_room.new.engine) (ram c.collect_on.new.engine) c.if-needs_rescue.ensures.none c.in_ok-collect_on.ensures.gone_on;
+}
 
 pub returns-clause-quiet : goal.returns-clause-quiet
 returns-clause-quiet g c = λ honest w. quiet_then g.N.PageSource.erases c.args.engine.now c.make_room.new.engine c.collect_on.new.engine c.in_ok-make_room.ensures.erases c.in_ok-collect_on.ensures.collects.risen (c.in_ok-collect_on.ensures.quiet (c.make_room.ensures.leaves.honest_is ∙ honest) (c.in_ok-make_room.ensures.pinned honest w))

@@ -1,6 +1,6 @@
 use Rattle.collection.specs.Safe.{ram}
 use Rattle.collection.proofs.Acts.{acts_noted, not_standing}
-use Rattle.collection.proofs.Noted.{but_noted, fresh_noted, cost_noted, emptied_noted}
+use Rattle.collection.proofs.Noted.{but_noted, fresh_noted, cost_noted, sparing_noted, emptied_noted}
 use Rattle.collection.proofs.engine.Engine.collect.Goals as goal
 
 pub returns-clause-stands : goal.returns-clause-stands
@@ -13,7 +13,10 @@ pub returns-clause-refreshes : goal.returns-clause-refreshes
 returns-clause-refreshes g c = λ on. rw c.noted.ensures.noted (fresh_noted _ _ (ram c.collect_block-answer.new.self) (c.collect_block-answer.ensures.refreshes on))
 
 pub returns-clause-cost : goal.returns-clause-cost
-returns-clause-cost g c = λ none. rw (c.noted.ensures.same, c.noted.ensures.noted) (cost_noted _ c.args.flushing _ (ram c.collect_block-answer.new.self) c.collect_block-answer.result c.collect_block-answer.ensures.cost)
+returns-clause-cost g c = λ none. rw (c.noted.ensures.same, c.noted.ensures.noted) (cost_noted c.args.flushing c.args.block _ (ram c.collect_block-answer.new.self) c.collect_block-answer.result c.collect_block-answer.ensures.cost)
 
 pub returns-clause-truth : goal.returns-clause-truth
 returns-clause-truth g c = λ honest none w. rw (c.noted.ensures.same, c.noted.ensures.noted) (emptied_noted _ c.args.block _ (ram c.collect_block-answer.new.self) _ _ c.collect_block-answer.result (c.collect_block-answer.ensures.truth honest w))
+
+pub returns-clause-sparing : goal.returns-clause-sparing
+returns-clause-sparing g c = λ honest none w. rw (c.noted.ensures.same, c.noted.ensures.noted) (sparing_noted c.args.flushing c.args.block _ (ram c.collect_block-answer.new.self) c.collect_block-answer.result (c.collect_block-answer.ensures.sparing honest w))

@@ -1,6 +1,6 @@
 use Rattle.std.proofs.Common.{Some, None}
 use Rattle.collection.specs.Safe.{ram}
-use Rattle.collection.proofs.HalfDone.{true_from, but_from, refreshes_from, emptied_from, counts_from, cost_from, acts_from, idle_half, passed_none, idle_few}
+use Rattle.collection.proofs.HalfDone.{true_from, but_from, refreshes_from, emptied_from, counts_from, cost_from, acts_from, idle_half, sparing_from, idle_law, passed_none, idle_few}
 use Rattle.collection.proofs.engine.Engine.collect_block.Goals as goal
 
 pub collect_from-requires-clause-half_done : goal.collect_from-requires-clause-half_done
@@ -16,7 +16,10 @@ pub returns-clause-refreshes : goal.returns-clause-refreshes
 returns-clause-refreshes g c = λ on. refreshes_from (ram c.args.self.now) _ _ (c.collect_from.ensures.refreshes on)
 
 pub returns-clause-cost : goal.returns-clause-cost
-returns-clause-cost g c = cost_from (ram c.args.self.now) _ _ c.args.flushing _ c.collect_from.ensures.cost
+returns-clause-cost g c = cost_from (ram c.args.self.now) _ _ c.args.flushing c.args.block _ c.collect_from.ensures.cost
+
+pub returns-clause-sparing : goal.returns-clause-sparing
+returns-clause-sparing g c = λ honest w. sparing_from (ram c.args.self.now) (ram c.collect_from.new.self) (Some (record { block = c.args.block; first = 0 })) c.args.flushing c.args.block c.collect_from.result (c.collect_from.ensures.sparing honest (true_from (ram c.args.self.now) (ram c.args.self.now) (Some (record { block = c.args.block; first = 0 })) None _ w) (passed_none (ram c.args.self.now) _ c.args.block) (idle_law c.args.flushing (ram c.args.self.now) c.requires.idle))
 
 pub returns-clause-truth : goal.returns-clause-truth
 returns-clause-truth g c = λ honest w. emptied_from (ram c.args.self.now) (ram c.collect_from.new.self) (Some (record { block = c.args.block; first = 0 })) c.args.block _ _ c.collect_from.result (c.collect_from.ensures.truth honest (true_from (ram c.args.self.now) (ram c.args.self.now) (Some (record { block = c.args.block; first = 0 })) None _ w) (passed_none (ram c.args.self.now) _ c.args.block))

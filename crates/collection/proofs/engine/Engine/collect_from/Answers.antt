@@ -8,7 +8,7 @@ use Rattle.collection.proofs.Looks.{none_from}
 use Rattle.collection.proofs.Puts.{refused_then}
 use Rattle.collection.proofs.Copies.{keys_same, keys_then, refreshes_same, refreshes_then}
 use Rattle.collection.proofs.Ledgers.{begun, stepped, still_goes, still_erased, once_erased, room_next, steps_fall, but_then, ends_erased, erased_by}
-use Rattle.collection.proofs.Ledgers.{emptied_by, emptied_then, collected_cost, less_work, counts_collected, thrifty_erased, thrifty_refused}
+use Rattle.collection.proofs.Ledgers.{emptied_by, emptied_then, none_due_by, collected_cost, collected_few, less_work, counts_collected, thrifty_erased, thrifty_refused}
 use Rattle.collection.proofs.Ledgers.{refused_cost, refused_counts, closed_still, released_from, undamaged}
 use Rattle.collection.proofs.HalfDone.{due_few, due_first, pin_next, pin_erased, few_left, unpinned_few}
 use Rattle.collection.proofs.PageReads.{none_read, read_more, read_all}
@@ -97,7 +97,16 @@ returns-in_default-clause-cost g c =
     let now = ram c.steps.self in
     let new = ram c.step_on.new.self in
     let e = ends_erased _ c.in_ok-step.step (sym c.next_page-going_on.ensures ∙ none_from c.next_page-going_on.result c.in_default.not-Some) in
-    collected_cost c.args.flushing c.args.pinned.block c.steps.first old now new _ _ _ i.under_way (erased_by c.args.flushing c.args.pinned.block c.steps.first now new c.in_ok-step.step e c.in_ok-step.ensures.cost)
+    collected_cost c.args.flushing c.args.pinned.block c.steps.first old now new _ _ _ i.under_way (none_due_by c.args.flushing c.args.pinned.block c.steps.first now new c.in_ok-step.step e c.in_ok-step.ensures.cost) (erased_by c.args.flushing c.args.pinned.block c.steps.first now new c.in_ok-step.step e c.in_ok-step.ensures.cost)
+
+pub returns-in_default-clause-sparing : goal.returns-in_default-clause-sparing
+returns-in_default-clause-sparing g c = λ honest w passed idle.
+    let i = c.steps.invariant in
+    let old = ram c.args.self.now in
+    let now = ram c.steps.self in
+    let new = ram c.step_on.new.self in
+    let e = ends_erased _ c.in_ok-step.step (sym c.next_page-going_on.ensures ∙ none_from c.next_page-going_on.result c.in_default.not-Some) in
+    collected_few c.args.flushing c.args.pinned.block c.steps.first old now new _ _ _ (honest, w, passed) idle i.under_way (none_due_by c.args.flushing c.args.pinned.block c.steps.first now new c.in_ok-step.step e c.in_ok-step.ensures.cost) (erased_by c.args.flushing c.args.pinned.block c.steps.first now new c.in_ok-step.step e c.in_ok-step.ensures.cost)
 
 pub returns-in_default-clause-less_work : goal.returns-in_default-clause-less_work
 returns-in_default-clause-less_work g c =

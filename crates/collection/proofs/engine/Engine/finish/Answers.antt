@@ -1,8 +1,9 @@
-use Rattle.std.proofs.Common.{◌≡◌, arith}
+use Rattle.std.proofs.Common.{◌≡◌, ◌<◌, arith}
+use Rattle.allocation.specs.State.{free_count}
 use Rattle.collection.specs.Safe.{ram}
 use Rattle.collection.proofs.Acts.{acts_same}
 use Rattle.collection.proofs.Rooms.{on_same, on_then}
-use Rattle.collection.proofs.HalfDone.{calm_half, calm_ok, finished_erases, finished_tells, finished_truth, finished_counts}
+use Rattle.collection.proofs.HalfDone.{calm_half, calm_ok, finished_erases, finished_tells, finished_collects, finished_truth, finished_counts}
 use Rattle.collection.proofs.Made.{nothing_made}
 use Rattle.collection.proofs.engine.Engine.finish.Goals as goal
 
@@ -13,14 +14,17 @@ returns-in-Some-clause-makes g c =
     let new = ram c.collect_from.new.self in
     let half = calm_half old p c.requires.calm c.in-Some.is in
     let e = c.collect_from.ensures in
+    let most : c.blocks-wanted.result ≡ 9 = c.blocks-wanted.ensures in
+    let scarce : free_count old.blocks < 9 = omega (arith, most, c.if-free-wanted.true, c.free.ensures) in
     record {
       calm = calm_ok new c.collect_from.result e.idle e.unpinned;
       goes = on_then p.block old old new (on_same old) e.goes half.closed;
       keys = e.keys;
       refreshes = e.refreshes;
+      collects = finished_collects c.args.flushing p old new c.collect_from.result c.in-Some.is scarce e.cost;
       works = finished_erases g.N.PageSource.erases c.args.self.now c.collect_from.new.self c.collect_from.result e.erases e.unpinned;
-      rests = λ nine. (let most : c.blocks-wanted.result ≡ 9 = c.blocks-wanted.ensures in absurd (omega (arith, nine, most, c.if-free-wanted.true, c.free.ensures)));
-      tells = finished_tells c.args.flushing old new c.collect_from.result e.cost;
+      rests = λ nine. absurd (omega (arith, nine, scarce));
+      tells = finished_tells c.args.flushing p.block old new c.collect_from.result e.cost;
       truth = λ honest w passed. finished_truth p.block old new _ _ c.collect_from.result c.requires.safe.memory e.acts.safe.memory e.goes.geometry w (e.truth honest w (passed p c.in-Some.is));
       few = λ honest w passed few ne. e.few honest w (passed p c.in-Some.is) (few p c.in-Some.is) ne;
     }

@@ -3,7 +3,7 @@ use Rattle.std.proofs.lemmas.Result.{err_from_is_err_and}
 use Rattle.collection.specs.Safe.{ram}
 use Rattle.collection.proofs.Acts.{acts_then, acts_ok, acts_err}
 use Rattle.collection.proofs.Looks.{none_from, ok_not_bus}
-use Rattle.collection.proofs.HalfDone.{calm_idle, calm_by}
+use Rattle.collection.proofs.HalfDone.{calm_idle, calm_by, unpinned_now, collects_more}
 use Rattle.collection.proofs.Copies.{keys_then, refreshes_then}
 use Rattle.collection.proofs.Rooms.{room_tells, on_then, erased_more, rearranged_then, room_refused, funded_then, refused_room, made_none, made_some, final_counts}
 use Rattle.collection.proofs.Made.{not_resting, enough_made}
@@ -40,6 +40,7 @@ rounds-preserved g c =
         goes = on_then c.in-Some.block old now new m.goes e.goes worth.victim.closed;
         keys = keys_then _ _ _ m.keys e.keys;
         refreshes = λ on. refreshes_then old now new m.goes.geometry (m.refreshes on) (e.refreshes on);
+        collects = collects_more c.args.flushing c.in-Some.block old now new m.collects (unpinned_now now i.unpinned worth.scarce) worth done.cost;
         works = erased_more g.N.PageSource.erases _ _ _ m.works done.erases done.unpinned;
         rests = λ nine. absurd (not_resting c.args.flushing c.args.self.now c.rounds.self m worth.scarce nine);
         tells = tt;
@@ -89,8 +90,9 @@ returns-in_err-collect_block-clause-makes g c =
       keys = keys_then _ _ _ m.keys e.keys;
       refreshes = λ on. refreshes_then old now new m.goes.geometry (m.refreshes on) (e.refreshes on);
       works = tt;
+      collects = tt;
       rests = λ nine. absurd (not_resting c.args.flushing c.args.self.now c.rounds.self m worth.scarce nine);
-      tells = room_tells c.args.flushing now new _ e.cost;
+      tells = room_tells c.args.flushing c.in-Some.block now new _ e.cost;
       truth = λ honest w passed.
           let k = m.truth honest w passed in
           room_refused old now new _ _ _ _ i.acts.safe.memory c.collect_block.ensures.acts.safe.memory m.goes e.goes.geometry k (e.truth (i.acts.honest_is ∙ honest) k.truth);

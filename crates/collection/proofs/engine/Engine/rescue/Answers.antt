@@ -9,6 +9,7 @@ use Rattle.collection.proofs.Looks.{none_from, ok_not_bus}
 use Rattle.collection.proofs.Memory.{goes_then}
 use Rattle.collection.proofs.Puts.{refused_then}
 use Rattle.collection.proofs.Rescues.{copied_as, rescued, rescued_beside, none_rescued, goes_from, rescued_cost, uncopied_cost, unfollowed_cost, unread_rescue, unread_refused}
+use Rattle.collection.specs.Collect.{IsFollowedBy}
 use Rattle.collection.proofs.engine.Engine.rescue.Goals as goal
 
 -- ---- the copy
@@ -113,7 +114,7 @@ returns-clause-truth g c = λ honest w room.
     let now = c.first_ailing.ensures.looks.only_reads.honest_is ∙ honest in
     let finds = c.in_ok-ailing.ensures.truth honest w in
     let m = copied_as a b _ _ c.in-Some.row c.in-Some.found _ c.in_ok-ailing.ailing c.requires.safe.memory c.first_ailing.ensures.looks.memory still w finds c.in-Some.is (λ r i. IsMovedOut c.in-Some.row r i n y) (c.in_ok-copy_page.ensures.truth now) in
-    rescued a b _ _ c.in-Some.row c.in-Some.found _ c.in_ok-ailing.ailing c.requires.safe.memory c.first_ailing.ensures.looks.memory still w finds c.in-Some.is n (ram c.follow_moved.new.self) y _ c.copy_page.ensures.acts.safe.memory c.follow_moved.ensures.acts.safe.memory (goes_from a b n c.first_ailing.ensures.looks.memory c.copy_page.ensures.goes) c.follow_moved.ensures.goes.geometry m (c.in_ok-follow_moved.ensures.truth (c.copy_page.ensures.acts.honest_is ∙ now))
+    rescued a b _ _ c.in-Some.row c.in-Some.found _ c.in_ok-ailing.ailing c.requires.safe.memory c.first_ailing.ensures.looks.memory still w finds c.in-Some.is n (ram c.follow_moved.new.self) y _ c.copy_page.ensures.acts.safe.memory c.follow_moved.ensures.acts.safe.memory (goes_from a b n c.first_ailing.ensures.looks.memory c.copy_page.ensures.goes) c.follow_moved.ensures.goes.geometry m (λ t. subst (λ k. IsFollowedBy k n y (ram c.follow_moved.new.self) (g.N.PageSource.flash c.follow_moved.new.self.nand).image) c.key.ensures (c.in_ok-follow_moved.ensures.truth (c.copy_page.ensures.acts.honest_is ∙ now) t))
 
 pub returns-clause-beside : goal.returns-clause-beside
 returns-clause-beside g c = rescued_beside (key_of c.in-Some.found) c.key.result (ram c.args.self.now) (ram c.first_ailing.new.self) (ram c.copy_page.new.self) (ram c.follow_moved.new.self) c.first_ailing.ensures.looks.memory (returns-clause-goes g c) c.in_ok-copy_page.ensures.settled c.copy_page.ensures.keys (c.copy_page.ensures.pinned refl) c.key.ensures c.in_ok-follow_moved.ensures.followed c.follow_moved.ensures.keys c.follow_moved.ensures.pin

@@ -3,6 +3,7 @@ use Rattle.std.proofs.lemmas.Result.{err_from_is_err_and}
 use Rattle.promises.specs.Step as step
 use Rattle.collection.specs.Safe.{ram}
 use Rattle.ftl_device.specs.Calls.{HasRescued, HasWorked, HasFallen, IsQuiet}
+use Rattle.ftl_device.specs.Turn.{HasTurned}
 use Rattle.ftl_device.proofs.PinLemmas.{knows_well}
 use Rattle.ftl_device.proofs.CostLemmas.{done_after, on_any}
 use Rattle.ftl_device.proofs.ShownLemmas.{left_after}
@@ -28,6 +29,9 @@ returns-clause-upkeeps g c = upkept_by g.N.PageSource.flash g.N.PageSource.hones
 
 pub returns-clause-rests : goal.returns-clause-rests
 returns-clause-rests g c = λ none unpinned twelve. done_after (λ e. e ≡ c.args.self.now.engine) c.turn_ready-answer.new.engine c.finish.new.self.engine c.turn_ready-answer.result c.finish.result c.good-good.result c.finish.ensures.engine c.finish.ensures.answer (on_any c.turn_ready-answer.result (c.turn_ready-answer.ensures.rests none unpinned twelve).1)
+
+pub returns-clause-turned : goal.returns-clause-turned
+returns-clause-turned g c = done_after (λ e. HasTurned (ram c.args.self.now.engine) (ram e)) c.turn_ready-answer.new.engine c.finish.new.self.engine c.turn_ready-answer.result c.finish.result c.good-good.result c.finish.ensures.engine c.finish.ensures.answer c.turn_ready-answer.ensures.turned
 
 pub returns-clause-rescued : goal.returns-clause-rescued
 returns-clause-rescued g c = λ honest w. done_after (λ e. HasRescued (ram c.args.self.now.engine) (ram e)) c.turn_ready-answer.new.engine c.finish.new.self.engine c.turn_ready-answer.result c.finish.result c.good-good.result c.finish.ensures.engine c.finish.ensures.answer (c.turn_ready-answer.ensures.rescued honest (knows_well g.N.PageSource.flash c.args.self.now c.requires.device w c.in_ok-may_flush.ensures.may.going))
