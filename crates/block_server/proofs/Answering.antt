@@ -13,12 +13,14 @@ use Rattle.request_stream.specs.declared.reply.ServeFault.TheVariants as fault
 use Rattle.request_stream.specs.declared.request.Next.TheVariants as next
 use Rattle.request_stream.specs.Frames.{Rests, ReadsRequest, AppendsFront, Sends, answer_bytes, request_at, body_at}
 use Rattle.ftl_device.specs.declared.device.Device.{Device}
-use Rattle.ftl_device.specs.declared.run.Command.{Command}
-use Rattle.ftl_device.specs.declared.run.Command.TheVariants as told
+use Rattle.command_queue.specs.declared.command.Command.{Command}
+use Rattle.command_queue.specs.declared.command.Command.TheVariants as told
 use Rattle.ftl_device.specs.declared.fault.DeviceFault.{DeviceFault}
 use Rattle.ftl_device.specs.declared.fault.DeviceFault.TheVariants.{OutOfRange, ReadOnly, SequenceSpent, OutOfMemory, Damaged, BusFault}
 use Rattle.ftl_device.specs.Calls.{reply_of, read_reply_of, number_of}
-use Rattle.ftl_device.specs.Run.{Exchange, reply_in, answer_to, HasRoom, Tells}
+use Rattle.command_queue.specs.Commands.{HasRoom}
+use Rattle.command_queue.specs.Exchanges.{Exchange, reply_in, answer_to}
+use Rattle.command_queue.specs.Told.{Tells}
 use Rattle.block_server.specs.Session.{Answers, HasServed, HasNone, ServesNext, IsBodyOf}
 
 -- ---- statuses and sectors

@@ -24,10 +24,12 @@ use Rattle.ftl_device.specs.declared.device.Device.{Device}
 use Rattle.ftl_device.specs.Device.{IsAcceptedFor}
 use Rattle.ftl_device.specs.Begin.{begun_ram, is_bad_in, free_in, is_scarce}
 use Rattle.ftl_device.specs.Calls.{stop_of, IsWell}
-use Rattle.ftl_device.specs.Run.{Exchange, AreKnown, HasRun, Ran, RanFrom, RunsTo, Tells, Until, accepted_first, accepted_device, replies_in}
+use Rattle.command_queue.specs.Exchanges.{Exchange, AreKnown, replies_in}
+use Rattle.command_queue.specs.Run.{HasRun, Ran, RanFrom, accepted_first, accepted_device}
+use Rattle.command_queue.specs.Told.{RunsTo, Tells, Until}
 use Rattle.ftl_device.specs.declared.fault.DeviceFault.TheVariants.{BusFault}
-use Rattle.ftl_device.proofs.AcceptedLemmas.{started_well, ran_accepted}
-use Rattle.ftl_device.proofs.ToldLemmas.{until_so, fault_rose}
+use Rattle.command_queue.proofs.AcceptedLemmas.{started_well, ran_accepted}
+use Rattle.command_queue.proofs.ToldLemmas.{until_so, fault_rose}
 use Rattle.block_server.specs.declared.server.Served.{Served}
 use Rattle.block_server.specs.Session.{Session, Serves}
 use Rattle.block_server.specs.Checked.{Headline, HoldsTo, HasFailed, IsServed}

@@ -20,8 +20,9 @@ use Rattle.request_stream.specs.Frames.{Rests, AppendsFront, Sends, last_count}
 use Rattle.request_stream.proofs.Writing.{front_more}
 use Rattle.ftl_device.specs.declared.device.Device.{Device}
 use Rattle.ftl_device.specs.Device.{IsDevice}
-use Rattle.ftl_device.specs.Run.{Exchange, reply_in, commands_in, replies_in, Tells, WasTold}
-use Rattle.ftl_device.proofs.ToldLemmas.{all_more, told_none, told_more}
+use Rattle.command_queue.specs.Exchanges.{Exchange, reply_in, commands_in, replies_in}
+use Rattle.command_queue.specs.Told.{Tells, WasTold}
+use Rattle.command_queue.proofs.ToldLemmas.{all_more, told_none, told_more}
 use Rattle.block_server.specs.declared.server.Served.{Served}
 use Rattle.block_server.specs.Session.{Reads, Serves, Session, HasServed, HasNone, ServesNext, left_of}
 

@@ -15,7 +15,9 @@ use Rattle.image_check.specs.declared.refusal.Refusal.{Refusal}
 use Rattle.image_check.specs.declared.refusal.Refusal.TheVariants as refusal
 use Rattle.request_stream.specs.declared.reply.ServeFault.{ServeFault}
 use Rattle.ftl_device.specs.Begin.{is_bad_in}
-use Rattle.ftl_device.specs.Run.{Exchange, commands_in, replies_in, AreKnown, StaysStopped, Until, HasRun, accepted_first, accepted_device}
+use Rattle.command_queue.specs.Exchanges.{Exchange, commands_in, replies_in, AreKnown, StaysStopped}
+use Rattle.command_queue.specs.Run.{HasRun, accepted_first, accepted_device}
+use Rattle.command_queue.specs.Told.{Until}
 use Rattle.block_server.specs.declared.server.Served.{Served}
 use Rattle.block_server.specs.declared.checked.RunFault.{RunFault}
 use Rattle.block_server.specs.declared.checked.RunFault.TheVariants.{Refused, Start, Serve}

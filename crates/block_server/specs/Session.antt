@@ -11,9 +11,10 @@ use Rattle.request_stream.specs.declared.reply.ServeFault.{ServeFault}
 use Rattle.request_stream.specs.declared.reply.ServeFault.TheVariants as fault
 use Rattle.request_stream.specs.Frames.{Rests, AppendsFront, Sends, last_count}
 use Rattle.ftl_device.specs.declared.device.Device.{Device}
-use Rattle.ftl_device.specs.declared.run.Command.{Command}
-use Rattle.ftl_device.specs.declared.run.Command.TheVariants as told
-use Rattle.ftl_device.specs.Run.{Exchange, reply_in, commands_in, replies_in, Tells, WasTold}
+use Rattle.command_queue.specs.declared.command.Command.{Command}
+use Rattle.command_queue.specs.declared.command.Command.TheVariants as told
+use Rattle.command_queue.specs.Exchanges.{Exchange, reply_in, commands_in, replies_in}
+use Rattle.command_queue.specs.Told.{Tells, WasTold}
 use Rattle.block_server.specs.declared.server.Served.{Served}
 
 -- ---- the streams

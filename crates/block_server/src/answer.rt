@@ -4,10 +4,12 @@ ghost use Rattle.promises.specs.Stream.{status_of, reply_body};
 ghost use Rattle.promises.specs.Stream as stream;
 ghost use Rattle.request_stream.specs.Frames.{request_at};
 ghost use Rattle.ftl_device.specs.Device.{IsDevice};
-ghost use Rattle.ftl_device.specs.Run.{command_of, answer_to, HasRoom};
+ghost use Rattle.command_queue.specs.Commands.{command_of, HasRoom};
+ghost use Rattle.command_queue.specs.Exchanges.{answer_to};
 ghost use Rattle.block_server.specs.Session.{Answers, ServesNext, IsBodyOf};
 
-use ftl_device::{Command, Device, DeviceFault};
+use command_queue::{Command, tell};
+use ftl_device::{Device, DeviceFault};
 use onfi_cycles::Nand;
 use promises::stream::{End, Op};
 use request_stream::{Header, Next, ServeFault, read_request, send_reply};
@@ -65,7 +67,7 @@ fn answer<N: Nand, W: Write>(
     ensures { Answers N.flash N.honest N.failed device.old device.new (request_at header body.now)
         (W.contents writer.old) (W.contents writer.new) result }
 {
-    let done = device.tell(command_for(header, body), bytes);
+    let done = tell(device, command_for(header, body), bytes);
     send_reply(
         writer,
         header,

@@ -8,9 +8,9 @@ use Rattle.page_layout.specs.Page.{Image}
 use Rattle.page_layout.specs.Raw.{raw_image, raw_bytes}
 use Rattle.certificate.specs.Claim.{Claim}
 use Rattle.request_stream.specs.declared.reply.ServeFault.{ServeFault}
-use Rattle.ftl_device.specs.Run.{Exchange, AreKnown}
+use Rattle.command_queue.specs.Exchanges.{Exchange, AreKnown}
 use Rattle.block_server.specs.declared.server.Served.{Served}
-use Rattle.ftl_device.proofs.ToldLemmas.{until_known}
+use Rattle.command_queue.proofs.ToldLemmas.{until_known}
 use Rattle.block_server.specs.Checked.{HoldsTo, HasFailed, IsServed}
 use Rattle.commands.specs.declared.text.ServeStop.{ServeStop}
 use Rattle.nand_die.specs.Made.{loaded_flash}

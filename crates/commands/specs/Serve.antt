@@ -16,7 +16,7 @@ use Rattle.image_check.specs.Refused.{IsFirstWrong}
 use Rattle.image_check.specs.Agrees.{Agrees}
 use Rattle.request_stream.specs.declared.reply.ServeFault.{ServeFault}
 use Rattle.ftl_device.specs.Begin.{is_bad_in}
-use Rattle.ftl_device.specs.Run.{Exchange, commands_in, replies_in}
+use Rattle.command_queue.specs.Exchanges.{Exchange, commands_in, replies_in}
 use Rattle.block_server.specs.declared.server.Served.{Served}
 use Rattle.block_server.specs.Session.{Serves}
 use Rattle.block_server.specs.Checked.{Headline}

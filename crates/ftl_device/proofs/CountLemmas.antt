@@ -1,7 +1,7 @@
 -- Free, good and failed blocks, counted by the image and the log.
-use Rattle.std.proofs.Common.{◌≡◌, ◌≢◌, ℕ, zero, suc, ◌+◌, ◌*◌, ◌<◌, ◌≤◌, Bool, true, false, not, ◌==◌, ◌&&◌, ◌||◌, ◌⊎◌, List, [], ◌∷◌, ◌++◌}
-use Rattle.std.proofs.Common.{slice_get, get_or, Option, Some, None, IsSome, Result, Ok, Err, refl, sym, ap, subst, ◌∙◌, inl, inr, arith}
-use Rattle.std.specs.Prelude.{count_by, IfErr}
+use Rattle.std.proofs.Common.{◌≡◌, ℕ, zero, suc, ◌+◌, ◌*◌, ◌<◌, ◌≤◌, Bool, true, false, not, ◌==◌, ◌&&◌, ◌||◌, ◌⊎◌, List, [], ◌∷◌}
+use Rattle.std.proofs.Common.{slice_get, get_or, Option, Some, None, IsSome, refl, sym, ap, subst, ◌∙◌, inl, inr, arith}
+use Rattle.std.specs.Prelude.{count_by}
 use Rattle.std.specs.List.{list_all, range_with_len}
 use Rattle.std.proofs.lemmas.Bool.{cases_Bool, cases_lt, ne_eqb, eq-eqb}
 use Rattle.std.proofs.lemmas.List.Folds.{list_all_at}
@@ -20,18 +20,15 @@ use Rattle.allocation.specs.State as blocks
 use Rattle.allocation.specs.State.{State, IsSafe, free_count, pointer_at}
 use Rattle.allocation.proofs.TallyLemmas.{good_by_number}
 use Rattle.promises.specs.Log as logs
-use Rattle.promises.specs.Log.{programs_in, bad_of, failed_in, failed_count, IsShort}
-use Rattle.promises.specs.Step.{Command}
+use Rattle.promises.specs.Log.{bad_of, failed_in, failed_count, IsShort}
 use Rattle.image_check.proofs.LookLemmas.{block_page, block_short}
 use Rattle.collection.specs.State.{Ram}
 use Rattle.collection.specs.Safe.{IsRam}
 use Rattle.collection.specs.Truth.{IsTrue, AreFilled}
 use Rattle.collection.specs.Log.{Follows}
-use Rattle.ftl_device.specs.declared.fault.DeviceFault.{DeviceFault}
-use Rattle.ftl_device.specs.declared.fault.DeviceFault.TheVariants.{OutOfRange, ReadOnly, SequenceSpent, OutOfMemory, Damaged, BusFault}
-use Rattle.ftl_device.specs.Calls.{IsShortOf, Says}
+use Rattle.ftl_device.specs.Calls.{IsShortOf}
 use Rattle.ftl_device.specs.Shortage.{LacksGood}
-use Rattle.ftl_device.specs.Counts.{is_bad_by, IsShortIn, IsShown, IsLeft, FreeNowLaw, GoodNowLaw, BadNowLaw, ShortLaw}
+use Rattle.ftl_device.specs.Counts.{is_bad_by, IsShortIn, FreeNowLaw, GoodNowLaw, BadNowLaw, ShortLaw}
 use Rattle.ftl_device.proofs.BlockLemmas.{count_same, page_there}
 use Rattle.ftl_device.proofs.AccountLemmas.{bad_after, failed_good}
 
@@ -140,16 +137,6 @@ failed_counted old new log safe safe' same follows =
     split_bits (is_good_at old.blocks.table b) (is_good_at new.blocks.table b) (failed_in old.geometry.pages log b) (bad_after old.geometry.pages log old.blocks new.blocks follows b lt) (failed_good old.geometry.pages log old.blocks new.blocks follows b lt)) in
     sym old_is ∙ (sum ∙ ap (λ k. k + failed_count old.geometry log) new_is)
 
--- a call was not answered `Damaged`
-abbrev pub NoDamage : Result (Unit {0}) DeviceFault → Type 0
-NoDamage (Ok done) = Unit {0}
-NoDamage (Err OutOfRange) = Unit {0}
-NoDamage (Err (ReadOnly good wanted failed)) = Unit {0}
-NoDamage (Err SequenceSpent) = Unit {0}
-NoDamage (Err OutOfMemory) = Unit {0}
-NoDamage (Err Damaged) = ⊥
-NoDamage (Err BusFault) = Unit {0}
-
 -- the blocks that are bad by a log are those of the memory after it
 module _ (g : Geometry) (bad : ℕ → Bool) (log : List Operation) (new : Ram) (image : Image) (same : new.geometry ≡ g) (bads : (b : ℕ) → b < g.blocks → is_bad_by new b ≡ bad_of g.pages bad log b) where
   or_none : (x : Bool) → (x || false) ≡ x
@@ -159,7 +146,7 @@ module _ (g : Geometry) (bad : ℕ → Bool) (log : List Operation) (new : Ram) 
   good_so : (b : ℕ) → b < g.blocks → not (is_bad_by new b || false) ≡ not (bad_of g.pages bad log b)
   good_so b lt = ap not (or_none (is_bad_by new b) ∙ bads b lt)
 
-  good_of_log : logs.good_count g (is_bad_by new) [] ≡ logs.good_count g bad log
+  pub good_of_log : logs.good_count g (is_bad_by new) [] ≡ logs.good_count g bad log
   good_of_log = count_same (logs.good_of g.pages (is_bad_by new) []) (logs.good_of g.pages bad log) 0 g.blocks (λ b low high. good_so b (omega arith))
 
   free_of_log : logs.free_count g (is_bad_by new) [] image ≡ logs.free_count g bad log image
@@ -194,37 +181,9 @@ short_law old new log image good wanted failed safe safe' same follows w short =
 -- ---- a shortage, before other logs
 
 module _ (old new : Ram) (call : List Operation) (safe : IsRam old) (safe' : IsRam new) (sized : new.geometry ≡ old.geometry) (follows : Follows old.geometry.pages call old.blocks new.blocks) where
-  bads : (b : ℕ) → b < old.geometry.blocks → is_bad_by new b ≡ bad_of old.geometry.pages (is_bad_by old) call b
+  pub bads : (b : ℕ) → b < old.geometry.blocks → is_bad_by new b ≡ bad_of old.geometry.pages (is_bad_by old) call b
   bads b lt = bad_now_law old new call b safe.blocks_of follows lt
 
   -- of the call alone
   pub lacks_short : (ro : Bool) → LacksGood old new → IsShort old.geometry (is_bad_by old) [] call ro
   lacks_short ro lacks = elim (lacks_in old.geometry (is_bad_by old) call new [] sized bads old call safe safe' refl follows lacks) [ inl few ↦ inl few | inr three ↦ inr (inl three) ]
-
-  module _ (bad : ℕ → Bool) (before : List Operation) (also : (b : ℕ) → b < old.geometry.blocks → is_bad_by new b ≡ bad_of old.geometry.pages bad (before ++ call) b) where
-    pub short_on : (ro : Bool) → IsShort old.geometry (is_bad_by old) [] call ro → IsShort old.geometry bad before call ro
-    short_on ro (inl few) =
-        let here : logs.good_count old.geometry (is_bad_by new) [] ≡ logs.good_count old.geometry (is_bad_by old) call = good_of_log old.geometry (is_bad_by old) call new [] sized bads in
-        let there : logs.good_count old.geometry (is_bad_by new) [] ≡ logs.good_count old.geometry bad (before ++ call) = good_of_log old.geometry bad (before ++ call) new [] sized also in
-        inl (omega (arith, here, there))
-    short_on ro (inr more) = inr more
-
-    -- so is each refusal of a call that changes sectors
-    pub shown_on : (next : ℕ) (ro : Bool) (image : Image) (result : Result (Unit {0}) DeviceFault) → IsTrue None new image → new.next ≡ next + programs_in (before ++ call)
-        → IfErr result (Says old new) → IfErr result (IsShown old.geometry (is_bad_by old) old.next [] call ro image) → NoDamage result → result ≢ Err BusFault → IfErr result (IsShown old.geometry bad next before call ro image)
-    shown_on next ro image (Ok done) w spent says shown sound ne = tt
-    shown_on next ro image (Err OutOfRange) w spent says shown sound ne = tt
-    shown_on next ro image (Err (ReadOnly good wanted failed)) w spent says shown sound ne = (short_in old.geometry bad (before ++ call) new image sized also old call good wanted failed safe safe' refl follows w says, short_on ro shown.1)
-    shown_on next ro image (Err SequenceSpent) w spent says shown sound ne = sym spent ∙ says
-    shown_on next ro image (Err OutOfMemory) w spent says shown sound ne = tt
-    shown_on next ro image (Err Damaged) w spent says shown sound ne = sound
-    shown_on next ro image (Err BusFault) w spent says shown sound ne = ne refl
-
-    pub left_on : (command : Command) (ro : Bool) (result : Result (Unit {0}) DeviceFault) → IsLeft command old.geometry (is_bad_by old) [] call ro result → IsLeft command old.geometry bad before call ro result
-    left_on command ro (Ok done) left = elim left [ inl short ↦ inl (short_on ro short) | inr flushes ↦ inr flushes ]
-    left_on command ro (Err OutOfRange) left = tt
-    left_on command ro (Err (ReadOnly good wanted failed)) left = tt
-    left_on command ro (Err SequenceSpent) left = tt
-    left_on command ro (Err OutOfMemory) left = short_on ro left
-    left_on command ro (Err Damaged) left = tt
-    left_on command ro (Err BusFault) left = tt

@@ -19,10 +19,6 @@ pub mod FlushLemmas
 pub mod FlushLoops
 pub mod FlushCalls
 pub mod ShortageLemmas
-pub mod RunLemmas
-pub mod ToldLemmas
-pub mod LoopLemmas
-pub mod AcceptedLemmas
 pub mod RoomLemmas
 pub mod PrepareLemmas
 pub mod SpentLemmas

@@ -6,4 +6,3 @@ pub mod Counts
 pub mod Flush
 pub mod Shortage
 pub mod Changes
-pub mod Run

@@ -8,11 +8,9 @@ mod flush;
 mod laws;
 mod read;
 mod ready;
-mod run;
 mod turn;
 mod write;
 
 pub use device::Device;
 pub use fault::{DeviceFault, StartFault};
 pub use laws::{begin_laws, count_laws, flushed_laws, restart_laws, shortage_laws, turn_laws};
-pub use run::{Call, Command};

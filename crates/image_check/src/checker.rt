@@ -93,6 +93,7 @@ pub fn check<'a, S: PageSource>(
     ensures asked { (result ≡ Err Refusal.GeometryDiffers) ↔ (¬ IsAsked geometry.now capacity certificate.now) }
     ensures unread { result ≡ Err Refusal.GeometryDiffers → source.new ≡ source.old }
     ensures memory { result ≡ Err Refusal.OutOfMemory → source.new ≡ source.old }
+    ensures only { result ≢ Err Refusal.WrongLength }
     ensures accepted { IfOk result (λ accepted. (accepted.claim ≡ certificate.now) × IsAsked geometry.now capacity certificate.now) }
     ensures only_reads { OnlyReads S.flash S.honest S.calm S.programs S.erases S.failed source.old source.new }
     ensures reads { S.reads source.new ≤ S.reads source.old + row_count geometry.now }

@@ -97,7 +97,7 @@ leaves_stopped d cycle left fits whole is = λ first log led.
 pub call_stops : (d x y e : DieValue) (code : ℕ) (r : Result (Unit {0}) BusFault) → IsStop d.state.flash.geometry d.stop → d.stopped ≡ false → stops d (Command code) ≡ true
     → x ≡ die_of (chip_of d) d.stop (if is_change (due_now d (Command code)) then d.left - 1 else d.left) d.stopped d.failures d.recorded d.room
     → y ≡ die_of (left_by_stop x.stop (due_now x (Command code)) (chip_of x)) x.stop x.left x.stopped x.failures x.recorded x.room
-    → e ≡ failed_as y (chip_of y) y.left → IsImage e.state.flash.geometry e.state.flash.image → r ≡ refused Device → IsCall d (Command code) r e
+    → e ≡ failed_as y (chip_of y) y.left → IsImage e.state.flash.geometry e.state.flash.image → r ≡ refused Device → IsCall d (Command code) r [] e
 call_stops d x y e code r fits runs now counted_once struck failed whole device =
     let due : Due = due_now d (Command code) in
     let left : ChipValue = left_by_stop d.stop due (chip_of d) in
@@ -111,6 +111,7 @@ call_stops d x y e code r fits runs now counted_once struck failed whole device 
     record {
       does = is ∙ sym (ap (λ b. if b then failed_as d (chip_of d) d.left else if stops d (Command code) then done else done_as d due nearer) runs ∙ ap (λ b. if b then done else done_as d due nearer) now);
       answers = device ∙ sym (ap (λ b. if b || stops d (Command code) then refused Device else answer_to due) runs ∙ ap (λ b. if b then refused Device else answer_to due) now);
+      puts_out = refl;
       own = λ calm. absurd (no_bool (sym now ∙ calm_stops d (Command code) calm));
       leaves = λ runs now. leaves_stopped d (Command code) e.state.flash.image fits (subst (λ (g : Geometry). IsImage g e.state.flash.image) same whole) (ap (λ (v : DieValue). v.state.flash.image) is);
     }
@@ -118,7 +119,7 @@ call_stops d x y e code r fits runs now counted_once struck failed whole device 
 -- ---- laws
 
 pub stop_leaves_law : StopLeavesLaw
-stop_leaves_law old new cycle answer call runs now = (
+stop_leaves_law old new cycle answer out call runs now = (
   λ first log leads.
       let due : List Operation = operation_due (due_now old cycle) (chip_of old) in
       let same : old.state.flash.geometry ≡ first.geometry = geometry-Leads first old.state.flash log leads in

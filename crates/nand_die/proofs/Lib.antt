@@ -8,3 +8,4 @@ pub mod LawLemmas
 pub mod StopLemmas
 pub mod LeavesLemmas
 pub mod TapeLemmas
+pub mod BusLemmas

@@ -1,5 +1,5 @@
 -- A die in memory as contracts see it, and what it does at each cycle: a function of its value, and a case of the bus protocol.
-use Rattle.std.specs.Prelude.{◌≡◌, ℕ, Bool, true, false, not, ◌&&◌, ◌||◌, ◌==◌, ◌-◌, List, ◌++◌, Option, None, Result, IfErr, if◌then◌else◌}
+use Rattle.std.specs.Prelude.{◌≡◌, ℕ, Bool, true, false, not, ◌&&◌, ◌||◌, ◌==◌, ◌-◌, List, [], ◌++◌, length, Option, None, Result, OnOk, IfErr, if◌then◌else◌}
 use Rattle.page_layout.specs.Counter.{counted}
 use Rattle.page_layout.specs.Page.{Image}
 use Rattle.page_layout.specs.Flash.{Flash, Operation, Program, Erase, page_at, block_at}
@@ -7,7 +7,7 @@ use Rattle.page_layout.specs.Recording.{Recording, image_after_all}
 use Rattle.promises.specs.Stop.{MayLeave}
 use Rattle.onfi_cycles.specs.declared.nand.BusFault.{BusFault}
 use Rattle.onfi_cycles.specs.declared.nand.BusFault.TheVariants.{Device}
-use Rattle.onfi_cycles.specs.Cycles.{DieState, Due, Moves, Resets, Programs, Erases, Refuses, Cycle, Command, Address, DataIn, DataOut, due_of}
+use Rattle.onfi_cycles.specs.Cycles.{DieState, Due, Moves, Resets, Programs, Erases, Refuses, Cycle, Command, Address, DataIn, DataOut, due_of, bytes_out}
 use Rattle.onfi_cycles.specs.Spelling.{refused}
 use Rattle.nand_die.specs.declared.fault.Fault.{Fault}
 use Rattle.nand_die.specs.declared.fault.Stop.{Stop}
@@ -117,9 +117,23 @@ abbrev pub LeavesStopped : DieValue → Cycle → Image → Type 0
 LeavesStopped d cycle left = (first : Image) (log : List Operation) → d.state.flash.image ≡ image_after_all d.state.flash.geometry.pages first log →
     MayLeave d.state.flash.geometry first (log ++ operation_due (due_now d cycle) (chip_of d)) left
 
--- a call of a die: both follow from its value, one on which no stop is set does not fail, and one that stops leaves no other image
-pub record IsCall (old : DieValue) (cycle : Cycle) (answer : Result (Unit {0}) BusFault) (new : DieValue) : Type 0 where
+-- a data out that is taken puts out the bytes that the protocol has; the buffer is as long as it was
+pub record PutsOut (d : DieValue) (count : ℕ) (answer : Result (Unit {0}) BusFault) (out : List ℕ) : Type 0 where
+  pub gives : OnOk answer (out ≡ bytes_out d.state d.state.phase count)
+  pub long : length out ≡ count
+
+-- THE BYTES THAT A CALL PUTS OUT, as they are after it. Cycles but data out have none.
+abbrev pub IsOutOf : DieValue → Cycle → Result (Unit {0}) BusFault → List ℕ → Type 0
+IsOutOf d (Command code) answer out = out ≡ []
+IsOutOf d (Address byte) answer out = out ≡ []
+IsOutOf d (DataIn bytes) answer out = out ≡ []
+IsOutOf d (DataOut count) answer out = PutsOut d count answer out
+
+-- a call of a die: the die after it, its answer and the bytes that it puts out follow from its value, one on which no stop is set does not
+-- fail, and one that stops leaves no other image
+pub record IsCall (old : DieValue) (cycle : Cycle) (answer : Result (Unit {0}) BusFault) (out : List ℕ) (new : DieValue) : Type 0 where
   pub does : new ≡ after_cycle cycle old
   pub answers : answer ≡ answer_of cycle old
+  pub puts_out : IsOutOf old cycle answer out
   pub own : is_calm old ≡ true → IfErr answer IsProtocolFault
   pub leaves : old.stopped ≡ false → stops old cycle ≡ true → LeavesStopped old cycle new.state.flash.image

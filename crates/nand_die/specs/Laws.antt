@@ -7,9 +7,9 @@ use Rattle.page_layout.specs.Counter.{counted}
 use Rattle.page_layout.specs.Flash.{Flash, Operation, Leads, may_program, may_erase}
 use Rattle.page_layout.specs.Recording.{Recording, IsRecordOf, image_after_all}
 use Rattle.promises.specs.Stop.{MayLeave}
-use Rattle.onfi_cycles.specs.Spelling.{refused}
+use Rattle.onfi_cycles.specs.Spelling.{done, refused}
 use Rattle.onfi_cycles.specs.declared.nand.BusFault.TheVariants.{Device}
-use Rattle.onfi_cycles.specs.Cycles.{Cycle, Phase, Due, Moves, Resets, Programs, Erases, Refuses, page_of}
+use Rattle.onfi_cycles.specs.Cycles.{Cycle, DataOut, Phase, Due, Moves, Resets, Programs, Erases, Refuses, page_of, bytes_out}
 use Rattle.onfi_cycles.specs.declared.nand.BusFault.{BusFault}
 use Rattle.page_layout.specs.declared.geometry.Geometry.{Geometry}
 use Rattle.nand_die.specs.declared.fault.Fault.{Fault}
@@ -21,6 +21,7 @@ use Rattle.nand_die.specs.Faults.{ArePagesLeft, HasFirstWrong}
 use Rattle.nand_die.specs.ChipValue.{ChipValue, fault_next, answered, answer_to}
 use Rattle.nand_die.specs.Tape.{next_record}
 use Rattle.nand_die.specs.Stopping.{operation_due, left_by_stop}
+use Rattle.nand_die.specs.Buses.{FuseState, Fused, is_blown, GarbleState, Garbled, garbled}
 use Rattle.nand_die.specs.DieValue.{DieValue, IsCall, after_cycle, answer_of, chip_of, due_now, is_calm, stops}
 
 -- A program passes, with status E0h, just where its page is the next of a block that is neither bad nor failed and no fault is due. Else
@@ -82,7 +83,7 @@ RoomLaw = (room : ℕ) (op : Operation) (r : Recording) →
 -- A die that stops in a cycle holds an image that a stop may leave: by the log that led to it from any earlier state, or by the record
 -- that it told, and by the operation in which it stops.
 abbrev pub StopLeavesLaw : Type 0
-StopLeavesLaw = (old new : DieValue) (cycle : Cycle) (answer : Result (Unit {0}) BusFault) → IsCall old cycle answer new → old.stopped ≡ false → stops old cycle ≡ true →
+StopLeavesLaw = (old new : DieValue) (cycle : Cycle) (answer : Result (Unit {0}) BusFault) (out : List ℕ) → IsCall old cycle answer out new → old.stopped ≡ false → stops old cycle ≡ true →
     ((first : Flash) (log : List Operation) → Leads first log old.state.flash →
     MayLeave first.geometry first.image (log ++ operation_due (due_now old cycle) (chip_of old)) new.state.flash.image)
     × ((r : Recording) → old.recorded ≡ Some r → IsRecordOf old.state.flash old.recorded →
@@ -116,6 +117,18 @@ TornPageLaw = (stop : Stop) (d : ChipValue) (torn : Page) → TornTo d.state.fla
     HasOnly (block * d.state.flash.geometry.pages) torn d.state.flash.image (left_by_stop stop (Erases block) d).state.flash.image)
     × ((row : ℕ) (page : Page) → may_program d.state.flash row ≡ false → (left_by_stop stop (Programs row page) d).state.flash.image ≡ d.state.flash.image)
     × ((block : ℕ) → may_erase d.state.flash block ≡ false → (left_by_stop stop (Erases block) d).state.flash.image ≡ d.state.flash.image)
+
+-- ---- buses round a die
+
+-- A data out that is taken by a garble round a die puts out the bytes that the protocol has of that die, garbled. By a fuse that is not
+-- blown it puts out just these bytes.
+abbrev pub GarbledDieLaw : Type 0
+GarbledDieLaw = (old new : GarbleState DieValue) (count : ℕ) (out : List ℕ) → Garbled IsCall old (DataOut count) done out new →
+    out ≡ garbled old (bytes_out old.bus.state old.bus.state.phase count)
+
+abbrev pub FusedDieLaw : Type 0
+FusedDieLaw = (old new : FuseState DieValue) (count : ℕ) (out : List ℕ) → is_blown old ≡ false → Fused IsCall old (DataOut count) done out new →
+    out ≡ bytes_out old.bus.state old.bus.state.phase count
 
 -- ---- what a die is made of
 

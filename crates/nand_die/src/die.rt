@@ -293,8 +293,8 @@ impl Bus for Die {
 
     ghost recorded = { λ d. d.recorded };
 
-    // The answer and the die after it follow from its value.
-    ghost called = { λ old cycle answer out new. IsCall old cycle answer new };
+    // The answer, the bytes that are put out and the die after it follow from its value.
+    ghost called = { λ old cycle answer out new. IsCall old cycle answer out new };
 
     fn command(&mut self, code: u8) -> Result<(), BusFault> {
         if self.stopped {

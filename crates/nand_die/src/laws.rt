@@ -2,7 +2,7 @@
 //! is proved with the crate, and a caller of the function has it at hand.
 ghost use Rattle.nand_die.specs.Laws.{ProgramPassesLaw, ErasePassesLaw, ProgramAbuseLaw, EraseAbuseLaw, CountLaw, QuietLaw, NextPageLaw, NamedLaw};
 ghost use Rattle.nand_die.specs.Laws.{NoneMisnamedLaw, OneMisnamedLaw, NoneWrongLaw, OneWrongLaw, CalmLaw, StoppedLaw, RoomLaw};
-ghost use Rattle.nand_die.specs.Laws.{StopLeavesLaw, WholeStopLaw, TornPageLaw};
+ghost use Rattle.nand_die.specs.Laws.{StopLeavesLaw, WholeStopLaw, TornPageLaw, GarbledDieLaw, FusedDieLaw};
 
 /// When a program or an erase of a die in memory passes, what counts as abuse, and that no other cycle
 /// changes a page. It does nothing. (This project.)
@@ -41,4 +41,11 @@ pub fn left_laws()
     ensures leaves { StopLeavesLaw }
     ensures whole { WholeStopLaw }
     ensures torn { TornPageLaw }
+{}
+
+/// What comes out of a die through another bus: the bytes that the protocol has, garbled where that bus is to garble them. It does
+/// nothing. (This project.)
+pub fn bus_laws()
+    ensures garbled { GarbledDieLaw }
+    ensures fused { FusedDieLaw }
 {}

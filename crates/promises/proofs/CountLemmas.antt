@@ -19,7 +19,7 @@ use Rattle.page_layout.proofs.CountLemmas.{bit, count_by-cons, sum_by-add, sum_b
 use Rattle.page_layout.proofs.FlashLemmas.{geometry-Steps}
 use Rattle.page_layout.proofs.RecordingLemmas.{whole_steps}
 use Rattle.promises.specs.Log.{block_of, has_passed, programs_of, erases_of, failed_in, bad_of, good_of, AreErased, CountsEach, HasFailed, SumsLaw}
-use Rattle.promises.specs.Log.{SinceLaw, FailedLaw, GoodLaw, FreeLaw}
+use Rattle.promises.specs.Log.{SinceLaw, FailedLaw, GoodLaw, FreeLaw, FreeCountLaw, free_of}
 use Rattle.promises.proofs.LogLemmas.{complete}
 use Rattle.promises.proofs.LegalLemmas.{in_block}
 
@@ -129,6 +129,9 @@ one_or_other test (x ∷ xs) = omega (arith, count_by-cons (λ y. not (test y)) 
 
 pub good : GoodLaw
 good g bad log = one_or_other (bad_of g.pages bad log) (range_with_len 0 g.blocks) ∙ length-range_with_len 0 g.blocks
+
+pub free_counted : FreeCountLaw
+free_counted g bad log image = let all = one_or_other (free_of g bad log image) (range_with_len 0 g.blocks) in omega (arith, all, length-range_with_len 0 g.blocks)
 
 -- a page of a block stands in the image, and its row is of the block
 on_block : (g : Geometry) (image : Image) (block k : ℕ) → k < length (block_pages g image block)

@@ -1,16 +1,17 @@
 -- Logs: what they count, which blocks they leave good, and where they lead.
-use Rattle.std.proofs.Common.{◌≡◌, ◌<◌, inl, inr, ◌+◌, ◌/◌, ◌^◌, ◌==◌, ℕ, Bool, true, false, not, ◌&&◌, ◌||◌, List, [], ◌∷◌, ◌++◌, refl, sym, ◌∙◌, ap}
+use Rattle.std.proofs.Common.{◌≡◌, ◌≢◌, ◌<◌, inl, inr, ◌+◌, ◌/◌, ◌^◌, ◌==◌, ℕ, Bool, true, false, not, ◌&&◌, ◌||◌, List, [], ◌∷◌, ◌++◌, refl, sym, ◌∙◌, ap}
 use Rattle.std.proofs.Common.{subst, arith, get_or, length, if◌then◌else◌}
 use Rattle.std.specs.Prelude.{slice_set}
 use Rattle.std.proofs.Math.Bool.{or_assoc}
 use Rattle.std.proofs.lemmas.List.{get_or-set_same, get_or-set_other, length-set}
+use Rattle.std.proofs.lemmas.Bool.{ne_eqb, eq-eqb}
 use Rattle.std.proofs.lemmas.Bool.Decides.{eqb_tells}
 use Rattle.page_layout.specs.Change.{one_if}
 use Rattle.page_layout.specs.Page.{Page}
 use Rattle.page_layout.specs.Counter.{counted}
 use Rattle.page_layout.specs.Flash.{Flash, Operation, Program, Erase, TurnState, no_turn, turn_at, after, after_program, after_erase, may_program}
 use Rattle.page_layout.specs.Flash.{may_erase, Leads}
-use Rattle.promises.specs.Log.{block_of, has_passed, programs_in, erases_in, programs_of, erases_of, passed_erases_of, failed_in, CountsLaw}
+use Rattle.promises.specs.Log.{block_of, has_passed, programs_in, erases_in, programs_of, erases_of, passed_erases_of, failed_in, CountsLaw, PassedErasesLaw}
 use Rattle.promises.specs.Log.{BadJoinLaw, BadStaysLaw, CompleteLaw}
 
 -- ---- counts
@@ -48,6 +49,24 @@ counts pages block xs ys = record {
   erases_at = erases_of-append block xs ys;
   passed_erases_at = passed_erases_of-append block xs ys;
 }
+
+pub passed_erases : PassedErasesLaw
+passed_erases log block = (
+  refl,
+  record {
+    passes = λ left. one_more_passed log (Erase block true left) ∙ ap (λ b. passed_erases_of log block + (0 + one_if (true && b))) (eq-eqb block block refl) ∙ omega arith;
+    fails = λ left. one_more_passed log (Erase block false left) ∙ omega arith;
+    elsewhere = λ other passed left ne. elsewhere other passed left ne;
+    programs = λ row page left passed. one_more_passed log (Program row page passed left) ∙ omega arith;
+  },
+)
+  where
+    one_more_passed : (xs : List Operation) (op : Operation) → passed_erases_of (xs ++ op ∷ []) block ≡ passed_erases_of xs block + passed_erases_of (op ∷ []) block
+    one_more_passed xs op = passed_erases_of-append block xs (op ∷ [])
+
+    elsewhere : (other : ℕ) (passed : Bool) (left : List Page) → other ≢ block → passed_erases_of (log ++ Erase other passed left ∷ []) block ≡ passed_erases_of log block
+    elsewhere other true left ne = one_more_passed log (Erase other true left) ∙ ap (λ b. passed_erases_of log block + (0 + one_if b)) (ne_eqb other block ne) ∙ omega arith
+    elsewhere other false left ne = one_more_passed log (Erase other false left) ∙ omega arith
 
 -- ---- bad blocks
 

@@ -2,7 +2,6 @@
 use Rattle.std.proofs.Common.{◌≡◌, ◌≢◌, ◌<◌, ◌≤◌, inl, inr, ℕ, true, refl, arith, List}
 use Rattle.std.specs.Prelude.{◌↔◌}
 use Rattle.page_layout.specs.declared.geometry.Geometry.{Geometry}
-use Rattle.page_layout.specs.Array.{zeros}
 use Rattle.promises.specs.Step.{State, Read, Write, Trim, Flush, Turn, Reply, Done, DoneWith, OutOfRange, ReadOnly, SequenceSpent, OutOfMemory}
 use Rattle.promises.specs.Step.{WriteStep, QuietStep, AnswersWrite, AnswersQuiet, MayAnswerLaw, PastLaw, AfterReadOnlyLaw, RefusesLaw}
 use Rattle.promises.proofs.StepLemmas.{not_both}
@@ -26,7 +25,7 @@ may_answer g old new (Read sector) (DoneWith bytes) h = inl (bytes, refl)
 may_answer g old new (Read sector) OutOfRange h = inr refl
 may_answer g old new (Read sector) _ h = absurd h
 may_answer g old new (Write sector bytes) reply h = write_answers g old new sector bytes reply h
-may_answer g old new (Trim sector) reply h = write_answers g old new sector (zeros g) reply h
+may_answer g old new (Trim sector) reply h = write_answers g old new sector _ reply h
 may_answer g old new Flush reply h = quiet_answers old new reply h
 may_answer g old new Turn reply h = quiet_answers old new reply h
 
@@ -55,7 +54,7 @@ past g old new (Read sector) (DoneWith bytes) h = within g sector (DoneWith byte
 past g old new (Read sector) OutOfRange h = (λ e. h.past, λ le. refl)
 past g old new (Read sector) _ h = absurd h
 past g old new (Write sector bytes) reply h = past_write g old new sector bytes reply h
-past g old new (Trim sector) reply h = past_write g old new sector (zeros g) reply h
+past g old new (Trim sector) reply h = past_write g old new sector _ reply h
 past g old new Flush reply h = past_quiet old new reply h
 past g old new Turn reply h = past_quiet old new reply h
 
@@ -85,6 +84,6 @@ refuses_quiet old new _ ro h = absurd h
 pub refuses : RefusesLaw
 refuses g old new (Read sector) reply ro other ne h = absurd (other sector refl)
 refuses g old new (Write sector bytes) reply ro other ne h = refuses_write g old new sector bytes reply ro ne h
-refuses g old new (Trim sector) reply ro other ne h = refuses_write g old new sector (zeros g) reply ro ne h
+refuses g old new (Trim sector) reply ro other ne h = refuses_write g old new sector _ reply ro ne h
 refuses g old new Flush reply ro other ne h = refuses_quiet old new reply ro h
 refuses g old new Turn reply ro other ne h = refuses_quiet old new reply ro h

@@ -6,8 +6,8 @@ use Rattle.page_layout.specs.declared.geometry.Geometry.{Geometry}
 use Rattle.page_layout.specs.Array.{zeros}
 use Rattle.page_layout.proofs.ArrayLemmas.{slice_get-set_same, slice_get-set_other}
 use Rattle.promises.specs.Step.{State, Read, Write, Trim, Flush, Turn, Reply, Done, DoneWith, OutOfRange, ReadOnly, SequenceSpent, OutOfMemory}
-use Rattle.promises.specs.Step.{WriteStep, QuietStep, ArrayStep, KeepsSectors, BecomesReadOnly, OneReadLaw, ReadBackLaw, KeptLaw, ReadOnlyLaw}
-use Rattle.promises.specs.Step.{SectorCountLaw, NeverLaw, RepliesLaw, SixLaw, OtherBytesLaw, written_once}
+use Rattle.promises.specs.Step.{WriteStep, QuietStep, ArrayStep, KeepsSectors, BecomesReadOnly, OneReadLaw, ReadBackLaw, TrimmedLaw, QuietLaw, KeptLaw}
+use Rattle.promises.specs.Step.{ReadOnlyLaw, SectorCountLaw, NeverLaw, RepliesLaw, SixLaw, OtherBytesLaw, written_once}
 
 -- ---- lists
 
@@ -36,6 +36,9 @@ read_back g old new sector bytes size h = (
   λ other ne. ap (λ xs. slice_get xs other) h.array_is ∙ slice_get-set_other old.array sector other bytes ne,
 )
 
+pub trimmed : TrimmedLaw
+trimmed g old new sector size h = read_back g old new sector (replicate g.data_bytes 0) size h
+
 kept_write : (g : Geometry) (old new : State) (sector : ℕ) (bytes : List ℕ) (reply : Reply) → reply ≢ Done → WriteStep g old sector bytes reply new → new.array ≡ old.array
 kept_write g old new sector bytes Done ne h = absurd (ne refl)
 kept_write g old new sector bytes OutOfRange ne h = ap (λ (s : State). s.array) h.same
@@ -44,11 +47,11 @@ kept_write g old new sector bytes SequenceSpent ne h = h.keeps.array_is
 kept_write g old new sector bytes OutOfMemory ne h = h.keeps.array_is
 kept_write g old new sector bytes _ ne h = absurd h
 
-kept_quiet : (old new : State) (reply : Reply) → QuietStep old reply new → new.array ≡ old.array
-kept_quiet old new Done h = h.array_is
-kept_quiet old new ReadOnly h = h.array_is
-kept_quiet old new SequenceSpent h = h.array_is
-kept_quiet old new _ h = absurd h
+kept_quiet : (old new : State) (reply : Reply) → reply ≢ Done → QuietStep old reply new → new.array ≡ old.array
+kept_quiet old new Done ne h = absurd (ne refl)
+kept_quiet old new ReadOnly ne h = h.array_is
+kept_quiet old new SequenceSpent ne h = h.array_is
+kept_quiet old new _ ne h = absurd h
 
 kept_read : (g : Geometry) (old new : State) (sector : ℕ) (reply : Reply) → ArrayStep g old (Read sector) reply new → new ≡ old
 kept_read g old new sector (DoneWith x) h = h.same
@@ -58,9 +61,16 @@ kept_read g old new sector _ h = absurd h
 pub kept : KeptLaw
 kept g old new (Read sector) reply ne h = ap (λ (s : State). s.array) (kept_read g old new sector reply h)
 kept g old new (Write sector bytes) reply ne h = kept_write g old new sector bytes reply ne h
-kept g old new (Trim sector) reply ne h = kept_write g old new sector (zeros g) reply ne h
-kept g old new Flush reply ne h = kept_quiet old new reply h
-kept g old new Turn reply ne h = kept_quiet old new reply h
+kept g old new (Trim sector) reply ne h = kept_write g old new sector _ reply ne h
+kept g old new Flush reply ne h = kept_quiet old new reply ne h
+kept g old new Turn reply ne h = kept_quiet old new reply ne h
+
+quiet_keeps : (old new : State) (reply : Reply) → QuietStep old reply new → new.array ≡ old.array
+quiet_keeps old new Done h = h.array_is
+quiet_keeps old new reply h = kept_quiet old new reply (λ e. cc) h
+
+pub quiet : QuietLaw
+quiet g old new reply = (quiet_keeps old new reply, quiet_keeps old new reply)
 
 -- ---- a device that is read-only
 
@@ -87,7 +97,7 @@ read_only_quiet old new _ ro h = absurd h
 pub read_only : ReadOnlyLaw
 read_only g old new (Read sector) reply ro h = kept_read g old new sector reply h
 read_only g old new (Write sector bytes) reply ro h = read_only_write g old new sector bytes reply ro h
-read_only g old new (Trim sector) reply ro h = read_only_write g old new sector (zeros g) reply ro h
+read_only g old new (Trim sector) reply ro h = read_only_write g old new sector _ reply ro h
 read_only g old new Flush reply ro h = read_only_quiet old new reply ro h
 read_only g old new Turn reply ro h = read_only_quiet old new reply ro h
 
@@ -101,12 +111,16 @@ count_write g old new sector bytes SequenceSpent h = ap length h.keeps.array_is
 count_write g old new sector bytes OutOfMemory h = ap length h.keeps.array_is
 count_write g old new sector bytes _ h = absurd h
 
+count_quiet : (old new : State) (reply : Reply) → QuietStep old reply new → length new.array ≡ length old.array
+count_quiet old new Done h = ap length h.array_is
+count_quiet old new reply h = ap length (kept_quiet old new reply (λ e. cc) h)
+
 pub sector_count : SectorCountLaw
 sector_count g old new (Read sector) reply h = ap (λ (s : State). length s.array) (kept_read g old new sector reply h)
 sector_count g old new (Write sector bytes) reply h = count_write g old new sector bytes reply h
-sector_count g old new (Trim sector) reply h = count_write g old new sector (zeros g) reply h
-sector_count g old new Flush reply h = ap length (kept_quiet old new reply h)
-sector_count g old new Turn reply h = ap length (kept_quiet old new reply h)
+sector_count g old new (Trim sector) reply h = count_write g old new sector _ reply h
+sector_count g old new Flush reply h = count_quiet old new reply h
+sector_count g old new Turn reply h = count_quiet old new reply h
 
 pub never : NeverLaw
 never g old new (Read sector) = (λ h. h, λ h. h)

@@ -1,5 +1,5 @@
 -- Logs of programs and erases: what they count, and which blocks they leave good.
-use Rattle.std.specs.Prelude.{◌≡◌, ◌↔◌, ◌⊎◌, ◌<◌, ℕ, ◌+◌, ◌/◌, ◌==◌, ◌&&◌, ◌||◌, nat_le, not, Bool, true, false, List, [], ◌∷◌, ◌++◌, length, map}
+use Rattle.std.specs.Prelude.{◌≡◌, ◌≢◌, ◌↔◌, ◌⊎◌, ◌<◌, ℕ, ◌+◌, ◌/◌, ◌==◌, ◌&&◌, ◌||◌, nat_le, not, Bool, true, false, List, [], ◌∷◌, ◌++◌, length, map}
 use Rattle.std.specs.Prelude.{sum_by, slice_get, Some, ◌^◌}
 use Rattle.std.specs.List.{list_all, range_with_len}
 use Rattle.page_layout.specs.declared.geometry.Geometry.{Geometry}
@@ -97,6 +97,17 @@ pub record CountsJoin (pages block : ℕ) (xs ys : List Operation) : Type 0 wher
 abbrev pub CountsLaw : Type 0
 CountsLaw = (pages block : ℕ) (xs ys : List Operation) → CountsJoin pages block xs ys
 
+-- of what may follow a log only an erase of the block that passes counts as one: no erase of it that fails, none of another block, and
+-- no program
+pub record CountsPassed (log : List Operation) (block : ℕ) : Type 0 where
+  pub passes : (left : List Page) → passed_erases_of (log ++ Erase block true left ∷ []) block ≡ passed_erases_of log block + 1
+  pub fails : (left : List Page) → passed_erases_of (log ++ Erase block false left ∷ []) block ≡ passed_erases_of log block
+  pub elsewhere : (other : ℕ) (passed : Bool) (left : List Page) → other ≢ block → passed_erases_of (log ++ Erase other passed left ∷ []) block ≡ passed_erases_of log block
+  pub programs : (row : ℕ) (page left : Page) (passed : Bool) → passed_erases_of (log ++ Program row page passed left ∷ []) block ≡ passed_erases_of log block
+
+abbrev pub PassedErasesLaw : Type 0
+PassedErasesLaw = (log : List Operation) (block : ℕ) → (passed_erases_of [] block ≡ 0) × CountsPassed log block
+
 -- the bad blocks of a log in two parts: the first part's, carried on
 abbrev pub BadJoinLaw : Type 0
 BadJoinLaw = (pages block : ℕ) (bad : ℕ → Bool) (xs ys : List Operation) → bad_of pages bad (xs ++ ys) block ≡ bad_of pages (bad_of pages bad xs) ys block
@@ -158,6 +169,10 @@ AreErased g image block = (row : ℕ) (its : Page) → row / g.pages ≡ block �
 abbrev pub FreeLaw : Type 0
 FreeLaw = (g : Geometry) (bad : ℕ → Bool) (log : List Operation) (image : Image) (block : ℕ) → (free_of g bad log image block ≡ true) ↔ ((bad_of g.pages bad log block ≡ false) × AreErased g image block)
 
+-- each block is free or isn't
+abbrev pub FreeCountLaw : Type 0
+FreeCountLaw = (g : Geometry) (bad : ℕ → Bool) (log : List Operation) (image : Image) → free_count g bad log image + blocks_that g (λ block. not (free_of g bad log image block)) ≡ g.blocks
+
 -- ---- shortages worked out by hand, of a die of 24 blocks that needs 17
 
 -- the blocks from this one on were bad before
@@ -175,6 +190,14 @@ FewGoodLaw = (g : Geometry) → g.blocks ≡ 24 → need g ≡ 17 → IsShort g 
 -- 21 blocks are good, and three failed in the call
 abbrev pub ThreeFailedLaw : Type 0
 ThreeFailedLaw = (g : Geometry) → g.blocks ≡ 24 → need g ≡ 17 → IsShort g (bad_from 24) [] (failing (1 ∷ 2 ∷ 3 ∷ [])) false
+
+-- 18 blocks were good before the call, and two failed in it: 16 are left
+abbrev pub FewLeftLaw : Type 0
+FewLeftLaw = (g : Geometry) → g.blocks ≡ 24 → need g ≡ 17 → IsShort g (bad_from 18) [] (failing (1 ∷ 2 ∷ [])) false
+
+-- two erases failed in the call, and a program of a third block, that of the last page of block 3
+abbrev pub FailedProgramLaw : Type 0
+FailedProgramLaw = (g : Geometry) (page left : Page) → g.blocks ≡ 24 → g.pages ≡ 8 → need g ≡ 17 → IsShort g (bad_from 24) [] (Program 31 page false left ∷ failing (1 ∷ 2 ∷ [])) false
 
 -- the device was read-only before
 abbrev pub ReadOnlyBeforeLaw : Type 0

@@ -115,6 +115,15 @@ abbrev pub ReadBackLaw : Type 0
 ReadBackLaw = (g : Geometry) (old new : State) (sector : ℕ) (bytes : List ℕ) → length old.array ≡ g.sectors → ArrayStep g old (Write sector bytes) Done new
     → (slice_get new.array sector ≡ Some bytes) × ((other : ℕ) → other ≢ sector → slice_get new.array other ≡ slice_get old.array other)
 
+-- a sector that was trimmed is zeros, and no other sector has changed
+abbrev pub TrimmedLaw : Type 0
+TrimmedLaw = (g : Geometry) (old new : State) (sector : ℕ) → length old.array ≡ g.sectors → ArrayStep g old (Trim sector) Done new
+    → (slice_get new.array sector ≡ Some (replicate g.data_bytes 0)) × ((other : ℕ) → other ≢ sector → slice_get new.array other ≡ slice_get old.array other)
+
+-- a flush and a turn change no sector, whatever they are answered
+abbrev pub QuietLaw : Type 0
+QuietLaw = (g : Geometry) (old new : State) (reply : Reply) → (ArrayStep g old Flush reply new → new.array ≡ old.array) × (ArrayStep g old Turn reply new → new.array ≡ old.array)
+
 -- a command that isn't answered `Done` has changed no sector
 abbrev pub KeptLaw : Type 0
 KeptLaw = (g : Geometry) (old new : State) (command : Command) (reply : Reply) → reply ≢ Done → ArrayStep g old command reply new → new.array ≡ old.array

@@ -1,8 +1,8 @@
 //! What a reader would ask of the definitions first. Each function does nothing: its contract is the law.
-ghost use Rattle.promises.specs.Step.{OneReadLaw, ReadBackLaw, KeptLaw, ReadOnlyLaw, SectorCountLaw, NeverLaw, RepliesLaw, SixLaw, OtherBytesLaw};
-ghost use Rattle.promises.specs.Log.{CountsLaw, BadJoinLaw, BadStaysLaw, CompleteLaw};
+ghost use Rattle.promises.specs.Step.{OneReadLaw, ReadBackLaw, TrimmedLaw, QuietLaw, KeptLaw, ReadOnlyLaw, SectorCountLaw, NeverLaw, RepliesLaw, SixLaw, OtherBytesLaw};
+ghost use Rattle.promises.specs.Log.{CountsLaw, PassedErasesLaw, BadJoinLaw, BadStaysLaw, CompleteLaw};
 ghost use Rattle.promises.specs.Step.{MayAnswerLaw, PastLaw, AfterReadOnlyLaw, RefusesLaw};
-ghost use Rattle.promises.specs.Log.{SumsLaw, SinceLaw, FailedLaw, GoodLaw, FreeLaw, FewGoodLaw, ThreeFailedLaw, ReadOnlyBeforeLaw, TwoFailedLaw};
+ghost use Rattle.promises.specs.Log.{SumsLaw, SinceLaw, FailedLaw, GoodLaw, FreeLaw, FreeCountLaw, FewGoodLaw, ThreeFailedLaw, FewLeftLaw, FailedProgramLaw, ReadOnlyBeforeLaw, TwoFailedLaw};
 ghost use Rattle.promises.specs.Legal.{EmptyLaw, JoinLaw, AccountsLaw, OneMoreLaw, NoBadBlockLaw, NotTwiceLaw, OnErasedLaw, InOrderLaw};
 ghost use Rattle.promises.specs.Legal.{FirstPageLaw, AfterEraseLaw, NextPageLaw};
 ghost use Rattle.promises.specs.Run.{OneMoreEventLaw, RunJoinLaw, LastLaw, OneLogLaw, AnswersLaw, EachLaw, LogsLaw};
@@ -11,11 +11,13 @@ ghost use Rattle.promises.specs.Stream.{FiveLaw, FiveCommandsLaw, FiveOutLaw, Re
 ghost use Rattle.promises.specs.Stop.{NoOperationLaw, TornInOneLaw, BetweenLaw, StopsJoinLaw, ImageLaw};
 ghost use Rattle.promises.specs.Stop.{StoppedProgramLaw, StoppedEraseLaw};
 
-/// The step of the array: a read has one answer, what was written is read back, what isn't answered Done has changed no sector, and
-/// a device that is read-only stays as it is. (This project.)
+/// The step of the array: a read has one answer, what was written is read back, a trimmed sector is zeros, a flush and a turn change no
+/// sector, nor does what isn't answered Done, and a device that is read-only stays as it is. (This project.)
 pub fn step_laws()
     ensures one_read { OneReadLaw }
     ensures read_back { ReadBackLaw }
+    ensures trimmed { TrimmedLaw }
+    ensures quiet { QuietLaw }
     ensures kept { KeptLaw }
     ensures read_only { ReadOnlyLaw }
     ensures sector_count { SectorCountLaw }
@@ -38,9 +40,11 @@ pub fn worked_run()
     ensures other_bytes { OtherBytesLaw }
 {}
 
-/// Logs: counts and bad blocks of two in a row, and that a log leaves out nothing that the die counts. (This project.)
+/// Logs: counts and bad blocks of two in a row, which erases count as passed, and that a log leaves out nothing that the die counts. (This
+/// project.)
 pub fn log_laws()
     ensures counts { CountsLaw }
+    ensures passed_erases { PassedErasesLaw }
     ensures bad_join { BadJoinLaw }
     ensures bad_stays { BadStaysLaw }
     ensures complete { CompleteLaw }
@@ -54,12 +58,15 @@ pub fn count_laws()
     ensures failed { FailedLaw }
     ensures good { GoodLaw }
     ensures free { FreeLaw }
+    ensures free_count { FreeCountLaw }
 {}
 
-/// Three shortages worked out by hand, and one case that is none. (This project.)
+/// Five shortages worked out by hand, and one case that is none. (This project.)
 pub fn worked_shortages()
     ensures few_good { FewGoodLaw }
     ensures three_failed { ThreeFailedLaw }
+    ensures few_left { FewLeftLaw }
+    ensures failed_program { FailedProgramLaw }
     ensures read_only_before { ReadOnlyBeforeLaw }
     ensures two_failed { TwoFailedLaw }
 {}

@@ -2,11 +2,14 @@
 ghost use Rattle.std.specs.Prelude.{◌≡◌, ◌⊎◌, IfOk, OnOk};
 ghost use Rattle.page_layout.specs.Counter.{HasRisen};
 ghost use Rattle.onfi_cycles.specs.Driver.{flash_by};
-ghost use Rattle.ftl_device.specs.Run.{IsWhole, AreWhole, AreKnown, RanFrom, exchanges_of};
+ghost use Rattle.command_queue.specs.Commands.{IsWhole, AreWhole};
+ghost use Rattle.command_queue.specs.Exchanges.{AreKnown, exchanges_of};
+ghost use Rattle.command_queue.specs.Run.{RanFrom};
 
 use super::bench::{formatted_die, mounted, small};
 use certificate::Certificate;
-use ftl_device::{Call, Command, Device, DeviceFault};
+use command_queue::{Call, Command, run_accepted};
+use ftl_device::{Device, DeviceFault};
 use image_check::check;
 use nand_die::Die;
 use onfi_cycles::{Bus, Driver, Nand};
@@ -133,7 +136,7 @@ fn run_on_die(
         certificate.now (exchanges_of calls.new) d) }
 {
     let accepted = check(alloc, &mut driver, geometry, 4, certificate)?;
-    match Device::run_accepted(alloc, driver, accepted, calls) {
+    match run_accepted(alloc, driver, accepted, calls) {
         Ok(device) => Ok(device),
         Err(_) => Err("no memory")?,
     }

@@ -3,7 +3,9 @@ use Rattle.promises.specs.Stream as stream
 use Rattle.promises.specs.Step as step
 use Rattle.promises.specs.Stream.{op_code, status_of, reply_body}
 use Rattle.request_stream.specs.Frames.{request_at, Sends, answer_bytes}
-use Rattle.ftl_device.specs.Run.{Exchange, command_of, answer_to, Tells}
+use Rattle.command_queue.specs.Commands.{command_of}
+use Rattle.command_queue.specs.Exchanges.{Exchange, answer_to}
+use Rattle.command_queue.specs.Told.{Tells}
 use Rattle.block_server.proofs.Answering.{room_of}
 use Rattle.block_server.proofs.answer.answer.Goals as goal
 
@@ -14,7 +16,7 @@ pub returns : goal.returns
 returns g c =
     let its = c.tell-done.ensures in
     let old = c.args.device.now in
-    let new = c.tell-done.new.self in
+    let new = c.tell-done.new.device in
     let as_told : step.Command → Exchange = λ k. record { command = k; result = c.tell-done.result; bytes = c.tell-done.new.bytes } in
     let asked : step.Command = stream.command_of (request_at c.args.header c.args.body.now) in
     let tells : Tells g.N.PageSource.flash g.N.PageSource.honest g.N.PageSource.failed old (as_told (command_of c.command_for.result)) new = record {

@@ -1,4 +1,4 @@
-use Rattle.ftl_device.specs.Run.{AreWhole}
+use Rattle.command_queue.specs.Commands.{AreWhole}
 use Rattle.device_tests.proofs.tests.lists.list_of_six.Given as goal
 
 abbrev pub invariant-loop-command : goal.invariant-loop-command

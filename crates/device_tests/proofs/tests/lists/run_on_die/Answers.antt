@@ -10,8 +10,9 @@ use Rattle.image_check.specs.declared.refusal.Refusal.TheVariants.{Source}
 use Rattle.collection.proofs.Costs.{risen_over}
 use Rattle.onfi_cycles.specs.Driver.{flash_by}
 use Rattle.ftl_device.specs.Device.{IsAcceptedFor}
-use Rattle.ftl_device.specs.Run.{RanFrom, exchanges_of}
-use Rattle.ftl_device.proofs.ToldLemmas.{until_known}
+use Rattle.command_queue.specs.Exchanges.{exchanges_of}
+use Rattle.command_queue.specs.Run.{RanFrom}
+use Rattle.command_queue.proofs.ToldLemmas.{until_known}
 use Rattle.device_tests.proofs.tests.lists.run_on_die.Goals as goal
 
 -- what was accepted for the image before the reads is so for that after them

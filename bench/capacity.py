@@ -1,0 +1,125 @@
+#!/usr/bin/env python3
+"""How many sectors a die gives.
+
+    capacity.py                             a table for usual dies
+    capacity.py DATA SPARE PAGES BLOCKS [GOOD]   one die; GOOD blocks of it are good, else all
+    [PROGRAM=..] capacity.py --check        holds the numbers against what `nandctl format` refuses
+
+A die serves writes while as many blocks are good as its geometry needs (`need` of docs/FORMATS.md). So the most sectors
+are the most for which no more blocks are needed than there are."""
+
+import subprocess
+import sys
+import tempfile
+from pathlib import Path
+
+MOST_SECTORS = 1 << 20
+USUAL = [
+    (512, 32, 32, 2048),
+    (2048, 64, 64, 1024),
+    (2048, 64, 64, 2048),
+    (2048, 64, 64, 4096),
+    (2048, 128, 128, 1024),
+    (4096, 128, 64, 2048),
+    (4096, 224, 64, 4096),
+    (4096, 224, 128, 2048),
+    (4096, 256, 128, 4096),
+    (4096, 256, 256, 1024),
+]
+# small enough for `format` to be tried in a moment, with blocks of few and of many pages
+TRIED = [
+    (64, 32, 4, 12),
+    (64, 32, 4, 64),
+    (64, 32, 8, 32),
+    (64, 32, 16, 256),
+    (256, 64, 64, 128),
+    (512, 32, 32, 512),
+    (2048, 64, 64, 64),
+    (4096, 128, 256, 24),
+]
+
+
+def up(a, b):
+    """a / b, rounded up."""
+    return -(-a // b)
+
+
+def need(data, pages, blocks, sectors):
+    """The good blocks that writing needs."""
+    entries = data // 4
+    translation, table = up(sectors, entries), up(blocks, entries)
+    worth = max(pages - 1 - translation, (pages - 1) // 2)
+    return (sectors + translation + table) // (worth + 1) + 11
+
+
+def most(data, pages, blocks, good):
+    """The most sectors that this many good blocks serve, 0 where they serve none: `need` never falls as sectors rise."""
+    low, high = 0, MOST_SECTORS
+    while low < high:
+        mid = (low + high + 1) // 2
+        if need(data, pages, blocks, mid) <= good:
+            low = mid
+        else:
+            high = mid - 1
+    return low
+
+
+def size(count):
+    """Bytes in the largest unit that keeps three digits."""
+    for unit in ("bytes", "KiB", "MiB"):
+        if count < 10000:
+            return f"{count:.0f} {unit}"
+        count /= 1024
+    return f"{count:.0f} GiB"
+
+
+def line(data, spare, pages, blocks, good):
+    sectors = most(data, pages, blocks, good)
+    part = 100 * sectors / (pages * blocks)
+    return f"| {data}+{spare} | {pages} | {blocks:,} | {sectors:,} | {size(sectors * data)} | {part:.0f} % |"
+
+
+def table(dies):
+    print("| Page | Pages a block | Blocks | Sectors at most | Disk | Of all pages |")
+    print("|---|---|---|---|---|---|")
+    for data, spare, pages, blocks in dies:
+        print(line(data, spare, pages, blocks, blocks))
+
+
+def formats(program, folder, die, sectors):
+    """What `nandctl format` says to a fresh die."""
+    data, spare, pages, blocks = die
+    fresh = folder / "fresh.bin"
+    fresh.write_bytes(b"\xff" * ((data + spare) * pages * blocks))
+    words = ["format", f"{data},{spare},{pages},{blocks},{sectors}", fresh, folder / "die.bin"]
+    done = subprocess.run([program, *words], capture_output=True, text=True)
+    return done.stdout + done.stderr
+
+
+def check():
+    from program import PROGRAM
+
+    with tempfile.TemporaryDirectory() as name:
+        for die in TRIED:
+            data, spare, pages, blocks = die
+            sectors = most(data, pages, blocks, blocks)
+            if sectors > 0:
+                wanted = f"good {blocks}\n"
+                assert formats(PROGRAM, Path(name), die, sectors) == wanted, (die, sectors)
+            wanted = f"refused format 1 TooFewGood good {blocks} need {need(data, pages, blocks, sectors + 1)}\n"
+            assert formats(PROGRAM, Path(name), die, sectors + 1) == wanted, (die, sectors + 1)
+            print(f"{die}: {sectors} sectors, and no more")
+
+
+def main(words):
+    if words == ["--check"]:
+        check()
+    elif not words:
+        table(USUAL)
+    else:
+        data, spare, pages, blocks, *good = (int(word) for word in words)
+        print(line(data, spare, pages, blocks, good[0] if good else blocks))
+
+
+if __name__ == "__main__":
+    main(sys.argv[1:])

@@ -1,0 +1,137 @@
+#!/usr/bin/env python3
+"""Tries the planted bugs of planted/CRATE, each alone, over a copy of the repository, and tells apart how each is refused.
+
+    bench/planted.py [CRATE..]          the bugs of these crates (default: every folder of planted/)
+    bench/planted.py CRATE/NAME ..      these bugs alone
+    bench/planted.py --must-fail CRATE  the bugs of crates/CRATE/must-fail, by the same rules
+    bench/planted.py --bends FILE CRATE the edits of a file, one after another; lines '# NAME' stand between them
+
+The whole check of the crate is run over what earlier checks kept (crates/*/out). Of each bug one line is printed:
+
+    refused   an open goal, or a proof of a law or a clause that no longer holds: the first message says where
+    unread    it does not compile, or a proof cites a name that is gone: it shows nothing, and has to be mended
+    proves    the contracts let it through
+    unfit     its texts do not stand once in the sources
+    none      the check came to no verdict
+
+Answers 1 where any is not refused. It is no part of the gate, which tries crates/CRATE/must-fail.
+"""
+
+import pathlib
+import re
+import shutil
+import subprocess
+import sys
+import tempfile
+
+import edits
+
+TOP = edits.TOP
+PARTS = ("src", "specs", "proofs")
+# a name that stands nowhere, or a text that is none of the language
+NAMELESS = re.compile(
+    r"not in scope|unknown (name|module|import|field)|no (item|module|name|definition|field|variant) |cannot find|unresolved|"
+    r"does not (have|export|declare)|has no (field|item|name|module|member|constructor|`)|is private|is not declared|"
+    r"parse error|syntax error|expected [`'a-z]+.* found|unexpected (token|character|end)|mismatched types"
+)
+MESSAGE = re.compile(r"^(?P<file>\S+?\.(?:rt|antt)):(?P<line>\d+):\d+: error: (?P<text>.*)$|^error(?:\[\w+\])?: (?P<rust>.*)$|^.*must prove: (?P<goal>.*)$")
+
+
+def messages_of(said):
+    """The errors of a check, each its file (or None) and its text; not those that only follow from another one."""
+    found = []
+    for line in said.splitlines():
+        match = MESSAGE.match(line)
+        if not match:
+            continue
+        text = match["text"] or match["rust"] or match["goal"]
+        if "was not admitted" in text or "depends on" in text:
+            continue
+        found.append((match["file"], text))
+    return found
+
+
+def verdict_of(said):
+    """How a check ended, and the message that says so."""
+    verdicts = re.findall(r"^logic=(\S+)", said, re.MULTILINE)
+    messages = messages_of(said)
+    if verdicts and verdicts[-1] == "proved":
+        return "proves", ""
+    for file, text in messages:
+        if NAMELESS.search(text):
+            return "unread", f"{file or ''} {text}"
+    if not verdicts:
+        return ("unread" if messages else "none"), messages[0][1] if messages else said[-160:]
+    if not messages:
+        return "none", said[-160:]
+    return "refused", f"{messages[0][0] or ''} {messages[0][1]}"
+
+
+def restore(room, name):
+    """Puts a crate of the room back as it is in the repository; its kept work stays."""
+    for part in PARTS:
+        shutil.rmtree(room / "crates" / name / part, ignore_errors=True)
+        source = TOP / "crates" / name / part
+        if source.is_dir():
+            shutil.copytree(source, room / "crates" / name / part)
+
+
+def try_edit(room, name, pairs_file):
+    """Plants one edit in the room, checks its crate, and puts the crate back."""
+    crate = room / "crates" / name
+    try:
+        texts = edits.texts_of(crate, pairs_file)
+    except ValueError as fault:
+        return "unfit", str(fault)
+    for path, text in texts.items():
+        path.write_text(text, encoding="utf-8")
+    done = subprocess.run(["rt", "check"], cwd=crate, capture_output=True, text=True, check=False)
+    restore(room, name)
+    return verdict_of(done.stdout + done.stderr)
+
+
+def bends_of(file, room):
+    """The edits of one file, as files of their own."""
+    found = []
+    for piece in re.split(r"^# ", file.read_text(encoding="utf-8"), flags=re.MULTILINE)[1:]:
+        name, _, text = piece.partition("\n")
+        path = room / f"{name.strip()}.edit"
+        path.write_text(text, encoding="utf-8")
+        found.append(path)
+    return found
+
+
+def wanted(words, room):
+    """The edits that were asked for, by crate."""
+    if words[:1] == ["--bends"]:
+        return [(words[2], bends_of(pathlib.Path(words[1]), room))]
+    if words[:1] == ["--must-fail"]:
+        return [(name, sorted((TOP / "crates" / name / "must-fail").glob("*.edit"))) for name in words[1:]]
+    names = words or sorted(folder.name for folder in (TOP / "planted").iterdir())
+    return [(name.split("/")[0], sorted((TOP / "planted").glob(name + (".edit" if "/" in name else "/*.edit")))) for name in names]
+
+
+def main():
+    room = pathlib.Path(tempfile.mkdtemp())
+    counts = {}
+    try:
+        for file in ("crates.txt", "HANDLES"):
+            shutil.copy(TOP / file, room)
+        subprocess.run(["cp", "-a", TOP / "crates", room], check=True)
+        for name, files in wanted(sys.argv[1:], room):
+            if not files:
+                print(f"no planted bugs of {name}", file=sys.stderr)
+                return 2
+            restore(room, name)
+            for file in files:
+                verdict, why = try_edit(room, name, file)
+                counts[verdict] = counts.get(verdict, 0) + 1
+                print(f"{verdict:8} {name}/{file.stem}  {why[:200]}", flush=True)
+    finally:
+        shutil.rmtree(room)
+    print(", ".join(f"{count} {verdict}" for verdict, count in sorted(counts.items())))
+    return 0 if set(counts) == {"refused"} else 1
+
+
+if __name__ == "__main__":
+    sys.exit(main())

@@ -1,0 +1,5 @@
+pub mod RefusalLemmas
+pub mod RunLemmas
+pub mod ToldLemmas
+pub mod LoopLemmas
+pub mod AcceptedLemmas

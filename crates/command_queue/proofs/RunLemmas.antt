@@ -1,0 +1,268 @@
+-- A run goes on by one call.
+use Rattle.std.proofs.Common.{◌≡◌, ◌≢◌, ◌↔◌, ℕ, ◌+◌, ◌<◌, ◌≤◌, min, inl, inr, Bool, true, not, ◌&&◌, List, [], ◌∷◌, ◌++◌, Option, Some, Result, Ok, Err, refl, sym, ap, subst}
+use Rattle.std.proofs.Common.{◌∙◌, None, arith, append_assoc}
+use Rattle.std.specs.Prelude.{IfErr, is_some}
+use Rattle.std.proofs.lemmas.List.{map-append, append-nil}
+use Rattle.page_layout.specs.declared.geometry.Geometry.{Geometry}
+use Rattle.page_layout.specs.Page.{Image, Page}
+use Rattle.page_layout.specs.Flash.{Flash, Operation}
+use Rattle.page_layout.specs.Array.{array_of}
+use Rattle.bad_blocks.specs.Table.{wear_at, most_wear}
+use Rattle.allocation.specs.State.{State}
+use Rattle.mapping_cache.specs.Mapping.{HasLimitsOf}
+use Rattle.image_check.specs.Stale.{stale_sectors}
+use Rattle.image_check.specs.Blocks.{erase_count}
+use Rattle.image_check.specs.Mountable.{IsMountable}
+use Rattle.promises.specs.Step as step
+use Rattle.promises.specs.Step.{Reply, ArrayStep, WriteStep, ReadStep, QuietStep}
+use Rattle.promises.specs.Log.{programs_in, bad_of, passed_erases_of}
+use Rattle.promises.specs.Legal.{accounted_all}
+use Rattle.promises.specs.Run as runs
+use Rattle.promises.specs.Run.{Event, Run, Happens, state_of, commands_of, replies_of, log_of, last_of}
+use Rattle.promises.proofs.LogLemmas.{counts}
+use Rattle.promises.proofs.LegalLemmas.{accounts_join, legal_append}
+use Rattle.promises.proofs.RunLemmas.{one_more_event, last, logs}
+use Rattle.collection.specs.State.{Ram}
+use Rattle.collection.specs.Safe.{IsRam, ram, image_in}
+use Rattle.collection.specs.Log.{IsAccounted, Follows, Wears, Went}
+use Rattle.ftl_device.specs.declared.device.Device.{Device}
+use Rattle.ftl_device.specs.declared.fault.DeviceFault.{DeviceFault}
+use Rattle.ftl_device.specs.declared.fault.DeviceFault.TheVariants.{OutOfRange, ReadOnly, SequenceSpent, OutOfMemory, Damaged, BusFault}
+use Rattle.ftl_device.specs.Calls.{IsWell, Says, state_in, reply_of, read_reply_of}
+use Rattle.ftl_device.specs.Counts.{is_bad_by, is_flush, IsShown, IsLeft}
+use Rattle.ftl_device.specs.Read.{LeavesRead, IsReadRefusal}
+use Rattle.command_queue.specs.Commands.{needs_no_memory}
+use Rattle.command_queue.specs.Exchanges.{answer_to, reply_in, Exchange}
+use Rattle.command_queue.specs.Run.{die_in, IsFair, AreFair, HasRun, Ran}
+use Rattle.command_queue.specs.Told.{Happened}
+use Rattle.ftl_device.specs.Flush.{ShowsBad, First, first_of, IsFlushedOut}
+use Rattle.ftl_device.proofs.CountLemmas.{bad_now_law}
+use Rattle.command_queue.proofs.RefusalLemmas.{NoDamage, shown_on, left_on}
+use Rattle.ftl_device.proofs.CallLemmas.{mountable_after}
+
+-- ---- one call
+
+-- a read leaves all but the mapping as it was
+leaves_mapping : (n : ℕ) (result : Result (Unit {0}) DeviceFault) (old new : Ram) (p q : Page) (bytes : List ℕ) → LeavesRead n result old new p q bytes → result ≢ Err BusFault → new ≡ record old { mapping = new.mapping }
+leaves_mapping n (Ok done) old new p q bytes leaves ne = leaves.others
+leaves_mapping n (Err OutOfRange) old new p q bytes leaves ne = subst (λ (x : Ram). new ≡ record old { mapping = x.mapping }) (sym leaves) leaves
+leaves_mapping n (Err (ReadOnly good wanted failed)) old new p q bytes leaves ne = subst (λ (x : Ram). new ≡ record old { mapping = x.mapping }) (sym leaves) leaves
+leaves_mapping n (Err SequenceSpent) old new p q bytes leaves ne = subst (λ (x : Ram). new ≡ record old { mapping = x.mapping }) (sym leaves) leaves
+leaves_mapping n (Err OutOfMemory) old new p q bytes leaves ne = subst (λ (x : Ram). new ≡ record old { mapping = x.mapping }) (sym leaves) leaves
+leaves_mapping n (Err Damaged) old new p q bytes leaves ne = subst (λ (x : Ram). new ≡ record old { mapping = x.mapping }) (sym leaves) leaves
+leaves_mapping n (Err BusFault) old new p q bytes leaves ne = absurd (ne refl)
+
+pub read_geometry : (n : ℕ) (result : Result (Unit {0}) DeviceFault) (old new : Ram) (p q : Page) (bytes : List ℕ) → LeavesRead n result old new p q bytes → new.geometry ≡ old.geometry
+read_geometry n (Ok done) old new p q bytes leaves = ap (λ (x : Ram). x.geometry) leaves.others
+read_geometry n (Err OutOfRange) old new p q bytes leaves = ap (λ (x : Ram). x.geometry) leaves
+read_geometry n (Err (ReadOnly good wanted failed)) old new p q bytes leaves = ap (λ (x : Ram). x.geometry) leaves
+read_geometry n (Err SequenceSpent) old new p q bytes leaves = ap (λ (x : Ram). x.geometry) leaves
+read_geometry n (Err OutOfMemory) old new p q bytes leaves = ap (λ (x : Ram). x.geometry) leaves
+read_geometry n (Err Damaged) old new p q bytes leaves = ap (λ (x : Ram). x.geometry) leaves
+read_geometry n (Err BusFault) old new p q bytes leaves = ap (λ (x : Ram). x.geometry) leaves
+
+-- no operation was asked for
+pub went_none : (old new : Ram) (s t : Flash) → new ≡ record old { mapping = new.mapping } → t ≡ s → Went old s new t
+went_none old new s t same kept = record {
+  log = [];
+  leads = kept;
+  follows = record { legal = λ accounts a. tt; accounted = λ accounts a. subst (IsAccounted accounts) (sym (ap (λ (x : Ram). x.blocks) same)) a };
+  next = ap (λ (x : Ram). x.next) same ∙ omega arith;
+  wears = record { worn = λ b most. (let e : wear_at new.blocks.table b ≡ wear_at old.blocks.table b = ap (λ (x : Ram). wear_at x.blocks.table b) same in omega arith) };
+}
+
+read_shown : (g : Geometry) (bad : ℕ → Bool) (next : ℕ) (before call : List Operation) (ro : Bool) (image : Image) (n : ℕ) (bytes : List ℕ) (s t : step.State) (result : Result (Unit {0}) DeviceFault) → IfErr result IsReadRefusal → ReadStep g s n (read_reply_of bytes result) t → result ≢ Err BusFault → IfErr result (IsShown g bad next before call ro image)
+read_shown g bad next before call ro image n bytes s t (Ok done) of_read is ne = tt
+read_shown g bad next before call ro image n bytes s t (Err OutOfRange) of_read is ne = tt
+read_shown g bad next before call ro image n bytes s t (Err (ReadOnly good wanted failed)) of_read is ne = absurd of_read
+read_shown g bad next before call ro image n bytes s t (Err SequenceSpent) of_read is ne = absurd of_read
+read_shown g bad next before call ro image n bytes s t (Err OutOfMemory) of_read is ne = tt
+read_shown g bad next before call ro image n bytes s t (Err Damaged) of_read is ne = is
+read_shown g bad next before call ro image n bytes s t (Err BusFault) of_read is ne = ne refl
+
+read_left : (g : Geometry) (bad : ℕ → Bool) (before call : List Operation) (ro : Bool) (n : ℕ) (result : Result (Unit {0}) DeviceFault) → ro ≡ true → IsLeft (step.Read n) g bad before call ro result
+read_left g bad before call ro n (Ok done) on = inl (inr (inr on))
+read_left g bad before call ro n (Err OutOfRange) on = tt
+read_left g bad before call ro n (Err (ReadOnly good wanted failed)) on = tt
+read_left g bad before call ro n (Err SequenceSpent) on = tt
+read_left g bad before call ro n (Err OutOfMemory) on = inr (inr on)
+read_left g bad before call ro n (Err Damaged) on = tt
+read_left g bad before call ro n (Err BusFault) on = tt
+
+no_memory : (result : Result (Unit {0}) DeviceFault) → IfErr result IsReadRefusal → result ≢ Err OutOfMemory
+no_memory (Ok done) of_read e = (let no : ⊥ = cc in no)
+no_memory (Err fault) of_read e = (let same : fault ≡ OutOfMemory = cc in subst IsReadRefusal same of_read)
+
+-- no block was pinned, and the sector was stale
+pub unpinned_stale : {A : Type 0} (pinned : Option A) (stale : Bool) → (not (is_some pinned) && stale) ≡ true → (pinned ≡ None) × (stale ≡ true)
+unpinned_stale None stale is = (refl, is)
+unpinned_stale (Some p) stale is = (let no : ⊥ = cc in absurd no)
+
+-- a step isn't answered `Damaged`
+pub write_sound : (g : Geometry) (s t : step.State) (n : ℕ) (bytes : List ℕ) (result : Result (Unit {0}) DeviceFault) → WriteStep g s n bytes (reply_of result) t → NoDamage result
+write_sound g s t n bytes (Ok done) is = tt
+write_sound g s t n bytes (Err OutOfRange) is = tt
+write_sound g s t n bytes (Err (ReadOnly good wanted failed)) is = tt
+write_sound g s t n bytes (Err SequenceSpent) is = tt
+write_sound g s t n bytes (Err OutOfMemory) is = tt
+write_sound g s t n bytes (Err Damaged) is = is
+write_sound g s t n bytes (Err BusFault) is = tt
+
+pub quiet_sound : (s t : step.State) (result : Result (Unit {0}) DeviceFault) → QuietStep s (reply_of result) t → NoDamage result
+quiet_sound s t (Ok done) is = tt
+quiet_sound s t (Err OutOfRange) is = tt
+quiet_sound s t (Err (ReadOnly good wanted failed)) is = tt
+quiet_sound s t (Err SequenceSpent) is = tt
+quiet_sound s t (Err OutOfMemory) is = tt
+quiet_sound s t (Err Damaged) is = is
+quiet_sound s t (Err BusFault) is = tt
+
+module _ {N : Type 0} (flash : N → Flash) (old new : Device N) (result : Result (Unit {0}) DeviceFault) (ne : result ≢ Err BusFault) where
+  pub read_happened : (n : ℕ) (bytes : List ℕ) (p q : Page) → ReadStep old.engine.geometry (state_in flash old) n (read_reply_of bytes result) (state_in flash new) → flash new.engine.nand ≡ flash old.engine.nand → LeavesRead n result (ram old.engine) (ram new.engine) p q bytes → new.read_only ≡ old.read_only → IfErr result IsReadRefusal → Happened flash old (record { command = step.Read n; result = result; bytes = bytes }) new
+  unfolding went_none
+  read_happened n bytes p q is kept leaves flag of_read = record {
+    step = is;
+    went = went_none (ram old.engine) (ram new.engine) (flash old.engine.nand) (flash new.engine.nand) (leaves_mapping n result (ram old.engine) (ram new.engine) p q bytes leaves ne) kept;
+    stale = λ any. no_memory result of_read;
+    shown = λ bad next before bads spent. read_shown old.engine.geometry bad next before [] old.read_only (image_in flash new.engine) n bytes (state_in flash old) (state_in flash new) result of_read is ne;
+    flushed = λ is. (let no : ⊥ = cc in absurd no);
+    left = λ bad before bads on. read_left old.engine.geometry bad before [] old.read_only n result (sym flag ∙ on);
+  }
+
+  module _ (safe : IsRam (ram old.engine)) (safe' : IsRam (ram new.engine)) (sized : new.engine.geometry ≡ old.engine.geometry) (well : IsWell flash new) (w : Went (ram old.engine) (flash old.engine.nand) (ram new.engine) (flash new.engine.nand)) (says : IfErr result (Says (ram old.engine) (ram new.engine)))
+      (shown : IfErr result (IsShown old.engine.geometry (is_bad_by (ram old.engine)) old.engine.next [] w.log old.read_only (image_in flash new.engine))) where
+    -- a call that may change sectors
+    pub changed : (command : step.Command) (bytes : List ℕ) → (is_flush command ≡ true → result ≡ Ok tt → IsFlushedOut (first_of (ram old.engine)) w.log (image_in flash new.engine)) → (new.read_only ≡ true → IsLeft command old.engine.geometry (is_bad_by (ram old.engine)) [] w.log old.read_only result) → NoDamage result → (needs_no_memory (is_some old.engine.pinned) old.engine.geometry (image_in flash old.engine) command ≡ true → result ≢ Err OutOfMemory) → ArrayStep old.engine.geometry (state_in flash old) command (answer_to command bytes result) (state_in flash new) → Happened flash old (record { command = command; result = result; bytes = bytes }) new
+    changed command bytes flushed left is stale whole = record {
+      flushed = flushed;
+      step = whole;
+      went = w;
+      stale = stale;
+      shown = λ bad next before also spent. shown_on (ram old.engine) (ram new.engine) w.log safe safe' sized w.follows bad before also next old.read_only (image_in flash new.engine) result well.truth spent says shown is ne;
+      left = λ bad before also on. left_on (ram old.engine) (ram new.engine) w.log safe safe' sized w.follows bad before also command old.read_only result (left on);
+    }
+
+-- ---- one more event
+
+follows_then : (pages : ℕ) (xs ys : List Operation) (a b c : State) → Follows pages xs a b → Follows pages ys b c → Follows pages (xs ++ ys) a c
+follows_then pages xs ys a b c before after = record {
+  legal = λ accounts s. legal_append pages accounts xs ys (before.legal accounts s) (after.legal (accounted_all pages accounts xs) (before.accounted accounts s));
+  accounted = λ accounts s. rw (accounts_join pages accounts xs ys) (after.accounted (accounted_all pages accounts xs) (before.accounted accounts s));
+}
+
+fair_more : (first : First) (old mid : runs.DeviceView) (before total : List Operation) (events : List Event) (xs : List Exchange) (event : Event) (x : Exchange) → AreFair first old before events xs → mid ≡ last_of old events → total ≡ before ++ log_of events → IsFair first mid total event x → AreFair first old before (events ++ event ∷ []) (xs ++ x ∷ [])
+fair_more first old mid before total [] [] event x fair here all is =
+    let P : runs.DeviceView → List Operation → Type 0 = λ d l. IsFair first d l event x in
+    (subst (λ d. P d before) here (subst (P mid) (all ∙ append-nil before) is), tt)
+fair_more first old mid before total [] (y ∷ xs) event x fair here all is = absurd fair
+fair_more first old mid before total (e ∷ events) [] event x fair here all is = absurd fair
+fair_more first old mid before total (e ∷ events) (y ∷ xs) event x fair here all is =
+    (fair.0, fair_more first e.left mid (before ++ e.piece) total events xs event x fair.1 here (all ∙ sym (append_assoc before e.piece (log_of events))) is)
+
+-- a flush later in the run
+flushed_then : (a b c : Ram) (xs ys : List Operation) (image : Image) → b.geometry ≡ a.geometry → ((k : ℕ) → wear_at a.blocks.table k ≤ most_wear) → Wears xs a.blocks b.blocks
+    → ((k : ℕ) → k < b.geometry.blocks → is_bad_by c k ≡ bad_of b.geometry.pages (is_bad_by b) ys k) → ((k : ℕ) → k < b.geometry.blocks → is_bad_by c k ≡ bad_of b.geometry.pages (is_bad_by a) (xs ++ ys) k)
+    → IsFlushedOut (first_of b) ys image → IsFlushedOut (first_of a) (xs ++ ys) image
+flushed_then a b c xs ys image same most wears here there f = record {
+  anywhere = subst (λ (g : Geometry). (capacity : ℕ) → 1 ≤ capacity → capacity ≤ 65536 → IsMountable g capacity image) same f.anywhere;
+  fresh = subst (λ (g : Geometry). stale_sectors g image ≡ []) same f.fresh;
+  bad = subst (λ (g : Geometry). (k : ℕ) → k < g.blocks → ShowsBad g image k ↔ (bad_of g.pages (is_bad_by a) (xs ++ ys) k ≡ true)) same
+      (λ k lt. subst (λ v. ShowsBad b.geometry image k ↔ (v ≡ true)) (sym (here k lt) ∙ there k lt) (f.bad k lt));
+  wear = subst (λ (g : Geometry). (k : ℕ) → k < g.blocks → erase_count g image k ≡ min (wear_at a.blocks.table k + passed_erases_of (xs ++ ys) k) most_wear) same
+      (λ k lt.
+      let first : wear_at b.blocks.table k ≡ min (wear_at a.blocks.table k + passed_erases_of xs k) most_wear = wears.worn k (most k) in
+      let second : erase_count b.geometry image k ≡ min (wear_at b.blocks.table k + passed_erases_of ys k) most_wear = f.wear k lt in
+      omega (arith, (counts a.geometry.pages k xs ys).passed_erases_at));
+}
+
+-- with the last image, the last device and the last log
+module _ {N : Type 0} (flash : N → Flash) (old mid new : Device N) (done : List Exchange) (x : Exchange)
+    (sized : mid.engine.geometry ≡ old.engine.geometry) (sized' : new.engine.geometry ≡ mid.engine.geometry)
+    (die : (flash mid.engine.nand).geometry ≡ mid.engine.geometry) (die' : (flash new.engine.nand).geometry ≡ new.engine.geometry)
+    (limits : HasLimitsOf old.engine.mapping new.engine.mapping) (most : (b : ℕ) → wear_at (ram old.engine).blocks.table b ≤ most_wear) (safe : IsRam (ram old.engine)) (mid_safe : IsRam (ram mid.engine)) (safe' : IsRam (ram new.engine)) (well : IsWell flash new)
+    (ran : Ran flash old done mid) (h : Happened flash mid x new) where
+  event : Event
+  event = record { command = x.command; reply = reply_in x; piece = h.went.log; left = die_in flash new }
+
+  follows : Follows old.engine.geometry.pages (log_of ran.run.events ++ h.went.log) (ram old.engine).blocks (ram new.engine).blocks
+  follows = follows_then old.engine.geometry.pages (log_of ran.run.events) h.went.log (ram old.engine).blocks (ram mid.engine).blocks (ram new.engine).blocks ran.follows
+      (subst (λ (g : Geometry). Follows g.pages h.went.log (ram mid.engine).blocks (ram new.engine).blocks) sized h.went.follows)
+
+  next : new.engine.next ≡ old.engine.next + programs_in (log_of ran.run.events ++ h.went.log)
+  next = omega (arith, ran.next, h.went.next, (counts old.engine.geometry.pages 0 (log_of ran.run.events) h.went.log).programs)
+
+  wears : Wears (log_of ran.run.events ++ h.went.log) (ram old.engine).blocks (ram new.engine).blocks
+  wears = record {
+    worn = λ b few.
+        let first : wear_at (ram mid.engine).blocks.table b ≡ min (wear_at (ram old.engine).blocks.table b + passed_erases_of (log_of ran.run.events) b) most_wear = ran.wears.worn b few in
+        let second : wear_at (ram new.engine).blocks.table b ≡ min (wear_at (ram mid.engine).blocks.table b + passed_erases_of h.went.log b) most_wear = h.went.wears.worn b (omega arith) in
+        omega (arith, (counts old.engine.geometry.pages b (log_of ran.run.events) h.went.log).passed_erases_at);
+  }
+
+  state_is : (d : Device N) → (flash d.engine.nand).geometry ≡ d.engine.geometry → state_of (die_in flash d) ≡ state_in flash d
+  state_is d e = ap (λ (g : Geometry). let s : step.State = record { array = array_of g (image_in flash d.engine); ro = d.read_only } in s) e
+
+  happens : Happens (die_in flash mid) event
+  unfolding event
+  happens = record {
+    leads = h.went.leads;
+    step =
+        let P : Geometry → step.State → step.State → Type 0 = λ g s t. ArrayStep g s x.command (reply_in x) t in
+        subst (λ g. P g (state_of (die_in flash mid)) (state_of (die_in flash new))) (sym die)
+        (subst (λ s. P mid.engine.geometry s (state_of (die_in flash new))) (sym (state_is mid die))
+        (subst (P mid.engine.geometry (state_in flash mid)) (sym (state_is new (die'))) h.step));
+  }
+
+  -- the blocks that are bad by the log up to this event
+  bads_then : (g : Geometry) → g ≡ old.engine.geometry → (b : ℕ) → b < g.blocks → is_bad_by (ram new.engine) b ≡ bad_of g.pages (is_bad_by (ram old.engine)) (log_of ran.run.events ++ h.went.log) b
+  bads_then g same =
+      let Q : Geometry → Type 0 = λ k. (b : ℕ) → b < k.blocks → is_bad_by (ram new.engine) b ≡ bad_of k.pages (is_bad_by (ram old.engine)) (log_of ran.run.events ++ h.went.log) b in
+      let here : Q old.engine.geometry = λ b lt. bad_now_law (ram old.engine) (ram new.engine) (log_of ran.run.events ++ h.went.log) b safe.blocks_of follows lt in
+      subst Q (sym same) here
+
+  fair : IsFair (first_of (ram old.engine)) (die_in flash mid) (log_of ran.run.events) event x
+  unfolding event
+  fair = record {
+    shown = λ fault e.
+        let here = h.shown (is_bad_by (ram old.engine)) old.engine.next (log_of ran.run.events) (bads_then mid.engine.geometry sized) next in
+        let there = subst (λ (g : Geometry). IfErr x.result (IsShown g (is_bad_by (ram old.engine)) old.engine.next (log_of ran.run.events) h.went.log mid.read_only (image_in flash new.engine))) sized here in
+        subst (λ r. IfErr r (IsShown old.engine.geometry (is_bad_by (ram old.engine)) old.engine.next (log_of ran.run.events) h.went.log mid.read_only (image_in flash new.engine))) e there;
+    left = λ on. subst (λ (g : Geometry). IsLeft x.command g (is_bad_by (ram old.engine)) (log_of ran.run.events) h.went.log mid.read_only x.result) sized (h.left (is_bad_by (ram old.engine)) (log_of ran.run.events) (bads_then mid.engine.geometry sized) on);
+    flushed = λ is done.
+        let its = h.flushed is done in
+        let mid_bad : (b : ℕ) → b < mid.engine.geometry.blocks → is_bad_by (ram new.engine) b ≡ bad_of mid.engine.geometry.pages (is_bad_by (ram mid.engine)) h.went.log b = λ b lt. bad_now_law (ram mid.engine) (ram new.engine) h.went.log b mid_safe.blocks_of h.went.follows lt in
+        flushed_then (ram old.engine) (ram mid.engine) (ram new.engine) (log_of ran.run.events) h.went.log (image_in flash new.engine) sized most ran.wears mid_bad (bads_then mid.engine.geometry sized) its;
+    stale = λ need e. h.stale (subst (λ (g : Geometry). needs_no_memory (is_some mid.engine.pinned) g (image_in flash mid.engine) x.command ≡ true) (sym sized) need) e;
+    mountable = λ most. mountable_after flash old.engine new new.engine refl (sized' ∙ sized) limits safe' well most;
+  }
+
+  run_more : HasRun (first_of (ram old.engine)) (die_in flash old) (die_in flash new) (done ++ x ∷ [])
+  unfolding event
+  run_more = record {
+    events = ran.run.events ++ event ∷ [];
+    commands = map-append (λ (e : Event). e.command) ran.run.events (event ∷ []) ∙ (ap (λ l. l ++ x.command ∷ []) ran.run.commands ∙ sym (map-append (λ (y : Exchange). y.command) done (x ∷ [])));
+    replies = map-append (λ (e : Event). e.reply) ran.run.events (event ∷ []) ∙ (ap (λ l. l ++ reply_in x ∷ []) ran.run.replies ∙ sym (map-append reply_in done (x ∷ [])));
+    run = one_more_event (die_in flash old) (die_in flash mid) ran.run.events event ran.run.run happens;
+    fair = fair_more (first_of (ram old.engine)) (die_in flash old) (die_in flash mid) [] (log_of ran.run.events) ran.run.events done event x ran.run.fair (last (die_in flash old) (die_in flash mid) ran.run.events ran.run.run) refl fair;
+  }
+
+  log_is : log_of ran.run.events ++ h.went.log ≡ log_of (ran.run.events ++ event ∷ [])
+  unfolding event
+  log_is = sym (logs ran.run.events (event ∷ []) ∙ ap (λ l. log_of ran.run.events ++ l) (append-nil h.went.log))
+
+  pub ran_more : Ran flash old (done ++ x ∷ []) new
+  unfolding run_more
+  ran_more = record {
+    run = run_more;
+    follows = subst (λ l. Follows old.engine.geometry.pages l (ram old.engine).blocks (ram new.engine).blocks) log_is follows;
+    next = next ∙ ap (λ l. old.engine.next + programs_in l) log_is;
+    wears = subst (λ l. Wears l (ram old.engine).blocks (ram new.engine).blocks) log_is wears;
+  }
+
+pub ran_none : {N : Type 0} (flash : N → Flash) (old : Device N) → Ran flash old [] old
+ran_none flash old = record {
+  run = record { events = []; commands = refl; replies = refl; run = refl; fair = tt };
+  follows = record { legal = λ accounts a. tt; accounted = λ accounts a. a };
+  next = omega arith;
+  wears = record { worn = λ b few. omega arith };
+}

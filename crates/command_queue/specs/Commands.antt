@@ -1,0 +1,77 @@
+-- COMMANDS, and what a list of them needs and keeps.
+use Rattle.std.specs.Prelude.{◌≡◌, ℕ, Bool, true, not, ◌&&◌, List, [], length, replicate}
+use Rattle.std.specs.Prelude.{IsSome, Result, OnErr}
+use Rattle.std.specs.Option.{ForSome}
+use Rattle.std.specs.List.{AllByRecursion, AllZip}
+use Rattle.page_layout.specs.declared.geometry.Geometry.{Geometry}
+use Rattle.page_layout.specs.Page.{Image}
+use Rattle.image_check.specs.Stale.{is_stale}
+use Rattle.promises.specs.Step as step
+use Rattle.ftl_device.specs.declared.fault.DeviceFault.{DeviceFault}
+use Rattle.command_queue.specs.declared.command.Command.{Command}
+use Rattle.command_queue.specs.declared.command.Command.TheVariants.{Read, Write, Trim, Flush, Turn}
+use Rattle.command_queue.specs.declared.command.Call.{Call}
+
+-- a command as the promises speak of it
+abbrev pub command_of : Command → step.Command
+command_of (Read sector) = step.Read sector
+command_of (Write sector body) = step.Write sector body.now
+command_of (Trim sector) = step.Trim sector
+command_of Flush = step.Flush
+command_of Turn = step.Turn
+
+-- the command asks for no memory, where a block is pinned or not: it changes no sector, or one that is stale in the image, which is cached where no
+-- block is pinned
+abbrev pub needs_no_memory : (pinned : Bool) → Geometry → Image → step.Command → Bool
+needs_no_memory pinned g image (step.Read sector) = true
+needs_no_memory pinned g image (step.Write sector body) = not pinned && is_stale g image sector
+needs_no_memory pinned g image (step.Trim sector) = not pinned && is_stale g image sector
+needs_no_memory pinned g image step.Flush = true
+needs_no_memory pinned g image step.Turn = true
+
+-- ---- calls
+
+-- a call of a list, once it was answered
+abbrev pub told : Call → step.Command
+told call = command_of call.command
+
+-- the room that a call begins with, for the bytes of a read
+abbrev pub room_for : Geometry → Command → List ℕ
+room_for g (Read sector) = replicate g.data_bytes 0
+room_for g (Write sector body) = []
+room_for g (Trim sector) = []
+room_for g Flush = []
+room_for g Turn = []
+
+-- a read has room for one data area, and a write has the bytes of one
+abbrev pub HasRoom : Geometry → Command → List ℕ → Type 0
+HasRoom g (Read sector) bytes = length bytes ≡ g.data_bytes
+HasRoom g (Write sector body) bytes = length body.now ≡ g.data_bytes
+HasRoom g (Trim sector) bytes = Unit {0}
+HasRoom g Flush bytes = Unit {0}
+HasRoom g Turn bytes = Unit {0}
+
+abbrev pub IsWhole : Geometry → Call → Type 0
+IsWhole g call = HasRoom g call.command call.bytes.items
+
+abbrev pub AreWhole : Geometry → List Call → Type 0
+AreWhole g calls = AllByRecursion (IsWhole g) calls
+
+-- each call was answered
+abbrev pub AreAnswered : List Call → Type 0
+AreAnswered calls = AllByRecursion (λ (c : Call). IsSome c.reply) calls
+
+-- only a read that is done changes its bytes
+abbrev pub KeepsBytes : step.Command → Result (Unit {0}) DeviceFault → List ℕ → List ℕ → Type 0
+KeepsBytes (step.Read sector) result old new = OnErr result (new ≡ old)
+KeepsBytes (step.Write sector body) result old new = new ≡ old
+KeepsBytes (step.Trim sector) result old new = new ≡ old
+KeepsBytes step.Flush result old new = new ≡ old
+KeepsBytes step.Turn result old new = new ≡ old
+
+-- a call before and after it was told
+abbrev pub HasKept : Call → Call → Type 0
+HasKept old new = ForSome new.reply (λ result. KeepsBytes (told new) result old.bytes.items new.bytes.items)
+
+abbrev pub HaveKept : List Call → List Call → Type 0
+HaveKept old new = AllZip HasKept old new

@@ -1,0 +1,4 @@
+pub mod Commands
+pub mod Exchanges
+pub mod Run
+pub mod Told

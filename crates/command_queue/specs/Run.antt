@@ -1,0 +1,73 @@
+-- A RUN OF A DEVICE: commands that it is told one after another, what it answered to each, and what its die held after each.
+use Rattle.std.specs.Prelude.{◌≡◌, ◌≢◌, ◌+◌, ◌≤◌, true, false, List, [], ◌∷◌, ◌++◌, is_some}
+use Rattle.std.specs.Prelude.{Ok, Err}
+use Rattle.page_layout.specs.declared.geometry.Geometry.{Geometry}
+use Rattle.page_layout.specs.Flash.{Flash, Operation}
+use Rattle.certificate.specs.Claim.{Claim}
+use Rattle.image_check.specs.Mountable.{IsMountable}
+use Rattle.promises.specs.Log.{programs_in}
+use Rattle.promises.specs.Legal.{IsLegal}
+use Rattle.promises.specs.Run as runs
+use Rattle.promises.specs.Run.{Event, Run, commands_of, replies_of, log_of}
+use Rattle.collection.specs.Safe.{ram}
+use Rattle.collection.specs.Log.{Follows, Wears}
+use Rattle.ftl_device.specs.declared.device.Device.{Device}
+use Rattle.ftl_device.specs.declared.fault.DeviceFault.{DeviceFault}
+use Rattle.ftl_device.specs.declared.fault.DeviceFault.TheVariants.{ReadOnly, SequenceSpent, OutOfMemory}
+use Rattle.ftl_device.specs.Begin.{is_bad_in, wear_in, free_in, is_scarce}
+use Rattle.ftl_device.specs.Flush.{First, first_of, IsFlushedOut}
+use Rattle.ftl_device.specs.Counts.{is_flush, IsShown, IsLeft}
+use Rattle.command_queue.specs.Commands.{needs_no_memory}
+use Rattle.command_queue.specs.Exchanges.{Exchange, commands_in, replies_in}
+
+-- a device between two commands
+abbrev pub die_in : {N : Type 0} → (N → Flash) → Device N → runs.DeviceView
+die_in flash d = record { flash = flash d.engine.nand; ro = d.read_only; pinned = is_some d.engine.pinned }
+
+-- What is so of each event, where `before` is the log up to it. `ReadOnly` comes in a shortage, with fewer than five free blocks, and has its
+-- counts, and `SequenceSpent` the last sequence, by the image and the one log; a call that leaves the device read-only does so in a shortage,
+-- or is a flush in which two blocks failed; a command that changes no sector took no memory, and so did one whose sector was stale in the image while no block was pinned; and afterwards
+-- the image has a certificate.
+pub record IsFair (first : First) (old : runs.DeviceView) (before : List Operation) (event : Event) (x : Exchange) : Type 0 where
+  pub shown : (fault : DeviceFault) → x.result ≡ Err fault → IsShown first.geometry first.bad first.next before event.piece old.ro event.left.flash.image fault
+  pub left : event.left.ro ≡ true → IsLeft x.command first.geometry first.bad before event.piece old.ro x.result
+  pub stale : needs_no_memory old.pinned first.geometry old.flash.image x.command ≡ true → x.result ≢ Err OutOfMemory
+  pub flushed : is_flush x.command ≡ true → x.result ≡ Ok tt → IsFlushedOut first (before ++ event.piece) event.left.flash.image
+  pub mountable : first.capacity + first.geometry.pages ≤ 65536 → IsMountable first.geometry (first.capacity + first.geometry.pages) event.left.flash.image
+
+-- and so of all of them, each with the log up to it
+abbrev pub AreFair : First → runs.DeviceView → List Operation → List Event → List Exchange → Type 0
+AreFair first old before [] [] = Unit {0}
+AreFair first old before [] (x ∷ xs) = ⊥
+AreFair first old before (event ∷ events) [] = ⊥
+AreFair first old before (event ∷ events) (x ∷ xs) = IsFair first old before event x × AreFair first event.left (before ++ event.piece) events xs
+
+-- THE RUN: its commands are those that were told, its replies those that were answered; each piece of the log leads from one image to the
+-- next, each reply is a step from the one array to the next, and each event is fair.
+pub record HasRun (first : First) (old new : runs.DeviceView) (xs : List Exchange) : Type 0 where
+  pub events : List Event
+  pub commands : commands_of events ≡ commands_in xs
+  pub replies : replies_of events ≡ replies_in xs
+  pub run : Run old events new
+  pub fair : AreFair first old [] events xs
+
+-- a run from a device as it is: its log is legal by accounts that agree with the memory, it leaves such accounts, and each program in it
+-- took the next sequence
+pub record Ran {N : Type 0} (flash : N → Flash) (old : Device N) (xs : List Exchange) (new : Device N) : Type 0 where
+  pub run : HasRun (first_of (ram old.engine)) (die_in flash old) (die_in flash new) xs
+  pub follows : Follows old.engine.geometry.pages (log_of run.events) (ram old.engine).blocks (ram new.engine).blocks
+  pub next : new.engine.next ≡ old.engine.next + programs_in (log_of run.events)
+  pub wears : Wears (log_of run.events) (ram old.engine).blocks (ram new.engine).blocks
+
+-- a run from an accepted certificate: it begins with the image that was accepted, read-only just where fewer than five blocks are free in
+-- it; the log is legal for that image and the certificate's bad blocks
+abbrev pub accepted_first : Geometry → Claim → First
+accepted_first g c = record { geometry = g; capacity = c.capacity; bad = is_bad_in c; wear = wear_in c; next = c.next }
+
+abbrev pub accepted_device : Flash → Claim → runs.DeviceView
+accepted_device s c = record { flash = s; ro = is_scarce (free_in s.geometry c s.image); pinned = false }
+
+pub record RanFrom {N : Type 0} (flash : N → Flash) (s : Flash) (c : Claim) (xs : List Exchange) (new : Device N) : Type 0 where
+  pub run : HasRun (accepted_first s.geometry c) (accepted_device s c) (die_in flash new) xs
+  pub legal : IsLegal s.geometry s.image (is_bad_in c) (log_of run.events)
+  pub next : new.engine.next ≡ c.next + programs_in (log_of run.events)

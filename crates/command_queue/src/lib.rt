@@ -1,0 +1,8 @@
+//! Commands for a device, one after another: what a list of them is answered, and what the die holds after each.
+#![tactic(auto)]
+
+mod command;
+mod queue;
+
+pub use command::{Call, Command};
+pub use queue::{run, run_accepted, tell};

@@ -1,0 +1,128 @@
+//! Commands, told to a device one after another.
+ghost use Rattle.std.specs.Prelude.{◌≡◌, ◌≢◌, ◌≤◌, ◌⊎◌, true, map, None, Some, Err, IfOk, IfErr, OnOk, OnErr};
+ghost use Rattle.std.specs.Option.{ForSome};
+ghost use Rattle.page_layout.specs.Counter.{HasRisen};
+ghost use Rattle.mapping_cache.specs.Mapping.{HasLimitsOf};
+ghost use Rattle.certificate.specs.Claim.{sizes_of};
+ghost use Rattle.ftl_device.specs.Device.{IsDevice};
+ghost use Rattle.ftl_device.specs.Calls.{stop_of, IsWell};
+ghost use Rattle.command_queue.specs.Commands.{command_of, told, HasRoom, AreWhole, AreAnswered};
+ghost use Rattle.command_queue.specs.Exchanges.{exchanges_of, AreKnown};
+ghost use Rattle.command_queue.specs.Commands.{KeepsBytes, HaveKept};
+ghost use Rattle.command_queue.specs.Exchanges.{Stops, StaysStopped};
+ghost use Rattle.command_queue.specs.Told.{Happened, Tells, WasTold, Until, RunsFrom};
+
+use crate::command::{Call, Command};
+use ftl_device::{Device, DeviceFault, StartFault};
+use image_check::Accepted;
+use onfi_cycles::Nand;
+use std::alloc::Global;
+
+/// Tells the device one command: a read that is done gives its bytes, and no other command changes
+/// them. It does what `read`, `write`, `trim`, `flush` and `turn` do, and says of each what a list
+/// of commands needs.
+///
+/// # Errors
+///
+/// Those of the command. (This project.)
+pub fn tell<N: Nand>(
+    device: &mut Device<N>,
+    command: Command<'_>,
+    bytes: &mut [u8],
+) -> Result<(), DeviceFault>
+    requires device { IsDevice N.flash device.old }
+    requires room { HasRoom device.old.engine.geometry command bytes.old }
+    ensures device { IsDevice N.flash device.new }
+    ensures geometry { device.new.engine.geometry ≡ device.old.engine.geometry }
+    ensures limits { HasLimitsOf device.old.engine.mapping device.new.engine.mapping }
+    ensures honest { N.honest device.new.engine.nand ≡ N.honest device.old.engine.nand }
+    ensures calm { N.calm device.new.engine.nand ≡ N.calm device.old.engine.nand }
+    ensures room { HasRoom device.old.engine.geometry command.entry bytes.new }
+    ensures failed { N.failed device.old.engine.nand ≤ N.failed device.new.engine.nand }
+    ensures kept { KeepsBytes (command_of command.entry) result bytes.old bytes.new }
+    ensures stopped { ForSome (stop_of device.old.engine.fault) (λ fault. (result ≡ Err fault) × (device.new ≡ device.old)) }
+    ensures stops { IfErr result (λ fault. Stops (command_of command.entry) fault → stop_of device.new.engine.fault ≡ Some fault) }
+    ensures standing { ForSome (stop_of device.new.engine.fault) (λ fault. result ≡ Err fault) }
+    ensures rose { stop_of device.old.engine.fault ≡ None → result ≡ Err DeviceFault.BusFault →
+        HasRisen (N.failed device.old.engine.nand) (N.failed device.new.engine.nand) }
+    ensures well { N.honest device.old.engine.nand ≡ true → IsWell N.flash device.old → result ≢ Err DeviceFault.BusFault →
+        IsWell N.flash device.new }
+    ensures happened { N.honest device.old.engine.nand ≡ true → IsWell N.flash device.old → result ≢ Err DeviceFault.BusFault →
+        Happened N.flash device.old (record { command = command_of command.entry; result = result; bytes = bytes.new }) device.new }
+{
+    match command {
+        Command::Read { sector } => device.read(sector, bytes),
+        Command::Write { sector, body } => device.write(sector, body),
+        Command::Trim { sector } => device.trim(sector),
+        Command::Flush => device.flush(),
+        Command::Turn => device.turn(),
+    }
+}
+
+/// Tells the device a list of commands, one after another, and puts its answer to each. A read
+/// that is done has the sector's bytes; all other bytes and the commands stay as they are. It
+/// takes no memory of its own. A device that was stopped answers its fault to all that is left:
+/// `BusFault` stops it, and `Damaged` after a write or trim.
+///
+/// Where the die is honest, the answers before the first `BusFault` are a run of the array that
+/// the die's image holds as it begins: each answer is the array's, the image holds the array after
+/// each, the log of it all is legal, none is `Damaged`, and each `ReadOnly` has fewer than five
+/// free blocks and its counts by the image and that log. The call in which the bus failed and all
+/// after it answer `BusFault`, and those after it change nothing. To a device that wasn't stopped
+/// it comes only where the die's count of failures rose in that call or stands at 2^64 - 1.
+///
+/// (This project.)
+pub fn run<N: Nand>(device: &mut Device<N>, calls: &mut [Call<'_>])
+    requires device { IsDevice N.flash device.old }
+    requires whole { AreWhole device.old.engine.geometry calls.old }
+    ensures calm { N.calm device.new.engine.nand ≡ N.calm device.old.engine.nand }
+    ensures told { WasTold N.flash N.honest N.failed device.old (exchanges_of calls.new) device.new }
+    ensures whole { AreWhole device.old.engine.geometry calls.new }
+    ensures commands { map told calls.new ≡ map told calls.old }
+    ensures answered { AreAnswered calls.new }
+    ensures kept { HaveKept calls.old calls.new }
+{
+    for call in calls.iter_mut() {
+        call.reply = Some(tell(device, call.command, &mut call.bytes));
+    }
+}
+
+/// Starts a device over a die whose image a checker accepted, and tells it a list of commands, as
+/// `start` and `run` do.
+///
+/// Where the die is honest and the certificate was accepted for its image, the answers before the
+/// first `BusFault` are a run of the array that this image holds; the log of it all is legal for
+/// this image and the certificate's bad blocks, none is `Damaged`, and each `ReadOnly` has fewer
+/// than five free blocks and its counts by the image and that log. All answers from the first
+/// `BusFault` on are that fault, as `run` says. With none, `read_only` is the run's as it ends.
+///
+/// # Errors
+///
+/// `OutOfMemory` alone, where a growth was refused before the first command: the die and the
+/// certificate come back, and no command was told. (This project.)
+pub fn run_accepted<'a, N: Nand>(
+    alloc: Global,
+    nand: N,
+    accepted: Accepted<'a>,
+    calls: &mut [Call<'_>],
+) -> Result<Device<N>, StartFault<'a, N>>
+    requires same_geometry { sizes_of (N.flash nand).geometry ≡ accepted.claim.sizes }
+    requires whole { AreWhole (N.flash nand).geometry calls.old }
+    ensures device { IfOk result (IsDevice N.flash) }
+    ensures commands { map told calls.new ≡ map told calls.old }
+    ensures answered { OnOk result (AreAnswered calls.new) }
+    ensures kept { OnOk result (HaveKept calls.old calls.new) }
+    ensures calm { IfOk result (λ d. N.calm d.engine.nand ≡ N.calm nand) }
+    ensures failed { IfOk result (λ d. N.failed nand ≤ N.failed d.engine.nand) }
+    ensures stays { OnOk result (StaysStopped (exchanges_of calls.new)) }
+    ensures rose { IfOk result (λ d. AreKnown (exchanges_of calls.new) ⊎ HasRisen (N.failed nand) (N.failed d.engine.nand)) }
+
+    // Up to the first fault of the bus.
+    ensures until { IfOk result (Until (RunsFrom N.flash N.honest nand accepted.entry) (Tells N.flash N.honest N.failed) (exchanges_of calls.new)) }
+    ensures fault { IfErr result (λ fault. fault ≡ StartFault.OutOfMemory nand accepted.entry) }
+    ensures untold { OnErr result (calls.new ≡ calls.old) }
+{
+    let mut device = Device::start(alloc, nand, accepted)?;
+    run(&mut device, calls);
+    Ok(device)
+}
