@@ -1,7 +1,10 @@
 -- The parts of a line, one after another.
-use Rattle.std.proofs.Common.{◌≡◌, ◌+◌, ◌++◌, ◌∷◌, [], ℕ, zero, suc, List, Option, None, Some, take, drop, ap, sym, subst, ◌∙◌, add-one, append-nil, append_assoc}
+use Rattle.std.proofs.Common.{◌≡◌, ◌<◌, ◌+◌, ◌++◌, ◌∷◌, [], ℕ, zero, suc, List, Option, None, Some, Bor, get_or, length, take, drop, ap, sym, subst, ◌∙◌, add-one, append-nil, append_assoc}
 use Rattle.std.specs.Prelude.{slice_get}
 use Rattle.std.specs.List.{concat}
+use Rattle.std.specs.Option.{option_map}
+use Rattle.std.proofs.lemmas.Option.{slice_get-get_or, slice_get-map}
+use Rattle.command_words.specs.Words.{texts}
 use Rattle.std.specs.Io.KnownBytes.{Appends}
 use Rattle.std.proofs.KnownBytes.{Appends-trans}
 use Rattle.request_stream.specs.Frames.{AppendsFront}
@@ -30,3 +33,8 @@ sent_stop b m a xs k x is first (sent, more, split, second) =
     let behind = concat (drop (suc k) xs) in
     let inner : sent ++ (more ++ behind) ≡ x ++ behind = sym (append_assoc sent more behind) ∙ ap (λ l. l ++ behind) split in
     (before ++ sent, more ++ behind, append_assoc before sent (more ++ behind) ∙ ap (λ l. before ++ l) inner ∙ sym (concat_at xs k x is), Appends-trans b m a before sent first second)
+
+-- the part at a place
+pub part_at : (parts : List (Bor (List ℕ))) (k : ℕ) (x : List ℕ) (d : Bor (List ℕ)) → k < length parts → x ≡ (get_or parts k d).now → slice_get (texts parts) k ≡ Some x
+part_at parts k x d within is =
+    slice_get-map (λ (word : Bor (List ℕ)). word.now) parts k ∙ (ap (option_map (λ (word : Bor (List ℕ)). word.now)) (slice_get-get_or parts k d within) ∙ ap Some (sym is))

@@ -60,9 +60,17 @@ returns-in-Err-Write-clause-does g c =
       whole = ap length (sym c.deref.ensures.value) ∙ c.in-Ok.ensures.accepted.0 refl;
     } in
     let P : PrintFault → Type 0 = λ f. IsUnprinted (sector_line c.in-Ok.image.flash.geometry c.in-Ok.image.flash.image c.in_ok-sector.sector) f (g.W.Write.contents c.args.out.now) (g.W.Write.contents c.print_sector.new.out) in
-    let Q : PrintFault → Type 0 = λ f. IsPrintFault c.in-Ok.image.flash.geometry c.in-Ok.image.flash.image c.in_ok-sector.sector f in
-    (refl, (geometry, c.in_ok-sector.sector, bytes, image, readable_in c.in-Ok.image.flash geometry c.deref.result.now bytes c.in_ok-sector.sector c.in-Ok.ensures.image c.deref.ensures.value (subst Q c.in-Err-Write.field-0-is c.in-Err-Write.ensures.fault),
-    front_in c.in-Ok.image.flash geometry c.deref.result.now bytes c.in_ok-sector.sector _ _ c.in-Ok.ensures.image c.deref.ensures.value (subst P c.in-Err-Write.field-0-is c.in-Err-Write.ensures.unprinted)))
+    let Q : PrintFault → Type 0 = λ f. IsPrintFault c.in-Ok.image.flash.geometry c.in-Ok.image.flash.image c.in_ok-sector.sector f in (
+      refl,
+      (
+        geometry,
+        c.in_ok-sector.sector,
+        bytes,
+        image,
+        readable_in c.in-Ok.image.flash geometry c.deref.result.now bytes c.in_ok-sector.sector c.in-Ok.ensures.image c.deref.ensures.value (subst Q c.in-Err-Write.field-0-is c.in-Err-Write.ensures.fault),
+        front_in c.in-Ok.image.flash geometry c.deref.result.now bytes c.in_ok-sector.sector _ _ c.in-Ok.ensures.image c.deref.ensures.value (subst P c.in-Err-Write.field-0-is c.in-Err-Write.ensures.unprinted),
+      ),
+    )
 
 pub returns-clause-does : goal.returns-clause-does
 returns-clause-does g c =
