@@ -1,5 +1,5 @@
 -- From what a step of `check` came to, to what the command came to.
-use Rattle.std.proofs.Common.{◌≡◌, ℕ, ◌∷◌, [], ◌++◌, codes, List, Option, Some, None, IfSome, Result, Ok, Err, OnOk, IfErr, ◌⊎◌, inl, inr, subst, sym, arith}
+use Rattle.std.proofs.Common.{◌≡◌, ℕ, Bool, List, Option, Some, None, IfSome, Result, Ok, Err, OnOk, IfErr, ◌⊎◌, inl, inr, subst, sym, arith}
 use Rattle.std.specs.Io.KnownBytes.{Appends, Keeps}
 use Rattle.page_layout.specs.declared.geometry.Geometry.{Geometry}
 use Rattle.page_layout.specs.Counter.{HasRisen}
@@ -18,7 +18,8 @@ use Rattle.commands.specs.declared.text.CommandFault.TheVariants as fault
 use Rattle.command_words.specs.declared.words.CertificateWords.{CertificateWords}
 use Rattle.commands.specs.Files.{Gives}
 use Rattle.commands.specs.Inputs.{IsUnread}
-use Rattle.commands.specs.Check.{DoesCheck, HasFiles, IsCheckFault, IsHeld, IsKept, IsSpelled, IsToldAs, IsUnheld, IsUnprinted, IsWhole}
+use Rattle.commands.specs.Check.{Accepts, DoesCheck, HasFiles, IsCheckFault, IsHeld, IsKept, IsSpelled, IsToldAs, IsUnheld, IsWhole, accepted_line}
+use Rattle.commands.specs.Lines.{IsUnprinted}
 
 -- a count of failures that stays at none did not rise
 pub unrisen : HasRisen 0 0 → ⊥
@@ -37,20 +38,36 @@ kept (fault.Write path) before after keeps = tt
 kept _ before after keeps = keeps
 
 -- a step before the printing that ended the command
-pub stops : (gives : Gives) (words : CertificateWords) (before after : Option (List ℕ)) (result : Result (Unit {0}) CommandFault) (stop : CommandFault)
-    → result ≡ Err stop → Keeps before after → IsCheckFault gives words stop → DoesCheck gives words before after result
-stops gives words before after result stop is keeps because =
-    let P : Result (Unit {0}) CommandFault → Type 0 = λ r. DoesCheck gives words before after r in
+pub stops : (gives : Gives) (tells : Bool) (words : CertificateWords) (before after : Option (List ℕ)) (result : Result (Unit {0}) CommandFault) (stop : CommandFault)
+    → result ≡ Err stop → Keeps before after → IsCheckFault gives tells words before after stop → DoesCheck gives tells words before after result
+stops gives tells words before after result stop is keeps because =
+    let P : Result (Unit {0}) CommandFault → Type 0 = λ r. DoesCheck gives tells words before after r in
     subst P (sym is) (kept stop before after keeps, because)
 
--- the printing, after all that came before it
-pub prints : (gives : Gives) (words : CertificateWords) (g : Geometry) (capacity : ℕ) (known : Option (List ℕ)) (written : List ℕ) (c : Claim) (before after : Option (List ℕ)) (result : Result (Unit {0}) CommandFault)
-    → HasFiles gives words g capacity known written → IsSpelled c written → IfSome known (λ bytes. IsHeld g capacity bytes c)
-    → OnOk result (Appends before after (codes "accepted" ++ (10 ∷ []))) → IfErr result IsUnprinted → DoesCheck gives words before after result
-prints gives words g capacity known written c before after (Ok done) files spelled held ok failed = (g, capacity, known, written, c, files, spelled, held, ok)
-prints gives words g capacity known written c before after (Err stop) files spelled held ok failed = (unkept stop failed, inr (inr (inr (inr (inr (g, capacity, known, written, c, files, spelled, held, failed))))))
+-- a certificate that was not held
+pub unheld_accepts : (g : Geometry) (capacity : ℕ) (path : List ℕ) (known : Option (List ℕ)) (c : Claim) (before after : Option (List ℕ)) (result : Result (Unit {0}) CommandFault) (stop : CommandFault)
+    → result ≡ Err stop → Keeps before after → IsUnheld g capacity path known c stop → Accepts g capacity path known c before after result
+unheld_accepts g capacity path known c before after result stop is keeps un =
+    let P : Result (Unit {0}) CommandFault → Type 0 = λ r. Accepts g capacity path known c before after r in
+    subst P (sym is) (inl (keeps, un))
+
+-- one that was, and then was printed or not
+pub held_accepts : (g : Geometry) (capacity : ℕ) (path : List ℕ) (known : Option (List ℕ)) (c : Claim) (before after : Option (List ℕ)) (result : Result (Unit {0}) CommandFault)
+    → IfSome known (λ bytes. IsHeld g capacity bytes c) → OnOk result (Appends before after accepted_line) → IfErr result (IsUnprinted accepted_line before after)
+    → Accepts g capacity path known c before after result
+held_accepts g capacity path known c before after (Ok done) held told un = (held, told)
+held_accepts g capacity path known c before after (Err stop) held told un = inr (held, un)
+
+-- after all that came before it
+pub accepted_does : (gives : Gives) (tells : Bool) (words : CertificateWords) (g : Geometry) (capacity : ℕ) (known : Option (List ℕ)) (written : List ℕ) (c : Claim) (before after : Option (List ℕ)) (result : Result (Unit {0}) CommandFault)
+    → HasFiles gives tells words g capacity known written → IsSpelled c written → Accepts g capacity words.image.now known c before after result → DoesCheck gives tells words before after result
+accepted_does gives tells words g capacity known written c before after (Ok done) files spelled accepts = (g, capacity, known, written, c, files, spelled, accepts.0, accepts.1)
+accepted_does gives tells words g capacity known written c before after (Err stop) files spelled (inl unheld) =
+    (kept stop before after unheld.0, inr (inr (inr (inr (inl (g, capacity, known, written, c, files, spelled, unheld.1))))))
+accepted_does gives tells words g capacity known written c before after (Err stop) files spelled (inr unprinted) =
+    (unkept stop unprinted.1, inr (inr (inr (inr (inr (g, capacity, known, written, c, files, spelled, unprinted.0, unprinted.1))))))
   where
-    unkept : (stop : CommandFault) → IsUnprinted stop → IsKept stop before after
+    unkept : (stop : CommandFault) → IsUnprinted accepted_line before after stop → IsKept stop before after
     unkept (fault.Write path) is = tt
     unkept _ is = absurd is
 

@@ -1,7 +1,8 @@
 -- From what a step of a command came to, to what the command came to.
-use Rattle.std.proofs.Common.{ℕ, List, Option, Result, Ok, Err, inl, inr}
+use Rattle.std.proofs.Common.{ℕ, Bool, List, Option, Result, Ok, Err, OnOk, IfErr, inl, inr}
 use Rattle.std.specs.Io.KnownBytes.{Keeps}
 use Rattle.page_layout.specs.declared.geometry.Geometry.{Geometry}
+use Rattle.page_layout.specs.Raw.{raw_image}
 use Rattle.commands.specs.declared.text.CommandFault.{CommandFault}
 use Rattle.commands.specs.declared.text.CommandFault.TheVariants as fault
 use Rattle.command_words.specs.declared.words.Order.{Order}
@@ -15,8 +16,8 @@ use Rattle.commands.specs.Serve.{DoesServe, IsUnstarted}
 use Rattle.commands.specs.Commands.{Does, Obeys}
 use Rattle.commands.specs.Files.{Gives, Left, Leaves}
 use Rattle.commands.specs.Inputs.{IsUnread}
-use Rattle.commands.specs.Sector.{DoesSector, AsksForNumber}
-use Rattle.commands.specs.Show.{DoesShow}
+use Rattle.commands.specs.Sector.{DoesSector, AsksForNumber, HasImage}
+use Rattle.commands.specs.Show.{DoesShow, IsUnshown, Shows}
 use Rattle.command_words.specs.Words.{IsOrder}
 
 -- a file that was not read ends the command
@@ -32,14 +33,23 @@ unread_shows gives words g n before after (fault.Read path) asked keeps unread =
 unread_shows gives words g n before after fault.OutOfMemory asked keeps unread = (keeps, (g, n, asked, unread))
 unread_shows gives words g n before after _ asked keeps unread = absurd unread
 
+-- what became of the page of a row
+pub shown_does : (gives : Gives) (words : ImageWords) (g : Geometry) (n : ℕ) (bytes : List ℕ) (before after : Option (List ℕ)) (result : Result (Unit {0}) CommandFault)
+    → HasImage gives words g n bytes → OnOk result (Shows g (raw_image g bytes) n before after) → IfErr result (IsUnshown g (raw_image g bytes) n before after)
+    → DoesShow gives words before after result
+shown_does gives words g n bytes before after (Ok done) image shown unshown = (g, n, bytes, image, shown)
+shown_does gives words g n bytes before after (Err fault.RowRange) image shown unshown = (g, n, bytes, image, unshown)
+shown_does gives words g n bytes before after (Err (fault.Write path)) image shown unshown = (g, n, bytes, image, unshown)
+shown_does gives words g n bytes before after (Err _) image shown unshown = absurd unshown
+
 -- words that are an order are never called no command
-check_is_command : (gives : Gives) (words : CertificateWords) → IsCheckFault gives words fault.NoSuchCommand → ⊥
-check_is_command gives words (inl unasked) = unasked
-check_is_command gives words (inr (inl unread)) = unread.3
-check_is_command gives words (inr (inr (inl unread))) = unread.5
-check_is_command gives words (inr (inr (inr (inl broken)))) = broken.5
-check_is_command gives words (inr (inr (inr (inr (inl unheld))))) = unheld.7
-check_is_command gives words (inr (inr (inr (inr (inr unprinted))))) = unprinted.8
+check_is_command : (gives : Gives) (tells : Bool) (words : CertificateWords) (before after : Option (List ℕ)) → IsCheckFault gives tells words before after fault.NoSuchCommand → ⊥
+check_is_command gives tells words before after (inl unasked) = unasked
+check_is_command gives tells words before after (inr (inl unread)) = unread.3
+check_is_command gives tells words before after (inr (inr (inl unread))) = unread.5
+check_is_command gives tells words before after (inr (inr (inr (inl broken)))) = broken.5
+check_is_command gives tells words before after (inr (inr (inr (inr (inl unheld))))) = unheld.7
+check_is_command gives tells words before after (inr (inr (inr (inr (inr unprinted))))) = unprinted.8
 
 mount_is_command : (gives : Gives) (words : CertificateWords) (before after : Left) → DoesMount gives words before after (Err fault.NoSuchCommand) → ⊥
 mount_is_command gives words before after (inl (leaves, inl unasked)) = unasked
@@ -66,19 +76,19 @@ serve_is_command gives words unread left before after (inl none) = unstarted non
 serve_is_command gives words unread left before after (inr ran) = ran.ends
 
 -- what the order of the words came to, the words came to
-pub order_obeys : (gives : Gives) (words : List (List ℕ)) (unread left : Option (List ℕ)) (before after : Left) (result : Result (Unit {0}) CommandFault) (asked : Order)
-    → IsOrder words asked → Does gives asked unread left before after result → Obeys gives words unread left before after result
-order_obeys gives words unread left before after (Ok done) asked is does = (asked, is, does)
-order_obeys gives words unread left before after (Err fault.NoSuchCommand) (order.Sector w) is does = absurd does.0
-order_obeys gives words unread left before after (Err fault.NoSuchCommand) (order.Show w) is does = absurd does.0
-order_obeys gives words unread left before after (Err fault.NoSuchCommand) (order.Format w) is does = absurd does
-order_obeys gives words unread left before after (Err fault.NoSuchCommand) (order.Check w) is does = absurd (check_is_command gives w does.0.1)
-order_obeys gives words unread left before after (Err fault.NoSuchCommand) (order.Mount w) is does = absurd (mount_is_command gives w before after does)
-order_obeys gives words unread left before after (Err fault.NoSuchCommand) (order.Serve w) is does = absurd (serve_is_command gives w unread left before after does)
-order_obeys gives words unread left before after (Err fault.OutOfMemory) (order.Sector w) is does = inl (does.1, does.0.0)
-order_obeys gives words unread left before after (Err fault.OutOfMemory) (order.Show w) is does = inl (does.1, does.0.0)
-order_obeys gives words unread left before after (Err fault.OutOfMemory) (order.Format w) is does = inl does.0
-order_obeys gives words unread left before after (Err fault.OutOfMemory) (order.Check w) is does = inl (does.1, does.0.0)
-order_obeys gives words unread left before after (Err fault.OutOfMemory) (order.Mount w) is does = inl (mount_leaves gives w before after does)
-order_obeys gives words unread left before after (Err fault.OutOfMemory) (order.Serve w) is does = inr (order.Serve w, is, does)
-order_obeys gives words unread left before after (Err _) asked is does = (asked, is, does)
+pub order_obeys : (gives : Gives) (tells : Bool) (words : List (List ℕ)) (unread left : Option (List ℕ)) (before after : Left) (result : Result (Unit {0}) CommandFault) (asked : Order)
+    → IsOrder words asked → Does gives tells asked unread left before after result → Obeys gives tells words unread left before after result
+order_obeys gives tells words unread left before after (Ok done) asked is does = (asked, is, does)
+order_obeys gives tells words unread left before after (Err fault.NoSuchCommand) (order.Sector w) is does = absurd does.0
+order_obeys gives tells words unread left before after (Err fault.NoSuchCommand) (order.Show w) is does = absurd does.0
+order_obeys gives tells words unread left before after (Err fault.NoSuchCommand) (order.Format w) is does = absurd does
+order_obeys gives tells words unread left before after (Err fault.NoSuchCommand) (order.Check w) is does = absurd (check_is_command gives tells w before.out after.out does.0.1)
+order_obeys gives tells words unread left before after (Err fault.NoSuchCommand) (order.Mount w) is does = absurd (mount_is_command gives w before after does)
+order_obeys gives tells words unread left before after (Err fault.NoSuchCommand) (order.Serve w) is does = absurd (serve_is_command gives w unread left before after does)
+order_obeys gives tells words unread left before after (Err fault.OutOfMemory) (order.Sector w) is does = inl (does.1, does.0.0)
+order_obeys gives tells words unread left before after (Err fault.OutOfMemory) (order.Show w) is does = inl (does.1, does.0.0)
+order_obeys gives tells words unread left before after (Err fault.OutOfMemory) (order.Format w) is does = inl does.0
+order_obeys gives tells words unread left before after (Err fault.OutOfMemory) (order.Check w) is does = inl (does.1, does.0.0)
+order_obeys gives tells words unread left before after (Err fault.OutOfMemory) (order.Mount w) is does = inl (mount_leaves gives w before after does)
+order_obeys gives tells words unread left before after (Err fault.OutOfMemory) (order.Serve w) is does = inr (order.Serve w, is, does)
+order_obeys gives tells words unread left before after (Err _) asked is does = (asked, is, does)

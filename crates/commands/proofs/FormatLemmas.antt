@@ -1,6 +1,6 @@
 -- From what the format of a die came to, to what became of its image.
-use Rattle.std.proofs.Common.{◌≡◌, ◌++◌, drop, take, ℕ, ◌≤◌, ◌*◌, List, [], length, Err, inl, inr, refl, ap, arith, sym, subst, ◌∙◌}
-use Rattle.std.specs.Io.KnownBytes.{Keeps}
+use Rattle.std.proofs.Common.{◌≡◌, ◌++◌, drop, take, ℕ, ◌≤◌, ◌*◌, List, [], length, Ok, Err, OnOk, IfErr, Result, inl, inr, refl, ap, arith, sym, subst, ◌∙◌}
+use Rattle.std.specs.Io.KnownBytes.{Appends, Keeps}
 use lib.Seq.{take-append_seam}
 use Rattle.page_layout.specs.declared.geometry.Geometry.{Geometry}
 use Rattle.page_layout.specs.Counter.{HasRisen}
@@ -14,9 +14,10 @@ use Rattle.mount.specs.Formatted.{Formats, IsFormatted}
 use Rattle.commands.specs.declared.text.CommandFault.{CommandFault}
 use Rattle.commands.specs.declared.text.CommandFault.TheVariants as fault
 use Rattle.command_words.specs.declared.words.FileWords.{FileWords}
-use Rattle.commands.specs.Files.{Gives, Left, Leaves, IsUnstored}
+use Rattle.commands.specs.Files.{Gives, Left, Leaves, IsUnstored, with_store, written}
+use Rattle.commands.specs.Lines.{IsUnprinted}
 use Rattle.commands.specs.Inputs.{IsUnread}
-use Rattle.commands.specs.Format.{DoesFormat, HasFormatted, HasInput, IsFormattedImage, IsGeometry, IsRefused, IsUnformatted}
+use Rattle.commands.specs.Format.{DoesFormat, HasFormatted, HasInput, IsFormattedImage, IsGeometry, IsRefused, IsUnformatted, good_line}
 
 -- the die that came back holds the image of the one that was formatted
 pub formatted_image : (g : Geometry) (before after : List ℕ) (good : ℕ) (old new back : Flash) → length before ≡ row_count g * page_bytes g
@@ -85,3 +86,11 @@ pub unstored_formats : (gives : Gives) (words : FileWords) (bytes : List ℕ) (g
 unstored_formats gives words bytes good before after (fault.Write path) has keeps un = (bytes, good, has, inl (un.0, un.1, keeps))
 unstored_formats gives words bytes good before after fault.OutOfMemory has keeps un = ((un, keeps), inr (bytes, good, has))
 unstored_formats gives words bytes good before after _ has keeps un = absurd un
+
+-- the line was printed, or not, after the store
+pub printed_formats : (gives : Gives) (words : FileWords) (bytes : List ℕ) (good : ℕ) (before after : Left) (result : Result (Unit {0}) CommandFault)
+    → HasFormatted gives words bytes good → after.stores ≡ with_store before.stores (written words.output.now bytes)
+    → OnOk result (Appends before.out after.out (good_line good)) → IfErr result (IsUnprinted (good_line good) before.out after.out) → DoesFormat gives words before after result
+printed_formats gives words bytes good before after (Ok done) has stored told un = (bytes, good, has, stored, told)
+printed_formats gives words bytes good before after (Err (fault.Write path)) has stored told un = (bytes, good, has, inr (un.0, stored, un.1))
+printed_formats gives words bytes good before after (Err _) has stored told un = absurd un

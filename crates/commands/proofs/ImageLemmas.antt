@@ -1,13 +1,20 @@
 -- What holds of the slice of a file's bytes holds of the image that they are.
-use Rattle.std.proofs.Common.{◌≡◌, ℕ, ◌<◌, ◌≤◌, List, Option, subst, ap, ◌∙◌}
+use Rattle.std.proofs.Common.{◌≡◌, ◌<◌, ℕ, List, Option, Some, Result, Ok, Err, OnOk, IfErr, subst, ap, ◌∙◌}
+use Rattle.std.specs.Prelude.{slice_get}
 use Rattle.std.specs.Io.KnownBytes.{Appends}
 use Rattle.page_layout.specs.declared.geometry.Geometry.{Geometry}
-use Rattle.page_layout.specs.Geometry.{row_count}
 use Rattle.page_layout.specs.Flash.{Flash}
 use Rattle.page_layout.specs.Raw.{raw_image, still}
 use Rattle.image_check.specs.declared.scan.SectorFault.{SectorFault}
 use Rattle.commands.specs.Sector.{IsReadable, IsUnreadable, sector_line}
-use Rattle.commands.specs.Show.{Shows}
+use Rattle.commands.specs.Show.{IsUnshown, Shows, shown_line, shown_of}
+use Rattle.commands.specs.declared.show.Shown.{Shown}
+use Rattle.commands.specs.declared.text.CommandFault.TheVariants as fault
+use Rattle.commands.specs.Lines.{IsUnprinted}
+use Rattle.page_layout.specs.Page.{Image, Page}
+use Rattle.page_layout.specs.Geometry.{row_count}
+use Rattle.commands.specs.declared.text.CommandFault.{CommandFault}
+use Rattle.request_stream.specs.Frames.{AppendsFront}
 
 flash_is : (flash : Flash) (g : Geometry) (all bytes : List ℕ) → flash ≡ still g (raw_image g all) → all ≡ bytes → flash ≡ still g (raw_image g bytes)
 flash_is flash g all bytes is same = is ∙ ap (λ l. still g (raw_image g l)) same
@@ -22,11 +29,29 @@ pub line_in : (flash : Flash) (g : Geometry) (all bytes : List ℕ) (n : ℕ) (b
     → Appends before after (sector_line flash.geometry flash.image n) → Appends before after (sector_line g (raw_image g bytes) n)
 line_in flash g all bytes n before after is same = let P : Flash → Type 0 = λ f. Appends before after (sector_line f.geometry f.image n) in subst P (flash_is flash g all bytes is same)
 
-pub in_rows : (flash : Flash) (g : Geometry) (all bytes : List ℕ) (n : ℕ) → flash ≡ still g (raw_image g all) → all ≡ bytes → n < row_count flash.geometry → n < row_count g
-in_rows flash g all bytes n is same = let P : Flash → Type 0 = λ f. n < row_count f.geometry in subst P (flash_is flash g all bytes is same)
+-- what is said of a writer that failed
+pub front_in : (flash : Flash) (g : Geometry) (all bytes : List ℕ) (n : ℕ) (before after : Option (List ℕ)) → flash ≡ still g (raw_image g all) → all ≡ bytes
+    → AppendsFront before after (sector_line flash.geometry flash.image n) → AppendsFront before after (sector_line g (raw_image g bytes) n)
+front_in flash g all bytes n before after is same = let P : Flash → Type 0 = λ f. AppendsFront before after (sector_line f.geometry f.image n) in subst P (flash_is flash g all bytes is same)
 
-pub past_rows : (flash : Flash) (g : Geometry) (all bytes : List ℕ) (n : ℕ) → flash ≡ still g (raw_image g all) → all ≡ bytes → row_count flash.geometry ≤ n → row_count g ≤ n
-past_rows flash g all bytes n is same = let P : Flash → Type 0 = λ f. row_count f.geometry ≤ n in subst P (flash_is flash g all bytes is same)
+pub shows_in : (flash : Flash) (g : Geometry) (all bytes : List ℕ) (n : ℕ) (before after : Option (List ℕ)) (r : Result (Unit {0}) CommandFault) → flash ≡ still g (raw_image g all) → all ≡ bytes
+    → OnOk r (Shows flash.geometry flash.image n before after) → OnOk r (Shows g (raw_image g bytes) n before after)
+shows_in flash g all bytes n before after r is same = let P : Flash → Type 0 = λ f. OnOk r (Shows f.geometry f.image n before after) in subst P (flash_is flash g all bytes is same)
 
-pub shows_in : (flash : Flash) (g : Geometry) (all bytes : List ℕ) (n : ℕ) (before after : Option (List ℕ)) → flash ≡ still g (raw_image g all) → all ≡ bytes → Shows flash.image n before after → Shows (raw_image g bytes) n before after
-shows_in flash g all bytes n before after is same = let P : Flash → Type 0 = λ f. Shows f.image n before after in subst P (flash_is flash g all bytes is same)
+pub unshown_in : (flash : Flash) (g : Geometry) (all bytes : List ℕ) (n : ℕ) (before after : Option (List ℕ)) (r : Result (Unit {0}) CommandFault) → flash ≡ still g (raw_image g all) → all ≡ bytes
+    → IfErr r (IsUnshown flash.geometry flash.image n before after) → IfErr r (IsUnshown g (raw_image g bytes) n before after)
+unshown_in flash g all bytes n before after r is same = let P : Flash → Type 0 = λ f. IfErr r (IsUnshown f.geometry f.image n before after) in subst P (flash_is flash g all bytes is same)
+
+-- the line of a page, of which this is shown
+pub page_shown : (g : Geometry) (image : Image) (row : ℕ) (before after : Option (List ℕ)) (p : Page) (s : Shown) (r : Result (Unit {0}) CommandFault) → slice_get image row ≡ Some p → row < row_count g → s ≡ shown_of p
+    → OnOk r (Appends before after (shown_line s)) → OnOk r (Shows g image row before after)
+page_shown g image row before after p s (Ok done) is within same told =
+    let P : Shown → Type 0 = λ t. Appends before after (shown_line t) in record { page = p; page_is = is; in_range = within; line = subst P same told }
+page_shown g image row before after p s (Err stop) is within same told = tt
+
+pub page_unshown : (g : Geometry) (image : Image) (row : ℕ) (before after : Option (List ℕ)) (p : Page) (s : Shown) (r : Result (Unit {0}) CommandFault) → slice_get image row ≡ Some p → row < row_count g → s ≡ shown_of p
+    → IfErr r (IsUnprinted (shown_line s) before after) → IfErr r (IsUnshown g image row before after)
+page_unshown g image row before after p s (Ok done) is within same un = tt
+page_unshown g image row before after p s (Err (fault.Write path)) is within same un =
+    let P : Shown → Type 0 = λ t. AppendsFront before after (shown_line t) in (un.0, record { page = p; page_is = is; in_range = within; front = subst P same un.1 })
+page_unshown g image row before after p s (Err _) is within same un = absurd un

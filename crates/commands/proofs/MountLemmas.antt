@@ -2,15 +2,14 @@
 use Rattle.std.proofs.Common.{◌≡◌, ℕ, List, Result, Ok, Err, OnOk, IfErr, inl, inr, ap, ◌∙◌, subst, sym}
 use Rattle.std.specs.Io.KnownBytes.{Appends, Keeps}
 use Rattle.page_layout.specs.declared.geometry.Geometry.{Geometry}
-use Rattle.page_layout.specs.Raw.{raw_image}
-use Rattle.certificate.specs.Claim.{Claim, good_blocks}
-use Rattle.image_check.specs.Stale.{stale_count}
+use Rattle.certificate.specs.Claim.{Claim}
 use Rattle.commands.specs.declared.mount_image.Mounted.{Mounted}
 use Rattle.commands.specs.declared.text.CommandFault.{CommandFault}
 use Rattle.command_words.specs.declared.words.CertificateWords.{CertificateWords}
-use Rattle.commands.specs.Check.{AsksForCapacity, IsUnprinted}
+use Rattle.commands.specs.Check.{AsksForCapacity}
 use Rattle.commands.specs.Files.{Gives, IsUnstored, Left, Leaves, with_store, written}
-use Rattle.commands.specs.Mount.{DoesMount, HasCertificate, IsMountedAs, IsUncertified, mounted_line, stored_as}
+use Rattle.commands.specs.Lines.{IsUnprinted}
+use Rattle.commands.specs.Mount.{DoesMount, HasCertificate, IsMountedAs, IsUncertified, line_of, mounted_line, stored_as}
 
 -- a step before the storing that ended the command
 pub stops : (gives : Gives) (words : CertificateWords) (before after : Left) (result : Result (Unit {0}) CommandFault) (stop : CommandFault)
@@ -37,7 +36,8 @@ unstored gives words g capacity bytes spelled m before after result stop asked g
 pub prints : (gives : Gives) (words : CertificateWords) (g : Geometry) (capacity : ℕ) (bytes spelled : List ℕ) (m : Mounted) (before after : Left) (result : Result (Unit {0}) CommandFault)
     → AsksForCapacity words g capacity → gives words.image.now (Ok bytes) → IsMountedAs g capacity bytes m → spelled ≡ m.written.items
     → after.stores ≡ with_store before.stores (written words.certificate.now spelled)
-    → OnOk result (Appends before.out after.out (mounted_line m.next m.good m.stale)) → IfErr result IsUnprinted → DoesMount gives words before after result
+    → OnOk result (Appends before.out after.out (mounted_line m.next m.good m.stale)) → IfErr result (IsUnprinted (mounted_line m.next m.good m.stale) before.out after.out)
+    → DoesMount gives words before after result
 prints gives words g capacity bytes spelled m before after result asked given mounted same stored ok failed = go result ok failed
   where
     c : Claim
@@ -49,9 +49,10 @@ prints gives words g capacity bytes spelled m before after result asked given mo
     stores : after.stores ≡ with_store before.stores (stored_as words mounted.claim)
     stores = stored ∙ ap (λ b. with_store before.stores (written words.certificate.now b)) (same ∙ mounted.written_is)
 
-    line : mounted_line m.next m.good m.stale ≡ mounted_line mounted.claim.next (good_blocks mounted.claim) (stale_count g (raw_image g bytes))
+    line : mounted_line m.next m.good m.stale ≡ line_of g bytes mounted.claim
     line = λ i. mounted_line (mounted.next_is i) (mounted.good_is i) (mounted.stale_is i)
 
-    go : (r : Result (Unit {0}) CommandFault) → OnOk r (Appends before.out after.out (mounted_line m.next m.good m.stale)) → IfErr r IsUnprinted → DoesMount gives words before after r
+    go : (r : Result (Unit {0}) CommandFault) → OnOk r (Appends before.out after.out (mounted_line m.next m.good m.stale))
+        → IfErr r (IsUnprinted (mounted_line m.next m.good m.stale) before.out after.out) → DoesMount gives words before after r
     go (Ok done) told told_not = let P : List ℕ → Type 0 = λ l. Appends before.out after.out l in (g, capacity, bytes, mounted.claim, has, stores, subst P line told)
-    go (Err stop) told told_not = inr (inr (g, capacity, bytes, mounted.claim, has, stores, told_not))
+    go (Err stop) told told_not = let P : List ℕ → Type 0 = λ l. IsUnprinted l before.out after.out stop in inr (inr (g, capacity, bytes, mounted.claim, has, stores, subst P line told_not))

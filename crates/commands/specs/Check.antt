@@ -1,5 +1,5 @@
 -- The command `check`: what its words, its files and the checker come to.
-use Rattle.std.specs.Prelude.{◌≡◌, ◌≢◌, ◌⊎◌, ◌<◌, ◌≤◌, ◌*◌, ℕ, List, [], ◌∷◌, ◌++◌, length, codes, Option, None, Some, IfSome, Result, Ok, Err}
+use Rattle.std.specs.Prelude.{◌≡◌, ◌≢◌, ◌⊎◌, ◌<◌, ◌≤◌, ◌*◌, ℕ, Bool, List, [], ◌∷◌, ◌++◌, length, codes, Option, None, Some, IfSome, Result, Ok, Err}
 use Rattle.std.specs.Io.KnownBytes.{Appends, Keeps}
 use Rattle.page_layout.specs.declared.geometry.Geometry.{Geometry}
 use Rattle.page_layout.specs.Geometry.{row_count, page_bytes}
@@ -16,7 +16,8 @@ use Rattle.command_words.specs.declared.numbers.GeometryNumbers.{GeometryNumbers
 use Rattle.commands.specs.declared.text.CommandFault.{CommandFault}
 use Rattle.commands.specs.declared.text.CommandFault.TheVariants as fault
 use Rattle.command_words.specs.declared.words.CertificateWords.{CertificateWords}
-use Rattle.commands.specs.Files.{Gives}
+use Rattle.commands.specs.Files.{Gives, IsOpened}
+use Rattle.commands.specs.Lines.{IsUnprinted}
 use Rattle.commands.specs.Inputs.{IsUnread}
 use Rattle.command_words.specs.Numbers.{SpellsGeometry, number_of}
 
@@ -42,14 +43,11 @@ IsUnasked words fault.Capacity =
     × HasNumbers numbers.data_bytes numbers.spare_bytes numbers.pages numbers.blocks numbers.sectors g × ((capacity ≡ 0) ⊎ (65536 < capacity))
 IsUnasked words _ = ⊥
 
--- bytes that a reader tells are those of the file; `gives` tells what a load of a path may answer
-abbrev pub IsOpened : Gives → List ℕ → Option (List ℕ) → Type 0
-IsOpened gives path known = IfSome known (λ bytes. gives path (Ok bytes))
-
--- and the image's file was opened, and the certificate's read
-pub record HasFiles (gives : Gives) (words : CertificateWords) (g : Geometry) (capacity : ℕ) (known : Option (List ℕ)) (written : List ℕ) : Type 0 where
+-- and the image's file was opened, of which these bytes are known, and the certificate's read; `gives` tells what a load of a path may
+-- answer, and `tells` that the reader's bytes are known
+pub record HasFiles (gives : Gives) (tells : Bool) (words : CertificateWords) (g : Geometry) (capacity : ℕ) (known : Option (List ℕ)) (written : List ℕ) : Type 0 where
   pub asked : AsksForCapacity words g capacity
-  pub image : IsOpened gives words.image.now known
+  pub image : IsOpened gives tells words.image.now known
   pub certificate : gives words.certificate.now (Ok written)
 
 -- the bytes are those of this claim
@@ -86,10 +84,15 @@ pub record IsHeld (g : Geometry) (capacity : ℕ) (bytes : List ℕ) (c : Claim)
   pub whole : IsWhole g bytes
   pub agrees : Agrees g capacity (raw_image g bytes) c
 
--- standard output could not be written
-abbrev pub IsUnprinted : CommandFault → Type 0
-IsUnprinted (fault.Write path) = path.now ≡ codes "-"
-IsUnprinted _ = ⊥
+-- the line
+abbrev pub accepted_line : List ℕ
+accepted_line = codes "accepted" ++ (10 ∷ [])
+
+-- What holding a certificate against the image of this path, and then printing, came to. Nothing is printed before it is held.
+abbrev pub Accepts : Geometry → ℕ → (path : List ℕ) → (known : Option (List ℕ)) → Claim → (before after : Option (List ℕ)) → Result (Unit {0}) CommandFault → Type 0
+Accepts g capacity path known c before after (Ok done) = IfSome known (λ bytes. IsHeld g capacity bytes c) × Appends before after accepted_line
+Accepts g capacity path known c before after (Err stop) =
+    (Keeps before after × IsUnheld g capacity path known c stop) ⊎ (IfSome known (λ bytes. IsHeld g capacity bytes c) × IsUnprinted accepted_line before after stop)
 
 -- nothing was written to standard output, unless it is what failed
 abbrev pub IsKept : CommandFault → Option (List ℕ) → Option (List ℕ) → Type 0
@@ -98,18 +101,18 @@ IsKept _ before after = Keeps before after
 
 -- Why the command ended before it was done. Each case says that none before it in the order held: the words, the image's
 -- file, the certificate's file, the certificate's bytes, the image's length and the checker, and at last the printing.
-abbrev pub IsCheckFault : Gives → CertificateWords → CommandFault → Type 0
-IsCheckFault gives words stop =
+abbrev pub IsCheckFault : Gives → Bool → CertificateWords → Option (List ℕ) → Option (List ℕ) → CommandFault → Type 0
+IsCheckFault gives tells words before after stop =
     IsUnasked words stop
     ⊎ ((g : Geometry) × (capacity : ℕ) × AsksForCapacity words g capacity × IsUnread gives words.image.now stop)
-    ⊎ ((g : Geometry) × (capacity : ℕ) × (known : Option (List ℕ)) × AsksForCapacity words g capacity × IsOpened gives words.image.now known × IsUnread gives words.certificate.now stop)
-    ⊎ ((g : Geometry) × (capacity : ℕ) × (known : Option (List ℕ)) × (written : List ℕ) × HasFiles gives words g capacity known written × IsNoCertificate written stop)
-    ⊎ ((g : Geometry) × (capacity : ℕ) × (known : Option (List ℕ)) × (written : List ℕ) × (c : Claim) × HasFiles gives words g capacity known written × IsSpelled c written × IsUnheld g capacity words.image.now known c stop)
-    ⊎ ((g : Geometry) × (capacity : ℕ) × (known : Option (List ℕ)) × (written : List ℕ) × (c : Claim) × HasFiles gives words g capacity known written × IsSpelled c written × IfSome known (λ bytes. IsHeld g capacity bytes c) × IsUnprinted stop)
+    ⊎ ((g : Geometry) × (capacity : ℕ) × (known : Option (List ℕ)) × AsksForCapacity words g capacity × IsOpened gives tells words.image.now known × IsUnread gives words.certificate.now stop)
+    ⊎ ((g : Geometry) × (capacity : ℕ) × (known : Option (List ℕ)) × (written : List ℕ) × HasFiles gives tells words g capacity known written × IsNoCertificate written stop)
+    ⊎ ((g : Geometry) × (capacity : ℕ) × (known : Option (List ℕ)) × (written : List ℕ) × (c : Claim) × HasFiles gives tells words g capacity known written × IsSpelled c written × IsUnheld g capacity words.image.now known c stop)
+    ⊎ ((g : Geometry) × (capacity : ℕ) × (known : Option (List ℕ)) × (written : List ℕ) × (c : Claim) × HasFiles gives tells words g capacity known written × IsSpelled c written × IfSome known (λ bytes. IsHeld g capacity bytes c) × IsUnprinted accepted_line before after stop)
 
 -- What the command came to, with the bytes of standard output before and after.
-abbrev pub DoesCheck : Gives → CertificateWords → Option (List ℕ) → Option (List ℕ) → Result (Unit {0}) CommandFault → Type 0
-DoesCheck gives words before after (Ok done) =
-    (g : Geometry) × (capacity : ℕ) × (known : Option (List ℕ)) × (written : List ℕ) × (c : Claim) × HasFiles gives words g capacity known written × IsSpelled c written × IfSome known (λ bytes. IsHeld g capacity bytes c)
-    × Appends before after (codes "accepted" ++ (10 ∷ []))
-DoesCheck gives words before after (Err stop) = IsKept stop before after × IsCheckFault gives words stop
+abbrev pub DoesCheck : Gives → Bool → CertificateWords → Option (List ℕ) → Option (List ℕ) → Result (Unit {0}) CommandFault → Type 0
+DoesCheck gives tells words before after (Ok done) =
+    (g : Geometry) × (capacity : ℕ) × (known : Option (List ℕ)) × (written : List ℕ) × (c : Claim) × HasFiles gives tells words g capacity known written × IsSpelled c written × IfSome known (λ bytes. IsHeld g capacity bytes c)
+    × Appends before after accepted_line
+DoesCheck gives tells words before after (Err stop) = IsKept stop before after × IsCheckFault gives tells words before after stop

@@ -1,5 +1,5 @@
 -- What a run of the program comes to.
-use Rattle.std.specs.Prelude.{◌≡◌, ◌⊎◌, ℕ, List, Option, Result, Ok, Err}
+use Rattle.std.specs.Prelude.{◌≡◌, ◌⊎◌, ℕ, Bool, List, Option, Result, Ok, Err}
 use Rattle.std.specs.Io.KnownBytes.{Keeps}
 use Rattle.commands.specs.Files.{Gives, Left, Leaves}
 use Rattle.commands.specs.declared.text.CommandFault.{CommandFault}
@@ -16,24 +16,24 @@ use Rattle.commands.specs.Serve.{DoesServe}
 use Rattle.commands.specs.Text.{IsTold}
 
 -- what an order came to, with what standard input had before and after: `serve` alone reads it
-abbrev pub Does : Gives → Order → Option (List ℕ) → Option (List ℕ) → Left → Left → Result (Unit {0}) CommandFault → Type 0
-Does gives (order.Sector words) unread left before after result = DoesSector gives words before.out after.out result × (after.stores ≡ before.stores)
-Does gives (order.Show words) unread left before after result = DoesShow gives words before.out after.out result × (after.stores ≡ before.stores)
-Does gives (order.Format words) unread left before after result = DoesFormat gives words before after result
-Does gives (order.Check words) unread left before after result = DoesCheck gives words before.out after.out result × (after.stores ≡ before.stores)
-Does gives (order.Mount words) unread left before after result = DoesMount gives words before after result
-Does gives (order.Serve words) unread left before after result = DoesServe gives words unread left before after result
+abbrev pub Does : Gives → Bool → Order → Option (List ℕ) → Option (List ℕ) → Left → Left → Result (Unit {0}) CommandFault → Type 0
+Does gives tells (order.Sector words) unread left before after result = DoesSector gives words before.out after.out result × (after.stores ≡ before.stores)
+Does gives tells (order.Show words) unread left before after result = DoesShow gives words before.out after.out result × (after.stores ≡ before.stores)
+Does gives tells (order.Format words) unread left before after result = DoesFormat gives words before after result
+Does gives tells (order.Check words) unread left before after result = DoesCheck gives tells words before.out after.out result × (after.stores ≡ before.stores)
+Does gives tells (order.Mount words) unread left before after result = DoesMount gives words before after result
+Does gives tells (order.Serve words) unread left before after result = DoesServe gives words unread left before after result
 
 -- the words are an order, and it came to this
-abbrev pub DoesOrder : Gives → List (List ℕ) → Option (List ℕ) → Option (List ℕ) → Left → Left → Result (Unit {0}) CommandFault → Type 0
-DoesOrder gives words unread left before after result = (order : Order) × IsOrder words order × Does gives order unread left before after result
+abbrev pub DoesOrder : Gives → Bool → List (List ℕ) → Option (List ℕ) → Option (List ℕ) → Left → Left → Result (Unit {0}) CommandFault → Type 0
+DoesOrder gives tells words unread left before after result = (order : Order) × IsOrder words order × Does gives tells order unread left before after result
 
 -- What the words came to, with the stores and the bytes of standard output before and after. Words that are no order leave
 -- them as they were.
-abbrev pub Obeys : Gives → List (List ℕ) → Option (List ℕ) → Option (List ℕ) → Left → Left → Result (Unit {0}) CommandFault → Type 0
-Obeys gives words unread left before after (Err NoSuchCommand) = Leaves before after × ((order : Order) → ¬ IsOrder words order)
-Obeys gives words unread left before after (Err OutOfMemory) = Leaves before after ⊎ DoesOrder gives words unread left before after (Err OutOfMemory)
-Obeys gives words unread left before after result = DoesOrder gives words unread left before after result
+abbrev pub Obeys : Gives → Bool → List (List ℕ) → Option (List ℕ) → Option (List ℕ) → Left → Left → Result (Unit {0}) CommandFault → Type 0
+Obeys gives tells words unread left before after (Err NoSuchCommand) = Leaves before after × ((order : Order) → ¬ IsOrder words order)
+Obeys gives tells words unread left before after (Err OutOfMemory) = Leaves before after ⊎ DoesOrder gives tells words unread left before after (Err OutOfMemory)
+Obeys gives tells words unread left before after result = DoesOrder gives tells words unread left before after result
 
 -- Status 0 and nothing on standard error where all was done; else the fault's line there, and its status.
 abbrev pub Reports : Result (Unit {0}) CommandFault → Option (List ℕ) → Option (List ℕ) → ℕ → Type 0
@@ -41,5 +41,5 @@ Reports (Ok done) before after status = (status ≡ 0) × Keeps before after
 Reports (Err fault) before after status = IsTold fault before after status
 
 -- what the words came to and what was told of it: the stores and standard output, and standard error, each before and after, and the status
-abbrev pub Runs : Gives → List (List ℕ) → Option (List ℕ) → Option (List ℕ) → Left → Left → Option (List ℕ) → Option (List ℕ) → ℕ → Type 0
-Runs gives words unread left before after told telling status = (done : Result (Unit {0}) CommandFault) × Obeys gives words unread left before after done × Reports done told telling status
+abbrev pub Runs : Gives → Bool → List (List ℕ) → Option (List ℕ) → Option (List ℕ) → Left → Left → Option (List ℕ) → Option (List ℕ) → ℕ → Type 0
+Runs gives tells words unread left before after told telling status = (done : Result (Unit {0}) CommandFault) × Obeys gives tells words unread left before after done × Reports done told telling status

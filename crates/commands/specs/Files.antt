@@ -1,5 +1,5 @@
 -- What a command leaves behind: the files that were stored, and standard output.
-use Rattle.std.specs.Prelude.{◌≡◌, ℕ, Bool, true, false, List, [], ◌∷◌, ◌++◌, Option, Result, Ok, Err}
+use Rattle.std.specs.Prelude.{◌≡◌, ℕ, Bool, true, false, List, [], ◌∷◌, ◌++◌, Option, IfSome, IsSome, Result, Ok, Err}
 use Rattle.std.specs.Option.{option_map}
 use Rattle.std.specs.Io.KnownBytes.{Keeps}
 use Rattle.commands.specs.declared.files.FileFault.{FileFault}
@@ -10,6 +10,11 @@ use Rattle.commands.specs.declared.text.CommandFault.TheVariants as fault
 -- what a load of a path may answer
 abbrev pub Gives : Type 1
 Gives = List ℕ → Result (List ℕ) FileFault → Type 0
+
+-- what a reader of the path tells is what a load of it may answer, and where the store tells, the reader does
+pub record IsOpened (gives : Gives) (tells : Bool) (path : List ℕ) (known : Option (List ℕ)) : Type 0 where
+  pub bytes : IfSome known (λ bytes. gives path (Ok bytes))
+  pub told : tells ≡ true → IsSome known
 
 -- a file that was handed over to be written, whole, and whether it was
 pub record Stored : Type 0 where

@@ -13,6 +13,7 @@ use Rattle.mount.specs.declared.format_fault.FormatFault.{FormatFault}
 use Rattle.mount.specs.declared.format_fault.FormatFault.TheVariants as refuse
 use Rattle.mount.specs.Formatted.{Formats, IsFormatted}
 use Rattle.command_words.specs.declared.numbers.GeometryNumbers.{GeometryNumbers}
+use Rattle.request_stream.specs.Frames.{AppendsFront}
 use Rattle.commands.specs.declared.files.FileFault.TheVariants as file
 use Rattle.commands.specs.declared.text.CommandFault.{CommandFault}
 use Rattle.commands.specs.declared.text.CommandFault.TheVariants as fault
@@ -68,11 +69,11 @@ pub record HasFormatted (gives : Gives) (words : FileWords) (after : List ℕ) (
   pub input : HasInput gives words geometry before
   pub formatted : IsFormattedImage geometry before after good
 
--- it could not be stored under OUT, and nothing was printed; or it was stored, and the line could not be printed
-abbrev pub IsUnwritten : FileWords → List ℕ → Left → Left → List ℕ → Type 0
-IsUnwritten words bytes before after path =
+-- it could not be stored under OUT, and nothing was printed; or it was stored, and of the line a beginning was printed
+abbrev pub IsUnwritten : FileWords → List ℕ → ℕ → Left → Left → List ℕ → Type 0
+IsUnwritten words bytes good before after path =
     ((path ≡ words.output.now) × (after.stores ≡ with_store before.stores (unwritten words.output.now bytes)) × Keeps before.out after.out)
-    ⊎ ((path ≡ codes "-") × (after.stores ≡ with_store before.stores (written words.output.now bytes)))
+    ⊎ ((path ≡ codes "-") × (after.stores ≡ with_store before.stores (written words.output.now bytes)) × AppendsFront before.out after.out (good_line good))
 
 -- What the command came to, with the stores and the bytes of standard output before and after. Each fault says that nothing
 -- before it in the order failed: the geometry, the file, its length, the die, its format, the store under OUT, and then the line.
@@ -90,7 +91,7 @@ DoesFormat gives words before after (Err (fault.Die broken)) = Leaves before aft
     × ((g : Geometry) × (bytes : List ℕ) × HasInput gives words g bytes × IsUnformatted g bytes (fault.Die broken))
 DoesFormat gives words before after (Err (fault.Format refused)) = Leaves before after
     × ((g : Geometry) × (bytes : List ℕ) × HasInput gives words g bytes × IsUnformatted g bytes (fault.Format refused))
-DoesFormat gives words before after (Err (fault.Write path)) = (bytes : List ℕ) × (good : ℕ) × HasFormatted gives words bytes good × IsUnwritten words bytes before after path.now
+DoesFormat gives words before after (Err (fault.Write path)) = (bytes : List ℕ) × (good : ℕ) × HasFormatted gives words bytes good × IsUnwritten words bytes good before after path.now
 DoesFormat gives words before after (Err fault.OutOfMemory) = Leaves before after
     × (((g : Geometry) × IsGeometry words g × gives words.input.now (Err file.OutOfMemory))
     ⊎ ((bytes : List ℕ) × (good : ℕ) × HasFormatted gives words bytes good))

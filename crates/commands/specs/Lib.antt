@@ -1,4 +1,5 @@
 pub mod Text
+pub mod Lines
 pub mod Files
 pub mod Sector
 pub mod Show

@@ -14,9 +14,10 @@ use Rattle.commands.specs.declared.mount_image.Mounted.{Mounted}
 use Rattle.commands.specs.declared.text.CommandFault.{CommandFault}
 use Rattle.commands.specs.declared.text.CommandFault.TheVariants as fault
 use Rattle.command_words.specs.declared.words.CertificateWords.{CertificateWords}
-use Rattle.commands.specs.Check.{AsksForCapacity, IsUnasked, IsUnprinted, IsWhole}
+use Rattle.commands.specs.Check.{AsksForCapacity, IsUnasked, IsWhole}
 use Rattle.commands.specs.Files.{Gives, IsUnstored, Left, Leaves, Stored, with_store, written}
 use Rattle.commands.specs.Inputs.{IsUnread}
+use Rattle.commands.specs.Lines.{IsUnprinted}
 
 -- the bytes are an image, and this is its certificate
 pub record IsCertified (g : Geometry) (capacity : ℕ) (bytes : List ℕ) (c : Claim) : Type 0 where
@@ -48,6 +49,10 @@ IsUnmounted g capacity bytes _ = ⊥
 abbrev pub mounted_line : ℕ → ℕ → ℕ → List ℕ
 mounted_line next good stale = codes "mounted next " ++ (decimal next ++ (codes " good " ++ (decimal good ++ (codes " stale " ++ (decimal stale ++ (10 ∷ []))))))
 
+-- that of this image and its certificate
+abbrev pub line_of : Geometry → List ℕ → Claim → List ℕ
+line_of g bytes c = mounted_line c.next (good_blocks c) (stale_count g (raw_image g bytes))
+
 -- the words are numbers, the image's file was read, and it has this certificate
 pub record HasCertificate (gives : Gives) (words : CertificateWords) (g : Geometry) (capacity : ℕ) (bytes : List ℕ) (c : Claim) : Type 0 where
   pub asked : AsksForCapacity words g capacity
@@ -68,15 +73,15 @@ IsUncertified gives words stop =
 
 -- What the command came to, with the stores and the bytes of standard output before and after. Where there is no
 -- certificate nothing is stored and nothing printed; where it was not stored nothing is printed; where the line was not
--- printed the certificate is stored.
+-- printed, or not whole, the certificate is stored.
 abbrev pub DoesMount : Gives → CertificateWords → Left → Left → Result (Unit {0}) CommandFault → Type 0
 DoesMount gives words before after (Ok done) =
     (g : Geometry) × (capacity : ℕ) × (bytes : List ℕ) × (c : Claim) × HasCertificate gives words g capacity bytes c
     × (after.stores ≡ with_store before.stores (stored_as words c))
-    × Appends before.out after.out (mounted_line c.next (good_blocks c) (stale_count g (raw_image g bytes)))
+    × Appends before.out after.out (line_of g bytes c)
 DoesMount gives words before after (Err stop) =
     (Leaves before after × IsUncertified gives words stop)
     ⊎ ((g : Geometry) × (capacity : ℕ) × (bytes : List ℕ) × (c : Claim) × HasCertificate gives words g capacity bytes c
     × IsUnstored words.certificate.now (certificate_bytes c) before.stores after.stores stop × Keeps before.out after.out)
     ⊎ ((g : Geometry) × (capacity : ℕ) × (bytes : List ℕ) × (c : Claim) × HasCertificate gives words g capacity bytes c
-    × (after.stores ≡ with_store before.stores (stored_as words c)) × IsUnprinted stop)
+    × (after.stores ≡ with_store before.stores (stored_as words c)) × IsUnprinted (line_of g bytes c) before.out after.out stop)

@@ -1,5 +1,5 @@
 -- What the command `serve` comes to.
-use Rattle.std.specs.Prelude.{◌≡◌, ◌⊎◌, ℕ, List, map, filter, min, Option, Some, None, Result, Ok, Err}
+use Rattle.std.specs.Prelude.{◌≡◌, ◌⊎◌, ℕ, true, List, map, filter, min, Option, Some, None, Result, Ok, Err}
 use Rattle.std.specs.List.{range_with_len}
 use Rattle.std.specs.Io.KnownBytes.{Keeps}
 use Rattle.page_layout.specs.declared.geometry.Geometry.{Geometry}
@@ -91,7 +91,7 @@ checked_words words = record { geometry = words.geometry; capacity = words.capac
 -- the words are numbers, both files were read, and the certificate's bytes are those of this claim
 pub record HasClaim (gives : Gives) (words : ServeWords) (g : Geometry) (capacity : ℕ) (bytes : List ℕ) (c : Claim) : Type 0 where
   pub written : List ℕ
-  pub files : HasFiles gives (checked_words words) g capacity (Some bytes) written
+  pub files : HasFiles gives true (checked_words words) g capacity (Some bytes) written
   pub spelled : IsSpelled c written
 
 -- Why the command ended before anything was read from standard input. Each case says that none before it in the order held.
@@ -100,7 +100,7 @@ IsUnstarted gives words stopped =
     IsUnasked (checked_words words) stopped
     ⊎ ((g : Geometry) × (capacity : ℕ) × AsksForCapacity (checked_words words) g capacity × IsUnread gives words.image.now stopped)
     ⊎ ((g : Geometry) × (capacity : ℕ) × (bytes : List ℕ) × AsksForCapacity (checked_words words) g capacity × gives words.image.now (Ok bytes) × IsUnread gives words.certificate.now stopped)
-    ⊎ ((g : Geometry) × (capacity : ℕ) × (bytes written : List ℕ) × HasFiles gives (checked_words words) g capacity (Some bytes) written × IsNoCertificate written stopped)
+    ⊎ ((g : Geometry) × (capacity : ℕ) × (bytes written : List ℕ) × HasFiles gives true (checked_words words) g capacity (Some bytes) written × IsNoCertificate written stopped)
     ⊎ ((g : Geometry) × (capacity : ℕ) × (bytes : List ℕ) × (c : Claim) × HasClaim gives words g capacity bytes c × IsUnserved g capacity bytes c stopped)
 
 -- How it ended after the run: the image was stored, and what stopped the server is told; or it could not be stored, and that is told, after

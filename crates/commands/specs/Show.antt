@@ -12,11 +12,10 @@ use Rattle.page_layout.specs.Faults.{IsFirstFault}
 use Rattle.page_layout.specs.Page.{Page, Image}
 use Rattle.page_layout.specs.Raw.{raw_image}
 use Rattle.page_layout.specs.Sound.{record_of, is_erased_page}
+use Rattle.request_stream.specs.Frames.{AppendsFront}
 use Rattle.command_words.specs.declared.numbers.GeometryNumbers.{GeometryNumbers}
 use Rattle.commands.specs.declared.show.Shown.{Shown}
 use Rattle.commands.specs.declared.show.Shown.TheVariants.{Sound, Erased, Unsound}
-use Rattle.commands.specs.declared.show.ShowFault.{ShowFault}
-use Rattle.commands.specs.declared.show.ShowFault.TheVariants as show
 use Rattle.commands.specs.declared.files.FileFault.TheVariants as file
 use Rattle.commands.specs.declared.text.CommandFault.{CommandFault}
 use Rattle.commands.specs.declared.text.CommandFault.TheVariants as fault
@@ -41,26 +40,38 @@ kind_word kind.Trim = codes "trim"
 kind_word kind.Translation = codes "translation"
 kind_word kind.Table = codes "table"
 
--- the line, without its line feed
-abbrev pub shown_words : Shown → List ℕ
-shown_words (Sound r) = kind_word r.kind ++ (codes " " ++ (decimal r.number ++ (codes " sequence " ++ (decimal r.sequence ++ (codes " wear " ++ decimal r.wear)))))
-shown_words Erased = codes "erased"
-shown_words Unsound = codes "unsound"
+-- the line
+abbrev pub shown_line : Shown → List ℕ
+shown_line (Sound r) =
+    kind_word r.kind ++ (codes " " ++ (decimal r.number ++ (codes " sequence " ++ (decimal r.sequence ++ (codes " wear " ++ (decimal r.wear ++ (10 ∷ [])))))))
+shown_line Erased = codes "erased" ++ (10 ∷ [])
+shown_line Unsound = codes "unsound" ++ (10 ∷ [])
 
--- the line of the row's page was written
-abbrev pub Shows : Image → ℕ → Option (List ℕ) → Option (List ℕ) → Type 0
-Shows image row before after = (p : Page) × (slice_get image row ≡ Some p) × Appends before after (shown_words (shown_of p) ++ (10 ∷ []))
+-- the row is one of the die, and the line of its page was written
+pub record Shows (g : Geometry) (image : Image) (row : ℕ) (before after : Option (List ℕ)) : Type 0 where
+  pub page : Page
+  pub page_is : slice_get image row ≡ Some page
+  pub in_range : row < row_count g
+  pub line : Appends before after (shown_line (shown_of page))
 
--- what a fault says of the row
-abbrev pub IsShowFault : Geometry → ℕ → ShowFault → Type 0
-IsShowFault g row show.RowRange = row_count g ≤ row
-IsShowFault g row show.Write = row < row_count g
+-- the same, but that the writer failed: a beginning of the line was written
+pub record ShowsFront (g : Geometry) (image : Image) (row : ℕ) (before after : Option (List ℕ)) : Type 0 where
+  pub page : Page
+  pub page_is : slice_get image row ≡ Some page
+  pub in_range : row < row_count g
+  pub front : AppendsFront before after (shown_line (shown_of page))
+
+-- why the row's page was not shown
+abbrev pub IsUnshown : Geometry → Image → ℕ → Option (List ℕ) → Option (List ℕ) → CommandFault → Type 0
+IsUnshown g image row before after fault.RowRange = (row_count g ≤ row) × Keeps before after
+IsUnshown g image row before after (fault.Write path) = (path.now ≡ codes "-") × ShowsFront g image row before after
+IsUnshown g image row before after _ = ⊥
 
 -- What the command came to, with the bytes of standard output before and after. Each fault says that nothing before it in
 -- the order failed: the numbers by their words, the geometry, the file, its length, and then the row.
 abbrev pub DoesShow : Gives → ImageWords → Option (List ℕ) → Option (List ℕ) → Result (Unit {0}) CommandFault → Type 0
 DoesShow gives words before after (Ok done) = (g : Geometry) × (row : ℕ) × (bytes : List ℕ) × HasImage gives words g row bytes
-    × (row < row_count g) × Shows (raw_image g bytes) row before after
+    × Shows g (raw_image g bytes) row before after
 DoesShow gives words before after (Err (fault.BadNumber word)) = Keeps before after
     × (((word.now ≡ words.geometry.now) × ((numbers : GeometryNumbers) → ¬ SpellsGeometry words.geometry.now numbers))
     ⊎ ((word.now ≡ words.number.now) × ((numbers : GeometryNumbers) × SpellsGeometry words.geometry.now numbers) × (number_of words.number.now ≡ None)))
@@ -70,10 +81,10 @@ DoesShow gives words before after (Err (fault.Geometry broken)) = Keeps before a
 DoesShow gives words before after (Err (fault.Read path)) = Keeps before after × (path.now ≡ words.image.now) × gives words.image.now (Err file.Failed) × ((g : Geometry) × (row : ℕ) × AsksForNumber words g row)
 DoesShow gives words before after (Err fault.WrongLength) = Keeps before after
     × ((g : Geometry) × (row : ℕ) × (bytes : List ℕ) × AsksForNumber words g row × gives words.image.now (Ok bytes) × (length bytes ≢ row_count g * page_bytes g))
-DoesShow gives words before after (Err fault.RowRange) = Keeps before after
-    × ((g : Geometry) × (row : ℕ) × (bytes : List ℕ) × HasImage gives words g row bytes × (row_count g ≤ row))
-DoesShow gives words before after (Err (fault.Write path)) = (path.now ≡ codes "-")
-    × ((g : Geometry) × (row : ℕ) × (bytes : List ℕ) × HasImage gives words g row bytes × (row < row_count g))
+DoesShow gives words before after (Err fault.RowRange) = (g : Geometry) × (row : ℕ) × (bytes : List ℕ) × HasImage gives words g row bytes
+    × IsUnshown g (raw_image g bytes) row before after fault.RowRange
+DoesShow gives words before after (Err (fault.Write path)) = (g : Geometry) × (row : ℕ) × (bytes : List ℕ) × HasImage gives words g row bytes
+    × IsUnshown g (raw_image g bytes) row before after (fault.Write path)
 DoesShow gives words before after (Err fault.OutOfMemory) = Keeps before after
     × ((g : Geometry) × (row : ℕ) × AsksForNumber words g row × gives words.image.now (Err file.OutOfMemory))
 DoesShow gives words before after (Err _) = ⊥

@@ -1,10 +1,12 @@
 //! The command `check GEOM C IMAGE CERT`.
-ghost use Rattle.std.specs.Prelude.{◌≡◌, OnOk, IfOk, IfErr, IfSome, ◌∷◌, [], ◌++◌, codes};
+ghost use Rattle.std.specs.Prelude.{◌≡◌, OnOk, IfOk, IfErr, IfSome};
 ghost use Rattle.std.specs.Io.KnownBytes.{Appends};
-ghost use Rattle.commands.specs.Check.{DoesCheck, IsHeld, IsNoCertificate, IsSpelled, IsToldAs, IsUnheld, IsUnprinted};
+ghost use Rattle.commands.specs.Check.{Accepts, DoesCheck, IsHeld, IsNoCertificate, IsSpelled, IsToldAs, IsUnheld, accepted_line};
+ghost use Rattle.commands.specs.Lines.{IsUnprinted};
 
 use crate::files::FileStore;
 use crate::inputs::{CacheAsked, cache_asked, load};
+use crate::lines::print;
 use crate::readers::open;
 use crate::text::CommandFault;
 use certificate::{Certificate, read_certificate};
@@ -57,13 +59,25 @@ fn hold<'a, R: Read>(
 
 // Prints that the certificate was accepted.
 fn print_accepted<'a, W: Write>(out: &mut W) -> Result<(), CommandFault<'a>>
-    ensures ok { OnOk result (Appends (W.contents out.old) (W.contents out.new) (codes "accepted" ++ (10 ∷ []))) }
-    ensures fault { IfErr result IsUnprinted }
+    ensures ok { OnOk result (Appends (W.contents out.old) (W.contents out.new) accepted_line) }
+    ensures fault { IfErr result (IsUnprinted accepted_line (W.contents out.old) (W.contents out.new)) }
 {
-    match writeln!(out, "accepted") {
-        Ok(()) => Ok(()),
-        Err(_) => Err(CommandFault::Write("-")),
-    }
+    print(out, &["accepted\n"])
+}
+
+// Holds a certificate against the image that a file's reader gives, and prints that it was accepted.
+fn accept<'a, R: Read, W: Write>(
+    alloc: Global,
+    asked: &CacheAsked,
+    path: &'a str,
+    image: &mut R,
+    certificate: &Certificate,
+    out: &mut W,
+) -> Result<(), CommandFault<'a>>
+    ensures { Accepts asked.now.geometry asked.now.capacity path.now (R.remaining image.old) certificate.now (W.contents out.old) (W.contents out.new) result }
+{
+    hold(alloc, asked, path, image, certificate)?;
+    print_accepted(out)
 }
 
 /// The command `check`: prints that the certificate CERT, for a cache of C entries, agrees with the
@@ -76,7 +90,7 @@ fn print_accepted<'a, W: Write>(out: &mut W) -> Result<(), CommandFault<'a>>
 /// refused memory, `Certificate` where CERT's bytes are no certificate, `Check` with `GeometryDiffers` where it is not of GEOM and C,
 /// `Read` where a read of IMAGE fails and `WrongLength` where it has not as many bytes as the geometry says, each when it happens,
 /// `Check` with the other refusals of `image_check::check_stream`, `Write` of `-` where `out` failed. Nothing is stored, and nothing was
-/// written to `out` unless it is what failed: then a part of the line may stand there.
+/// written to `out` unless it is what failed: then a beginning of the line stands there, or nothing.
 ///
 /// (This project's.)
 pub fn check_command<'a, F: FileStore, W: Write>(
@@ -85,7 +99,7 @@ pub fn check_command<'a, F: FileStore, W: Write>(
     files: &mut F,
     out: &mut W,
 ) -> Result<(), CommandFault<'a>>
-    ensures does { DoesCheck (F.gives files.old) words.entry (W.contents out.old) (W.contents out.new) result }
+    ensures does { DoesCheck (F.gives files.old) (F.tells files.old) words.entry (W.contents out.old) (W.contents out.new) result }
     ensures stores { F.stores files.new ≡ F.stores files.old }
 {
     let asked = cache_asked(&words)?;
@@ -94,6 +108,5 @@ pub fn check_command<'a, F: FileStore, W: Write>(
     let certificate = certificate_in(alloc, &written)?;
     // Its bytes go before the memory of the check is taken.
     drop(written);
-    hold(alloc, &asked, words.image, &mut image, &certificate)?;
-    print_accepted(out)
+    accept(alloc, &asked, words.image, &mut image, &certificate, out)
 }

@@ -15,9 +15,9 @@ pub enum FileFault {
 
 /// The files that the words name, by their paths as written: those of the system, or some in memory. (This project's.)
 pub trait FileStore {
-    ghost use Rattle.std.specs.Prelude.{◌≡◌, List, ℕ, Option, Result, Ok, Err, IfOk, IfErr, IfSome};
+    ghost use Rattle.std.specs.Prelude.{◌≡◌, Bool, List, ℕ, Option, Result, Ok, Err, IfOk, IfErr};
     ghost use Rattle.commands.specs.declared.files.FileFault.{FileFault};
-    ghost use Rattle.commands.specs.Files.{Stored, stores_after};
+    ghost use Rattle.commands.specs.Files.{IsOpened, Stored, stores_after};
 
     /// What reads a file piece by piece.
     type Reader: Read + Drop;
@@ -25,6 +25,9 @@ pub trait FileStore {
     /// What a load of a path may answer, and what its reader may give: the file's bytes, or a fault. Of the
     /// system's files nothing is known, so there it is anything.
     ghost gives: { Self → List ℕ → Result (List ℕ) FileFault → Type 0 };
+
+    /// Whether each reader that it opens tells its bytes: those of the system's files don't, those of files in memory do.
+    ghost tells: { Self → Bool };
 
     /// The files that it was asked to store so far, in order. Of the system's files it isn't known.
     ghost stores: { Self → Option (List Stored) };
@@ -41,14 +44,15 @@ pub trait FileStore {
         ensures same { (at : List ℕ) (answer : Result (List ℕ) FileFault) → gives self.new at answer → gives self.old at answer }
         ensures stores { stores self.new ≡ stores self.old };
 
-    /// A reader of a file, from its first byte on. Where it tells its bytes they are the file's.
+    /// A reader of a file, from its first byte on. Where it tells its bytes they are the file's, and where the store
+    /// `tells` it tells them.
     ///
     /// # Errors
     ///
     /// `Failed` where the file cannot be read, `OutOfMemory` where a growth was refused. Every file is as
     /// it was.
     fn open(&mut self, path: &str) -> Result<Self::Reader, FileFault>
-        ensures bytes { IfOk result (λ reader. IfSome (Self.Reader.remaining reader) (λ bytes. gives self.old path.now (Ok bytes))) }
+        ensures bytes { IfOk result (λ reader. IsOpened (gives self.old) (tells self.old) path.now (Self.Reader.remaining reader)) }
         ensures fault { IfErr result (λ fault. gives self.old path.now (Err fault)) }
         ensures same { (at : List ℕ) (answer : Result (List ℕ) FileFault) → gives self.new at answer → gives self.old at answer }
         ensures stores { stores self.new ≡ stores self.old };

@@ -1,16 +1,20 @@
 //! The command `format GEOM IN OUT`.
-ghost use Rattle.std.specs.Prelude.{◌≡◌, true, IfOk, IfErr};
+ghost use Rattle.std.specs.Prelude.{◌≡◌, true, OnOk, IfOk, IfErr};
+ghost use Rattle.std.specs.Io.KnownBytes.{Appends};
 ghost use Rattle.onfi_cycles.specs.Driver.{seen};
 ghost use Rattle.nand_die.specs.DieValue.{is_calm};
-ghost use Rattle.commands.specs.Format.{DoesFormat, IsFormattedImage, IsUnformatted};
+ghost use Rattle.commands.specs.Format.{DoesFormat, IsFormattedImage, IsUnformatted, good_line};
 ghost use Rattle.commands.specs.Files.{left};
+ghost use Rattle.commands.specs.Lines.{IsUnprinted};
 
 use crate::files::FileStore;
 use crate::inputs::{geometry_of, load, numbers_at};
+use crate::lines::print;
 use crate::outputs::store;
 use crate::steady::SteadyDie;
 use crate::text::CommandFault;
 use command_words::FileWords;
+use itoa::Buffer;
 use mount::format;
 use nand_die::{Die, DieFault};
 use onfi_cycles::Driver;
@@ -63,6 +67,15 @@ pub fn format_image<'a>(
     }
 }
 
+// Prints how many good blocks a die has.
+fn print_good<'a, W: Write>(good: u32, out: &mut W) -> Result<(), CommandFault<'a>>
+    ensures ok { OnOk result (Appends (W.contents out.old) (W.contents out.new) (good_line good)) }
+    ensures fault { IfErr result (IsUnprinted (good_line good) (W.contents out.old) (W.contents out.new)) }
+{
+    let mut digits = Buffer::new();
+    print(out, &["good ", digits.format(good), "\n"])
+}
+
 /// The command `format`: formats the raw image IN of a fresh die of the geometry GEOM, stores it under OUT, and then prints how many
 /// good blocks it has.
 ///
@@ -71,8 +84,8 @@ pub fn format_image<'a>(
 /// The first of this order: `BadNumber` where GEOM writes no numbers, `Geometry` where they are no geometry, `Read` where IN
 /// cannot be read, or `OutOfMemory` where it was refused memory, `WrongLength`, `Die` or `Format` as `format_image` answers them:
 /// after these nothing was stored and nothing printed. `Write` of OUT where it cannot be stored, or `OutOfMemory` where that was
-/// refused memory before any byte was written: nothing was printed. `Write` of `-` where `out` failed: OUT is stored, and a part
-/// of the line may stand in `out`.
+/// refused memory before any byte was written: nothing was printed. `Write` of `-` where `out` failed: OUT is stored, and a
+/// beginning of the line stands in `out`, or nothing.
 ///
 /// (This project's.)
 pub fn format_command<'a, F: FileStore, W: Write>(
@@ -88,8 +101,5 @@ pub fn format_command<'a, F: FileStore, W: Write>(
     let mut bytes = load(files, words.input)?;
     let good = format_image(alloc, geometry, &mut bytes)?;
     store(files, words.output, &bytes)?;
-    match writeln!(out, "good {good}") {
-        Ok(()) => Ok(()),
-        Err(_) => Err(CommandFault::Write("-")),
-    }
+    print_good(good, out)
 }

@@ -7,6 +7,7 @@ mod check;
 mod files;
 mod format;
 mod inputs;
+mod lines;
 mod mount_image;
 mod outputs;
 mod program;

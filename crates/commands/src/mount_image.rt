@@ -2,16 +2,18 @@
 ghost use Rattle.std.specs.Prelude.{◌≡◌, ◌≤◌, OnOk, IfOk, IfErr};
 ghost use Rattle.std.specs.Io.KnownBytes.{Appends};
 ghost use Rattle.certificate.specs.Spelling.{certificate_bytes};
-ghost use Rattle.commands.specs.Check.{IsUnprinted};
 ghost use Rattle.commands.specs.Files.{left};
+ghost use Rattle.commands.specs.Lines.{IsUnprinted};
 ghost use Rattle.commands.specs.Mount.{DoesMount, IsMountedAs, IsUnmounted, IsUnspelled, mounted_line};
 
 use crate::files::FileStore;
 use crate::inputs::{CacheAsked, cache_asked, load};
+use crate::lines::print;
 use crate::outputs::store;
 use crate::text::CommandFault;
 use certificate::{Certificate, write_certificate};
 use command_words::CertificateWords;
+use itoa::Buffer;
 use mount::mount_counted;
 use page_layout::source::ImageSlice;
 use std::alloc::Global;
@@ -68,18 +70,19 @@ fn mount_bytes<'a>(
 // Prints what is told of a certificate.
 fn print_mounted<'a, W: Write>(mounted: &Mounted, out: &mut W) -> Result<(), CommandFault<'a>>
     ensures ok { OnOk result (Appends (W.contents out.old) (W.contents out.new) (mounted_line mounted.now.next mounted.now.good mounted.now.stale)) }
-    ensures fault { IfErr result IsUnprinted }
+    ensures fault { IfErr result (IsUnprinted (mounted_line mounted.now.next mounted.now.good mounted.now.stale) (W.contents out.old) (W.contents out.new)) }
 {
-    let Mounted {
-        next,
-        good,
-        stale,
-        ..
-    } = mounted;
-    match writeln!(out, "mounted next {next} good {good} stale {stale}") {
-        Ok(()) => Ok(()),
-        Err(_) => Err(CommandFault::Write("-")),
-    }
+    let (mut next, mut good, mut stale) = (Buffer::new(), Buffer::new(), Buffer::new());
+    let line = [
+        "mounted next ",
+        next.format(mounted.next),
+        " good ",
+        good.format(mounted.good),
+        " stale ",
+        stale.format(mounted.stale),
+        "\n",
+    ];
+    print(out, &line)
 }
 
 /// The command `mount`: stores the certificate of the raw image IMAGE, of the geometry GEOM and for
@@ -93,7 +96,8 @@ fn print_mounted<'a, W: Write>(mounted: &Mounted, out: &mut W) -> Result<(), Com
 /// where it has not as many bytes as the geometry says, `Mount` with the refusal of `mount::mount_counted`, `Certificate` with
 /// `OutOfMemory` where its bytes wanted memory: after these nothing was stored and
 /// nothing printed. `Write` of CERT where it cannot be stored, or `OutOfMemory` where that was refused memory before any byte was
-/// written: nothing was printed. `Write` of `-` where `out` failed: CERT is stored, and a part of the line may stand in `out`.
+/// written: nothing was printed. `Write` of `-` where `out` failed: CERT is stored, and a beginning of the line stands in `out`, or
+/// nothing.
 ///
 /// (This project's.)
 pub fn mount_command<'a, F: FileStore, W: Write>(

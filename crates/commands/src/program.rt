@@ -23,7 +23,7 @@ fn carry_out<'a, F: FileStore, R: Read, W: Write>(
     input: &mut R,
     out: &mut W,
 ) -> Result<(), CommandFault<'a>>
-    ensures { Does (F.gives files.old) order.entry (R.remaining input.old) (R.remaining input.new) (left (F.stores files.old) (W.contents out.old)) (left (F.stores files.new) (W.contents out.new)) result }
+    ensures { Does (F.gives files.old) (F.tells files.old) order.entry (R.remaining input.old) (R.remaining input.new) (left (F.stores files.old) (W.contents out.old)) (left (F.stores files.new) (W.contents out.new)) result }
 {
     match order {
         Order::Sector(words) => sector_command(alloc, words, files, out),
@@ -43,7 +43,7 @@ fn obey<'a, F: FileStore, R: Read, W: Write>(
     input: &mut R,
     out: &mut W,
 ) -> Result<(), CommandFault<'a>>
-    ensures { Obeys (F.gives files.old) (texts words.now) (R.remaining input.old) (R.remaining input.new) (left (F.stores files.old) (W.contents out.old)) (left (F.stores files.new) (W.contents out.new)) result }
+    ensures { Obeys (F.gives files.old) (F.tells files.old) (texts words.now) (R.remaining input.old) (R.remaining input.new) (left (F.stores files.old) (W.contents out.old)) (left (F.stores files.new) (W.contents out.new)) result }
 {
     match parse(alloc, words) {
         Ok(order) => carry_out(alloc, order, files, input, out),
@@ -71,7 +71,7 @@ pub fn run<F: FileStore, R: Read, W: Write, E: Write>(
     out: &mut W,
     err: &mut E,
 ) -> u8
-    ensures { Runs (F.gives files.old) (texts words.now) (R.remaining input.old) (R.remaining input.new) (left (F.stores files.old) (W.contents out.old)) (left (F.stores files.new) (W.contents out.new)) (E.contents err.old) (E.contents err.new) result }
+    ensures { Runs (F.gives files.old) (F.tells files.old) (texts words.now) (R.remaining input.old) (R.remaining input.new) (left (F.stores files.old) (W.contents out.old)) (left (F.stores files.new) (W.contents out.new)) (E.contents err.old) (E.contents err.new) result }
 {
     match obey(alloc, words, files, input, out) {
         Ok(()) => DONE,

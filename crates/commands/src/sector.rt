@@ -10,6 +10,7 @@ use crate::text::CommandFault;
 use command_words::ImageWords;
 use image_check::{SectorFault, sector_in};
 use page_layout::source::ImageSlice;
+use request_stream::send;
 use std::alloc::{AllocError, Global};
 use std::io::Write;
 
@@ -18,7 +19,7 @@ use std::io::Write;
 pub enum PrintFault {
     /// The image gives no bytes for the sector.
     Sector(SectorFault),
-    /// The writer failed, and may have taken a part of the line.
+    /// The writer failed, and took a beginning of the line, or nothing.
     Write,
     /// A growth was refused.
     OutOfMemory,
@@ -81,7 +82,7 @@ fn sector_line(alloc: Global, image: &ImageSlice, sector: u32) -> Result<String,
 /// `Sector` with the fault of `image_check::sector_in`: `OutOfRange` exactly where `sector` is at or
 /// past the geometry's sectors, else `SequenceRepeated` exactly where two pages of the sector share
 /// its greatest sequence. `OutOfMemory` where a growth was refused. After these two nothing was
-/// written. `Write` where the writer failed: a part of the line may have been written.
+/// written. `Write` where a write failed, was interrupted or took nothing: a beginning of the line was written, or nothing.
 ///
 /// (The line is this project's, its digits are those of the crate `hex`.)
 pub fn print_sector<W: Write>(
@@ -93,10 +94,10 @@ pub fn print_sector<W: Write>(
     ensures ok { OnOk result (Appends (W.contents out.old) (W.contents out.new) (Rattle.commands.specs.Sector.sector_line image.now.flash.geometry image.now.flash.image sector)) }
     ensures readable { OnOk result (IsReadable image.now.flash.geometry image.now.flash.image sector) }
     ensures fault { IfErr result (IsPrintFault image.now.flash.geometry image.now.flash.image sector) }
-    ensures unprinted { IfErr result (λ fault. IsUnprinted fault (W.contents out.old) (W.contents out.new)) }
+    ensures unprinted { IfErr result (λ fault. IsUnprinted (Rattle.commands.specs.Sector.sector_line image.now.flash.geometry image.now.flash.image sector) fault (W.contents out.old) (W.contents out.new)) }
 {
     let line = sector_line(alloc, image, sector)?;
-    match out.write_all(line.as_bytes()) {
+    match send(out, line.as_bytes()) {
         Ok(()) => Ok(()),
         Err(_) => Err(PrintFault::Write),
     }
@@ -109,7 +110,7 @@ pub fn print_sector<W: Write>(
 /// The first of this order: `BadNumber` where GEOM or N writes no numbers, `Geometry` where GEOM's are no geometry, `Read` where
 /// IMAGE cannot be read, `WrongLength` where it has not as many bytes as the geometry says, `Sector` with the fault of
 /// `print_sector`, `Write` of `-` where `out` failed. `OutOfMemory` where a growth was refused. Nothing is stored, and nothing
-/// was written to `out` unless it is what failed: then a part of the line may stand there.
+/// was written to `out` unless it is what failed: then a beginning of the line stands there, or nothing.
 ///
 /// (This project's.)
 pub fn sector_command<'a, F: FileStore, W: Write>(

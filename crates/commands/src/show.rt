@@ -1,19 +1,19 @@
 //! The command `show GEOM IMAGE ROW`.
-ghost use Rattle.std.specs.Prelude.{◌≡◌, ◌<◌, length, Err, IfErr, OnOk};
-ghost use Rattle.page_layout.specs.Geometry.{row_count};
+ghost use Rattle.std.specs.Prelude.{◌≡◌, length, IfErr, OnOk};
+ghost use Rattle.std.specs.Io.KnownBytes.{Appends};
 ghost use Rattle.page_layout.specs.Page.{page};
-ghost use Rattle.commands.specs.declared.show.ShowFault.TheVariants.{RowRange};
-ghost use Rattle.std.specs.Io.KnownBytes.{Keeps};
-ghost use Rattle.commands.specs.Show.{DoesShow, IsShowFault, Shows, shown_of};
+ghost use Rattle.commands.specs.Lines.{IsUnprinted};
+ghost use Rattle.commands.specs.Show.{DoesShow, IsUnshown, Shows, shown_line, shown_of};
 
 use crate::files::FileStore;
 use crate::inputs::{geometry_of, load, number_at, numbers_at};
+use crate::lines::print;
 use crate::text::CommandFault;
 use command_words::ImageWords;
+use itoa::Buffer;
 use page_layout::geometry::Geometry;
 use page_layout::record::{Kind, Record, is_erased, read_record};
 use page_layout::source::ImageSlice;
-use std::fmt;
 use std::io::Write;
 
 /// What a page shows of itself.
@@ -25,15 +25,6 @@ pub enum Shown {
     Erased,
     /// It is neither.
     Unsound,
-}
-
-/// Why a page was not shown.
-#[derive(Clone, Copy)]
-pub enum ShowFault {
-    /// The row is past the die.
-    RowRange,
-    /// The writer failed, and may have taken a part of the line.
-    Write,
 }
 
 // What a page holds, in one word.
@@ -48,25 +39,34 @@ fn kind_word(kind: Kind) -> &'static str
     }
 }
 
-/// The line of a page, without its line feed.
-impl fmt::Display for Shown {
-    ghost use Rattle.std.specs.Prelude.{Some};
-    ghost use Rattle.commands.specs.Show.{shown_words};
+// Writes the line of a sound page.
+fn print_record<'a, W: Write>(found: &Record, out: &mut W) -> Result<(), CommandFault<'a>>
+    ensures ok { OnOk result (Appends (W.contents out.old) (W.contents out.new) (shown_line (Shown.Sound found.now))) }
+    ensures fault { IfErr result (IsUnprinted (shown_line (Shown.Sound found.now)) (W.contents out.old) (W.contents out.new)) }
+{
+    let (mut number, mut sequence, mut wear) = (Buffer::new(), Buffer::new(), Buffer::new());
+    let line = [
+        kind_word(found.kind),
+        " ",
+        number.format(found.number),
+        " sequence ",
+        sequence.format(found.sequence),
+        " wear ",
+        wear.format(found.wear),
+        "\n",
+    ];
+    print(out, &line)
+}
 
-    ghost output = { λ shown. Some (shown_words shown) };
-
-    fn fmt<W: fmt::Write>(&self, f: &mut fmt::Formatter<W>) -> fmt::Result {
-        match self {
-            Shown::Sound(record) => {
-                let kind = kind_word(record.kind);
-                let number = record.number;
-                let sequence = record.sequence;
-                let wear = record.wear;
-                write!(f, "{kind} {number} sequence {sequence} wear {wear}")
-            }
-            Shown::Erased => f.write_str("erased"),
-            Shown::Unsound => f.write_str("unsound"),
-        }
+// Writes the line of a page.
+fn print_shown<'a, W: Write>(shown: &Shown, out: &mut W) -> Result<(), CommandFault<'a>>
+    ensures ok { OnOk result (Appends (W.contents out.old) (W.contents out.new) (shown_line shown.now)) }
+    ensures fault { IfErr result (IsUnprinted (shown_line shown.now) (W.contents out.old) (W.contents out.new)) }
+{
+    match shown {
+        Shown::Sound(record) => print_record(record, out),
+        Shown::Erased => print(out, &["erased\n"]),
+        Shown::Unsound => print(out, &["unsound\n"]),
     }
 }
 
@@ -88,25 +88,24 @@ fn look_at(geometry: &Geometry, body: &[u8], spare: &[u8]) -> Shown
 /// # Errors
 ///
 /// `RowRange` exactly where the row is at or past the rows of the die, and then nothing was written.
-/// `Write` where the writer failed: a part of the line may have been written.
+/// `Write` of `-` where a write failed, was interrupted or took nothing: a beginning of the line was written, or nothing.
 ///
 /// (The line is this project's.)
-pub fn print_page<W: Write>(image: &ImageSlice, row: u32, out: &mut W) -> Result<(), ShowFault>
-    ensures ok { OnOk result (Shows image.now.flash.image row (W.contents out.old) (W.contents out.new)) }
-    ensures in_range { OnOk result (row < row_count image.now.flash.geometry) }
-    ensures fault { IfErr result (IsShowFault image.now.flash.geometry row) }
-    ensures unwritten { result ≡ Err RowRange → Keeps (W.contents out.old) (W.contents out.new) }
+pub fn print_page<'a, W: Write>(
+    image: &ImageSlice,
+    row: u32,
+    out: &mut W,
+) -> Result<(), CommandFault<'a>>
+    ensures ok { OnOk result (Shows image.now.flash.geometry image.now.flash.image row (W.contents out.old) (W.contents out.new)) }
+    ensures fault { IfErr result (IsUnshown image.now.flash.geometry image.now.flash.image row (W.contents out.old) (W.contents out.new)) }
 {
     let geometry = image.geometry();
     if !geometry.has_row(row) {
-        return Err(ShowFault::RowRange);
+        return Err(CommandFault::RowRange);
     }
     let (body, spare) = image.page(row);
     let shown = look_at(&geometry, body, spare);
-    match writeln!(out, "{shown}") {
-        Ok(()) => Ok(()),
-        Err(_) => Err(ShowFault::Write),
-    }
+    print_shown(&shown, out)
 }
 
 /// The command `show`: prints what the page of row ROW of the raw image IMAGE, of the geometry GEOM,
@@ -117,7 +116,7 @@ pub fn print_page<W: Write>(image: &ImageSlice, row: u32, out: &mut W) -> Result
 /// The first of this order: `BadNumber` where GEOM or ROW writes no numbers, `Geometry` where GEOM's are no geometry, `Read`
 /// where IMAGE cannot be read, `OutOfMemory` where it was refused memory, `WrongLength` where it has not as many bytes as the
 /// geometry says, `RowRange` where the row is at or past the rows of the die, `Write` of `-` where `out` failed. Nothing is
-/// stored, and nothing was written to `out` unless it is what failed: then a part of the line may stand there.
+/// stored, and nothing was written to `out` unless it is what failed: then a beginning of the line stands there, or nothing.
 ///
 /// (This project's.)
 pub fn show_command<'a, F: FileStore, W: Write>(
@@ -136,9 +135,5 @@ pub fn show_command<'a, F: FileStore, W: Write>(
         Ok(image) => image,
         Err(_) => return Err(CommandFault::WrongLength),
     };
-    match print_page(&image, row, out) {
-        Ok(()) => Ok(()),
-        Err(ShowFault::RowRange) => Err(CommandFault::RowRange),
-        Err(ShowFault::Write) => Err(CommandFault::Write("-")),
-    }
+    print_page(&image, row, out)
 }

@@ -23,7 +23,7 @@ fn run_words<F: FileStore, R: Read, W: Write, E: Write>(
     out: &mut W,
     err: &mut E,
 ) -> u8
-    ensures { Runs (F.gives files.old) (map string_bytes kept.now) (R.remaining input.old) (R.remaining input.new) (left (F.stores files.old) (W.contents out.old))
+    ensures { Runs (F.gives files.old) (F.tells files.old) (map string_bytes kept.now) (R.remaining input.old) (R.remaining input.new) (left (F.stores files.old) (W.contents out.old))
         (left (F.stores files.new) (W.contents out.new)) (E.contents err.old) (E.contents err.new) result }
 {
     match word_slices(alloc, kept) {
@@ -41,7 +41,7 @@ fn end<F: FileStore, R: Read, W: Write, E: Write>(
     out: &mut W,
     err: &mut E,
 ) -> ExitCode
-    ensures words { IfOk words.entry (λ kept. Runs (F.gives files.old) (map string_bytes kept.items)
+    ensures words { IfOk words.entry (λ kept. Runs (F.gives files.old) (F.tells files.old) (map string_bytes kept.items)
         (R.remaining input.old) (R.remaining input.new) (left (F.stores files.old) (W.contents out.old)) (left (F.stores files.new) (W.contents out.new))
         (E.contents err.old) (E.contents err.new) (exit_status result)) }
     ensures none { IfErr words.entry (λ fault. IsTold fault (E.contents err.old) (E.contents err.new) (exit_status result)) }

@@ -37,11 +37,13 @@ fn fault_of(error: Error) -> FileFault
 }
 
 impl<R: Files + AllocGlobal> FileStore for SystemFiles<'_, R> {
-    ghost use Rattle.std.specs.Prelude.{None};
+    ghost use Rattle.std.specs.Prelude.{None, false};
 
     type Reader = BufReader<R::File>;
 
     ghost gives = { λ _ _ _. Unit {0} };
+
+    ghost tells = { λ _. false };
 
     ghost stores = { λ _. None };
 

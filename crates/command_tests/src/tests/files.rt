@@ -79,11 +79,13 @@ impl MemoryFiles {
 }
 
 impl FileStore for MemoryFiles {
-    ghost use Rattle.std.specs.Prelude.{Some, map, string_bytes};
+    ghost use Rattle.std.specs.Prelude.{Some, map, string_bytes, true};
 
     type Reader = Cursor<Vec<u8>>;
 
     ghost gives = { λ _ _ _. Unit {0} };
+
+    ghost tells = { λ _. true };
 
     ghost stores = { λ m. Some (map (λ s. record { path = string_bytes s.path; bytes = s.bytes.items; done = s.done }) m.stored.items) };
 

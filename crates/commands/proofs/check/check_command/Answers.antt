@@ -1,54 +1,43 @@
 use Rattle.std.proofs.Common.{Ok, inl, inr, rules, subst, ℕ, List}
-use Rattle.commands.specs.Check.{HasFiles, IsHeld, IsNoCertificate, IsSpelled, IsUnheld}
-use Rattle.commands.proofs.CheckLemmas.{prints, stops, unread_before}
+use Rattle.commands.specs.Check.{HasFiles, IsNoCertificate, IsSpelled}
+use Rattle.commands.proofs.CheckLemmas.{accepted_does, stops, unread_before}
 use Rattle.commands.proofs.check.check_command.Goals as goal
 
 pub returns-in_err-image-clause-does : goal.returns-in_err-image-clause-does
 returns-in_err-image-clause-does g c =
     let asked = c.in_ok-asked.asked in
-    stops (g.F.FileStore.gives c.args.files.now) c.args.words _ _ c.from_residual-in_err-image.result c.in_err-image.field-0.0 (search rules) (search rules)
+    stops (g.F.FileStore.gives c.args.files.now) (g.F.FileStore.tells c.args.files.now) c.args.words _ _ c.from_residual-in_err-image.result c.in_err-image.field-0.0 (search rules) (search rules)
     (inr (inl (asked.geometry, asked.capacity, c.in_ok-asked.ensures.ok, c.in_err-image.ensures.fault)))
 
 pub returns-in_err-written-clause-does : goal.returns-in_err-written-clause-does
 returns-in_err-written-clause-does g c =
     let asked = c.in_ok-asked.asked in
-    stops (g.F.FileStore.gives c.args.files.now) c.args.words _ _ c.from_residual-in_err-written.result c.in_err-written.field-0.0 (search rules) (search rules)
+    stops (g.F.FileStore.gives c.args.files.now) (g.F.FileStore.tells c.args.files.now) c.args.words _ _ c.from_residual-in_err-written.result c.in_err-written.field-0.0 (search rules) (search rules)
     (inr (inr (inl (asked.geometry, asked.capacity, g.F.Reader.Read.remaining c.in_ok-image.image, c.in_ok-asked.ensures.ok, c.in_ok-image.ensures.ok, unread_before _ _ _ _ c.in_ok-image.ensures.same c.in_err-written.ensures.fault))))
 
 pub returns-in_err-certificate-clause-does : goal.returns-in_err-certificate-clause-does
 returns-in_err-certificate-clause-does g c =
     let asked = c.in_ok-asked.asked in
     let gives = g.F.FileStore.gives c.args.files.now in
+    let tells = g.F.FileStore.tells c.args.files.now in
     let known = g.F.Reader.Read.remaining c.in_ok-image.image in
     let written = c.in_ok-written.written.items in
-    let files : HasFiles gives c.args.words asked.geometry asked.capacity known written =
+    let files : HasFiles gives tells c.args.words asked.geometry asked.capacity known written =
     record { asked = c.in_ok-asked.ensures.ok; image = c.in_ok-image.ensures.ok; certificate = c.in_ok-image.ensures.same c.args.words.certificate.now (Ok written) c.in_ok-written.ensures.ok } in
     let P : List ℕ → Type 0 = λ w. IsNoCertificate w c.in_err-certificate.field-0.0 in
-    stops gives c.args.words _ _ c.from_residual-in_err-certificate.result c.in_err-certificate.field-0.0 (search rules) (search rules)
+    stops gives tells c.args.words _ _ c.from_residual-in_err-certificate.result c.in_err-certificate.field-0.0 (search rules) (search rules)
     (inr (inr (inr (inl (asked.geometry, asked.capacity, known, written, files, subst P c.deref.ensures.value c.in_err-certificate.ensures.fault)))))
-
-pub returns-in_err-hold-clause-does : goal.returns-in_err-hold-clause-does
-returns-in_err-hold-clause-does g c =
-    let asked = c.in_ok-asked.asked in
-    let gives = g.F.FileStore.gives c.args.files.now in
-    let known = g.F.Reader.Read.remaining c.in_ok-image.image in
-    let written = c.in_ok-written.written.items in
-    let claim = c.in_ok-certificate.certificate in
-    let files : HasFiles gives c.args.words asked.geometry asked.capacity known written =
-    record { asked = c.in_ok-asked.ensures.ok; image = c.in_ok-image.ensures.ok; certificate = c.in_ok-image.ensures.same c.args.words.certificate.now (Ok written) c.in_ok-written.ensures.ok } in
-    let Q : List ℕ → Type 0 = λ w. IsSpelled claim w in
-    stops gives c.args.words _ _ c.from_residual-in_err-hold.result c.in_err-hold.field-0.0 (search rules) (search rules)
-    (inr (inr (inr (inr (inl (asked.geometry, asked.capacity, known, written, claim, files, subst Q c.deref.ensures.value c.in_ok-certificate.ensures.ok, c.in_err-hold.ensures.fault))))))
 
 pub returns-clause-does : goal.returns-clause-does
 returns-clause-does g c =
     let asked = c.in_ok-asked.asked in
     let gives = g.F.FileStore.gives c.args.files.now in
+    let tells = g.F.FileStore.tells c.args.files.now in
     let known = g.F.Reader.Read.remaining c.in_ok-image.image in
     let written = c.in_ok-written.written.items in
     let claim = c.in_ok-certificate.certificate in
-    let files : HasFiles gives c.args.words asked.geometry asked.capacity known written =
+    let files : HasFiles gives tells c.args.words asked.geometry asked.capacity known written =
     record { asked = c.in_ok-asked.ensures.ok; image = c.in_ok-image.ensures.ok; certificate = c.in_ok-image.ensures.same c.args.words.certificate.now (Ok written) c.in_ok-written.ensures.ok } in
     let Q : List ℕ → Type 0 = λ w. IsSpelled claim w in
-    prints gives c.args.words asked.geometry asked.capacity known written claim _ _ c.print_accepted.result files
-    (subst Q c.deref.ensures.value c.in_ok-certificate.ensures.ok) c.in_ok-hold.ensures.ok c.print_accepted.ensures.ok c.print_accepted.ensures.fault
+    accepted_does gives tells c.args.words asked.geometry asked.capacity known written claim _ _ _ files
+    (subst Q c.deref.ensures.value c.in_ok-certificate.ensures.ok) (search rules)

@@ -1,8 +1,8 @@
-use Rattle.std.proofs.Common.{◌≡◌, ◌∙◌, ℕ, List, Option, Err, Result, ap, inr, refl, rules, subst, sym}
+use Rattle.std.proofs.Common.{◌≡◌, ◌∙◌, ℕ, List, Option, Err, Result, ap, rules, subst, sym}
 use Rattle.commands.specs.declared.text.CommandFault.{CommandFault}
 use Rattle.commands.specs.Files.{IsUnstored, Stored, left, with_store, written}
 use Rattle.commands.specs.Format.{DoesFormat, HasFormatted, HasInput, IsGeometry, IsUnformatted}
-use Rattle.commands.proofs.FormatLemmas.{has_formatted, refused_formats, unread_formats, unstored_formats}
+use Rattle.commands.proofs.FormatLemmas.{has_formatted, printed_formats, refused_formats, unread_formats, unstored_formats}
 use Rattle.commands.proofs.format.format_command.Goals as goal
 
 pub returns-in_err-bytes : goal.returns-in_err-bytes
@@ -46,18 +46,6 @@ returns-in_err-store g c =
     subst P (sym is) (unstored_formats gives words c.deref.result.now c.in_ok-good.good before after c.in_err-store.field-0.0 has (search rules)
     (subst (λ (stores : Option (List Stored)). IsUnstored words.output.now c.deref.result.now stores (g.F.FileStore.stores c.store.new.files) c.in_err-store.field-0.0) c.in_ok-bytes.ensures.stores c.in_err-store.ensures.fault))
 
-pub returns-in-Ok : goal.returns-in-Ok
-returns-in-Ok g c =
-    let words = c.args.words in
-    let geometry = c.in_ok-geometry.geometry in
-    let gives = g.F.FileStore.gives c.args.files.now in
-    let asked : IsGeometry words geometry = record { numbers = c.in_ok-numbers.numbers; spelled = c.in_ok-numbers.ensures.ok; valid = c.in_ok-geometry.ensures.ok } in
-    let input : HasInput gives words geometry c.in_ok-bytes.bytes.items = record { asked = asked; given = c.in_ok-bytes.ensures.ok } in
-    let has : HasFormatted gives words c.deref.result.now c.in_ok-good.good =
-    has_formatted gives words geometry _ c.deref_mut.result.now c.format_image.new.image c.deref.result.now c.in_ok-good.good c.in_ok-bytes.bytes.len input c.deref_mut.ensures.value c.deref.ensures.value
-    (c.format_image.auto.image ∙ c.deref_mut.ensures.len) c.in_ok-good.ensures.ok in
-    (c.deref.result.now, c.in_ok-good.good, has, c.in_ok-store.ensures.ok ∙ ap (λ stores. with_store stores (written words.output.now c.deref.result.now)) c.in_ok-bytes.ensures.stores, search rules)
-
 pub returns : goal.returns
 returns g c =
     let words = c.args.words in
@@ -68,4 +56,5 @@ returns g c =
     let has : HasFormatted gives words c.deref.result.now c.in_ok-good.good =
     has_formatted gives words geometry _ c.deref_mut.result.now c.format_image.new.image c.deref.result.now c.in_ok-good.good c.in_ok-bytes.bytes.len input c.deref_mut.ensures.value c.deref.ensures.value
     (c.format_image.auto.image ∙ c.deref_mut.ensures.len) c.in_ok-good.ensures.ok in
-    (c.deref.result.now, c.in_ok-good.good, has, inr (refl, c.in_ok-store.ensures.ok ∙ ap (λ stores. with_store stores (written words.output.now c.deref.result.now)) c.in_ok-bytes.ensures.stores))
+    let stored = c.in_ok-store.ensures.ok ∙ ap (λ (s : Option (List Stored)). with_store s (written words.output.now c.deref.result.now)) c.in_ok-bytes.ensures.stores in
+    printed_formats gives words c.deref.result.now c.in_ok-good.good _ _ c.print_good.result has stored c.print_good.ensures.ok c.print_good.ensures.fault

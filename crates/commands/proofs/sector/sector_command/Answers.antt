@@ -1,9 +1,9 @@
 use Rattle.std.proofs.Common.{true, false, ◌≡◌, inr, Err, Result, refl, rules, subst, sym, ap, ◌∙◌, length}
 use Rattle.commands.specs.declared.text.CommandFault.{CommandFault}
 use Rattle.commands.specs.declared.sector.PrintFault.{PrintFault}
-use Rattle.commands.specs.Sector.{DoesSector, HasImage, AsksForNumber, IsPrintFault, IsUnprinted}
+use Rattle.commands.specs.Sector.{DoesSector, HasImage, AsksForNumber, IsPrintFault, IsUnprinted, sector_line}
 use Rattle.commands.proofs.CommandLemmas.{unread_does}
-use Rattle.commands.proofs.ImageLemmas.{line_in, readable_in, unreadable_in}
+use Rattle.commands.proofs.ImageLemmas.{front_in, line_in, readable_in, unreadable_in}
 use Rattle.commands.proofs.sector.sector_command.Goals as goal
 
 pub returns-in_err-bytes-clause-does : goal.returns-in_err-bytes-clause-does
@@ -46,7 +46,7 @@ returns-in-Err-Sector-clause-does g c =
       given = c.in_ok-bytes.ensures.ok;
       whole = ap length (sym c.deref.ensures.value) ∙ c.in-Ok.ensures.accepted.0 refl;
     } in
-    let P : PrintFault → Type 0 = λ f. IsUnprinted f (g.W.Write.contents c.args.out.now) (g.W.Write.contents c.print_sector.new.out) in
+    let P : PrintFault → Type 0 = λ f. IsUnprinted (sector_line c.in-Ok.image.flash.geometry c.in-Ok.image.flash.image c.in_ok-sector.sector) f (g.W.Write.contents c.args.out.now) (g.W.Write.contents c.print_sector.new.out) in
     let Q : PrintFault → Type 0 = λ f. IsPrintFault c.in-Ok.image.flash.geometry c.in-Ok.image.flash.image c.in_ok-sector.sector f in
     (subst P c.in-Err-Sector.field-0-is c.in-Err-Sector.ensures.unprinted, (geometry, c.in_ok-sector.sector, bytes, image, unreadable_in c.in-Ok.image.flash geometry c.deref.result.now bytes c.in_ok-sector.sector c.in-Err-Sector.fault c.in-Ok.ensures.image c.deref.ensures.value (subst Q c.in-Err-Sector.field-0-is c.in-Err-Sector.ensures.fault)))
 
@@ -59,8 +59,18 @@ returns-in-Err-Write-clause-does g c =
       given = c.in_ok-bytes.ensures.ok;
       whole = ap length (sym c.deref.ensures.value) ∙ c.in-Ok.ensures.accepted.0 refl;
     } in
-    let Q : PrintFault → Type 0 = λ f. IsPrintFault c.in-Ok.image.flash.geometry c.in-Ok.image.flash.image c.in_ok-sector.sector f in
-    (refl, (geometry, c.in_ok-sector.sector, bytes, image, readable_in c.in-Ok.image.flash geometry c.deref.result.now bytes c.in_ok-sector.sector c.in-Ok.ensures.image c.deref.ensures.value (subst Q c.in-Err-Write.field-0-is c.in-Err-Write.ensures.fault)))
+    let P : PrintFault → Type 0 = λ f. IsUnprinted (sector_line c.in-Ok.image.flash.geometry c.in-Ok.image.flash.image c.in_ok-sector.sector) f (g.W.Write.contents c.args.out.now) (g.W.Write.contents c.print_sector.new.out) in
+    let Q : PrintFault → Type 0 = λ f. IsPrintFault c.in-Ok.image.flash.geometry c.in-Ok.image.flash.image c.in_ok-sector.sector f in (
+      refl,
+      (
+        geometry,
+        c.in_ok-sector.sector,
+        bytes,
+        image,
+        readable_in c.in-Ok.image.flash geometry c.deref.result.now bytes c.in_ok-sector.sector c.in-Ok.ensures.image c.deref.ensures.value (subst Q c.in-Err-Write.field-0-is c.in-Err-Write.ensures.fault),
+        front_in c.in-Ok.image.flash geometry c.deref.result.now bytes c.in_ok-sector.sector _ _ c.in-Ok.ensures.image c.deref.ensures.value (subst P c.in-Err-Write.field-0-is c.in-Err-Write.ensures.unprinted),
+      ),
+    )
 
 pub returns-clause-does : goal.returns-clause-does
 returns-clause-does g c =
@@ -71,6 +81,6 @@ returns-clause-does g c =
       given = c.in_ok-bytes.ensures.ok;
       whole = ap length (sym c.deref.ensures.value) ∙ c.in-Ok.ensures.accepted.0 refl;
     } in
-    let P : PrintFault → Type 0 = λ f. IsUnprinted f (g.W.Write.contents c.args.out.now) (g.W.Write.contents c.print_sector.new.out) in
+    let P : PrintFault → Type 0 = λ f. IsUnprinted (sector_line c.in-Ok.image.flash.geometry c.in-Ok.image.flash.image c.in_ok-sector.sector) f (g.W.Write.contents c.args.out.now) (g.W.Write.contents c.print_sector.new.out) in
     let Q : PrintFault → Type 0 = λ f. IsPrintFault c.in-Ok.image.flash.geometry c.in-Ok.image.flash.image c.in_ok-sector.sector f in
     (subst P c.in-Err-OutOfMemory.field-0-is c.in-Err-OutOfMemory.ensures.unprinted, inr (geometry, c.in_ok-sector.sector, bytes, image, readable_in c.in-Ok.image.flash geometry c.deref.result.now bytes c.in_ok-sector.sector c.in-Ok.ensures.image c.deref.ensures.value (subst Q c.in-Err-OutOfMemory.field-0-is c.in-Err-OutOfMemory.ensures.fault)))

@@ -44,7 +44,7 @@ returns-in_err-certificate g c =
       asked.capacity,
       bytes,
       written,
-      record { asked = c.in_ok-asked.ensures.ok; image = c.in_ok-bytes.ensures.ok; certificate = c.in_ok-bytes.ensures.same c.args.words.certificate.now (Ok written) c.in_ok-written.ensures.ok },
+      record { asked = c.in_ok-asked.ensures.ok; image = record { bytes = c.in_ok-bytes.ensures.ok; told = λ _. refl }; certificate = c.in_ok-bytes.ensures.same c.args.words.certificate.now (Ok written) c.in_ok-written.ensures.ok },
       subst P c.deref.ensures.value c.in_err-certificate.ensures.fault,
     )))))
 
@@ -60,7 +60,7 @@ returns-in_err-die g c =
     let P : List ℕ → Type 0 = λ b. IsUnserved asked.geometry asked.capacity b claim stop in
     let has : HasClaim gives c.args.words asked.geometry asked.capacity bytes claim = record {
       written = written;
-      files = record { asked = c.in_ok-asked.ensures.ok; image = c.in_ok-bytes.ensures.ok; certificate = c.in_ok-bytes.ensures.same c.args.words.certificate.now (Ok written) c.in_ok-written.ensures.ok };
+      files = record { asked = c.in_ok-asked.ensures.ok; image = record { bytes = c.in_ok-bytes.ensures.ok; told = λ _. refl }; certificate = c.in_ok-bytes.ensures.same c.args.words.certificate.now (Ok written) c.in_ok-written.ensures.ok };
       spelled = subst Q c.deref.ensures.value c.in_ok-certificate.ensures.ok;
     } in
     stops gives c.args.words _ _ _ _ c.from_residual-in_err-die.result stop (search rules) (c.in_ok-written.ensures.stores ∙ c.in_ok-bytes.ensures.stores, search rules) (search rules)
@@ -77,7 +77,7 @@ returns-in_err-stop g c =
     let Q : List ℕ → Type 0 = λ w. IsSpelled claim w in
     let has : HasClaim gives c.args.words asked.geometry asked.capacity bytes claim = record {
       written = written;
-      files = record { asked = c.in_ok-asked.ensures.ok; image = c.in_ok-bytes.ensures.ok; certificate = c.in_ok-bytes.ensures.same c.args.words.certificate.now (Ok written) c.in_ok-written.ensures.ok };
+      files = record { asked = c.in_ok-asked.ensures.ok; image = record { bytes = c.in_ok-bytes.ensures.ok; told = λ _. refl }; certificate = c.in_ok-bytes.ensures.same c.args.words.certificate.now (Ok written) c.in_ok-written.ensures.ok };
       spelled = subst Q c.deref.ensures.value c.in_ok-certificate.ensures.ok;
     } in
     let driver = c.driver_of-driver.result in
@@ -99,7 +99,7 @@ returns g c =
     let Q : List ℕ → Type 0 = λ w. IsSpelled claim w in
     let has : HasClaim gives words asked.geometry asked.capacity bytes claim = record {
       written = written;
-      files = record { asked = c.in_ok-asked.ensures.ok; image = c.in_ok-bytes.ensures.ok; certificate = c.in_ok-bytes.ensures.same words.certificate.now (Ok written) c.in_ok-written.ensures.ok };
+      files = record { asked = c.in_ok-asked.ensures.ok; image = record { bytes = c.in_ok-bytes.ensures.ok; told = λ _. refl }; certificate = c.in_ok-bytes.ensures.same words.certificate.now (Ok written) c.in_ok-written.ensures.ok };
       spelled = subst Q c.deref.ensures.value c.in_ok-certificate.ensures.ok;
     } in
     let driver = c.driver_of-driver.result in

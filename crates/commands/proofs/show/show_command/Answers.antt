@@ -1,10 +1,9 @@
 use Rattle.std.proofs.Common.{true, false, ◌≡◌, Err, Result, refl, rules, subst, sym, ap, ◌∙◌, length}
 use Rattle.commands.specs.declared.text.CommandFault.{CommandFault}
-use Rattle.commands.specs.declared.show.ShowFault.{ShowFault}
 use Rattle.commands.specs.Sector.{HasImage, AsksForNumber}
-use Rattle.commands.specs.Show.{DoesShow, IsShowFault}
-use Rattle.commands.proofs.CommandLemmas.{unread_shows}
-use Rattle.commands.proofs.ImageLemmas.{in_rows, past_rows, shows_in}
+use Rattle.commands.specs.Show.{DoesShow}
+use Rattle.commands.proofs.CommandLemmas.{shown_does, unread_shows}
+use Rattle.commands.proofs.ImageLemmas.{shows_in, unshown_in}
 use Rattle.commands.proofs.show.show_command.Goals as goal
 
 pub returns-in_err-bytes-clause-does : goal.returns-in_err-bytes-clause-does
@@ -21,37 +20,6 @@ returns-in-Err-clause-does g c =
     record { numbers = c.in_ok-numbers.numbers; geometry = c.in_ok-numbers.ensures.ok; sector = c.in_ok-row.ensures.ok; valid = c.in_ok-geometry.ensures.ok } in
     (search rules, (c.in_ok-geometry.geometry, c.in_ok-row.row, c.in_ok-bytes.bytes.items, asked, c.in_ok-bytes.ensures.ok, λ whole. let taken : false ≡ true = c.in-Err.ensures.accepted.1 (ap length c.deref.ensures.value ∙ whole) in cc))
 
-pub returns-in-Ok-print_page-clause-does : goal.returns-in-Ok-print_page-clause-does
-returns-in-Ok-print_page-clause-does g c =
-    let geometry = c.in_ok-geometry.geometry in
-    let row = c.in_ok-row.row in
-    let bytes = c.in_ok-bytes.bytes.items in
-    let image : HasImage (g.F.FileStore.gives c.args.files.now) c.args.words geometry row bytes = record {
-      asked = record { numbers = c.in_ok-numbers.numbers; geometry = c.in_ok-numbers.ensures.ok; sector = c.in_ok-row.ensures.ok; valid = c.in_ok-geometry.ensures.ok };
-      given = c.in_ok-bytes.ensures.ok;
-      whole = ap length (sym c.deref.ensures.value) ∙ c.in-Ok.ensures.accepted.0 refl;
-    } in (
-      geometry,
-      row,
-      bytes,
-      image,
-      in_rows c.in-Ok.image.flash geometry c.deref.result.now bytes row c.in-Ok.ensures.image c.deref.ensures.value c.in-Ok-print_page.ensures.in_range,
-      shows_in c.in-Ok.image.flash geometry c.deref.result.now bytes row _ _ c.in-Ok.ensures.image c.deref.ensures.value c.in-Ok-print_page.ensures.ok,
-    )
-
-pub returns-in-Err-RowRange-clause-does : goal.returns-in-Err-RowRange-clause-does
-returns-in-Err-RowRange-clause-does g c =
-    let geometry = c.in_ok-geometry.geometry in
-    let row = c.in_ok-row.row in
-    let bytes = c.in_ok-bytes.bytes.items in
-    let image : HasImage (g.F.FileStore.gives c.args.files.now) c.args.words geometry row bytes = record {
-      asked = record { numbers = c.in_ok-numbers.numbers; geometry = c.in_ok-numbers.ensures.ok; sector = c.in_ok-row.ensures.ok; valid = c.in_ok-geometry.ensures.ok };
-      given = c.in_ok-bytes.ensures.ok;
-      whole = ap length (sym c.deref.ensures.value) ∙ c.in-Ok.ensures.accepted.0 refl;
-    } in
-    let Q : ShowFault → Type 0 = λ f. IsShowFault c.in-Ok.image.flash.geometry row f in
-    (c.in-Err-RowRange.ensures.unwritten (ap Err c.in-Err-RowRange.field-0-is), (geometry, row, bytes, image, past_rows c.in-Ok.image.flash geometry c.deref.result.now bytes row c.in-Ok.ensures.image c.deref.ensures.value (subst Q c.in-Err-RowRange.field-0-is c.in-Err-RowRange.ensures.fault)))
-
 pub returns-clause-does : goal.returns-clause-does
 returns-clause-does g c =
     let geometry = c.in_ok-geometry.geometry in
@@ -62,5 +30,6 @@ returns-clause-does g c =
       given = c.in_ok-bytes.ensures.ok;
       whole = ap length (sym c.deref.ensures.value) ∙ c.in-Ok.ensures.accepted.0 refl;
     } in
-    let Q : ShowFault → Type 0 = λ f. IsShowFault c.in-Ok.image.flash.geometry row f in
-    (refl, (geometry, row, bytes, image, in_rows c.in-Ok.image.flash geometry c.deref.result.now bytes row c.in-Ok.ensures.image c.deref.ensures.value (subst Q c.in-Err-Write.field-0-is c.in-Err-Write.ensures.fault)))
+    let shown = shows_in c.in-Ok.image.flash geometry c.deref.result.now bytes row _ _ c.print_page.result c.in-Ok.ensures.image c.deref.ensures.value c.print_page.ensures.ok in
+    let unshown = unshown_in c.in-Ok.image.flash geometry c.deref.result.now bytes row _ _ c.print_page.result c.in-Ok.ensures.image c.deref.ensures.value c.print_page.ensures.fault in
+    shown_does _ c.args.words geometry row bytes _ _ c.print_page.result image shown unshown
