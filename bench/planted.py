@@ -28,12 +28,13 @@ import edits
 
 TOP = edits.TOP
 PARTS = ("src", "specs", "proofs")
-# a name that stands nowhere, or a text that is none of the language
+# a name that stands nowhere, or a text that is none of the language; in a proof a field that a bent definition lacks is none of these
 NAMELESS = re.compile(
-    r"not in scope|unknown (name|module|import|field)|no (item|module|name|definition|field|variant) |cannot find|unresolved|"
-    r"does not (have|export|declare)|has no (field|item|name|module|member|constructor|`)|is private|is not declared|"
-    r"parse error|syntax error|expected [`'a-z]+.* found|unexpected (token|character|end)|mismatched types"
+    r"not in scope|unknown (name|module|import)|no (item|module|name|definition) |cannot find|unresolved|does not (have|export|declare)|"
+    r"is private|is not declared|parse error|syntax error|unexpected (token|character|end)"
 )
+# what a prover says of a clause that a body doesn't meet
+UNMET = re.compile(r"prove|goal|clause|requires|ensures|invariant|search|grind|omega")
 MESSAGE = re.compile(r"^(?P<file>\S+?\.(?:rt|antt)):(?P<line>\d+):\d+: error: (?P<text>.*)$|^error(?:\[\w+\])?: (?P<rust>.*)$|^.*must prove: (?P<goal>.*)$")
 
 
@@ -45,7 +46,7 @@ def messages_of(said):
         if not match:
             continue
         text = match["text"] or match["rust"] or match["goal"]
-        if "was not admitted" in text or "depends on" in text:
+        if re.search(r"declarations? that depend", text):
             continue
         found.append((match["file"], text))
     return found
@@ -58,7 +59,7 @@ def verdict_of(said):
     if verdicts and verdicts[-1] == "proved":
         return "proves", ""
     for file, text in messages:
-        if NAMELESS.search(text):
+        if NAMELESS.search(text) or ("proofs/" not in (file or "") and not UNMET.search(text)):
             return "unread", f"{file or ''} {text}"
     if not verdicts:
         return ("unread" if messages else "none"), messages[0][1] if messages else said[-160:]
