@@ -57,8 +57,10 @@ fn serve_with<N: Nand, R: Read, W: Write>(
 /// For a reader and a writer that tell their bytes, in whatever pieces these come: what was read is the
 /// requests one after another and what stands after the last of them, and what was written is the
 /// device's replies in order, with one frame of status 7 where a header was bad. The device was told
-/// just these requests, and did what `tell` says of each. Before the first fault of the bus
-/// they are a run, as `run` says, and from it on each reply is `BusFault`.
+/// just these requests, one call a request, and each did what `tell` says of it, from a device to the
+/// next. Before the first fault of the bus they are a run, as `run` says, whose events are those calls,
+/// and from it on each reply is `BusFault`. No clause says that a reply is handed on before the next
+/// request is read; tests show it.
 ///
 /// # Errors
 ///
