@@ -6,9 +6,9 @@ ghost use Rattle.command_queue.specs.Commands.{IsWhole, AreWhole};
 ghost use Rattle.command_queue.specs.Exchanges.{AreKnown, exchanges_of};
 ghost use Rattle.command_queue.specs.Run.{RanFrom};
 
-use super::bench::{formatted_die, mounted, small};
 use certificate::Certificate;
 use command_queue::{Call, Command, run_accepted};
+use device_bench::bench::{formatted_die, mounted, small};
 use ftl_device::{Device, DeviceFault};
 use image_check::check;
 use nand_die::Die;
