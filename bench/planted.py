@@ -6,8 +6,8 @@
     bench/planted.py --must-fail CRATE  the bugs of crates/CRATE/must-fail, by the same rules
     bench/planted.py --bends FILE CRATE [NAME..]
                                         the edits of a file, one after another; lines '# NAME' stand between them
-    bench/planted.py --laws ..          any of these, but first only the laws of the crate (its module `laws`) are checked: what they
-                                        refuse is done in seconds, and the whole check is run where they let it through
+    bench/planted.py --first PATH ..    any of these, but first this module or function of the crate is checked alone, as `laws`: what
+                                        that refuses is done in seconds, and the whole check is run where it lets the bug through
 
 The whole check of the crate is run over what earlier checks kept (crates/*/out). Of each bug one line is printed:
 
@@ -87,7 +87,7 @@ def run_check(crate, *flags):
     return verdict_of(done.stdout + done.stderr)
 
 
-def try_edit(room, name, pairs_file, laws_first):
+def try_edit(room, name, pairs_file, first):
     """Plants one edit in the room, checks its crate, and puts the crate back."""
     crate = room / "crates" / name
     try:
@@ -97,8 +97,8 @@ def try_edit(room, name, pairs_file, laws_first):
     for path, text in texts.items():
         path.write_text(text, encoding="utf-8")
     verdict, why = "proves", ""
-    if laws_first and (crate / "src" / "laws.rt").is_file():
-        verdict, why = run_check(crate, "--only", f"{name}::laws")
+    if first is not None:
+        verdict, why = run_check(crate, "--only", f"{name}::{first}")
     if verdict == "proves":
         verdict, why = run_check(crate)
     restore(room, name)
@@ -151,8 +151,9 @@ def copy_crates(room, kept):
 def main():
     room = pathlib.Path(tempfile.mkdtemp())
     counts = {}
-    words = [word for word in sys.argv[1:] if word != "--laws"]
-    laws_first = len(words) < len(sys.argv) - 1
+    first, words = None, sys.argv[1:]
+    if words[:1] == ["--first"]:
+        first, words = words[1], words[2:]
     try:
         for file in ("crates.txt", "HANDLES"):
             shutil.copy(TOP / file, room)
@@ -163,7 +164,7 @@ def main():
                 return 2
             restore(room, name)
             for file in files:
-                verdict, why = try_edit(room, name, file, laws_first)
+                verdict, why = try_edit(room, name, file, first)
                 counts[verdict] = counts.get(verdict, 0) + 1
                 print(f"{verdict:8} {name}/{file.stem}  {why[:200]}", flush=True)
     finally:
