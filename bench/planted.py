@@ -48,7 +48,7 @@ def messages_of(said):
         match = MESSAGE.match(line)
         if not match:
             continue
-        text = match["text"] or match["rust"] or match["goal"]
+        text = match["text"] or match["rust"] or f"must prove: {match['goal']}"
         if re.search(r"declarations? that depend", text):
             continue
         found.append((match["file"], text))
