@@ -48,7 +48,7 @@ def messages_of(said):
         match = MESSAGE.match(line)
         if not match:
             continue
-        text = match["text"] or match["rust"] or match["goal"]
+        text = match["text"] or match["rust"] or f"must prove: {match['goal']}"
         if re.search(r"declarations? that depend", text):
             continue
         found.append((match["file"], text))
@@ -60,7 +60,8 @@ def verdict_of(said):
     verdicts = re.findall(r"^logic=(\S+)", said, re.MULTILINE)
     counts = re.findall(r"^only=(\d+) proved=(\d+)", said, re.MULTILINE)
     messages = messages_of(said)
-    if verdicts and verdicts[-1] == "proved" or counts and counts[-1][0] == counts[-1][1]:
+    # a library that was built first has a verdict of its own
+    if not messages and (counts[-1][0] == counts[-1][1] if counts else verdicts[-1:] == ["proved"]):
         return "proves", ""
     for file, text in messages:
         if NAMELESS.search(text) or ("proofs/" not in (file or "") and not UNMET.search(text)):
