@@ -3,7 +3,7 @@ use Rattle.std.proofs.lemmas.Grind.{common_steps}
 use Rattle.page_layout.specs.declared.geometry.Geometry.{Geometry}
 use Rattle.page_layout.specs.Geometry.{row_count, page_bytes}
 use Rattle.page_layout.specs.Flash.{Flash}
-use Rattle.hostile_tests.proofs.tests.bench.image_of.Goals as goal
+use Rattle.hostile_tests.proofs.tests.dies.image_of.Goals as goal
 
 pub image_into-requires : goal.image_into-requires
 image_into-requires c =
