@@ -67,6 +67,7 @@ pub(crate) fn read_sound<N: Nand>(
     ensures reads { N.reads nand.new ≡ counted (N.reads nand.old) }
     ensures rose { OnErr result (HasRisen (N.failed nand.old) (N.failed nand.new)) }
     ensures same { N.honest nand.old ≡ true → OnOk result (N.flash nand.new ≡ N.flash nand.old) }
+    ensures told { N.honest nand.old ≡ true → OnOk result (N.recorded nand.new ≡ N.recorded nand.old) }
     ensures record { IfOk result (λ found. found ≡ record_of (page body.new spare.new)) }
     ensures page { N.honest nand.old ≡ true →
         OnOk result (slice_get (N.flash nand.old).image row ≡ Some (page body.new spare.new)) }

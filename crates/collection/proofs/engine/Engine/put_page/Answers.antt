@@ -4,7 +4,7 @@ use Rattle.budget.specs.Stream.{stream_of}
 use Rattle.collection.specs.Safe.{ram}
 use Rattle.collection.proofs.Memory.{put_same, put_then, outside_some}
 use Rattle.collection.proofs.Acts.{acts_same, acts_then, acts_ok, acts_err}
-use Rattle.collection.proofs.Costs.{not_tried, tried_again, has_put, tries_none, tries_some, costs_then}
+use Rattle.collection.proofs.Costs.{not_bus, not_tried, tried_again, has_put, tries_none, tries_some, costs_then}
 use Rattle.collection.proofs.Puts.{kept_same, same_kept, kept_then, put_after, refused_then, outside_then, may_still, attempted_none, attempted_some}
 use Rattle.promises.proofs.StopLemmas.{leaves_nothing}
 use Rattle.collection.proofs.Looks.{ok_not_bus}
@@ -95,10 +95,12 @@ returns-clause-truth g c = λ honest may. same_kept _ _ _ _ (c.tries.invariant.t
 -- ---- what a stop leaves
 
 pub returns-in_err-tried-clause-stops : goal.returns-in_err-tried-clause-stops
-returns-in_err-tried-clause-stops g c = λ honest may ne.
+returns-in_err-tried-clause-stops g c =
+    let p = err_from_is_err_and c.from_residual.result c.from_residual.ensures.1 in
+    rw (p.1, p.2) (λ honest may ne.
     let kept = c.tries.invariant.truth honest may in
     let now = may_still c.args.kind c.args.number c.args.old_row _ _ _ _ _ _ may (ap (λ v. v.items) c.tries.invariant.page) c.tries.invariant.goes kept in
-    tries_then _ _ _ _ _ _ _ _ c.tries.invariant.goes.goes.geometry kept.keeps (c.tries.invariant.stops honest may) (c.in_err-tried.ensures.stops (c.tries.invariant.acts.honest_is ∙ honest) now ne)
+    tries_then _ _ _ _ _ _ _ _ c.tries.invariant.goes.goes.geometry kept.keeps (c.tries.invariant.stops honest may) (c.in_err-tried.ensures.stops (c.tries.invariant.acts.honest_is ∙ honest) now (not_bus _ ne)))
 
 pub returns-in-Some-clause-stops : goal.returns-in-Some-clause-stops
 returns-in-Some-clause-stops g c = λ honest may ne.
