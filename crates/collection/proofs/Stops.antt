@@ -1,10 +1,12 @@
 -- What stops in calls leave: of one operation, of a page with its tries, and of one call after another.
-use Rattle.std.proofs.Common.{◌≡◌, ◌≢◌, ◌⊎◌, inl, inr, ℕ, ◌+◌, Bool, true, [], ◌∷◌, Option, Some, None, Result, Ok, Err, IfOk, refl, ap, sym, ◌∙◌, subst}
+use Rattle.std.proofs.Common.{◌≡◌, ◌≢◌, ◌⊎◌, inl, inr, ℕ, ◌+◌, ◌*◌, Bool, true, List, [], ◌∷◌, Option, Some, None, Result, Ok, Err, IfOk, refl, ap, sym, ◌∙◌, subst}
 use Rattle.page_layout.specs.declared.geometry.Geometry.{Geometry}
 use Rattle.page_layout.specs.declared.record.Record.{Record}
+use Rattle.page_layout.specs.declared.record.Key.{Key}
+use Rattle.page_layout.specs.declared.record.Key.TheVariants.{Sector, Translation, Table}
 use Rattle.page_layout.specs.Page.{Image, Page}
 use Rattle.page_layout.specs.Array.{array_of}
-use Rattle.page_layout.specs.Change.{Keeps, HoldsNone}
+use Rattle.page_layout.specs.Change.{Keeps, HoldsNone, LosesIn}
 use Rattle.page_layout.specs.Flash.{Flash, Operation, Program, Erase, Steps, page_at}
 use Rattle.page_layout.specs.Recording.{Recording, Records}
 use Rattle.page_layout.proofs.StepLemmas.{Keeps-refl, Keeps-trans, failed_keeps, lost_keeps, array_kept}
@@ -17,6 +19,11 @@ use Rattle.image_check.specs.Mountable.{IsOrderly}
 use Rattle.image_check.proofs.TornLemmas.{orderly_kept}
 use Rattle.collection.specs.declared.fault.WriteFault.{WriteFault}
 use Rattle.collection.specs.declared.fault.WriteFault.TheVariants.{ReadOnly, SequenceSpent, Damaged, Bus}
+use Rattle.mapping_cache.specs.Mapping.{MappingState}
+use Rattle.collection.specs.Settle.{SetsMapping}
+use Rattle.collection.specs.Collect.{IsRearranged, RoomRefused}
+use Rattle.collection.proofs.Costs.{err_as}
+use Rattle.collection.specs.Live.{FindsFirst, IsFirstLive, IsLivePage}
 use Rattle.collection.specs.State.{Ram}
 use Rattle.collection.specs.Safe.{IsRam}
 use Rattle.collection.specs.Truth.{IsTrue}
@@ -127,3 +134,56 @@ refused_same a b x y ReadOnly ne k = k
 refused_same a b x y SequenceSpent ne k = k
 refused_same a b x y Damaged ne k = absurd k
 refused_same a b x y Bus ne k = absurd (ne refl)
+
+-- a page with its tries, where memory knows the image before and after
+pub put_left : (a b : Ram) (x y : Flash) (rx ry : Option Recording) → IsSized a b → IsRam a → IsRam b → IsTrue None a x.image → IsTrue None b y.image → LeavesOnly x y rx ry (IsKeptOr a.geometry x.image y.image) → LeavesOnly x y rx ry (IsLeft a x.image y.image)
+put_left a b x y rx ry s safe safe' w v l = leaves_more x y rx ry (IsKeptOr a.geometry x.image y.image) (IsLeft a x.image y.image) (λ i k. settled_left a b x.image y.image i s safe safe' w v k) l
+
+-- a memory that knows the image before, and a call that changed nothing
+pub same_left : (a : Ram) (x z : Image) → IsRam a → IsTrue None a x → IsLeft a x z x
+same_left a x z safe w = left_known a a x x (sized_same a) safe w refl z
+
+-- after a call that looked
+pub stops_looked : (a b : Ram) (x x1 y : Flash) (rx r1 ry : Option Recording) → b ≡ a → x1 ≡ x → r1 ≡ rx → LeavesOnly x1 y r1 ry (IsLeft b x1.image y.image) → LeavesOnly x y rx ry (IsLeft a x.image y.image)
+stops_looked a b x x1 y rx r1 ry same still told l =
+    subst (λ r. LeavesOnly x y rx ry (IsLeft r x.image y.image)) same (subst (λ f. LeavesOnly f y rx ry (IsLeft b f.image y.image)) still (subst (λ t. LeavesOnly x1 y t ry (IsLeft b x1.image y.image)) told l))
+
+-- by a memory of the same size
+pub stops_sized : (a b : Ram) (x y : Flash) (rx ry : Option Recording) → IsSized a b → LeavesOnly x y rx ry (IsLeft b x.image y.image) → LeavesOnly x y rx ry (IsLeft a x.image y.image)
+stops_sized a b x y rx ry s l = leaves_more x y rx ry (IsLeft b x.image y.image) (IsLeft a x.image y.image) (λ i k. later_left a b x.image x.image y.image i s refl k) l
+
+-- what keeps leaves the array
+kept_left : (a : Ram) (x y left : Image) → IsRam a → IsTrue None a x → Keeps a.geometry x left → IsLeft a x y left
+kept_left a x y left safe w k = record { array = inl (array_kept a.geometry x left k); orderly = orderly_kept a.geometry (room_of a) x left k (orderly a x safe w) }
+
+-- ONE ERASE of a block that holds no newest page
+pub erase_stops : (a b : Ram) (block : ℕ) (passed : Bool) (left : List Page) (x y : Flash) (rx ry : Option Recording) → x.geometry ≡ a.geometry → IsRam a → IsTrue None a x.image → HoldsNone a.geometry.pages block x.image → Steps x (Erase block passed left) y → Records rx (Erase block passed left ∷ []) ry → IsKept a x.image b y.image → LeavesOnly x y rx ry (IsLeft a x.image y.image)
+erase_stops a b block passed left x y rx ry same safe w none step records kept =
+    leaves_one x y (Erase block passed left) rx ry (IsLeft a x.image y.image) step records
+    (λ image whole torn. kept_left a x.image y.image image safe w (lost_keeps a.geometry block x.image image w.one none (subst (λ g. LosesIn g.pages block x.image image) same torn)))
+    (kept_left a x.image y.image y.image safe w kept.keeps)
+
+-- a row that is set leaves the mapping its size
+pub sets_capacity : (key : Key) (row : ℕ) (old new : MappingState) → SetsMapping key row old new → new.capacity ≡ old.capacity
+sets_capacity (Sector n) row old new s = s.limits.capacity
+sets_capacity (Translation t) row old new s = ap (λ m. m.capacity) s
+sets_capacity (Table u) row old new s = ap (λ m. m.capacity) s
+
+-- an answer that is no fault of the die
+pub fault_not_bus : {A : Type 0} (f : WriteFault) → err_as A f ≢ err_as A Bus → f ≢ Bus
+fault_not_bus {A} f ne is = ne (ap (err_as A) is)
+
+-- what making room knows where it is refused
+pub room_same : (a b : Ram) (x y : Image) (fault : WriteFault) → fault ≢ Bus → RoomRefused a x b y fault → IsRearranged a x b y
+room_same a b x y ReadOnly ne k = k
+room_same a b x y SequenceSpent ne k = k
+room_same a b x y Damaged ne k = absurd k
+room_same a b x y Bus ne k = absurd (ne refl)
+
+-- the page that was found is live after the look as before
+pub live_known : (r r1 : Ram) (x x1 : Image) (block first page row : ℕ) (found : Record) (body : List ℕ) (live : Option (ℕ × Record)) → IsTrue None r x → r1 ≡ r → x1 ≡ x → row ≡ block * r1.geometry.pages + page → FindsFirst r.geometry.pages block first body x live → live ≡ Some (page, found) → IsTrue None r1 x1 × IsLivePage row body found x1
+live_known r r1 x x1 block first page row found body live w same still at finds is =
+    let f : IsFirstLive r.geometry.pages block first page body found x = (let P : Option (ℕ × Record) → Type 0 = λ o. FindsFirst r.geometry.pages block first body x o in subst P is finds) in
+    let here : row ≡ block * r.geometry.pages + page = at ∙ ap (λ (z : Ram). block * z.geometry.pages + page) same in
+    let live_page : IsLivePage row body found x = (let P : ℕ → Type 0 = λ q. IsLivePage q body found x in subst P (sym here) f.live) in
+    (rw (same, still) w, rw still live_page)
