@@ -114,6 +114,17 @@ module _ {N : Type 0} {flash : N → Flash} {honest calm : N → Bool} {failed :
 
 -- ---- calls that look
 
+module _ {N : Type 0} {flash : N → Flash} {honest calm : N → Bool} {programs erases failed : N → ℕ} where
+  pub reads_then : (a b c : N) → OnlyReads flash honest calm programs erases failed a b → OnlyReads flash honest calm programs erases failed b c → OnlyReads flash honest calm programs erases failed a c
+  reads_then a b c p q = record {
+    geometry_is = q.geometry_is ∙ p.geometry_is;
+    honest_is = q.honest_is ∙ p.honest_is;
+    calm_is = q.calm_is ∙ p.calm_is;
+    programs_are = q.programs_are ∙ p.programs_are;
+    erases_are = q.erases_are ∙ p.erases_are;
+    failed_is = omega (arith, p.failed_is, q.failed_is);
+  }
+
 module _ {N : Type 0} {flash : N → Flash} {recorded : N → Option Recording} {honest calm : N → Bool} {programs erases failed : N → ℕ} where
   pub looks_same : (a : Engine N) → IsSafe flash a → OnlyLooks {A = Unit {0}} flash recorded honest calm programs erases failed a a (Ok tt)
   looks_same a safe = record {
@@ -124,16 +135,6 @@ module _ {N : Type 0} {flash : N → Flash} {recorded : N → Option Recording} 
     rose = λ is. absurd (ok_not_bus tt is);
     same = λ known ne. refl;
     told = λ known ne. refl;
-  }
-
-  pub reads_then : (a b c : N) → OnlyReads flash honest calm programs erases failed a b → OnlyReads flash honest calm programs erases failed b c → OnlyReads flash honest calm programs erases failed a c
-  reads_then a b c p q = record {
-    geometry_is = q.geometry_is ∙ p.geometry_is;
-    honest_is = q.honest_is ∙ p.honest_is;
-    calm_is = q.calm_is ∙ p.calm_is;
-    programs_are = q.programs_are ∙ p.programs_are;
-    erases_are = q.erases_are ∙ p.erases_are;
-    failed_is = omega (arith, p.failed_is, q.failed_is);
   }
 
   pub looks_then : {A B : Type 0} (a b c : Engine N) (x : A) (result : Result B WriteFault) → OnlyLooks flash recorded honest calm programs erases failed a b (Ok x) → OnlyLooks flash recorded honest calm programs erases failed b c result → OnlyLooks flash recorded honest calm programs erases failed a c result

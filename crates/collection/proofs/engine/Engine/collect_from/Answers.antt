@@ -14,7 +14,7 @@ use Rattle.collection.proofs.HalfDone.{due_few, due_first, pin_next, pin_erased,
 use Rattle.collection.proofs.PageReads.{none_read, read_more, read_all}
 use Rattle.collection.specs.Whole.{next_of}
 use Rattle.promises.proofs.StopLemmas.{leaves_nothing}
-use Rattle.collection.proofs.Stops.{same_left, stops_then}
+use Rattle.collection.proofs.Stops.{same_left, stops_then, IsSized}
 use Rattle.collection.proofs.Looks.{ok_not_bus}
 use Rattle.collection.proofs.Costs.{not_bus}
 use Rattle.collection.proofs.engine.Engine.collect_from.Goals as goal
@@ -61,7 +61,7 @@ steps-preserved g c =
       under_way = stepped c.args.flushing c.args.pinned.block c.steps.first c.in-Some.next old now new _ _ _ _ i.acts.safe.memory c.step_on.ensures.acts.safe.memory i.goes c.requires.half_done.within i.under_way c.in_ok-step.step c.in_ok-step.ensures.goes_still (ap (λ p. next_of p c.in_ok-step.step) (sym c.pages-pages.ensures) ∙ is) c.in_ok-step.ensures.cost (λ k w none. c.in_ok-step.ensures.truth (i.acts.honest_is ∙ k.0) w none);
       stops = λ honest w passed.
           let so = i.under_way.truth (honest, w, passed) in
-          let sized = record { geometry = i.goes.geometry; capacity = i.keys.limits.capacity } in
+          let sized : IsSized (ram c.args.self.now) (ram c.steps.self) = record { geometry = i.goes.geometry; capacity = i.keys.limits.capacity } in
           stops_then old now _ _ _ _ _ _ sized so.same.array (i.stops honest w passed) (c.in_ok-step.ensures.stops (i.acts.honest_is ∙ honest) so.same.truth (let n = so.none in rw i.goes.geometry n) (ok_not_bus _));
     }
 
@@ -232,7 +232,7 @@ returns-in_err-step-clause-stops g c =
     let i = c.steps.invariant in
     let so = i.under_way.truth (honest, w, passed) in
     let before = i.stops honest w passed in
-    let sized = record { geometry = i.goes.geometry; capacity = i.keys.limits.capacity } in
+    let sized : IsSized (ram c.args.self.now) (ram c.steps.self) = record { geometry = i.goes.geometry; capacity = i.keys.limits.capacity } in
     let now = i.acts.honest_is ∙ honest in
     stops_then (ram c.args.self.now) (ram c.steps.self) _ _ _ _ _ _ sized so.same.array before (c.in_err-step.ensures.stops now so.same.truth (let n = so.none in rw i.goes.geometry n) (not_bus _ ne)))
 
@@ -241,6 +241,6 @@ returns-in_default-clause-stops g c = λ honest w passed ne.
     let i = c.steps.invariant in
     let so = i.under_way.truth (honest, w, passed) in
     let before = i.stops honest w passed in
-    let sized = record { geometry = i.goes.geometry; capacity = i.keys.limits.capacity } in
+    let sized : IsSized (ram c.args.self.now) (ram c.steps.self) = record { geometry = i.goes.geometry; capacity = i.keys.limits.capacity } in
     let now = i.acts.honest_is ∙ honest in
     stops_then (ram c.args.self.now) (ram c.steps.self) _ _ _ _ _ _ sized so.same.array before (c.in_ok-step.ensures.stops now so.same.truth (let n = so.none in rw i.goes.geometry n) (ok_not_bus _))
