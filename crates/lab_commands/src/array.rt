@@ -140,13 +140,9 @@ pub(crate) fn array_command<'a, F: LabFiles, W: Write>(
 {
     let geometry = geometry_at(words.geometry)?;
     allow(files, &words)?;
-    let Written {
-        held,
-        unsound,
-        target,
-    } = make(alloc, &words, &geometry, files)?;
-    put(files, words.out, target)?;
-    match print_report(out, &held, unsound) {
+    let written = make(alloc, &words, &geometry, files)?;
+    put(files, words.out, written.target)?;
+    match print_report(out, &written.held, written.unsound) {
         Ok(()) => Ok(()),
         Err(_) => Err(LabFault::Write("-")),
     }

@@ -13,12 +13,12 @@ returns-in-Ok-clause-ok g c =
     let words = c.args.words in
     record {
       g = c.in_ok-geometry.geometry;
-      pieces = _;
-      held = c.in_ok-held.held.items;
-      unsound = c.in_ok-held.unsound;
+      pieces = g.F.Target.Target.pieces c.in_ok-written.written.target;
+      held = c.in_ok-written.written.held.items;
+      unsound = c.in_ok-written.written.unsound;
       geometry_is = c.in_ok-geometry.ensures;
       allowed = c.in_ok-allow.ensures.ok;
-      made = subst (λ f. IsMade (g.F.LabFiles.gives f words.dump.now) c.in_ok-geometry.geometry _ c.in_ok-held.held.items c.in_ok-held.unsound) same c.in_ok-held.ensures.made;
-      put = c.in_ok-put.ensures.ok ∙ ap (λ k. with_kept k words.out.now _) (c.in_ok-held.ensures.kept ∙ ap g.F.LabFiles.kept same);
-      told = subst (λ (hs : List Held). Appends (g.W.Write.contents c.args.out.now) (g.W.Write.contents c.print_report.new.out) (report_of (map state_in hs) c.in_ok-held.unsound)) c.deref.ensures.value c.in-Ok.ensures;
+      made = subst (λ f. IsMade (g.F.LabFiles.gives f words.dump.now) c.in_ok-geometry.geometry (g.F.Target.Target.pieces c.in_ok-written.written.target) c.in_ok-written.written.held.items c.in_ok-written.written.unsound) same c.in_ok-written.ensures.made;
+      put = c.in_ok-put.ensures.ok ∙ ap (λ k. with_kept k words.out.now (g.F.Target.Target.pieces c.in_ok-written.written.target)) (c.in_ok-written.ensures.kept ∙ ap g.F.LabFiles.kept same);
+      told = subst (λ (hs : List Held). Appends (g.W.Write.contents c.args.out.now) (g.W.Write.contents c.print_report.new.out) (report_of (map state_in hs) c.in_ok-written.written.unsound)) c.deref.ensures.value c.in-Ok.ensures;
     }
