@@ -4,12 +4,12 @@
 # are proved, built and run in a copy, in which the distances are 1. Takes what earlier checks kept of the libraries (out/rlib), and
 # proves the rest first. It prints the tests.
 #
-#     bench/fault_scripts.sh [device_tests] [hostile_tests]       these crates of tests (default: both)
+#     bench/fault_scripts.sh [fault_tests] [hostile_tests]       these crates of tests (default: both)
 set -eu
 top="$(cd "$(dirname "$0")/.." && pwd)"
 folder="$(mktemp -d)"
 trap 'rm -rf "$folder"' EXIT
-if [ $# -eq 0 ]; then set -- device_tests hostile_tests; fi
+if [ $# -eq 0 ]; then set -- fault_tests hostile_tests; fi
 cd "$top"
 git init -q "$folder"
 tar cf - --exclude='crates/*/out/incremental' crates crates.txt HANDLES | tar xf - -C "$folder"
@@ -21,7 +21,7 @@ tighten() {
 }
 
 cd "$folder/crates"
-tighten device_tests/src/tests/fault_scripts.rt EACH
+tighten fault_tests/src/tests/fault_scripts.rt EACH
 tighten hostile_tests/src/tests/scripts.rt CALLS_APART
 tighten hostile_tests/src/tests/scripts.rt CHANGES_APART
 for name in "$@"; do

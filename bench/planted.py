@@ -4,7 +4,10 @@
     bench/planted.py [CRATE..]          the bugs of these crates (default: every folder of planted/)
     bench/planted.py CRATE/NAME ..      these bugs alone
     bench/planted.py --must-fail CRATE  the bugs of crates/CRATE/must-fail, by the same rules
-    bench/planted.py --bends FILE CRATE the edits of a file, one after another; lines '# NAME' stand between them
+    bench/planted.py --bends FILE CRATE [NAME..]
+                                        the edits of a file, one after another; lines '# NAME' stand between them
+    bench/planted.py --first PATH ..    any of these, but first this module or function of the crate is checked alone, as `laws`: what
+                                        that refuses is done in seconds, and the whole check is run where it lets the bug through
 
 The whole check of the crate is run over what earlier checks kept (crates/*/out). Of each bug one line is printed:
 
@@ -45,7 +48,7 @@ def messages_of(said):
         match = MESSAGE.match(line)
         if not match:
             continue
-        text = match["text"] or match["rust"] or match["goal"]
+        text = match["text"] or match["rust"] or f"must prove: {match['goal']}"
         if re.search(r"declarations? that depend", text):
             continue
         found.append((match["file"], text))
@@ -55,13 +58,15 @@ def messages_of(said):
 def verdict_of(said):
     """How a check ended, and the message that says so."""
     verdicts = re.findall(r"^logic=(\S+)", said, re.MULTILINE)
+    counts = re.findall(r"^only=(\d+) proved=(\d+)", said, re.MULTILINE)
     messages = messages_of(said)
-    if verdicts and verdicts[-1] == "proved":
+    # a library that was built first has a verdict of its own
+    if not messages and (counts[-1][0] == counts[-1][1] if counts else verdicts[-1:] == ["proved"]):
         return "proves", ""
     for file, text in messages:
         if NAMELESS.search(text) or ("proofs/" not in (file or "") and not UNMET.search(text)):
             return "unread", f"{file or ''} {text}"
-    if not verdicts:
+    if not verdicts and not counts:
         return ("unread" if messages else "none"), messages[0][1] if messages else said[-160:]
     if not messages:
         return "none", said[-160:]
@@ -77,7 +82,13 @@ def restore(room, name):
             shutil.copytree(source, room / "crates" / name / part)
 
 
-def try_edit(room, name, pairs_file):
+def run_check(crate, *flags):
+    """Checks a crate: the verdict, and the message that says so."""
+    done = subprocess.run(["rt", "check", *flags], cwd=crate, capture_output=True, text=True, check=False)
+    return verdict_of(done.stdout + done.stderr)
+
+
+def try_edit(room, name, pairs_file, first):
     """Plants one edit in the room, checks its crate, and puts the crate back."""
     crate = room / "crates" / name
     try:
@@ -86,9 +97,13 @@ def try_edit(room, name, pairs_file):
         return "unfit", str(fault)
     for path, text in texts.items():
         path.write_text(text, encoding="utf-8")
-    done = subprocess.run(["rt", "check"], cwd=crate, capture_output=True, text=True, check=False)
+    verdict, why = "proves", ""
+    if first is not None:
+        verdict, why = run_check(crate, "--only", f"{name}::{first}")
+    if verdict == "proves":
+        verdict, why = run_check(crate)
     restore(room, name)
-    return verdict_of(done.stdout + done.stderr)
+    return verdict, why
 
 
 def bends_of(file, room):
@@ -105,27 +120,52 @@ def bends_of(file, room):
 def wanted(words, room):
     """The edits that were asked for, by crate."""
     if words[:1] == ["--bends"]:
-        return [(words[2], bends_of(pathlib.Path(words[1]), room))]
+        found = bends_of(pathlib.Path(words[1]), room)
+        return [(words[2], [path for path in found if path.stem in words[3:] or not words[3:]])]
     if words[:1] == ["--must-fail"]:
         return [(name, sorted((TOP / "crates" / name / "must-fail").glob("*.edit"))) for name in words[1:]]
     names = words or sorted(folder.name for folder in (TOP / "planted").iterdir())
     return [(name.split("/")[0], sorted((TOP / "planted").glob(name + (".edit" if "/" in name else "/*.edit")))) for name in names]
 
 
+def below(names):
+    """These crates, and all that they stand on."""
+    uses = dict(line.split(":", 1) for line in (TOP / "crates.txt").read_text(encoding="utf-8").splitlines() if ":" in line)
+    found, rest = set(), list(names)
+    while rest:
+        name = rest.pop()
+        if name not in found and name in uses:
+            found.add(name)
+            rest += uses[name].split()
+    return sorted(found)
+
+
+def copy_crates(room, kept):
+    """Copies all crates, and of these also what earlier checks kept."""
+    skipped = shutil.ignore_patterns("out")
+    shutil.copytree(TOP / "crates", room / "crates", ignore=skipped)
+    for name in kept:
+        if (TOP / "crates" / name / "out").is_dir():
+            subprocess.run(["cp", "-a", TOP / "crates" / name / "out", room / "crates" / name], check=True)
+
+
 def main():
     room = pathlib.Path(tempfile.mkdtemp())
     counts = {}
+    first, words = None, sys.argv[1:]
+    if words[:1] == ["--first"]:
+        first, words = words[1], words[2:]
     try:
         for file in ("crates.txt", "HANDLES"):
             shutil.copy(TOP / file, room)
-        subprocess.run(["cp", "-a", TOP / "crates", room], check=True)
-        for name, files in wanted(sys.argv[1:], room):
+        copy_crates(room, below({name for name, files in wanted(words, room)}))
+        for name, files in wanted(words, room):
             if not files:
                 print(f"no planted bugs of {name}", file=sys.stderr)
                 return 2
             restore(room, name)
             for file in files:
-                verdict, why = try_edit(room, name, file)
+                verdict, why = try_edit(room, name, file, first)
                 counts[verdict] = counts.get(verdict, 0) + 1
                 print(f"{verdict:8} {name}/{file.stem}  {why[:200]}", flush=True)
     finally:

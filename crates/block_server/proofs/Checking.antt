@@ -1,5 +1,5 @@
 -- What was served over a checked die.
-use Rattle.std.proofs.Common.{◌≡◌, ◌≢◌, ◌⊎◌, inl, inr, ℕ, ◌≤◌, Bool, true, List, map, Option, None, Some, Result, Ok, Err, refl, sym, ap, subst, ◌∙◌}
+use Rattle.std.proofs.Common.{◌≡◌, ◌≢◌, ◌⊎◌, inl, inr, ℕ, ◌≤◌, Bool, true, List, map, arith, Option, None, Some, Result, Ok, Err, refl, sym, ap, subst, ◌∙◌}
 use Rattle.std.specs.Prelude.{is_some}
 use Rattle.page_layout.specs.declared.geometry.Geometry.{Geometry}
 use Rattle.page_layout.specs.Page.{Image, IsImage}
@@ -21,18 +21,19 @@ use Rattle.collection.specs.Log.{IsAccounted}
 use Rattle.collection.proofs.Costs.{risen_over}
 use Rattle.request_stream.specs.declared.reply.ServeFault.{ServeFault}
 use Rattle.ftl_device.specs.declared.device.Device.{Device}
-use Rattle.ftl_device.specs.Device.{IsAcceptedFor}
+use Rattle.ftl_device.specs.Device.{IsDevice, IsAcceptedFor}
 use Rattle.ftl_device.specs.Begin.{begun_ram, is_bad_in, free_in, is_scarce}
 use Rattle.ftl_device.specs.Calls.{stop_of, IsWell}
 use Rattle.command_queue.specs.Exchanges.{Exchange, AreKnown, replies_in}
-use Rattle.command_queue.specs.Run.{HasRun, Ran, RanFrom, accepted_first, accepted_device}
-use Rattle.command_queue.specs.Told.{RunsTo, Tells, Until}
+use Rattle.command_queue.specs.Tells.{Tells}
+use Rattle.command_queue.specs.Run.{HasRun, HappensEach, Ran, RanFrom, accepted_first, accepted_device}
+use Rattle.command_queue.specs.Told.{RunsTo, Until}
 use Rattle.ftl_device.specs.declared.fault.DeviceFault.TheVariants.{BusFault}
-use Rattle.command_queue.proofs.AcceptedLemmas.{started_well, ran_accepted}
+use Rattle.command_queue.proofs.AcceptedLemmas.{started_well, ran_accepted, ran_each}
 use Rattle.command_queue.proofs.ToldLemmas.{until_so, fault_rose}
 use Rattle.block_server.specs.declared.server.Served.{Served}
 use Rattle.block_server.specs.Session.{Session, Serves}
-use Rattle.block_server.specs.Checked.{Headline, HoldsTo, HasFailed, IsServed}
+use Rattle.block_server.specs.Checked.{HoldsTo, HasFailed, IsBegun, IsServed}
 
 -- what was accepted for the image before the reads is so for that after them
 accepted_for : (s t : Flash) (g : Geometry) (capacity : ℕ) (c : Claim) (a : Acceptance) → t ≡ s → s.geometry ≡ g → IsImage g s.image → IsAcceptance g capacity s.image c a → IsAcceptedFor t a
@@ -59,18 +60,19 @@ refusal_same e ne is = ne (cc)
 pub refusal_is : (e : Refusal) → e ≡ Source → refused_as e ≡ refused_as Source
 refusal_is e is = ap refused_as is
 
--- the run of the headline, and its log
-record RunsLegally (g : Geometry) (c : Claim) (s t : Flash) (ro pinned : Bool) (xs : List Exchange) : Type 0 where
+-- the run of the headline, its log, and the calls that are its events
+record RunsLegally {N : Type 0} (flash : N → Flash) (honest : N → Bool) (failed erases : N → ℕ) (d e : Device N) (g : Geometry) (c : Claim) (s t : Flash) (ro pinned : Bool) (xs : List Exchange) : Type 0 where
   pub run : HasRun (accepted_first g c) (accepted_device s c) (record { flash = t; ro = ro; pinned = pinned }) xs
   pub legal : IsLegal g s.image (is_bad_in c) (log_of run.events)
+  pub each : HappensEach flash honest failed erases d run.events xs e
 
 -- Of a die as it was handed in, as the checker left it, and as the device gives it back.
-module _ {N : Type 0} (flash : N → Flash) (honest : N → Bool) (failed : N → ℕ) (nand checked given : N) (g : Geometry) (capacity : ℕ) (c : Claim) (a : Acceptance) (d : Device N)
+module _ {N : Type 0} (flash : N → Flash) (honest : N → Bool) (failed erases : N → ℕ) (nand checked given : N) (g : Geometry) (capacity : ℕ) (c : Claim) (a : Acceptance) (d : Device N)
     (sized : (flash nand).geometry ≡ g) (sized' : (flash checked).geometry ≡ (flash nand).geometry)
     (honest_is : honest checked ≡ honest nand) (failed_is : failed nand ≤ failed checked)
     (same : honest nand ≡ true → flash checked ≡ flash nand) (whole : honest nand ≡ true → IsImage g (flash nand).image)
     (claim_is : a.claim ≡ c) (acceptance : honest nand ≡ true → IsAcceptance g capacity (flash nand).image c a)
-    (nand_is : d.engine.nand ≡ checked) (begun : ram d.engine ≡ begun_ram (flash checked).geometry a.claim a.stale)
+    (device : IsDevice flash d) (nand_is : d.engine.nand ≡ checked) (begun : ram d.engine ≡ begun_ram (flash checked).geometry a.claim a.stale)
     (truth : honest checked ≡ true → IsAcceptedFor (flash checked) a → IsTrue None (ram d.engine) (image_in flash d.engine))
     (free : honest checked ≡ true → IsAcceptedFor (flash checked) a → d.read_only ≡ is_scarce (free_in (flash checked).geometry a.claim (flash checked).image))
     (accounts : honest checked ≡ true → IsAcceptedFor (flash checked) a → IsAccounted (accounts_of (flash checked).geometry (flash checked).image (is_bad_in a.claim)) (state d.engine.blocks)) where
@@ -92,26 +94,44 @@ module _ {N : Type 0} (flash : N → Flash) (honest : N → Bool) (failed : N �
       (subst (λ k. HasOneArray k (image_in flash d.engine)) geometry_is (known_truth h).one)
 
   -- the exchanges that lead to this device
-  module _ (xs : List Exchange) (e : Device N) (runs_to : RunsTo flash honest failed d xs e) where
-    runs : honest nand ≡ true → RunsLegally g c (flash nand) (flash e.engine.nand) e.read_only (is_some e.engine.pinned) xs
+  module _ (xs : List Exchange) (e : Device N) (runs_to : RunsTo flash honest failed erases d xs e) where
+    runs : honest nand ≡ true → RunsLegally flash honest failed erases d e g c (flash nand) (flash e.engine.nand) e.read_only (is_some e.engine.pinned) xs
     runs h =
-        let ran : Ran flash d xs e = (runs_to.1 (ap honest nand_is ∙ (honest_is ∙ h)) (well h)).1 in
-        let from : RanFrom flash (flash checked) a.claim xs e = ran_accepted flash (flash checked) a d e xs (ap flash nand_is) begun (accepted h) (free (honest_is ∙ h) (accepted h)) (accounts (honest_is ∙ h) (accepted h)) ran in
-        let first : RunsLegally (flash checked).geometry a.claim (flash checked) (flash e.engine.nand) e.read_only (is_some e.engine.pinned) xs = record { run = from.run; legal = from.legal } in
-        let then : RunsLegally (flash nand).geometry a.claim (flash nand) (flash e.engine.nand) e.read_only (is_some e.engine.pinned) xs =
-        subst (λ (f : Flash). RunsLegally f.geometry a.claim f (flash e.engine.nand) e.read_only (is_some e.engine.pinned) xs) (same h) first in
-        let there : RunsLegally g a.claim (flash nand) (flash e.engine.nand) e.read_only (is_some e.engine.pinned) xs =
-        subst (λ k. RunsLegally k a.claim (flash nand) (flash e.engine.nand) e.read_only (is_some e.engine.pinned) xs) sized then in
-        subst (λ k. RunsLegally g k (flash nand) (flash e.engine.nand) e.read_only (is_some e.engine.pinned) xs) claim_is there
+        let ran : Ran flash honest failed erases d xs e = (runs_to.1 (ap honest nand_is ∙ (honest_is ∙ h)) (well h)).1 in
+        let from : RanFrom flash honest failed erases (flash checked) a.claim xs e = ran_accepted flash honest failed erases (flash checked) a d e xs (ap flash nand_is) begun (accepted h) (free (honest_is ∙ h) (accepted h)) (accounts (honest_is ∙ h) (accepted h)) ran in
+        let each = ran_each flash honest failed erases (flash checked) a d e xs (ap flash nand_is) begun (accepted h) (free (honest_is ∙ h) (accepted h)) (accounts (honest_is ∙ h) (accepted h)) ran in
+        let first : RunsLegally flash honest failed erases d e (flash checked).geometry a.claim (flash checked) (flash e.engine.nand) e.read_only (is_some e.engine.pinned) xs = record { run = from.run; legal = from.legal; each = each } in
+        let then : RunsLegally flash honest failed erases d e (flash nand).geometry a.claim (flash nand) (flash e.engine.nand) e.read_only (is_some e.engine.pinned) xs =
+        subst (λ (f : Flash). RunsLegally flash honest failed erases d e f.geometry a.claim f (flash e.engine.nand) e.read_only (is_some e.engine.pinned) xs) (same h) first in
+        let there : RunsLegally flash honest failed erases d e g a.claim (flash nand) (flash e.engine.nand) e.read_only (is_some e.engine.pinned) xs =
+        subst (λ k. RunsLegally flash honest failed erases d e k a.claim (flash nand) (flash e.engine.nand) e.read_only (is_some e.engine.pinned) xs) sized then in
+        subst (λ k. RunsLegally flash honest failed erases d e g k (flash nand) (flash e.engine.nand) e.read_only (is_some e.engine.pinned) xs) claim_is there
 
-    holds_to : HoldsTo flash honest nand g capacity c xs e.engine.nand
+    holds_to : HoldsTo flash honest failed erases nand g capacity c d xs e
     holds_to h =
         let its = runs h in
-        record { agrees = (acceptance h).agrees; one = one_array h; ro = e.read_only; pinned = is_some e.engine.pinned; run = its.run; legal = its.legal }
+        record {
+          headline = record { agrees = (acceptance h).agrees; one = one_array h; ro = e.read_only; pinned = is_some e.engine.pinned; run = its.run; legal = its.legal };
+          each = its.each;
+          ro_is = refl;
+          pinned_is = refl;
+        }
 
     -- the call that came then, and that the bus failed in
-    has_failed : (x : Exchange) (f : Device N) → AreKnown xs → x.result ≡ Err BusFault → Tells flash honest failed e x f → HasFailed failed e.engine.nand x f.engine.nand
-    has_failed x f known bus tells = fault_rose flash honest failed e f x tells (runs_to.0.going (ap (λ (r : Ram). stop_of r.fault) begun) known) bus
+    has_failed : (x : Exchange) (f : Device N) → AreKnown xs → x.result ≡ Err BusFault → Tells flash honest failed erases e x f → HasFailed flash honest failed erases e x f
+    has_failed x f known bus tells = record { tells = tells; rose = fault_rose flash honest failed erases e f x tells (runs_to.0.going (ap (λ (r : Ram). stop_of r.fault) begun) known) bus }
+
+  -- the device as it was started
+  is_begun : IsBegun flash honest failed nand g c d
+  is_begun = record {
+    device = device;
+    stale = a.stale;
+    begun = begun ∙ (ap (λ k. begun_ram k a.claim a.stale) (sized' ∙ sized) ∙ ap (λ k. begun_ram g k a.stale) claim_is);
+    stale_is = λ h. (acceptance h).stale_is;
+    same = λ h. ap flash nand_is ∙ same h;
+    honest_is = ap honest nand_is ∙ honest_is;
+    failed_is = subst (λ n. failed nand ≤ failed n) (sym nand_is) failed_is;
+  }
 
   module _ (e : Device N) (given_is : given ≡ e.engine.nand) where
     abbrev Rose : List Exchange → N → Type 0
@@ -123,12 +143,11 @@ module _ {N : Type 0} (flash : N → Flash) (honest : N → Bool) (failed : N �
         let from : HasRisen (failed checked) (failed e.engine.nand) = subst (λ n. HasRisen (failed n) (failed e.engine.nand)) nand_is risen in
         inr (subst (λ n. HasRisen (failed nand) (failed n)) (sym given_is) (risen_over (failed nand) (failed checked) (failed e.engine.nand) failed_is from))
 
-    holds_until : (xs : List Exchange) → Until (RunsTo flash honest failed d) (Tells flash honest failed) xs e → Until (HoldsTo flash honest nand g capacity c) (HasFailed failed) xs given
+    holds_until : (xs : List Exchange) → Until (RunsTo flash honest failed erases d) (Tells flash honest failed erases) xs e → Until (HoldsTo flash honest failed erases nand g capacity c d) (HasFailed flash honest failed erases) xs e
     holds_until xs until =
-        subst (Until (HoldsTo flash honest nand g capacity c) (HasFailed failed) xs) (sym given_is)
-        (until_so (λ (f : Device N). f.engine.nand) (RunsTo flash honest failed d) (HoldsTo flash honest nand g capacity c) (Tells flash honest failed) (HasFailed failed) xs e holds_to (λ before mid x known runs_to bus tells. has_failed before mid runs_to x e known bus tells) until)
+        until_so (λ f. f) (RunsTo flash honest failed erases d) (HoldsTo flash honest failed erases nand g capacity c d) (Tells flash honest failed erases) (HasFailed flash honest failed erases) xs e holds_to (λ before mid x known runs_to bus tells. has_failed before mid runs_to x e known bus tells) until
 
-    pub is_served : (u v b w : Option (List ℕ)) (result : Result Served ServeFault) → Session flash honest failed d e u v b w result → IsServed flash honest failed nand g capacity c u v b w result given
+    pub is_served : (u v b w : Option (List ℕ)) (result : Result Served ServeFault) → Session flash honest failed erases d e u v b w result → IsServed flash honest failed erases nand g capacity c u v b w result given
     is_served u v b w result session =
         let calls = session.told.calls in
         record {
@@ -137,8 +156,16 @@ module _ {N : Type 0} (flash : N → Flash) (honest : N → Bool) (failed : N �
           commands = session.commands;
           stream = subst (λ (k : Geometry). Serves k.data_bytes u v b w session.requests (replies_in session.exchanges) result) geometry_is session.stream;
           stays = calls.stays;
-          honest_is = ap honest given_is ∙ (calls.honest_is ∙ (ap honest nand_is ∙ honest_is));
-          sized = ap (λ n. (flash n).geometry) given_is ∙ (calls.device.engine.geometry ∙ (calls.sized ∙ geometry_is));
+          back = record {
+            honest_is = ap honest given_is ∙ (calls.honest_is ∙ (ap honest nand_is ∙ honest_is));
+            sized = ap (λ n. (flash n).geometry) given_is ∙ (calls.device.engine.geometry ∙ (calls.sized ∙ geometry_is));
+            failed_is = omega (arith, failed_is, ap failed nand_is, calls.failed_is, ap failed given_is);
+          };
+          first = d;
+          last = e;
+          begun = is_begun;
+          each = calls.each;
+          given_is = given_is;
           rose = rose_by session.exchanges (calls.rose (ap (λ (r : Ram). stop_of r.fault) begun));
           headline = holds_until session.exchanges session.told.until;
         }

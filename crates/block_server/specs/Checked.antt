@@ -1,5 +1,5 @@
 -- THE HEADLINE, and what else serving a checked die comes to.
-use Rattle.std.specs.Prelude.{◌≡◌, ◌≢◌, ◌⊎◌, ℕ, Bool, true, List, map, Option, Result, Ok, Err}
+use Rattle.std.specs.Prelude.{◌≡◌, ◌≢◌, ◌⊎◌, ℕ, ◌≤◌, Bool, true, List, map, Option, Result, Ok, Err, is_some}
 use Rattle.std.specs.Io.KnownBytes.{Keeps}
 use Rattle.page_layout.specs.declared.geometry.Geometry.{Geometry}
 use Rattle.page_layout.specs.Array.{HasOneArray}
@@ -11,12 +11,17 @@ use Rattle.promises.specs.Legal.{IsLegal}
 use Rattle.certificate.specs.Claim.{Claim}
 use Rattle.image_check.specs.Agrees.{Agrees}
 use Rattle.image_check.specs.Refused.{IsRefusal}
+use Rattle.image_check.specs.Stale.{stale_sectors}
 use Rattle.image_check.specs.declared.refusal.Refusal.{Refusal}
 use Rattle.image_check.specs.declared.refusal.Refusal.TheVariants as refusal
 use Rattle.request_stream.specs.declared.reply.ServeFault.{ServeFault}
-use Rattle.ftl_device.specs.Begin.{is_bad_in}
+use Rattle.collection.specs.Safe.{ram}
+use Rattle.ftl_device.specs.declared.device.Device.{Device}
+use Rattle.ftl_device.specs.Device.{IsDevice}
+use Rattle.ftl_device.specs.Begin.{begun_ram, is_bad_in}
 use Rattle.command_queue.specs.Exchanges.{Exchange, commands_in, replies_in, AreKnown, StaysStopped}
-use Rattle.command_queue.specs.Run.{HasRun, accepted_first, accepted_device}
+use Rattle.command_queue.specs.Tells.{Tells, ToldEach}
+use Rattle.command_queue.specs.Run.{HasRun, HappensEach, accepted_first, accepted_device}
 use Rattle.command_queue.specs.Told.{Until}
 use Rattle.block_server.specs.declared.server.Served.{Served}
 use Rattle.block_server.specs.declared.checked.RunFault.{RunFault}
@@ -37,26 +42,54 @@ pub record Headline (g : Geometry) (capacity : ℕ) (c : Claim) (s t : Flash) (x
   pub run : HasRun (accepted_first g c) (accepted_device s c) (record { flash = t; ro = ro; pinned = pinned }) xs
   pub legal : IsLegal g s.image (is_bad_in c) (log_of run.events)
 
--- the headline holds of these exchanges, which leave the die so
-abbrev pub HoldsTo : {N : Type 0} → (N → Flash) → (N → Bool) → N → Geometry → ℕ → Claim → List Exchange → N → Type 0
-HoldsTo flash honest nand g capacity c xs held = honest nand ≡ true → Headline g capacity c (flash nand) (flash held) xs
+-- the headline holds of these exchanges, and its events are the calls that lead from the one device to the other
+pub record Holds {N : Type 0} (flash : N → Flash) (honest : N → Bool) (failed erases : N → ℕ) (g : Geometry) (capacity : ℕ) (c : Claim) (s : Flash) (old : Device N) (xs : List Exchange) (new : Device N) : Type 0 where
+  pub headline : Headline g capacity c s (flash new.engine.nand) xs
+  pub each : HappensEach flash honest failed erases old headline.run.events xs new
+  pub ro_is : headline.ro ≡ new.read_only
+  pub pinned_is : headline.pinned ≡ is_some new.engine.pinned
 
--- the bus failed: the die's count of failures rose in this call, or stands at its top
-abbrev pub HasFailed : {N : Type 0} → (N → ℕ) → N → Exchange → N → Type 0
-HasFailed failed held x then = HasRisen (failed held) (failed then)
+abbrev pub HoldsTo : {N : Type 0} → (N → Flash) → (N → Bool) → (failed erases : N → ℕ) → N → Geometry → ℕ → Claim → Device N → List Exchange → Device N → Type 0
+HoldsTo flash honest failed erases nand g capacity c old xs new = honest nand ≡ true → Holds flash honest failed erases g capacity c (flash nand) old xs new
 
--- Requests were served: what was read and written, and what the device answered. Where the die is honest, the headline holds of the exchanges
--- before the first fault of the bus: of all of them where there is none. From it on each is answered that fault.
-pub record IsServed {N : Type 0} (flash : N → Flash) (honest : N → Bool) (failed : N → ℕ) (nand : N) (g : Geometry) (capacity : ℕ) (c : Claim) (unread left before after : Option (List ℕ)) (result : Result Served ServeFault) (given : N) : Type 0 where
+-- the bus failed in this call: the die's count of failures rose in it, or stands at its top
+pub record HasFailed {N : Type 0} (flash : N → Flash) (honest : N → Bool) (failed erases : N → ℕ) (old : Device N) (x : Exchange) (new : Device N) : Type 0 where
+  pub tells : Tells flash honest failed erases old x new
+  pub rose : HasRisen (failed old.engine.nand) (failed new.engine.nand)
+
+-- a device that `start` begins from the certificate that was accepted, over a die that is as honest as it was: nothing is pinned, and no fault stands
+pub record IsBegun {N : Type 0} (flash : N → Flash) (honest : N → Bool) (failed : N → ℕ) (nand : N) (g : Geometry) (c : Claim) (first : Device N) : Type 0 where
+  pub device : IsDevice flash first
+  pub stale : List ℕ
+  pub begun : ram first.engine ≡ begun_ram g c stale
+  pub stale_is : honest nand ≡ true → stale ≡ stale_sectors g (flash nand).image
+  pub same : honest nand ≡ true → flash first.engine.nand ≡ flash nand
+  pub honest_is : honest first.engine.nand ≡ honest nand
+  pub failed_is : failed nand ≤ failed first.engine.nand
+
+-- the die that is handed back: as honest as it was, of its geometry, and its count of failures no lower
+pub record IsHandedBack {N : Type 0} (flash : N → Flash) (honest : N → Bool) (failed : N → ℕ) (nand : N) (g : Geometry) (given : N) : Type 0 where
+  pub honest_is : honest given ≡ honest nand
+  pub sized : (flash given).geometry ≡ g
+  pub failed_is : failed nand ≤ failed given
+
+-- Requests were served: what was read and written, and what the device answered, that `start` began over the die. It was told one after another, and
+-- each call did what it promises. Where the die is honest, the headline holds of the exchanges before the first fault of the bus: of all of them where there
+-- is none. From it on each is answered that fault.
+pub record IsServed {N : Type 0} (flash : N → Flash) (honest : N → Bool) (failed erases : N → ℕ) (nand : N) (g : Geometry) (capacity : ℕ) (c : Claim) (unread left before after : Option (List ℕ)) (result : Result Served ServeFault) (given : N) : Type 0 where
   pub requests : List Request
   pub exchanges : List Exchange
   pub commands : commands_in exchanges ≡ map command_of requests
   pub stream : Serves g.data_bytes unread left before after requests (replies_in exchanges) result
   pub stays : StaysStopped exchanges
-  pub honest_is : honest given ≡ honest nand
-  pub sized : (flash given).geometry ≡ g
+  pub back : IsHandedBack flash honest failed nand g given
   pub rose : AreKnown exchanges ⊎ HasRisen (failed nand) (failed given)
-  pub headline : Until (HoldsTo flash honest nand g capacity c) (HasFailed failed) exchanges given
+  pub first : Device N
+  pub last : Device N
+  pub begun : IsBegun flash honest failed nand g c first
+  pub each : ToldEach flash honest failed erases first exchanges last
+  pub given_is : given ≡ last.engine.nand
+  pub headline : Until (HoldsTo flash honest failed erases nand g capacity c first) (HasFailed flash honest failed erases) exchanges last
 
 -- nothing was read or written
 pub record IsUntouched (unread left before after : Option (List ℕ)) : Type 0 where
@@ -68,10 +101,16 @@ pub record IsUnaccepted {N : Type 0} (flash : N → Flash) (honest : N → Bool)
   pub refused : honest nand ≡ true → IsRefusal g capacity (flash nand).image c why
   pub same : why ≢ refusal.Source → honest nand ≡ true → flash given ≡ flash nand
   pub rose : why ≡ refusal.Source → HasRisen (failed nand) (failed given)
-  pub sized : (flash given).geometry ≡ g
+  pub back : IsHandedBack flash honest failed nand g given
+
+-- no memory was left to start a device, and the die's pages are as they were
+pub record IsUnstarted {N : Type 0} (flash : N → Flash) (honest : N → Bool) (failed : N → ℕ) (nand : N) (g : Geometry) (capacity : ℕ) (c : Claim) (given : N) : Type 0 where
+  pub same : honest nand ≡ true → flash given ≡ flash nand
+  pub agrees : honest nand ≡ true → Agrees g capacity (flash nand).image c
+  pub back : IsHandedBack flash honest failed nand g given
 
 -- why requests were not served to their end
-abbrev pub Fails : {N : Type 0} → (N → Flash) → (N → Bool) → (N → ℕ) → N → Geometry → ℕ → Claim → (unread left before after : Option (List ℕ)) → RunFault N → Type 0
-Fails flash honest failed nand g capacity c unread left before after (Refused why given) = IsUntouched unread left before after × IsUnaccepted flash honest failed nand g capacity c why given
-Fails flash honest failed nand g capacity c unread left before after (Start given) = IsUntouched unread left before after × (honest nand ≡ true → (flash given ≡ flash nand) × Agrees g capacity (flash nand).image c)
-Fails flash honest failed nand g capacity c unread left before after (Serve stop given) = IsServed flash honest failed nand g capacity c unread left before after (Err stop) given
+abbrev pub Fails : {N : Type 0} → (N → Flash) → (N → Bool) → (failed erases : N → ℕ) → N → Geometry → ℕ → Claim → (unread left before after : Option (List ℕ)) → RunFault N → Type 0
+Fails flash honest failed erases nand g capacity c unread left before after (Refused why given) = IsUntouched unread left before after × IsUnaccepted flash honest failed nand g capacity c why given
+Fails flash honest failed erases nand g capacity c unread left before after (Start given) = IsUntouched unread left before after × IsUnstarted flash honest failed nand g capacity c given
+Fails flash honest failed erases nand g capacity c unread left before after (Serve stop given) = IsServed flash honest failed erases nand g capacity c unread left before after (Err stop) given

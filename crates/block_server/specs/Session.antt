@@ -14,7 +14,8 @@ use Rattle.ftl_device.specs.declared.device.Device.{Device}
 use Rattle.command_queue.specs.declared.command.Command.{Command}
 use Rattle.command_queue.specs.declared.command.Command.TheVariants as told
 use Rattle.command_queue.specs.Exchanges.{Exchange, reply_in, commands_in, replies_in}
-use Rattle.command_queue.specs.Told.{Tells, WasTold}
+use Rattle.command_queue.specs.Tells.{Tells}
+use Rattle.command_queue.specs.Told.{WasTold}
 use Rattle.block_server.specs.declared.server.Served.{Served}
 
 -- ---- the streams
@@ -48,11 +49,11 @@ Serves size unread left before after requests replies (Err fault.OutOfMemory) = 
 -- ---- the device
 
 -- THE SESSION: each request was told to the device, and it answered
-pub record Session {N : Type 0} (flash : N → Flash) (honest : N → Bool) (failed : N → ℕ) (old new : Device N) (unread left before after : Option (List ℕ)) (result : Result Served ServeFault) : Type 0 where
+pub record Session {N : Type 0} (flash : N → Flash) (honest : N → Bool) (failed erases : N → ℕ) (old new : Device N) (unread left before after : Option (List ℕ)) (result : Result Served ServeFault) : Type 0 where
   pub requests : List Request
   pub exchanges : List Exchange
   pub commands : commands_in exchanges ≡ map command_of requests
-  pub told : WasTold flash honest failed old exchanges new
+  pub told : WasTold flash honest failed erases old exchanges new
   pub stream : Serves old.engine.geometry.data_bytes unread left before after requests (replies_in exchanges) result
 
 -- ---- one request
@@ -66,20 +67,20 @@ IsBodyOf body told.Flush = Unit {0}
 IsBodyOf body told.Turn = Unit {0}
 
 -- the device was told what the request asks, and the reply was written, or a beginning of it
-pub record Answers {N : Type 0} (flash : N → Flash) (honest : N → Bool) (failed : N → ℕ) (old new : Device N) (r : Request) (before after : Option (List ℕ)) (result : Result (Unit {0}) ServeFault) : Type 0 where
+pub record Answers {N : Type 0} (flash : N → Flash) (honest : N → Bool) (failed erases : N → ℕ) (old new : Device N) (r : Request) (before after : Option (List ℕ)) (result : Result (Unit {0}) ServeFault) : Type 0 where
   pub exchange : Exchange
   pub command_is : exchange.command ≡ command_of r
-  pub tells : Tells flash honest failed old exchange new
+  pub tells : Tells flash honest failed erases old exchange new
   pub sends : Sends before after (reply_bytes r (reply_in exchange)) result
 
 -- a request was read, the device was told it, and its reply was written as this says
-pub record HasServed {N : Type 0} (flash : N → Flash) (honest : N → Bool) (failed : N → ℕ) (old new : Device N) (unread left : Option (List ℕ)) (writes : List ℕ → Type 0) : Type 0 where
+pub record HasServed {N : Type 0} (flash : N → Flash) (honest : N → Bool) (failed erases : N → ℕ) (old new : Device N) (unread left : Option (List ℕ)) (writes : List ℕ → Type 0) : Type 0 where
   pub request : Request
   pub exchange : Exchange
   pub whole : IsRequest old.engine.geometry.data_bytes request
   pub read : Consumes unread left (request_bytes request)
   pub command_is : exchange.command ≡ command_of request
-  pub tells : Tells flash honest failed old exchange new
+  pub tells : Tells flash honest failed erases old exchange new
   pub written : writes (reply_bytes request (reply_in exchange))
 
 -- no request was read whole
@@ -90,9 +91,9 @@ pub record HasNone {N : Type 0} (old new : Device N) (unread left before after :
   pub same : new ≡ old
   pub kept : after ≡ before
 
-abbrev pub ServesNext : {N : Type 0} → (N → Flash) → (N → Bool) → (N → ℕ) → (old new : Device N) → (unread left before after : Option (List ℕ)) → Result (Option End) ServeFault → Type 0
-ServesNext flash honest failed old new unread left before after (Ok None) = HasServed flash honest failed old new unread left (Appends before after)
-ServesNext flash honest failed old new unread left before after (Ok (Some end)) = HasNone old new unread left before after (λ tail. Rests old.engine.geometry.data_bytes end tail left)
-ServesNext flash honest failed old new unread left before after (Err fault.Read) = HasNone old new unread left before after (IsBeginning old.engine.geometry.data_bytes)
-ServesNext flash honest failed old new unread left before after (Err fault.Write) = HasServed flash honest failed old new unread left (AppendsFront before after)
-ServesNext flash honest failed old new unread left before after (Err fault.OutOfMemory) = ⊥
+abbrev pub ServesNext : {N : Type 0} → (N → Flash) → (N → Bool) → (failed erases : N → ℕ) → (old new : Device N) → (unread left before after : Option (List ℕ)) → Result (Option End) ServeFault → Type 0
+ServesNext flash honest failed erases old new unread left before after (Ok None) = HasServed flash honest failed erases old new unread left (Appends before after)
+ServesNext flash honest failed erases old new unread left before after (Ok (Some end)) = HasNone old new unread left before after (λ tail. Rests old.engine.geometry.data_bytes end tail left)
+ServesNext flash honest failed erases old new unread left before after (Err fault.Read) = HasNone old new unread left before after (IsBeginning old.engine.geometry.data_bytes)
+ServesNext flash honest failed erases old new unread left before after (Err fault.Write) = HasServed flash honest failed erases old new unread left (AppendsFront before after)
+ServesNext flash honest failed erases old new unread left before after (Err fault.OutOfMemory) = ⊥

@@ -31,7 +31,7 @@ fn serve_with<N: Nand, R: Read, W: Write>(
     requires device { IsDevice N.flash device.old }
     requires body { length body.old ≡ device.old.engine.geometry.data_bytes }
     requires bytes { length bytes.old ≡ device.old.engine.geometry.data_bytes }
-    ensures session { Session N.flash N.honest N.failed device.old device.new (R.remaining reader.old) (R.remaining reader.new)
+    ensures session { Session N.flash N.honest N.failed N.erases device.old device.new (R.remaining reader.old) (R.remaining reader.new)
         (W.contents writer.old) (W.contents writer.new) result }
     ensures never { result ≢ Err ServeFault.OutOfMemory }
 {
@@ -57,8 +57,10 @@ fn serve_with<N: Nand, R: Read, W: Write>(
 /// For a reader and a writer that tell their bytes, in whatever pieces these come: what was read is the
 /// requests one after another and what stands after the last of them, and what was written is the
 /// device's replies in order, with one frame of status 7 where a header was bad. The device was told
-/// just these requests, and did what `tell` says of each. Before the first fault of the bus
-/// they are a run, as `run` says, and from it on each reply is `BusFault`.
+/// just these requests, one call a request, and each did what `tell` says of it, from a device to the
+/// next. Before the first fault of the bus they are a run, as `run` says, whose events are those calls,
+/// and from it on each reply is `BusFault`. No clause says that a reply is handed on before the next
+/// request is read; tests show it.
 ///
 /// # Errors
 ///
@@ -76,7 +78,7 @@ pub fn serve<N: Nand, R: Read, W: Write>(
     device: &mut Device<N>,
 ) -> Result<Served, ServeFault>
     requires device { IsDevice N.flash device.old }
-    ensures session { Session N.flash N.honest N.failed device.old device.new (R.remaining reader.old) (R.remaining reader.new)
+    ensures session { Session N.flash N.honest N.failed N.erases device.old device.new (R.remaining reader.old) (R.remaining reader.new)
         (W.contents writer.old) (W.contents writer.new) result }
     ensures unread { result ≡ Err ServeFault.OutOfMemory → reader.new ≡ reader.old }
     ensures unwritten { result ≡ Err ServeFault.OutOfMemory → writer.new ≡ writer.old }

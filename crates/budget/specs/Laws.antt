@@ -35,23 +35,28 @@ abbrev pub NoPageLaw : Type 0
 NoPageLaw = (pages : ℕ) (s : Counts) → Fits pages s → Spending pages s s 0 0
 
 abbrev pub OnePageLaw : Type 0
-OnePageLaw = (stream : Stream) (pages failures data_pages meta_pages : ℕ) (first now new : Counts) → Spending pages first now data_pages meta_pages → StreamPut stream pages failures now new → Spending pages first new (data_pages + data_of stream) (meta_pages + meta_of stream)
+OnePageLaw = (stream : Stream) (pages failures data_pages meta_pages : ℕ) (first now new : Counts) → Spending pages first now data_pages meta_pages
+    → StreamPut stream pages failures now new → Spending pages first new (data_pages + data_of stream) (meta_pages + meta_of stream)
 
 -- less than a block of pages opens at most two blocks, and one more for each failure
 abbrev pub OpeningsLaw : Type 0
-OpeningsLaw = (pages data_pages meta_pages : ℕ) (first now : Counts) → Spending pages first now data_pages meta_pages → data_pages + meta_pages + 1 ≤ pages → first.free + now.good ≤ now.free + first.good + 2
+OpeningsLaw = (pages data_pages meta_pages : ℕ) (first now : Counts) → Spending pages first now data_pages meta_pages
+    → data_pages + meta_pages + 1 ≤ pages → first.free + now.good ≤ now.free + first.good + 2
 
 -- pages of the meta stream alone open at most as many blocks as they fill, and one more for each failure
 abbrev pub MetaOpeningsLaw : Type 0
-MetaOpeningsLaw = (pages meta_pages blocks : ℕ) (first now : Counts) → Spending pages first now 0 meta_pages → now.meta_left + meta_pages < (blocks + 1) * pages → first.free + now.good ≤ now.free + first.good + blocks
+MetaOpeningsLaw = (pages meta_pages blocks : ℕ) (first now : Counts) → Spending pages first now 0 meta_pages
+    → now.meta_left + meta_pages < (blocks + 1) * pages → first.free + now.good ≤ now.free + first.good + blocks
 
 -- a page that finds no free block, with less than a block of pages before it
 abbrev pub StuckLaw : Type 0
-StuckLaw = (stream : Stream) (pages failures data_pages meta_pages : ℕ) (first now new : Counts) → Spending pages first now data_pages meta_pages → data_pages + meta_pages + 2 ≤ pages → FindsNone stream failures now new → Stuck first new
+StuckLaw = (stream : Stream) (pages failures data_pages meta_pages : ℕ) (first now new : Counts) → Spending pages first now data_pages meta_pages
+    → data_pages + meta_pages + 2 ≤ pages → FindsNone stream failures now new → Stuck first new
 
 -- less than a block of pages, and then the block that they were copied from is erased or fails
 abbrev pub CollectedLaw : Type 0
-CollectedLaw = (pages failures data_pages meta_pages : ℕ) (first now new : Counts) → Spending pages first now data_pages meta_pages → data_pages + meta_pages + 1 ≤ pages → Erased failures now new → Fits pages new → Collected pages first new
+CollectedLaw = (pages failures data_pages meta_pages : ℕ) (first now new : Counts) → Spending pages first now data_pages meta_pages
+    → data_pages + meta_pages + 1 ≤ pages → Erased failures now new → Fits pages new → Collected pages first new
 
 -- ---- collections until nine blocks are free
 
@@ -78,7 +83,9 @@ NeverStuckLaw = (pages failures : ℕ) (old new : Counts) → Fits pages old →
 -- With `need` good blocks collections go on until nine blocks are free, and with some more good ones until as many more are
 -- free: fewer free ones leave a closed block with at most `vmax` newest pages.
 abbrev pub NineLaw : Type 0
-NineLaw = (g : Geometry) (marks : List (Option Record)) (closed : ℕ → Bool) (more free open_blocks : ℕ) → need g + more ≤ free + open_blocks + blocks_that g closed → open_blocks ≤ 2 → ((block : ℕ) → block < g.blocks → closed block ≡ true → vmax g < live g marks block) → 9 + more ≤ free
+NineLaw = (g : Geometry) (marks : List (Option Record)) (closed : ℕ → Bool) (more free open_blocks : ℕ)
+    → need g + more ≤ free + open_blocks + blocks_that g closed → open_blocks ≤ 2
+    → ((block : ℕ) → block < g.blocks → closed block ≡ true → vmax g < live g marks block) → 9 + more ≤ free
 
 -- each collection leaves fewer pages that aren't in the pool
 abbrev pub FallsLaw : Type 0
@@ -92,4 +99,6 @@ CopiesFitLaw = (g : Geometry) (live_pages : ℕ) → live_pages ≤ vmax g → l
 
 -- some sectors are of at most so many translation pages as they are, and of no more than there are
 abbrev pub TouchedLaw : Type 0
-TouchedLaw = (per_page count : ℕ) (sectors : List ℕ) (touched : ℕ → Bool) → ((t : ℕ) → t < count → touched t ≡ true → 0 < count_by (λ n. n / per_page == t) sectors) → count_by touched (range_with_len 0 count) ≤ min (length sectors) count
+TouchedLaw = (per_page count : ℕ) (sectors : List ℕ) (touched : ℕ → Bool)
+    → ((t : ℕ) → t < count → touched t ≡ true → 0 < count_by (λ n. n / per_page == t) sectors)
+    → count_by touched (range_with_len 0 count) ≤ min (length sectors) count

@@ -1,6 +1,7 @@
 -- What the engine's calls say alike holds of one after another.
 use Rattle.std.proofs.Common.{◌≡◌, ◌≢◌, ℕ, Bool, Option, Some, None, Result, Ok, Err, IsOk, MatchOption, refl, ap, ◌∙◌, arith}
 use Rattle.page_layout.specs.Flash.{Flash}
+use Rattle.page_layout.specs.Recording.{Recording}
 use Rattle.page_layout.specs.OnlyReads.{OnlyReads}
 use Rattle.collection.specs.declared.engine.Engine.{Engine}
 use Rattle.collection.specs.declared.fault.WriteFault.{WriteFault}
@@ -114,16 +115,6 @@ module _ {N : Type 0} {flash : N → Flash} {honest calm : N → Bool} {failed :
 -- ---- calls that look
 
 module _ {N : Type 0} {flash : N → Flash} {honest calm : N → Bool} {programs erases failed : N → ℕ} where
-  pub looks_same : (a : Engine N) → IsSafe flash a → OnlyLooks {A = Unit {0}} flash honest calm programs erases failed a a (Ok tt)
-  looks_same a safe = record {
-    safe = safe;
-    memory = refl;
-    only_reads = record { geometry_is = refl; honest_is = refl; calm_is = refl; programs_are = refl; erases_are = refl; failed_is = omega arith };
-    faults = tt;
-    rose = λ is. absurd (ok_not_bus tt is);
-    same = λ known ne. refl;
-  }
-
   pub reads_then : (a b c : N) → OnlyReads flash honest calm programs erases failed a b → OnlyReads flash honest calm programs erases failed b c → OnlyReads flash honest calm programs erases failed a c
   reads_then a b c p q = record {
     geometry_is = q.geometry_is ∙ p.geometry_is;
@@ -134,7 +125,19 @@ module _ {N : Type 0} {flash : N → Flash} {honest calm : N → Bool} {programs
     failed_is = omega (arith, p.failed_is, q.failed_is);
   }
 
-  pub looks_then : {A B : Type 0} (a b c : Engine N) (x : A) (result : Result B WriteFault) → OnlyLooks flash honest calm programs erases failed a b (Ok x) → OnlyLooks flash honest calm programs erases failed b c result → OnlyLooks flash honest calm programs erases failed a c result
+module _ {N : Type 0} {flash : N → Flash} {recorded : N → Option Recording} {honest calm : N → Bool} {programs erases failed : N → ℕ} where
+  pub looks_same : (a : Engine N) → IsSafe flash a → OnlyLooks {A = Unit {0}} flash recorded honest calm programs erases failed a a (Ok tt)
+  looks_same a safe = record {
+    safe = safe;
+    memory = refl;
+    only_reads = record { geometry_is = refl; honest_is = refl; calm_is = refl; programs_are = refl; erases_are = refl; failed_is = omega arith };
+    faults = tt;
+    rose = λ is. absurd (ok_not_bus tt is);
+    same = λ known ne. refl;
+    told = λ known ne. refl;
+  }
+
+  pub looks_then : {A B : Type 0} (a b c : Engine N) (x : A) (result : Result B WriteFault) → OnlyLooks flash recorded honest calm programs erases failed a b (Ok x) → OnlyLooks flash recorded honest calm programs erases failed b c result → OnlyLooks flash recorded honest calm programs erases failed a c result
   looks_then a b c x result p q = record {
     safe = q.safe;
     memory = q.memory ∙ p.memory;
@@ -142,9 +145,10 @@ module _ {N : Type 0} {flash : N → Flash} {honest calm : N → Bool} {programs
     faults = q.faults;
     rose = λ is. risen_over _ _ _ p.only_reads.failed_is (q.rose is);
     same = λ known ne. q.same (p.only_reads.honest_is ∙ known) ne ∙ p.same known (ok_not_bus x);
+    told = λ known ne. q.told (p.only_reads.honest_is ∙ known) ne ∙ p.told known (ok_not_bus x);
   }
 
-  pub looks_ok : {A B : Type 0} (a b : Engine N) (x : A) (y : B) → OnlyLooks flash honest calm programs erases failed a b (Ok x) → OnlyLooks flash honest calm programs erases failed a b (Ok y)
+  pub looks_ok : {A B : Type 0} (a b : Engine N) (x : A) (y : B) → OnlyLooks flash recorded honest calm programs erases failed a b (Ok x) → OnlyLooks flash recorded honest calm programs erases failed a b (Ok y)
   looks_ok a b x y p = record {
     safe = p.safe;
     memory = p.memory;
@@ -152,9 +156,10 @@ module _ {N : Type 0} {flash : N → Flash} {honest calm : N → Bool} {programs
     faults = tt;
     rose = λ is. absurd (ok_not_bus y is);
     same = λ known ne. p.same known (ok_not_bus x);
+    told = λ known ne. p.told known (ok_not_bus x);
   }
 
-  pub looks_err : {A B : Type 0} (a b : Engine N) (fault : WriteFault) → OnlyLooks flash honest calm programs erases failed a b (err_as A fault) → OnlyLooks flash honest calm programs erases failed a b (err_as B fault)
+  pub looks_err : {A B : Type 0} (a b : Engine N) (fault : WriteFault) → OnlyLooks flash recorded honest calm programs erases failed a b (err_as A fault) → OnlyLooks flash recorded honest calm programs erases failed a b (err_as B fault)
   looks_err {A} {B} a b fault p = record {
     safe = p.safe;
     memory = p.memory;
@@ -162,10 +167,11 @@ module _ {N : Type 0} {flash : N → Flash} {honest calm : N → Bool} {programs
     faults = p.faults;
     rose = λ is. p.rose (let same : fault ≡ Bus = cc in ap (λ f. Err f) same);
     same = λ known ne. p.same known (not_bus fault ne);
+    told = λ known ne. p.told known (not_bus fault ne);
   }
 
   -- a call that only looks acts in no other way
-  pub looked : {A : Type 0} (a b : Engine N) (result : Result A WriteFault) → OnlyLooks flash honest calm programs erases failed a b result → Acts flash honest calm failed a b result
+  pub looked : {A : Type 0} (a b : Engine N) (result : Result A WriteFault) → OnlyLooks flash recorded honest calm programs erases failed a b result → Acts flash honest calm failed a b result
   looked a b result p = record {
     safe = p.safe;
     fault = ap (λ r. r.fault) p.memory;

@@ -32,4 +32,6 @@ pub mod Settles
 pub mod Appends
 pub mod Tables
 pub mod Acts
+pub mod Mounts
+pub mod Stops
 pub mod PageReads

@@ -127,6 +127,10 @@ module _ (a b : Ram) (x x1 : Image) (row : ℕ) (found : Record) (body : List �
       let P : Ram → Type 0 = λ z. Q z x in
       subst P same (subst (Q b) still k)
 
+  -- it is live after the look as before
+  pub ailing_known : IsTrue None b x1 × IsLivePage row body found x1
+  ailing_known = (rw (same, still) w, (let l = first_found.live in rw still l))
+
   -- the one that was found has left its row, and the others are where they were
   left_lowest : (c d : Ram) (y z : Image) → Goes a c → IsMovedOut row a x c y → IsFollowedBy (key_of found) c y d z → LeavesLowest a x z
   left_lowest c d y z goes m f =

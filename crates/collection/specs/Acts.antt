@@ -1,8 +1,9 @@
 -- What the engine's calls say alike, whatever the die does: those that only look, those that change the die, and those that a standing fault
 -- stops.
-use Rattle.std.specs.Prelude.{◌≡◌, ◌≢◌, ◌⊎◌, ℕ, ◌≤◌, Bool, true, None, Result, Err, IfErr}
+use Rattle.std.specs.Prelude.{◌≡◌, ◌≢◌, ◌⊎◌, ℕ, ◌≤◌, Bool, true, Option, None, Result, Err, IfErr}
 use Rattle.std.specs.Option.{ForSome}
 use Rattle.page_layout.specs.Flash.{Flash}
+use Rattle.page_layout.specs.Recording.{Recording}
 use Rattle.page_layout.specs.Counter.{HasRisen}
 use Rattle.page_layout.specs.OnlyReads.{OnlyReads}
 use Rattle.collection.specs.declared.engine.Engine.{Engine}
@@ -13,14 +14,15 @@ use Rattle.collection.specs.Looks.{IsReadFault}
 use Rattle.collection.specs.Log.{Went}
 use Rattle.collection.specs.Results.{fault_after}
 
--- A CALL THAT LOOKS: memory stays, the die is only read, and an honest one stays as it is unless it gave a fault
-pub record OnlyLooks {A N : Type 0} (flash : N → Flash) (honest calm : N → Bool) (programs erases failed : N → ℕ) (old new : Engine N) (result : Result A WriteFault) : Type 0 where
+-- A CALL THAT LOOKS: memory stays, the die is only read, and an honest one stays as it is, and so does what it tells, unless it gave a fault
+pub record OnlyLooks {A N : Type 0} (flash : N → Flash) (recorded : N → Option Recording) (honest calm : N → Bool) (programs erases failed : N → ℕ) (old new : Engine N) (result : Result A WriteFault) : Type 0 where
   pub safe : IsSafe flash new
   pub memory : ram new ≡ ram old
   pub only_reads : OnlyReads flash honest calm programs erases failed old.nand new.nand
   pub faults : IfErr result IsReadFault
   pub rose : result ≡ Err Bus → HasRisen (failed old.nand) (failed new.nand)
   pub same : honest old.nand ≡ true → result ≢ Err Bus → flash new.nand ≡ flash old.nand
+  pub told : honest old.nand ≡ true → result ≢ Err Bus → recorded new.nand ≡ recorded old.nand
 
 -- A CALL THAT ACTS, and notes no fault: what an honest die did is one log, unless the die gave a fault, and that is counted
 pub record Acts {A N : Type 0} (flash : N → Flash) (honest calm : N → Bool) (failed : N → ℕ) (old new : Engine N) (result : Result A WriteFault) : Type 0 where

@@ -10,6 +10,7 @@ pub mod Cost
 pub mod Log
 pub mod Results
 pub mod Acts
+pub mod Stops
 pub mod Settle
 pub mod Live
 pub mod Collect

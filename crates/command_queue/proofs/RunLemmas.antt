@@ -1,11 +1,11 @@
 -- A run goes on by one call.
-use Rattle.std.proofs.Common.{◌≡◌, ◌≢◌, ◌↔◌, ℕ, ◌+◌, ◌<◌, ◌≤◌, min, inl, inr, Bool, true, not, ◌&&◌, List, [], ◌∷◌, ◌++◌, Option, Some, Result, Ok, Err, refl, sym, ap, subst}
+use Rattle.std.proofs.Common.{◌≡◌, ◌≢◌, ◌↔◌, ℕ, ◌+◌, ◌<◌, ◌≤◌, min, inl, inr, Bool, true, false, not, ◌&&◌, List, [], ◌∷◌, ◌++◌, Option, Some, Result, Ok, Err, refl, sym, ap, subst}
 use Rattle.std.proofs.Common.{◌∙◌, None, arith, append_assoc}
-use Rattle.std.specs.Prelude.{IfErr, is_some}
+use Rattle.std.specs.Prelude.{IfErr, OnOk, is_some}
 use Rattle.std.proofs.lemmas.List.{map-append, append-nil}
 use Rattle.page_layout.specs.declared.geometry.Geometry.{Geometry}
 use Rattle.page_layout.specs.Page.{Image, Page}
-use Rattle.page_layout.specs.Flash.{Flash, Operation}
+use Rattle.page_layout.specs.Flash.{Flash, Operation, Leads}
 use Rattle.page_layout.specs.Array.{array_of}
 use Rattle.bad_blocks.specs.Table.{wear_at, most_wear}
 use Rattle.allocation.specs.State.{State}
@@ -18,7 +18,7 @@ use Rattle.promises.specs.Step.{Reply, ArrayStep, WriteStep, ReadStep, QuietStep
 use Rattle.promises.specs.Log.{programs_in, bad_of, passed_erases_of}
 use Rattle.promises.specs.Legal.{accounted_all}
 use Rattle.promises.specs.Run as runs
-use Rattle.promises.specs.Run.{Event, Run, Happens, state_of, commands_of, replies_of, log_of, last_of}
+use Rattle.promises.specs.Run.{Event, Run, Happens, DeviceView, state_of, commands_of, replies_of, log_of, last_of}
 use Rattle.promises.proofs.LogLemmas.{counts}
 use Rattle.promises.proofs.LegalLemmas.{accounts_join, legal_append}
 use Rattle.promises.proofs.RunLemmas.{one_more_event, last, logs}
@@ -28,13 +28,15 @@ use Rattle.collection.specs.Log.{IsAccounted, Follows, Wears, Went}
 use Rattle.ftl_device.specs.declared.device.Device.{Device}
 use Rattle.ftl_device.specs.declared.fault.DeviceFault.{DeviceFault}
 use Rattle.ftl_device.specs.declared.fault.DeviceFault.TheVariants.{OutOfRange, ReadOnly, SequenceSpent, OutOfMemory, Damaged, BusFault}
-use Rattle.ftl_device.specs.Calls.{IsWell, Says, state_in, reply_of, read_reply_of}
+use Rattle.ftl_device.specs.Calls.{IsWell, Says, HasRescued, state_in, reply_of, read_reply_of}
 use Rattle.ftl_device.specs.Counts.{is_bad_by, is_flush, IsShown, IsLeft}
 use Rattle.ftl_device.specs.Read.{LeavesRead, IsReadRefusal}
-use Rattle.command_queue.specs.Commands.{needs_no_memory}
+use Rattle.command_queue.specs.Commands.{needs_no_memory, is_read, is_turn}
 use Rattle.command_queue.specs.Exchanges.{answer_to, reply_in, Exchange}
-use Rattle.command_queue.specs.Run.{die_in, IsFair, AreFair, HasRun, Ran}
-use Rattle.command_queue.specs.Told.{Happened}
+use Rattle.command_queue.specs.Tells.{die_in, Happened, Tells}
+use Rattle.command_queue.specs.Run.{IsFair, AreFair, HasRun, IsEventOf, HappensEach, Ran}
+use Rattle.command_queue.specs.Rescues.{Rescues}
+use Rattle.command_queue.proofs.RescueLemmas.{rescues, rescues_as}
 use Rattle.ftl_device.specs.Flush.{ShowsBad, First, first_of, IsFlushedOut}
 use Rattle.ftl_device.proofs.CountLemmas.{bad_now_law}
 use Rattle.command_queue.proofs.RefusalLemmas.{NoDamage, shown_on, left_on}
@@ -118,6 +120,11 @@ quiet_sound s t (Err Damaged) is = is
 quiet_sound s t (Err BusFault) is = tt
 
 module _ {N : Type 0} (flash : N → Flash) (old new : Device N) (result : Result (Unit {0}) DeviceFault) (ne : result ≢ Err BusFault) where
+  read_view : flash new.engine.nand ≡ flash old.engine.nand → new.read_only ≡ old.read_only → is_some new.engine.pinned ≡ is_some old.engine.pinned → die_in flash new ≡ die_in flash old
+  read_view kept flag pin =
+      let view : Flash → Bool → Bool → DeviceView = λ f ro pinned. record { flash = f; ro = ro; pinned = pinned } in
+      ap (λ f. view f new.read_only (is_some new.engine.pinned)) kept ∙ (ap (λ ro. view (flash old.engine.nand) ro (is_some new.engine.pinned)) flag ∙ ap (view (flash old.engine.nand) old.read_only) pin)
+
   pub read_happened : (n : ℕ) (bytes : List ℕ) (p q : Page) → ReadStep old.engine.geometry (state_in flash old) n (read_reply_of bytes result) (state_in flash new) → flash new.engine.nand ≡ flash old.engine.nand → LeavesRead n result (ram old.engine) (ram new.engine) p q bytes → new.read_only ≡ old.read_only → IfErr result IsReadRefusal → Happened flash old (record { command = step.Read n; result = result; bytes = bytes }) new
   unfolding went_none
   read_happened n bytes p q is kept leaves flag of_read = record {
@@ -126,15 +133,24 @@ module _ {N : Type 0} (flash : N → Flash) (old new : Device N) (result : Resul
     stale = λ any. no_memory result of_read;
     shown = λ bad next before bads spent. read_shown old.engine.geometry bad next before [] old.read_only (image_in flash new.engine) n bytes (state_in flash old) (state_in flash new) result of_read is ne;
     flushed = λ is. (let no : ⊥ = cc in absurd no);
+    reads = λ is. (refl, read_view kept flag (ap (λ (r : Ram). is_some r.pin.block) (leaves_mapping n result (ram old.engine) (ram new.engine) p q bytes leaves ne)));
+    rescues = λ is. (let no : ⊥ = cc in absurd no);
     left = λ bad before bads on. read_left old.engine.geometry bad before [] old.read_only n result (sym flag ∙ on);
   }
 
-  module _ (safe : IsRam (ram old.engine)) (safe' : IsRam (ram new.engine)) (sized : new.engine.geometry ≡ old.engine.geometry) (well : IsWell flash new) (w : Went (ram old.engine) (flash old.engine.nand) (ram new.engine) (flash new.engine.nand)) (says : IfErr result (Says (ram old.engine) (ram new.engine)))
+  module _ (safe : IsRam (ram old.engine)) (safe' : IsRam (ram new.engine)) (sized : new.engine.geometry ≡ old.engine.geometry) (was : IsWell flash old) (well : IsWell flash new) (w : Went (ram old.engine) (flash old.engine.nand) (ram new.engine) (flash new.engine.nand)) (says : IfErr result (Says (ram old.engine) (ram new.engine)))
       (shown : IfErr result (IsShown old.engine.geometry (is_bad_by (ram old.engine)) old.engine.next [] w.log old.read_only (image_in flash new.engine))) where
+    rescued_so : HasRescued (ram old.engine) (ram new.engine) → Rescues old.engine.geometry (is_bad_by (ram old.engine)) w.log (image_in flash old.engine) (image_in flash new.engine)
+    rescued_so h =
+        rescues (ram old.engine) (ram new.engine) w.log safe safe' sized w.follows h (image_in flash old.engine) (image_in flash new.engine) was.truth well.truth
+        (λ none. (let same : flash new.engine.nand ≡ flash old.engine.nand = subst (λ l. Leads (flash old.engine.nand) l (flash new.engine.nand)) none w.leads in ap (λ (f : Flash). f.image) same))
+
     -- a call that may change sectors
-    pub changed : (command : step.Command) (bytes : List ℕ) → (is_flush command ≡ true → result ≡ Ok tt → IsFlushedOut (first_of (ram old.engine)) w.log (image_in flash new.engine)) → (new.read_only ≡ true → IsLeft command old.engine.geometry (is_bad_by (ram old.engine)) [] w.log old.read_only result) → NoDamage result → (needs_no_memory (is_some old.engine.pinned) old.engine.geometry (image_in flash old.engine) command ≡ true → result ≢ Err OutOfMemory) → ArrayStep old.engine.geometry (state_in flash old) command (answer_to command bytes result) (state_in flash new) → Happened flash old (record { command = command; result = result; bytes = bytes }) new
-    changed command bytes flushed left is stale whole = record {
+    pub changed : (command : step.Command) (bytes : List ℕ) → is_read command ≡ false → (is_turn command ≡ true → OnOk result (HasRescued (ram old.engine) (ram new.engine))) → (is_flush command ≡ true → result ≡ Ok tt → IsFlushedOut (first_of (ram old.engine)) w.log (image_in flash new.engine)) → (new.read_only ≡ true → IsLeft command old.engine.geometry (is_bad_by (ram old.engine)) [] w.log old.read_only result) → NoDamage result → (needs_no_memory (is_some old.engine.pinned) old.engine.geometry (image_in flash old.engine) command ≡ true → result ≢ Err OutOfMemory) → ArrayStep old.engine.geometry (state_in flash old) command (answer_to command bytes result) (state_in flash new) → Happened flash old (record { command = command; result = result; bytes = bytes }) new
+    changed command bytes no_read rescued flushed left is stale whole = record {
       flushed = flushed;
+      reads = λ read. (let no : ⊥ = cc in absurd no);
+      rescues = λ turn done. rescued_so (subst (λ r. OnOk r (HasRescued (ram old.engine) (ram new.engine))) done (rescued turn));
       step = whole;
       went = w;
       stale = stale;
@@ -159,6 +175,12 @@ fair_more first old mid before total (e ∷ events) [] event x fair here all is 
 fair_more first old mid before total (e ∷ events) (y ∷ xs) event x fair here all is =
     (fair.0, fair_more first e.left mid (before ++ e.piece) total events xs event x fair.1 here (all ∙ sym (append_assoc before e.piece (log_of events))) is)
 
+each_more : {N : Type 0} (flash : N → Flash) (honest : N → Bool) (failed erases : N → ℕ) (old mid new : Device N) (events : List Event) (xs : List Exchange) (event : Event) (x : Exchange) → HappensEach flash honest failed erases old events xs mid → IsEventOf flash honest failed erases mid event x new → HappensEach flash honest failed erases old (events ++ event ∷ []) (xs ++ x ∷ []) new
+each_more flash honest failed erases old mid new [] [] event x each is = (new, subst (λ d. IsEventOf flash honest failed erases d event x new) each is, refl)
+each_more flash honest failed erases old mid new [] (y ∷ xs) event x each is = absurd each
+each_more flash honest failed erases old mid new (e ∷ events) [] event x each is = absurd each
+each_more flash honest failed erases old mid new (e ∷ events) (y ∷ xs) event x each is = (each.0, each.1, each_more flash honest failed erases each.0 mid new events xs event x each.2 is)
+
 -- a flush later in the run
 flushed_then : (a b c : Ram) (xs ys : List Operation) (image : Image) → b.geometry ≡ a.geometry → ((k : ℕ) → wear_at a.blocks.table k ≤ most_wear) → Wears xs a.blocks b.blocks
     → ((k : ℕ) → k < b.geometry.blocks → is_bad_by c k ≡ bad_of b.geometry.pages (is_bad_by b) ys k) → ((k : ℕ) → k < b.geometry.blocks → is_bad_by c k ≡ bad_of b.geometry.pages (is_bad_by a) (xs ++ ys) k)
@@ -176,11 +198,11 @@ flushed_then a b c xs ys image same most wears here there f = record {
 }
 
 -- with the last image, the last device and the last log
-module _ {N : Type 0} (flash : N → Flash) (old mid new : Device N) (done : List Exchange) (x : Exchange)
+module _ {N : Type 0} (flash : N → Flash) (honest : N → Bool) (failed erases : N → ℕ) (old mid new : Device N) (done : List Exchange) (x : Exchange)
     (sized : mid.engine.geometry ≡ old.engine.geometry) (sized' : new.engine.geometry ≡ mid.engine.geometry)
     (die : (flash mid.engine.nand).geometry ≡ mid.engine.geometry) (die' : (flash new.engine.nand).geometry ≡ new.engine.geometry)
     (limits : HasLimitsOf old.engine.mapping new.engine.mapping) (most : (b : ℕ) → wear_at (ram old.engine).blocks.table b ≤ most_wear) (safe : IsRam (ram old.engine)) (mid_safe : IsRam (ram mid.engine)) (safe' : IsRam (ram new.engine)) (well : IsWell flash new)
-    (ran : Ran flash old done mid) (h : Happened flash mid x new) where
+    (ran : Ran flash honest failed erases old done mid) (tells : Tells flash honest failed erases mid x new) (h : Happened flash mid x new) where
   event : Event
   event = record { command = x.command; reply = reply_in x; piece = h.went.log; left = die_in flash new }
 
@@ -234,6 +256,10 @@ module _ {N : Type 0} (flash : N → Flash) (old mid new : Device N) (done : Lis
         flushed_then (ram old.engine) (ram mid.engine) (ram new.engine) (log_of ran.run.events) h.went.log (image_in flash new.engine) sized most ran.wears mid_bad (bads_then mid.engine.geometry sized) its;
     stale = λ need e. h.stale (subst (λ (g : Geometry). needs_no_memory (is_some mid.engine.pinned) g (image_in flash mid.engine) x.command ≡ true) (sym sized) need) e;
     mountable = λ most. mountable_after flash old.engine new new.engine refl (sized' ∙ sized) limits safe' well most;
+    reads = h.reads;
+    rescues = λ is done.
+        let here : Rescues old.engine.geometry (is_bad_by (ram mid.engine)) h.went.log (image_in flash mid.engine) (image_in flash new.engine) = subst (λ (g : Geometry). Rescues g (is_bad_by (ram mid.engine)) h.went.log (image_in flash mid.engine) (image_in flash new.engine)) sized (h.rescues is done) in
+        rescues_as old.engine.geometry (is_bad_by (ram mid.engine)) (bad_of old.engine.geometry.pages (is_bad_by (ram old.engine)) (log_of ran.run.events)) (λ b lt. bad_now_law (ram old.engine) (ram mid.engine) (log_of ran.run.events) b safe.blocks_of ran.follows lt) h.went.log (image_in flash mid.engine) (image_in flash new.engine) here;
   }
 
   run_more : HasRun (first_of (ram old.engine)) (die_in flash old) (die_in flash new) (done ++ x ∷ [])
@@ -250,18 +276,24 @@ module _ {N : Type 0} (flash : N → Flash) (old mid new : Device N) (done : Lis
   unfolding event
   log_is = sym (logs ran.run.events (event ∷ []) ∙ ap (λ l. log_of ran.run.events ++ l) (append-nil h.went.log))
 
-  pub ran_more : Ran flash old (done ++ x ∷ []) new
+  each : HappensEach flash honest failed erases old (ran.run.events ++ event ∷ []) (done ++ x ∷ []) new
+  unfolding event
+  each = each_more flash honest failed erases old mid new ran.run.events done event x ran.each (record { tells = tells; happened = h; piece = refl; left = refl })
+
+  pub ran_more : Ran flash honest failed erases old (done ++ x ∷ []) new
   unfolding run_more
   ran_more = record {
     run = run_more;
+    each = each;
     follows = subst (λ l. Follows old.engine.geometry.pages l (ram old.engine).blocks (ram new.engine).blocks) log_is follows;
     next = next ∙ ap (λ l. old.engine.next + programs_in l) log_is;
     wears = subst (λ l. Wears l (ram old.engine).blocks (ram new.engine).blocks) log_is wears;
   }
 
-pub ran_none : {N : Type 0} (flash : N → Flash) (old : Device N) → Ran flash old [] old
-ran_none flash old = record {
+pub ran_none : {N : Type 0} (flash : N → Flash) (honest : N → Bool) (failed erases : N → ℕ) (old : Device N) → Ran flash honest failed erases old [] old
+ran_none flash honest failed erases old = record {
   run = record { events = []; commands = refl; replies = refl; run = refl; fair = tt };
+  each = refl;
   follows = record { legal = λ accounts a. tt; accounted = λ accounts a. a };
   next = omega arith;
   wears = record { worn = λ b few. omega arith };

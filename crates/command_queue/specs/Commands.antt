@@ -1,5 +1,5 @@
 -- COMMANDS, and what a list of them needs and keeps.
-use Rattle.std.specs.Prelude.{◌≡◌, ℕ, Bool, true, not, ◌&&◌, List, [], length, replicate}
+use Rattle.std.specs.Prelude.{◌≡◌, ℕ, Bool, true, false, not, ◌&&◌, List, [], length, replicate}
 use Rattle.std.specs.Prelude.{IsSome, Result, OnErr}
 use Rattle.std.specs.Option.{ForSome}
 use Rattle.std.specs.List.{AllByRecursion, AllZip}
@@ -28,6 +28,21 @@ needs_no_memory pinned g image (step.Write sector body) = not pinned && is_stale
 needs_no_memory pinned g image (step.Trim sector) = not pinned && is_stale g image sector
 needs_no_memory pinned g image step.Flush = true
 needs_no_memory pinned g image step.Turn = true
+
+-- the command is a read; it is a turn
+abbrev pub is_read : step.Command → Bool
+is_read (step.Read sector) = true
+is_read (step.Write sector body) = false
+is_read (step.Trim sector) = false
+is_read step.Flush = false
+is_read step.Turn = false
+
+abbrev pub is_turn : step.Command → Bool
+is_turn (step.Read sector) = false
+is_turn (step.Write sector body) = false
+is_turn (step.Trim sector) = false
+is_turn step.Flush = false
+is_turn step.Turn = true
 
 -- ---- calls
 

@@ -1,4 +1,7 @@
 pub mod Commands
 pub mod Exchanges
+pub mod Rescues
+pub mod Tells
 pub mod Run
 pub mod Told
+pub mod Turns

@@ -1,55 +1,22 @@
--- What a device was told: one call, and many, one after another.
-use Rattle.std.specs.Prelude.{◌≡◌, ◌≢◌, ◌⊎◌, ℕ, ◌+◌, ◌<◌, ◌≤◌, Bool, true, not, List, [], ◌∷◌, ◌++◌, is_some, Option}
-use Rattle.std.specs.Prelude.{None, Some, Ok, Err, IfErr}
+-- What a device was told: many calls, one after another.
+use Rattle.std.specs.Prelude.{◌≡◌, ◌≢◌, ◌⊎◌, ℕ, ◌≤◌, Bool, true, List, [], ◌∷◌, ◌++◌, Option}
+use Rattle.std.specs.Prelude.{None, Some, Err}
 use Rattle.std.specs.Option.{ForSome}
 use Rattle.std.specs.List.{AllByRecursion}
 use Rattle.page_layout.specs.Counter.{HasRisen}
-use Rattle.page_layout.specs.Flash.{Flash, Operation}
+use Rattle.page_layout.specs.Flash.{Flash}
 use Rattle.mapping_cache.specs.Mapping.{HasLimitsOf}
 use Rattle.image_check.specs.Accepted.{Acceptance}
-use Rattle.promises.specs.Step.{ArrayStep}
-use Rattle.promises.specs.Log.{programs_in, bad_of}
-use Rattle.collection.specs.Safe.{ram, image_in}
-use Rattle.collection.specs.Log.{Went}
+use Rattle.collection.specs.Safe.{ram}
 use Rattle.ftl_device.specs.declared.device.Device.{Device}
 use Rattle.ftl_device.specs.declared.fault.DeviceFault.{DeviceFault}
-use Rattle.ftl_device.specs.declared.fault.DeviceFault.TheVariants.{OutOfMemory, BusFault}
+use Rattle.ftl_device.specs.declared.fault.DeviceFault.TheVariants.{BusFault}
+use Rattle.ftl_device.specs.Begin.{begun_ram}
 use Rattle.ftl_device.specs.Device.{IsDevice, IsAcceptedFor}
-use Rattle.ftl_device.specs.Calls.{state_in, stop_of, IsWell}
-use Rattle.ftl_device.specs.Flush.{first_of, IsFlushedOut}
-use Rattle.ftl_device.specs.Counts.{is_bad_by, is_flush, IsShown, IsLeft}
-use Rattle.command_queue.specs.Commands.{needs_no_memory}
-use Rattle.command_queue.specs.Exchanges.{Exchange, reply_in, AreKnown, Stops, AreRefused, StaysStopped}
+use Rattle.ftl_device.specs.Calls.{stop_of, IsWell}
+use Rattle.command_queue.specs.Exchanges.{Exchange, AreKnown, Stops, AreRefused, StaysStopped}
+use Rattle.command_queue.specs.Tells.{Tells, ToldEach}
 use Rattle.command_queue.specs.Run.{Ran, RanFrom}
-
--- ---- one call of a run
-
--- What was answered to a command is a step from the array before to the array after; one log leads from the one image to the other, and a
--- refusal shows what it says for every longer log that ends with it.
-pub record Happened {N : Type 0} (flash : N → Flash) (old : Device N) (x : Exchange) (new : Device N) : Type 0 where
-  pub step : ArrayStep old.engine.geometry (state_in flash old) x.command (reply_in x) (state_in flash new)
-  pub went : Went (ram old.engine) (flash old.engine.nand) (ram new.engine) (flash new.engine.nand)
-  pub stale : needs_no_memory (is_some old.engine.pinned) old.engine.geometry (image_in flash old.engine) x.command ≡ true → x.result ≢ Err OutOfMemory
-  pub shown : (bad : ℕ → Bool) (next : ℕ) (before : List Operation) → ((b : ℕ) → b < old.engine.geometry.blocks → is_bad_by (ram new.engine) b ≡ bad_of old.engine.geometry.pages bad (before ++ went.log) b) → new.engine.next ≡ next + programs_in (before ++ went.log)
-      → IfErr x.result (IsShown old.engine.geometry bad next before went.log old.read_only (image_in flash new.engine))
-  pub left : (bad : ℕ → Bool) (before : List Operation) → ((b : ℕ) → b < old.engine.geometry.blocks → is_bad_by (ram new.engine) b ≡ bad_of old.engine.geometry.pages bad (before ++ went.log) b) → new.read_only ≡ true
-      → IsLeft x.command old.engine.geometry bad before went.log old.read_only x.result
-  pub flushed : is_flush x.command ≡ true → x.result ≡ Ok tt → IsFlushedOut (first_of (ram old.engine)) went.log (image_in flash new.engine)
-
--- ONE CALL, as a run needs it: what holds whatever the die does, and then what is true of an honest die that gave every outcome.
-pub record Tells {N : Type 0} (flash : N → Flash) (honest : N → Bool) (failed : N → ℕ) (old : Device N) (x : Exchange) (new : Device N) : Type 0 where
-  pub device : IsDevice flash new
-  pub sized : new.engine.geometry ≡ old.engine.geometry
-  pub limits : HasLimitsOf old.engine.mapping new.engine.mapping
-  pub honest_is : honest new.engine.nand ≡ honest old.engine.nand
-  pub failed_is : failed old.engine.nand ≤ failed new.engine.nand
-  -- a stopped device answers its fault, and the fault that stopped it is the one that it answered
-  pub stopped : ForSome (stop_of old.engine.fault) (λ fault. (x.result ≡ Err fault) × (new ≡ old))
-  pub stops : IfErr x.result (λ fault. Stops x.command fault → stop_of new.engine.fault ≡ Some fault)
-  pub standing : ForSome (stop_of new.engine.fault) (λ fault. x.result ≡ Err fault)
-  pub rose : stop_of old.engine.fault ≡ None → x.result ≡ Err BusFault → HasRisen (failed old.engine.nand) (failed new.engine.nand)
-  pub well : honest old.engine.nand ≡ true → IsWell flash old → x.result ≢ Err BusFault → IsWell flash new
-  pub happened : honest old.engine.nand ≡ true → IsWell flash old → x.result ≢ Err BusFault → Happened flash old x new
 
 -- ---- many calls
 
@@ -59,7 +26,7 @@ AreHalted stop xs = AllByRecursion (λ (x : Exchange). (fault : DeviceFault) →
 
 -- MANY CALLS, one after another, from the one device to the other, whatever the die does. A device that was stopped, before them or by one of
 -- them, stays so; `BusFault` came, of a device not stopped before, only where the die's count of failures rose or stands at its top.
-pub record AreTold {N : Type 0} (flash : N → Flash) (honest : N → Bool) (failed : N → ℕ) (old : Device N) (xs : List Exchange) (new : Device N) : Type 0 where
+pub record AreTold {N : Type 0} (flash : N → Flash) (honest : N → Bool) (failed erases : N → ℕ) (old : Device N) (xs : List Exchange) (new : Device N) : Type 0 where
   pub device : IsDevice flash new
   pub sized : new.engine.geometry ≡ old.engine.geometry
   pub limits : HasLimitsOf old.engine.mapping new.engine.mapping
@@ -70,6 +37,7 @@ pub record AreTold {N : Type 0} (flash : N → Flash) (honest : N → Bool) (fai
   pub stays : StaysStopped xs
   pub going : stop_of old.engine.fault ≡ None → AreKnown xs → stop_of new.engine.fault ≢ Some BusFault
   pub rose : stop_of old.engine.fault ≡ None → AreKnown xs ⊎ HasRisen (failed old.engine.nand) (failed new.engine.nand)
+  pub each : ToldEach flash honest failed erases old xs new
 
 -- ---- up to the first fault of the bus
 
@@ -92,14 +60,23 @@ pub record Until {S : Type 0} (Runs : List Exchange → S → Type 0) (Fails : S
   pub fails : EndsBy Fails mid rest new
 
 -- calls that were all answered: of an honest die they are a run
-abbrev pub RunsTo : {N : Type 0} → (N → Flash) → (N → Bool) → (N → ℕ) → Device N → List Exchange → Device N → Type 0
-RunsTo flash honest failed old xs mid = AreTold flash honest failed old xs mid × (honest old.engine.nand ≡ true → IsWell flash old → IsWell flash mid × Ran flash old xs mid)
-
--- the same from an accepted certificate
-abbrev pub RunsFrom : {N : Type 0} → (N → Flash) → (N → Bool) → N → Acceptance → List Exchange → Device N → Type 0
-RunsFrom flash honest nand accepted xs mid = honest nand ≡ true → IsAcceptedFor (flash nand) accepted → IsWell flash mid × RanFrom flash (flash nand) accepted.claim xs mid
+abbrev pub RunsTo : {N : Type 0} → (N → Flash) → (N → Bool) → (failed erases : N → ℕ) → Device N → List Exchange → Device N → Type 0
+RunsTo flash honest failed erases old xs mid = AreTold flash honest failed erases old xs mid × (honest old.engine.nand ≡ true → IsWell flash old → IsWell flash mid × Ran flash honest failed erases old xs mid)
 
 -- A LIST OF CALLS: those before the first fault of the bus are a run, and all from it on answer that fault.
-pub record WasTold {N : Type 0} (flash : N → Flash) (honest : N → Bool) (failed : N → ℕ) (old : Device N) (xs : List Exchange) (new : Device N) : Type 0 where
-  pub calls : AreTold flash honest failed old xs new
-  pub until : Until (RunsTo flash honest failed old) (Tells flash honest failed) xs new
+pub record WasTold {N : Type 0} (flash : N → Flash) (honest : N → Bool) (failed erases : N → ℕ) (old : Device N) (xs : List Exchange) (new : Device N) : Type 0 where
+  pub calls : AreTold flash honest failed erases old xs new
+  pub until : Until (RunsTo flash honest failed erases old) (Tells flash honest failed erases) xs new
+
+-- ---- from an accepted certificate
+
+-- the same of a device that `start` began over this die
+abbrev pub RunsFrom : {N : Type 0} → (N → Flash) → (N → Bool) → (failed erases : N → ℕ) → N → Acceptance → List Exchange → Device N → Type 0
+RunsFrom flash honest failed erases nand accepted xs mid = honest nand ≡ true → IsAcceptedFor (flash nand) accepted → IsWell flash mid × RanFrom flash honest failed erases (flash nand) accepted.claim xs mid
+
+-- `start` began a device over this die, and it was told these, one after another
+pub record ToldFrom {N : Type 0} (flash : N → Flash) (honest : N → Bool) (failed erases : N → ℕ) (nand : N) (accepted : Acceptance) (xs : List Exchange) (new : Device N) : Type 0 where
+  pub first : Device N
+  pub nand_is : first.engine.nand ≡ nand
+  pub begun : ram first.engine ≡ begun_ram (flash nand).geometry accepted.claim accepted.stale
+  pub told : WasTold flash honest failed erases first xs new

@@ -2,7 +2,9 @@
 #![tactic(auto)]
 
 mod command;
+mod laws;
 mod queue;
 
 pub use command::{Call, Command};
+pub use laws::turn_run_laws;
 pub use queue::{run, run_accepted, tell};

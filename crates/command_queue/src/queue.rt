@@ -10,7 +10,8 @@ ghost use Rattle.command_queue.specs.Commands.{command_of, told, HasRoom, AreWho
 ghost use Rattle.command_queue.specs.Exchanges.{exchanges_of, AreKnown};
 ghost use Rattle.command_queue.specs.Commands.{KeepsBytes, HaveKept};
 ghost use Rattle.command_queue.specs.Exchanges.{Stops, StaysStopped};
-ghost use Rattle.command_queue.specs.Told.{Happened, Tells, WasTold, Until, RunsFrom};
+ghost use Rattle.command_queue.specs.Tells.{Happened, Tells, TakesIfTurn};
+ghost use Rattle.command_queue.specs.Told.{WasTold, ToldFrom, Until, RunsFrom};
 
 use crate::command::{Call, Command};
 use ftl_device::{Device, DeviceFault, StartFault};
@@ -20,7 +21,8 @@ use std::alloc::Global;
 
 /// Tells the device one command: a read that is done gives its bytes, and no other command changes
 /// them. It does what `read`, `write`, `trim`, `flush` and `turn` do, and says of each what a list
-/// of commands needs.
+/// of commands needs. A read programs and erases nothing. Of a turn it says all that `turn` says: what is
+/// rescued from bad blocks, how far a collection goes, and when it rests.
 ///
 /// # Errors
 ///
@@ -49,6 +51,7 @@ pub fn tell<N: Nand>(
         IsWell N.flash device.new }
     ensures happened { N.honest device.old.engine.nand ≡ true → IsWell N.flash device.old → result ≢ Err DeviceFault.BusFault →
         Happened N.flash device.old (record { command = command_of command.entry; result = result; bytes = bytes.new }) device.new }
+    ensures turned { TakesIfTurn N.flash N.honest N.erases (command_of command.entry) device.old result device.new }
 {
     match command {
         Command::Read { sector } => device.read(sector, bytes),
@@ -61,13 +64,16 @@ pub fn tell<N: Nand>(
 
 /// Tells the device a list of commands, one after another, and puts its answer to each. A read
 /// that is done has the sector's bytes; all other bytes and the commands stay as they are. It
-/// takes no memory of its own. A device that was stopped answers its fault to all that is left:
-/// `BusFault` stops it, and `Damaged` after a write or trim.
+/// takes no memory of its own. Each did what `tell` says of it, from a device to the next, the last of
+/// which is the device as it ends. A device that was stopped answers its fault to all that is left:
+/// `BusFault` stops it, and `Damaged` after all but a read.
 ///
 /// Where the die is honest, the answers before the first `BusFault` are a run of the array that
 /// the die's image holds as it begins: each answer is the array's, the image holds the array after
 /// each, the log of it all is legal, none is `Damaged`, and each `ReadOnly` has fewer than five
-/// free blocks and its counts by the image and that log. The call in which the bus failed and all
+/// free blocks and its counts by the image and that log. Each event of it is one of those calls: it has
+/// its piece of the log and leaves its die. A turn that is done leaves no bad block more newest pages than
+/// it had. The call in which the bus failed and all
 /// after it answer `BusFault`, and those after it change nothing. To a device that wasn't stopped
 /// it comes only where the die's count of failures rose in that call or stands at 2^64 - 1.
 ///
@@ -76,7 +82,7 @@ pub fn run<N: Nand>(device: &mut Device<N>, calls: &mut [Call<'_>])
     requires device { IsDevice N.flash device.old }
     requires whole { AreWhole device.old.engine.geometry calls.old }
     ensures calm { N.calm device.new.engine.nand ≡ N.calm device.old.engine.nand }
-    ensures told { WasTold N.flash N.honest N.failed device.old (exchanges_of calls.new) device.new }
+    ensures told { WasTold N.flash N.honest N.failed N.erases device.old (exchanges_of calls.new) device.new }
     ensures whole { AreWhole device.old.engine.geometry calls.new }
     ensures commands { map told calls.new ≡ map told calls.old }
     ensures answered { AreAnswered calls.new }
@@ -94,7 +100,9 @@ pub fn run<N: Nand>(device: &mut Device<N>, calls: &mut [Call<'_>])
 /// first `BusFault` are a run of the array that this image holds; the log of it all is legal for
 /// this image and the certificate's bad blocks, none is `Damaged`, and each `ReadOnly` has fewer
 /// than five free blocks and its counts by the image and that log. All answers from the first
-/// `BusFault` on are that fault, as `run` says. With none, `read_only` is the run's as it ends.
+/// `BusFault` on are that fault, as `run` says. With none, `read_only` is the run's as it ends. The
+/// accounts of the log go on to the device as it ends, so that a later `run` of it goes on with one legal
+/// log.
 ///
 /// # Errors
 ///
@@ -115,10 +123,11 @@ pub fn run_accepted<'a, N: Nand>(
     ensures calm { IfOk result (λ d. N.calm d.engine.nand ≡ N.calm nand) }
     ensures failed { IfOk result (λ d. N.failed nand ≤ N.failed d.engine.nand) }
     ensures stays { OnOk result (StaysStopped (exchanges_of calls.new)) }
+    ensures each { IfOk result (ToldFrom N.flash N.honest N.failed N.erases nand accepted.entry (exchanges_of calls.new)) }
     ensures rose { IfOk result (λ d. AreKnown (exchanges_of calls.new) ⊎ HasRisen (N.failed nand) (N.failed d.engine.nand)) }
 
     // Up to the first fault of the bus.
-    ensures until { IfOk result (Until (RunsFrom N.flash N.honest nand accepted.entry) (Tells N.flash N.honest N.failed) (exchanges_of calls.new)) }
+    ensures until { IfOk result (Until (RunsFrom N.flash N.honest N.failed N.erases nand accepted.entry) (Tells N.flash N.honest N.failed N.erases) (exchanges_of calls.new)) }
     ensures fault { IfErr result (λ fault. fault ≡ StartFault.OutOfMemory nand accepted.entry) }
     ensures untold { OnErr result (calls.new ≡ calls.old) }
 {

@@ -247,7 +247,8 @@ impl<'a> Places<'a> {
 // The words of a command that was found.
 fn words_found<'a>(found: &ArgMatches<'a>) -> Option<Places<'a>>
     ensures some { IfSome result (AreFound (rows_of (found_of found.now))) }
-    ensures none { result ≡ None → (first_of (codes "first") (rows_of (found_of found.now)) ≡ None) ⊎ (first_of (codes "second") (rows_of (found_of found.now)) ≡ None) ⊎ (first_of (codes "third") (rows_of (found_of found.now)) ≡ None) }
+    ensures none { result ≡ None → (first_of (codes "first") (rows_of (found_of found.now)) ≡ None) ⊎
+        (first_of (codes "second") (rows_of (found_of found.now)) ≡ None) ⊎ (first_of (codes "third") (rows_of (found_of found.now)) ≡ None) }
 {
     Some(Places {
         first: found.get_str("first")?,
@@ -280,7 +281,9 @@ fn order_named<'a>(name: &str, words: &Places<'a>) -> Option<Order<'a>>
 
 // The order that the matches give, where they are those of a command.
 fn order_of<'a>(matches: &ArgMatches<'a>) -> Option<Order<'a>>
-    ensures { (command : CommandName) (words : List (List ℕ)) → IsNamed (name_of command) (HasAll (places (size_of command)) words) (subcommand_rows_of matches.now) → IsSomeAnd result (λ order. order_words order ≡ name_of command ∷ words) }
+    ensures { (command : CommandName) (words : List (List ℕ)) →
+        IsNamed (name_of command) (HasAll (places (size_of command)) words) (subcommand_rows_of matches.now) →
+        IsSomeAnd result (λ order. order_words order ≡ name_of command ∷ words) }
 {
     let (name, found) = matches.subcommand()?;
     let words = words_found(found)?;

@@ -23,7 +23,7 @@ use Rattle.commands.specs.declared.text.CommandFault.{CommandFault}
 use Rattle.commands.specs.declared.text.CommandFault.TheVariants as fault
 use Rattle.commands.specs.Check.{IsWhole}
 use Rattle.commands.specs.Files.{Gives, Left, Leaves}
-use Rattle.commands.specs.Serve.{bad_in, stop_in, DoesServe, Ends, HasClaim, HasRun, HasServed, IsUnserved, IsUnservedDie, IsUnstarted, ServesDie}
+use Rattle.commands.specs.Serve.{Driver, flash_behind, is_honest, failures_of, erases_of, bad_in, stop_in, DoesServe, Ends, HasClaim, HasRun, HasServed, IsUnserved, IsUnservedDie, IsUnstarted, ServesDie}
 use Rattle.commands.proofs.FormatLemmas.{not_risen}
 
 -- a count that stays at none did not rise
@@ -31,23 +31,30 @@ all_known : (xs : List Exchange) (was now most : ℕ) → AreKnown xs ⊎ HasRis
 all_known xs was now most (inl known) le none = known
 all_known xs was now most (inr risen) le none = absurd (not_risen was now most risen le none)
 
-pub die_served : {N : Type 0} (flash : N → Flash) (honest : N → Bool) (failed : N → ℕ) (nand given : N) (g : Geometry) (capacity : ℕ) (c : Claim) (u v b w : Option (List ℕ)) (result : Result Served ServeFault) (how : Option ServeStop) (after : List ℕ) (back : Flash) (most : ℕ)
-    → IsServed flash honest failed nand g capacity c u v b w result given → honest nand ≡ true → failed given ≤ most → most ≡ 0 → back ≡ flash given → back.geometry ≡ g
-    → how ≡ stop_in result → raw_image back.geometry after ≡ back.image → after ≡ raw_bytes back.image → HasServed g capacity c (flash nand) after u v b w how
-die_served flash honest failed nand given g capacity c u v b w result how after back most s h le none same sized how_is pages bytes = record {
-  came = result;
-  how_is = how_is;
-  serves = record {
-    requests = s.requests;
-    exchanges = s.exchanges;
-    commands = s.commands;
-    stream = s.stream;
-    flash = flash given;
-    headline = until_known (HoldsTo flash honest nand g capacity c) (HasFailed failed) s.exchanges given s.headline (all_known s.exchanges (failed nand) (failed given) most s.rose le none) h;
-    pages = ap (λ k. raw_image k after) (sym sized) ∙ (pages ∙ ap (λ (f : Flash). f.image) same);
-    bytes = bytes ∙ ap (λ (f : Flash). raw_bytes f.image) same;
-  };
-}
+pub die_served : (nand given : Driver) (g : Geometry) (capacity : ℕ) (c : Claim) (u v b w : Option (List ℕ)) (result : Result Served ServeFault) (how : Option ServeStop) (after : List ℕ) (back : Flash) (most : ℕ)
+    → IsServed flash_behind is_honest failures_of erases_of nand g capacity c u v b w result given → failures_of given ≤ most → most ≡ 0 → back ≡ flash_behind given → back.geometry ≡ g
+    → how ≡ stop_in result → raw_image back.geometry after ≡ back.image → after ≡ raw_bytes back.image → HasServed g capacity c (flash_behind nand) after u v b w how
+die_served nand given g capacity c u v b w result how after back most s le none same sized how_is pages bytes =
+    let known : AreKnown s.exchanges = all_known s.exchanges (failures_of nand) (failures_of given) most s.rose le none in
+    let there : back ≡ flash_behind s.last.engine.nand = same ∙ ap flash_behind s.given_is in
+    record {
+      came = result;
+      how_is = how_is;
+      serves = record {
+        requests = s.requests;
+        exchanges = s.exchanges;
+        commands = s.commands;
+        stream = s.stream;
+        first = s.first;
+        last = s.last;
+        nand = nand;
+        held = refl;
+        begun = s.begun;
+        holds = until_known (HoldsTo flash_behind is_honest failures_of erases_of nand g capacity c s.first) (HasFailed flash_behind is_honest failures_of erases_of) s.exchanges s.last s.headline known refl;
+        pages = ap (λ k. raw_image k after) (sym sized) ∙ (pages ∙ ap (λ (f : Flash). f.image) there);
+        bytes = bytes ∙ ap (λ (f : Flash). raw_bytes f.image) there;
+      };
+    }
 
 -- a die that counted no fault was refused for memory, or for the first part that fails
 pub read_through : (g : Geometry) (capacity : ℕ) (image : Image) (c : Claim) (r : Refusal) (was now most : ℕ) → IsRefusal g capacity image c r → (r ≡ refusals.Source → HasRisen was now) → now ≤ most → most ≡ 0

@@ -1,11 +1,12 @@
 -- What the command `serve` comes to.
-use Rattle.std.specs.Prelude.{◌≡◌, ◌⊎◌, ℕ, true, List, map, filter, min, Option, Some, None, Result, Ok, Err}
+use Rattle.std.specs.Prelude.{◌≡◌, ◌⊎◌, ℕ, Bool, true, List, map, filter, min, Option, Some, None, Result, Ok, Err}
 use Rattle.std.specs.List.{range_with_len}
 use Rattle.std.specs.Io.KnownBytes.{Keeps}
 use Rattle.page_layout.specs.declared.geometry.Geometry.{Geometry}
 use Rattle.page_layout.specs.Flash.{Flash}
 use Rattle.page_layout.specs.Raw.{raw_image, raw_bytes}
 use Rattle.certificate.specs.Claim.{Claim}
+use Rattle.onfi_cycles.specs.Driver.{DriverState, flash_by}
 use Rattle.nand_die.specs.declared.fault.DieFault.TheVariants as die
 use Rattle.nand_die.specs.Made.{loaded_flash}
 use Rattle.promises.specs.Stream.{Request, command_of}
@@ -15,15 +16,17 @@ use Rattle.image_check.specs.declared.refusal.Refusal.TheVariants as refusals
 use Rattle.image_check.specs.Refused.{IsFirstWrong}
 use Rattle.image_check.specs.Agrees.{Agrees}
 use Rattle.request_stream.specs.declared.reply.ServeFault.{ServeFault}
+use Rattle.ftl_device.specs.declared.device.Device.{Device}
 use Rattle.ftl_device.specs.Begin.{is_bad_in}
 use Rattle.command_queue.specs.Exchanges.{Exchange, commands_in, replies_in}
 use Rattle.block_server.specs.declared.server.Served.{Served}
 use Rattle.block_server.specs.Session.{Serves}
-use Rattle.block_server.specs.Checked.{Headline}
+use Rattle.block_server.specs.Checked.{IsBegun, Holds}
 use Rattle.command_words.specs.declared.words.CertificateWords.{CertificateWords}
 use Rattle.command_words.specs.declared.words.ServeWords.{ServeWords}
 use Rattle.commands.specs.declared.text.CommandFault.{CommandFault}
 use Rattle.commands.specs.declared.text.CommandFault.TheVariants as fault
+use Rattle.commands.specs.declared.steady.SteadyDie.{SteadyDie}
 use Rattle.commands.specs.declared.text.ServeStop.{ServeStop}
 use Rattle.commands.specs.declared.text.ServeStop.TheVariants as stop
 use Rattle.commands.specs.Check.{HasFiles, AsksForCapacity, IsNoCertificate, IsSpelled, IsUnasked, IsWhole}
@@ -36,17 +39,37 @@ use Rattle.commands.specs.Inputs.{IsUnread}
 abbrev pub bad_in : Geometry → Claim → List ℕ
 bad_in g c = filter (is_bad_in c) (range_with_len 0 (min g.blocks c.sizes.blocks))
 
--- Requests were served over a die in memory: what was read and written, and the image that it holds then. The headline holds, since a die in
--- memory is honest and answers all that it is asked.
+-- the driver of the die in memory, as the device asks it: it is honest
+abbrev pub Driver : Type 0
+Driver = DriverState SteadyDie
+
+abbrev pub flash_behind : Driver → Flash
+flash_behind d = flash_by (λ (bus : SteadyDie). bus.die.state) d
+
+abbrev pub is_honest : Driver → Bool
+is_honest d = true
+
+abbrev pub failures_of : Driver → ℕ
+failures_of d = d.failures
+
+abbrev pub erases_of : Driver → ℕ
+erases_of d = d.erases
+
+-- Requests were served over a die in memory: what was read and written, the calls of the device that `start` began over it, and the image that it
+-- holds then. The headline holds, since a die in memory is honest and answers all that it is asked; its events are those calls.
 pub record ServesDie (g : Geometry) (capacity : ℕ) (c : Claim) (s : Flash) (after : List ℕ) (unread left out out' : Option (List ℕ)) (result : Result Served ServeFault) : Type 0 where
   pub requests : List Request
   pub exchanges : List Exchange
   pub commands : commands_in exchanges ≡ map command_of requests
   pub stream : Serves g.data_bytes unread left out out' requests (replies_in exchanges) result
-  pub flash : Flash
-  pub headline : Headline g capacity c s flash exchanges
-  pub pages : raw_image g after ≡ flash.image
-  pub bytes : after ≡ raw_bytes flash.image
+  pub nand : Driver
+  pub first : Device Driver
+  pub last : Device Driver
+  pub held : flash_behind nand ≡ s
+  pub begun : IsBegun flash_behind is_honest failures_of nand g c first
+  pub holds : Holds flash_behind is_honest failures_of erases_of g capacity c s first exchanges last
+  pub pages : raw_image g after ≡ (flash_behind last.engine.nand).image
+  pub bytes : after ≡ raw_bytes (flash_behind last.engine.nand).image
 
 -- the same of the die that holds the image, with the certificate's bad blocks
 abbrev pub ServesImage : Geometry → ℕ → Claim → (before after : List ℕ) → (unread left out out' : Option (List ℕ)) → Result Served ServeFault → Type 0

@@ -78,7 +78,8 @@ DoesShow gives words before after (Err (fault.BadNumber word)) = Keeps before af
 DoesShow gives words before after (Err (fault.Geometry broken)) = Keeps before after
     × ((numbers : GeometryNumbers) × (row : ℕ) × SpellsGeometry words.geometry.now numbers × (number_of words.number.now ≡ Some row)
     × IsFirstFault numbers.data_bytes numbers.spare_bytes numbers.pages numbers.blocks numbers.sectors broken)
-DoesShow gives words before after (Err (fault.Read path)) = Keeps before after × (path.now ≡ words.image.now) × gives words.image.now (Err file.Failed) × ((g : Geometry) × (row : ℕ) × AsksForNumber words g row)
+DoesShow gives words before after (Err (fault.Read path)) = Keeps before after × (path.now ≡ words.image.now)
+    × gives words.image.now (Err file.Failed) × ((g : Geometry) × (row : ℕ) × AsksForNumber words g row)
 DoesShow gives words before after (Err fault.WrongLength) = Keeps before after
     × ((g : Geometry) × (row : ℕ) × (bytes : List ℕ) × AsksForNumber words g row × gives words.image.now (Ok bytes) × (length bytes ≢ row_count g * page_bytes g))
 DoesShow gives words before after (Err fault.RowRange) = (g : Geometry) × (row : ℕ) × (bytes : List ℕ) × HasImage gives words g row bytes

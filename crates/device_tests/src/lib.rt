@@ -1,4 +1,4 @@
-//! Devices from end to end: sectors over the driver over a die in memory.
+//! Devices from end to end, sectors over the driver over a die in memory: written and read, flushed, started anew.
 #![tactic(auto)]
 
 #[cfg(test)]

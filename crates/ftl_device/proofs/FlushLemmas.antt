@@ -39,7 +39,7 @@ use Rattle.collection.specs.Tables.{SpellsTable}
 use Rattle.collection.proofs.MapLemmas.{none_not}
 use Rattle.ftl_device.specs.Flush.{IsFlushed, ShowsBad, FreshLaw, AnywhereLaw, ShownBadLaw, ShownWearLaw}
 use Rattle.ftl_device.specs.Counts.{is_bad_by}
-use Rattle.ftl_device.proofs.MountableLemmas.{right_entry, tables_are}
+use Rattle.collection.proofs.Mounts.{right_entry, tables_are}
 use Rattle.ftl_device.proofs.BlockLemmas.{good_class}
 
 -- ---- no entry is stale

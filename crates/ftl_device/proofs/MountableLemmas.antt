@@ -30,28 +30,10 @@ use Rattle.image_check.proofs.MountableLemmas.{mountable}
 use Rattle.collection.specs.State.{Ram}
 use Rattle.collection.specs.Safe.{IsRam}
 use Rattle.collection.specs.Truth.{IsTrue, HasTable}
-use Rattle.collection.proofs.MapLemmas.{none_not}
+use Rattle.collection.proofs.Mounts.{stale_held, orderly}
 use Rattle.ftl_device.specs.Calls.{StaleLaw, RestartLaw}
 
--- ---- stale sectors are cached or moved
-
-pub right_entry : (g : Geometry) (image : Image) (n : ℕ) → entry_of g image n ≡ newest (marks image) (Sector n) → is_stale g image n ≡ false
-unfolding is_stale
-right_entry g image n same = ap not (row_same (entry_of g image n) (newest (marks image) (Sector n)) same)
-
-abbrev pub IsHeld : MappingState → ℕ → Type 0
-IsHeld m n = IsSome (slot_of m n) ⊎ IsSome (moved_row m n)
-
-pub stale_held : (r : Ram) (image : Image) (n : ℕ) → IsTrue None r image → n < r.geometry.sectors → is_stale r.geometry image n ≡ true → IsHeld r.mapping n
-stale_held r image n w lt old = at (slot_of r.mapping n) (moved_row r.mapping n) refl refl
-  where
-    at : (s : Option Slot) (m : Option ℕ) → slot_of r.mapping n ≡ s → moved_row r.mapping n ≡ m → IsHeld r.mapping n
-    at (Some s) m e f = inl (rw e refl)
-    at None (Some row) e f = inr (rw f refl)
-    at None None e f =
-        let none : pending r.mapping n ≡ None = pending-at r.mapping n None None e f in
-        let right : is_stale r.geometry image n ≡ false = right_entry r.geometry image n (w.maps.entry_is n lt (none_not (Sector n)) none) in
-        let no : true ≡ false = sym old ∙ right in cc
+-- ---- stale sectors are cached
 
 pub stale_law : StaleLaw
 stale_law r image n w unmoved lt old = elim (stale_held r image n w lt old) [
@@ -63,56 +45,7 @@ stale_law r image n w unmoved lt old = elim (stale_held r image n w lt old) [
     at None e some = (let no : ⊥ = cc in no)
     at (Some row) e some = (let no : ⊥ = cc in no)
 
--- ---- so there are few
-
-of_sector : ℕ → ℕ → Bool
-of_sector t n = eqb (n / 1) t
-
-counted_key : {X : Type 0} (t : ℕ) (es : List (ℕ × X)) → IsSome (lookup (eqb t) es) → 0 < count_by (λ n. eqb (n / 1) t) (keys_of es)
-counted_key t [] some = (let no : ⊥ = cc in absurd no)
-counted_key {X} t (e ∷ es) some = by_test (eqb t e.0)
-    (λ y.
-    let same : t ≡ e.0 = eqb-true t e.0 y in
-    let whole : e.0 / 1 ≡ t = omega arith in
-    let one : bit (eqb (e.0 / 1) t) ≡ 1 = ap bit (eq-eqb (e.0 / 1) t whole) in
-    omega (arith, count_by-cons (λ n. eqb (n / 1) t) e.0 (keys_of es)))
-    (λ f.
-    let tail : IsSome (lookup (eqb t) es) = subst IsSome (cond-false (eqb t e.0) (Some e.1) (lookup (eqb t) es) f) some in
-    omega (arith, count_by-cons (λ n. eqb (n / 1) t) e.0 (keys_of es), counted_key t es tail))
-
-held_counted : (m : MappingState) (t : ℕ) → IsHeld m t → 0 < count_by (λ n. eqb (n / 1) t) (keys_of m.cached ++ keys_of m.moved)
-held_counted m t held = elim held [
-  | inl cached ↦ omega (arith, count_by-append (λ n. eqb (n / 1) t) (keys_of m.cached) (keys_of m.moved), counted_key t m.cached cached)
-  | inr moved ↦ omega (arith, count_by-append (λ n. eqb (n / 1) t) (keys_of m.cached) (keys_of m.moved), counted_key t m.moved moved)
-]
-
-few_stale : (r : Ram) (image : Image) → IsRam r → IsTrue None r image → stale_count r.geometry image ≤ r.mapping.capacity + r.geometry.pages
-unfolding stale_sectors
-few_stale r image s w =
-    let keys : List ℕ = keys_of r.mapping.cached ++ keys_of r.mapping.moved in
-    let most = touched_pages 1 r.geometry.sectors keys (is_stale r.geometry image) (λ t lt old. held_counted r.mapping t (stale_held r image t w lt old)) in
-    let size = length-append (keys_of r.mapping.cached) (keys_of r.mapping.moved) in
-    let cached = length-map r.mapping.cached (λ (e : ℕ × Slot). e.0) in
-    let moved = length-map r.mapping.moved (λ (e : ℕ × ℕ). e.0) in
-    let pages_same : r.mapping.geometry.pages ≡ r.geometry.pages = ap (λ (g : Geometry). g.pages) s.mapping_of in
-    omega (arith, length-filter (is_stale r.geometry image) (range_with_len 0 r.geometry.sectors), most, size, cached, moved, pages_same, s.mapping.within, s.mapping.moved_within)
-
 -- ---- a certificate is to be had
-
-pub tables_are : (g : Geometry) (image : Image) → ((u : ℕ) → u < table_pages g → HasTable g image u) → HasTables g image
-tables_are g image has = record {
-  formatted = λ u lt. (let t = has u lt in record { row = t.row; newest_is = t.newest_is });
-  formed = λ u lt. (let t = has u lt in subst (IsWellFormed (entries g) g.blocks u) (sym (table_is image u t.row t.newest_is)) t.formed);
-}
-
-orderly : (r : Ram) (image : Image) → IsRam r → IsTrue None r image → IsOrderly r.geometry (r.mapping.capacity + r.geometry.pages) image
-orderly r image s w = record {
-  numbers = record { in_range = w.one.in_range };
-  sequences = w.one.distinct;
-  tables = tables_are r.geometry image w.tables;
-  last = record { below = λ row x at. omega (arith, w.below.below row x at, s.next) };
-  fresh = few_stale r image s w;
-}
 
 pub restart_law : RestartLaw
 restart_law r image s w most = (mountable r.geometry (r.mapping.capacity + r.geometry.pages) image w.whole.rows (omega (arith, s.mapping.holds_one)) most).1 (orderly r image s w)

@@ -318,7 +318,9 @@ LeftBelowLaw {N} flash = (d : Device N) → IsDevice flash d → IsWell flash d 
 -- SO OF AS MANY TURNS IN A ROW as a block has pages, each without a failure and begun while no bad block held a newest page, one has erased or
 -- changed nothing
 abbrev pub TurnsLaw : {N : Type 0} → (flash : N → Flash) → (erases : N → ℕ) → Type 0
-TurnsLaw {N} flash erases = (engine_at : ℕ → engines.Engine N) (pages : ℕ) → left (ram (engine_at 0)) (image_in flash (engine_at 0)) < pages → ((k : ℕ) → k < pages → HasFallen flash erases (engine_at k) (engine_at (k + 1))) → (k : ℕ) × (k < pages) × ((engine_at (k + 1) ≡ engine_at k) ⊎ HasRisen (erases (engine_at k).nand) (erases (engine_at (k + 1)).nand))
+TurnsLaw {N} flash erases = (engine_at : ℕ → engines.Engine N) (pages : ℕ) → left (ram (engine_at 0)) (image_in flash (engine_at 0)) < pages
+    → ((k : ℕ) → k < pages → HasFallen flash erases (engine_at k) (engine_at (k + 1))) → (k : ℕ) × (k < pages)
+    × ((engine_at (k + 1) ≡ engine_at k) ⊎ HasRisen (erases (engine_at k).nand) (erases (engine_at (k + 1)).nand))
 
 -- where no sector is moved, a sector that is stale in the image is cached
 abbrev pub StaleLaw : Type 0

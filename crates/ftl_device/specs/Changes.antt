@@ -79,7 +79,8 @@ pub record CollectsOn {N : Type 0} (flash : N → Flash) (honest calm : N → Bo
   pub counts : StepCounts (ram old) (ram new) result
   pub risen : OnOk result ((before : ℕ) → HasRisen before (erases old.nand) → HasRisen before (erases new.nand))
   pub bad : honest old.nand ≡ true → Knows (ram old) (image_in flash old) → OnOk result (KeepsBad (ram old) (ram new))
-  pub truth : honest old.nand ≡ true → Knows (ram old) (image_in flash old) → MatchResult result (λ done. KeepsArray old.geometry (image_in flash old) (ram new) (image_in flash new)) (λ fault. CallRefused old.geometry (image_in flash old) (ram new) (image_in flash new) (call.Engine fault))
+  pub truth : honest old.nand ≡ true → Knows (ram old) (image_in flash old)
+      → MatchResult result (λ done. KeepsArray old.geometry (image_in flash old) (ram new) (image_in flash new)) (λ fault. CallRefused old.geometry (image_in flash old) (ram new) (image_in flash new) (call.Engine fault))
 
 -- THE ROW THAT THE SECTOR HAD WAS LOOKED UP before a page of it was programmed: memory knew it once there was room, or else this page of
 -- entries gives it, a sound translation page
@@ -117,7 +118,8 @@ pub record RefusesUpkeep {N : Type 0} (old : Device N) (result : Result (Unit {0
 pub record RefusesSector {N : Type 0} (n : ℕ) (old : Device N) (result : Result (Unit {0}) DeviceFault) (new : Device N) : Type 0 where
   pub past : stop_of old.engine.fault ≡ None → (result ≡ Err OutOfRange) ↔ (old.engine.geometry.sectors ≤ n)
   pub untouched : result ≡ Err OutOfRange → new ≡ old
-  pub read_only : stop_of old.engine.fault ≡ None → n < old.engine.geometry.sectors → old.read_only ≡ true → result ≡ Err (ReadOnly (good_count (ram old.engine).blocks.table) (need old.engine.geometry) 0)
+  pub read_only : stop_of old.engine.fault ≡ None → n < old.engine.geometry.sectors → old.read_only ≡ true
+      → result ≡ Err (ReadOnly (good_count (ram old.engine).blocks.table) (need old.engine.geometry) 0)
   pub spent : stop_of old.engine.fault ≡ None → n < old.engine.geometry.sectors → old.read_only ≡ false → old.engine.next ≡ 2 ^ 64 - 1 → (result ≡ Err SequenceSpent) × (new ≡ old)
   pub cached : IsSome (slot_of old.engine.mapping n) → result ≢ Err OutOfMemory
 
@@ -143,12 +145,14 @@ pub record Logs {N : Type 0} (flash : N → Flash) (command : Command) (old : De
 pub record Means {N : Type 0} (flash : N → Flash) (command : Command) (old : Device N) (result : Result (Unit {0}) DeviceFault) (new : Device N) : Type 0 where
   pub step : ArrayStep old.engine.geometry (state_in flash old) command (reply_of result) (state_in flash new)
   pub well : IsWell flash new
-  pub mountable : old.engine.mapping.capacity + old.engine.geometry.pages ≤ 65536 → IsMountable old.engine.geometry (old.engine.mapping.capacity + old.engine.geometry.pages) (image_in flash new.engine)
+  pub mountable : old.engine.mapping.capacity + old.engine.geometry.pages ≤ 65536
+      → IsMountable old.engine.geometry (old.engine.mapping.capacity + old.engine.geometry.pages) (image_in flash new.engine)
 
 -- ---- the whole
 
 -- A CALL THAT CHANGES A SECTOR
-pub record Changes {N : Type 0} (flash : N → Flash) (honest calm : N → Bool) (failed : N → ℕ) (n : ℕ) (command : Command) (old : Device N) (result : Result (Unit {0}) DeviceFault) (new : Device N) : Type 0 where
+pub record Changes {N : Type 0} (flash : N → Flash) (honest calm : N → Bool) (failed : N
+    → ℕ) (n : ℕ) (command : Command) (old : Device N) (result : Result (Unit {0}) DeviceFault) (new : Device N) : Type 0 where
   pub stays : Stays honest calm failed old new
   pub refuses : Refuses failed old result new
   pub refuses_sector : RefusesSector n old result new
@@ -158,7 +162,8 @@ pub record Changes {N : Type 0} (flash : N → Flash) (honest calm : N → Bool)
   pub stale : honest old.engine.nand ≡ true → IsWell flash old → old.engine.pinned ≡ None → is_stale old.engine.geometry (image_in flash old.engine) n ≡ true → result ≢ Err OutOfMemory
 
 -- A CALL THAT CHANGES NO SECTOR: a flush, or a turn
-pub record Upkeeps {N : Type 0} (flash : N → Flash) (honest calm : N → Bool) (failed : N → ℕ) (command : Command) (old : Device N) (result : Result (Unit {0}) DeviceFault) (new : Device N) : Type 0 where
+pub record Upkeeps {N : Type 0} (flash : N → Flash) (honest calm : N → Bool) (failed : N
+    → ℕ) (command : Command) (old : Device N) (result : Result (Unit {0}) DeviceFault) (new : Device N) : Type 0 where
   pub stays : Stays honest calm failed old new
   pub refuses : Refuses failed old result new
   pub refuses_upkeep : RefusesUpkeep old result new

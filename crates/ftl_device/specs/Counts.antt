@@ -76,9 +76,11 @@ GoodNowLaw = (r : Ram) → IsRam r → good_count r.blocks.table ≡ good_by r
 
 -- after a log the blocks are bad that were bad before it and those that failed in it
 abbrev pub BadNowLaw : Type 0
-BadNowLaw = (old new : Ram) (log : List Operation) (b : ℕ) → old.blocks.geometry ≡ old.geometry → Follows old.geometry.pages log old.blocks new.blocks → b < old.geometry.blocks → is_bad_by new b ≡ bad_of old.geometry.pages (is_bad_by old) log b
+BadNowLaw = (old new : Ram) (log : List Operation) (b : ℕ) → old.blocks.geometry ≡ old.geometry → Follows old.geometry.pages log old.blocks new.blocks
+    → b < old.geometry.blocks → is_bad_by new b ≡ bad_of old.geometry.pages (is_bad_by old) log b
 
 -- too few free blocks by the memory are too few by the image and the log of the call
 abbrev pub ShortLaw : Type 0
-ShortLaw = (old new : Ram) (log : List Operation) (image : Image) (good wanted failed : ℕ) → IsRam old → IsRam new → new.geometry ≡ old.geometry → Follows old.geometry.pages log old.blocks new.blocks → IsTrue None new image
+ShortLaw = (old new : Ram) (log : List Operation) (image : Image) (good wanted failed : ℕ) → IsRam old → IsRam new → new.geometry ≡ old.geometry
+    → Follows old.geometry.pages log old.blocks new.blocks → IsTrue None new image
     → IsShortOf old new good wanted failed → IsShortIn old.geometry (is_bad_by old) log log image good wanted failed

@@ -2,10 +2,10 @@
 //
 // What is hostile and stands elsewhere: a certificate of each length (`check_tests`: `each_length_but_one_is_refused`), a write
 // cut at each length (`server_tests`: `cut_write_changes_nothing`), a failing reader and a failing writer (`server_tests`:
-// `failing_streams_end`; `command_tests`: `requests_are_served`), programs and erases that fail (`device_tests`: `fault_scripts`).
-mod bench;
+// `failing_streams_end`; `command_tests`: `requests_are_served`), programs and erases that fail (`fault_tests`: `fault_scripts`).
 mod buses;
 mod calls;
+mod dies;
 mod images;
 mod list;
 mod noise;

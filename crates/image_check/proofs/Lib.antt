@@ -19,3 +19,4 @@ pub mod NotedLemmas
 pub mod PassLemmas
 pub mod StreamLemmas
 pub mod SeenLemmas
+pub mod TornLemmas

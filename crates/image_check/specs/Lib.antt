@@ -3,6 +3,7 @@ pub mod Blocks
 pub mod Stale
 pub mod Agrees
 pub mod Mountable
+pub mod Torn
 pub mod Names
 pub mod Newest
 pub mod Survey

@@ -107,7 +107,8 @@ pub record HasLooks (g : Geometry) (image : Image) (rows : ℕ) (items : List Lo
 -- the data areas of the table pages that are the newest so far, one behind the other
 pub record HasTableBytes (g : Geometry) (image : Image) (rows : ℕ) (bytes : List ℕ) : Type 0 where
   pub size : length bytes ≡ table_pages g * g.data_bytes
-  pub at : (u row i : ℕ) → u < table_pages g → i < g.data_bytes → place_of (latest_below (marks image) (Table u) rows) ≡ Some row → get_or bytes (u * g.data_bytes + i) 0 ≡ get_or (body_at image row) i 0
+  pub at : (u row i : ℕ) → u < table_pages g → i < g.data_bytes → place_of (latest_below (marks image) (Table u) rows) ≡ Some row
+      → get_or bytes (u * g.data_bytes + i) 0 ≡ get_or (body_at image row) i 0
 
 -- ---- claims
 

@@ -34,7 +34,8 @@ pub(crate) fn judge_image(survey: &mut Survey, table: &mut Table) -> Result<(), 
     requires blocks { length table.old ≡ survey.old.geometry.blocks }
     ensures ok { OnOk result ((capacity : ℕ) (image : Image) (claim : Claim) → Surveys survey.old.geometry image survey.old → HoldBetween survey.old.geometry capacity image claim 1 4) }
     ensures rows { OnOk result ((image : Image) → Surveys survey.old.geometry image survey.old → IsTableOf survey.old.geometry image table.new) }
-    ensures err { IfErr result (λ refusal. (capacity : ℕ) (image : Image) (claim : Claim) → Surveys survey.old.geometry image survey.old → FailsFrom survey.old.geometry capacity image claim 1 refusal) }
+    ensures err { IfErr result (λ refusal. (capacity : ℕ) (image : Image) (claim : Claim) → Surveys survey.old.geometry image survey.old →
+        FailsFrom survey.old.geometry capacity image claim 1 refusal) }
     ensures kind { IfErr result IsOfImage }
     ensures named { IfErr result IsJudgement }
     ensures size { length table.new ≡ length table.old }
@@ -53,8 +54,12 @@ fn judge_rows(survey: &Survey, certificate: &Certificate, passed: &[bool]) -> Re
     requires directory { length certificate.now.directory ≡ translation_pages survey.now.geometry + table_pages survey.now.geometry }
     requires sectors { length certificate.now.sectors ≡ survey.now.geometry.sectors }
     requires passed { length passed.now ≡ survey.now.geometry.sectors }
-    ensures ok { OnOk result ((capacity : ℕ) (image : Image) → SurveysKeys survey.now.geometry image survey.now.newest.items → HasPassed (marks image) (row_count survey.now.geometry) certificate.now.sectors passed.now → HoldBetween survey.now.geometry capacity image certificate.now 4 6) }
-    ensures err { IfErr result (λ refusal. (capacity : ℕ) (image : Image) → SurveysKeys survey.now.geometry image survey.now.newest.items → HasPassed (marks image) (row_count survey.now.geometry) certificate.now.sectors passed.now → AreDistinct (marks image) → FailsFrom survey.now.geometry capacity image certificate.now 4 refusal) }
+    ensures ok { OnOk result ((capacity : ℕ) (image : Image) → SurveysKeys survey.now.geometry image survey.now.newest.items →
+        HasPassed (marks image) (row_count survey.now.geometry) certificate.now.sectors passed.now →
+        HoldBetween survey.now.geometry capacity image certificate.now 4 6) }
+    ensures err { IfErr result (λ refusal. (capacity : ℕ) (image : Image) → SurveysKeys survey.now.geometry image survey.now.newest.items →
+        HasPassed (marks image) (row_count survey.now.geometry) certificate.now.sectors passed.now → AreDistinct (marks image) →
+        FailsFrom survey.now.geometry capacity image certificate.now 4 refusal) }
     ensures named { IfErr result IsJudgement }
 {
     check_directory(survey, certificate)?;
@@ -86,7 +91,8 @@ fn describe(survey: &mut Survey, desk: &mut Desk) -> Result<(), Refusal>
     ensures states { OnOk result ((image : Image) → Surveys survey.old.geometry image survey.old → AreStates survey.old.geometry image desk.new.states.items) }
     ensures size { OnOk result (length desk.new.states.items ≡ survey.old.geometry.blocks) }
     ensures fits { OnOk result (All FitsBlock desk.new.states.items) }
-    ensures err { IfErr result (λ refusal. (capacity : ℕ) (image : Image) (claim : Claim) → Surveys survey.old.geometry image survey.old → FailsFrom survey.old.geometry capacity image claim 1 refusal) }
+    ensures err { IfErr result (λ refusal. (capacity : ℕ) (image : Image) (claim : Claim) → Surveys survey.old.geometry image survey.old →
+        FailsFrom survey.old.geometry capacity image claim 1 refusal) }
     ensures kind { IfErr result IsOfImage }
     ensures named { IfErr result IsJudgement }
     ensures permutation { IsPermutation survey.old.pairs.items survey.new.pairs.items }
@@ -111,7 +117,8 @@ pub fn describe_blocks(alloc: Global, survey: &mut Survey) -> Result<Vec<BlockSt
     ensures states { IfOk result (λ states. (image : Image) → Surveys survey.old.geometry image survey.old → AreStates survey.old.geometry image states.items) }
     ensures size { IfOk result (λ states. length states.items ≡ survey.old.geometry.blocks) }
     ensures fits { IfOk result (λ states. All FitsBlock states.items) }
-    ensures err { IfErr result (λ refusal. (capacity : ℕ) (image : Image) (claim : Claim) → Surveys survey.old.geometry image survey.old → IsMemory refusal ⊎ FailsFrom survey.old.geometry capacity image claim 1 refusal) }
+    ensures err { IfErr result (λ refusal. (capacity : ℕ) (image : Image) (claim : Claim) → Surveys survey.old.geometry image survey.old →
+        IsMemory refusal ⊎ FailsFrom survey.old.geometry capacity image claim 1 refusal) }
     ensures kind { IfErr result IsOfImage }
     ensures permutation { IsPermutation survey.old.pairs.items survey.new.pairs.items }
     ensures others { survey.new ≡ record survey.old { pairs = survey.new.pairs } }
@@ -132,8 +139,12 @@ pub(crate) fn judge(
     requires certificate { IsCertificateOf survey.old.geometry certificate.now }
     requires passed { length passed.now ≡ survey.old.geometry.sectors }
     requires desk { IsDesk survey.old.geometry desk.old }
-    ensures ok { OnOk result ((capacity : ℕ) (image : Image) → Surveys survey.old.geometry image survey.old → HasPassed (marks image) (row_count survey.old.geometry) certificate.now.sectors passed.now → HoldBetween survey.old.geometry capacity image certificate.now 1 11) }
-    ensures err { IfErr result (λ refusal. (capacity : ℕ) (image : Image) → Surveys survey.old.geometry image survey.old → HasPassed (marks image) (row_count survey.old.geometry) certificate.now.sectors passed.now → FailsFrom survey.old.geometry capacity image certificate.now 1 refusal) }
+    ensures ok { OnOk result ((capacity : ℕ) (image : Image) → Surveys survey.old.geometry image survey.old →
+        HasPassed (marks image) (row_count survey.old.geometry) certificate.now.sectors passed.now →
+        HoldBetween survey.old.geometry capacity image certificate.now 1 11) }
+    ensures err { IfErr result (λ refusal. (capacity : ℕ) (image : Image) → Surveys survey.old.geometry image survey.old →
+        HasPassed (marks image) (row_count survey.old.geometry) certificate.now.sectors passed.now →
+        FailsFrom survey.old.geometry capacity image certificate.now 1 refusal) }
     ensures named { IfErr result IsJudgement }
 {
     describe(survey, desk)?;

@@ -70,7 +70,8 @@ fn note_differing(certificate: &Certificate, first: u32, end: u32, page: &[u8], 
     requires order { first ≤ end }
     requires sectors { end ≤ length certificate.now.sectors }
     requires entries { 4 * (end - first) ≤ length page.now }
-    ensures noted { (before : List ℕ) → IsKept before noted.old → IsKept (before ++ filter (λ n. not (same_row (entry_at page.now (n - first)) (claimed certificate.now.sectors n))) (range_with_len first (end - first))) noted.new }
+    ensures noted { (before : List ℕ) → IsKept before noted.old →
+        IsKept (before ++ filter (λ n. not (same_row (entry_at page.now (n - first)) (claimed certificate.now.sectors n))) (range_with_len first (end - first))) noted.new }
     ensures most { noted.new.most ≡ noted.old.most }
 {
     for sector in first..end {
@@ -91,7 +92,8 @@ pub(crate) fn note_entries(
 )
     requires certificate { IsCertificateOf geometry.now certificate.now }
     requires body_whole { length body.now ≡ geometry.now.data_bytes }
-    ensures noted { (image : Image) (p : Page) → HasNoted geometry.now image certificate.now row noted.old → slice_get image row ≡ Some p → found ≡ record_of p → body.now ≡ p.body → HasNoted geometry.now image certificate.now (row + 1) noted.new }
+    ensures noted { (image : Image) (p : Page) → HasNoted geometry.now image certificate.now row noted.old → slice_get image row ≡ Some p →
+        found ≡ record_of p → body.now ≡ p.body → HasNoted geometry.now image certificate.now (row + 1) noted.new }
     ensures most { noted.new.most ≡ noted.old.most }
 {
     let Some(found) = found else {

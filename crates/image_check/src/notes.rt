@@ -119,7 +119,8 @@ pub(crate) fn note_look(
     requires row_in { row < row_count geometry.now }
     requires size { length looks.old ≡ geometry.now.blocks }
     requires bounded { All (λ look. look.written ≤ row) looks.old }
-    ensures looks { (image : Image) (p : Page) → HasLooks geometry.now image row looks.old → slice_get image row ≡ Some p → erased ≡ is_erased_page p → found ≡ record_of p → HasLooks geometry.now image (row + 1) looks.new }
+    ensures looks { (image : Image) (p : Page) → HasLooks geometry.now image row looks.old → slice_get image row ≡ Some p →
+        erased ≡ is_erased_page p → found ≡ record_of p → HasLooks geometry.now image (row + 1) looks.new }
     ensures bounded { All (λ look. look.written ≤ row + 1) looks.new }
 {
     let (block, page) = geometry.split_row(row);
@@ -139,7 +140,9 @@ pub(crate) fn note_table(
     requires size { length tables.old ≡ table_pages geometry.now * geometry.now.data_bytes }
     requires newest_size { length newest.now ≡ key_count geometry.now }
     requires body_whole { length body.now ≡ geometry.now.data_bytes }
-    ensures { (image : Image) (p : Page) → HasTableBytes geometry.now image row tables.old → HasNewest geometry.now (marks image) (row + 1) newest.now → slice_get image row ≡ Some p → found ≡ record_of p → body.now ≡ p.body → HasTableBytes geometry.now image (row + 1) tables.new }
+    ensures { (image : Image) (p : Page) → HasTableBytes geometry.now image row tables.old →
+        HasNewest geometry.now (marks image) (row + 1) newest.now → slice_get image row ≡ Some p → found ≡ record_of p → body.now ≡ p.body →
+        HasTableBytes geometry.now image (row + 1) tables.new }
 {
     let Some(found) = found else {
         return;

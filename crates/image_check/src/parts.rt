@@ -18,7 +18,8 @@ use certificate::Certificate;
 /// Every sound page's number is in range.
 pub(crate) fn check_numbers(survey: &Survey) -> Result<(), Refusal>
     ensures ok { OnOk result ((image : Image) → Surveys survey.now.geometry image survey.now → AreInRange survey.now.geometry (marks image)) }
-    ensures err { IfErr result (λ refusal. (capacity : ℕ) (image : Image) (claim : Claim) → Surveys survey.now.geometry image survey.now → IsWrong survey.now.geometry capacity image claim Numbers refusal) }
+    ensures err { IfErr result (λ refusal. (capacity : ℕ) (image : Image) (claim : Claim) → Surveys survey.now.geometry image survey.now →
+        IsWrong survey.now.geometry capacity image claim Numbers refusal) }
     ensures named { IfErr result IsJudgement }
     ensures kind { IfErr result IsOfImage }
 {
@@ -64,7 +65,8 @@ pub(crate) fn check_directory(survey: &Survey, certificate: &Certificate) -> Res
     requires sized { length survey.now.newest.items ≡ key_count survey.now.geometry }
     requires directory { length certificate.now.directory ≡ translation_pages survey.now.geometry + table_pages survey.now.geometry }
     ensures ok { OnOk result ((image : Image) → SurveysKeys survey.now.geometry image survey.now.newest.items → IsDirectory survey.now.geometry image certificate.now.directory) }
-    ensures err { IfErr result (λ refusal. (capacity : ℕ) (image : Image) → SurveysKeys survey.now.geometry image survey.now.newest.items → IsWrong survey.now.geometry capacity image certificate.now Directory refusal) }
+    ensures err { IfErr result (λ refusal. (capacity : ℕ) (image : Image) → SurveysKeys survey.now.geometry image survey.now.newest.items →
+        IsWrong survey.now.geometry capacity image certificate.now Directory refusal) }
     ensures named { IfErr result IsJudgement }
 {
     let sectors = survey.geometry.sectors();
@@ -82,8 +84,12 @@ pub(crate) fn check_directory(survey: &Survey, certificate: &Certificate) -> Res
 pub(crate) fn check_claims(certificate: &Certificate, passed: &[bool]) -> Result<(), Refusal>
     requires few { length passed.now < 2 ^ 32 }
     requires sized { length passed.now ≡ length certificate.now.sectors }
-    ensures ok { OnOk result ((g : Geometry) (image : Image) → length image ≡ row_count g → HasPassed (marks image) (row_count g) certificate.now.sectors passed.now → AreClaimed (length certificate.now.sectors) (marks image) certificate.now.sectors) }
-    ensures err { IfErr result (λ refusal. (g : Geometry) (capacity : ℕ) (image : Image) → length image ≡ row_count g → g.sectors ≡ length certificate.now.sectors → HasPassed (marks image) (row_count g) certificate.now.sectors passed.now → IsWrong g capacity image certificate.now Sectors refusal) }
+    ensures ok { OnOk result ((g : Geometry) (image : Image) → length image ≡ row_count g →
+        HasPassed (marks image) (row_count g) certificate.now.sectors passed.now →
+        AreClaimed (length certificate.now.sectors) (marks image) certificate.now.sectors) }
+    ensures err { IfErr result (λ refusal. (g : Geometry) (capacity : ℕ) (image : Image) → length image ≡ row_count g →
+        g.sectors ≡ length certificate.now.sectors → HasPassed (marks image) (row_count g) certificate.now.sectors passed.now →
+        IsWrong g capacity image certificate.now Sectors refusal) }
     ensures named { IfErr result IsJudgement }
 {
     for sector in 0..passed.len() as u32 {
@@ -101,7 +107,9 @@ pub(crate) fn check_sectors(survey: &Survey, certificate: &Certificate) -> Resul
     requires sized { length survey.now.newest.items ≡ key_count survey.now.geometry }
     requires sectors { length certificate.now.sectors ≡ survey.now.geometry.sectors }
     ensures ok { OnOk result ((image : Image) → SurveysKeys survey.now.geometry image survey.now.newest.items → AreNewest survey.now.geometry image certificate.now.sectors) }
-    ensures err { IfErr result (λ refusal. (capacity : ℕ) (image : Image) → SurveysKeys survey.now.geometry image survey.now.newest.items → AreDistinct (marks image) → AreClaimed (length certificate.now.sectors) (marks image) certificate.now.sectors → IsWrong survey.now.geometry capacity image certificate.now Sectors refusal) }
+    ensures err { IfErr result (λ refusal. (capacity : ℕ) (image : Image) → SurveysKeys survey.now.geometry image survey.now.newest.items →
+        AreDistinct (marks image) → AreClaimed (length certificate.now.sectors) (marks image) certificate.now.sectors →
+        IsWrong survey.now.geometry capacity image certificate.now Sectors refusal) }
     ensures named { IfErr result IsJudgement }
 {
     for sector in 0..survey.geometry.sectors() {

@@ -87,8 +87,12 @@ impl<'a> Pass<'a> {
     /// The first part that fails, at its lowest place.
     pub(crate) fn finish(self) -> Result<Accepted<'a>, Refusal>
         requires { IsPass (row_count self.survey.geometry) self }
-        ensures ok { IfOk result (λ accepted. (image : Image) → length image ≡ row_count self.entry.survey.geometry → Shows image (row_count self.entry.survey.geometry) self.entry → IsAcceptance self.entry.survey.geometry self.entry.certificate.now.capacity image self.entry.certificate.now accepted) }
-        ensures err { IfErr result (λ refusal. (image : Image) → length image ≡ row_count self.entry.survey.geometry → Shows image (row_count self.entry.survey.geometry) self.entry → IsFirstWrong self.entry.survey.geometry self.entry.certificate.now.capacity image self.entry.certificate.now refusal) }
+        ensures ok { IfOk result (λ accepted. (image : Image) → length image ≡ row_count self.entry.survey.geometry →
+            Shows image (row_count self.entry.survey.geometry) self.entry →
+            IsAcceptance self.entry.survey.geometry self.entry.certificate.now.capacity image self.entry.certificate.now accepted) }
+        ensures err { IfErr result (λ refusal. (image : Image) → length image ≡ row_count self.entry.survey.geometry →
+            Shows image (row_count self.entry.survey.geometry) self.entry →
+            IsFirstWrong self.entry.survey.geometry self.entry.certificate.now.capacity image self.entry.certificate.now refusal) }
         ensures named { IfErr result IsJudgement }
         ensures claim { IfOk result (λ accepted. accepted.claim ≡ self.entry.certificate.now) }
     {

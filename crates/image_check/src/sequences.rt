@@ -41,7 +41,8 @@ fn find_repeated(pairs: &[(u64, u32)]) -> Option<(u32, u32)>
 /// No two sound pages share a sequence. Leaves the pairs sorted.
 pub(crate) fn check_sequences(pairs: &mut [(u64, u32)]) -> Result<(), Refusal>
     ensures ok { OnOk result ((g : Geometry) (image : Image) → length image ≡ row_count g → pairs.old ≡ pairs_below (marks image) (row_count g) → AreDistinct (marks image)) }
-    ensures err { IfErr result (λ refusal. (g : Geometry) (capacity : ℕ) (image : Image) (claim : Claim) → length image ≡ row_count g → pairs.old ≡ pairs_below (marks image) (row_count g) → IsWrong g capacity image claim Sequences refusal) }
+    ensures err { IfErr result (λ refusal. (g : Geometry) (capacity : ℕ) (image : Image) (claim : Claim) → length image ≡ row_count g →
+        pairs.old ≡ pairs_below (marks image) (row_count g) → IsWrong g capacity image claim Sequences refusal) }
     ensures named { IfErr result IsJudgement }
     ensures kind { IfErr result IsOfImage }
     ensures permutation { IsPermutation pairs.old pairs.new }

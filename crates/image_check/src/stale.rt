@@ -91,7 +91,8 @@ pub fn find_stale<S: PageSource>(
     requires body_whole { length body.old ≡ geometry.now.data_bytes }
     requires spare_whole { length spare.old ≡ geometry.now.spare_bytes }
     requires empty { stale.old.items ≡ [] }
-    ensures stale { OnOk result (S.honest source.old ≡ true → SurveysKeys geometry.now (S.flash source.old).image newest.now → stale.new.items ≡ stale_sectors geometry.now (S.flash source.old).image) }
+    ensures stale { OnOk result (S.honest source.old ≡ true → SurveysKeys geometry.now (S.flash source.old).image newest.now →
+        stale.new.items ≡ stale_sectors geometry.now (S.flash source.old).image) }
     ensures rising { OnOk result (IsRisingBelow geometry.now.sectors stale.new.items) }
     ensures same { result ≢ Err Refusal.Source → S.honest source.old ≡ true → S.flash source.new ≡ S.flash source.old }
     ensures stops { IfErr result IsStop }

@@ -129,7 +129,8 @@ pub(crate) fn block_states(
     requires room { length looks.now ≤ vec_capacity states.old }
     ensures size { length states.new.items ≡ length looks.now }
     ensures fits { All FitsBlock states.new.items }
-    ensures states { (g : Geometry) (image : Image) → AreInRange g (marks image) → HasLooks g image (row_count g) looks.now → IsTableOf g image table.now → AreLiveCounts g image counts.now → AreStates g image states.new.items }
+    ensures states { (g : Geometry) (image : Image) → AreInRange g (marks image) → HasLooks g image (row_count g) looks.now →
+        IsTableOf g image table.now → AreLiveCounts g image counts.now → AreStates g image states.new.items }
 {
     let tops = tops_of(looks, table);
     for block in 0..looks.len() as u32 {

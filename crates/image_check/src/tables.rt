@@ -38,7 +38,8 @@ fn bytes_of(survey: &Survey, page: u32) -> &[u8]
     requires within { page < table_pages survey.now.geometry }
     ensures size { length result.now ≡ survey.now.geometry.data_bytes }
     ensures whole { IsDataSize (length result.now) }
-    ensures kept { (image : Image) → SurveysTables survey.now.geometry image survey.now.newest.items survey.now.tables.items → HasNewestTable image page → IsBodyOf survey.now.geometry image page result.now }
+    ensures kept { (image : Image) → SurveysTables survey.now.geometry image survey.now.newest.items survey.now.tables.items →
+        HasNewestTable image page → IsBodyOf survey.now.geometry image page result.now }
 {
     let size = survey.geometry.data_bytes();
     let at = page as usize * size;
@@ -53,7 +54,9 @@ pub(crate) fn check_tables(survey: &Survey, table: &mut Table) -> Result<(), Ref
     requires blocks { length table.old ≡ survey.now.geometry.blocks }
     ensures ok { OnOk result ((image : Image) → SurveysTables survey.now.geometry image survey.now.newest.items survey.now.tables.items → HasTables survey.now.geometry image) }
     ensures rows { OnOk result ((image : Image) → SurveysTables survey.now.geometry image survey.now.newest.items survey.now.tables.items → IsTableOf survey.now.geometry image table.new) }
-    ensures err { IfErr result (λ refusal. (capacity : ℕ) (image : Image) (claim : Claim) → SurveysTables survey.now.geometry image survey.now.newest.items survey.now.tables.items → AreDistinct (marks image) → IsWrong survey.now.geometry capacity image claim Tables refusal) }
+    ensures err { IfErr result (λ refusal. (capacity : ℕ) (image : Image) (claim : Claim) →
+        SurveysTables survey.now.geometry image survey.now.newest.items survey.now.tables.items → AreDistinct (marks image) →
+        IsWrong survey.now.geometry capacity image claim Tables refusal) }
     ensures named { IfErr result IsJudgement }
     ensures kind { IfErr result IsOfImage }
     ensures size { length table.new ≡ length table.old }

@@ -41,7 +41,8 @@ FewLaw = (g : Geometry) (old new : Flash) (r : Result ℕ FormatFault) → good_
 
 -- a die with enough of them that isn't fresh
 abbrev pub UsedLaw : Type 0
-UsedLaw = (g : Geometry) (old new : Flash) (row : ℕ) (r : Result ℕ FormatFault) → need g ≤ good_after g old.image [] → IsFirstPass (is_used g old.image) 0 (row_count g) row → Formats g old new r → IsUsedAnswer row r
+UsedLaw = (g : Geometry) (old new : Flash) (row : ℕ) (r : Result ℕ FormatFault) → need g ≤ good_after g old.image []
+    → IsFirstPass (is_used g old.image) 0 (row_count g) row → Formats g old new r → IsUsedAnswer row r
 
 -- a fresh die with enough of them
 abbrev pub FreshLaw : Type 0

@@ -20,7 +20,8 @@ is_blown f = (f.passed == 0) && not (f.failing == 0)
 
 -- ONE CALL OF A FUSE. Where it is blown the call fails by the device and never comes to the bus, which stays as it was; else it is a
 -- call of the bus.
-pub record Fused {B : Type 0} (on_bus : B → Cycle → Result (Unit {0}) BusFault → List ℕ → B → Type 0) (old : FuseState B) (cycle : Cycle) (answer : Result (Unit {0}) BusFault) (out : List ℕ) (new : FuseState B) : Type 0 where
+pub record Fused {B : Type 0} (on_bus : B → Cycle → Result (Unit {0}) BusFault → List ℕ → B
+    → Type 0) (old : FuseState B) (cycle : Cycle) (answer : Result (Unit {0}) BusFault) (out : List ℕ) (new : FuseState B) : Type 0 where
   pub fails : is_blown old ≡ true → answer ≡ refused Device
   pub blown : is_blown old ≡ true → new ≡ record { bus = old.bus; passed = old.passed; failing = old.failing - 1; failures = counted old.failures }
   pub passes : is_blown old ≡ false → on_bus old.bus cycle answer out new.bus

@@ -316,7 +316,8 @@ impl Chip {
     // The program that a confirm cycle asks for.
     fn confirm_program(&mut self, row: u32) -> Result<(), BusFault>
         requires in_range { row < row_count self.old.state.flash.geometry }
-        ensures { (register : List ℕ) (column : ℕ) → self.old.state.phase ≡ Loading row column register → Acts (Programs row (page_of self.old.state.flash.geometry register)) self.old self.new result }
+        ensures { (register : List ℕ) (column : ℕ) → self.old.state.phase ≡ Loading row column register →
+            Acts (Programs row (page_of self.old.state.flash.geometry register)) self.old self.new result }
     {
         let strike = next_strike(self.faults.as_slice(), self.counts.asked);
         let change = program_into(

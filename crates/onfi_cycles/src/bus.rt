@@ -24,7 +24,8 @@ pub trait Bus {
     /// stays.
     ghost failed: { Self → ℕ };
 
-    /// Whether nothing can make its device fail, as far as is known, and nothing has. It stays so or not for good.
+    /// A word that a bus may give to a device that nothing can make fail. Of any bus this only says that no call changes it; what it means
+    /// stands in the contract of the type that defines it.
     ghost calm: { Self → Bool } = { λ _. false };
 
     /// The record that it tells of its programs and erases, or none. None claims nothing.

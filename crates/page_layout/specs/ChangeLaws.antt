@@ -15,7 +15,8 @@ use Rattle.page_layout.specs.Change.{IsUnsoundAt, FailsAt, LosesIn, HoldsNone, K
 
 -- a program that passes, over a page that is not sound, with a record newer than all
 abbrev pub ProgramLaw : Type 0
-ProgramLaw = (g : Geometry) (row : ℕ) (old new : Image) (p : Page) (r : Record) → HasOneArray g old → row < length old → IsUnsoundAt old row → record_of p ≡ Some r → AreBelow (marks old) r.sequence → IsKeyOf g (key_of r) → new ≡ slice_set old row p → Writes g r row p.body old new
+ProgramLaw = (g : Geometry) (row : ℕ) (old new : Image) (p : Page) (r : Record) → HasOneArray g old → row < length old → IsUnsoundAt old row
+    → record_of p ≡ Some r → AreBelow (marks old) r.sequence → IsKeyOf g (key_of r) → new ≡ slice_set old row p → Writes g r row p.body old new
 
 -- a program that fails or is cut short, over a page that is not sound
 abbrev pub FailureLaw : Type 0
@@ -52,7 +53,8 @@ ArrayKeptLaw = (g : Geometry) (old new : Image) → Keeps g old new → array_of
 
 -- a page of a sector was written: that sector alone is another
 abbrev pub ArrayWrittenLaw : Type 0
-ArrayWrittenLaw = (g : Geometry) (n row : ℕ) (r : Record) (body : List ℕ) (old new : Image) → n < g.sectors → key_of r ≡ Sector n → Writes g r row body old new → array_of g new ≡ slice_set (array_of g old) n (content_of_kind g r.kind body)
+ArrayWrittenLaw = (g : Geometry) (n row : ℕ) (r : Record) (body : List ℕ) (old new : Image) → n < g.sectors → key_of r ≡ Sector n
+    → Writes g r row body old new → array_of g new ≡ slice_set (array_of g old) n (content_of_kind g r.kind body)
 
 -- a translation or table page was written
 abbrev pub ArrayUnwrittenLaw : Type 0

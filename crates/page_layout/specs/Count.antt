@@ -19,4 +19,5 @@ pub record HasSmall (g : Geometry) (marks : List (Option Record)) (closed : ℕ 
 
 -- with at least `need` good blocks, at most eight of them free and at most two open, a closed one has at most vmax newest pages
 abbrev pub SmallBlockLaw : Type 0
-SmallBlockLaw = (g : Geometry) (marks : List (Option Record)) (closed : ℕ → Bool) (free open_blocks : ℕ) → need g ≤ free + open_blocks + blocks_that g closed → free ≤ 8 → open_blocks ≤ 2 → HasSmall g marks closed
+SmallBlockLaw = (g : Geometry) (marks : List (Option Record)) (closed : ℕ → Bool) (free open_blocks : ℕ)
+    → need g ≤ free + open_blocks + blocks_that g closed → free ≤ 8 → open_blocks ≤ 2 → HasSmall g marks closed

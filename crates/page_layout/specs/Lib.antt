@@ -27,6 +27,7 @@ pub mod Recording
 pub mod OnlyReads
 -- what the definitions come to
 pub mod Count
+pub mod CounterLaws
 pub mod Laws
 pub mod ChangeLaws
 pub mod StepLaws

@@ -16,15 +16,20 @@ use Rattle.page_layout.specs.Change.{IsUnsoundAt, IsErasedAt, FailsAt, LosesIn, 
 
 -- a program that passed wrote its page
 abbrev pub PassedStepLaw : Type 0
-PassedStepLaw = (g : Geometry) (old new : Flash) (row : ℕ) (p left : Page) (r : Record) → Steps old (Program row p true left) new → HasOneArray g old.image → IsUnsoundAt old.image row → record_of p ≡ Some r → AreBelow (marks old.image) r.sequence → IsKeyOf g (key_of r) → Writes g r row p.body old.image new.image
+PassedStepLaw = (g : Geometry) (old new : Flash) (row : ℕ) (p left : Page) (r : Record) → Steps old (Program row p true left) new
+    → HasOneArray g old.image → IsUnsoundAt old.image row → record_of p ≡ Some r → AreBelow (marks old.image) r.sequence → IsKeyOf g (key_of r)
+    → Writes g r row p.body old.image new.image
 
 -- one that failed kept everything
 abbrev pub FailedStepLaw : Type 0
-FailedStepLaw = (g : Geometry) (old new : Flash) (row : ℕ) (p left : Page) → Steps old (Program row p false left) new → HasOneArray g old.image → IsUnsoundAt old.image row → Keeps g old.image new.image
+FailedStepLaw = (g : Geometry) (old new : Flash) (row : ℕ) (p left : Page) → Steps old (Program row p false left) new → HasOneArray g old.image
+    → IsUnsoundAt old.image row → Keeps g old.image new.image
 
 -- the same by the outcome
 abbrev pub OutcomeStepLaw : Type 0
-OutcomeStepLaw = (g : Geometry) (old new : Flash) (row : ℕ) (p left : Page) (passed : Bool) (r : Record) → Steps old (Program row p passed left) new → HasOneArray g old.image → IsUnsoundAt old.image row → record_of p ≡ Some r → AreBelow (marks old.image) r.sequence → IsKeyOf g (key_of r) → ProgramMeans g r row p.body passed old.image new.image
+OutcomeStepLaw = (g : Geometry) (old new : Flash) (row : ℕ) (p left : Page) (passed : Bool) (r : Record) → Steps old (Program row p passed left) new
+    → HasOneArray g old.image → IsUnsoundAt old.image row → record_of p ≡ Some r → AreBelow (marks old.image) r.sequence → IsKeyOf g (key_of r)
+    → ProgramMeans g r row p.body passed old.image new.image
 
 -- what one that failed left of its page
 abbrev pub FailsStepLaw : Type 0
@@ -36,13 +41,15 @@ OtherRowsLaw = (old new : Flash) (row other : ℕ) (p left : Page) (passed : Boo
 
 -- and the sequence after its own is newer than all
 abbrev pub NextSequenceLaw : Type 0
-NextSequenceLaw = (old new : Flash) (row : ℕ) (p left : Page) (passed : Bool) (r : Record) → Steps old (Program row p passed left) new → IsUnsoundAt old.image row → record_of p ≡ Some r → AreBelow (marks old.image) r.sequence → AreBelow (marks new.image) (r.sequence + 1)
+NextSequenceLaw = (old new : Flash) (row : ℕ) (p left : Page) (passed : Bool) (r : Record) → Steps old (Program row p passed left) new
+    → IsUnsoundAt old.image row → record_of p ≡ Some r → AreBelow (marks old.image) r.sequence → AreBelow (marks new.image) (r.sequence + 1)
 
 -- ---- erases
 
 -- an erase of a block with no newest page kept everything, whether it passed or not
 abbrev pub EraseStepLaw : Type 0
-EraseStepLaw = (g : Geometry) (old new : Flash) (block : ℕ) (passed : Bool) (left : List Page) → old.geometry ≡ g → Steps old (Erase block passed left) new → HasOneArray g old.image → HoldsNone g.pages block old.image → Keeps g old.image new.image
+EraseStepLaw = (g : Geometry) (old new : Flash) (block : ℕ) (passed : Bool) (left : List Page) → old.geometry ≡ g
+    → Steps old (Erase block passed left) new → HasOneArray g old.image → HoldsNone g.pages block old.image → Keeps g old.image new.image
 
 -- what an erase, passed or not, left of its block
 abbrev pub LosesStepLaw : Type 0
@@ -85,7 +92,8 @@ ProgramTurnLaw = (old new : Flash) (row : ℕ) (p : Page) (passed : Bool) (left 
     → MovesTurn old new (row / old.geometry.pages) ((turn_at old (row / old.geometry.pages)).next + 1) (may_program old row) passed
 
 abbrev pub ProgramCountLaw : Type 0
-ProgramCountLaw = (old new : Flash) (row : ℕ) (p : Page) (passed : Bool) (left : Page) → row / old.geometry.pages < length old.turns → Steps old (Program row p passed left) new → CountsProgram old new (row / old.geometry.pages)
+ProgramCountLaw = (old new : Flash) (row : ℕ) (p : Page) (passed : Bool) (left : Page) → row / old.geometry.pages < length old.turns
+    → Steps old (Program row p passed left) new → CountsProgram old new (row / old.geometry.pages)
 
 -- one that was due is no abuse
 abbrev pub FairProgramLaw : Type 0

@@ -12,6 +12,7 @@ ghost use Rattle.page_layout.specs.StepLaws.{LosesStepLaw, ClearedStepLaw, Erase
 ghost use Rattle.page_layout.specs.StepLaws.{WholeStaysLaw};
 ghost use Rattle.page_layout.specs.StepLaws.{ProgramTurnLaw, ProgramCountLaw, FairProgramLaw, EraseTurnLaw, EraseCountLaw, FairEraseLaw};
 ghost use Rattle.page_layout.specs.StepLaws.{RefusedProgramLaw, RefusedEraseLaw};
+ghost use Rattle.page_layout.specs.CounterLaws.{UnchangedLaw, FellLaw, OneMoreLaw, TopLaw};
 ghost use Rattle.page_layout.specs.Recording.{RecordStaysLaw, RecordsJoinLaw, RanOnLaw};
 
 /// What the derived numbers of a geometry are for.
@@ -121,6 +122,14 @@ pub fn turn_laws()
     ensures fair_erase { FairEraseLaw }
     ensures refused_program { RefusedProgramLaw }
     ensures refused_erase { RefusedEraseLaw }
+{}
+
+/// What it is for a count to rise. (This project.)
+pub fn counter_laws()
+    ensures unchanged { UnchangedLaw }
+    ensures fell { FellLaw }
+    ensures one_more { OneMoreLaw }
+    ensures top { TopLaw }
 {}
 
 /// A die with enough good blocks, few of them free or open, has a closed block worth collecting.

@@ -53,7 +53,8 @@ pub trait PageSource {
     /// The faults so far.
     ghost failed: { Self → ℕ };
 
-    /// Whether nothing can make it fail: no fault comes of it, and none has. It stays so or not for good.
+    /// A word that a source may give to a die that nothing can make fail. Of any source this only says that no call changes it; what it
+    /// means stands in the contract of the type that defines it.
     ghost calm: { Self → Bool } = { λ _. false };
 
     /// The record that it tells of its programs and erases, or none. None claims nothing.

@@ -75,7 +75,8 @@ AccountsLaw = (pages : ℕ) (accounts : List Account) (xs ys : List Operation) �
 
 -- one more operation has to be due
 abbrev pub OneMoreLaw : Type 0
-OneMoreLaw = (pages : ℕ) (accounts : List Account) (log : List Operation) (op : Operation) → LegalFrom pages accounts (log ++ op ∷ []) ↔ (LegalFrom pages accounts log × IsDue pages (accounted_all pages accounts log) op)
+OneMoreLaw = (pages : ℕ) (accounts : List Account) (log : List Operation) (op : Operation) → LegalFrom pages accounts (log ++ op ∷ [])
+    ↔ (LegalFrom pages accounts log × IsDue pages (accounted_all pages accounts log) op)
 
 -- ---- what the check is for, without its account
 

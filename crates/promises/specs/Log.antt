@@ -118,7 +118,8 @@ BadStaysLaw = (pages block : ℕ) (bad : ℕ → Bool) (xs ys : List Operation) 
 
 -- a log leaves nothing out: the die counts for each block what was asked for, and the log has it all
 pub record CountsAll (old new : Flash) (log : List Operation) (block : ℕ) : Type 0 where
-  pub programs : (turn_at old block).programs + programs_of old.geometry.pages log block < 2 ^ 64 → (turn_at new block).programs ≡ (turn_at old block).programs + programs_of old.geometry.pages log block
+  pub programs : (turn_at old block).programs + programs_of old.geometry.pages log block < 2 ^ 64
+      → (turn_at new block).programs ≡ (turn_at old block).programs + programs_of old.geometry.pages log block
   pub erases : (turn_at old block).erases + erases_of log block < 2 ^ 64 → (turn_at new block).erases ≡ (turn_at old block).erases + erases_of log block
 
 abbrev pub CompleteLaw : Type 0
@@ -167,7 +168,8 @@ AreErased g image block = (row : ℕ) (its : Page) → row / g.pages ≡ block �
 
 -- a block is free just where it is not bad and its pages are erased
 abbrev pub FreeLaw : Type 0
-FreeLaw = (g : Geometry) (bad : ℕ → Bool) (log : List Operation) (image : Image) (block : ℕ) → (free_of g bad log image block ≡ true) ↔ ((bad_of g.pages bad log block ≡ false) × AreErased g image block)
+FreeLaw = (g : Geometry) (bad : ℕ → Bool) (log : List Operation) (image : Image) (block : ℕ) → (free_of g bad log image block ≡ true)
+    ↔ ((bad_of g.pages bad log block ≡ false) × AreErased g image block)
 
 -- each block is free or isn't
 abbrev pub FreeCountLaw : Type 0

@@ -108,7 +108,8 @@ ArrayRun g old (command ∷ commands) (reply ∷ replies) new = (mid : State) ×
 
 -- a read has one answer, read-only or not
 abbrev pub OneReadLaw : Type 0
-OneReadLaw = (g : Geometry) (old new other : State) (sector : ℕ) (reply another : Reply) → ArrayStep g old (Read sector) reply new → ArrayStep g old (Read sector) another other → (reply ≡ another) × (new ≡ other)
+OneReadLaw = (g : Geometry) (old new other : State) (sector : ℕ) (reply another : Reply) → ArrayStep g old (Read sector) reply new
+    → ArrayStep g old (Read sector) another other → (reply ≡ another) × (new ≡ other)
 
 -- what was written is read until it is written again, and no other sector has changed
 abbrev pub ReadBackLaw : Type 0
@@ -166,7 +167,8 @@ SixLaw = (g : Geometry) → g.data_bytes ≡ 64 → g.sectors ≡ 32 → ArrayRu
 
 -- and where the read gives anything else, it is no run
 abbrev pub OtherBytesLaw : Type 0
-OtherBytesLaw = (g : Geometry) (bytes : List ℕ) (new : State) → g.sectors ≡ 32 → bytes ≢ replicate 64 17 → ArrayRun g (blank g) (Write 5 (replicate 64 17) ∷ Read 5 ∷ []) (Done ∷ DoneWith bytes ∷ []) new → ⊥
+OtherBytesLaw = (g : Geometry) (bytes : List ℕ) (new : State) → g.sectors ≡ 32 → bytes ≢ replicate 64 17
+    → ArrayRun g (blank g) (Write 5 (replicate 64 17) ∷ Read 5 ∷ []) (Done ∷ DoneWith bytes ∷ []) new → ⊥
 
 -- ---- which replies come at all
 
@@ -209,4 +211,5 @@ AfterReadOnlyLaw = (g : Geometry) (old new : State) (command : Command) → Arra
 
 -- a device that is read-only gives no other answer to what would change it
 abbrev pub RefusesLaw : Type 0
-RefusesLaw = (g : Geometry) (old new : State) (command : Command) (reply : Reply) → old.ro ≡ true → ((sector : ℕ) → command ≢ Read sector) → reply ≢ OutOfRange → ArrayStep g old command reply new → reply ≡ ReadOnly
+RefusesLaw = (g : Geometry) (old new : State) (command : Command) (reply : Reply) → old.ro ≡ true → ((sector : ℕ) → command ≢ Read sector)
+    → reply ≢ OutOfRange → ArrayStep g old command reply new → reply ≡ ReadOnly

@@ -7,12 +7,13 @@ use std::process::Abort;
 use std::test::Fail;
 use test_images::{TABLE_0, Written, image_of};
 
-// The pages of one image, and after so many reads those of another.
+// The pages of one image, and after so many reads those of another. The reads are counted.
 #[derive(Drop)]
-struct Fickle<'a> {
-    first: ImageSlice<'a>,
-    later: ImageSlice<'a>,
-    left: u32,
+pub struct Fickle<'a> {
+    pub first: ImageSlice<'a>,
+    pub later: ImageSlice<'a>,
+    pub after: u32,
+    pub reads: u32,
 }
 
 impl PageSource for Fickle<'_> {
@@ -36,9 +37,9 @@ impl PageSource for Fickle<'_> {
         body: &mut [u8],
         spare: &mut [u8],
     ) -> Result<(), SourceFault> {
+        self.reads = self.reads.saturating_add(1);
         self.first.read_page(row, body, spare)?;
-        if self.left > 0 {
-            self.left -= 1;
+        if self.reads <= self.after {
             return Ok(());
         }
         let geometry = self.later.geometry();
@@ -73,7 +74,8 @@ fn hold_case(rt: &impl Abort, found: &[u8], later: &[u8], want: u8) -> Result<()
     let mut source = Fickle {
         first: ImageSlice::new(&geometry, found)?,
         later: ImageSlice::new(&geometry, later)?,
-        left: 256,
+        after: 256,
+        reads: 0,
     };
     let mut page = [0; 96];
     let mut out = [0xEE; 64];

@@ -1,10 +1,11 @@
 //! Bytes looked at in lanes, and images that are checked in one pass, from a source that counts its reads and from readers.
+use super::fickle::Fickle;
 use super::images::{FORMATTED_CLAIM, FORMATTED_PAGES, certificate_of, image_of};
 use image_check::{Refusal, check, check_stream};
 use page_layout::geometry::Geometry;
 use page_layout::lanes::has_zero;
 use page_layout::record::is_erased;
-use page_layout::source::{ImageSlice, PageSource, SourceFault};
+use page_layout::source::ImageSlice;
 use std::alloc::Global;
 use std::io::{self, ErrorKind, Read};
 use std::process::Abort;
@@ -145,51 +146,16 @@ fn another_capacity_is_told_first(rt: HostRuntime) -> Result<(), Fail> {
     Ok(())
 }
 
-// An image that counts the reads of its pages.
-#[derive(Drop)]
-struct Counting<'a> {
-    image: ImageSlice<'a>,
-    reads: u32,
-}
-
-impl PageSource for Counting<'_> {
-    ghost use Rattle.std.specs.Prelude.{true};
-
-    ghost flash = { λ s. s.image.flash };
-
-    ghost honest = { λ _. true };
-
-    ghost reads = { λ s. s.image.reads };
-
-    ghost programs = { λ _. 0 };
-
-    ghost erases = { λ _. 0 };
-
-    ghost failed = { λ _. 0 };
-
-    fn read_page(
-        &mut self,
-        row: u32,
-        body: &mut [u8],
-        spare: &mut [u8],
-    ) -> Result<(), SourceFault> {
-        self.reads = self.reads.saturating_add(1);
-        self.image.read_page(row, body, spare)
-    }
-
-    fn failures(&self) -> u64 {
-        0
-    }
-}
-
 // Each page of the die is read once.
 #[test]
 fn pages_are_read_once(rt: HostRuntime) -> Result<(), Fail> {
     let geometry = Geometry::new(64, 32, 8, 32, 32)?;
     let bytes = image_of(rt.alloc(), &geometry, &FORMATTED_PAGES)?;
     let certificate = certificate_of(rt.alloc(), &FORMATTED_CLAIM)?;
-    let mut source = Counting {
-        image: ImageSlice::new(&geometry, &bytes)?,
+    let mut source = Fickle {
+        first: ImageSlice::new(&geometry, &bytes)?,
+        later: ImageSlice::new(&geometry, &bytes)?,
+        after: u32::MAX,
         reads: 0,
     };
     let checked = check(rt.alloc(), &mut source, &geometry, 4, &certificate);

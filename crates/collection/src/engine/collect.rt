@@ -10,6 +10,7 @@ ghost use Rattle.collection.specs.Collect.{KeepsKeys, Refreshes, GoesBut, IsRele
 ghost use Rattle.collection.specs.Whole.{next_of, step_within, work_left};
 ghost use Rattle.collection.specs.Left.{IsHalfDone, IsFew, HasPassed, PinIsFew};
 ghost use Rattle.collection.specs.Acts.{Acts, Stands};
+ghost use Rattle.collection.specs.Stops.{IsLeft, Stops};
 
 use super::step::Progress;
 use super::{Engine, Pinned};
@@ -74,6 +75,8 @@ impl<N: Nand> Engine<N> {
         ensures few { N.honest self.old.nand ≡ true → truth.IsTrue None (ram self.old) (image_in N.flash self.old) →
             HasPassed (ram self.old) (image_in N.flash self.old) pinned → IsFew 0 (ram self.old) pinned →
             result ≢ Err WriteFault.Bus → PinIsFew 0 (ram self.new) }
+        ensures stops { N.honest self.old.nand ≡ true → truth.IsTrue None (ram self.old) (image_in N.flash self.old) → HasPassed (ram self.old) (image_in N.flash self.old) pinned → result ≢ Err WriteFault.Bus →
+            Stops N.flash N.recorded (IsLeft (ram self.old) (image_in N.flash self.old) (image_in N.flash self.new)) self.old self.new }
     {
         let block = pinned.block;
         let pages = self.geometry.pages();
@@ -119,6 +122,8 @@ impl<N: Nand> Engine<N> {
             IsThrifty (ram self.old) (ram self.new) }
         ensures few { N.honest self.old.nand ≡ true → truth.IsTrue None (ram self.old) (image_in N.flash self.old) →
             live_at (ram self.old).blocks block ≤ vmax self.old.geometry → result ≢ Err WriteFault.Bus → PinIsFew 0 (ram self.new) }
+        ensures stops { N.honest self.old.nand ≡ true → truth.IsTrue None (ram self.old) (image_in N.flash self.old) → result ≢ Err WriteFault.Bus →
+            Stops N.flash N.recorded (IsLeft (ram self.old) (image_in N.flash self.old) (image_in N.flash self.new)) self.old self.new }
     {
         let pinned = Pinned { block, first: 0 };
         self.pinned = Some(pinned);
@@ -180,6 +185,8 @@ impl<N: Nand> Engine<N> {
         ensures thrifty { N.honest self.old.nand ≡ true → self.old.fault ≡ None → truth.IsTrue None (ram self.old) (image_in N.flash self.old) →
             live_at (ram self.old).blocks block ≤ vmax self.old.geometry → result ≢ Err WriteFault.Bus →
             IsThrifty (ram self.old) (ram self.new) }
+        ensures stops { N.honest self.old.nand ≡ true → self.old.fault ≡ None → truth.IsTrue None (ram self.old) (image_in N.flash self.old) → result ≢ Err WriteFault.Bus →
+            Stops N.flash N.recorded (IsLeft (ram self.old) (image_in N.flash self.old) (image_in N.flash self.new)) self.old self.new }
     {
         self.standing()?;
         let answer = self.collect_block(block, flushing);

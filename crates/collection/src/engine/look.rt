@@ -44,6 +44,7 @@ pub(crate) fn read_of<N: Nand>(
     // Whatever the die does, what is in the buffer is a sound page of the key.
     ensures checked { IfOk result (λ found. IsPageOf key found (page buffer.new.body.items buffer.new.spare.items)) }
     ensures same { N.honest nand.old ≡ true → result ≢ Err WriteFault.Bus → N.flash nand.new ≡ N.flash nand.old }
+    ensures told { N.honest nand.old ≡ true → result ≢ Err WriteFault.Bus → N.recorded nand.new ≡ N.recorded nand.old }
     ensures page { N.honest nand.old ≡ true → OnOk result
         (slice_get (N.flash nand.old).image row ≡ Some (page buffer.new.body.items buffer.new.spare.items)) }
     ensures undamaged { N.honest nand.old ≡ true → newest_row (N.flash nand.old).image key ≡ Some row →
@@ -109,7 +110,7 @@ impl<N: Nand> Engine<N> {
     pub fn row_of_sector(&mut self, sector: u32) -> Result<Option<u32>, WriteFault>
         requires safe { IsSafe N.flash self.old }
         requires sector { sector < self.old.geometry.sectors }
-        ensures looks { OnlyLooks N.flash N.honest N.calm N.programs N.erases N.failed self.old self.new result }
+        ensures looks { OnlyLooks N.flash N.recorded N.honest N.calm N.programs N.erases N.failed self.old self.new result }
         ensures page { self.new.page ≡ self.old.page }
         ensures reads { N.reads self.new.nand ≤ N.reads self.old.nand + 1 }
         ensures row { IfOk result (λ row. ForSome row (λ r. r < row_count self.old.geometry)) }
@@ -135,7 +136,7 @@ impl<N: Nand> Engine<N> {
         requires safe { IsSafe N.flash self.old }
         requires sector { sector < self.old.geometry.sectors }
         requires unknown { known self.old.mapping sector ≡ None }
-        ensures looks { OnlyLooks N.flash N.honest N.calm N.programs N.erases N.failed self.old self.new result }
+        ensures looks { OnlyLooks N.flash N.recorded N.honest N.calm N.programs N.erases N.failed self.old self.new result }
         ensures page { self.new.page ≡ self.old.page }
         ensures reads { N.reads self.new.nand ≤ N.reads self.old.nand + 1 }
         ensures row { IfOk result (λ row. ForSome row (λ r. r < row_count self.old.geometry)) }
@@ -178,7 +179,7 @@ impl<N: Nand> Engine<N> {
         requires safe { IsSafe N.flash self.old }
         requires sector { sector < self.old.geometry.sectors }
         requires whole { length out.old ≡ self.old.geometry.data_bytes }
-        ensures looks { OnlyLooks N.flash N.honest N.calm N.programs N.erases N.failed self.old self.new result }
+        ensures looks { OnlyLooks N.flash N.recorded N.honest N.calm N.programs N.erases N.failed self.old self.new result }
         ensures reads { N.reads self.new.nand ≤ N.reads self.old.nand + 2 }
         ensures row { IfOk result (λ row. ForSome row (λ r. r < row_count self.old.geometry)) }
         ensures hit { IsSome (known self.old.mapping sector) → N.reads self.new.nand ≤ N.reads self.old.nand + 1 }

@@ -1,5 +1,5 @@
 //! A page is programmed, in whatever block takes it.
-ghost use Rattle.std.specs.Prelude.{◌≡◌, ◌+◌, ◌<◌, ◌^◌, true, length, Some, None, Err, IfOk, IfSome, OnOk, MatchResult};
+ghost use Rattle.std.specs.Prelude.{◌≡◌, ◌≢◌, ◌+◌, ◌<◌, ◌^◌, true, length, Some, None, Err, IfOk, IfSome, OnOk, MatchResult};
 ghost use Rattle.std.specs.Option.{ForSome};
 ghost use Rattle.page_layout.specs.Key.{key_from, key_of};
 ghost use Rattle.page_layout.specs.Page.{Image};
@@ -16,6 +16,7 @@ ghost use Rattle.collection.specs.Settle.{IsCachedKey};
 ghost use Rattle.collection.specs.Cost.{moved_live, TryCosts, PutCosts};
 ghost use Rattle.collection.specs.Results.{MayPut, Attempted, Refused, GoesPut, IsPut, IsLastPage, array_after};
 ghost use Rattle.collection.specs.Acts.{Acts, Stands, OnlyPrograms};
+ghost use Rattle.collection.specs.Stops.{IsKeptOr, Stops};
 
 use super::Engine;
 use super::steps::program_record;
@@ -65,6 +66,10 @@ impl<N: Nand> Engine<N> {
             MatchResult result
             (Attempted kind number self.old.page.body.items (ram self.old) (image_in N.flash self.old) (ram self.new) (image_in N.flash self.new))
             (Refused (ram self.old) (image_in N.flash self.old) (ram self.new) (image_in N.flash self.new)) }
+        ensures stops { N.honest self.old.nand ≡ true →
+            MayPut kind number old_row self.old.page.body.items (ram self.old) (image_in N.flash self.old) →
+            result ≢ Err WriteFault.Bus →
+            Stops N.flash N.recorded (IsKeptOr self.old.geometry (image_in N.flash self.old) (image_in N.flash self.new)) self.old self.new }
     {
         let Some(row) = self.blocks.take_row(Stream::of(kind)) else {
             return Err(WriteFault::ReadOnly);
@@ -121,6 +126,10 @@ impl<N: Nand> Engine<N> {
             MatchResult result
             (λ row. IsPut kind number row self.old.page.body.items (ram self.old) (image_in N.flash self.old) (ram self.new) (image_in N.flash self.new))
             (Refused (ram self.old) (image_in N.flash self.old) (ram self.new) (image_in N.flash self.new)) }
+        ensures stops { N.honest self.old.nand ≡ true →
+            MayPut kind number old_row self.old.page.body.items (ram self.old) (image_in N.flash self.old) →
+            result ≢ Err WriteFault.Bus →
+            Stops N.flash N.recorded (IsKeptOr self.old.geometry (image_in N.flash self.old) (image_in N.flash self.new)) self.old self.new }
     {
         'tries: while self.next < u64::MAX {
             let tried = self.program_next(kind, number, old_row)?;

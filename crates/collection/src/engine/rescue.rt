@@ -1,5 +1,5 @@
 //! Pages are copied out of bad blocks.
-ghost use Rattle.std.specs.Prelude.{◌≡◌, ◌+◌, ◌<◌, ◌≤◌, true, false, length, Some, None, Ok, Err, IfOk, OnOk, OnErr, MatchResult};
+ghost use Rattle.std.specs.Prelude.{◌≡◌, ◌≢◌, ◌+◌, ◌<◌, ◌≤◌, true, false, length, Some, None, Ok, Err, IfOk, OnOk, OnErr, MatchResult};
 ghost use Rattle.std.specs.Bool.{OnTrue, OnFalse};
 ghost use Rattle.std.specs.Option.{ForSome};
 ghost use Rattle.page_layout.specs.Geometry.{row_count};
@@ -13,6 +13,7 @@ ghost use Rattle.collection.specs.Live.{IsFoundIn};
 ghost use Rattle.collection.specs.Results.{Refused, Goes};
 ghost use Rattle.collection.specs.Collect.{KeepsKeys, IsAiling, HasAiling, HasNoneAiling, FollowCosts, IsFollowed, RescueCosts, IsFollowedBy, IsRescued, FindsAiling};
 ghost use Rattle.collection.specs.Acts.{OnlyLooks, Acts, Stands};
+ghost use Rattle.collection.specs.Stops.{IsLeft, Stops};
 
 use super::Engine;
 use crate::fault::WriteFault;
@@ -50,7 +51,7 @@ impl<N: Nand> Engine<N> {
     // the page buffer.
     fn first_ailing(&mut self) -> Result<Option<(u32, Record)>, WriteFault>
         requires safe { IsSafe N.flash self.old }
-        ensures looks { OnlyLooks N.flash N.honest N.calm N.programs N.erases N.failed self.old self.new result }
+        ensures looks { OnlyLooks N.flash N.recorded N.honest N.calm N.programs N.erases N.failed self.old self.new result }
         ensures row { IfOk result (λ found. ForSome found (λ f. f.0 < row_count self.old.geometry)) }
         ensures checked { IfOk result (λ found. ForSome found (λ f. IsFoundIn (ram self.old) (page_in self.new.page) (page_in self.new.scratch) f.0 f.1)) }
         ensures truth { N.honest self.old.nand ≡ true → truth.IsTrue None (ram self.old) (image_in N.flash self.old) →
@@ -85,6 +86,8 @@ impl<N: Nand> Engine<N> {
         ensures cost { FollowCosts (ram self.old) (ram self.new) result }
         ensures truth { N.honest self.old.nand ≡ true → truth.IsTrue None (ram self.old) (image_in N.flash self.old) →
             MatchResult result (λ _. IsFollowedBy key (ram self.old) (image_in N.flash self.old) (ram self.new) (image_in N.flash self.new)) (Refused (ram self.old) (image_in N.flash self.old) (ram self.new) (image_in N.flash self.new)) }
+        ensures stops { N.honest self.old.nand ≡ true → truth.IsTrue None (ram self.old) (image_in N.flash self.old) → result ≢ Err WriteFault.Bus →
+            Stops N.flash N.recorded (IsLeft (ram self.old) (image_in N.flash self.old) (image_in N.flash self.new)) self.old self.new }
     {
         let Key::Sector(n) = key else {
             return Ok(());
@@ -111,6 +114,8 @@ impl<N: Nand> Engine<N> {
         ensures truth { N.honest self.old.nand ≡ true → truth.IsTrue None (ram self.old) (image_in N.flash self.old) →
             length self.old.mapping.moved < self.old.geometry.pages →
             MatchResult result (IsRescued (ram self.old) (image_in N.flash self.old) (ram self.new) (image_in N.flash self.new)) (Refused (ram self.old) (image_in N.flash self.old) (ram self.new) (image_in N.flash self.new)) }
+        ensures stops { N.honest self.old.nand ≡ true → truth.IsTrue None (ram self.old) (image_in N.flash self.old) → result ≢ Err WriteFault.Bus →
+            Stops N.flash N.recorded (IsLeft (ram self.old) (image_in N.flash self.old) (image_in N.flash self.new)) self.old self.new }
     {
         if self.mapping.moved_count() >= self.geometry.pages() {
             return Err(WriteFault::Damaged);
@@ -155,6 +160,8 @@ impl<N: Nand> Engine<N> {
             MatchResult result
             (IsRescued (ram self.old) (image_in N.flash self.old) (ram self.new) (image_in N.flash self.new))
             (Refused (ram self.old) (image_in N.flash self.old) (ram self.new) (image_in N.flash self.new)) }
+        ensures stops { N.honest self.old.nand ≡ true → self.old.fault ≡ None → truth.IsTrue None (ram self.old) (image_in N.flash self.old) → result ≢ Err WriteFault.Bus →
+            Stops N.flash N.recorded (IsLeft (ram self.old) (image_in N.flash self.old) (image_in N.flash self.new)) self.old self.new }
     {
         self.standing()?;
         let answer = self.rescue();

@@ -1,5 +1,5 @@
 //! Free blocks are what a call needs before it programs.
-ghost use Rattle.std.specs.Prelude.{◌≡◌, ◌⊎◌, ℕ, ◌<◌, ◌≤◌, true, Err, None, OnOk, IfErr, MatchResult, MatchOption};
+ghost use Rattle.std.specs.Prelude.{◌≡◌, ◌≢◌, ◌⊎◌, ℕ, ◌<◌, ◌≤◌, true, Err, None, OnOk, IfErr, MatchResult, MatchOption};
 ghost use Rattle.budget.specs.Spending.{IsFunded};
 ghost use Rattle.allocation.specs.State.{free_count};
 ghost use Rattle.allocation.specs.Counts.{counts_of};
@@ -9,6 +9,7 @@ ghost use Rattle.collection.specs.Collect.{HasRoom, RoomCounts};
 ghost use Rattle.collection.specs.Room.{wanted, beyond, IsMade, IsWorth, IsFundedOn, MakesRoom};
 ghost use Rattle.collection.specs.Left.{IsCalm, PinHasPassed, PinIsFew};
 ghost use Rattle.collection.specs.Acts.{Acts, Stands};
+ghost use Rattle.collection.specs.Stops.{IsLeft, Stops};
 
 use super::Engine;
 use crate::fault::WriteFault;
@@ -83,6 +84,8 @@ impl<N: Nand> Engine<N> {
             MatchResult result
             (λ _. IsFundedOn failures (ram self.old) (ram self.new))
             (λ fault. RoomCounts failures (ram self.old) (ram self.new) (Err fault)) }
+        ensures stops { N.honest self.old.nand ≡ true → truth.IsTrue None (ram self.old) (image_in N.flash self.old) → PinHasPassed (ram self.old) (image_in N.flash self.old) → result ≢ Err WriteFault.Bus →
+            Stops N.flash N.recorded (IsLeft (ram self.old) (image_in N.flash self.old) (image_in N.flash self.new)) self.old self.new }
     {
         let wanted = Reserve::Call.blocks();
         match self.pinned {
@@ -103,6 +106,8 @@ impl<N: Nand> Engine<N> {
             PinHasPassed (ram self.old) (image_in N.flash self.old) → PinIsFew 0 (ram self.old) →
             (failures : ℕ) → IsFunded self.old.geometry.pages failures (counts_of (ram self.old).blocks) →
             RoomCounts failures (ram self.old) (ram self.new) result }
+        ensures stops { N.honest self.old.nand ≡ true → truth.IsTrue None (ram self.old) (image_in N.flash self.old) → PinHasPassed (ram self.old) (image_in N.flash self.old) → result ≢ Err WriteFault.Bus →
+            Stops N.flash N.recorded (IsLeft (ram self.old) (image_in N.flash self.old) (image_in N.flash self.new)) self.old self.new }
     {
         self.finish(flushing)?;
         'rounds: loop {
@@ -151,6 +156,8 @@ impl<N: Nand> Engine<N> {
             PinHasPassed (ram self.old) (image_in N.flash self.old) → PinIsFew 0 (ram self.old) →
             (failures : ℕ) → IsFunded self.old.geometry.pages failures (counts_of (ram self.old).blocks) →
             RoomCounts failures (ram self.old) (ram self.new) result }
+        ensures stops { N.honest self.old.nand ≡ true → self.old.fault ≡ None → truth.IsTrue None (ram self.old) (image_in N.flash self.old) → PinHasPassed (ram self.old) (image_in N.flash self.old) → result ≢ Err WriteFault.Bus →
+            Stops N.flash N.recorded (IsLeft (ram self.old) (image_in N.flash self.old) (image_in N.flash self.new)) self.old self.new }
     {
         self.standing()?;
         let answer = self.regain(flushing);

@@ -1,5 +1,5 @@
 //! The memory follows a page that was put.
-ghost use Rattle.std.specs.Prelude.{◌≡◌, ◌<◌, true, Some, None, Ok, IfOk, OnOk, IsSome, MatchResult};
+ghost use Rattle.std.specs.Prelude.{◌≡◌, ◌≢◌, ◌<◌, true, Some, None, Ok, IfOk, OnOk, IsSome, MatchResult};
 ghost use Rattle.std.specs.Option.{ForSome};
 ghost use Rattle.std.specs.Map.{keys_of};
 ghost use Rattle.page_layout.specs.Key.{key_from};
@@ -14,6 +14,7 @@ ghost use Rattle.collection.specs.Cost.{PutCosts, PageCosts};
 ghost use Rattle.collection.specs.Settle.{HasPlace, SetsRow, SetsMapping, Settles, HasNoMore};
 ghost use Rattle.collection.specs.Results.{MayPut, Goes, KeepsTable, IsReplaced, IsLastPage, IsWritten, Refused};
 ghost use Rattle.collection.specs.Acts.{Acts, OnlyPrograms};
+ghost use Rattle.collection.specs.Stops.{IsLeft, Stops};
 
 use super::Engine;
 use crate::fault::WriteFault;
@@ -86,6 +87,8 @@ impl<N: Nand> Engine<N> {
             MatchResult result
             (λ row. IsReplaced kind number row self.old.page.body.items (ram self.old) (image_in N.flash self.old) (ram self.new) (image_in N.flash self.new))
             (Refused (ram self.old) (image_in N.flash self.old) (ram self.new) (image_in N.flash self.new)) }
+        ensures stops { N.honest self.old.nand ≡ true → MayPut kind number old_row self.old.page.body.items (ram self.old) (image_in N.flash self.old) → result ≢ Err WriteFault.Bus →
+            Stops N.flash N.recorded (IsLeft (ram self.old) (image_in N.flash self.old) (image_in N.flash self.new)) self.old self.new }
     {
         let row = self.put_page(kind, number, old_row)?;
         self.settle(kind, number, row);
@@ -113,6 +116,8 @@ impl<N: Nand> Engine<N> {
             MatchResult result
             (λ _. IsWritten kind sector self.old.page.body.items (ram self.old) (image_in N.flash self.old) (ram self.new) (image_in N.flash self.new))
             (Refused (ram self.old) (image_in N.flash self.old) (ram self.new) (image_in N.flash self.new)) }
+        ensures stops { N.honest self.old.nand ≡ true → IsTrue None (ram self.old) (image_in N.flash self.old) → result ≢ Err WriteFault.Bus →
+            Stops N.flash N.recorded (IsLeft (ram self.old) (image_in N.flash self.old) (image_in N.flash self.new)) self.old self.new }
     {
         let old_row = self.row_of_key(Key::Sector(sector));
         self.replace(kind, sector, old_row)?;

@@ -19,6 +19,7 @@ ghost use Rattle.collection.specs.Left.{TouchesNoMore};
 ghost use Rattle.collection.specs.Collect.{GoesBut, HasCopied, HasWritten, HasErased, IsReleased, FaultCosts, StepCosts, IsMovedOut};
 ghost use Rattle.collection.specs.Collect.{IsCopiedOr, IsStepped};
 ghost use Rattle.collection.specs.Acts.{Acts, OnlyPrograms};
+ghost use Rattle.collection.specs.Stops.{IsLeft, Stops};
 
 use super::Engine;
 use crate::fault::WriteFault;
@@ -106,6 +107,8 @@ impl<N: Nand> Engine<N> {
             MatchResult result
             (λ _. IsMovedOut row (ram self.old) (image_in N.flash self.old) (ram self.new) (image_in N.flash self.new))
             (Refused (ram self.old) (image_in N.flash self.old) (ram self.new) (image_in N.flash self.new)) }
+        ensures stops { N.honest self.old.nand ≡ true → truth.IsTrue None (ram self.old) (image_in N.flash self.old) → IsLivePage row self.old.page.body.items found.now (image_in N.flash self.old) → result ≢ Err WriteFault.Bus →
+            Stops N.flash N.recorded (IsLeft (ram self.old) (image_in N.flash self.old) (image_in N.flash self.new)) self.old self.new }
     {
         self.replace(found.kind, found.number, Some(row))?;
         self.mark(found.key(), flushing);
@@ -145,6 +148,8 @@ impl<N: Nand> Engine<N> {
             MatchResult result
             (IsCopiedOr block (ram self.old) (image_in N.flash self.old) (ram self.new) (image_in N.flash self.new))
             (Refused (ram self.old) (image_in N.flash self.old) (ram self.new) (image_in N.flash self.new)) }
+        ensures stops { N.honest self.old.nand ≡ true → truth.IsTrue None (ram self.old) (image_in N.flash self.old) → result ≢ Err WriteFault.Bus →
+            Stops N.flash N.recorded (IsLeft (ram self.old) (image_in N.flash self.old) (image_in N.flash self.new)) self.old self.new }
     {
         if self.blocks.live(block) == 0 {
             return Ok(None);
@@ -191,6 +196,8 @@ impl<N: Nand> Engine<N> {
             MatchResult result
             (λ _. IsSame (ram self.old) (image_in N.flash self.old) (ram self.new) (image_in N.flash self.new))
             (Refused (ram self.old) (image_in N.flash self.old) (ram self.new) (image_in N.flash self.new)) }
+        ensures stops { N.honest self.old.nand ≡ true → truth.IsTrue None (ram self.old) (image_in N.flash self.old) → result ≢ Err WriteFault.Bus →
+            Stops N.flash N.recorded (IsLeft (ram self.old) (image_in N.flash self.old) (image_in N.flash self.new)) self.old self.new }
     {
         let due = self.lowest_due(flushing);
         let Some(t) = due else {
@@ -220,6 +227,8 @@ impl<N: Nand> Engine<N> {
         ensures truth { N.honest self.old.nand ≡ true → truth.IsTrue None (ram self.old) (image_in N.flash self.old) →
             HoldsNone self.old.geometry.pages block (image_in N.flash self.old) →
             OnOk result (IsKept (ram self.old) (image_in N.flash self.old) (ram self.new) (image_in N.flash self.new)) }
+        ensures stops { N.honest self.old.nand ≡ true → truth.IsTrue None (ram self.old) (image_in N.flash self.old) → HoldsNone self.old.geometry.pages block (image_in N.flash self.old) → result ≢ Err WriteFault.Bus →
+            Stops N.flash N.recorded (IsLeft (ram self.old) (image_in N.flash self.old) (image_in N.flash self.new)) self.old self.new }
     {
         match self.nand.erase(block) {
             Ok(Outcome::Passed) => {
@@ -274,6 +283,8 @@ impl<N: Nand> Engine<N> {
         ensures touched { N.honest self.old.nand ≡ true → truth.IsTrue None (ram self.old) (image_in N.flash self.old) →
             (page : ℕ) → result ≡ Ok (Progress.Copied page) →
             TouchesNoMore flushing block (ram self.old) (image_in N.flash self.old) (ram self.new) }
+        ensures stops { N.honest self.old.nand ≡ true → truth.IsTrue None (ram self.old) (image_in N.flash self.old) → HoldsNoneIn self.old.geometry.pages block 0 first (image_in N.flash self.old) → result ≢ Err WriteFault.Bus →
+            Stops N.flash N.recorded (IsLeft (ram self.old) (image_in N.flash self.old) (image_in N.flash self.new)) self.old self.new }
     {
         let copied = self.copy_lowest(block, first, flushing)?;
         if let Some(page) = copied {

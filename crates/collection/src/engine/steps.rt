@@ -8,6 +8,8 @@ ghost use Rattle.page_layout.specs.Change.{ProgramMeans};
 ghost use Rattle.onfi_cycles.specs.Outcomes.{is_passed};
 ghost use Rattle.collection.specs.Results.{CanProgram, IsStep};
 ghost use Rattle.page_layout.specs.OnlyReads.{OnlyReads};
+ghost use Rattle.promises.specs.Stop.{LeavesOnly};
+ghost use Rattle.collection.specs.Stops.{IsKeptOr};
 
 use onfi_cycles::{BusFault, Nand, Outcome};
 use page_layout::geometry::Geometry;
@@ -41,6 +43,9 @@ pub(crate) fn program_record<N: Nand>(
     ensures means { N.honest nand.old ≡ true → CanProgram geometry.now row written.now (N.flash nand.old).image →
         IfOk result (λ outcome. ProgramMeans geometry.now written.now row body.now (is_passed outcome)
         (N.flash nand.old).image (N.flash nand.new).image) }
+    ensures stops { N.honest nand.old ≡ true → CanProgram geometry.now row written.now (N.flash nand.old).image →
+        IfOk result (λ _. LeavesOnly (N.flash nand.old) (N.flash nand.new) (N.recorded nand.old) (N.recorded nand.new)
+        (IsKeptOr geometry.now (N.flash nand.old).image (N.flash nand.new).image)) }
 {
     write_record(geometry, written, body, spare);
     nand.program(row, body, spare)
@@ -62,6 +67,7 @@ pub(crate) fn read_sound<N: Nand>(
     ensures reads { N.reads nand.new ≡ counted (N.reads nand.old) }
     ensures rose { OnErr result (HasRisen (N.failed nand.old) (N.failed nand.new)) }
     ensures same { N.honest nand.old ≡ true → OnOk result (N.flash nand.new ≡ N.flash nand.old) }
+    ensures told { N.honest nand.old ≡ true → OnOk result (N.recorded nand.new ≡ N.recorded nand.old) }
     ensures record { IfOk result (λ found. found ≡ record_of (page body.new spare.new)) }
     ensures page { N.honest nand.old ≡ true →
         OnOk result (slice_get (N.flash nand.old).image row ≡ Some (page body.new spare.new)) }

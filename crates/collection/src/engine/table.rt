@@ -1,5 +1,5 @@
 //! Table pages are written.
-ghost use Rattle.std.specs.Prelude.{◌≡◌, ◌<◌, true, None, OnOk, MatchResult};
+ghost use Rattle.std.specs.Prelude.{◌≡◌, ◌≢◌, ◌<◌, true, None, OnOk, MatchResult};
 ghost use Rattle.page_layout.specs.Geometry.{entries, table_pages};
 ghost use Rattle.bad_blocks.specs.TablePage.{table_bytes};
 ghost use Rattle.budget.specs.declared.stream.Stream.TheVariants.{Meta};
@@ -8,6 +8,7 @@ ghost use Rattle.collection.specs.Truth.{IsTrue};
 ghost use Rattle.collection.specs.Cost.{PageCosts};
 ghost use Rattle.collection.specs.Results.{IsLastPage, IsTabled, Refused, Goes, KeepsTable};
 ghost use Rattle.collection.specs.Acts.{Acts, Stands, OnlyPrograms};
+ghost use Rattle.collection.specs.Stops.{IsLeft, Stops};
 
 use super::Engine;
 use crate::fault::WriteFault;
@@ -33,6 +34,8 @@ impl<N: Nand> Engine<N> {
             MatchResult result
             (λ _. IsTabled u (ram self.old) (image_in N.flash self.old) (ram self.new) (image_in N.flash self.new))
             (Refused (ram self.old) (image_in N.flash self.old) (ram self.new) (image_in N.flash self.new)) }
+        ensures stops { N.honest self.old.nand ≡ true → IsTrue None (ram self.old) (image_in N.flash self.old) → result ≢ Err WriteFault.Bus →
+            Stops N.flash N.recorded (IsLeft (ram self.old) (image_in N.flash self.old) (image_in N.flash self.new)) self.old self.new }
     {
         write_table_page(self.blocks.table(), u, &mut self.page.body);
         let old_row = self.row_of_key(Key::Table(u));
@@ -68,6 +71,8 @@ impl<N: Nand> Engine<N> {
             MatchResult result
             (λ _. IsTabled u (ram self.old) (image_in N.flash self.old) (ram self.new) (image_in N.flash self.new))
             (Refused (ram self.old) (image_in N.flash self.old) (ram self.new) (image_in N.flash self.new)) }
+        ensures stops { N.honest self.old.nand ≡ true → self.old.fault ≡ None → IsTrue None (ram self.old) (image_in N.flash self.old) → result ≢ Err WriteFault.Bus →
+            Stops N.flash N.recorded (IsLeft (ram self.old) (image_in N.flash self.old) (image_in N.flash self.new)) self.old self.new }
     {
         self.standing()?;
         let answer = self.put_table(u);

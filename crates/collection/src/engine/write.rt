@@ -1,5 +1,5 @@
 //! A cached sector is written or trimmed.
-ghost use Rattle.std.specs.Prelude.{◌≡◌, ◌<◌, true, length, None, IsSome, OnOk, MatchResult};
+ghost use Rattle.std.specs.Prelude.{◌≡◌, ◌≢◌, ◌<◌, true, length, None, IsSome, OnOk, MatchResult};
 ghost use Rattle.std.specs.Map.{keys_of};
 ghost use Rattle.page_layout.specs.Array.{zeros};
 ghost use Rattle.mapping_cache.specs.Mapping.{slot_of};
@@ -10,6 +10,7 @@ ghost use Rattle.collection.specs.Cost.{PageCosts};
 ghost use Rattle.collection.specs.Settle.{HasNoMore};
 ghost use Rattle.collection.specs.Results.{IsLastPage, IsWritten, Refused, Goes};
 ghost use Rattle.collection.specs.Acts.{Stands, OnlyPrograms};
+ghost use Rattle.collection.specs.Stops.{IsLeft, Stops};
 
 use super::Engine;
 use super::look::clear;
@@ -47,6 +48,8 @@ impl<N: Nand> Engine<N> {
             MatchResult result
             (λ _. IsWritten Kind.Sector sector body.now (ram self.old) (image_in N.flash self.old) (ram self.new) (image_in N.flash self.new))
             (Refused (ram self.old) (image_in N.flash self.old) (ram self.new) (image_in N.flash self.new)) }
+        ensures stops { N.honest self.old.nand ≡ true → self.old.fault ≡ None → IsTrue None (ram self.old) (image_in N.flash self.old) → result ≢ Err WriteFault.Bus →
+            Stops N.flash N.recorded (IsLeft (ram self.old) (image_in N.flash self.old) (image_in N.flash self.new)) self.old self.new }
     {
         self.standing()?;
         self.page.body.copy_from_slice(body);
@@ -82,6 +85,8 @@ impl<N: Nand> Engine<N> {
             MatchResult result
             (λ _. IsWritten Kind.Trim sector (zeros self.old.geometry) (ram self.old) (image_in N.flash self.old) (ram self.new) (image_in N.flash self.new))
             (Refused (ram self.old) (image_in N.flash self.old) (ram self.new) (image_in N.flash self.new)) }
+        ensures stops { N.honest self.old.nand ≡ true → self.old.fault ≡ None → IsTrue None (ram self.old) (image_in N.flash self.old) → result ≢ Err WriteFault.Bus →
+            Stops N.flash N.recorded (IsLeft (ram self.old) (image_in N.flash self.old) (image_in N.flash self.new)) self.old self.new }
     {
         self.standing()?;
         clear(&mut self.page.body);

@@ -1,5 +1,5 @@
 //! Translation pages are brought up to date.
-ghost use Rattle.std.specs.Prelude.{◌≡◌, ℕ, ◌+◌, ◌<◌, ◌≤◌, true, slice_get, Option, Some, None, Ok, OnOk, OnErr, MatchResult};
+ghost use Rattle.std.specs.Prelude.{◌≡◌, ◌≢◌, ℕ, ◌+◌, ◌<◌, ◌≤◌, true, slice_get, Option, Some, None, Ok, OnOk, OnErr, MatchResult};
 ghost use Rattle.std.specs.Option.{ForSome};
 ghost use Rattle.std.specs.Map.{keys_of};
 ghost use Rattle.page_layout.specs.Geometry.{row_count, translation_pages};
@@ -13,6 +13,7 @@ ghost use Rattle.collection.specs.Looks.{IsLoaded, IsFilled, IsPadded, StartsFro
 ghost use Rattle.collection.specs.Settle.{Cleans, HasNoMore};
 ghost use Rattle.collection.specs.Results.{IsLastPage, IsWrittenBack, Refused, Goes};
 ghost use Rattle.collection.specs.Acts.{OnlyLooks, Acts, Stands};
+ghost use Rattle.collection.specs.Stops.{IsLeft, Stops};
 
 use super::Engine;
 use super::entries::{clear_entries, fill_entries};
@@ -26,7 +27,7 @@ impl<N: Nand> Engine<N> {
     fn load_translation(&mut self, t: u32, row: Option<u32>) -> Result<(), WriteFault>
         requires safe { IsSafe N.flash self.old }
         requires row { ForSome row (λ r. r < row_count self.old.geometry) }
-        ensures looks { OnlyLooks N.flash N.honest N.calm N.programs N.erases N.failed self.old self.new result }
+        ensures looks { OnlyLooks N.flash N.recorded N.honest N.calm N.programs N.erases N.failed self.old self.new result }
         ensures reads { N.reads self.new.nand ≤ N.reads self.old.nand + 1 }
         ensures checked { OnOk result (StartsFrom t row (page_in self.new.page)) }
         ensures truth { N.honest self.old.nand ≡ true → newest_row (image_in N.flash self.old) (Translation t) ≡ row →
@@ -50,7 +51,7 @@ impl<N: Nand> Engine<N> {
         requires safe { IsSafe N.flash self.old }
         requires page { t < translation_pages self.old.geometry }
         requires row { ForSome row (λ r. r < row_count self.old.geometry) }
-        ensures looks { OnlyLooks N.flash N.honest N.calm N.programs N.erases N.failed self.old self.new result }
+        ensures looks { OnlyLooks N.flash N.recorded N.honest N.calm N.programs N.erases N.failed self.old self.new result }
         ensures reads { N.reads self.new.nand ≤ N.reads self.old.nand + 1 }
         ensures padded { OnOk result (IsPadded self.old.geometry t self.new.page.body.items) }
         ensures checked { OnOk result (IsBroughtUp t row self.old.geometry self.old.mapping self.new.page.body.items) }
@@ -88,6 +89,8 @@ impl<N: Nand> Engine<N> {
             MatchResult result
             (λ _. IsWrittenBack t (ram self.old) (image_in N.flash self.old) (ram self.new) (image_in N.flash self.new))
             (Refused (ram self.old) (image_in N.flash self.old) (ram self.new) (image_in N.flash self.new)) }
+        ensures stops { N.honest self.old.nand ≡ true → IsTrue None (ram self.old) (image_in N.flash self.old) → result ≢ Err WriteFault.Bus →
+            Stops N.flash N.recorded (IsLeft (ram self.old) (image_in N.flash self.old) (image_in N.flash self.new)) self.old self.new }
     {
         let row = self.directory.row_of(t);
         self.fill_translation(t, row)?;
@@ -139,6 +142,8 @@ impl<N: Nand> Engine<N> {
             MatchResult result
             (λ _. IsWrittenBack t (ram self.old) (image_in N.flash self.old) (ram self.new) (image_in N.flash self.new))
             (Refused (ram self.old) (image_in N.flash self.old) (ram self.new) (image_in N.flash self.new)) }
+        ensures stops { N.honest self.old.nand ≡ true → self.old.fault ≡ None → IsTrue None (ram self.old) (image_in N.flash self.old) → result ≢ Err WriteFault.Bus →
+            Stops N.flash N.recorded (IsLeft (ram self.old) (image_in N.flash self.old) (image_in N.flash self.new)) self.old self.new }
     {
         self.standing()?;
         let answer = self.write_page_back(t);

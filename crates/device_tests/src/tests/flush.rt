@@ -2,15 +2,15 @@
 ghost use Rattle.onfi_cycles.specs.Driver.{flash_by};
 ghost use Rattle.ftl_device.specs.Device.{IsDevice};
 
-use super::again::Mounted;
-use super::bench::{formatted, started};
-use super::calls::Call::{Flush, Read, Write};
-use super::calls::hold_call;
-use super::cases::Cached::{Clean, Dirty};
-use super::cases::Step::Done;
-use super::cases::{Case, QUIET, hold_cases};
-use super::pages::{NO, PageAt};
-use super::recorder::Operation::{Program, Programs, Read as ReadPage};
+use device_bench::again::Mounted;
+use device_bench::bench::{formatted, started};
+use device_bench::calls::Call::{Flush, Read, Write};
+use device_bench::calls::hold_call;
+use device_bench::cases::Cached::{Clean, Dirty};
+use device_bench::cases::Step::Done;
+use device_bench::cases::{Case, QUIET, hold_cases};
+use device_bench::pages::{NO, PageAt};
+use device_bench::recorder::Operation::{Program, Programs, Read as ReadPage};
 use ftl_device::{Device, DeviceFault};
 use onfi_cycles::Nand;
 use page_layout::geometry::Geometry;
@@ -193,22 +193,23 @@ const WRITTEN_BACK: &[u8] = &[8, 9, 10, 11];
 
 #[test]
 fn flushes_write_all(rt: HostRuntime) -> Result<(), Fail> {
-    hold_cases(&rt, rt.alloc(), &FLUSHES)
+    hold_cases(rt.alloc(), &FLUSHES)
 }
 
 #[test]
 fn failures_are_told(rt: HostRuntime) -> Result<(), Fail> {
-    hold_cases(&rt, rt.alloc(), &FAILURES)
+    hold_cases(rt.alloc(), &FAILURES)
 }
 
 // 212 writes of the one sector.
-fn write_212<N: Nand>(rt: &impl Abort, device: &mut Device<N>)
+fn write_212<N: Nand>(device: &mut Device<N>) -> Result<(), Fail>
     requires { IsDevice N.flash device.old }
     ensures { IsDevice N.flash device.new }
 {
     for nth in 0..212u8 {
-        hold_call(rt, device, "212 writes", Write(0, nth), Ok(()));
+        hold_call(device, "212 writes", Write(0, nth), Ok(()))?;
     }
+    Ok(())
 }
 
 const NO_LONGER: DeviceFault = DeviceFault::ReadOnly {
@@ -231,14 +232,14 @@ fn shown_by<N: Nand>(device: &Device<N>) -> (u64, u32, u32, bool) {
 // Ten blocks are free as the flush begins, and its fifth and tenth program fail: the table pages are
 // written three times and open five blocks, one for the write-back before them. It is done, four
 // blocks are free, and the device only reads from then on.
-fn end_the_writing<N: Nand>(rt: &impl Abort, device: &mut Device<N>)
+fn end_the_writing<N: Nand>(rt: &impl Abort, device: &mut Device<N>) -> Result<(), Fail>
     requires { IsDevice N.flash device.old }
     ensures { IsDevice N.flash device.new }
 {
-    write_212(rt, device);
-    hold_call(rt, device, "two failures", Flush, Ok(()));
+    write_212(device)?;
+    hold_call(device, "two failures", Flush, Ok(()))?;
     assert_eq!(rt; shown_by(device), (232, 4, 62, true));
-    hold_call(rt, device, "four free", Write(0, 1), Err(NO_LONGER));
+    hold_call(device, "four free", Write(0, 1), Err(NO_LONGER))
 }
 
 #[test]
@@ -246,6 +247,5 @@ fn two_failures_in_a_flush_end_the_writing(rt: HostRuntime) -> Result<(), Fail> 
     let geometry = Geometry::new(64, 32, 4, 64, 1)?;
     let driver = formatted(rt.alloc(), geometry, &[217, 222], 0)?;
     let mut device = started(rt.alloc(), driver, &geometry, 1)?;
-    end_the_writing(&rt, &mut device);
-    Ok(())
+    end_the_writing(&rt, &mut device)
 }

@@ -1,14 +1,14 @@
 // Lists of commands, told from an accepted certificate on.
-ghost use Rattle.std.specs.Prelude.{◌≡◌, ◌⊎◌, IfOk, OnOk};
+ghost use Rattle.std.specs.Prelude.{◌≡◌, ◌⊎◌, true, IfOk, OnOk};
 ghost use Rattle.page_layout.specs.Counter.{HasRisen};
 ghost use Rattle.onfi_cycles.specs.Driver.{flash_by};
 ghost use Rattle.command_queue.specs.Commands.{IsWhole, AreWhole};
 ghost use Rattle.command_queue.specs.Exchanges.{AreKnown, exchanges_of};
 ghost use Rattle.command_queue.specs.Run.{RanFrom};
 
-use super::bench::{formatted_die, mounted, small};
 use certificate::Certificate;
 use command_queue::{Call, Command, run_accepted};
+use device_bench::bench::{formatted_die, mounted, small};
 use ftl_device::{Device, DeviceFault};
 use image_check::check;
 use nand_die::Die;
@@ -132,8 +132,8 @@ fn run_on_die(
     requires same { driver.geometry ≡ geometry.now }
     requires whole { AreWhole geometry.now calls.old }
     ensures rose { IfOk result (λ d. AreKnown (exchanges_of calls.new) ⊎ HasRisen driver.failures d.engine.nand.failures) }
-    ensures ran { IfOk result (λ d. AreKnown (exchanges_of calls.new) → RanFrom (flash_by (λ die. die.state)) (flash_by (λ die. die.state) driver)
-        certificate.now (exchanges_of calls.new) d) }
+    ensures ran { IfOk result (λ d. AreKnown (exchanges_of calls.new) → RanFrom (flash_by (λ die. die.state)) (λ _. true) (λ n. n.failures) (λ n. n.erases)
+        (flash_by (λ die. die.state) driver) certificate.now (exchanges_of calls.new) d) }
 {
     let accepted = check(alloc, &mut driver, geometry, 4, certificate)?;
     match run_accepted(alloc, driver, accepted, calls) {

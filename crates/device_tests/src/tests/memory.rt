@@ -2,50 +2,49 @@
 // refused here unless the tests are run so.
 ghost use Rattle.ftl_device.specs.Device.{IsDevice};
 
-use super::bench::{formatted, small, started};
-use super::calls::Call::{Read, Trim, Write};
-use super::calls::{Call, make, read};
+use device_bench::bench::{formatted, small, started};
+use device_bench::calls::Call::{Read, Trim, Write};
+use device_bench::calls::{Answer, Call, hold_call, make};
 use ftl_device::{Device, DeviceFault};
 use onfi_cycles::Nand;
 use std::process::Abort;
 use std::test::Fail;
 
 // The sector of a call has 64 bytes of this one.
-fn hold_byte<N: Nand>(rt: &impl Abort, device: &mut Device<N>, sector: u32, byte: u8)
+fn hold_byte<N: Nand>(device: &mut Device<N>, sector: u32, byte: u8) -> Result<(), Fail>
     requires { IsDevice N.flash device.old }
     ensures { IsDevice N.flash device.new }
 {
-    let answer = read(rt, device, "refused", sector, byte);
-    assert!(rt; answer.is_ok(), "sector {sector}");
+    hold_call(device, "refused", Read(sector, byte), Ok(()))
 }
 
 // Makes a call on a sector that has 64 bytes of this one. Where a growth was refused, it still has
 // them, and the call is made again.
-fn make_again<N: Nand>(
-    rt: &impl Abort,
-    device: &mut Device<N>,
-    call: Call,
-    before: u8,
-) -> Result<(), DeviceFault>
+fn make_again<N: Nand>(device: &mut Device<N>, call: Call, before: u8) -> Result<Answer, Fail>
     requires { IsDevice N.flash device.old }
     ensures { IsDevice N.flash device.new }
 {
-    let answer = make(rt, device, "first", call);
+    let answer = make(device, "first", call)?;
     if answer != Err(DeviceFault::OutOfMemory) {
-        return answer;
+        return Ok(answer);
     }
-    hold_byte(rt, device, call.sector(), before);
-    make(rt, device, "again", call)
+    hold_byte(device, call.sector(), before)?;
+    make(device, "again", call)
 }
 
 // Makes these calls.
-fn make_all<N: Nand>(rt: &impl Abort, device: &mut Device<N>, calls: &[(Call, u8)])
+fn make_all<N: Nand>(
+    rt: &impl Abort,
+    device: &mut Device<N>,
+    calls: &[(Call, u8)],
+) -> Result<(), Fail>
     requires { IsDevice N.flash device.old }
     ensures { IsDevice N.flash device.new }
 {
     for (call, before) in calls {
-        assert_eq!(rt; make_again(rt, device, *call, *before), Ok(()), "{call:?}");
+        assert_eq!(rt; make_again(device, *call, *before)?, Ok(()), "{call:?}");
     }
+    Ok(())
 }
 
 // Calls, and the byte that their sector has before each.
@@ -68,6 +67,5 @@ fn calls_are_made_again(rt: HostRuntime) -> Result<(), Fail> {
     let geometry = small()?;
     let driver = formatted(rt.alloc(), geometry, &[], 0)?;
     let mut device = started(rt.alloc(), driver, &geometry, 4)?;
-    make_all(&rt, &mut device, &CALLS);
-    Ok(())
+    make_all(&rt, &mut device, &CALLS)
 }

@@ -1,15 +1,15 @@
 // Devices that are given up and started anew, and certificates that say too little or too much.
 ghost use Rattle.std.specs.Prelude.{◌≡◌, IfOk};
 
-use super::bench::{after_calls, bytes_of, formatted, mounted, small, with_bytes};
-use super::calls::Call;
-use super::calls::Call::{Read, Trim, Write};
-use super::cases::Step::{Done, Refused};
-use super::cases::{Case, QUIET, hold_cases};
-use super::pages::PageAt;
-use super::recorder::Operation::{Program, Read as ReadPage};
-use super::recorder::Recorder;
 use certificate::Certificate;
+use device_bench::bench::{after_calls, bytes_of, formatted, mounted, small, with_bytes};
+use device_bench::calls::Call;
+use device_bench::calls::Call::{Read, Trim, Write};
+use device_bench::cases::Step::{Done, Refused};
+use device_bench::cases::{Case, QUIET, hold_cases};
+use device_bench::pages::PageAt;
+use device_bench::recorder::Operation::{Program, Read as ReadPage};
+use device_bench::recorder::Recorder;
 use ftl_device::DeviceFault;
 use image_check::{Refusal, check};
 use mount::mount;
@@ -46,7 +46,7 @@ fn with_older_row(
     certificate: &Certificate,
 ) -> Result<Certificate, Fail> {
     hold_certificate(rt, alloc, certificate, 472, 364, 9)?;
-    with_bytes(rt, alloc, certificate, 364, &[8])
+    with_bytes(alloc, certificate, 364, &[8])
 }
 
 // Why a checker refuses a certificate.
@@ -73,23 +73,19 @@ fn mount_refusal<S: PageSource>(
 }
 
 // The die after these calls.
-fn die_after(
-    rt: &impl Abort,
-    alloc: Global,
-    calls: &[Call],
-) -> Result<(Driver<Recorder>, Geometry), Fail>
+fn die_after(alloc: Global, calls: &[Call]) -> Result<(Driver<Recorder>, Geometry), Fail>
     ensures { IfOk result (λ pair. pair.0.geometry ≡ pair.1) }
 {
     let geometry = small()?;
     let driver = formatted(alloc, geometry, &[], 0)?;
-    after_calls(rt, alloc, driver, &geometry, calls)
+    after_calls(alloc, driver, &geometry, calls)
 }
 
 // A certificate that has an older page of a sector than its newest is refused.
 #[test]
 fn older_page_is_refused(rt: HostRuntime) -> Result<(), Fail> {
     let calls = [Write(5, 1), Write(5, 2)];
-    let (mut driver, geometry) = die_after(&rt, rt.alloc(), &calls)?;
+    let (mut driver, geometry) = die_after(rt.alloc(), &calls)?;
     let mounted = mounted(rt.alloc(), &mut driver, &geometry, 4)?;
     let older = with_older_row(&rt, rt.alloc(), &mounted)?;
     let refusal = check_refusal(rt.alloc(), &mut driver, &geometry, &older);
@@ -102,7 +98,7 @@ const THREE: [Call; 3] = [Write(0, 3), Write(1, 4), Write(2, 5)];
 // Three sectors were written and no translation page.
 #[test]
 fn mount_needs_room_for_stale_sectors(rt: HostRuntime) -> Result<(), Fail> {
-    let (mut driver, geometry) = die_after(&rt, rt.alloc(), &THREE)?;
+    let (mut driver, geometry) = die_after(rt.alloc(), &THREE)?;
     let refusal = mount_refusal(rt.alloc(), &mut driver, &geometry);
     let want = Refusal::TooStale {
         stale: 3,
@@ -163,5 +159,5 @@ const RESTARTS: [Case; 3] = [
 
 #[test]
 fn devices_are_started_anew(rt: HostRuntime) -> Result<(), Fail> {
-    hold_cases(&rt, rt.alloc(), &RESTARTS)
+    hold_cases(rt.alloc(), &RESTARTS)
 }

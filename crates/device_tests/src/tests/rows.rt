@@ -1,12 +1,12 @@
 // Sectors that are written, read and trimmed where nothing fails.
-use super::calls::Call;
-use super::calls::Call::{Read, Trim, Write};
-use super::cases::Cached::{Clean, Dirty};
-use super::cases::Step::{Done, Refused};
-use super::cases::{Case, QUIET, hold_cases};
-use super::pages::PageAt;
-use super::recorder::Operation::{Program, Programs, Read as ReadPage};
-use super::recorder::{Cycle, Operation, cycles_of};
+use device_bench::calls::Call;
+use device_bench::calls::Call::{Read, Trim, Write};
+use device_bench::cases::Cached::{Clean, Dirty};
+use device_bench::cases::Step::{Done, Refused};
+use device_bench::cases::{Case, QUIET, hold_cases};
+use device_bench::pages::PageAt;
+use device_bench::recorder::Operation::{Program, Programs, Read as ReadPage};
+use device_bench::recorder::{Cycle, Operation, cycles_of};
 use ftl_device::DeviceFault;
 use std::test::Fail;
 
@@ -75,7 +75,7 @@ const SECTORS: [Case; 3] = [
 
 #[test]
 fn sectors_are_kept(rt: HostRuntime) -> Result<(), Fail> {
-    hold_cases(&rt, rt.alloc(), &SECTORS)
+    hold_cases(rt.alloc(), &SECTORS)
 }
 
 const FOUR: [Call; 4] = [Write(0, 7), Write(1, 7), Write(2, 7), Write(3, 7)];
@@ -165,5 +165,5 @@ const CACHES: [Case; 4] = [
 
 #[test]
 fn sectors_are_cached(rt: HostRuntime) -> Result<(), Fail> {
-    hold_cases(&rt, rt.alloc(), &CACHES)
+    hold_cases(rt.alloc(), &CACHES)
 }

@@ -4,9 +4,9 @@ ghost use Rattle.page_layout.specs.declared.geometry.Geometry.{Geometry};
 ghost use Rattle.certificate.specs.Claim.{sizes_of};
 ghost use Rattle.ftl_device.specs.Device.{IsDevice};
 
-use super::bench::{driver_on, formatted, given_up, mounted, small, start_on, started};
 use super::calls::Call::{Flush, Read, Trim, Turn, Write};
 use super::calls::{Call, make};
+use device_bench::bench::{driver_on, formatted_die, given_up, mounted, small, start_on, started};
 use ftl_device::{Device, DeviceFault};
 use image_check::{Accepted, check};
 use nand_die::{CycleFuse, Die, Garble};
@@ -183,7 +183,7 @@ fn prepared(rt: &impl Abort, alloc: Global, row: &Row) -> Result<(Driver<Die>, G
     ensures { IfOk result (λ pair. pair.0.geometry ≡ pair.1) }
 {
     let geometry = small()?;
-    let mut device = started(alloc, formatted(alloc, geometry)?, &geometry, 4)?;
+    let mut device = started(alloc, formatted_die(alloc, geometry, &[], 0)?, &geometry, 4)?;
     do_calls(rt, &mut device, row.before);
     Ok(given_up(device))
 }

@@ -3,11 +3,12 @@ ghost use Rattle.std.specs.Prelude.{◌≡◌};
 ghost use Rattle.page_layout.specs.Geometry.{row_count};
 ghost use Rattle.ftl_device.specs.Device.{IsDevice};
 
-use super::bench::{formatted, given_up, image_of, loaded, mounted, small, started};
 use super::calls::{Call, make, write};
+use super::dies::{image_of, loaded};
 use super::list::{List, SECTORS, hold_device, scanned};
 use super::noise::Noise;
 use certificate::Certificate;
+use device_bench::bench::{formatted_die, given_up, mounted, small, started};
 use ftl_device::{Device, DeviceFault};
 use image_check::{Refusal, SectorFault, check, check_stream, sector};
 use mount::{format, mount};
@@ -301,7 +302,7 @@ fn do_calls<N: Nand>(rt: &impl Abort, device: &mut Device<N>)
 // A valid image, which has pages of each kind in its first eleven blocks, and its certificate.
 fn valid(rt: &impl Abort, alloc: Global) -> Result<(Vec<u8>, Certificate), Fail> {
     let geometry = small()?;
-    let mut device = started(alloc, formatted(alloc, geometry)?, &geometry, 4)?;
+    let mut device = started(alloc, formatted_die(alloc, geometry, &[], 0)?, &geometry, 4)?;
     do_calls(rt, &mut device);
     let (mut driver, geometry) = given_up(device);
     let certificate = mounted(alloc, &mut driver, &geometry, 12)?;

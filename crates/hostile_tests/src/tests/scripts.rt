@@ -6,9 +6,10 @@ ghost use Rattle.certificate.specs.Claim.{sizes_of};
 ghost use Rattle.onfi_cycles.specs.Driver.{flash_by};
 ghost use Rattle.ftl_device.specs.Device.{IsDevice};
 
-use super::bench::{driver_on, formatted, given_up, image_of, mounted, small, start_on, started};
 use super::calls::{Call, make, read};
+use super::dies::image_of;
 use super::list::{SECTORS, scanned};
+use device_bench::bench::{driver_on, formatted_die, given_up, mounted, small, start_on, started};
 use ftl_device::{Device, DeviceFault};
 use image_check::{Accepted, check};
 use nand_die::{CycleFuse, Die, Stop};
@@ -226,7 +227,7 @@ enum Failing {
 // Whether the device stops.
 fn stops(rt: &impl Abort, alloc: Global, failing: Failing) -> Result<bool, Fail> {
     let geometry = small()?;
-    let mut driver = formatted(alloc, geometry)?;
+    let mut driver = formatted_die(alloc, geometry, &[], 0)?;
     let certificate = mounted(alloc, &mut driver, &geometry, 4)?;
     let accepted = check(alloc, &mut driver, &geometry, 4, &certificate)?;
     let mut die = driver.into_bus();

@@ -1,10 +1,11 @@
 // Streams of requests that are noise, or valid but for a few bytes, against a plain reader and a plain list of sectors.
 ghost use Rattle.std.specs.Prelude.{◌≡◌};
 
-use super::bench::{formatted, image_of, mounted, small};
+use super::dies::image_of;
 use super::list::{List, SECTORS, hold_image};
 use super::noise::Noise;
 use block_server::{RunFault, Served, serve_checked};
+use device_bench::bench::{formatted_die, mounted, small};
 use nand_die::Die;
 use onfi_cycles::Driver;
 use page_layout::geometry::Geometry;
@@ -135,7 +136,12 @@ fn hold_stream(rt: &impl Abort, alloc: Global, stream: &[u8], name: &str) -> Res
         replies: 0,
     };
     let end = plain.answer_all(stream)?;
-    let (answer, written, image) = served(alloc, formatted(alloc, geometry)?, &geometry, stream)?;
+    let (answer, written, image) = served(
+        alloc,
+        formatted_die(alloc, geometry, &[], 0)?,
+        &geometry,
+        stream,
+    )?;
     let replies = plain.replies;
     assert!(rt; answer == Served { replies, end }, "{name}");
     assert!(rt; written.as_slice() == plain.output.as_slice(), "{name}");

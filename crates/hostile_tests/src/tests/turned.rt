@@ -1,8 +1,9 @@
 // A bit of an image turned over, against the certificate from before, and mounted anew.
-use super::bench::{formatted, given_up, image_of, mounted, small, started};
 use super::calls::write;
+use super::dies::image_of;
 use super::list::scanned;
 use certificate::Certificate;
+use device_bench::bench::{formatted_die, given_up, mounted, small, started};
 use image_check::{Refusal, check};
 use page_layout::geometry::Geometry;
 use page_layout::source::ImageSlice;
@@ -80,7 +81,7 @@ fn written(
     alloc: Global,
     geometry: &Geometry,
 ) -> Result<(Vec<u8>, Certificate), Fail> {
-    let mut device = started(alloc, formatted(alloc, *geometry)?, geometry, 4)?;
+    let mut device = started(alloc, formatted_die(alloc, *geometry, &[], 0)?, geometry, 4)?;
     assert!(rt; write(rt, &mut device, 5, &[0x11; 64]).is_ok());
     let (mut driver, geometry) = given_up(device);
     let certificate = mounted(alloc, &mut driver, &geometry, 4)?;

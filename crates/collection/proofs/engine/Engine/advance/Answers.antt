@@ -3,6 +3,8 @@ use Rattle.std.proofs.lemmas.Result.{err_from_is_err_and}
 use Rattle.collection.specs.Safe.{ram}
 use Rattle.collection.proofs.Acts.{acts_ok, acts_err}
 use Rattle.collection.proofs.Turns.{ok_told, ok_erased, copied_told, told_erases, calm_on, stepped_on, steps_on}
+use Rattle.collection.proofs.Looks.{ok_not_bus}
+use Rattle.collection.proofs.Costs.{not_bus}
 use Rattle.collection.proofs.engine.Engine.advance.Goals as goal
 
 pub returns-in_err-progress-clause-acts : goal.returns-in_err-progress-clause-acts
@@ -56,3 +58,13 @@ returns-clause-advances g c =
       erases_are = e.erases ∙ told_erases done _;
       truth = λ known w passed. steps_on c.args.flushing c.args.pinned r b _ _ done e.acts.safe.memory c.requires.half_done e.goes.geometry e.cost e.next (e.truth known w passed) (λ page is. e.touched known w page (ap (λ d. Ok d) is));
     })
+
+-- ---- what a stop leaves
+
+pub returns-in_err-progress-clause-stops : goal.returns-in_err-progress-clause-stops
+returns-in_err-progress-clause-stops g c =
+    let p = err_from_is_err_and c.from_residual.result c.from_residual.ensures.1 in
+    rw (p.1, p.2) (λ honest w passed ne. c.in_err-progress.ensures.stops honest w passed (not_bus _ ne))
+
+pub returns-clause-stops : goal.returns-clause-stops
+returns-clause-stops g c = λ honest w passed ne. c.in_ok-progress.ensures.stops honest w passed (ok_not_bus _)

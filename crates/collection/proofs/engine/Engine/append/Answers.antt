@@ -1,5 +1,8 @@
 use Rattle.collection.specs.Safe.{ram}
 use Rattle.collection.proofs.Appends.{may_append, appended, moved_still}
+use Rattle.std.proofs.lemmas.Result.{err_from_is_err_and}
+use Rattle.collection.proofs.Looks.{ok_not_bus}
+use Rattle.collection.proofs.Costs.{not_bus}
 use Rattle.collection.proofs.engine.Engine.append.Goals as goal
 
 pub returns-clause-truth : goal.returns-clause-truth
@@ -7,3 +10,13 @@ returns-clause-truth g c = λ honest w. appended (ram c.args.self.now) _ _ _ c.a
 
 pub returns-clause-moved : goal.returns-clause-moved
 returns-clause-moved g c = moved_still _ c.args.sector c.in_ok-replace.field-0 c.args.self.now.mapping _ c.requires.kind c.requires.cached c.in_ok-replace.ensures.mapping
+
+-- ---- what a stop leaves
+
+pub returns-in_err-replace-clause-stops : goal.returns-in_err-replace-clause-stops
+returns-in_err-replace-clause-stops g c =
+    let p = err_from_is_err_and c.from_residual.result c.from_residual.ensures.1 in
+    rw (p.1, p.2) (λ honest w ne. c.in_err-replace.ensures.stops honest (may_append (ram c.args.self.now) _ c.args.kind c.args.sector c.row_of_key-old_row.result _ w c.requires.kind (c.row_of_key-old_row.ensures.newest _ w)) (not_bus _ ne))
+
+pub returns-clause-stops : goal.returns-clause-stops
+returns-clause-stops g c = λ honest w ne. c.in_ok-replace.ensures.stops honest (may_append (ram c.args.self.now) _ c.args.kind c.args.sector c.row_of_key-old_row.result _ w c.requires.kind (c.row_of_key-old_row.ensures.newest _ w)) (ok_not_bus _)

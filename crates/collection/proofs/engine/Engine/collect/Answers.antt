@@ -20,3 +20,8 @@ returns-clause-truth g c = λ honest none w. rw (c.noted.ensures.same, c.noted.e
 
 pub returns-clause-sparing : goal.returns-clause-sparing
 returns-clause-sparing g c = λ honest none w. rw (c.noted.ensures.same, c.noted.ensures.noted) (sparing_noted c.args.flushing c.args.block _ (ram c.collect_block-answer.new.self) c.collect_block-answer.result (c.collect_block-answer.ensures.sparing honest w))
+
+-- ---- what a stop leaves
+
+pub returns-clause-stops : goal.returns-clause-stops
+returns-clause-stops g c = λ honest none w. rw (c.noted.ensures.same, c.noted.ensures.noted) (λ ne. c.collect_block-answer.ensures.stops honest w ne)

@@ -1,6 +1,8 @@
 use Rattle.std.proofs.Common.{Some, None}
 use Rattle.collection.specs.Safe.{ram}
 use Rattle.collection.proofs.HalfDone.{true_from, but_from, refreshes_from, emptied_from, counts_from, cost_from, acts_from, idle_half, sparing_from, idle_law, passed_none, idle_few}
+use Rattle.collection.proofs.Stops.{stops_sized}
+use Rattle.std.proofs.Common.{refl}
 use Rattle.collection.proofs.engine.Engine.collect_block.Goals as goal
 
 pub collect_from-requires-clause-half_done : goal.collect_from-requires-clause-half_done
@@ -32,3 +34,8 @@ returns-clause-thrifty g c = λ honest w small ne. c.collect_from.ensures.thrift
 
 pub returns-clause-few : goal.returns-clause-few
 returns-clause-few g c = λ honest w small ne. c.collect_from.ensures.few honest (true_from (ram c.args.self.now) (ram c.args.self.now) (Some (record { block = c.args.block; first = 0 })) None _ w) (passed_none (ram c.args.self.now) _ c.args.block) (idle_few (ram c.args.self.now) c.args.block (Some (record { block = c.args.block; first = 0 })) c.requires.block c.requires.idle small) ne
+
+-- ---- what a stop leaves
+
+pub returns-clause-stops : goal.returns-clause-stops
+returns-clause-stops g c = λ honest w ne. stops_sized (ram c.args.self.now) _ _ _ _ _ (record { geometry = refl; capacity = refl }) (c.collect_from.ensures.stops honest (true_from (ram c.args.self.now) (ram c.args.self.now) (Some (record { block = c.args.block; first = 0 })) None _ w) (passed_none (ram c.args.self.now) _ c.args.block) ne)

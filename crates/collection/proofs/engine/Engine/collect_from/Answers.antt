@@ -13,6 +13,10 @@ use Rattle.collection.proofs.Ledgers.{refused_cost, refused_counts, closed_still
 use Rattle.collection.proofs.HalfDone.{due_few, due_first, pin_next, pin_erased, few_left, unpinned_few}
 use Rattle.collection.proofs.PageReads.{none_read, read_more, read_all}
 use Rattle.collection.specs.Whole.{next_of}
+use Rattle.promises.proofs.StopLemmas.{leaves_nothing}
+use Rattle.collection.proofs.Stops.{same_left, stops_then, IsSized}
+use Rattle.collection.proofs.Looks.{ok_not_bus}
+use Rattle.collection.proofs.Costs.{not_bus}
 use Rattle.collection.proofs.engine.Engine.collect_from.Goals as goal
 
 pub steps-init : goal.steps-init
@@ -27,6 +31,7 @@ steps-init g c = record {
   closed = c.requires.half_done.closed;
   reads = none_read c.args.flushing c.args.pinned.first (ram c.args.self.now) _ (due_first c.args.flushing (ram c.args.self.now) c.args.pinned c.requires.unmarked c.requires.half_done) c.requires.half_done.on_die;
   under_way = begun c.args.flushing c.args.pinned.block c.args.pinned.first (ram c.args.self.now) _ _ c.requires.safe.memory (λ k. k.1) (λ k. k.2);
+  stops = λ honest w passed. leaves_nothing _ _ _ (same_left (ram c.args.self.now) _ _ c.requires.safe.memory w);
 }
 
 -- each step begins half-done
@@ -54,6 +59,10 @@ steps-preserved g c =
       closed = closed_still c.args.pinned.block now new goes (rw i.goes.geometry c.requires.half_done.within) i.closed;
       reads = read_more c.args.flushing c.args.pinned.block c.args.pinned.first c.steps.first c.in-Some.next old now new _ _ _ c.in_ok-step.step i.goes.geometry (goes.geometry ∙ i.goes.geometry) i.reads (ap (λ p. next_of p c.in_ok-step.step) (sym c.pages-pages.ensures) ∙ is) c.in_ok-step.ensures.cost c.step_on.ensures.reads c.in_ok-step.ensures.copied_reads;
       under_way = stepped c.args.flushing c.args.pinned.block c.steps.first c.in-Some.next old now new _ _ _ _ i.acts.safe.memory c.step_on.ensures.acts.safe.memory i.goes c.requires.half_done.within i.under_way c.in_ok-step.step c.in_ok-step.ensures.goes_still (ap (λ p. next_of p c.in_ok-step.step) (sym c.pages-pages.ensures) ∙ is) c.in_ok-step.ensures.cost (λ k w none. c.in_ok-step.ensures.truth (i.acts.honest_is ∙ k.0) w none);
+      stops = λ honest w passed.
+          let so = i.under_way.truth (honest, w, passed) in
+          let sized : IsSized (ram c.args.self.now) (ram c.steps.self) = record { geometry = i.goes.geometry; capacity = i.keys.limits.capacity } in
+          stops_then old now _ _ _ _ _ _ sized so.same.array (i.stops honest w passed) (c.in_ok-step.ensures.stops (i.acts.honest_is ∙ honest) so.same.truth (let n = so.none in rw i.goes.geometry n) (ok_not_bus _));
     }
 
 pub steps-smaller : goal.steps-smaller
@@ -213,3 +222,25 @@ returns-in_err-step-clause-few g c = λ honest w passed small.
     let so = i.under_way.truth (honest, w, passed) in
     let p = err_from_is_err_and c.from_residual.result c.from_residual.ensures.1 in
     rw (p.1, p.2) (λ ne. few_left (ram c.args.self.now) now new c.args.pinned c.steps.first _ _ _ i.acts.safe.memory c.step_on.ensures.acts.safe.memory i.goes.geometry c.step_on.ensures.goes.geometry c.requires.half_done.within i.closed (ap (λ m. length m.moved) c.in_err-step.ensures.unmoved) (c.in_err-step.ensures.next ∙ i.pinned) small so.same.truth _ so.copies_left so.few (c.in_err-step.ensures.truth (i.acts.honest_is ∙ honest) so.same.truth (let n = so.none in rw i.goes.geometry n)) (λ e. ne (ap (λ f. Err f) e)))
+
+-- ---- what a stop leaves
+
+pub returns-in_err-step-clause-stops : goal.returns-in_err-step-clause-stops
+returns-in_err-step-clause-stops g c =
+    let p = err_from_is_err_and c.from_residual.result c.from_residual.ensures.1 in
+    rw (p.1, p.2) (λ honest w passed ne.
+    let i = c.steps.invariant in
+    let so = i.under_way.truth (honest, w, passed) in
+    let before = i.stops honest w passed in
+    let sized : IsSized (ram c.args.self.now) (ram c.steps.self) = record { geometry = i.goes.geometry; capacity = i.keys.limits.capacity } in
+    let now = i.acts.honest_is ∙ honest in
+    stops_then (ram c.args.self.now) (ram c.steps.self) _ _ _ _ _ _ sized so.same.array before (c.in_err-step.ensures.stops now so.same.truth (let n = so.none in rw i.goes.geometry n) (not_bus _ ne)))
+
+pub returns-in_default-clause-stops : goal.returns-in_default-clause-stops
+returns-in_default-clause-stops g c = λ honest w passed ne.
+    let i = c.steps.invariant in
+    let so = i.under_way.truth (honest, w, passed) in
+    let before = i.stops honest w passed in
+    let sized : IsSized (ram c.args.self.now) (ram c.steps.self) = record { geometry = i.goes.geometry; capacity = i.keys.limits.capacity } in
+    let now = i.acts.honest_is ∙ honest in
+    stops_then (ram c.args.self.now) (ram c.steps.self) _ _ _ _ _ _ sized so.same.array before (c.in_ok-step.ensures.stops now so.same.truth (let n = so.none in rw i.goes.geometry n) (ok_not_bus _))

@@ -7,6 +7,7 @@ use Rattle.collection.specs.Results.{Goes}
 use Rattle.collection.specs.Collect.{KeepsKeys, Refreshes}
 use Rattle.collection.specs.Left.{HasPassed}
 use Rattle.collection.specs.Whole.{HasRead, IsUnderWay}
+use Rattle.collection.specs.Stops.{IsLeft, Stops}
 use Rattle.collection.proofs.engine.Engine.collect_from.Given as goal
 
 abbrev pub invariant-steps : goal.invariant-steps
@@ -21,6 +22,8 @@ invariant-steps g l = record {
   closed : is_closed (ram l.self).blocks l.fn.pinned.block ≡ true;
   reads : HasRead l.flushing l.fn.pinned.first l.first (ram l.fn.self) (ram l.self) (g.N.PageSource.reads l.fn.self.nand) (g.N.PageSource.reads l.self.nand);
   under_way : IsUnderWay l.flushing l.fn.pinned.block l.first (ram l.fn.self) (ram l.self) ((g.N.PageSource.honest l.fn.self.nand ≡ true) × IsTrue None (ram l.fn.self) (image_in g.N.PageSource.flash l.fn.self) × HasPassed (ram l.fn.self) (image_in g.N.PageSource.flash l.fn.self) l.fn.pinned) (image_in g.N.PageSource.flash l.fn.self) (image_in g.N.PageSource.flash l.self);
+  stops : g.N.PageSource.honest l.fn.self.nand ≡ true → IsTrue None (ram l.fn.self) (image_in g.N.PageSource.flash l.fn.self) → HasPassed (ram l.fn.self) (image_in g.N.PageSource.flash l.fn.self) l.fn.pinned
+      → Stops g.N.PageSource.flash g.N.PageSource.recorded (IsLeft (ram l.fn.self) (image_in g.N.PageSource.flash l.fn.self) (image_in g.N.PageSource.flash l.self)) l.fn.self l.self;
 }
 
 abbrev pub decreases-steps : goal.decreases-steps

@@ -10,6 +10,10 @@ use Rattle.collection.specs.Collect.{HasWritten, HasErased, HasNoneDue, due_coun
 use Rattle.collection.proofs.Acts.{acts_then, acts_ok, acts_err}
 use Rattle.collection.proofs.Looks.{none_from}
 use Rattle.collection.proofs.Steps.{at_start, err_same, goes_but, found_none, none_now, emptied_written, emptied_erased, refused_written, idle_by, erased_fresh}
+use Rattle.collection.proofs.Stops.{stops_then, fault_not_bus, IsSized}
+use Rattle.collection.proofs.Looks.{ok_not_bus}
+use Rattle.collection.proofs.Costs.{not_bus}
+use Rattle.collection.specs.Stops.{Stops, IsLeft}
 use Rattle.collection.proofs.engine.Engine.collect_step.Goals as goal
 
 -- ---- a translation page could not be written
@@ -99,3 +103,48 @@ returns-clause-truth g c = λ honest w none_below.
     let held = none_now c.args.block (ram c.args.self.now) (ram c.copy_lowest.new.self) _ _ same c.copy_lowest.ensures.goes c.requires.closed c.requires.block first in
     let kept = c.in_ok-erase_block.ensures.truth (c.write_back_lowest.ensures.acts.honest_is ∙ (c.copy_lowest.ensures.acts.honest_is ∙ honest)) (subst (λ e. IsTrue None (ram e) (image_in g.N.PageSource.flash e)) (sym none.1) first.0.truth) (subst (λ e. HoldsNone (ram e).geometry.pages c.args.block (image_in g.N.PageSource.flash e)) (sym none.1) held) in
     emptied_erased c.args.block (ram c.args.self.now) (ram c.copy_lowest.new.self) _ _ same c.copy_lowest.ensures.goes c.requires.closed c.requires.block first (ram c.erase_block.new.self) _ c.erase_block.ensures.acts.safe.memory (c.erase_block.ensures.goes.geometry ∙ ap (λ e. (ram e).geometry) none.1) (subst (λ e. IsKept (ram e) (image_in g.N.PageSource.flash e) (ram c.erase_block.new.self) (image_in g.N.PageSource.flash c.erase_block.new.self)) none.1 kept)
+
+-- ---- what a stop leaves
+
+pub returns-in_err-copied-clause-stops : goal.returns-in_err-copied-clause-stops
+returns-in_err-copied-clause-stops g c =
+    let p = err_from_is_err_and c.from_residual.result c.from_residual.ensures.1 in
+    rw (p.1, p.2) (λ honest w none_in ne. c.in_err-copied.ensures.stops honest w (not_bus _ ne))
+
+pub returns-in-Some-clause-stops : goal.returns-in-Some-clause-stops
+returns-in-Some-clause-stops g c = λ honest w none_in ne. c.in_ok-copied.ensures.stops honest w (ok_not_bus _)
+
+pub returns-in_err-written-clause-stops : goal.returns-in_err-written-clause-stops
+returns-in_err-written-clause-stops g c =
+    let p = err_from_is_err_and c.from_residual-in_err-written.result c.from_residual-in_err-written.ensures.1 in
+    rw (p.1, p.2) (λ honest w none_in ne.
+    let is_none = none_from c.in_ok-copied.copied c.in_default.not-Some in
+    let first = found_none c.args.block (ram c.args.self.now) (ram c.copy_lowest.new.self) _ _ c.in_ok-copied.copied (c.in_ok-copied.ensures.truth honest w none_in) is_none in
+    let sized : IsSized (ram c.args.self.now) (ram c.copy_lowest.new.self) = record { geometry = c.copy_lowest.ensures.goes.geometry; capacity = c.copy_lowest.ensures.keys.limits.capacity } in
+    let now = c.copy_lowest.ensures.acts.honest_is ∙ honest in
+    stops_then (ram c.args.self.now) (ram c.copy_lowest.new.self) _ _ _ _ _ _ sized first.0.array (c.in_ok-copied.ensures.stops honest w (ok_not_bus _)) (c.in_err-written.ensures.stops now first.0.truth (not_bus _ ne)))
+
+pub returns-then-written-clause-stops : goal.returns-then-written-clause-stops
+returns-then-written-clause-stops g c = λ honest w none_in ne.
+    let is_none = none_from c.in_ok-copied.copied c.in_default.not-Some in
+    let first = found_none c.args.block (ram c.args.self.now) (ram c.copy_lowest.new.self) _ _ c.in_ok-copied.copied (c.in_ok-copied.ensures.truth honest w none_in) is_none in
+    let sized : IsSized (ram c.args.self.now) (ram c.copy_lowest.new.self) = record { geometry = c.copy_lowest.ensures.goes.geometry; capacity = c.copy_lowest.ensures.keys.limits.capacity } in
+    let now = c.copy_lowest.ensures.acts.honest_is ∙ honest in
+    stops_then (ram c.args.self.now) (ram c.copy_lowest.new.self) _ _ _ _ _ _ sized first.0.array (c.in_ok-copied.ensures.stops honest w (ok_not_bus _)) (c.in_ok-written.ensures.stops now first.0.truth (ok_not_bus _))
+
+pub returns-in_err-erase_block-clause-stops : goal.returns-in_err-erase_block-clause-stops
+returns-in_err-erase_block-clause-stops g c =
+    let p = err_from_is_err_and c.from_residual-in_err-erase_block.result c.from_residual-in_err-erase_block.ensures.1 in
+    rw (p.1, p.2) (λ honest w none_in ne. absurd (fault_not_bus _ ne c.in_err-erase_block.ensures.bus))
+
+pub returns-clause-stops : goal.returns-clause-stops
+returns-clause-stops g c = λ honest w none_in ne.
+    let same = c.in_ok-copied.ensures.none (ap Ok (none_from c.in_ok-copied.copied c.in_default.not-Some)) in
+    let none = c.in_ok-written.ensures.none (ap Ok c.if-written.false) in
+    let is_none = none_from c.in_ok-copied.copied c.in_default.not-Some in
+    let first = found_none c.args.block (ram c.args.self.now) (ram c.copy_lowest.new.self) _ _ c.in_ok-copied.copied (c.in_ok-copied.ensures.truth honest w none_in) is_none in
+    let sized : IsSized (ram c.args.self.now) (ram c.copy_lowest.new.self) = record { geometry = c.copy_lowest.ensures.goes.geometry; capacity = c.copy_lowest.ensures.keys.limits.capacity } in
+    let now = c.copy_lowest.ensures.acts.honest_is ∙ honest in
+    let held = none_now c.args.block (ram c.args.self.now) (ram c.copy_lowest.new.self) _ _ same c.copy_lowest.ensures.goes c.requires.closed c.requires.block first in
+    let erased = c.in_ok-erase_block.ensures.stops (c.write_back_lowest.ensures.acts.honest_is ∙ now) (subst (λ e. IsTrue None (ram e) (image_in g.N.PageSource.flash e)) (sym none.1) first.0.truth) (subst (λ e. HoldsNone (ram e).geometry.pages c.args.block (image_in g.N.PageSource.flash e)) (sym none.1) held) (ok_not_bus _) in
+    stops_then (ram c.args.self.now) (ram c.copy_lowest.new.self) _ _ _ _ _ _ sized first.0.array (c.in_ok-copied.ensures.stops honest w (ok_not_bus _)) (subst (λ e. Stops g.N.PageSource.flash g.N.PageSource.recorded (IsLeft (ram e) (image_in g.N.PageSource.flash e) (image_in g.N.PageSource.flash c.erase_block.new.self)) e c.erase_block.new.self) none.1 erased)

@@ -7,6 +7,9 @@ use Rattle.collection.proofs.Acts.{acts_ok, acts_err, acts_then, looked}
 use Rattle.collection.proofs.Looks.{none_from, ok_not_bus}
 use Rattle.collection.proofs.Lowest.{same_here, holds_none, copied_none, copied_from}
 use Rattle.collection.proofs.Turns.{touched_from}
+use Rattle.promises.proofs.StopLemmas.{leaves_nothing}
+use Rattle.collection.proofs.Stops.{same_left, leaves_still, stops_looked, fault_not_bus, live_known}
+use Rattle.collection.proofs.Costs.{not_bus}
 use Rattle.collection.proofs.engine.Engine.copy_lowest.Goals as goal
 
 pub returns-then-live-eq0-clause-truth : goal.returns-then-live-eq0-clause-truth
@@ -51,3 +54,32 @@ pub returns-clause-touched : goal.returns-clause-touched
 returns-clause-touched g c = λ honest w.
     let still = ap (λ f. f.image) (c.in_ok-live.ensures.looks.same honest (ok_not_bus _)) in
     touched_from c.args.flushing (ram c.args.self.now) (ram c.first_live.new.self) (ram c.copy_page.new.self) _ _ c.args.block c.args.first c.in-Some.page c.row-row.result c.in-Some.found _ c.in_ok-live.live w c.first_live.ensures.looks.memory still c.row-row.ensures.is (c.in_ok-live.ensures.within _ c.in-Some.is).1 (c.in_ok-live.ensures.truth honest w) c.in-Some.is (c.in_ok-copy_page.ensures.touched (c.first_live.ensures.looks.only_reads.honest_is ∙ honest))
+
+-- ---- what a stop leaves
+
+pub returns-then-live-eq0-clause-stops : goal.returns-then-live-eq0-clause-stops
+returns-then-live-eq0-clause-stops g c = λ honest w ne. leaves_nothing _ _ _ (same_left (ram c.args.self.now) _ _ c.requires.safe.memory w)
+
+pub returns-in_err-live-clause-stops : goal.returns-in_err-live-clause-stops
+returns-in_err-live-clause-stops g c =
+    let p = err_from_is_err_and c.from_residual.result c.from_residual.ensures.1 in
+    rw (p.1, p.2) (λ honest w ne. absurd (fault_not_bus _ ne (c.in_err-live.ensures.truth honest w)))
+
+pub returns-in_default-clause-stops : goal.returns-in_default-clause-stops
+returns-in_default-clause-stops g c = λ honest w ne. leaves_still _ _ _ _ _ (c.in_ok-live.ensures.looks.same honest (ok_not_bus _)) (c.in_ok-live.ensures.looks.told honest (ok_not_bus _)) (same_left (ram c.args.self.now) _ _ c.requires.safe.memory w)
+
+pub returns-in_err-copy_page-clause-stops : goal.returns-in_err-copy_page-clause-stops
+returns-in_err-copy_page-clause-stops g c =
+    let p = err_from_is_err_and c.from_residual-in_err-copy_page.result c.from_residual-in_err-copy_page.ensures.1 in
+    rw (p.1, p.2) (λ honest w ne.
+    let looks = c.in_ok-live.ensures.looks in
+    let still = looks.same honest (ok_not_bus _) in
+    let known = live_known (ram c.args.self.now) (ram c.first_live.new.self) _ _ c.args.block c.args.first c.in-Some.page c.row-row.result c.in-Some.found _ c.in_ok-live.live w looks.memory (ap (λ f. f.image) still) c.row-row.ensures.is (c.in_ok-live.ensures.truth honest w) c.in-Some.is in
+    stops_looked (ram c.args.self.now) (ram c.first_live.new.self) _ _ _ _ _ _ looks.memory still (looks.told honest (ok_not_bus _)) (c.in_err-copy_page.ensures.stops (looks.only_reads.honest_is ∙ honest) known.0 known.1 (not_bus _ ne)))
+
+pub returns-clause-stops : goal.returns-clause-stops
+returns-clause-stops g c = λ honest w ne.
+    let looks = c.in_ok-live.ensures.looks in
+    let still = looks.same honest (ok_not_bus _) in
+    let known = live_known (ram c.args.self.now) (ram c.first_live.new.self) _ _ c.args.block c.args.first c.in-Some.page c.row-row.result c.in-Some.found _ c.in_ok-live.live w looks.memory (ap (λ f. f.image) still) c.row-row.ensures.is (c.in_ok-live.ensures.truth honest w) c.in-Some.is in
+    stops_looked (ram c.args.self.now) (ram c.first_live.new.self) _ _ _ _ _ _ looks.memory still (looks.told honest (ok_not_bus _)) (c.in_ok-copy_page.ensures.stops (looks.only_reads.honest_is ∙ honest) known.0 known.1 (ok_not_bus _))

@@ -6,6 +6,8 @@ use Rattle.collection.specs.Safe.{ram, page_in}
 use Rattle.collection.proofs.Copies.{may_copy, moved_out, marked_at, last_marked, goes_marked, cost_marked, refreshes_marked, moved_marked}
 use Rattle.collection.proofs.Copies.{pin_marked, followed}
 use Rattle.collection.proofs.Lefts.{copied_touches}
+use Rattle.collection.proofs.Looks.{ok_not_bus}
+use Rattle.collection.proofs.Costs.{not_bus}
 use Rattle.collection.proofs.engine.Engine.copy_page.Goals as goal
 
 pub returns-in_err-replace-clause-truth : goal.returns-in_err-replace-clause-truth
@@ -40,3 +42,13 @@ returns-clause-truth g c = λ honest w shut live.
     let replaced = c.in_ok-replace.ensures.truth honest (may_copy r _ c.args.row c.args.found.now _ w c.requires.key live) in
     let moved = moved_out r b old new c.args.row c.in_ok-replace.field-0 c.args.found.now c.args.self.now.page.body.items c.requires.safe.memory c.replace.ensures.acts.safe.memory c.replace.ensures.goes.geometry w live c.requires.key c.requires.row shut c.in_ok-replace.ensures.row replaced in
     rw c.mark.ensures.nand (moved_marked c.args.flushing c.key.result c.in_ok-replace.field-0 r b _ c.mark.ensures.marked c.args.row old new moved)
+
+-- ---- what a stop leaves
+
+pub returns-in_err-replace-clause-stops : goal.returns-in_err-replace-clause-stops
+returns-in_err-replace-clause-stops g c =
+    let p = err_from_is_err_and c.from_residual.result c.from_residual.ensures.1 in
+    rw (p.1, p.2) (λ honest w live ne. c.in_err-replace.ensures.stops honest (may_copy (ram c.args.self.now) _ c.args.row c.args.found.now _ w c.requires.key live) (not_bus _ ne))
+
+pub returns-clause-stops : goal.returns-clause-stops
+returns-clause-stops g c = λ honest w live ne. rw c.mark.ensures.nand (c.in_ok-replace.ensures.stops honest (may_copy (ram c.args.self.now) _ c.args.row c.args.found.now _ w c.requires.key live) (ok_not_bus _))

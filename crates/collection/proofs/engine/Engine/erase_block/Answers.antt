@@ -9,6 +9,7 @@ use Rattle.collection.specs.Safe.{ram}
 use Rattle.collection.proofs.Looks.{ok_not_bus}
 use Rattle.collection.proofs.Programs.{at_outcome}
 use Rattle.collection.proofs.Erases.{ended_by, cleared_ram, cleared_goes, released, went_erase, ended_kept, closed_good}
+use Rattle.collection.proofs.Stops.{erase_stops}
 use Rattle.collection.proofs.engine.Engine.erase_block.Goals as goal
 
 pub retire-requires-clause-good : goal.retire-requires-clause-good
@@ -85,3 +86,14 @@ returns-in-Ok-Failed-clause-truth g c = λ honest w none.
     let step = at_outcome (λ o. Steps before (Erase c.args.block (is_passed o) (block_at after c.args.block)) after) c.in-Ok-Failed.field-0 Failed (c.in-Ok-Failed.ensures.step honest) c.in-Ok-Failed.field-0-is in
     let whole : IsImage c.args.self.now.geometry after.image = subst (λ x. IsImage x after.image) (c.erase.ensures.geometry ∙ c.requires.safe.geometry) (c.in-Ok-Failed.ensures.whole honest).image_whole in
     (ended_kept (ram c.args.self.now) _ before after c.args.block false (block_at after c.args.block) c.requires.safe.memory w c.requires.safe.geometry none step whole (record { geometry = refl; directory = refl; mapping = refl; next = refl; block = refl; marks = ap length c.clear_marks-in-Ok-Failed.ensures ∙ length-replicate (length c.args.self.now.marks.items) false }) (ended_by false (ram c.args.self.now) c.args.block _ c.requires.safe.memory c.requires.block c.requires.closed c.retire.ensures.is))
+
+-- ---- what a stop leaves
+
+pub returns-in-Ok-Passed-clause-stops : goal.returns-in-Ok-Passed-clause-stops
+returns-in-Ok-Passed-clause-stops g c = λ honest w none ne. erase_stops (ram c.args.self.now) _ c.args.block _ _ _ _ _ _ c.requires.safe.geometry c.requires.safe.memory w none (c.in-Ok-Passed.ensures.step honest) (c.in-Ok-Passed.ensures.recorded honest) (returns-in-Ok-Passed-clause-truth g c honest w none)
+
+pub returns-in-Ok-Failed-clause-stops : goal.returns-in-Ok-Failed-clause-stops
+returns-in-Ok-Failed-clause-stops g c = λ honest w none ne. erase_stops (ram c.args.self.now) _ c.args.block _ _ _ _ _ _ c.requires.safe.geometry c.requires.safe.memory w none (c.in-Ok-Failed.ensures.step honest) (c.in-Ok-Failed.ensures.recorded honest) (returns-in-Ok-Failed-clause-truth g c honest w none)
+
+pub returns-in-Err-clause-stops : goal.returns-in-Err-clause-stops
+returns-in-Err-clause-stops g c = λ honest w none ne. absurd (ne refl)

@@ -5,6 +5,8 @@ use Rattle.collection.proofs.Acts.{acts_same}
 use Rattle.collection.proofs.Rooms.{on_same, on_then}
 use Rattle.collection.proofs.HalfDone.{calm_half, calm_ok, finished_erases, finished_tells, finished_collects, finished_truth, finished_counts}
 use Rattle.collection.proofs.Made.{nothing_made}
+use Rattle.promises.proofs.StopLemmas.{leaves_nothing}
+use Rattle.collection.proofs.Stops.{same_left}
 use Rattle.collection.proofs.engine.Engine.finish.Goals as goal
 
 pub returns-in-Some-clause-makes : goal.returns-in-Some-clause-makes
@@ -43,3 +45,14 @@ returns-in_default-2-clause-acts g c = acts_same c.args.self.now c.requires.safe
 
 pub returns-in_default-2-clause-makes : goal.returns-in_default-2-clause-makes
 returns-in_default-2-clause-makes g c = nothing_made c.args.flushing c.args.self.now c.requires.calm
+
+-- ---- what a stop leaves
+
+pub returns-in-Some-clause-stops : goal.returns-in-Some-clause-stops
+returns-in-Some-clause-stops g c = λ honest w passed ne. c.collect_from.ensures.stops honest w (passed c.in-Some.pinned c.in-Some.is) ne
+
+pub returns-in_default-clause-stops : goal.returns-in_default-clause-stops
+returns-in_default-clause-stops g c = λ honest w passed ne. leaves_nothing _ _ _ (same_left (ram c.args.self.now) _ _ c.requires.safe.memory w)
+
+pub returns-in_default-2-clause-stops : goal.returns-in_default-2-clause-stops
+returns-in_default-2-clause-stops g c = λ honest w passed ne. leaves_nothing _ _ _ (same_left (ram c.args.self.now) _ _ c.requires.safe.memory w)

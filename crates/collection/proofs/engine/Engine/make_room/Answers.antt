@@ -15,3 +15,8 @@ returns-clause-room g c = rw (c.noted.ensures.same, c.noted.ensures.noted) (room
 
 pub returns-clause-count : goal.returns-clause-count
 returns-clause-count g c = λ honest none w passed few failures enough. rw (c.noted.ensures.same, c.noted.ensures.noted) (counts_noted _ failures _ (ram c.regain-answer.new.self) c.regain-answer.result (c.regain-answer.ensures.count honest w passed few failures enough))
+
+-- ---- what a stop leaves
+
+pub returns-clause-stops : goal.returns-clause-stops
+returns-clause-stops g c = λ honest none w passed. rw (c.noted.ensures.same, c.noted.ensures.noted) (λ ne. c.regain-answer.ensures.stops honest w passed ne)

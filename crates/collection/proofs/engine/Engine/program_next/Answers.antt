@@ -1,4 +1,4 @@
-use Rattle.std.proofs.Common.{◌∙◌, ap, refl, sym, subst, arith, rules}
+use Rattle.std.proofs.Common.{inr, ◌∙◌, ap, refl, sym, subst, arith, rules}
 use Rattle.std.proofs.lemmas.List.{with_items_is}
 use Rattle.page_layout.specs.Page.{page}
 use Rattle.page_layout.specs.Sound.{record_of}
@@ -17,6 +17,7 @@ use Rattle.collection.proofs.Memory.{taken_outside}
 use Rattle.collection.proofs.Attempts.{taken_by, taken_good, next_record, step_others, asked_ram, asked_goes, failed_ram, failed_goes, failed_cost}
 use Rattle.collection.proofs.Attempts.{failed_went, failed_kept, passed_ram, passed_goes, passed_cost, passed_went, passed_put, may_program}
 use Rattle.collection.proofs.WriteBacks.{read_went}
+use Rattle.promises.proofs.StopLemmas.{leaves_nothing}
 use Rattle.collection.proofs.engine.Engine.program_next.Goals as goal
 
 pub retire-requires-clause-good : goal.retire-requires-clause-good
@@ -195,3 +196,33 @@ returns-in-Err-clause-goes g c =
     let t = state c.take_row.new.self in
     let is = taken_by r c.of.result c.in-Some.row c.split_row-block.result.0 t c.requires.safe.memory c.in-Some.ensures.some c.split_row-block.ensures.block_is in
     asked_goes c.of.result c.split_row-block.result.0 c.in-Some.row r t c.requires.safe.memory is _ (record { geometry = refl; directory = refl; mapping = refl; pin = refl; next = refl }) refl
+
+-- ---- what a stop leaves
+
+pub returns-in_default-clause-stops : goal.returns-in_default-clause-stops
+returns-in_default-clause-stops g c = λ honest may ne. leaves_nothing _ _ _ (inr refl)
+
+pub returns-in-Ok-Passed-clause-stops : goal.returns-in-Ok-Passed-clause-stops
+returns-in-Ok-Passed-clause-stops g c = λ honest may ne.
+    let r = ram c.args.self.now in
+    let t = state c.take_row.new.self in
+    let before = g.N.PageSource.flash c.args.self.now.nand in
+    let b = c.split_row-block.result.0 in
+    let row = c.in-Some.row in
+    let is = taken_by r c.of.result row b t c.requires.safe.memory c.in-Some.ensures.some c.split_row-block.ensures.block_is in
+    let can = may_program c.of.result b row r t c.requires.safe.memory is c.args.kind c.args.number c.args.old_row c.args.self.now.page.body.items before.image may c.requires.key c.wear.result in
+    c.in-Ok-Passed.ensures.stops honest can
+
+pub returns-in-Ok-Failed-clause-stops : goal.returns-in-Ok-Failed-clause-stops
+returns-in-Ok-Failed-clause-stops g c = λ honest may ne.
+    let r = ram c.args.self.now in
+    let t = state c.take_row.new.self in
+    let before = g.N.PageSource.flash c.args.self.now.nand in
+    let b = c.split_row-block.result.0 in
+    let row = c.in-Some.row in
+    let is = taken_by r c.of.result row b t c.requires.safe.memory c.in-Some.ensures.some c.split_row-block.ensures.block_is in
+    let can = may_program c.of.result b row r t c.requires.safe.memory is c.args.kind c.args.number c.args.old_row c.args.self.now.page.body.items before.image may c.requires.key c.wear.result in
+    c.in-Ok-Failed.ensures.stops honest can
+
+pub returns-in-Err-clause-stops : goal.returns-in-Err-clause-stops
+returns-in-Err-clause-stops g c = λ honest may ne. absurd (ne refl)

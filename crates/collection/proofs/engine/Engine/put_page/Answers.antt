@@ -1,11 +1,14 @@
-use Rattle.std.proofs.Common.{◌∙◌, ap, refl, arith}
+use Rattle.std.proofs.Common.{inl, ◌∙◌, ap, refl, arith}
 use Rattle.std.proofs.lemmas.Result.{err_from_is_err_and}
 use Rattle.budget.specs.Stream.{stream_of}
 use Rattle.collection.specs.Safe.{ram}
 use Rattle.collection.proofs.Memory.{put_same, put_then, outside_some}
 use Rattle.collection.proofs.Acts.{acts_same, acts_then, acts_ok, acts_err}
-use Rattle.collection.proofs.Costs.{not_tried, tried_again, has_put, tries_none, tries_some, costs_then}
+use Rattle.collection.proofs.Costs.{not_bus, not_tried, tried_again, has_put, tries_none, tries_some, costs_then}
 use Rattle.collection.proofs.Puts.{kept_same, same_kept, kept_then, put_after, refused_then, outside_then, may_still, attempted_none, attempted_some}
+use Rattle.promises.proofs.StopLemmas.{leaves_nothing}
+use Rattle.collection.proofs.Looks.{ok_not_bus}
+use Rattle.collection.proofs.Stops.{tries_then, all_kept, leaves_more}
 use Rattle.collection.proofs.engine.Engine.put_page.Goals as goal
 
 pub tries-init : goal.tries-init
@@ -17,6 +20,7 @@ tries-init g c = record {
   only_programs = record { reads_are = refl; erases_are = refl };
   tried = not_tried (stream_of c.args.kind) (ram c.args.self.now);
   truth = λ honest may. kept_same (ram c.args.self.now) _ may.truth;
+  stops = λ honest may. leaves_nothing _ _ _ (kept_same (ram c.args.self.now) _ may.truth).keeps;
 }
 
 -- ---- a try was refused
@@ -75,9 +79,34 @@ tries-preserved g c = record {
       let kept = c.tries.invariant.truth honest may in
       let now = may_still c.args.kind c.args.number c.args.old_row _ _ _ _ _ _ may (ap (λ v. v.items) c.tries.invariant.page) c.tries.invariant.goes kept in
       kept_then _ _ _ _ _ _ c.tries.invariant.goes.goes c.program_next.ensures.goes.goes.geometry kept (attempted_none _ _ _ _ _ _ _ c.in_ok-tried.tried (c.in_ok-tried.ensures.truth (c.tries.invariant.acts.honest_is ∙ honest) now) c.in-None.is);
+  stops = λ honest may.
+      let kept = c.tries.invariant.truth honest may in
+      let now = may_still c.args.kind c.args.number c.args.old_row _ _ _ _ _ _ may (ap (λ v. v.items) c.tries.invariant.page) c.tries.invariant.goes kept in
+      let known = c.tries.invariant.acts.honest_is ∙ honest in
+      let after = kept_then _ _ _ _ _ _ c.tries.invariant.goes.goes c.program_next.ensures.goes.goes.geometry kept (attempted_none _ _ _ _ _ _ _ c.in_ok-tried.tried (c.in_ok-tried.ensures.truth known now) c.in-None.is) in
+      all_kept _ _ _ _ _ after.keeps (tries_then _ _ _ _ _ _ _ _ c.tries.invariant.goes.goes.geometry kept.keeps (c.tries.invariant.stops honest may) (c.in_ok-tried.ensures.stops known now (ok_not_bus _)));
 }
 
 -- ---- there is no sequence for the next one
 
 pub returns-clause-truth : goal.returns-clause-truth
 returns-clause-truth g c = λ honest may. same_kept _ _ _ _ (c.tries.invariant.truth honest may)
+
+-- ---- what a stop leaves
+
+pub returns-in_err-tried-clause-stops : goal.returns-in_err-tried-clause-stops
+returns-in_err-tried-clause-stops g c =
+    let p = err_from_is_err_and c.from_residual.result c.from_residual.ensures.1 in
+    rw (p.1, p.2) (λ honest may ne.
+    let kept = c.tries.invariant.truth honest may in
+    let now = may_still c.args.kind c.args.number c.args.old_row _ _ _ _ _ _ may (ap (λ v. v.items) c.tries.invariant.page) c.tries.invariant.goes kept in
+    tries_then _ _ _ _ _ _ _ _ c.tries.invariant.goes.goes.geometry kept.keeps (c.tries.invariant.stops honest may) (c.in_err-tried.ensures.stops (c.tries.invariant.acts.honest_is ∙ honest) now (not_bus _ ne)))
+
+pub returns-in-Some-clause-stops : goal.returns-in-Some-clause-stops
+returns-in-Some-clause-stops g c = λ honest may ne.
+    let kept = c.tries.invariant.truth honest may in
+    let now = may_still c.args.kind c.args.number c.args.old_row _ _ _ _ _ _ may (ap (λ v. v.items) c.tries.invariant.page) c.tries.invariant.goes kept in
+    tries_then _ _ _ _ _ _ _ _ c.tries.invariant.goes.goes.geometry kept.keeps (c.tries.invariant.stops honest may) (c.in_ok-tried.ensures.stops (c.tries.invariant.acts.honest_is ∙ honest) now (ok_not_bus _))
+
+pub returns-clause-stops : goal.returns-clause-stops
+returns-clause-stops g c = λ honest may ne. leaves_more _ _ _ _ _ _ (λ image k. inl k) (c.tries.invariant.stops honest may)

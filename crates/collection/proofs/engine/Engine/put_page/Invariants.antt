@@ -3,6 +3,8 @@ use Rattle.budget.specs.Stream.{stream_of}
 use Rattle.collection.specs.Safe.{ram, image_in}
 use Rattle.collection.specs.Cost.{HasTried}
 use Rattle.collection.specs.Acts.{Acts, OnlyPrograms}
+use Rattle.page_layout.specs.Change.{Keeps}
+use Rattle.collection.specs.Stops.{Stops}
 use Rattle.collection.specs.Results.{MayPut, IsKept, GoesPut}
 use Rattle.collection.proofs.engine.Engine.put_page.Given as goal
 
@@ -15,6 +17,8 @@ invariant-tries g l = record {
   only_programs : OnlyPrograms g.N.PageSource.reads g.N.PageSource.erases l.initial.self.nand l.self.nand;
   tried : HasTried (stream_of l.kind) (ram l.initial.self) (ram l.self);
   truth : g.N.PageSource.honest l.initial.self.nand ≡ true → MayPut l.kind l.number l.old_row l.initial.self.page.body.items (ram l.initial.self) (image_in g.N.PageSource.flash l.initial.self) → IsKept (ram l.initial.self) (image_in g.N.PageSource.flash l.initial.self) (ram l.self) (image_in g.N.PageSource.flash l.self);
+  stops : g.N.PageSource.honest l.initial.self.nand ≡ true → MayPut l.kind l.number l.old_row l.initial.self.page.body.items (ram l.initial.self) (image_in g.N.PageSource.flash l.initial.self)
+      → Stops g.N.PageSource.flash g.N.PageSource.recorded (Keeps l.initial.self.geometry (image_in g.N.PageSource.flash l.initial.self)) l.initial.self l.self;
 }
 
 abbrev pub decreases-tries : goal.decreases-tries

@@ -7,6 +7,8 @@ use Rattle.collection.proofs.HalfDone.{calm_idle, calm_by, unpinned_now, collect
 use Rattle.collection.proofs.Copies.{keys_then, refreshes_then}
 use Rattle.collection.proofs.Rooms.{room_tells, on_then, erased_more, rearranged_then, room_refused, funded_then, refused_room, made_none, made_some, final_counts}
 use Rattle.collection.proofs.Made.{not_resting, enough_made}
+use Rattle.collection.proofs.Stops.{stops_then}
+use Rattle.collection.proofs.Costs.{not_bus}
 use Rattle.collection.proofs.engine.Engine.regain.Goals as goal
 
 pub rounds-init : goal.rounds-init
@@ -15,6 +17,7 @@ rounds-init g c = record {
   makes = c.in_ok-finish.ensures.makes;
   unpinned = c.in_ok-finish.ensures.unpinned;
   count = c.in_ok-finish.ensures.count;
+  stops = λ honest w passed. c.in_ok-finish.ensures.stops honest w passed (ok_not_bus _);
 }
 
 -- with fewer than nine free blocks none is pinned
@@ -51,6 +54,9 @@ rounds-preserved g c =
       };
       unpinned = inr done.unpinned;
       count = λ honest w passed few failures enough. funded_then failures old now new m.goes.geometry (i.count honest w passed few failures enough) (done.count (i.acts.honest_is ∙ honest) (m.truth honest w passed).truth worth.small);
+      stops = λ honest w passed.
+          let k = m.truth honest w passed in
+          stops_then old now _ _ _ _ _ _ (record { geometry = m.goes.geometry; capacity = m.keys.limits.capacity }) k.array (i.stops honest w passed) (done.stops (i.acts.honest_is ∙ honest) k.truth (ok_not_bus _));
     }
 
 pub returns-in_default-clause-makes : goal.returns-in_default-clause-makes
@@ -105,3 +111,21 @@ returns-in_err-collect_block-clause-count g c = λ honest w passed few failures 
     let worth = made_some (ram c.rounds.self) c.worth-worth.result c.in-Some.block c.worth-worth.ensures c.in-Some.is in
     let p = err_from_is_err_and c.from_residual-in_err-collect_block.result c.from_residual-in_err-collect_block.ensures.1 in
     rw (p.1, p.2) (refused_room failures (ram c.args.self.now) (ram c.rounds.self) (ram c.collect_block.new.self) _ i.acts.safe.memory i.makes.goes.geometry (i.count honest w passed few failures enough) (c.in_err-collect_block.ensures.count (i.acts.honest_is ∙ honest) (i.makes.truth honest w passed).truth worth.small))
+
+-- ---- what a stop leaves
+
+pub returns-in_default-clause-stops : goal.returns-in_default-clause-stops
+returns-in_default-clause-stops g c = λ honest w passed ne. c.rounds.invariant.stops honest w passed
+
+pub returns-in_err-finish-clause-stops : goal.returns-in_err-finish-clause-stops
+returns-in_err-finish-clause-stops g c =
+    let p = err_from_is_err_and c.from_residual.result c.from_residual.ensures.1 in
+    rw (p.1, p.2) (λ honest w passed ne. c.in_err-finish.ensures.stops honest w passed ne)
+
+pub returns-in_err-collect_block-clause-stops : goal.returns-in_err-collect_block-clause-stops
+returns-in_err-collect_block-clause-stops g c =
+    let p = err_from_is_err_and c.from_residual-in_err-collect_block.result c.from_residual-in_err-collect_block.ensures.1 in
+    rw (p.1, p.2) (λ honest w passed ne.
+    let i = c.rounds.invariant in
+    let k = i.makes.truth honest w passed in
+    stops_then (ram c.args.self.now) (ram c.rounds.self) _ _ _ _ _ _ (record { geometry = i.makes.goes.geometry; capacity = i.makes.keys.limits.capacity }) k.array (i.stops honest w passed) (c.in_err-collect_block.ensures.stops (i.acts.honest_is ∙ honest) k.truth ne))

@@ -8,8 +8,11 @@ use Rattle.collection.proofs.Acts.{acts_then, acts_ok, acts_err, looked}
 use Rattle.collection.proofs.Looks.{none_from, ok_not_bus}
 use Rattle.collection.proofs.Memory.{goes_then}
 use Rattle.collection.proofs.Puts.{refused_then}
-use Rattle.collection.proofs.Rescues.{copied_as, rescued, rescued_beside, none_rescued, goes_from, rescued_cost, uncopied_cost, unfollowed_cost, unread_rescue, unread_refused}
+use Rattle.collection.proofs.Rescues.{ailing_known, copied_as, rescued, rescued_beside, none_rescued, goes_from, rescued_cost, uncopied_cost, unfollowed_cost, unread_rescue, unread_refused}
 use Rattle.collection.specs.Collect.{IsFollowedBy}
+use Rattle.promises.proofs.StopLemmas.{leaves_nothing}
+use Rattle.collection.proofs.Stops.{same_left, leaves_still, stops_looked, stops_then, fault_not_bus, IsSized}
+use Rattle.collection.proofs.Costs.{not_bus}
 use Rattle.collection.proofs.engine.Engine.rescue.Goals as goal
 
 -- ---- the copy
@@ -121,3 +124,63 @@ returns-clause-beside g c = rescued_beside (key_of c.in-Some.found) c.key.result
 
 pub returns-clause-one_more : goal.returns-clause-one_more
 returns-clause-one_more g c = (let b = returns-clause-beside g c in omega (arith, b.fewer))
+
+-- ---- what a stop leaves
+
+pub returns-in_err-ailing-clause-stops : goal.returns-in_err-ailing-clause-stops
+returns-in_err-ailing-clause-stops g c =
+    let p = err_from_is_err_and c.from_residual.result c.from_residual.ensures.1 in
+    rw (p.1, p.2) (λ honest w ne. absurd (fault_not_bus _ ne (c.in_err-ailing.ensures.truth honest w)))
+
+pub returns-in_default-clause-stops : goal.returns-in_default-clause-stops
+returns-in_default-clause-stops g c = λ honest w ne. leaves_still _ _ _ _ _ (c.in_ok-ailing.ensures.looks.same honest (ok_not_bus _)) (c.in_ok-ailing.ensures.looks.told honest (ok_not_bus _)) (same_left (ram c.args.self.now) _ _ c.requires.safe.memory w)
+
+pub returns-in_err-copy_page-clause-stops : goal.returns-in_err-copy_page-clause-stops
+returns-in_err-copy_page-clause-stops g c =
+    let p = err_from_is_err_and c.from_residual-in_err-copy_page.result c.from_residual-in_err-copy_page.ensures.1 in
+    rw (p.1, p.2) (λ honest w ne.
+    let a = ram c.args.self.now in
+    let b = ram c.first_ailing.new.self in
+    let looks = c.in_ok-ailing.ensures.looks in
+    let still = looks.same honest (ok_not_bus _) in
+    let now = looks.only_reads.honest_is ∙ honest in
+    let finds = c.in_ok-ailing.ensures.truth honest w in
+    let known = ailing_known a b _ _ c.in-Some.row c.in-Some.found _ c.in_ok-ailing.ailing c.requires.safe.memory looks.memory (ap (λ f. f.image) still) w finds c.in-Some.is in
+    stops_looked a b _ _ _ _ _ _ looks.memory still (looks.told honest (ok_not_bus _)) (c.in_err-copy_page.ensures.stops now known.0 known.1 (not_bus _ ne)))
+
+pub returns-in_err-follow_moved-clause-stops : goal.returns-in_err-follow_moved-clause-stops
+returns-in_err-follow_moved-clause-stops g c =
+    let p = err_from_is_err_and c.from_residual-in_err-follow_moved.result c.from_residual-in_err-follow_moved.ensures.1 in
+    rw (p.1, p.2) (λ honest w ne.
+    let a = ram c.args.self.now in
+    let b = ram c.first_ailing.new.self in
+    let looks = c.in_ok-ailing.ensures.looks in
+    let still = looks.same honest (ok_not_bus _) in
+    let now = looks.only_reads.honest_is ∙ honest in
+    let finds = c.in_ok-ailing.ensures.truth honest w in
+    let known = ailing_known a b _ _ c.in-Some.row c.in-Some.found _ c.in_ok-ailing.ailing c.requires.safe.memory looks.memory (ap (λ f. f.image) still) w finds c.in-Some.is in
+    let n = ram c.copy_page.new.self in
+    let y = (g.N.PageSource.flash c.copy_page.new.self.nand).image in
+    let copied = stops_looked a b _ _ _ _ _ _ looks.memory still (looks.told honest (ok_not_bus _)) (c.in_ok-copy_page.ensures.stops now known.0 known.1 (ok_not_bus _)) in
+    let m = copied_as a b _ _ c.in-Some.row c.in-Some.found _ c.in_ok-ailing.ailing c.requires.safe.memory looks.memory (ap (λ f. f.image) still) w finds c.in-Some.is (λ r i. IsMovedOut c.in-Some.row r i n y) (c.in_ok-copy_page.ensures.truth now) in
+    let sized : IsSized a n = record { geometry = c.copy_page.ensures.goes.geometry ∙ ap (λ r. r.geometry) looks.memory; capacity = c.copy_page.ensures.keys.limits.capacity ∙ ap (λ r. r.mapping.capacity) looks.memory } in
+    stops_then a n _ _ _ _ _ _ sized m.same.array copied (c.in_err-follow_moved.ensures.stops (c.copy_page.ensures.acts.honest_is ∙ now) m.same.truth (not_bus _ ne)))
+
+pub returns-clause-stops : goal.returns-clause-stops
+returns-clause-stops g c = λ honest w ne.
+    let a = ram c.args.self.now in
+    let b = ram c.first_ailing.new.self in
+    let looks = c.in_ok-ailing.ensures.looks in
+    let still = looks.same honest (ok_not_bus _) in
+    let now = looks.only_reads.honest_is ∙ honest in
+    let finds = c.in_ok-ailing.ensures.truth honest w in
+    let known = ailing_known a b _ _ c.in-Some.row c.in-Some.found _ c.in_ok-ailing.ailing c.requires.safe.memory looks.memory (ap (λ f. f.image) still) w finds c.in-Some.is in
+    let n = ram c.copy_page.new.self in
+    let y = (g.N.PageSource.flash c.copy_page.new.self.nand).image in
+    let copied = stops_looked a b _ _ _ _ _ _ looks.memory still (looks.told honest (ok_not_bus _)) (c.in_ok-copy_page.ensures.stops now known.0 known.1 (ok_not_bus _)) in
+    let m = copied_as a b _ _ c.in-Some.row c.in-Some.found _ c.in_ok-ailing.ailing c.requires.safe.memory looks.memory (ap (λ f. f.image) still) w finds c.in-Some.is (λ r i. IsMovedOut c.in-Some.row r i n y) (c.in_ok-copy_page.ensures.truth now) in
+    let sized : IsSized a n = record { geometry = c.copy_page.ensures.goes.geometry ∙ ap (λ r. r.geometry) looks.memory; capacity = c.copy_page.ensures.keys.limits.capacity ∙ ap (λ r. r.mapping.capacity) looks.memory } in
+    stops_then a n _ _ _ _ _ _ sized m.same.array copied (c.in_ok-follow_moved.ensures.stops (c.copy_page.ensures.acts.honest_is ∙ now) m.same.truth (ok_not_bus _))
+
+pub returns-then-moved_count-pages-clause-stops : goal.returns-then-moved_count-pages-clause-stops
+returns-then-moved_count-pages-clause-stops g c = λ honest w ne. leaves_nothing _ _ _ (same_left (ram c.args.self.now) _ _ c.requires.safe.memory w)

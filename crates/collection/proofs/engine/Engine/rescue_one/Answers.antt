@@ -19,3 +19,8 @@ returns-clause-truth g c = λ honest none w room. rw (c.noted.ensures.same, c.no
 
 pub returns-clause-beside : goal.returns-clause-beside
 returns-clause-beside g c = rw (c.noted.ensures.same, c.noted.ensures.noted) (beside_noted_ok _ _ (ram c.rescue-answer.new.self) c.rescue-answer.result c.rescue-answer.ensures.beside)
+
+-- ---- what a stop leaves
+
+pub returns-clause-stops : goal.returns-clause-stops
+returns-clause-stops g c = λ honest none w. rw (c.noted.ensures.same, c.noted.ensures.noted) (λ ne. c.rescue-answer.ensures.stops honest w ne)

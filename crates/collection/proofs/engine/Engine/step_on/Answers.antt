@@ -3,6 +3,9 @@ use Rattle.collection.specs.declared.engine.step.Progress.TheVariants as step
 use Rattle.collection.specs.Safe.{ram}
 use Rattle.collection.specs.Left.{pin_after}
 use Rattle.collection.proofs.Turns.{refreshes_pinned, half_on, half_pinned}
+use Rattle.std.proofs.lemmas.Result.{err_from_is_err_and}
+use Rattle.collection.proofs.Looks.{ok_not_bus}
+use Rattle.collection.proofs.Costs.{not_bus}
 use Rattle.collection.proofs.engine.Engine.step_on.Goals as goal
 
 pub returns-clause-refreshes : goal.returns-clause-refreshes
@@ -13,3 +16,13 @@ returns-clause-half_done g c = λ q is.
     let next = c.next_pin-next.ensures ∙ ap (λ n. pin_after c.args.pinned.block n c.in_ok-progress.progress) (c.pages.ensures ∙ ap (λ k. k.pages) c.collect_step.ensures.goes.geometry) in
     let half = half_on c.args.flushing (ram c.args.self.now) (ram c.collect_step.new.self) c.args.pinned c.in_ok-progress.progress c.requires.half_done (λ ne. c.in_ok-progress.ensures.goes_still (λ same. ne (let s : c.in_ok-progress.progress ≡ step.Erased = cc in s))) c.in_ok-progress.ensures.cost in
     half_pinned (ram c.args.self.now) (ram c.collect_step.new.self) c.next_pin-next.result q (half q (sym next ∙ is))
+
+-- ---- what a stop leaves
+
+pub returns-in_err-progress-clause-stops : goal.returns-in_err-progress-clause-stops
+returns-in_err-progress-clause-stops g c =
+    let p = err_from_is_err_and c.from_residual.result c.from_residual.ensures.1 in
+    rw (p.1, p.2) (λ honest w passed ne. c.in_err-progress.ensures.stops honest w passed (not_bus _ ne))
+
+pub returns-clause-stops : goal.returns-clause-stops
+returns-clause-stops g c = λ honest w passed ne. c.in_ok-progress.ensures.stops honest w passed (ok_not_bus _)

@@ -2,6 +2,11 @@ use Rattle.std.proofs.Common.{◌∙◌, set, false, ap, arith}
 use Rattle.collection.specs.Safe.{ram}
 use Rattle.collection.proofs.Dues.{written_refreshes}
 use Rattle.collection.proofs.Lowest.{due_some, due_positive, written_cost, same_pinned}
+use Rattle.std.proofs.lemmas.Result.{err_from_is_err_and}
+use Rattle.promises.proofs.StopLemmas.{leaves_nothing}
+use Rattle.collection.proofs.Stops.{same_left}
+use Rattle.collection.proofs.Looks.{ok_not_bus}
+use Rattle.collection.proofs.Costs.{not_bus}
 use Rattle.collection.proofs.engine.Engine.write_back_lowest.Goals as goal
 
 pub returns-in_err-write_page_back-clause-owed : goal.returns-in_err-write_page_back-clause-owed
@@ -25,3 +30,16 @@ returns-clause-cost g c = λ on.
 
 pub returns-clause-truth : goal.returns-clause-truth
 returns-clause-truth g c = λ honest w. same_pinned (ram c.args.self.now) (ram c.write_page_back.new.self) _ _ _ (c.in_ok-write_page_back.ensures.truth honest w).same
+
+-- ---- what a stop leaves
+
+pub returns-in_default-clause-stops : goal.returns-in_default-clause-stops
+returns-in_default-clause-stops g c = λ honest w ne. leaves_nothing _ _ _ (same_left (ram c.args.self.now) _ _ c.requires.safe.memory w)
+
+pub returns-in_err-write_page_back-clause-stops : goal.returns-in_err-write_page_back-clause-stops
+returns-in_err-write_page_back-clause-stops g c =
+    let p = err_from_is_err_and c.from_residual.result c.from_residual.ensures.1 in
+    rw (p.1, p.2) (λ honest w ne. c.in_err-write_page_back.ensures.stops honest w (not_bus _ ne))
+
+pub returns-clause-stops : goal.returns-clause-stops
+returns-clause-stops g c = λ honest w ne. c.in_ok-write_page_back.ensures.stops honest w (ok_not_bus _)

@@ -5,6 +5,8 @@ use Rattle.collection.specs.Safe.{ram}
 use Rattle.collection.proofs.Looks.{directory_row, ok_not_bus}
 use Rattle.collection.proofs.Acts.{acts_err, looked}
 use Rattle.collection.proofs.WriteBacks.{read_costs, may_write_back, cleaned_goes, cleaned_cost, cleans_by, written_back_by}
+use Rattle.collection.proofs.Stops.{stops_looked, fault_not_bus}
+use Rattle.collection.proofs.Costs.{not_bus}
 use Rattle.collection.proofs.engine.Engine.write_page_back.Goals as goal
 
 pub returns-in_err-fill_translation-clause-cost : goal.returns-in_err-fill_translation-clause-cost
@@ -39,3 +41,30 @@ returns-clause-truth g c = λ honest w.
     let still = ap (λ f. f.image) (c.in_ok-fill_translation.ensures.looks.same honest (ok_not_bus _)) in
     let may = may_write_back r r1 _ _ c.args.t c.row_of-row.result _ w c.fill_translation.ensures.looks.memory still filled newest_is in
     written_back_by r r1 r2 c.clean.new.self _ _ _ c.args.t c.in_ok-replace.field-0 _ c.fill_translation.ensures.looks.memory still filled (c.in_ok-replace.ensures.truth (c.fill_translation.ensures.looks.only_reads.honest_is ∙ honest) may) c.replace.ensures.goes.geometry c.replace.ensures.acts.safe.memory.mapping_of (record { clean = c.clean.ensures.clean; others = c.clean.ensures.others_pending; knows = λ n row is. c.clean.ensures.same_known n row is }) c.in_ok-replace.ensures.row
+
+-- ---- what a stop leaves
+
+pub returns-in_err-fill_translation-clause-stops : goal.returns-in_err-fill_translation-clause-stops
+returns-in_err-fill_translation-clause-stops g c =
+    let p = err_from_is_err_and c.from_residual.result c.from_residual.ensures.1 in
+    rw (p.1, p.2) (λ honest w ne. absurd (fault_not_bus _ ne (c.in_err-fill_translation.ensures.truth honest w (directory_row c.args.self.now.geometry _ c.args.self.now.directory c.args.self.now.mapping c.args.t c.row_of-row.result w.maps c.requires.page c.row_of-row.ensures.value))))
+
+pub returns-in_err-replace-clause-stops : goal.returns-in_err-replace-clause-stops
+returns-in_err-replace-clause-stops g c =
+    let p = err_from_is_err_and c.from_residual-in_err-replace.result c.from_residual-in_err-replace.ensures.1 in
+    rw (p.1, p.2) (λ honest w ne.
+    let newest_is = directory_row c.args.self.now.geometry _ c.args.self.now.directory c.args.self.now.mapping c.args.t c.row_of-row.result w.maps c.requires.page c.row_of-row.ensures.value in
+    let filled = c.in_ok-fill_translation.ensures.truth honest w newest_is in
+    let looks = c.in_ok-fill_translation.ensures.looks in
+    let still = looks.same honest (ok_not_bus _) in
+    let may = may_write_back (ram c.args.self.now) (ram c.fill_translation.new.self) _ _ c.args.t c.row_of-row.result _ w looks.memory (ap (λ f. f.image) still) filled newest_is in
+    stops_looked (ram c.args.self.now) (ram c.fill_translation.new.self) _ _ _ _ _ _ looks.memory still (looks.told honest (ok_not_bus _)) (c.in_err-replace.ensures.stops (looks.only_reads.honest_is ∙ honest) may (not_bus _ ne)))
+
+pub returns-clause-stops : goal.returns-clause-stops
+returns-clause-stops g c = λ honest w ne.
+    let newest_is = directory_row c.args.self.now.geometry _ c.args.self.now.directory c.args.self.now.mapping c.args.t c.row_of-row.result w.maps c.requires.page c.row_of-row.ensures.value in
+    let filled = c.in_ok-fill_translation.ensures.truth honest w newest_is in
+    let looks = c.in_ok-fill_translation.ensures.looks in
+    let still = looks.same honest (ok_not_bus _) in
+    let may = may_write_back (ram c.args.self.now) (ram c.fill_translation.new.self) _ _ c.args.t c.row_of-row.result _ w looks.memory (ap (λ f. f.image) still) filled newest_is in
+    stops_looked (ram c.args.self.now) (ram c.fill_translation.new.self) _ _ _ _ _ _ looks.memory still (looks.told honest (ok_not_bus _)) (c.in_ok-replace.ensures.stops (looks.only_reads.honest_is ∙ honest) may (ok_not_bus _))

@@ -1,0 +1,16 @@
+use Rattle.promises.proofs.StopLemmas.{leaves_nothing}
+use Rattle.collection.proofs.Stops.{same_left}
+use Rattle.collection.proofs.Looks.{ok_not_bus}
+use Rattle.collection.specs.Safe.{ram}
+use Rattle.collection.proofs.engine.Engine.follow_moved.Goals as goal
+
+-- ---- what a stop leaves
+
+pub returns-in_default-clause-stops : goal.returns-in_default-clause-stops
+returns-in_default-clause-stops g c = λ honest w ne. leaves_nothing _ _ _ (same_left (ram c.args.self.now) _ _ c.requires.safe.memory w)
+
+pub returns-then-is_cached-clause-stops : goal.returns-then-is_cached-clause-stops
+returns-then-is_cached-clause-stops g c = λ honest w ne. leaves_nothing _ _ _ (same_left (ram c.args.self.now) _ _ c.requires.safe.memory w)
+
+pub returns-clause-stops : goal.returns-clause-stops
+returns-clause-stops g c = λ honest w ne. c.write_page_back.ensures.stops honest w ne

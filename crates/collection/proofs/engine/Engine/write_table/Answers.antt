@@ -1,0 +1,6 @@
+use Rattle.collection.proofs.engine.Engine.write_table.Goals as goal
+
+-- ---- what a stop leaves
+
+pub returns-clause-stops : goal.returns-clause-stops
+returns-clause-stops g c = λ honest none w. rw (c.noted.ensures.same, c.noted.ensures.noted) (λ ne. c.put_table-answer.ensures.stops honest w ne)

@@ -1,0 +1,90 @@
+-- What a device was told: one call, and a chain of them.
+use Rattle.std.specs.Prelude.{◌≡◌, ◌≢◌, ℕ, ◌+◌, ◌<◌, ◌≤◌, Bool, true, List, [], ◌∷◌, ◌++◌, is_some}
+use Rattle.std.specs.Prelude.{None, Some, Result, Ok, Err, IfErr, OnOk}
+use Rattle.std.specs.Option.{ForSome}
+use Rattle.page_layout.specs.Counter.{HasRisen}
+use Rattle.page_layout.specs.Flash.{Flash, Operation}
+use Rattle.mapping_cache.specs.Mapping.{HasLimitsOf}
+use Rattle.allocation.specs.State.{free_count}
+use Rattle.promises.specs.Step as step
+use Rattle.promises.specs.Step.{ArrayStep}
+use Rattle.promises.specs.Log.{programs_in, bad_of}
+use Rattle.promises.specs.Run.{DeviceView}
+use Rattle.collection.specs.Safe.{ram, image_in}
+use Rattle.collection.specs.Collect.{HasAiling, HasNoneAiling}
+use Rattle.collection.specs.Log.{Went}
+use Rattle.ftl_device.specs.declared.device.Device.{Device}
+use Rattle.ftl_device.specs.declared.fault.DeviceFault.{DeviceFault}
+use Rattle.ftl_device.specs.declared.fault.DeviceFault.TheVariants.{OutOfMemory, BusFault}
+use Rattle.ftl_device.specs.Device.{IsDevice}
+use Rattle.ftl_device.specs.Calls.{state_in, stop_of, IsWell, HasRescued, HasWorked, HasFallen, IsQuiet}
+use Rattle.ftl_device.specs.Changes.{RefusesUpkeep}
+use Rattle.ftl_device.specs.Flush.{first_of, IsFlushedOut}
+use Rattle.ftl_device.specs.Counts.{is_bad_by, is_flush, IsShown, IsLeft}
+use Rattle.ftl_device.specs.Turn.{HasTurned}
+use Rattle.command_queue.specs.Commands.{needs_no_memory, is_read, is_turn}
+use Rattle.command_queue.specs.Exchanges.{Exchange, reply_in, Stops}
+use Rattle.command_queue.specs.Rescues.{Rescues}
+
+-- a device between two commands
+abbrev pub die_in : {N : Type 0} → (N → Flash) → Device N → DeviceView
+die_in flash d = record { flash = flash d.engine.nand; ro = d.read_only; pinned = is_some d.engine.pinned }
+
+-- ---- one call
+
+-- What was answered to a command is a step from the array before to the array after; one log leads from the one image to the other, and a
+-- refusal shows what it says for every longer log that ends with it.
+pub record Happened {N : Type 0} (flash : N → Flash) (old : Device N) (x : Exchange) (new : Device N) : Type 0 where
+  pub step : ArrayStep old.engine.geometry (state_in flash old) x.command (reply_in x) (state_in flash new)
+  pub went : Went (ram old.engine) (flash old.engine.nand) (ram new.engine) (flash new.engine.nand)
+  pub stale : needs_no_memory (is_some old.engine.pinned) old.engine.geometry (image_in flash old.engine) x.command ≡ true → x.result ≢ Err OutOfMemory
+  pub shown : (bad : ℕ → Bool) (next : ℕ) (before : List Operation) → ((b : ℕ) → b < old.engine.geometry.blocks → is_bad_by (ram new.engine) b ≡ bad_of old.engine.geometry.pages bad (before ++ went.log) b) → new.engine.next ≡ next + programs_in (before ++ went.log)
+      → IfErr x.result (IsShown old.engine.geometry bad next before went.log old.read_only (image_in flash new.engine))
+  pub left : (bad : ℕ → Bool) (before : List Operation) → ((b : ℕ) → b < old.engine.geometry.blocks → is_bad_by (ram new.engine) b ≡ bad_of old.engine.geometry.pages bad (before ++ went.log) b) → new.read_only ≡ true
+      → IsLeft x.command old.engine.geometry bad before went.log old.read_only x.result
+  pub flushed : is_flush x.command ≡ true → x.result ≡ Ok tt → IsFlushedOut (first_of (ram old.engine)) went.log (image_in flash new.engine)
+  pub reads : is_read x.command ≡ true → (went.log ≡ []) × (die_in flash new ≡ die_in flash old)
+  pub rescues : is_turn x.command ≡ true → x.result ≡ Ok tt → Rescues old.engine.geometry (is_bad_by (ram old.engine)) went.log (image_in flash old.engine) (image_in flash new.engine)
+
+-- WHAT THE CONTRACT OF A TURN SAYS (`Device::turn`). It is refused by a device that is read-only or has no sequence. One that is done has made room,
+-- and then rescued a page from a bad block, or gone on with a collection, or found nothing to do. Where the die is honest, it has
+-- programmed or erased where a bad block held a newest page, and left fewer of them unless a block failed; where none did, it has erased,
+-- or left less of the collection, or changed nothing; and one that has neither programmed nor erased leaves twelve free blocks, where three more
+-- are good than the geometry asks for.
+pub record TakesTurn {N : Type 0} (flash : N → Flash) (honest : N → Bool) (erases : N → ℕ) (old : Device N) (result : Result (Unit {0}) DeviceFault) (new : Device N) : Type 0 where
+  pub refuses : RefusesUpkeep old result new
+  pub turned : OnOk result (HasTurned (ram old.engine) (ram new.engine))
+  pub rests : HasNoneAiling (ram old.engine).blocks → old.engine.pinned ≡ None → 12 ≤ free_count (ram old.engine).blocks → OnOk result (new.engine ≡ old.engine)
+  pub quiet : honest old.engine.nand ≡ true → IsWell flash old → OnOk result (IsQuiet erases old.engine new.engine)
+  pub falls : honest old.engine.nand ≡ true → IsWell flash old → HasNoneAiling (ram old.engine).blocks → OnOk result (HasFallen flash erases old.engine new.engine)
+  pub rescued : honest old.engine.nand ≡ true → IsWell flash old → OnOk result (HasRescued (ram old.engine) (ram new.engine))
+  pub worked : honest old.engine.nand ≡ true → IsWell flash old → HasAiling (ram old.engine).blocks → OnOk result (HasWorked (ram old.engine) (ram new.engine) (erases old.engine.nand) (erases new.engine.nand))
+
+-- and where the command is one
+abbrev pub TakesIfTurn : {N : Type 0} → (N → Flash) → (N → Bool) → (N → ℕ) → step.Command → Device N → Result (Unit {0}) DeviceFault → Device N → Type 0
+TakesIfTurn flash honest erases (step.Read sector) old result new = Unit {0}
+TakesIfTurn flash honest erases (step.Write sector body) old result new = Unit {0}
+TakesIfTurn flash honest erases (step.Trim sector) old result new = Unit {0}
+TakesIfTurn flash honest erases step.Flush old result new = Unit {0}
+TakesIfTurn flash honest erases step.Turn old result new = TakesTurn flash honest erases old result new
+
+-- ONE CALL, as a run needs it: what holds whatever the die does, and then what is true of an honest die that gave every outcome.
+pub record Tells {N : Type 0} (flash : N → Flash) (honest : N → Bool) (failed erases : N → ℕ) (old : Device N) (x : Exchange) (new : Device N) : Type 0 where
+  pub device : IsDevice flash new
+  pub sized : new.engine.geometry ≡ old.engine.geometry
+  pub limits : HasLimitsOf old.engine.mapping new.engine.mapping
+  pub honest_is : honest new.engine.nand ≡ honest old.engine.nand
+  pub failed_is : failed old.engine.nand ≤ failed new.engine.nand
+  -- a stopped device answers its fault, and the fault that stopped it is the one that it answered
+  pub stopped : ForSome (stop_of old.engine.fault) (λ fault. (x.result ≡ Err fault) × (new ≡ old))
+  pub stops : IfErr x.result (λ fault. Stops x.command fault → stop_of new.engine.fault ≡ Some fault)
+  pub standing : ForSome (stop_of new.engine.fault) (λ fault. x.result ≡ Err fault)
+  pub rose : stop_of old.engine.fault ≡ None → x.result ≡ Err BusFault → HasRisen (failed old.engine.nand) (failed new.engine.nand)
+  pub well : honest old.engine.nand ≡ true → IsWell flash old → x.result ≢ Err BusFault → IsWell flash new
+  pub happened : honest old.engine.nand ≡ true → IsWell flash old → x.result ≢ Err BusFault → Happened flash old x new
+  pub turned : TakesIfTurn flash honest erases x.command old x.result new
+
+-- EACH CALL DID WHAT IT PROMISES, from a device to the next: a chain of devices, from the one to the other
+abbrev pub ToldEach : {N : Type 0} → (N → Flash) → (N → Bool) → (failed erases : N → ℕ) → Device N → List Exchange → Device N → Type 0
+ToldEach flash honest failed erases old [] new = new ≡ old
+ToldEach {N} flash honest failed erases old (x ∷ xs) new = (mid : Device N) × Tells flash honest failed erases old x mid × ToldEach flash honest failed erases mid xs new

@@ -1,0 +1,12 @@
+ghost use Rattle.command_queue.specs.Turns.{TurnsInARowLaw, QuietTurnLaw};
+
+use onfi_cycles::Nand;
+
+/// Of as many turns in a row as a block has pages, all done and without a failure, begun while no bad
+/// block held a newest page, one erases a block or finds nothing to do. And a turn that is done, programs
+/// nothing and erases nothing leaves twelve free blocks, where three more are good than the geometry asks
+/// for. (This project.)
+pub fn turn_run_laws<N: Nand>()
+    ensures row { TurnsInARowLaw N.flash N.honest N.failed N.erases }
+    ensures quiet { QuietTurnLaw N.flash N.honest N.failed N.erases }
+{}

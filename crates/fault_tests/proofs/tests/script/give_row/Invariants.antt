@@ -1,0 +1,5 @@
+use Rattle.std.proofs.Common.{◌≡◌}
+use Rattle.fault_tests.proofs.tests.script.give_row.Given as goal
+
+abbrev pub invariant-loop-its : goal.invariant-loop-its
+invariant-loop-its g l = l.driver.geometry ≡ l.geometry

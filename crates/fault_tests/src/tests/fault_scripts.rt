@@ -1,0 +1,112 @@
+// Four hundred calls, of which each program and erase fails in turn, alone and with those after it.
+ghost use Rattle.std.specs.Prelude.{◌≡◌, IfOk};
+ghost use Rattle.ftl_device.specs.Device.{IsDevice};
+
+use super::script::{Script, change, compare};
+use device_bench::bench::{formatted_die, given_up, small, started};
+use device_bench::calls::Call;
+use ftl_device::Device;
+use onfi_cycles::Nand;
+use page_layout::geometry::Geometry;
+use std::alloc::Global;
+use std::process::Abort;
+use std::test::Fail;
+
+// So far apart are the changes that fail first: with 1 here each is tried, which takes some minutes.
+const EACH: u16 = 7;
+
+// Call i.
+fn nth_call(i: u32) -> Call {
+    match (i % 16, i % 8) {
+        (15, _) => Call::Flush,
+        (14, _) => Call::Turn,
+        (_, 3) => Call::Trim(i.wrapping_mul(5) % 32),
+        _ => Call::Write(i.wrapping_mul(11) % 32, (i % 251) as u8),
+    }
+}
+
+// Makes the calls up to the one after which so few blocks are good. All sectors are compared after each.
+fn give_until<N: Nand>(
+    rt: &impl Abort,
+    device: &mut Device<N>,
+    script: &mut Script,
+    good: u32,
+) -> Result<(), Fail>
+    requires { IsDevice N.flash device.old }
+    ensures { IsDevice N.flash device.new }
+{
+    for i in 0..400 {
+        if device.engine.blocks.good() > good {
+            change(rt, device, script, nth_call(i))?;
+            compare(device, script)?;
+        }
+    }
+    Ok(())
+}
+
+// The calls of a device with a cache of four, up to the one after which so few blocks are good. The die is
+// mounted then with a cache of twelve, and the sectors are compared again.
+fn give_on<N: Nand + Drop>(
+    rt: &impl Abort,
+    alloc: Global,
+    nand: N,
+    geometry: &Geometry,
+    good: u32,
+) -> Result<N, Fail>
+    requires { (N.flash nand).geometry ≡ geometry.now }
+{
+    let mut script = Script::new();
+    let mut device = started(alloc, nand, geometry, 4)?;
+    give_until(rt, &mut device, &mut script, good)?;
+    let (nand, geometry) = given_up(device);
+    let mut device = started(alloc, nand, &geometry, 12)?;
+    compare(&mut device, &script)?;
+    Ok(device.into_nand())
+}
+
+// Gives them on a new die, of which these changes fail. Its own changes, none of them illegal.
+fn changes_with(
+    rt: &impl Abort,
+    alloc: Global,
+    failing: &[u16],
+    page_left: usize,
+    good: u32,
+) -> Result<u64, Fail> {
+    let geometry = small()?;
+    let driver = formatted_die(alloc, geometry, failing, page_left)?;
+    let die = give_on(rt, alloc, driver, &geometry, good)?.into_bus();
+    assert_eq!(rt; die.abuse(), 0, "{failing:?}");
+    Ok(die.changes().saturating_sub(2))
+}
+
+// Each change fails, and so many after it: to the call in which the last of them did, and to the end.
+fn hold_each(rt: &impl Abort, alloc: Global, count: u16) -> Result<(), Fail> {
+    let changes = changes_with(rt, alloc, &[], 0, 0)?;
+    assert!(rt; changes > 400 && changes < 10_000, "{changes}");
+    for first in 1..=changes as u16 {
+        if first % EACH == 0 {
+            let failing = [first, first.wrapping_add(1), first.wrapping_add(2)];
+            let failing = &failing[..usize::from(count).min(3)];
+            let page_left = if first % 2 == 1 { 0 } else { 96 };
+            let left = 32u32.saturating_sub(u32::from(count));
+            changes_with(rt, alloc, failing, page_left, left)?;
+            changes_with(rt, alloc, failing, page_left, 0)?;
+        }
+    }
+    Ok(())
+}
+
+#[test]
+fn one_failure_is_mended(rt: HostRuntime) -> Result<(), Fail> {
+    hold_each(&rt, rt.alloc(), 1)
+}
+
+#[test]
+fn two_failures_are_mended(rt: HostRuntime) -> Result<(), Fail> {
+    hold_each(&rt, rt.alloc(), 2)
+}
+
+#[test]
+fn three_failures_keep_the_sectors(rt: HostRuntime) -> Result<(), Fail> {
+    hold_each(&rt, rt.alloc(), 3)
+}
