@@ -196,4 +196,5 @@ def main():
     print(f"{comparison.compared} answers compared, all the same")
 
 
-main()
+if __name__ == "__main__":
+    main()

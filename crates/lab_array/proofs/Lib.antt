@@ -1,0 +1,2 @@
+pub mod WritingLemmas
+pub mod WrittenLemmas

@@ -1,0 +1,5 @@
+pub mod Files
+pub mod Text
+pub mod Report
+pub mod Array
+pub mod Program

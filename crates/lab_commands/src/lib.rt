@@ -1,0 +1,13 @@
+//! The commands of the program `nandlab`, on dumps of one NAND die: what each writes and prints, and the line and the exit status of
+//! each refusal. The caller gives the files and the writers.
+#![tactic(auto)]
+
+mod array;
+mod files;
+mod program;
+mod report;
+mod text;
+
+pub use files::{FileFault, LabFiles};
+pub use program::run;
+pub use text::{LabFault, tell};

@@ -1,0 +1,52 @@
+//! The program's commands.
+ghost use Rattle.std.specs.Prelude.{OnOk, IfErr};
+ghost use Rattle.lab_words.specs.Words.{texts};
+ghost use Rattle.lab_commands.specs.Array.{IsUndone};
+ghost use Rattle.lab_commands.specs.Program.{Obeyed, Runs};
+
+use crate::array::array_command;
+use crate::files::LabFiles;
+use crate::text::{DONE, LabFault, tell};
+use lab_words::{Asked, WordsFault, parse};
+use std::alloc::Global;
+use std::io::Write;
+
+// Does what the words ask.
+fn obey<'a, F: LabFiles, W: Write>(
+    alloc: Global,
+    words: &'a [&'a str],
+    files: &mut F,
+    out: &mut W,
+) -> Result<(), LabFault<'a>>
+    ensures ok { OnOk result (Obeyed (F.gives files.old) (F.says_file files.old) (F.says_same files.old) (texts words.now) (F.kept files.old) (F.kept files.new) (W.contents out.old) (W.contents out.new)) }
+    ensures err { IfErr result (IsUndone (F.kept files.old) (F.kept files.new) (W.contents out.old) (W.contents out.new)) }
+{
+    match parse(alloc, words) {
+        Ok(Asked::Array(read)) => array_command(alloc, read, files, out),
+        Ok(Asked::Text(text)) => match out.write_all(text.as_bytes()) {
+            Ok(()) => Ok(()),
+            Err(_) => Err(LabFault::Write("-")),
+        },
+        Err(WordsFault::NoSuchCommand) => Err(LabFault::NoSuchCommand),
+        Err(WordsFault::OutOfMemory) => Err(LabFault::OutOfMemory),
+    }
+}
+
+/// Does what the words say, and answers the exit status: 0 done, 1 refused, 2 usage, 3 input or output. `words` begins with the
+/// program's name. Of a command that was not done one line goes to `err`, and nothing to `out` unless it is `out` that failed.
+///
+/// (The words, the lines and the statuses are this project's.)
+pub fn run<F: LabFiles, W: Write, E: Write>(
+    alloc: Global,
+    words: &[&str],
+    files: &mut F,
+    out: &mut W,
+    err: &mut E,
+) -> u8
+    ensures { Runs (F.gives files.old) (F.says_file files.old) (F.says_same files.old) (texts words.now) (F.kept files.old) (F.kept files.new) (W.contents out.old) (W.contents out.new) (E.contents err.old) (E.contents err.new) result }
+{
+    match obey(alloc, words, files, out) {
+        Ok(()) => DONE,
+        Err(fault) => tell(&fault, err),
+    }
+}

@@ -1,0 +1,9 @@
+//! One pass over a dump, a raw image of one NAND die that a reader gives: what each page is, in row order, handed to a taker. The
+//! dump is never held: one page is.
+#![tactic(auto)]
+
+mod look;
+mod pages;
+
+pub use look::{Look, look_at};
+pub use pages::{ScanFault, Stopped, Taker, scan};

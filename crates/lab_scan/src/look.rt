@@ -1,0 +1,35 @@
+//! What one page of a dump is.
+ghost use Rattle.std.specs.Prelude.{◌≡◌, length};
+ghost use Rattle.page_layout.specs.Page.{page};
+ghost use Rattle.lab_scan.specs.Look.{look_of};
+
+use page_layout::geometry::Geometry;
+use page_layout::record::{Record, is_erased, read_record};
+
+/// What a page is.
+#[derive(Clone, Copy, Debug, PartialEq, Eq)]
+pub enum Look {
+    /// Sound, with this record.
+    Sound(Record),
+    /// As an erase leaves it: all its bytes are FFh.
+    Erased,
+    /// Neither. It may have been the newest page of anything.
+    Unsound,
+}
+
+/// What a page is with this data area and this spare area, of the lengths that the geometry says.
+#[tactic(auto, unfolding(crate::specs::Look::look_of))]
+pub fn look_at(geometry: &Geometry, body: &[u8], spare: &[u8]) -> Look
+    requires body_whole { length body.now ≡ geometry.now.data_bytes }
+    requires spare_whole { length spare.now ≡ geometry.now.spare_bytes }
+    ensures { result ≡ look_of (page body.now spare.now) }
+{
+    if let Some(found) = read_record(geometry, body, spare) {
+        return Look::Sound(found);
+    }
+    if is_erased(body, spare) {
+        Look::Erased
+    } else {
+        Look::Unsound
+    }
+}

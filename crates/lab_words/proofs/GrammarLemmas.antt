@@ -1,0 +1,55 @@
+-- The grammar is one of which `clap` tells what it makes of all words.
+use Rattle.std.proofs.Common.{◌≡◌, ◌⊎◌, inl, inr, ℕ, ◌<◌, true, List, Option, Some, None, IfSome, option_map, refl, ap, sym, subst, ◌∙◌, arith}
+use Rattle.std.specs.Prelude.{◌↔◌, IsTrue, nat_lt}
+use Rattle.std.specs.Borrow.{Bor}
+use Rattle.std.proofs.lemmas.Bool.Decides.{nat_tests}
+use Rattle.clap.specs.declared.parser.matches.Found.{Found}
+use Rattle.clap.specs.declared.parser.matches.ArgMatches.{ArgMatches}
+use Rattle.clap.specs.declared.error.Error.{Error}
+use Rattle.clap.specs.declared.error.kind.ErrorKind.TheVariants.{DisplayHelp, DisplayVersion, OutOfMemory}
+use Rattle.clap.specs.Kinds.{Kinds, HasKind, IsAmong}
+use Rattle.clap.specs.Matches.{first_value, subcommand_name_of}
+use Rattle.clap.specs.Walk.{Row, Text, first_of, rows_of}
+use Rattle.clap.specs.Simple.{subcommand_rows_of}
+use Rattle.clap.proofs.WalkLemmas.{first_value-rows}
+use Rattle.clap.specs.Simple.{is_simple}
+use Rattle.clap.specs.Faults.{is_simple_and_free}
+use Rattle.clap.proofs.OnLiterals.{clap_on_literals}
+use Rattle.lab_words.specs.Words.{grammar, IsTextFor}
+
+pub simple_grammar : is_simple_and_free grammar ≡ true
+unfolding clap_on_literals
+simple_grammar = refl
+
+pub plain_grammar : is_simple grammar ≡ true
+unfolding clap_on_literals
+plain_grammar = refl
+
+-- ---- what the matches give
+
+pub if_more : {X : Type 0} (o : Option X) (P Q : X → Type 0) → IfSome o P → ((x : X) → P x → Q x) → IfSome o Q
+if_more None P Q h more = tt
+if_more (Some x) P Q h more = more x h
+
+-- a place's word, where the matches have one
+pub word_at : (f : Found) (id : Text) (r : Option (Bor Text)) (s : Bor Text) → option_map (λ t. t.now) r ≡ first_value f id → r ≡ Some s → first_of id (rows_of f) ≡ Some s.now
+word_at f id r s e some = sym (e ∙ first_value-rows f id) ∙ ap (option_map (λ (t : Bor Text). t.now)) some
+
+map_map : {A B C : Type 0} (g : B → C) (f : A → B) (o : Option A) → option_map g (option_map f o) ≡ option_map (λ a. g (f a)) o
+map_map g f None = refl
+map_map g f (Some a) = refl
+
+-- the name of the command that was named
+pub rows_name : (m : ArgMatches) → option_map (λ p. p.0) (subcommand_rows_of m) ≡ subcommand_name_of m
+rows_name m = map_map (λ (p : Text × List Row). p.0) _ _
+
+-- more than none
+pub forced_is : (m n : ℕ) → m ≡ n → IsTrue (nat_lt 0 m) ↔ (0 < n)
+forced_is m n e = (λ t. grind (arith, nat_tests), λ l. grind (arith, nat_tests))
+
+-- the text of help or of the version is what the words ask for
+pub text_asked : (e : Error) (ks : Kinds) → IsTextFor e → HasKind ks e → IsAmong DisplayHelp ks ⊎ IsAmong DisplayVersion ks
+text_asked e ks (inl h) (inl m) = absurd (let clash : DisplayHelp ≡ OutOfMemory = sym h ∙ m in cc)
+text_asked e ks (inl h) (inr a) = inl (subst (λ k. IsAmong k ks) h a)
+text_asked e ks (inr h) (inl m) = absurd (let clash : DisplayVersion ≡ OutOfMemory = sym h ∙ m in cc)
+text_asked e ks (inr h) (inr a) = inr (subst (λ k. IsAmong k ks) h a)

@@ -1,0 +1,6 @@
+//! What the words of the command line of `nandlab` mean, as `clap` reads them. No file is looked at, and no number is read.
+#![tactic(auto)]
+
+mod words;
+
+pub use words::{ArrayWords, Asked, WordsFault, parse};

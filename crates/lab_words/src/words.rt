@@ -1,0 +1,142 @@
+//! The words of the command line: one level of subcommands, with help and a version.
+ghost use Rattle.std.specs.Prelude.{◌≡◌, ◌≢◌, ◌↔◌, ◌<◌, [], List, ℕ, IfOk, IfSome, IfErr, OnOk, Some, codes, false, option_map, IsTrue};
+ghost use Rattle.clap.specs.declared.builder.command.Command.{out-Command};
+ghost use Rattle.clap.specs.Words.{app_of, first_of, found_of, rows_of, rule_of, fault_of, subcommand_of, subcommand_rows_of, count_of};
+ghost use Rattle.lab_words.specs.Words.{AreRead, IsAsked, IsTextFor, texts};
+
+use clap::error::ErrorKind;
+use clap::{Arg, ArgAction, ArgMatches, Command, Error};
+use std::alloc::{AllocError, Global};
+
+/// The words of `array GEOM DUMP OUT`.
+#[derive(Clone, Copy)]
+pub struct ArrayWords<'a> {
+    pub geometry: &'a str,
+    pub dump: &'a str,
+    pub out: &'a str,
+    /// Whether a file OUT may be replaced.
+    pub force: bool,
+}
+
+/// What the words ask for.
+#[derive(Drop)]
+pub enum Asked<'a> {
+    /// The array of a dump.
+    Array(ArrayWords<'a>),
+    /// This text, of help or of the version.
+    Text(String),
+}
+
+/// Why the words ask for nothing.
+#[derive(Clone, Copy, Debug, PartialEq, Eq)]
+pub enum WordsFault {
+    /// They are no command that the program has.
+    NoSuchCommand,
+    /// A growth was refused.
+    OutOfMemory,
+}
+
+impl From<AllocError> for WordsFault {
+    ghost use Rattle.std.specs.Prelude.{◌≡◌};
+    ghost use Rattle.lab_words.specs.declared.words.WordsFault.{WordsFault};
+
+    ghost from_gives = { λ _ fault. fault ≡ WordsFault.OutOfMemory };
+
+    fn from(_error: AllocError) -> WordsFault {
+        WordsFault::OutOfMemory
+    }
+}
+
+// A word that a command wants, and what it is for.
+fn place<'a>(alloc: Global, id: &'a str, help: &'a str) -> Arg<'a>
+    ensures rule { rule_of result ≡ Rattle.lab_words.specs.Words.place id.now }
+    ensures local { result.global ≡ false }
+{
+    Arg::new(alloc, id)
+        .required(true)
+        .action(ArgAction::Set)
+        .help(help)
+}
+
+// The word that lets a file be replaced.
+fn force<'a>(alloc: Global) -> Arg<'a>
+    ensures rule { rule_of result ≡ Rattle.lab_words.specs.Words.force }
+    ensures local { result.global ≡ false }
+{
+    Arg::new(alloc, "force")
+        .long("force")
+        .action(ArgAction::Count)
+        .help("Replaces OUT where there is such a file")
+}
+
+// The command `array`.
+fn array<'a>(alloc: Global) -> Result<Command<'a>, AllocError>
+    ensures app { IfOk result (λ command. app_of command ≡ Rattle.lab_words.specs.Words.array) }
+    ensures local { IfOk result (λ command. (out-Command command).has_globals ≡ false) }
+{
+    Command::new(alloc, "array")
+        .about("Writes every sector of a dump, as a disk image")
+        .arg(place(alloc, "GEOM", "data,spare,pages,blocks,sectors: five numbers"))?
+        .arg(place(alloc, "DUMP", "The dump: the pages in row order, each data area then spare area"))?
+        .arg(place(alloc, "OUT", "The disk image to be written"))?
+        .arg(force(alloc))
+}
+
+// The commands that the program has.
+fn grammar<'a>(alloc: Global) -> Result<Command<'a>, AllocError>
+    ensures { IfOk result (λ command. app_of command ≡ Rattle.lab_words.specs.Words.grammar) }
+{
+    Command::new(alloc, "nandlab")
+        .version("0.1.0")
+        .about("Tools for recovery laboratories, on dumps of one NAND die")
+        .disable_help_subcommand(true)
+        .subcommand_required(true)
+        .subcommand(array(alloc)?)
+}
+
+// The text of help or of the version, where that was asked for.
+fn text_of(alloc: Global, error: &Error) -> Result<String, WordsFault>
+    ensures asked { OnOk result (IsTextFor error.now) }
+{
+    match error.kind() {
+        ErrorKind::DisplayHelp | ErrorKind::DisplayVersion => Ok(error.to_string(alloc)?),
+        ErrorKind::OutOfMemory => Err(WordsFault::OutOfMemory),
+        _ => Err(WordsFault::NoSuchCommand),
+    }
+}
+
+// The words of the command `array`, where its matches give them.
+fn words_found<'a>(found: &ArgMatches<'a>) -> Option<ArrayWords<'a>>
+    ensures { IfSome result (AreRead (rows_of (found_of found.now))) }
+{
+    Some(ArrayWords {
+        geometry: found.get_str("GEOM")?,
+        dump: found.get_str("DUMP")?,
+        out: found.get_str("OUT")?,
+        force: found.get_count("force") > 0,
+    })
+}
+
+// The words of the command `array`, where the matches are its.
+fn array_found<'a>(matches: &ArgMatches<'a>) -> Option<ArrayWords<'a>>
+    ensures { IfSome result (λ read. Rattle.lab_words.specs.Words.IsArrayOf (subcommand_rows_of matches.now) read) }
+{
+    words_found(matches.subcommand_matches("array")?)
+}
+
+/// What the words ask for, of which the first is the program's name: as `clap` reads them.
+///
+/// # Errors
+///
+/// `NoSuchCommand` where `clap` refuses the words. `OutOfMemory` where a growth was refused.
+pub fn parse<'a>(alloc: Global, words: &'a [&'a str]) -> Result<Asked<'a>, WordsFault>
+    ensures { IfOk result (IsAsked (texts words.now)) }
+{
+    match grammar(alloc)?.try_get_matches_from(words) {
+        Ok(matches) => match array_found(&matches) {
+            Some(read) => Ok(Asked::Array(read)),
+            None => Err(WordsFault::NoSuchCommand),
+        },
+        Err(error) => Ok(Asked::Text(text_of(alloc, &error)?)),
+    }
+}

@@ -1,0 +1,46 @@
+//! `nandlab`: tools for recovery laboratories, on dumps of one NAND die.
+#![tactic(auto)]
+
+mod system;
+
+use lab_commands::{LabFault, run, tell};
+use std::alloc::{AllocError, Global};
+use std::env;
+use std::io::Write;
+use std::process::ExitCode;
+use std::rt::{Env, Files};
+use system::SystemFiles;
+
+// The words of the command line, in their order, as they are handed on.
+fn word_slices(alloc: Global, kept: &[String]) -> Result<Vec<&str>, AllocError> {
+    kept.iter().map(|word| word.as_str()).collect(alloc)
+}
+
+// Does what the words of the command line say, over the system's files. Words that are no text are no command.
+fn run_over<S: Env + Files + AllocGlobal, W: Write, E: Write>(
+    system: &S,
+    out: &mut W,
+    err: &mut E,
+) -> u8 {
+    let Ok(found) = env::args(system) else {
+        return tell(&LabFault::NoSuchCommand, err);
+    };
+    let kept: Result<Vec<String>, AllocError> = found.collect(system.alloc());
+    let Ok(kept) = kept else {
+        return tell(&LabFault::OutOfMemory, err);
+    };
+    match word_slices(system.alloc(), &kept) {
+        Ok(words) => run(
+            system.alloc(),
+            &words,
+            &mut SystemFiles::new(system),
+            out,
+            err,
+        ),
+        Err(_) => tell(&LabFault::OutOfMemory, err),
+    }
+}
+
+fn main(rt: HostRuntime) -> ExitCode {
+    ExitCode::from(run_over(&rt, &mut rt.stdout(), &mut rt.stderr()))
+}
