@@ -206,6 +206,9 @@ impl<N: Nand> Engine<N> {
             IsPageFor self.old.geometry (image_in N.flash self.old) self.old.mapping body.now (key_of written.now) →
             OnOk result (array_of self.old.geometry (image_in N.flash self.new) ≡
             array_after self.old.geometry written.now.kind written.now.number body.now (array_of self.old.geometry (image_in N.flash self.old))) }
+        ensures stops { N.honest self.old.nand ≡ true → self.old.fault ≡ None → IsTrue None (ram self.old) (image_in N.flash self.old) →
+            IsPageFor self.old.geometry (image_in N.flash self.old) self.old.mapping body.now (key_of written.now) → result ≢ Err WriteFault.Bus →
+            Stops N.flash N.recorded (IsKeptOr self.old.geometry (image_in N.flash self.old) (image_in N.flash self.new)) self.old self.new }
     {
         let of_kind = stream == Stream::of(written.kind);
         prove!(of_kind);

@@ -11,3 +11,8 @@ returns-clause-array g c = λ honest none w fits.
 pub returns-clause-truth : goal.returns-clause-truth
 returns-clause-truth g c = λ honest none w fits.
     rw (c.noted.ensures.same, c.noted.ensures.noted) (result_noted _ c.args.written.now.kind c.args.written.now.number c.args.body.now (ram c.args.self.now) (ram c.put_page-answer.new.self) (image_in g.N.PageSource.flash c.args.self.now) (image_in g.N.PageSource.flash c.put_page-answer.new.self) c.put_page-answer.result (search rules))
+
+-- ---- what a stop leaves
+
+pub returns-clause-stops : goal.returns-clause-stops
+returns-clause-stops g c = λ honest none w fits. rw (c.noted.ensures.same, c.noted.ensures.noted) (λ ne. c.put_page-answer.ensures.stops honest (search rules) ne)
