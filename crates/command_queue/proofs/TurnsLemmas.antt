@@ -81,7 +81,7 @@ module _ {N : Type 0} (flash : N → Flash) (honest : N → Bool) (failed erases
       let its = each.1 in
       let on : left (ram each.0.engine) (image_in flash each.0.engine) < length xs → OneRests flash honest failed erases each.0 events xs new each.2 = λ less.
       row each.0 new events xs its.tells.device (its.tells.honest_is ∙ is_honest) (well_then old each.0 event x well is_honest turns.0.0 turns.0.1 its) (none_then old each.0 event x well is_honest turns.0.0 turns.0.1 its device nowhere.0 none) less turns.1
-          (subst (λ (g : Geometry). FailNowhere g events) (sym its.tells.sized) nowhere.1) each.2 in
+      (subst (λ (g : Geometry). FailNowhere g events) (sym its.tells.sized) nowhere.1) each.2 in
       elim (falls old each.0 event x well is_honest turns.0.0 turns.0.1 its none) [
         | inl same ↦ inl same
         | inr (inl rose) ↦ inr (inl rose)

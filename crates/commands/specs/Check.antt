@@ -108,15 +108,15 @@ IsCheckFault gives tells words before after stop =
     ⊎ ((g : Geometry) × (capacity : ℕ) × (known : Option (List ℕ)) × AsksForCapacity words g capacity × IsOpened gives tells words.image.now known × IsUnread gives words.certificate.now stop)
     ⊎ ((g : Geometry) × (capacity : ℕ) × (known : Option (List ℕ)) × (written : List ℕ) × HasFiles gives tells words g capacity known written × IsNoCertificate written stop)
     ⊎ ((g : Geometry) × (capacity : ℕ) × (known : Option (List ℕ)) × (written : List ℕ) × (c : Claim)
-        × HasFiles gives tells words g capacity known written × IsSpelled c written × IsUnheld g capacity words.image.now known c stop)
+    × HasFiles gives tells words g capacity known written × IsSpelled c written × IsUnheld g capacity words.image.now known c stop)
     ⊎ ((g : Geometry) × (capacity : ℕ) × (known : Option (List ℕ)) × (written : List ℕ) × (c : Claim)
-        × HasFiles gives tells words g capacity known written × IsSpelled c written × IfSome known (λ bytes. IsHeld g capacity bytes c)
-        × IsUnprinted accepted_line before after stop)
+    × HasFiles gives tells words g capacity known written × IsSpelled c written × IfSome known (λ bytes. IsHeld g capacity bytes c)
+    × IsUnprinted accepted_line before after stop)
 
 -- What the command came to, with the bytes of standard output before and after.
 abbrev pub DoesCheck : Gives → Bool → CertificateWords → Option (List ℕ) → Option (List ℕ) → Result (Unit {0}) CommandFault → Type 0
 DoesCheck gives tells words before after (Ok done) =
     (g : Geometry) × (capacity : ℕ) × (known : Option (List ℕ)) × (written : List ℕ) × (c : Claim)
-        × HasFiles gives tells words g capacity known written × IsSpelled c written × IfSome known (λ bytes. IsHeld g capacity bytes c)
+    × HasFiles gives tells words g capacity known written × IsSpelled c written × IfSome known (λ bytes. IsHeld g capacity bytes c)
     × Appends before after accepted_line
 DoesCheck gives tells words before after (Err stop) = IsKept stop before after × IsCheckFault gives tells words before after stop

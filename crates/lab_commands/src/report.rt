@@ -70,7 +70,10 @@ fn print_age<W: Write>(out: &mut W, unsound: u32) -> io::Result<()>
     ensures { OnOk result (Appends (W.contents out.old) (W.contents out.new) (age_line unsound)) }
 {
     if unsound == 0 {
-        writeln!(out, "unsound 0: the array is that of every page that was programmed")
+        writeln!(
+            out,
+            "unsound 0: the array is that of every page that was programmed"
+        )
     } else {
         print_doubt(out, unsound)
     }

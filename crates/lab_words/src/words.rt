@@ -76,8 +76,16 @@ fn array<'a>(alloc: Global) -> Result<Command<'a>, AllocError>
 {
     Command::new(alloc, "array")
         .about("Writes every sector of a dump, as a disk image")
-        .arg(place(alloc, "GEOM", "data,spare,pages,blocks,sectors: five numbers"))?
-        .arg(place(alloc, "DUMP", "The dump: the pages in row order, each data area then spare area"))?
+        .arg(place(
+            alloc,
+            "GEOM",
+            "data,spare,pages,blocks,sectors: five numbers",
+        ))?
+        .arg(place(
+            alloc,
+            "DUMP",
+            "The dump: the pages in row order, each data area then spare area",
+        ))?
         .arg(place(alloc, "OUT", "The disk image to be written"))?
         .arg(force(alloc))
 }
