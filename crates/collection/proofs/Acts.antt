@@ -1,8 +1,9 @@
 -- What the engine's calls say alike holds of one after another.
-use Rattle.std.proofs.Common.{◌≡◌, ◌≢◌, ℕ, Bool, Option, Some, None, Result, Ok, Err, IsOk, MatchOption, refl, ap, ◌∙◌, arith}
+use Rattle.std.proofs.Common.{◌≡◌, ◌≢◌, ℕ, Bool, Option, Some, None, Result, Ok, Err, IsOk, MatchOption, refl, ap, sym, ◌∙◌, arith}
 use Rattle.page_layout.specs.Flash.{Flash}
 use Rattle.page_layout.specs.Recording.{Recording}
 use Rattle.page_layout.specs.OnlyReads.{OnlyReads}
+use Rattle.collection.specs.declared.engine.Buffer.{Buffer}
 use Rattle.collection.specs.declared.engine.Engine.{Engine}
 use Rattle.collection.specs.declared.fault.WriteFault.{WriteFault}
 use Rattle.collection.specs.declared.fault.WriteFault.TheVariants.{Bus}
@@ -24,10 +25,15 @@ pub not_standing : {A : Type 0} (fault : Option WriteFault) (x : A) → MatchOpt
 not_standing None x is = refl
 not_standing (Some f) x is = (let never : ⊥ = cc in absurd never)
 
-module _ {N : Type 0} {flash : N → Flash} {honest calm : N → Bool} {failed : N → ℕ} where
+-- what the answer of a fault tells
+pub is_standing : (fault : Option WriteFault) (e : WriteFault) → MatchOption fault (IsOk (err_as (Unit {0}) e)) (λ f. err_as (Unit {0}) e ≡ Err f) → fault ≡ Some e
+is_standing None e is = (let never : ⊥ = cc in absurd never)
+is_standing (Some f) e is = (let same : e ≡ f = cc in ap Some (sym same))
+
+module _ {N : Type 0} {flash : N → Flash} {recorded : N → Option Recording} {honest calm : N → Bool} {failed : N → ℕ} where
   -- ---- calls that act
 
-  pub acts_same : (a : Engine N) → IsSafe flash a → Acts {A = Unit {0}} flash honest calm failed a a (Ok tt)
+  pub acts_same : (a : Engine N) → IsSafe flash a → Acts {A = Unit {0}} flash recorded honest calm failed a a (Ok tt)
   acts_same a safe = record {
     safe = safe;
     fault = refl;
@@ -35,10 +41,10 @@ module _ {N : Type 0} {flash : N → Flash} {honest calm : N → Bool} {failed :
     calm_is = refl;
     failed_is = omega arith;
     rose = λ is. absurd (ok_not_bus tt is);
-    went = λ known ne. went_same (ram a) (flash a.nand);
+    went = λ known ne. went_same (ram a) (flash a.nand) (recorded a.nand);
   }
 
-  pub acts_then : {A B : Type 0} (a b c : Engine N) (x : A) (result : Result B WriteFault) → (ram b).geometry ≡ (ram a).geometry → Acts flash honest calm failed a b (Ok x) → Acts flash honest calm failed b c result → Acts flash honest calm failed a c result
+  pub acts_then : {A B : Type 0} (a b c : Engine N) (x : A) (result : Result B WriteFault) → (ram b).geometry ≡ (ram a).geometry → Acts flash recorded honest calm failed a b (Ok x) → Acts flash recorded honest calm failed b c result → Acts flash recorded honest calm failed a c result
   acts_then a b c x result same p q = record {
     safe = q.safe;
     fault = q.fault ∙ p.fault;
@@ -46,11 +52,11 @@ module _ {N : Type 0} {flash : N → Flash} {honest calm : N → Bool} {failed :
     calm_is = q.calm_is ∙ p.calm_is;
     failed_is = omega (arith, p.failed_is, q.failed_is);
     rose = λ is. risen_over _ _ _ p.failed_is (q.rose is);
-    went = λ known ne. went_then _ _ _ _ _ _ same (p.went known (ok_not_bus x)) (q.went (p.honest_is ∙ known) ne);
+    went = λ known ne. went_then _ _ _ _ _ _ _ _ _ same (p.went known (ok_not_bus x)) (q.went (p.honest_is ∙ known) ne);
   }
 
   -- an answer of another type
-  pub acts_ok : {A B : Type 0} (a b : Engine N) (x : A) (y : B) → Acts flash honest calm failed a b (Ok x) → Acts flash honest calm failed a b (Ok y)
+  pub acts_ok : {A B : Type 0} (a b : Engine N) (x : A) (y : B) → Acts flash recorded honest calm failed a b (Ok x) → Acts flash recorded honest calm failed a b (Ok y)
   acts_ok a b x y p = record {
     safe = p.safe;
     fault = p.fault;
@@ -61,7 +67,7 @@ module _ {N : Type 0} {flash : N → Flash} {honest calm : N → Bool} {failed :
     went = λ known ne. p.went known (ok_not_bus x);
   }
 
-  pub acts_err : {A B : Type 0} (a b : Engine N) (fault : WriteFault) → Acts flash honest calm failed a b (err_as A fault) → Acts flash honest calm failed a b (err_as B fault)
+  pub acts_err : {A B : Type 0} (a b : Engine N) (fault : WriteFault) → Acts flash recorded honest calm failed a b (err_as A fault) → Acts flash recorded honest calm failed a b (err_as B fault)
   acts_err {A} {B} a b fault p = record {
     safe = p.safe;
     fault = p.fault;
@@ -73,7 +79,7 @@ module _ {N : Type 0} {flash : N → Flash} {honest calm : N → Bool} {failed :
   }
 
   -- a call that is refused for another reason than the die
-  pub acts_end : {A B : Type 0} (a b : Engine N) (x : A) (fault : WriteFault) → fault ≢ Bus → Acts flash honest calm failed a b (Ok x) → Acts flash honest calm failed a b (err_as B fault)
+  pub acts_end : {A B : Type 0} (a b : Engine N) (x : A) (fault : WriteFault) → fault ≢ Bus → Acts flash recorded honest calm failed a b (Ok x) → Acts flash recorded honest calm failed a b (err_as B fault)
   acts_end {A} {B} a b x fault other p = record {
     safe = p.safe;
     fault = p.fault;
@@ -84,10 +90,22 @@ module _ {N : Type 0} {flash : N → Flash} {honest calm : N → Bool} {failed :
     went = λ known ne. p.went known (ok_not_bus x);
   }
 
+  -- a call that first filled the page buffer
+  pub acts_filled : {A : Type 0} (a b : Engine N) (page : Buffer) (result : Result A WriteFault) → Acts flash recorded honest calm failed (record a { page = page }) b result → Acts flash recorded honest calm failed a b result
+  acts_filled a b page result p = record {
+    safe = p.safe;
+    fault = p.fault;
+    honest_is = p.honest_is;
+    calm_is = p.calm_is;
+    failed_is = p.failed_is;
+    rose = p.rose;
+    went = p.went;
+  }
+
   -- ---- a fault that stands
 
   -- it is answered again
-  pub stands_still : {A : Type 0} (a : Engine N) (fault : WriteFault) → IsSafe flash a → a.fault ≡ Some fault → Stands flash honest calm failed a a (err_as A fault)
+  pub stands_still : {A : Type 0} (a : Engine N) (fault : WriteFault) → IsSafe flash a → a.fault ≡ Some fault → Stands flash recorded honest calm failed a a (err_as A fault)
   stands_still {A} a fault safe is = record {
     safe = safe;
     standing = λ other e. ((let same : fault ≡ other = cc in ap (λ f. Err f) same), refl);
@@ -96,11 +114,11 @@ module _ {N : Type 0} {flash : N → Flash} {honest calm : N → Bool} {failed :
     calm_is = refl;
     failed_is = omega arith;
     rose = λ none e. (let never : ⊥ = cc in absurd never);
-    went = λ known ne. went_same (ram a) (flash a.nand);
+    went = λ known ne. went_same (ram a) (flash a.nand) (recorded a.nand);
   }
 
   -- it is noted
-  pub acts_noted : {A : Type 0} (a b : Engine N) (result : Result A WriteFault) → a.fault ≡ None → Acts flash honest calm failed a b result → Stands flash honest calm failed a (record b { fault = fault_after b.fault result }) result
+  pub acts_noted : {A : Type 0} (a b : Engine N) (result : Result A WriteFault) → a.fault ≡ None → Acts flash recorded honest calm failed a b result → Stands flash recorded honest calm failed a (record b { fault = fault_after b.fault result }) result
   acts_noted a b result none p = record {
     safe = record { memory = ram_noted _ (ram b) p.safe.memory; geometry = p.safe.geometry; page = p.safe.page; scratch = p.safe.scratch };
     standing = λ fault is. (let never : ⊥ = cc in absurd never);
@@ -109,7 +127,7 @@ module _ {N : Type 0} {flash : N → Flash} {honest calm : N → Bool} {failed :
     calm_is = p.calm_is;
     failed_is = p.failed_is;
     rose = λ same is. p.rose is;
-    went = λ known ne. went_noted _ _ (ram b) _ _ (p.went known ne);
+    went = λ known ne. went_noted _ _ (ram b) _ _ _ _ (p.went known ne);
   }
 
 -- ---- calls that look
@@ -171,7 +189,7 @@ module _ {N : Type 0} {flash : N → Flash} {recorded : N → Option Recording} 
   }
 
   -- a call that only looks acts in no other way
-  pub looked : {A : Type 0} (a b : Engine N) (result : Result A WriteFault) → OnlyLooks flash recorded honest calm programs erases failed a b result → Acts flash honest calm failed a b result
+  pub looked : {A : Type 0} (a b : Engine N) (result : Result A WriteFault) → OnlyLooks flash recorded honest calm programs erases failed a b result → Acts flash recorded honest calm failed a b result
   looked a b result p = record {
     safe = p.safe;
     fault = ap (λ r. r.fault) p.memory;
@@ -179,5 +197,5 @@ module _ {N : Type 0} {flash : N → Flash} {recorded : N → Option Recording} 
     calm_is = p.only_reads.calm_is;
     failed_is = p.only_reads.failed_is;
     rose = p.rose;
-    went = λ known ne. read_went (ram a) (ram b) _ _ p.memory (p.same known ne);
+    went = λ known ne. read_went (ram a) (ram b) _ _ _ _ p.memory (p.same known ne) (p.told known ne);
   }

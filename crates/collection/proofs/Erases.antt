@@ -1,6 +1,6 @@
 -- A block is erased, or fails.
 use Rattle.std.proofs.Common.{◌≡◌, ◌≢◌, inl, inr, ℕ, ◌+◌, ◌*◌, ◌/◌, ◌<◌, ◌≤◌, ◌&&◌, ◌==◌, min, Bool, true, false, not, List, [], ◌∷◌, length, get_or}
-use Rattle.std.proofs.Common.{None, IsSome, refl, ap, sym, ◌∙◌, subst, arith, get_or-set_same}
+use Rattle.std.proofs.Common.{Option, None, IsSome, refl, ap, sym, ◌∙◌, subst, arith, get_or-set_same}
 use Rattle.std.proofs.lemmas.Bool.{cases_eq, eq-eqb, ne_eqb}
 use Rattle.std.proofs.lemmas.Nat.{div-mul-add}
 use Rattle.page_layout.specs.declared.geometry.Geometry.{Geometry}
@@ -8,6 +8,7 @@ use Rattle.page_layout.specs.Geometry.{translation_pages, table_pages, row_count
 use Rattle.page_layout.specs.Page.{Image, Page, IsImage}
 use Rattle.page_layout.specs.Array.{marks}
 use Rattle.page_layout.specs.Flash.{Flash, Erase, Steps}
+use Rattle.page_layout.specs.Recording.{Recording, Records}
 use Rattle.page_layout.specs.Change.{HoldsNone, Keeps, LosesIn, ErasesIn, IsErasedAt, one_if}
 use Rattle.page_layout.proofs.FlashLemmas.{Leads-one, erase_keeps, erase_loses, erase_erases}
 use Rattle.page_layout.proofs.ErasedLemmas.{erases_erased}
@@ -202,10 +203,11 @@ worn_there block passed left w v b ne is most =
     let f : one_if (passed && (block == b)) ≡ 0 = ap (λ t. one_if (passed && t)) e ∙ ap one_if (not_worn passed) in
     omega (arith, f)
 
-pub went_erase : (old new : Ram) (before after : Flash) (block : ℕ) (passed : Bool) (left : List Page) → Steps before (Erase block passed left) after → HasEnded block passed old.blocks new.blocks → new.next ≡ old.next → Went old before new after
-went_erase old new before after block passed left step h next = record {
+pub went_erase : (old new : Ram) (before after : Flash) (told told' : Option Recording) (block : ℕ) (passed : Bool) (left : List Page) → Steps before (Erase block passed left) after → Records told (Erase block passed left ∷ []) told' → HasEnded block passed old.blocks new.blocks → new.next ≡ old.next → Went old before told new after told'
+went_erase old new before after told told' block passed left step records h next = record {
   log = Erase block passed left ∷ [];
   leads = Leads-one before after (Erase block passed left) step;
+  records = records;
   follows = erase_follows old.geometry.pages block passed left old.blocks new.blocks h;
   next = omega (arith, next);
   wears = record {

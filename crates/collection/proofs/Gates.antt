@@ -9,6 +9,7 @@ use Rattle.page_layout.specs.Key.{key_from}
 use Rattle.page_layout.specs.Geometry.{row_count}
 use Rattle.page_layout.specs.Live.{IsKeyOf}
 use Rattle.page_layout.specs.Flash.{Flash}
+use Rattle.page_layout.specs.Recording.{Recording}
 use Rattle.budget.specs.declared.stream.Stream.{Stream}
 use Rattle.mapping_cache.specs.Mapping.{MappingState, known, slot_of, moved_row, known_by}
 use Rattle.mapping_cache.specs.declared.slot.Slot.{Slot}
@@ -41,8 +42,8 @@ module _ (fault : Option WriteFault) where
   pub goes_put_noted : (a b : Ram) → GoesPut a b → GoesPut a (record b { fault = fault })
   goes_put_noted a b x = record { goes = goes_noted a b x.goes; table = x.table; directory = x.directory; mapping = x.mapping; pin = x.pin }
 
-  pub went_noted : (a b : Ram) (x y : Flash) → Went a x b y → Went a x (record b { fault = fault }) y
-  went_noted a b x y w = record { log = w.log; leads = w.leads; follows = w.follows; next = w.next; wears = w.wears }
+  pub went_noted : (a b : Ram) (x y : Flash) (told told' : Option Recording) → Went a x told b y told' → Went a x told (record b { fault = fault }) y told'
+  went_noted a b x y told told' w = record { log = w.log; leads = w.leads; records = w.records; follows = w.follows; next = w.next; wears = w.wears }
 
   pub same_noted : (a b : Ram) (x y : Image) → IsSame a x b y → IsSame a x (record b { fault = fault }) y
   same_noted a b x y k = record { truth = true_noted None b y k.truth; array = k.array; leaves = k.leaves }

@@ -11,6 +11,7 @@ use Rattle.allocation.specs.State.{live_at, is_closed, free_count}
 use Rattle.allocation.specs.Counts.{counts_of}
 use Rattle.budget.specs.Spending.{IsFunded}
 use Rattle.page_layout.specs.Flash.{Flash}
+use Rattle.page_layout.specs.Recording.{Recording}
 use Rattle.page_layout.specs.Counter.{counted}
 use Rattle.page_layout.specs.declared.record.Key.{Key}
 use Rattle.std.specs.Prelude.{IfErr, OnOk, MatchResult}
@@ -154,8 +155,8 @@ module _ (a b : Ram) (to : Option Pinned) where
   counts_from (Err Damaged) k = k
   counts_from (Err Bus) k = k
 
-  pub went_from : (x y : Flash) → Went (pinned_to to a) x b y → Went a x b y
-  went_from x y w = record { log = w.log; leads = w.leads; follows = w.follows; next = w.next; wears = w.wears }
+  pub went_from : (x y : Flash) (told told' : Option Recording) → Went (pinned_to to a) x told b y told' → Went a x told b y told'
+  went_from x y told told' w = record { log = w.log; leads = w.leads; records = w.records; follows = w.follows; next = w.next; wears = w.wears }
 
 pub cost_from : (a b : Ram) (to : Option Pinned) (flushing : Bool) (block : ℕ) (result : Result (Unit {0}) WriteFault) → CollectCosts flushing block (pinned_to to a) b result → CollectCosts flushing block a b result
 cost_from a b to flushing block (Ok u) k = record { mid = k.mid; ledger = ledger_from a k.mid to flushing k.ledger; none = k.none; erase = k.erase }
@@ -193,7 +194,7 @@ sparing_from a b to flushing block (Ok u) k =
     }
 sparing_from a b to flushing block (Err fault) k = tt
 
-pub acts_from : {A N : Type 0} {flash : N → Flash} {honest calm : N → Bool} {failed : N → ℕ} (a b : Engine N) (to : Option Pinned) (result : Result A WriteFault) → Acts flash honest calm failed (record a { pinned = to }) b result → Acts flash honest calm failed a b result
+pub acts_from : {A N : Type 0} {flash : N → Flash} {recorded : N → Option Recording} {honest calm : N → Bool} {failed : N → ℕ} (a b : Engine N) (to : Option Pinned) (result : Result A WriteFault) → Acts flash recorded honest calm failed (record a { pinned = to }) b result → Acts flash recorded honest calm failed a b result
 acts_from a b to result p = record {
   safe = p.safe;
   fault = p.fault;
@@ -201,7 +202,7 @@ acts_from a b to result p = record {
   calm_is = p.calm_is;
   failed_is = p.failed_is;
   rose = p.rose;
-  went = λ known ne. went_from (ram a) (ram b) to _ _ (p.went known ne);
+  went = λ known ne. went_from (ram a) (ram b) to _ _ _ _ (p.went known ne);
 }
 
 -- ---- a block is pinned

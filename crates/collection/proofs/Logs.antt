@@ -1,11 +1,14 @@
 -- Logs of an engine's operations.
-use Rattle.std.proofs.Common.{◌≡◌, ◌≢◌, inl, inr, ℕ, ◌+◌, ◌*◌, ◌/◌, ◌%◌, ◌<◌, min, Bool, true, not, List, [], ◌∷◌, ◌++◌, refl, ap, sym, ◌∙◌, subst, arith}
+use Rattle.std.proofs.Common.{◌≡◌, ◌≢◌, inl, inr, ℕ, ◌+◌, ◌*◌, ◌/◌, ◌%◌, ◌<◌, min, Bool, true, not, List, [], ◌∷◌, ◌++◌, Option, Some, None, refl, ap, sym, ◌∙◌, subst, arith}
 use Rattle.std.proofs.lemmas.Bool.{cases_eq}
+use Rattle.std.proofs.lemmas.List.{append-nil}
 use Rattle.std.proofs.lemmas.Nat.{div-mul-add, mod-mul-add}
 use Rattle.page_layout.specs.declared.geometry.Geometry.{Geometry}
 use Rattle.page_layout.specs.Page.{Page}
 use Rattle.page_layout.specs.Flash.{Flash, Operation, Program}
+use Rattle.page_layout.specs.Recording.{Recording, Records}
 use Rattle.page_layout.proofs.FlashLemmas.{Leads-append, Leads-one}
+use Rattle.page_layout.proofs.RecordingLemmas.{records_join}
 use Rattle.bad_blocks.specs.declared.table.TableRow.{TableRow}
 use Rattle.bad_blocks.specs.Table.{is_good, is_good_at, wear_at, most_wear}
 use Rattle.allocation.specs.State.{State, pointer_at}
@@ -85,13 +88,19 @@ module _ (block row : ℕ) (p left : Page) (passed : Bool) (old new : State) (h 
 
 -- ---- logs
 
-pub went_same : (r : Ram) (s : Flash) → Went r s r s
-went_same r s = record { log = []; leads = refl; follows = record { legal = λ accounts a. tt; accounted = λ accounts a. a }; next = omega arith; wears = record { worn = λ b most. omega arith } }
+-- nothing was done: the record gained nothing
+pub records_none : (told : Option Recording) → Records told [] told
+records_none None = inr refl
+records_none (Some r) = inr (ap (λ l. Some (record { image = r.image; log = l })) (sym (append-nil r.log)))
 
-pub went_one : (old new : Ram) (before after : Flash) (block row : ℕ) (outcome : Outcome) → IsStep row outcome before after → old.blocks.geometry ≡ old.geometry → HasFollowed block (is_passed outcome) old.blocks new.blocks → row ≡ block * old.blocks.geometry.pages + pointer_at old.blocks block → new.next ≡ old.next + 1 → Went old before new after
-went_one old new before after block row outcome step same h row_is next = record {
+pub went_same : (r : Ram) (s : Flash) (told : Option Recording) → Went r s told r s told
+went_same r s told = record { log = []; leads = refl; records = records_none told; follows = record { legal = λ accounts a. tt; accounted = λ accounts a. a }; next = omega arith; wears = record { worn = λ b most. omega arith } }
+
+pub went_one : (old new : Ram) (before after : Flash) (told told' : Option Recording) (block row : ℕ) (outcome : Outcome) → IsStep row outcome before told after told' → old.blocks.geometry ≡ old.geometry → HasFollowed block (is_passed outcome) old.blocks new.blocks → row ≡ block * old.blocks.geometry.pages + pointer_at old.blocks block → new.next ≡ old.next + 1 → Went old before told new after told'
+went_one old new before after told told' block row outcome step same h row_is next = record {
   log = Program row step.its (is_passed outcome) step.left ∷ [];
   leads = Leads-one before after (Program row step.its (is_passed outcome) step.left) step.step;
+  records = step.records;
   follows = (let P : Geometry → Type 0 = λ g. Follows g.pages (Program row step.its (is_passed outcome) step.left ∷ []) old.blocks new.blocks in subst P same (program_follows block row step.its step.left (is_passed outcome) old.blocks new.blocks h row_is));
   next = next;
   wears = record {
@@ -102,12 +111,13 @@ went_one old new before after block row outcome step same h row_is next = record
   };
 }
 
-pub went_then : (a b c : Ram) (x y z : Flash) → b.geometry ≡ a.geometry → Went a x b y → Went b y c z → Went a x c z
-went_then a b c x y z same v w =
+pub went_then : (a b c : Ram) (x y z : Flash) (rx ry rz : Option Recording) → b.geometry ≡ a.geometry → Went a x rx b y ry → Went b y ry c z rz → Went a x rx c z rz
+went_then a b c x y z rx ry rz same v w =
     let follows : Follows a.geometry.pages w.log b.blocks c.blocks = (let P : Geometry → Type 0 = λ g. Follows g.pages w.log b.blocks c.blocks in subst P same w.follows) in
     record {
       log = v.log ++ w.log;
       leads = Leads-append x y z v.log w.log v.leads w.leads;
+      records = records_join rx ry rz v.log w.log v.records w.records;
       follows = record {
         legal = λ accounts s. legal_append a.geometry.pages accounts v.log w.log (v.follows.legal accounts s) (follows.legal (accounted_all a.geometry.pages accounts v.log) (v.follows.accounted accounts s));
         accounted = λ accounts s. rw (accounts_join a.geometry.pages accounts v.log w.log) (follows.accounted (accounted_all a.geometry.pages accounts v.log) (v.follows.accounted accounts s));

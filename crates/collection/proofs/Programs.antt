@@ -1,11 +1,12 @@
 -- What one program does to the die, as its caller sees it.
-use Rattle.std.proofs.Common.{◌≡◌, ◌∙◌, ℕ, List, Result, Ok, Err, Some, IfOk, OnOk, subst, sym}
+use Rattle.std.proofs.Common.{◌≡◌, ◌∙◌, ℕ, List, [], ◌∷◌, Option, Result, Ok, Err, Some, IfOk, OnOk, subst, sym}
 use Rattle.std.specs.Vec.{with_items}
 use Rattle.page_layout.specs.declared.geometry.Geometry.{Geometry}
 use Rattle.page_layout.specs.declared.record.Record.{Record}
 use Rattle.page_layout.specs.Page.{Page, IsImage, page}
 use Rattle.page_layout.specs.Sound.{record_of}
 use Rattle.page_layout.specs.Flash.{Flash, Program, Steps, IsWhole, page_at}
+use Rattle.page_layout.specs.Recording.{Recording, Records}
 use Rattle.page_layout.specs.Change.{ProgramMeans}
 use Rattle.page_layout.proofs.FlashLemmas.{program_means}
 use Rattle.onfi_cycles.specs.declared.nand.Outcome.{Outcome}
@@ -15,9 +16,10 @@ use Rattle.collection.specs.declared.engine.Buffer.{Buffer}
 use Rattle.collection.specs.Safe.{IsBuffer}
 use Rattle.collection.specs.Results.{CanProgram, IsStep}
 
-pub stepped : (row : ℕ) (p : Page) (old new : Flash) (H : Type 0) (result : Result Outcome BusFault) → IfOk result (λ o. H → Steps old (Program row p (is_passed o) (page_at new row)) new) → H → IfOk result (λ o. IsStep row o old new)
-stepped row p old new H (Ok o) step h = record { its = p; left = page_at new row; step = step h }
-stepped row p old new H (Err e) step h = tt
+pub stepped : (row : ℕ) (p : Page) (old new : Flash) (told told' : Option Recording) (H : Type 0) (result : Result Outcome BusFault) → IfOk result (λ o. H → Steps old (Program row p (is_passed o) (page_at new row)) new)
+    → IfOk result (λ o. H → Records told (Program row p (is_passed o) (page_at new row) ∷ []) told') → H → IfOk result (λ o. IsStep row o old told new told')
+stepped row p old new told told' H (Ok o) step records h = record { its = p; left = page_at new row; step = step h; records = records h }
+stepped row p old new told told' H (Err e) step records h = tt
 
 pub image_by : (g : Geometry) (old new : Flash) (H : Type 0) (result : Result Outcome BusFault) → new.geometry ≡ old.geometry → old.geometry ≡ g → OnOk result (H → IsWhole new) → H → OnOk result (IsImage g new.image)
 image_by g old new H (Ok o) same is whole h = (let P : Geometry → Type 0 = λ x. IsImage x new.image in subst P (same ∙ is) (whole h).image_whole)

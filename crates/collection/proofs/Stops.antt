@@ -1,5 +1,6 @@
 -- What stops in calls leave: of one operation, of a page with its tries, and of one call after another.
-use Rattle.std.proofs.Common.{◌≡◌, ◌≢◌, ◌⊎◌, inl, inr, ℕ, ◌+◌, ◌*◌, Bool, true, List, [], ◌∷◌, Option, Some, None, Result, Ok, Err, IfOk, refl, ap, sym, ◌∙◌, subst}
+use Rattle.std.proofs.Common.{◌≡◌, ◌≢◌, ◌⊎◌, inl, inr, ℕ, ◌+◌, ◌*◌, Bool, true, List, [], ◌∷◌, ◌++◌, Option, Some, None, IsSome, Result, Ok, Err, IfOk, refl, ap, sym, ◌∙◌, subst}
+use Rattle.std.proofs.lemmas.List.{append_cancel_left}
 use Rattle.page_layout.specs.declared.geometry.Geometry.{Geometry}
 use Rattle.page_layout.specs.declared.record.Record.{Record}
 use Rattle.page_layout.specs.declared.record.Key.{Key}
@@ -8,7 +9,8 @@ use Rattle.page_layout.specs.Page.{Image, Page}
 use Rattle.page_layout.specs.Array.{array_of}
 use Rattle.page_layout.specs.Change.{Keeps, HoldsNone, LosesIn}
 use Rattle.page_layout.specs.Flash.{Flash, Operation, Program, Erase, Steps, page_at}
-use Rattle.page_layout.specs.Recording.{Recording, Records}
+use Rattle.page_layout.specs.Recording.{Recording, Records, RanOn}
+use Rattle.page_layout.proofs.RecordingLemmas.{ran_on}
 use Rattle.page_layout.proofs.StepLemmas.{Keeps-refl, Keeps-trans, failed_keeps, lost_keeps, array_kept}
 use Rattle.onfi_cycles.specs.declared.nand.Outcome.{Outcome}
 use Rattle.onfi_cycles.specs.declared.nand.BusFault.{BusFault}
@@ -28,8 +30,20 @@ use Rattle.collection.specs.State.{Ram}
 use Rattle.collection.specs.Safe.{IsRam}
 use Rattle.collection.specs.Truth.{IsTrue}
 use Rattle.collection.specs.Results.{CanProgram, IsSame, IsKept, Refused}
-use Rattle.collection.specs.Stops.{IsLeft, IsKeptOr, room_of}
+use Rattle.collection.specs.Stops.{IsLeft, IsKeptOr, OneGainLaw, room_of}
 use Rattle.collection.proofs.Mounts.{orderly}
+
+-- ---- one record, one log
+
+gains_one : (p q r : Recording) (xs ys : List Operation) → p ≡ q → r.log ≡ p.log ++ xs → r.log ≡ q.log ++ ys → xs ≡ ys
+gains_one p q r xs ys same one two = append_cancel_left p.log xs ys (sym one ∙ (two ∙ ap (λ (x : Recording). x.log ++ ys) (sym same)))
+
+pub one_gain : OneGainLaw
+one_gain told None xs ys some one two = cc
+one_gain told (Some r) xs ys some one two =
+    let p : RanOn told xs r = ran_on told (Some r) xs r one refl in
+    let q : RanOn told ys r = ran_on told (Some r) ys r two refl in
+    gains_one p.before q.before r xs ys (let e : Some p.before ≡ Some q.before = sym p.was ∙ q.was in cc) p.gained q.gained
 
 -- ---- the operations
 

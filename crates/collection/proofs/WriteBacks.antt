@@ -12,6 +12,7 @@ use Rattle.page_layout.specs.declared.record.Key.TheVariants.{Sector, Translatio
 use Rattle.page_layout.specs.Page.{Image, Page, body_at}
 use Rattle.page_layout.specs.Geometry.{entries}
 use Rattle.page_layout.specs.Flash.{Flash}
+use Rattle.page_layout.specs.Recording.{Recording}
 use Rattle.page_layout.proofs.ArrayLemmas.{body_page}
 use Rattle.page_layout.proofs.StepLemmas.{array_unwritten}
 use Rattle.mapping_cache.specs.Mapping.{MappingState, per_page, pending}
@@ -96,8 +97,8 @@ read_costs a b SequenceSpent same is = absurd is
 read_costs a b Damaged same is = ap (λ r. r.next) same
 read_costs a b Bus same is = tt
 
-pub read_went : (a b : Ram) (x y : Flash) → b ≡ a → y ≡ x → Went a x b y
-read_went a b x y same still = rw (same, still) (went_same a x)
+pub read_went : (a b : Ram) (x y : Flash) (told told' : Option Recording) → b ≡ a → y ≡ x → told' ≡ told → Went a x told b y told'
+read_went a b x y told told' same still kept = rw (same, still, kept) (went_same a x told)
 
 pub put_costs : (a b c : Ram) (fault : WriteFault) → b ≡ a → PutCosts Meta b c (Err fault) → WriteBackCosts a c (Err fault)
 put_costs a b c ReadOnly same cost = (let P : Ram → Type 0 = λ z. HasRunOut Meta z c in subst P same cost)

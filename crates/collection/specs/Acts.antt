@@ -25,18 +25,18 @@ pub record OnlyLooks {A N : Type 0} (flash : N → Flash) (recorded : N → Opti
   pub told : honest old.nand ≡ true → result ≢ Err Bus → recorded new.nand ≡ recorded old.nand
 
 -- A CALL THAT ACTS, and notes no fault: what an honest die did is one log, unless the die gave a fault, and that is counted
-pub record Acts {A N : Type 0} (flash : N → Flash) (honest calm : N → Bool) (failed : N → ℕ) (old new : Engine N) (result : Result A WriteFault) : Type 0 where
+pub record Acts {A N : Type 0} (flash : N → Flash) (recorded : N → Option Recording) (honest calm : N → Bool) (failed : N → ℕ) (old new : Engine N) (result : Result A WriteFault) : Type 0 where
   pub safe : IsSafe flash new
   pub fault : new.fault ≡ old.fault
   pub honest_is : honest new.nand ≡ honest old.nand
   pub calm_is : calm new.nand ≡ calm old.nand
   pub failed_is : failed old.nand ≤ failed new.nand
   pub rose : result ≡ Err Bus → HasRisen (failed old.nand) (failed new.nand)
-  pub went : honest old.nand ≡ true → result ≢ Err Bus → Went (ram old) (flash old.nand) (ram new) (flash new.nand)
+  pub went : honest old.nand ≡ true → result ≢ Err Bus → Went (ram old) (flash old.nand) (recorded old.nand) (ram new) (flash new.nand) (recorded new.nand)
 
 -- A CALL THAT A STANDING FAULT STOPS: such a fault is answered again and nothing changes; else the call acts, and a fault that it answers
 -- stands from then on
-pub record Stands {A N : Type 0} (flash : N → Flash) (honest calm : N → Bool) (failed : N → ℕ) (old new : Engine N) (result : Result A WriteFault) : Type 0 where
+pub record Stands {A N : Type 0} (flash : N → Flash) (recorded : N → Option Recording) (honest calm : N → Bool) (failed : N → ℕ) (old new : Engine N) (result : Result A WriteFault) : Type 0 where
   pub safe : IsSafe flash new
   pub standing : ForSome old.fault (λ fault. (result ≡ Err fault) × (new ≡ old))
   pub fault : new.fault ≡ fault_after old.fault result
@@ -44,7 +44,7 @@ pub record Stands {A N : Type 0} (flash : N → Flash) (honest calm : N → Bool
   pub calm_is : calm new.nand ≡ calm old.nand
   pub failed_is : failed old.nand ≤ failed new.nand
   pub rose : old.fault ≡ None → result ≡ Err Bus → HasRisen (failed old.nand) (failed new.nand)
-  pub went : honest old.nand ≡ true → result ≢ Err Bus → Went (ram old) (flash old.nand) (ram new) (flash new.nand)
+  pub went : honest old.nand ≡ true → result ≢ Err Bus → Went (ram old) (flash old.nand) (recorded old.nand) (ram new) (flash new.nand) (recorded new.nand)
 
 -- MAKING ROOM: nothing was done for it, or a block was erased and none is pinned
 abbrev pub RestsOrErases : {N : Type 0} → (erases : N → ℕ) → (old new : Engine N) → Type 0

@@ -1,6 +1,7 @@
 -- What went on at the die: a log of operations, and the blocks by its account.
-use Rattle.std.specs.Prelude.{◌≡◌, ℕ, ◌+◌, ◌<◌, ◌≤◌, min, not, true, List, length}
+use Rattle.std.specs.Prelude.{◌≡◌, ℕ, ◌+◌, ◌<◌, ◌≤◌, min, not, true, List, length, Option}
 use Rattle.page_layout.specs.Flash.{Flash, Operation, Leads}
+use Rattle.page_layout.specs.Recording.{Recording, Records}
 use Rattle.bad_blocks.specs.Table.{is_good_at, wear_at, most_wear}
 use Rattle.allocation.specs.State.{State, pointer_at}
 use Rattle.promises.specs.Log.{programs_in, passed_erases_of}
@@ -22,11 +23,12 @@ pub record Follows (pages : ℕ) (log : List Operation) (old new : State) : Type
 pub record Wears (log : List Operation) (old new : State) : Type 0 where
   pub worn : (b : ℕ) → wear_at old.table b ≤ most_wear → wear_at new.table b ≡ min (wear_at old.table b + passed_erases_of log b) most_wear
 
--- There is such a log from the one state of the die to the other; each program in it took the next sequence, and each erase that passed is
--- counted.
-pub record Went (old : Ram) (before : Flash) (new : Ram) (after : Flash) : Type 0 where
+-- There is such a log from the one state of the die to the other, and the record that the die tells has gained just it; each program in it took
+-- the next sequence, and each erase that passed is counted.
+pub record Went (old : Ram) (before : Flash) (told : Option Recording) (new : Ram) (after : Flash) (told' : Option Recording) : Type 0 where
   pub log : List Operation
   pub leads : Leads before log after
+  pub records : Records told log told'
   pub follows : Follows old.geometry.pages log old.blocks new.blocks
   pub next : new.next ≡ old.next + programs_in log
   pub wears : Wears log old.blocks new.blocks

@@ -1,5 +1,5 @@
 -- What the answers of the engine's functions say.
-use Rattle.std.specs.Prelude.{◌≡◌, ◌≢◌, ◌⊎◌, ℕ, ◌-◌, ◌/◌, ◌<◌, ◌≤◌, true, false, List, slice_set, Option, Some, None, Result, Ok, Err}
+use Rattle.std.specs.Prelude.{◌≡◌, ◌≢◌, ◌⊎◌, ℕ, ◌-◌, ◌/◌, ◌<◌, ◌≤◌, true, false, List, [], ◌∷◌, slice_set, Option, Some, None, Result, Ok, Err}
 use Rattle.page_layout.specs.declared.geometry.Geometry.{Geometry}
 use Rattle.page_layout.specs.declared.record.Record.{Record}
 use Rattle.page_layout.specs.declared.record.Kind.{Kind}
@@ -13,6 +13,7 @@ use Rattle.page_layout.specs.OneArray.{AreBelow}
 use Rattle.page_layout.specs.Live.{IsKeyOf}
 use Rattle.page_layout.specs.Array.{marks, zeros, content_of_kind, array_of, HasOneArray}
 use Rattle.page_layout.specs.Flash.{Flash, Program, Steps}
+use Rattle.page_layout.specs.Recording.{Recording, Records}
 use Rattle.page_layout.specs.Change.{IsUnsoundAt, Keeps, Writes}
 use Rattle.onfi_cycles.specs.declared.nand.Outcome.{Outcome}
 use Rattle.onfi_cycles.specs.Outcomes.{is_passed}
@@ -39,11 +40,12 @@ pub record CanProgram (g : Geometry) (row : ℕ) (r : Record) (image : Image) : 
   pub below : AreBelow (marks image) r.sequence
   pub in_range : IsKeyOf g (key_of r)
 
--- a program of the row was one step of the die's log
-pub record IsStep (row : ℕ) (outcome : Outcome) (old new : Flash) : Type 0 where
+-- a program of the row was one step of the die's log, and is what the record has gained
+pub record IsStep (row : ℕ) (outcome : Outcome) (old : Flash) (told : Option Recording) (new : Flash) (told' : Option Recording) : Type 0 where
   pub its : Page
   pub left : Page
   pub step : Steps old (Program row its (is_passed outcome) left) new
+  pub records : Records told (Program row its (is_passed outcome) left ∷ []) told'
 
 -- ---- what a call leaves, where the die is honest
 

@@ -1,4 +1,5 @@
 ghost use Rattle.collection.specs.Left.{IdleLaw, PinLaw, LeftLaw, KeptLaw, CalmLaw, PassedLaw, FewLaw, CopyLaw, WriteLaw};
+ghost use Rattle.collection.specs.Stops.{OneGainLaw};
 
 /// How much is left of a collection that goes from turn to turn: less than a block's pages where a
 /// victim worth collecting was pinned; each copy and each translation page that is written lowers it,
@@ -13,4 +14,10 @@ pub fn left_laws()
     ensures few { FewLaw }
     ensures copied { CopyLaw }
     ensures written { WriteLaw }
+{}
+
+/// What a stop in a call leaves is said by a log, and so is what went on in the call. Both are what the
+/// record of the die has gained, where it is told as the call ends: so they are one. (This project.)
+pub fn stop_laws()
+    ensures gained { OneGainLaw }
 {}

@@ -1,9 +1,10 @@
 -- Runs of a device: commands, replies, the die after each, and its log cut in as many pieces.
-use Rattle.std.specs.Prelude.{◌≡◌, Bool, List, [], ◌∷◌, ◌++◌, length, map}
+use Rattle.std.specs.Prelude.{◌≡◌, Bool, List, [], ◌∷◌, ◌++◌, length, map, Option}
 use Rattle.std.specs.List.{flat_map}
 use Rattle.page_layout.specs.Page.{Image}
 use Rattle.page_layout.specs.Array.{array_of}
 use Rattle.page_layout.specs.Flash.{Flash, Operation, Leads}
+use Rattle.page_layout.specs.Recording.{Recording}
 use Rattle.promises.specs.Step.{State, Command, Reply, ArrayStep, ArrayRun}
 
 -- a device between two commands: its die, whether it is read-only, and whether a block of it is being collected from turn to turn
@@ -16,12 +17,13 @@ pub record DeviceView : Type 0 where
 abbrev pub state_of : DeviceView → State
 state_of d = record { array = array_of d.flash.geometry d.flash.image; ro = d.ro }
 
--- a command, its reply, the piece of the log that came in it, and the device afterwards
+-- a command, its reply, the piece of the log that came in it, the device afterwards, and the record that its die tells then
 pub record Event : Type 0 where
   pub command : Command
   pub reply : Reply
   pub piece : List Operation
   pub left : DeviceView
+  pub told : Option Recording
 
 -- the piece leads the die from the one image to the next, and the reply is a step from the one array to the next
 pub record Happens (old : DeviceView) (event : Event) : Type 0 where

@@ -10,7 +10,7 @@ ghost use Rattle.collection.specs.Collect.{KeepsKeys, Refreshes, GoesBut, IsRele
 ghost use Rattle.collection.specs.Whole.{next_of, step_within, work_left};
 ghost use Rattle.collection.specs.Left.{IsHalfDone, IsFew, HasPassed, PinIsFew};
 ghost use Rattle.collection.specs.Acts.{Acts, Stands};
-ghost use Rattle.collection.specs.Stops.{IsLeft, Stops};
+ghost use Rattle.collection.specs.Stops.{StopsSafely};
 
 use super::step::Progress;
 use super::{Engine, Pinned};
@@ -46,7 +46,7 @@ impl<N: Nand> Engine<N> {
         requires pinned { self.old.pinned ≡ Some pinned }
         requires half_done { IsHalfDone (ram self.old) pinned }
         requires unmarked { (ram self.old).pin.marks ≡ replicate (translation_pages self.old.geometry) false }
-        ensures acts { Acts N.flash N.honest N.calm N.failed self.old self.new result }
+        ensures acts { Acts N.flash N.recorded N.honest N.calm N.failed self.old self.new result }
         ensures idle { OnOk result (IsIdle (ram self.new)) }
         ensures unpinned { OnOk result (self.new.pinned ≡ None) }
         ensures goes { GoesBut pinned.block (ram self.old) (ram self.new) }
@@ -76,7 +76,7 @@ impl<N: Nand> Engine<N> {
             HasPassed (ram self.old) (image_in N.flash self.old) pinned → IsFew 0 (ram self.old) pinned →
             result ≢ Err WriteFault.Bus → PinIsFew 0 (ram self.new) }
         ensures stops { N.honest self.old.nand ≡ true → truth.IsTrue None (ram self.old) (image_in N.flash self.old) → HasPassed (ram self.old) (image_in N.flash self.old) pinned → result ≢ Err WriteFault.Bus →
-            Stops N.flash N.recorded (IsLeft (ram self.old) (image_in N.flash self.old) (image_in N.flash self.new)) self.old self.new }
+            StopsSafely N.flash N.recorded self.old self.new }
     {
         let block = pinned.block;
         let pages = self.geometry.pages();
@@ -97,7 +97,7 @@ impl<N: Nand> Engine<N> {
         requires idle { IsIdle (ram self.old) }
         requires block { block < self.old.geometry.blocks }
         requires closed { is_closed (ram self.old).blocks block ≡ true }
-        ensures acts { Acts N.flash N.honest N.calm N.failed self.old self.new result }
+        ensures acts { Acts N.flash N.recorded N.honest N.calm N.failed self.old self.new result }
         ensures idle { OnOk result (IsIdle (ram self.new)) }
         ensures unpinned { OnOk result (self.new.pinned ≡ None) }
         ensures goes { GoesBut block (ram self.old) (ram self.new) }
@@ -123,7 +123,7 @@ impl<N: Nand> Engine<N> {
         ensures few { N.honest self.old.nand ≡ true → truth.IsTrue None (ram self.old) (image_in N.flash self.old) →
             live_at (ram self.old).blocks block ≤ vmax self.old.geometry → result ≢ Err WriteFault.Bus → PinIsFew 0 (ram self.new) }
         ensures stops { N.honest self.old.nand ≡ true → truth.IsTrue None (ram self.old) (image_in N.flash self.old) → result ≢ Err WriteFault.Bus →
-            Stops N.flash N.recorded (IsLeft (ram self.old) (image_in N.flash self.old) (image_in N.flash self.new)) self.old self.new }
+            StopsSafely N.flash N.recorded self.old self.new }
     {
         let pinned = Pinned { block, first: 0 };
         self.pinned = Some(pinned);
@@ -163,7 +163,7 @@ impl<N: Nand> Engine<N> {
         requires unpinned { self.old.fault ≡ None → self.old.pinned ≡ None }
         requires block { block < self.old.geometry.blocks }
         requires closed { self.old.fault ≡ None → is_closed (ram self.old).blocks block ≡ true }
-        ensures stands { Stands N.flash N.honest N.calm N.failed self.old self.new result }
+        ensures stands { Stands N.flash N.recorded N.honest N.calm N.failed self.old self.new result }
         ensures idle { OnOk result (IsIdle (ram self.new)) }
         ensures unpinned { OnOk result (self.new.pinned ≡ None) }
         ensures goes { GoesBut block (ram self.old) (ram self.new) }
@@ -186,7 +186,7 @@ impl<N: Nand> Engine<N> {
             live_at (ram self.old).blocks block ≤ vmax self.old.geometry → result ≢ Err WriteFault.Bus →
             IsThrifty (ram self.old) (ram self.new) }
         ensures stops { N.honest self.old.nand ≡ true → self.old.fault ≡ None → truth.IsTrue None (ram self.old) (image_in N.flash self.old) → result ≢ Err WriteFault.Bus →
-            Stops N.flash N.recorded (IsLeft (ram self.old) (image_in N.flash self.old) (image_in N.flash self.new)) self.old self.new }
+            StopsSafely N.flash N.recorded self.old self.new }
     {
         self.standing()?;
         let answer = self.collect_block(block, flushing);

@@ -53,7 +53,7 @@ impl<N: Nand> Engine<N> {
         requires next { self.old.next + 1 < 2 ^ 64 }
         requires key { IsKeyOf self.old.geometry (key_from kind number) }
         requires old_row { ForSome old_row (λ r. r < row_count self.old.geometry) }
-        ensures acts { Acts N.flash N.honest N.calm N.failed self.old self.new result }
+        ensures acts { Acts N.flash N.recorded N.honest N.calm N.failed self.old self.new result }
         ensures goes { GoesPut (ram self.old) (ram self.new) }
         ensures page { self.new.page.body ≡ self.old.page.body }
         ensures scratch { self.new.scratch ≡ self.old.scratch }
@@ -113,7 +113,7 @@ impl<N: Nand> Engine<N> {
         requires safe { IsSafe N.flash self.old }
         requires key { IsKeyOf self.old.geometry (key_from kind number) }
         requires old_row { ForSome old_row (λ r. r < row_count self.old.geometry) }
-        ensures acts { Acts N.flash N.honest N.calm N.failed self.old self.new result }
+        ensures acts { Acts N.flash N.recorded N.honest N.calm N.failed self.old self.new result }
         ensures goes { GoesPut (ram self.old) (ram self.new) }
         ensures page { self.new.page.body ≡ self.old.page.body }
         ensures scratch { self.new.scratch ≡ self.old.scratch }
@@ -191,7 +191,7 @@ impl<N: Nand> Engine<N> {
         requires key { IsKeyOf self.old.geometry (key_of written.now) }
         requires cached { IsCachedKey self.old.mapping (key_of written.now) }
         requires body { length body.now ≡ self.old.geometry.data_bytes }
-        ensures stands { Stands N.flash N.honest N.calm N.failed self.old self.new result }
+        ensures stands { Stands N.flash N.recorded N.honest N.calm N.failed self.old self.new result }
         ensures goes { GoesPut (ram self.old) (ram self.new) }
         ensures only_programs { OnlyPrograms N.reads N.erases self.old.nand self.new.nand }
         ensures row { IfOk result (IsOutside (ram self.old)) }

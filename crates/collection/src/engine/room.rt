@@ -9,7 +9,7 @@ ghost use Rattle.collection.specs.Collect.{HasRoom, RoomCounts};
 ghost use Rattle.collection.specs.Room.{wanted, beyond, IsMade, IsWorth, IsFundedOn, MakesRoom};
 ghost use Rattle.collection.specs.Left.{IsCalm, PinHasPassed, PinIsFew};
 ghost use Rattle.collection.specs.Acts.{Acts, Stands};
-ghost use Rattle.collection.specs.Stops.{IsLeft, Stops};
+ghost use Rattle.collection.specs.Stops.{StopsSafely};
 
 use super::Engine;
 use crate::fault::WriteFault;
@@ -75,7 +75,7 @@ impl<N: Nand> Engine<N> {
     fn finish(&mut self, flushing: bool) -> Result<(), WriteFault>
         requires safe { IsSafe N.flash self.old }
         requires calm { IsCalm (ram self.old) }
-        ensures acts { Acts N.flash N.honest N.calm N.failed self.old self.new result }
+        ensures acts { Acts N.flash N.recorded N.honest N.calm N.failed self.old self.new result }
         ensures makes { MakesRoom N.flash N.honest N.erases flushing self.old self.new result }
         ensures unpinned { OnOk result ((9 ≤ free_count (ram self.new).blocks) ⊎ (self.new.pinned ≡ None)) }
         ensures count { N.honest self.old.nand ≡ true → truth.IsTrue None (ram self.old) (image_in N.flash self.old) →
@@ -85,7 +85,7 @@ impl<N: Nand> Engine<N> {
             (λ _. IsFundedOn failures (ram self.old) (ram self.new))
             (λ fault. RoomCounts failures (ram self.old) (ram self.new) (Err fault)) }
         ensures stops { N.honest self.old.nand ≡ true → truth.IsTrue None (ram self.old) (image_in N.flash self.old) → PinHasPassed (ram self.old) (image_in N.flash self.old) → result ≢ Err WriteFault.Bus →
-            Stops N.flash N.recorded (IsLeft (ram self.old) (image_in N.flash self.old) (image_in N.flash self.new)) self.old self.new }
+            StopsSafely N.flash N.recorded self.old self.new }
     {
         let wanted = Reserve::Call.blocks();
         match self.pinned {
@@ -99,7 +99,7 @@ impl<N: Nand> Engine<N> {
     fn regain(&mut self, flushing: bool) -> Result<(), WriteFault>
         requires safe { IsSafe N.flash self.old }
         requires calm { IsCalm (ram self.old) }
-        ensures acts { Acts N.flash N.honest N.calm N.failed self.old self.new result }
+        ensures acts { Acts N.flash N.recorded N.honest N.calm N.failed self.old self.new result }
         ensures makes { MakesRoom N.flash N.honest N.erases flushing self.old self.new result }
         ensures room { OnOk result (HasRoom (ram self.new)) }
         ensures count { N.honest self.old.nand ≡ true → truth.IsTrue None (ram self.old) (image_in N.flash self.old) →
@@ -107,7 +107,7 @@ impl<N: Nand> Engine<N> {
             (failures : ℕ) → IsFunded self.old.geometry.pages failures (counts_of (ram self.old).blocks) →
             RoomCounts failures (ram self.old) (ram self.new) result }
         ensures stops { N.honest self.old.nand ≡ true → truth.IsTrue None (ram self.old) (image_in N.flash self.old) → PinHasPassed (ram self.old) (image_in N.flash self.old) → result ≢ Err WriteFault.Bus →
-            Stops N.flash N.recorded (IsLeft (ram self.old) (image_in N.flash self.old) (image_in N.flash self.new)) self.old self.new }
+            StopsSafely N.flash N.recorded self.old self.new }
     {
         self.finish(flushing)?;
         'rounds: loop {
@@ -149,7 +149,7 @@ impl<N: Nand> Engine<N> {
     pub fn make_room(&mut self, flushing: bool) -> Result<(), WriteFault>
         requires safe { IsSafe N.flash self.old }
         requires calm { self.old.fault ≡ None → IsCalm (ram self.old) }
-        ensures stands { Stands N.flash N.honest N.calm N.failed self.old self.new result }
+        ensures stands { Stands N.flash N.recorded N.honest N.calm N.failed self.old self.new result }
         ensures makes { self.old.fault ≡ None → MakesRoom N.flash N.honest N.erases flushing self.old self.new result }
         ensures room { OnOk result (HasRoom (ram self.new)) }
         ensures count { N.honest self.old.nand ≡ true → self.old.fault ≡ None → truth.IsTrue None (ram self.old) (image_in N.flash self.old) →
@@ -157,7 +157,7 @@ impl<N: Nand> Engine<N> {
             (failures : ℕ) → IsFunded self.old.geometry.pages failures (counts_of (ram self.old).blocks) →
             RoomCounts failures (ram self.old) (ram self.new) result }
         ensures stops { N.honest self.old.nand ≡ true → self.old.fault ≡ None → truth.IsTrue None (ram self.old) (image_in N.flash self.old) → PinHasPassed (ram self.old) (image_in N.flash self.old) → result ≢ Err WriteFault.Bus →
-            Stops N.flash N.recorded (IsLeft (ram self.old) (image_in N.flash self.old) (image_in N.flash self.new)) self.old self.new }
+            StopsSafely N.flash N.recorded self.old self.new }
     {
         self.standing()?;
         let answer = self.regain(flushing);

@@ -19,7 +19,7 @@ ghost use Rattle.collection.specs.Left.{TouchesNoMore};
 ghost use Rattle.collection.specs.Collect.{GoesBut, HasCopied, HasWritten, HasErased, IsReleased, FaultCosts, StepCosts, IsMovedOut};
 ghost use Rattle.collection.specs.Collect.{IsCopiedOr, IsStepped};
 ghost use Rattle.collection.specs.Acts.{Acts, OnlyPrograms};
-ghost use Rattle.collection.specs.Stops.{IsLeft, Stops};
+ghost use Rattle.collection.specs.Stops.{StopsSafely};
 
 use super::Engine;
 use crate::fault::WriteFault;
@@ -87,7 +87,7 @@ impl<N: Nand> Engine<N> {
         requires key { IsKeyOf self.old.geometry (key_of found.now) }
         requires row { row < row_count self.old.geometry }
         requires room { length self.old.mapping.moved < self.old.geometry.pages }
-        ensures acts { Acts N.flash N.honest N.calm N.failed self.old self.new result }
+        ensures acts { Acts N.flash N.recorded N.honest N.calm N.failed self.old self.new result }
         ensures goes { Goes (ram self.old) (ram self.new) }
         ensures only_programs { OnlyPrograms N.reads N.erases self.old.nand self.new.nand }
         ensures keys { KeepsKeys self.old.mapping self.new.mapping }
@@ -108,7 +108,7 @@ impl<N: Nand> Engine<N> {
             (λ _. IsMovedOut row (ram self.old) (image_in N.flash self.old) (ram self.new) (image_in N.flash self.new))
             (Refused (ram self.old) (image_in N.flash self.old) (ram self.new) (image_in N.flash self.new)) }
         ensures stops { N.honest self.old.nand ≡ true → truth.IsTrue None (ram self.old) (image_in N.flash self.old) → IsLivePage row self.old.page.body.items found.now (image_in N.flash self.old) → result ≢ Err WriteFault.Bus →
-            Stops N.flash N.recorded (IsLeft (ram self.old) (image_in N.flash self.old) (image_in N.flash self.new)) self.old self.new }
+            StopsSafely N.flash N.recorded self.old self.new }
     {
         self.replace(found.kind, found.number, Some(row))?;
         self.mark(found.key(), flushing);
@@ -127,7 +127,7 @@ impl<N: Nand> Engine<N> {
         requires block { block < self.old.geometry.blocks }
         requires closed { is_closed (ram self.old).blocks block ≡ true }
         requires room { length self.old.mapping.moved ≤ first }
-        ensures acts { Acts N.flash N.honest N.calm N.failed self.old self.new result }
+        ensures acts { Acts N.flash N.recorded N.honest N.calm N.failed self.old self.new result }
         ensures goes { Goes (ram self.old) (ram self.new) }
         ensures reads { N.reads self.new.nand ≤ N.reads self.old.nand + 2 * (self.old.geometry.pages - first) }
         ensures copied_reads { IfOk result (λ copied. ForSome copied (λ page. N.reads self.new.nand ≤ N.reads self.old.nand + 2 * (page + 1 - first))) }
@@ -149,7 +149,7 @@ impl<N: Nand> Engine<N> {
             (IsCopiedOr block (ram self.old) (image_in N.flash self.old) (ram self.new) (image_in N.flash self.new))
             (Refused (ram self.old) (image_in N.flash self.old) (ram self.new) (image_in N.flash self.new)) }
         ensures stops { N.honest self.old.nand ≡ true → truth.IsTrue None (ram self.old) (image_in N.flash self.old) → result ≢ Err WriteFault.Bus →
-            Stops N.flash N.recorded (IsLeft (ram self.old) (image_in N.flash self.old) (image_in N.flash self.new)) self.old self.new }
+            StopsSafely N.flash N.recorded self.old self.new }
     {
         if self.blocks.live(block) == 0 {
             return Ok(None);
@@ -179,7 +179,7 @@ impl<N: Nand> Engine<N> {
     // Writes it. Answers whether there was one.
     fn write_back_lowest(&mut self, flushing: bool) -> Result<bool, WriteFault>
         requires safe { IsSafe N.flash self.old }
-        ensures acts { Acts N.flash N.honest N.calm N.failed self.old self.new result }
+        ensures acts { Acts N.flash N.recorded N.honest N.calm N.failed self.old self.new result }
         ensures goes { Goes (ram self.old) (ram self.new) }
         ensures reads { N.reads self.new.nand ≤ N.reads self.old.nand + min (due_count flushing (ram self.old)) 1 }
         ensures erases { N.erases self.new.nand ≡ N.erases self.old.nand }
@@ -197,7 +197,7 @@ impl<N: Nand> Engine<N> {
             (λ _. IsSame (ram self.old) (image_in N.flash self.old) (ram self.new) (image_in N.flash self.new))
             (Refused (ram self.old) (image_in N.flash self.old) (ram self.new) (image_in N.flash self.new)) }
         ensures stops { N.honest self.old.nand ≡ true → truth.IsTrue None (ram self.old) (image_in N.flash self.old) → result ≢ Err WriteFault.Bus →
-            Stops N.flash N.recorded (IsLeft (ram self.old) (image_in N.flash self.old) (image_in N.flash self.new)) self.old self.new }
+            StopsSafely N.flash N.recorded self.old self.new }
     {
         let due = self.lowest_due(flushing);
         let Some(t) = due else {
@@ -213,7 +213,7 @@ impl<N: Nand> Engine<N> {
         requires safe { IsSafe N.flash self.old }
         requires block { block < self.old.geometry.blocks }
         requires closed { is_closed (ram self.old).blocks block ≡ true }
-        ensures acts { Acts N.flash N.honest N.calm N.failed self.old self.new result }
+        ensures acts { Acts N.flash N.recorded N.honest N.calm N.failed self.old self.new result }
         ensures goes { GoesBut block (ram self.old) (ram self.new) }
         ensures erased { OnOk result (HasErased block (ram self.old) (ram self.new)) }
         ensures pin { (ram self.new).pin.block ≡ (ram self.old).pin.block }
@@ -228,7 +228,7 @@ impl<N: Nand> Engine<N> {
             HoldsNone self.old.geometry.pages block (image_in N.flash self.old) →
             OnOk result (IsKept (ram self.old) (image_in N.flash self.old) (ram self.new) (image_in N.flash self.new)) }
         ensures stops { N.honest self.old.nand ≡ true → truth.IsTrue None (ram self.old) (image_in N.flash self.old) → HoldsNone self.old.geometry.pages block (image_in N.flash self.old) → result ≢ Err WriteFault.Bus →
-            Stops N.flash N.recorded (IsLeft (ram self.old) (image_in N.flash self.old) (image_in N.flash self.new)) self.old self.new }
+            StopsSafely N.flash N.recorded self.old self.new }
     {
         match self.nand.erase(block) {
             Ok(Outcome::Passed) => {
@@ -258,7 +258,7 @@ impl<N: Nand> Engine<N> {
         requires block { block < self.old.geometry.blocks }
         requires closed { is_closed (ram self.old).blocks block ≡ true }
         requires room { length self.old.mapping.moved ≤ first }
-        ensures acts { Acts N.flash N.honest N.calm N.failed self.old self.new result }
+        ensures acts { Acts N.flash N.recorded N.honest N.calm N.failed self.old self.new result }
         ensures goes { GoesBut block (ram self.old) (ram self.new) }
         ensures goes_still { result ≢ Ok Progress.Erased → Goes (ram self.old) (ram self.new) }
         ensures keys { KeepsKeys self.old.mapping self.new.mapping }
@@ -284,7 +284,7 @@ impl<N: Nand> Engine<N> {
             (page : ℕ) → result ≡ Ok (Progress.Copied page) →
             TouchesNoMore flushing block (ram self.old) (image_in N.flash self.old) (ram self.new) }
         ensures stops { N.honest self.old.nand ≡ true → truth.IsTrue None (ram self.old) (image_in N.flash self.old) → HoldsNoneIn self.old.geometry.pages block 0 first (image_in N.flash self.old) → result ≢ Err WriteFault.Bus →
-            Stops N.flash N.recorded (IsLeft (ram self.old) (image_in N.flash self.old) (image_in N.flash self.new)) self.old self.new }
+            StopsSafely N.flash N.recorded self.old self.new }
     {
         let copied = self.copy_lowest(block, first, flushing)?;
         if let Some(page) = copied {

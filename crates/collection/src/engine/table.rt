@@ -8,7 +8,7 @@ ghost use Rattle.collection.specs.Truth.{IsTrue};
 ghost use Rattle.collection.specs.Cost.{PageCosts};
 ghost use Rattle.collection.specs.Results.{IsLastPage, IsTabled, Refused, Goes, KeepsTable};
 ghost use Rattle.collection.specs.Acts.{Acts, Stands, OnlyPrograms};
-ghost use Rattle.collection.specs.Stops.{IsLeft, Stops};
+ghost use Rattle.collection.specs.Stops.{StopsSafely};
 
 use super::Engine;
 use crate::fault::WriteFault;
@@ -21,7 +21,7 @@ impl<N: Nand> Engine<N> {
     fn put_table(&mut self, u: u32) -> Result<(), WriteFault>
         requires safe { IsSafe N.flash self.old }
         requires page { u < table_pages self.old.geometry }
-        ensures acts { Acts N.flash N.honest N.calm N.failed self.old self.new result }
+        ensures acts { Acts N.flash N.recorded N.honest N.calm N.failed self.old self.new result }
         ensures goes { Goes (ram self.old) (ram self.new) }
         ensures table { KeepsTable (ram self.old).blocks (ram self.new).blocks }
         ensures mapping { self.new.mapping ≡ self.old.mapping }
@@ -35,7 +35,7 @@ impl<N: Nand> Engine<N> {
             (λ _. IsTabled u (ram self.old) (image_in N.flash self.old) (ram self.new) (image_in N.flash self.new))
             (Refused (ram self.old) (image_in N.flash self.old) (ram self.new) (image_in N.flash self.new)) }
         ensures stops { N.honest self.old.nand ≡ true → IsTrue None (ram self.old) (image_in N.flash self.old) → result ≢ Err WriteFault.Bus →
-            Stops N.flash N.recorded (IsLeft (ram self.old) (image_in N.flash self.old) (image_in N.flash self.new)) self.old self.new }
+            StopsSafely N.flash N.recorded self.old self.new }
     {
         write_table_page(self.blocks.table(), u, &mut self.page.body);
         let old_row = self.row_of_key(Key::Table(u));
@@ -57,7 +57,7 @@ impl<N: Nand> Engine<N> {
     pub fn write_table(&mut self, u: u32) -> Result<(), WriteFault>
         requires safe { IsSafe N.flash self.old }
         requires page { u < table_pages self.old.geometry }
-        ensures stands { Stands N.flash N.honest N.calm N.failed self.old self.new result }
+        ensures stands { Stands N.flash N.recorded N.honest N.calm N.failed self.old self.new result }
         ensures goes { Goes (ram self.old) (ram self.new) }
         ensures table { KeepsTable (ram self.old).blocks (ram self.new).blocks }
         ensures mapping { self.new.mapping ≡ self.old.mapping }
@@ -72,7 +72,7 @@ impl<N: Nand> Engine<N> {
             (λ _. IsTabled u (ram self.old) (image_in N.flash self.old) (ram self.new) (image_in N.flash self.new))
             (Refused (ram self.old) (image_in N.flash self.old) (ram self.new) (image_in N.flash self.new)) }
         ensures stops { N.honest self.old.nand ≡ true → self.old.fault ≡ None → IsTrue None (ram self.old) (image_in N.flash self.old) → result ≢ Err WriteFault.Bus →
-            Stops N.flash N.recorded (IsLeft (ram self.old) (image_in N.flash self.old) (image_in N.flash self.new)) self.old self.new }
+            StopsSafely N.flash N.recorded self.old self.new }
     {
         self.standing()?;
         let answer = self.put_table(u);

@@ -12,7 +12,7 @@ ghost use Rattle.collection.specs.Whole.{step_within, erases_after};
 ghost use Rattle.collection.specs.Left.{IsCalm, IsHalfDone, HasPassed, PinHasPassed, TouchesNoMore, pin_after, told};
 ghost use Rattle.collection.specs.Acts.{Acts, Stands};
 ghost use Rattle.collection.specs.Turns.{Advances};
-ghost use Rattle.collection.specs.Stops.{IsLeft, Stops};
+ghost use Rattle.collection.specs.Stops.{StopsSafely};
 
 use super::step::Progress;
 use super::{Engine, Pinned};
@@ -91,7 +91,7 @@ impl<N: Nand> Engine<N> {
     pub(crate) fn step_on(&mut self, pinned: Pinned, flushing: bool) -> Result<Progress, WriteFault>
         requires safe { IsSafe N.flash self.old }
         requires half_done { IsHalfDone (ram self.old) pinned }
-        ensures acts { Acts N.flash N.honest N.calm N.failed self.old self.new result }
+        ensures acts { Acts N.flash N.recorded N.honest N.calm N.failed self.old self.new result }
         ensures goes { GoesBut pinned.block (ram self.old) (ram self.new) }
         ensures goes_still { result ≢ Ok Progress.Erased → Goes (ram self.old) (ram self.new) }
         ensures keys { KeepsKeys self.old.mapping self.new.mapping }
@@ -120,7 +120,7 @@ impl<N: Nand> Engine<N> {
             (page : ℕ) → result ≡ Ok (Progress.Copied page) →
             TouchesNoMore flushing pinned.block (ram self.old) (image_in N.flash self.old) (ram self.new) }
         ensures stops { N.honest self.old.nand ≡ true → truth.IsTrue None (ram self.old) (image_in N.flash self.old) → HasPassed (ram self.old) (image_in N.flash self.old) pinned → result ≢ Err WriteFault.Bus →
-            Stops N.flash N.recorded (IsLeft (ram self.old) (image_in N.flash self.old) (image_in N.flash self.new)) self.old self.new }
+            StopsSafely N.flash N.recorded self.old self.new }
     {
         let progress = self.collect_step(pinned.block, pinned.first, flushing)?;
         let next = next_pin(pinned.block, self.geometry.pages(), progress);
@@ -132,10 +132,10 @@ impl<N: Nand> Engine<N> {
     fn advance(&mut self, pinned: Pinned, flushing: bool) -> Result<Step, WriteFault>
         requires safe { IsSafe N.flash self.old }
         requires half_done { IsHalfDone (ram self.old) pinned }
-        ensures acts { Acts N.flash N.honest N.calm N.failed self.old self.new result }
+        ensures acts { Acts N.flash N.recorded N.honest N.calm N.failed self.old self.new result }
         ensures advances { Advances N.flash N.honest N.reads N.erases flushing pinned self.old self.new result }
         ensures stops { N.honest self.old.nand ≡ true → truth.IsTrue None (ram self.old) (image_in N.flash self.old) → HasPassed (ram self.old) (image_in N.flash self.old) pinned → result ≢ Err WriteFault.Bus →
-            Stops N.flash N.recorded (IsLeft (ram self.old) (image_in N.flash self.old) (image_in N.flash self.new)) self.old self.new }
+            StopsSafely N.flash N.recorded self.old self.new }
     {
         let progress = self.step_on(pinned, flushing)?;
         Ok(told(progress))
@@ -164,11 +164,11 @@ impl<N: Nand> Engine<N> {
         requires safe { IsSafe N.flash self.old }
         requires pinned { IsSome self.old.pinned }
         requires half_done { self.old.fault ≡ None → ForSome (ram self.old).pin.block (IsHalfDone (ram self.old)) }
-        ensures stands { Stands N.flash N.honest N.calm N.failed self.old self.new result }
+        ensures stands { Stands N.flash N.recorded N.honest N.calm N.failed self.old self.new result }
         ensures advances { self.old.fault ≡ None → ForSome (ram self.old).pin.block
             (λ p. Advances N.flash N.honest N.reads N.erases flushing p self.old self.new result) }
         ensures stops { N.honest self.old.nand ≡ true → self.old.fault ≡ None → truth.IsTrue None (ram self.old) (image_in N.flash self.old) → PinHasPassed (ram self.old) (image_in N.flash self.old) → result ≢ Err WriteFault.Bus →
-            Stops N.flash N.recorded (IsLeft (ram self.old) (image_in N.flash self.old) (image_in N.flash self.new)) self.old self.new }
+            StopsSafely N.flash N.recorded self.old self.new }
     {
         self.standing()?;
         let pinned = self.pinned.unwrap();

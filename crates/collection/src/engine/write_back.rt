@@ -13,7 +13,7 @@ ghost use Rattle.collection.specs.Looks.{IsLoaded, IsFilled, IsPadded, StartsFro
 ghost use Rattle.collection.specs.Settle.{Cleans, HasNoMore};
 ghost use Rattle.collection.specs.Results.{IsLastPage, IsWrittenBack, Refused, Goes};
 ghost use Rattle.collection.specs.Acts.{OnlyLooks, Acts, Stands};
-ghost use Rattle.collection.specs.Stops.{IsLeft, Stops};
+ghost use Rattle.collection.specs.Stops.{StopsSafely};
 
 use super::Engine;
 use super::entries::{clear_entries, fill_entries};
@@ -70,7 +70,7 @@ impl<N: Nand> Engine<N> {
     pub(crate) fn write_page_back(&mut self, t: u32) -> Result<(), WriteFault>
         requires safe { IsSafe N.flash self.old }
         requires page { t < translation_pages self.old.geometry }
-        ensures acts { Acts N.flash N.honest N.calm N.failed self.old self.new result }
+        ensures acts { Acts N.flash N.recorded N.honest N.calm N.failed self.old self.new result }
         ensures goes { Goes (ram self.old) (ram self.new) }
         ensures reads { N.reads self.new.nand ≤ N.reads self.old.nand + 1 }
         ensures erases { N.erases self.new.nand ≡ N.erases self.old.nand }
@@ -90,7 +90,7 @@ impl<N: Nand> Engine<N> {
             (λ _. IsWrittenBack t (ram self.old) (image_in N.flash self.old) (ram self.new) (image_in N.flash self.new))
             (Refused (ram self.old) (image_in N.flash self.old) (ram self.new) (image_in N.flash self.new)) }
         ensures stops { N.honest self.old.nand ≡ true → IsTrue None (ram self.old) (image_in N.flash self.old) → result ≢ Err WriteFault.Bus →
-            Stops N.flash N.recorded (IsLeft (ram self.old) (image_in N.flash self.old) (image_in N.flash self.new)) self.old self.new }
+            StopsSafely N.flash N.recorded self.old self.new }
     {
         let row = self.directory.row_of(t);
         self.fill_translation(t, row)?;
@@ -123,7 +123,7 @@ impl<N: Nand> Engine<N> {
     pub fn write_back(&mut self, t: u32) -> Result<(), WriteFault>
         requires safe { IsSafe N.flash self.old }
         requires page { t < translation_pages self.old.geometry }
-        ensures stands { Stands N.flash N.honest N.calm N.failed self.old self.new result }
+        ensures stands { Stands N.flash N.recorded N.honest N.calm N.failed self.old self.new result }
         ensures goes { Goes (ram self.old) (ram self.new) }
         ensures reads { N.reads self.new.nand ≤ N.reads self.old.nand + 1 }
         ensures erases { N.erases self.new.nand ≡ N.erases self.old.nand }
@@ -143,7 +143,7 @@ impl<N: Nand> Engine<N> {
             (λ _. IsWrittenBack t (ram self.old) (image_in N.flash self.old) (ram self.new) (image_in N.flash self.new))
             (Refused (ram self.old) (image_in N.flash self.old) (ram self.new) (image_in N.flash self.new)) }
         ensures stops { N.honest self.old.nand ≡ true → self.old.fault ≡ None → IsTrue None (ram self.old) (image_in N.flash self.old) → result ≢ Err WriteFault.Bus →
-            Stops N.flash N.recorded (IsLeft (ram self.old) (image_in N.flash self.old) (image_in N.flash self.new)) self.old self.new }
+            StopsSafely N.flash N.recorded self.old self.new }
     {
         self.standing()?;
         let answer = self.write_page_back(t);

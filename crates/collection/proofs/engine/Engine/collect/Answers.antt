@@ -1,5 +1,6 @@
+use Rattle.std.proofs.lemmas.Result.{err_from_is_err_and}
 use Rattle.collection.specs.Safe.{ram}
-use Rattle.collection.proofs.Acts.{acts_noted, not_standing}
+use Rattle.collection.proofs.Acts.{acts_noted, not_standing, stands_still, is_standing}
 use Rattle.collection.proofs.Noted.{but_noted, fresh_noted, cost_noted, sparing_noted, emptied_noted}
 use Rattle.collection.proofs.engine.Engine.collect.Goals as goal
 
@@ -25,3 +26,10 @@ returns-clause-sparing g c = λ honest none w. rw (c.noted.ensures.same, c.noted
 
 pub returns-clause-stops : goal.returns-clause-stops
 returns-clause-stops g c = λ honest none w. rw (c.noted.ensures.same, c.noted.ensures.noted) (λ ne. c.collect_block-answer.ensures.stops honest w ne)
+
+-- ---- a fault stands
+
+pub returns-in_err-standing-clause-stands : goal.returns-in_err-standing-clause-stands
+returns-in_err-standing-clause-stands g c =
+    let p = err_from_is_err_and c.from_residual.result c.from_residual.ensures.1 in
+    rw (p.1, p.2) (stands_still _ _ c.requires.safe (is_standing _ _ c.in_err-standing.ensures))

@@ -12,7 +12,7 @@ use Rattle.collection.proofs.engine.Engine.collect_from.Given as goal
 
 abbrev pub invariant-steps : goal.invariant-steps
 invariant-steps g l = record {
-  acts : Acts {A = Unit {0}} g.N.PageSource.flash g.N.PageSource.honest g.N.PageSource.calm g.N.PageSource.failed l.fn.self l.self (Ok tt);
+  acts : Acts {A = Unit {0}} g.N.PageSource.flash g.N.PageSource.recorded g.N.PageSource.honest g.N.PageSource.calm g.N.PageSource.failed l.fn.self l.self (Ok tt);
   goes : Goes (ram l.fn.self) (ram l.self);
   as_erased : g.N.PageSource.erases l.self.nand ≡ g.N.PageSource.erases l.fn.self.nand;
   keys : KeepsKeys l.fn.self.mapping l.self.mapping;

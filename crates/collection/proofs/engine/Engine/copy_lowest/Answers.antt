@@ -1,9 +1,9 @@
-use Rattle.std.proofs.Common.{◌≡◌, ◌∙◌, ap, arith}
+use Rattle.std.proofs.Common.{◌≡◌, ◌∙◌, ap, arith, None}
 use Rattle.std.proofs.lemmas.Result.{err_from_is_err_and}
 use Rattle.allocation.specs.State.{live_at}
 use Rattle.allocation.specs.View.{state}
 use Rattle.collection.specs.Safe.{ram}
-use Rattle.collection.proofs.Acts.{acts_ok, acts_err, acts_then, looked}
+use Rattle.collection.proofs.Acts.{acts_ok, acts_err, acts_then, looked, acts_same}
 use Rattle.collection.proofs.Looks.{none_from, ok_not_bus}
 use Rattle.collection.proofs.Lowest.{same_here, holds_none, copied_none, copied_from}
 use Rattle.collection.proofs.Turns.{touched_from}
@@ -83,3 +83,6 @@ returns-clause-stops g c = λ honest w ne.
     let still = looks.same honest (ok_not_bus _) in
     let known = live_known (ram c.args.self.now) (ram c.first_live.new.self) _ _ c.args.block c.args.first c.in-Some.page c.row-row.result c.in-Some.found _ c.in_ok-live.live w looks.memory (ap (λ f. f.image) still) c.row-row.ensures.is (c.in_ok-live.ensures.truth honest w) c.in-Some.is in
     stops_looked (ram c.args.self.now) (ram c.first_live.new.self) _ _ _ _ _ _ looks.memory still (looks.told honest (ok_not_bus _)) (c.in_ok-copy_page.ensures.stops (looks.only_reads.honest_is ∙ honest) known.0 known.1 (ok_not_bus _))
+
+pub returns-then-live-eq0-clause-acts : goal.returns-then-live-eq0-clause-acts
+returns-then-live-eq0-clause-acts g c = acts_ok _ _ tt None (acts_same c.args.self.now c.requires.safe)

@@ -1,6 +1,7 @@
-use Rattle.std.proofs.Common.{◌∙◌, length, true, false, ap, refl, subst}
+use Rattle.std.proofs.Common.{◌∙◌, [], ◌∷◌, length, true, false, ap, refl, subst}
 use Rattle.std.proofs.lemmas.List.{length-replicate}
 use Rattle.page_layout.specs.Flash.{Erase, Steps, block_at}
+use Rattle.page_layout.specs.Recording.{Records}
 use Rattle.page_layout.specs.Page.{IsImage}
 use Rattle.onfi_cycles.specs.declared.nand.Outcome.TheVariants.{Passed, Failed}
 use Rattle.onfi_cycles.specs.Outcomes.{is_passed}
@@ -34,7 +35,8 @@ returns-in-Ok-Passed-clause-acts g c = record {
       let before = g.N.PageSource.flash c.args.self.now.nand in
       let after = g.N.PageSource.flash c.erase.new.self in
       let step = at_outcome (λ o. Steps before (Erase c.args.block (is_passed o) (block_at after c.args.block)) after) c.in-Ok-Passed.field-0 Passed (c.in-Ok-Passed.ensures.step honest) c.in-Ok-Passed.field-0-is in
-      went_erase (ram c.args.self.now) _ before after c.args.block true (block_at after c.args.block) step (ended_by true (ram c.args.self.now) c.args.block _ c.requires.safe.memory c.requires.block c.requires.closed c.freed.ensures.is) refl;
+      let records = at_outcome (λ o. Records (g.N.PageSource.recorded c.args.self.now.nand) (Erase c.args.block (is_passed o) (block_at after c.args.block) ∷ []) (g.N.PageSource.recorded c.erase.new.self)) c.in-Ok-Passed.field-0 Passed (c.in-Ok-Passed.ensures.recorded honest) c.in-Ok-Passed.field-0-is in
+      went_erase (ram c.args.self.now) _ before after _ _ c.args.block true (block_at after c.args.block) step records (ended_by true (ram c.args.self.now) c.args.block _ c.requires.safe.memory c.requires.block c.requires.closed c.freed.ensures.is) refl;
 }
 
 pub returns-in-Ok-Passed-clause-goes : goal.returns-in-Ok-Passed-clause-goes
@@ -70,7 +72,8 @@ returns-in-Ok-Failed-clause-acts g c = record {
       let before = g.N.PageSource.flash c.args.self.now.nand in
       let after = g.N.PageSource.flash c.erase.new.self in
       let step = at_outcome (λ o. Steps before (Erase c.args.block (is_passed o) (block_at after c.args.block)) after) c.in-Ok-Failed.field-0 Failed (c.in-Ok-Failed.ensures.step honest) c.in-Ok-Failed.field-0-is in
-      went_erase (ram c.args.self.now) _ before after c.args.block false (block_at after c.args.block) step (ended_by false (ram c.args.self.now) c.args.block _ c.requires.safe.memory c.requires.block c.requires.closed c.retire.ensures.is) refl;
+      let records = at_outcome (λ o. Records (g.N.PageSource.recorded c.args.self.now.nand) (Erase c.args.block (is_passed o) (block_at after c.args.block) ∷ []) (g.N.PageSource.recorded c.erase.new.self)) c.in-Ok-Failed.field-0 Failed (c.in-Ok-Failed.ensures.recorded honest) c.in-Ok-Failed.field-0-is in
+      went_erase (ram c.args.self.now) _ before after _ _ c.args.block false (block_at after c.args.block) step records (ended_by false (ram c.args.self.now) c.args.block _ c.requires.safe.memory c.requires.block c.requires.closed c.retire.ensures.is) refl;
 }
 
 pub returns-in-Ok-Failed-clause-goes : goal.returns-in-Ok-Failed-clause-goes

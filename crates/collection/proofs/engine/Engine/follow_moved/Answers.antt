@@ -2,6 +2,7 @@ use Rattle.promises.proofs.StopLemmas.{leaves_nothing}
 use Rattle.collection.proofs.Stops.{same_left}
 use Rattle.collection.proofs.Looks.{ok_not_bus}
 use Rattle.collection.specs.Safe.{ram}
+use Rattle.collection.proofs.Acts.{acts_same}
 use Rattle.collection.proofs.engine.Engine.follow_moved.Goals as goal
 
 -- ---- what a stop leaves
@@ -14,3 +15,11 @@ returns-then-is_cached-clause-stops g c = λ honest w ne. leaves_nothing _ _ _ (
 
 pub returns-clause-stops : goal.returns-clause-stops
 returns-clause-stops g c = λ honest w ne. c.write_page_back.ensures.stops honest w ne
+
+-- ---- nothing was to be done
+
+pub returns-in_default-clause-acts : goal.returns-in_default-clause-acts
+returns-in_default-clause-acts g c = acts_same c.args.self.now c.requires.safe
+
+pub returns-then-is_cached-clause-acts : goal.returns-then-is_cached-clause-acts
+returns-then-is_cached-clause-acts g c = acts_same c.args.self.now c.requires.safe

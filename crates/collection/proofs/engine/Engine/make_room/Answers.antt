@@ -1,5 +1,6 @@
+use Rattle.std.proofs.lemmas.Result.{err_from_is_err_and}
 use Rattle.collection.specs.Safe.{ram}
-use Rattle.collection.proofs.Acts.{acts_noted, not_standing}
+use Rattle.collection.proofs.Acts.{acts_noted, not_standing, stands_still, is_standing}
 use Rattle.collection.proofs.Noted.{room_noted, counts_noted}
 use Rattle.collection.proofs.Made.{makes_noted}
 use Rattle.collection.proofs.engine.Engine.make_room.Goals as goal
@@ -20,3 +21,10 @@ returns-clause-count g c = λ honest none w passed few failures enough. rw (c.no
 
 pub returns-clause-stops : goal.returns-clause-stops
 returns-clause-stops g c = λ honest none w passed. rw (c.noted.ensures.same, c.noted.ensures.noted) (λ ne. c.regain-answer.ensures.stops honest w passed ne)
+
+-- ---- a fault stands
+
+pub returns-in_err-standing-clause-stands : goal.returns-in_err-standing-clause-stands
+returns-in_err-standing-clause-stands g c =
+    let p = err_from_is_err_and c.from_residual.result c.from_residual.ensures.1 in
+    rw (p.1, p.2) (stands_still _ _ c.requires.safe (is_standing _ _ c.in_err-standing.ensures))

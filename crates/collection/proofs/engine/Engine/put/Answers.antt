@@ -1,7 +1,9 @@
+use Rattle.std.proofs.lemmas.Result.{err_from_is_err_and}
 use Rattle.std.proofs.Common.{rules}
 use Rattle.collection.specs.Safe.{ram, image_in}
 use Rattle.collection.proofs.Puts.{array_result}
 use Rattle.collection.proofs.Gates.{result_noted}
+use Rattle.collection.proofs.Acts.{stands_still, is_standing, acts_noted, not_standing, acts_filled}
 use Rattle.collection.proofs.engine.Engine.put.Goals as goal
 
 pub returns-clause-array : goal.returns-clause-array
@@ -16,3 +18,13 @@ returns-clause-truth g c = λ honest none w fits.
 
 pub returns-clause-stops : goal.returns-clause-stops
 returns-clause-stops g c = λ honest none w fits. rw (c.noted.ensures.same, c.noted.ensures.noted) (λ ne. c.put_page-answer.ensures.stops honest (search rules) ne)
+
+-- ---- a fault stands
+
+pub returns-in_err-standing-clause-stands : goal.returns-in_err-standing-clause-stands
+returns-in_err-standing-clause-stands g c =
+    let p = err_from_is_err_and c.from_residual.result c.from_residual.ensures.1 in
+    rw (p.1, p.2) (stands_still _ _ c.requires.safe (is_standing _ _ c.in_err-standing.ensures))
+
+pub returns-clause-stands : goal.returns-clause-stands
+returns-clause-stands g c = rw (c.noted.ensures.same, c.noted.ensures.noted) (acts_noted _ _ _ (not_standing _ _ c.in_ok-standing.ensures) (acts_filled _ _ _ _ c.put_page-answer.ensures.acts))

@@ -10,7 +10,7 @@ use Rattle.collection.proofs.engine.Engine.put_page.Given as goal
 
 abbrev pub invariant-tries : goal.invariant-tries
 invariant-tries g l = record {
-  acts : Acts {A = Unit {0}} g.N.PageSource.flash g.N.PageSource.honest g.N.PageSource.calm g.N.PageSource.failed l.initial.self l.self (Ok tt);
+  acts : Acts {A = Unit {0}} g.N.PageSource.flash g.N.PageSource.recorded g.N.PageSource.honest g.N.PageSource.calm g.N.PageSource.failed l.initial.self l.self (Ok tt);
   goes : GoesPut (ram l.initial.self) (ram l.self);
   page : l.self.page.body ≡ l.initial.self.page.body;
   scratch : l.self.scratch ≡ l.initial.self.scratch;

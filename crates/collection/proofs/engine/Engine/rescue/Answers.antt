@@ -4,7 +4,7 @@ use Rattle.collection.specs.Safe.{ram}
 use Rattle.page_layout.specs.Key.{key_of}
 use Rattle.page_layout.specs.Live.{IsKeyOf}
 use Rattle.collection.specs.Collect.{IsMovedOut}
-use Rattle.collection.proofs.Acts.{acts_then, acts_ok, acts_err, looked}
+use Rattle.collection.proofs.Acts.{acts_then, acts_ok, acts_err, looked, acts_same, acts_end}
 use Rattle.collection.proofs.Looks.{none_from, ok_not_bus}
 use Rattle.collection.proofs.Memory.{goes_then}
 use Rattle.collection.proofs.Puts.{refused_then}
@@ -13,6 +13,7 @@ use Rattle.collection.specs.Collect.{IsFollowedBy}
 use Rattle.promises.proofs.StopLemmas.{leaves_nothing}
 use Rattle.collection.proofs.Stops.{same_left, leaves_still, stops_looked, stops_then, fault_not_bus, IsSized}
 use Rattle.collection.proofs.Costs.{not_bus}
+use Rattle.collection.specs.declared.fault.WriteFault.TheVariants.{Damaged}
 use Rattle.collection.proofs.engine.Engine.rescue.Goals as goal
 
 -- ---- the copy
@@ -184,3 +185,6 @@ returns-clause-stops g c = λ honest w ne.
 
 pub returns-then-moved_count-pages-clause-stops : goal.returns-then-moved_count-pages-clause-stops
 returns-then-moved_count-pages-clause-stops g c = λ honest w ne. leaves_nothing _ _ _ (same_left (ram c.args.self.now) _ _ c.requires.safe.memory w)
+
+pub returns-then-moved_count-pages-clause-acts : goal.returns-then-moved_count-pages-clause-acts
+returns-then-moved_count-pages-clause-acts g c = acts_end _ _ tt Damaged (λ e. (let no : ⊥ = cc in no)) (acts_same c.args.self.now c.requires.safe)

@@ -1,5 +1,6 @@
+use Rattle.std.proofs.lemmas.Result.{err_from_is_err_and}
 use Rattle.collection.specs.Turns.{Advances}
-use Rattle.collection.proofs.Acts.{acts_noted, not_standing}
+use Rattle.collection.proofs.Acts.{acts_noted, not_standing, stands_still, is_standing}
 use Rattle.collection.proofs.Turns.{advances_noted, of_pinned}
 use Rattle.collection.proofs.engine.Engine.step.Goals as goal
 
@@ -16,3 +17,10 @@ returns-clause-advances g c = λ none. rw (c.noted.ensures.same, c.noted.ensures
 
 pub returns-clause-stops : goal.returns-clause-stops
 returns-clause-stops g c = λ honest none w passed. rw (c.noted.ensures.same, c.noted.ensures.noted) (λ ne. c.advance-answer.ensures.stops honest w (passed c.unwrap-pinned.result c.unwrap-pinned.ensures) ne)
+
+-- ---- a fault stands
+
+pub returns-in_err-standing-clause-stands : goal.returns-in_err-standing-clause-stands
+returns-in_err-standing-clause-stands g c =
+    let p = err_from_is_err_and c.from_residual.result c.from_residual.ensures.1 in
+    rw (p.1, p.2) (stands_still _ _ c.requires.safe (is_standing _ _ c.in_err-standing.ensures))

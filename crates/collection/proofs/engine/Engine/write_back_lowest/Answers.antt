@@ -7,6 +7,7 @@ use Rattle.promises.proofs.StopLemmas.{leaves_nothing}
 use Rattle.collection.proofs.Stops.{same_left}
 use Rattle.collection.proofs.Looks.{ok_not_bus}
 use Rattle.collection.proofs.Costs.{not_bus}
+use Rattle.collection.proofs.Acts.{acts_same, acts_ok}
 use Rattle.collection.proofs.engine.Engine.write_back_lowest.Goals as goal
 
 pub returns-in_err-write_page_back-clause-owed : goal.returns-in_err-write_page_back-clause-owed
@@ -43,3 +44,6 @@ returns-in_err-write_page_back-clause-stops g c =
 
 pub returns-clause-stops : goal.returns-clause-stops
 returns-clause-stops g c = λ honest w ne. c.in_ok-write_page_back.ensures.stops honest w (ok_not_bus _)
+
+pub returns-in_default-clause-acts : goal.returns-in_default-clause-acts
+returns-in_default-clause-acts g c = acts_ok _ _ tt false (acts_same c.args.self.now c.requires.safe)

@@ -1,9 +1,9 @@
-use Rattle.std.proofs.Common.{◌∙◌, ap}
+use Rattle.std.proofs.Common.{◌∙◌, ap, rules}
 use Rattle.std.proofs.lemmas.Result.{err_from_is_err_and}
 use Rattle.mapping_cache.specs.Mapping.{cleaned}
 use Rattle.collection.specs.Safe.{ram}
 use Rattle.collection.proofs.Looks.{directory_row, ok_not_bus}
-use Rattle.collection.proofs.Acts.{acts_err, looked}
+use Rattle.collection.proofs.Acts.{acts_err, looked, acts_then}
 use Rattle.collection.proofs.WriteBacks.{read_costs, may_write_back, cleaned_goes, cleaned_cost, cleans_by, written_back_by}
 use Rattle.collection.proofs.Stops.{stops_looked, fault_not_bus}
 use Rattle.collection.proofs.Costs.{not_bus}
@@ -68,3 +68,16 @@ returns-clause-stops g c = λ honest w ne.
     let still = looks.same honest (ok_not_bus _) in
     let may = may_write_back (ram c.args.self.now) (ram c.fill_translation.new.self) _ _ c.args.t c.row_of-row.result _ w looks.memory (ap (λ f. f.image) still) filled newest_is in
     stops_looked (ram c.args.self.now) (ram c.fill_translation.new.self) _ _ _ _ _ _ looks.memory still (looks.told honest (ok_not_bus _)) (c.in_ok-replace.ensures.stops (looks.only_reads.honest_is ∙ honest) may (ok_not_bus _))
+
+pub returns-clause-acts : goal.returns-clause-acts
+returns-clause-acts g c =
+    let a = acts_then _ _ _ _ _ (ap (λ r. r.geometry) c.fill_translation.ensures.looks.memory) (looked _ _ _ c.in_ok-fill_translation.ensures.looks) c.in_ok-replace.ensures.acts in
+    record {
+      safe = search rules;
+      fault = a.fault;
+      honest_is = a.honest_is;
+      calm_is = a.calm_is;
+      failed_is = a.failed_is;
+      rose = λ e. absurd (ok_not_bus _ e);
+      went = λ known ne. (let w = a.went known (ok_not_bus _) in record { log = w.log; leads = w.leads; records = w.records; follows = w.follows; next = w.next; wears = w.wears });
+    }
