@@ -1,12 +1,13 @@
 -- A device's call that changes a sector, from the engine's.
-use Rattle.std.proofs.Common.{◌≡◌, ◌≢◌, ℕ, ◌-◌, ◌^◌, ◌<◌, ◌≤◌, ◌∙◌, Bool, true, false, None, Option, Some, List, Result, Ok, Err, OnOk, MatchResult, refl, sym, ap, subst, arith}
-use Rattle.std.specs.Prelude.{IfErr}
+use Rattle.std.proofs.Common.{◌≡◌, ◌≢◌, ◌⊎◌, inl, inr, ℕ, ◌-◌, ◌^◌, ◌<◌, ◌≤◌, ◌∙◌, Bool, true, false, None, Option, Some, List, Result, Ok, Err, OnOk, MatchResult, refl, sym, ap, subst, arith}
+use Rattle.std.specs.Prelude.{IfErr, IsSome}
 use Rattle.std.specs.Option.{ForSome}
 use Rattle.std.specs.Map.{keys_of}
 use Rattle.std.proofs.lemmas.Bool.{lt-ltb}
 use Rattle.page_layout.specs.declared.geometry.Geometry.{Geometry}
 use Rattle.page_layout.specs.Page.{Image}
 use Rattle.page_layout.specs.Flash.{Flash}
+use Rattle.page_layout.specs.Recording.{Recording}
 use Rattle.page_layout.specs.Array.{array_of}
 use Rattle.page_layout.specs.Counter.{HasRisen}
 use Rattle.bad_blocks.specs.Table.{good_count}
@@ -27,16 +28,23 @@ use Rattle.ftl_device.specs.Counts.{is_flush}
 use Rattle.ftl_device.specs.Device.{IsDevice}
 use Rattle.ftl_device.specs.Calls.{Knows, IsWell, state_in, reply_of, stop_of, Says, CallTells, CallRefused, HoldsSector, standing_after, answer_of, MayChange, MayNot, IsBeyond, IsShortOf, IsMostRecent, HasCost, order_after}
 use Rattle.ftl_device.specs.Shortage.{HasFunds, CallShort}
-use Rattle.ftl_device.specs.Changes.{Ends, Readies, HasLookedUp, Stays, Refuses, RefusesSector, ProgramsSector, Logs, Means, Changes}
+use Rattle.ftl_device.specs.Stopped.{changes_sector}
+use Rattle.ftl_device.specs.Changes.{Ends, PinsNone, MayPin, Readies, HasLookedUp, Stays, Refuses, RefusesSector, ProgramsSector, Logs, Means, Changes}
 use Rattle.ftl_device.proofs.CallLemmas.{well_ram, well_device, memory_only, mountable_after, went_after, done_too}
 use Rattle.ftl_device.proofs.PinLemmas.{knows_well, unpinned_moved}
 use Rattle.ftl_device.proofs.CostLemmas.{closed_is, spent_is, never_memory}
 use Rattle.ftl_device.proofs.MountableLemmas.{stale_law, restart_law}
 use Rattle.ftl_device.proofs.ShownLemmas.{shown_refused, shown_after, left_after, left_refused}
 use Rattle.ftl_device.proofs.SpentLemmas.{funded_begun, call_short}
+use Rattle.ftl_device.proofs.StoppedLemmas.{stopped_call, stops_same}
 
 abbrev refusal : DeviceFault → Result (Unit {0}) DeviceFault
 refusal fault = Err fault
+
+-- no block is pinned and one is
+pub unpinned_some : {A : Type 0} (o : Option A) → o ≡ None → IsSome o → ⊥
+unpinned_some None none some = (let no : ⊥ = cc in no)
+unpinned_some (Some x) none some = (let no : ⊥ = cc in no)
 
 -- ---- what the engine's answer says of the device's
 
@@ -106,20 +114,39 @@ module _ {N : Type 0} (failed : N → ℕ) (old new : Device N) (going : old.eng
     standing = standing_of answer (ram new.engine) (good_count (ram old.engine).blocks.table) stands;
   }
 
+-- a call that was done, or refused for memory, pins no block
+pub pins_of : {N : Type 0} (answer : Result (Unit {0}) CallFault) (old new : Engine N) (q : Ram) (good : ℕ) → PinsNone answer old new → old.pinned ≡ None → IsSome new.pinned → MayPin (answer_of q good answer)
+pins_of (Ok done) old new q good pins none some = unpinned_some new.pinned (pins none) some
+pins_of (Err (call.Engine engine_fault.ReadOnly)) old new q good pins none some = tt
+pins_of (Err (call.Engine engine_fault.SequenceSpent)) old new q good pins none some = tt
+pins_of (Err (call.Engine engine_fault.Damaged)) old new q good pins none some = tt
+pins_of (Err (call.Engine engine_fault.Bus)) old new q good pins none some = tt
+pins_of (Err call.OutOfMemory) old new q good pins none some = unpinned_some new.pinned (pins none) some
+
+-- a command that changes a sector changes the array where it is done, and keeps it where it is refused
+changed_or : (g : Geometry) (n : ℕ) (bytes : List ℕ) (command : Command) → changes_sector command ≡ true → (before after : Image) (new q : Ram) (good : ℕ) (answer : Result (Unit {0}) CallFault) → MatchResult answer (λ _. HoldsSector g n bytes before new after) (CallRefused g before new after)
+    → answer_of q good answer ≢ Err BusFault → (array_of g after ≡ array_of g before) ⊎ ((changes_sector command ≡ true) × (answer_of q good answer ≡ Ok tt))
+changed_or g n bytes command its before after new q good (Ok done) h ne = inr (its, refl)
+changed_or g n bytes command its before after new q good (Err (call.Engine engine_fault.ReadOnly)) h ne = inl h.array
+changed_or g n bytes command its before after new q good (Err (call.Engine engine_fault.SequenceSpent)) h ne = inl h.array
+changed_or g n bytes command its before after new q good (Err (call.Engine engine_fault.Damaged)) h ne = absurd h
+changed_or g n bytes command its before after new q good (Err (call.Engine engine_fault.Bus)) h ne = absurd (ne refl)
+changed_or g n bytes command its before after new q good (Err call.OutOfMemory) h ne = inl h.array
+
 no_flush_is : (command : Command) → is_flush command ≡ false → (P : Type 0) → is_flush command ≡ true → P
 no_flush_is command off P its = (let no : ⊥ = cc in absurd no)
 
 -- ---- the call was made
 
-module _ {N : Type 0} (flash : N → Flash) (honest calm : N → Bool) (failed : N → ℕ) (n : ℕ) (bytes : List ℕ) (command : Command) (old new : Device N) (device : IsDevice flash old) (device' : IsDevice flash new) (may : MayChange (ram old.engine) old.read_only n)
-    (takes : (reply : Reply) (s : State) → WriteStep old.engine.geometry (state_in flash old) n bytes reply s → ArrayStep old.engine.geometry (state_in flash old) command reply s) (no_flush : is_flush command ≡ false) where
+module _ {N : Type 0} (flash : N → Flash) (recorded : N → Option Recording) (honest calm : N → Bool) (failed : N → ℕ) (n : ℕ) (bytes : List ℕ) (command : Command) (old new : Device N) (device : IsDevice flash old) (device' : IsDevice flash new) (may : MayChange (ram old.engine) old.read_only n)
+    (takes : (reply : Reply) (s : State) → WriteStep old.engine.geometry (state_in flash old) n bytes reply s → ArrayStep old.engine.geometry (state_in flash old) command reply s) (no_flush : is_flush command ≡ false) (changes : changes_sector command ≡ true) where
   abbrev good_then : ℕ
   good_then = good_count (ram old.engine).blocks.table
 
   abbrev Holds : Engine N → Result (Unit {0}) CallFault → Type 0
   Holds e answer = honest old.engine.nand ≡ true → Knows (ram old.engine) (image_in flash old.engine) → MatchResult answer (λ _. HoldsSector old.engine.geometry n bytes (image_in flash old.engine) (ram e) (image_in flash e)) (CallRefused old.engine.geometry (image_in flash old.engine) (ram e) (image_in flash e))
 
-  module _ (answer : Result (Unit {0}) CallFault) (ends : Ends flash honest calm failed old.engine answer new.engine) (readies : Readies flash honest n 2 old.engine answer new.engine) (cost : OnOk answer (HasCost n (ram old.engine) (ram new.engine)))
+  module _ (answer : Result (Unit {0}) CallFault) (ends : Ends flash recorded honest calm failed old.engine answer new.engine) (readies : Readies flash honest n 2 old.engine answer new.engine) (cost : OnOk answer (HasCost n (ram old.engine) (ram new.engine)))
       (checked : OnOk answer (HasLookedUp n (ram old.engine) (ram new.engine) (page_in new.engine.scratch))) (truth : Holds new.engine answer) where
     abbrev replied : Result (Unit {0}) DeviceFault
     replied = answer_of (ram new.engine) good_then answer
@@ -149,14 +176,16 @@ module _ {N : Type 0} (flash : N → Flash) (honest calm : N → Bool) (failed :
     short : honest old.engine.nand ≡ true → Knows (ram old.engine) (image_in flash old.engine) → CallShort (ram old.engine) (ram new.engine) answer
     short is_honest well = call_short (HasFunds (honest old.engine.nand) (ram old.engine) (image_in flash old.engine)) answer (ram old.engine) (ram new.engine) device.engine.memory readies.costs (is_honest, well, funded_begun (ram old.engine) old.read_only device.read_only may.writable)
 
-    logs_done : honest old.engine.nand ≡ true → replied ≢ Err BusFault → Logs flash command old replied new
+    logs_done : honest old.engine.nand ≡ true → replied ≢ Err BusFault → Logs flash recorded command old replied new
     logs_done is_honest ne =
-        let w = went_after flash old.engine new.engine new.engine answer replied good_then refl refl (ends.went is_honest) ne in
+        let w = went_after flash recorded old.engine new.engine new.engine answer replied good_then refl refl (ends.went is_honest) ne in
         record {
           went = w;
-          shown = λ well. shown_after flash old.engine new.engine new.engine w n bytes old.read_only answer replied good_then refl device.engine.memory ends.safe.memory ends.geometry refl refl ends.tells (short is_honest (here well)) (truth is_honest (here well)) ne;
-          left = λ well on. left_after flash command old.engine new.engine new.engine w old.read_only new.read_only answer replied good_then refl refl device.engine.memory device'.engine.memory ends.geometry device'.read_only on (short is_honest (here well));
+          shown = λ well. shown_after flash recorded old.engine new.engine new.engine w n bytes old.read_only answer replied good_then refl device.engine.memory ends.safe.memory ends.geometry refl refl ends.tells (short is_honest (here well)) (truth is_honest (here well)) ne;
+          left = λ well on. left_after flash recorded command old.engine new.engine new.engine w old.read_only new.read_only answer replied good_then refl refl device.engine.memory device'.engine.memory ends.geometry device'.read_only on (short is_honest (here well));
           flushed = λ well its done. no_flush_is command no_flush _ its;
+          stopped = λ well. stopped_call flash recorded old.engine new.engine command replied w.log device.engine w.records (ends.stops is_honest (here well) (λ bus. ne (ap (answer_of (ram new.engine) good_then) bus)))
+              (changed_or old.engine.geometry n bytes command changes (image_in flash old.engine) (image_in flash new.engine) (ram new.engine) (ram new.engine) good_then answer (truth is_honest (here well)) ne);
         }
 
     means_done : honest old.engine.nand ≡ true → Knows (ram old.engine) (image_in flash old.engine) → replied ≢ Err BusFault → Means flash command old replied new
@@ -168,28 +197,29 @@ module _ {N : Type 0} (flash : N → Flash) (honest calm : N → Bool) (failed :
           mountable = λ most. mountable_after flash old.engine new new.engine refl ends.geometry ends.limits device'.engine.memory after most;
         }
 
-    change_done : Changes flash honest calm failed n command old replied new
+    change_done : Changes flash recorded honest calm failed n command old replied new
     change_done = record {
       stays = record { limits = ends.limits; honest_is = ends.honest_is; calm_is = ends.calm_is; failed_is = ends.failed_is };
       refuses = refuses_made failed old new may.going may.writable answer ends.fault ends.tells ends.rose;
       refuses_sector = refuses_sector_done;
       programs = programs_done;
+      pins = λ none some. pins_of answer old.engine new.engine (ram new.engine) good_then readies.pins none some;
       logs = logs_done;
       means = λ is_honest well ne. means_done is_honest (here well) ne;
       stale = λ is_honest well unpinned is e. readies.cached (stale_law (ram old.engine) _ n well.truth (unpinned_moved (ram old.engine) (device.calm may.going) unpinned) may.within is) (memory_only answer replied good_then (ram new.engine) refl e);
     }
 
   -- the device noted nothing else
-  pub changed_by : (mid : Engine N) (good : ℕ) (answer : Result (Unit {0}) CallFault) (result : Result (Unit {0}) DeviceFault) → new.engine ≡ mid → good ≡ good_then → result ≡ answer_of (ram new.engine) good answer → Ends flash honest calm failed old.engine answer mid → Readies flash honest n 2 old.engine answer mid
-      → OnOk answer (HasCost n (ram old.engine) (ram mid)) → OnOk answer (HasLookedUp n (ram old.engine) (ram mid) (page_in mid.scratch)) → Holds mid answer → Changes flash honest calm failed n command old result new
+  pub changed_by : (mid : Engine N) (good : ℕ) (answer : Result (Unit {0}) CallFault) (result : Result (Unit {0}) DeviceFault) → new.engine ≡ mid → good ≡ good_then → result ≡ answer_of (ram new.engine) good answer → Ends flash recorded honest calm failed old.engine answer mid → Readies flash honest n 2 old.engine answer mid
+      → OnOk answer (HasCost n (ram old.engine) (ram mid)) → OnOk answer (HasLookedUp n (ram old.engine) (ram mid) (page_in mid.scratch)) → Holds mid answer → Changes flash recorded honest calm failed n command old result new
   changed_by mid good answer result same many is ends readies cost checked truth =
-      let E : Engine N → Type 0 = λ e. Ends flash honest calm failed old.engine answer e in
+      let E : Engine N → Type 0 = λ e. Ends flash recorded honest calm failed old.engine answer e in
       let R : Engine N → Type 0 = λ e. Readies flash honest n 2 old.engine answer e in
       let C : Engine N → Type 0 = λ e. OnOk answer (HasCost n (ram old.engine) (ram e)) in
       let L : Engine N → Type 0 = λ e. OnOk answer (HasLookedUp n (ram old.engine) (ram e) (page_in e.scratch)) in
       let T : Engine N → Type 0 = λ e. Holds e answer in
       let done = change_done answer (subst E (sym same) ends) (subst R (sym same) readies) (subst C (sym same) cost) (subst L (sym same) checked) (subst T (sym same) truth) in
-      subst (λ r. Changes flash honest calm failed n command old r new) (sym (is ∙ ap (λ k. answer_of (ram new.engine) k answer) many)) done
+      subst (λ r. Changes flash recorded honest calm failed n command old r new) (sym (is ∙ ap (λ k. answer_of (ram new.engine) k answer) many)) done
 
 -- ---- it was refused at once
 
@@ -268,9 +298,9 @@ module _ (r : Ram) (ro : Bool) (n : ℕ) where
   step_refusal g xs bytes Damaged same not going = no_stop (stop_of r.fault) Damaged _ going not
   step_refusal g xs bytes BusFault same not going = no_stop (stop_of r.fault) BusFault _ going not
 
-module _ {N : Type 0} (flash : N → Flash) (honest calm : N → Bool) (failed : N → ℕ) (n : ℕ) (bytes : List ℕ) (command : Command) (old : Device N) (device : IsDevice flash old)
+module _ {N : Type 0} (flash : N → Flash) (recorded : N → Option Recording) (honest calm : N → Bool) (failed : N → ℕ) (n : ℕ) (bytes : List ℕ) (command : Command) (old : Device N) (device : IsDevice flash old)
     (takes : (reply : Reply) (s : State) → WriteStep old.engine.geometry (state_in flash old) n bytes reply s → ArrayStep old.engine.geometry (state_in flash old) command reply s) (no_flush : is_flush command ≡ false) where
-  pub not_changed : (fault : DeviceFault) → MayNot (ram old.engine) old.read_only n fault → Changes flash honest calm failed n command old (Err fault) old
+  pub not_changed : (fault : DeviceFault) → MayNot (ram old.engine) old.read_only n fault → Changes flash recorded honest calm failed n command old (Err fault) old
   not_changed fault not = record {
     stays = stays_same honest calm failed old;
     refuses = refuses_at_once failed old fault (why_not (ram old.engine) old.read_only n fault not);
@@ -289,13 +319,15 @@ module _ {N : Type 0} (flash : N → Flash) (honest calm : N → Bool) (failed :
       unwritten = λ e. absurd (never_memory (ram old.engine) old.read_only n fault not e);
       same_keys = λ e. absurd (never_memory (ram old.engine) old.read_only n fault not e);
     };
+    pins = λ none some. absurd (unpinned_some old.engine.pinned none some);
     logs = λ is_honest ne.
-        let w = went_same (ram old.engine) (flash old.engine.nand) in
+        let w = went_same (ram old.engine) (flash old.engine.nand) (recorded old.engine.nand) in
         record {
           went = w;
           shown = λ well. shown_refused (ram old.engine) (flash old.engine.nand) w old.read_only n fault device.engine.memory well.truth well.going not;
           left = λ well on. left_refused command (ram old.engine) w.log old.read_only n fault not;
           flushed = λ well its done. no_flush_is command no_flush _ its;
+          stopped = λ well. stopped_call flash recorded old.engine old.engine command (Err fault) w.log device.engine w.records (stops_same flash recorded old.engine device.engine well.truth) (inl refl);
         };
     means = λ is_honest well ne. record {
       step = takes _ _ (step_refusal (ram old.engine) old.read_only n old.engine.geometry (array_of old.engine.geometry (image_in flash old.engine)) bytes fault refl not well.going);

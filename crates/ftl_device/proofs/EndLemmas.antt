@@ -3,6 +3,7 @@ use Rattle.std.proofs.Common.{◌≡◌, ◌≢◌, ℕ, ◌≤◌, ◌∙◌, B
 use Rattle.std.specs.Map.{keys_of}
 use Rattle.page_layout.specs.Counter.{HasRisen}
 use Rattle.page_layout.specs.Flash.{Flash}
+use Rattle.page_layout.specs.Recording.{Recording}
 use Rattle.bad_blocks.specs.Table.{good_count}
 use Rattle.budget.specs.declared.stream.Stream.TheVariants.{Data}
 use Rattle.mapping_cache.specs.Mapping.{HasLimitsOf, loaded}
@@ -15,12 +16,14 @@ use Rattle.collection.specs.Left.{IsCalm, LeavesPin}
 use Rattle.collection.specs.Settle.{HasNoMore}
 use Rattle.collection.specs.Cost.{HasPut, PageCosts}
 use Rattle.collection.specs.Log.{Went}
+use Rattle.collection.specs.Truth.{IsTrue}
+use Rattle.collection.specs.Stops.{StopsSafely}
 use Rattle.collection.specs.Results.{Goes, fault_after}
 use Rattle.collection.proofs.Costs.{risen_over}
 use Rattle.collection.proofs.Logs.{went_then}
 use Rattle.ftl_device.specs.declared.fault.CallFault.{CallFault}
 use Rattle.ftl_device.specs.declared.fault.CallFault.TheVariants as call
-use Rattle.ftl_device.specs.Calls.{Tells, CallTells, IsReady, standing_after}
+use Rattle.ftl_device.specs.Calls.{Tells, CallTells, IsReady, standing_after, Knows}
 use Rattle.ftl_device.specs.Read.{IsLookedUp}
 use Rattle.ftl_device.specs.Shortage.{HasFunds}
 use Rattle.ftl_device.specs.Changes.{Ends, Readies, HasLookedUp}
@@ -29,6 +32,7 @@ use Rattle.collection.proofs.Lefts.{calm_law}
 use Rattle.ftl_device.proofs.PrepareLemmas.{beside_now, limits_loaded, went_loaded}
 use Rattle.ftl_device.proofs.CostLemmas.{page_tells}
 use Rattle.ftl_device.proofs.FlushLoops.{limits_then}
+use Rattle.ftl_device.proofs.StoppedLemmas.{KeepsOn, stops_still, stops_on}
 use Rattle.ftl_device.proofs.SpentLemmas.{room_page, page_refused, call_kept}
 
 -- the fault of a call as that of one that may want memory too
@@ -46,13 +50,14 @@ call_of (Err fault) = Err (call.Engine fault)
 abbrev ended : CallFault → Result (Unit {0}) CallFault
 ended fault = Err fault
 
-module _ {N : Type 0} (flash : N → Flash) (honest calm : N → Bool) (failed : N → ℕ) where
+module _ {N : Type 0} (flash : N → Flash) (recorded : N → Option Recording) (honest calm : N → Bool) (failed : N → ℕ) where
   -- ---- nothing was made ready
 
   pub ends_refused : (old new : Engine N) (fault : WriteFault) → IsSafe flash new → new.fault ≡ Some fault → new.geometry ≡ old.geometry → honest new.nand ≡ honest old.nand → calm new.nand ≡ calm old.nand → failed old.nand ≤ failed new.nand
       → (fault ≡ Bus → HasRisen (failed old.nand) (failed new.nand)) → HasLimitsOf old.mapping new.mapping → Tells {A = Option ℕ} (ram old) (ram new) (Err fault)
-      → (honest old.nand ≡ true → fault ≢ Bus → Went (ram old) (flash old.nand) (ram new) (flash new.nand)) → Ends flash honest calm failed old (Err (call.Engine fault)) new
-  ends_refused old new fault safe stands geometry as_honest as_calm more rose limits tells went = record {
+      → (honest old.nand ≡ true → fault ≢ Bus → Went (ram old) (flash old.nand) (recorded old.nand) (ram new) (flash new.nand) (recorded new.nand))
+      → (honest old.nand ≡ true → Knows (ram old) (image_in flash old) → fault ≢ Bus → StopsSafely flash recorded old new) → Ends flash recorded honest calm failed old (Err (call.Engine fault)) new
+  ends_refused old new fault safe stands geometry as_honest as_calm more rose limits tells went stops = record {
     safe = safe;
     fault = stands;
     geometry = geometry;
@@ -64,15 +69,17 @@ module _ {N : Type 0} (flash : N → Flash) (honest calm : N → Bool) (failed :
     calm_memory = λ none. (let no : Some fault ≡ None = sym stands ∙ none in let never : ⊥ = cc in absurd never);
     tells = call_tells fault (ram old) (ram new) tells;
     went = λ is_honest ne. went is_honest (λ same. ne (ap (λ f. ended (call.Engine f)) same));
+    stops = λ is_honest k ne. stops is_honest k (λ same. ne (ap (λ f. ended (call.Engine f)) same));
   }
 
   -- ---- a sector was made ready, and then cached or not
 
   module _ (old mid : Engine N) (safe : IsSafe flash mid) (going : mid.fault ≡ None) (geometry : mid.geometry ≡ old.geometry) (as_honest : honest mid.nand ≡ honest old.nand) (as_calm : calm mid.nand ≡ calm old.nand)
       (more : failed old.nand ≤ failed mid.nand) (limits : HasLimitsOf old.mapping mid.mapping) (calm_mid : IsCalm (ram mid)) (fewer : good_count (ram mid).blocks.table ≤ good_count (ram old).blocks.table)
-      (went : honest old.nand ≡ true → Went (ram old) (flash old.nand) (ram mid) (flash mid.nand)) where
-    pub ends_memory : (new : Engine N) → new ≡ mid → Ends flash honest calm failed old (Err call.OutOfMemory) new
-    ends_memory new same = subst (λ e. Ends flash honest calm failed old (Err call.OutOfMemory) e) (sym same) (record {
+      (went : honest old.nand ≡ true → Went (ram old) (flash old.nand) (recorded old.nand) (ram mid) (flash mid.nand) (recorded mid.nand))
+      (stops : honest old.nand ≡ true → Knows (ram old) (image_in flash old) → StopsSafely flash recorded old mid) where
+    pub ends_memory : (new : Engine N) → new ≡ mid → Ends flash recorded honest calm failed old (Err call.OutOfMemory) new
+    ends_memory new same = subst (λ e. Ends flash recorded honest calm failed old (Err call.OutOfMemory) e) (sym same) (record {
       safe = safe;
       fault = going;
       geometry = geometry;
@@ -84,9 +91,10 @@ module _ {N : Type 0} (flash : N → Flash) (honest calm : N → Bool) (failed :
       calm_memory = λ none. calm_mid;
       tells = tt;
       went = λ is_honest ne. went is_honest;
+      stops = λ is_honest k ne. stops is_honest k;
     })
 
-    pub ends_loaded : (new : Engine N) (n : ℕ) (row : Option ℕ) → new ≡ record mid { mapping = loaded mid.mapping n row } → IsSafe flash new → Ends flash honest calm failed old (Ok tt) new
+    pub ends_loaded : (new : Engine N) (n : ℕ) (row : Option ℕ) → new ≡ record mid { mapping = loaded mid.mapping n row } → IsSafe flash new → Ends flash recorded honest calm failed old (Ok tt) new
     ends_loaded new n row is safe' = record {
       safe = safe';
       fault = ap (λ (e : Engine N). e.fault) is ∙ going;
@@ -98,12 +106,13 @@ module _ {N : Type 0} (flash : N → Flash) (honest calm : N → Bool) (failed :
       limits = limits_loaded mid new n row is old.mapping limits;
       calm_memory = λ none. calm_law (ram mid) (ram new) (beside_now mid new n row is) calm_mid;
       tells = subst (λ (e : Engine N). good_count (ram e).blocks.table ≤ good_count (ram old).blocks.table) (sym is) fewer;
-      went = λ is_honest ne. went_loaded mid new n row is flash (ram old) (flash old.nand) (went is_honest);
+      went = λ is_honest ne. went_loaded mid new n row is flash recorded (ram old) (flash old.nand) (recorded old.nand) (went is_honest);
+      stops = λ is_honest k ne. stops_still flash recorded old mid new (ap (λ (e : Engine N). flash e.nand) is) (ap (λ (e : Engine N). recorded e.nand) is) (stops is_honest k);
     }
 
   -- ---- a page of it comes after
 
-  module _ (old mid new : Engine N) (made : Unit {0}) (before : Ends flash honest calm failed old (Ok made) mid) (safe : IsSafe flash new) (goes : Goes (ram mid) (ram new)) (as_honest : honest new.nand ≡ honest mid.nand) (as_calm : calm new.nand ≡ calm mid.nand)
+  module _ (old mid new : Engine N) (made : Unit {0}) (before : Ends flash recorded honest calm failed old (Ok made) mid) (safe : IsSafe flash new) (goes : Goes (ram mid) (ram new)) (as_honest : honest new.nand ≡ honest mid.nand) (as_calm : calm new.nand ≡ calm mid.nand)
       (more : failed mid.nand ≤ failed new.nand) (beside : LeavesPin (ram mid) (ram new)) (no_more : HasNoMore mid.mapping new.mapping) where
     ended_fault : (answer : Result (Unit {0}) WriteFault) → new.fault ≡ fault_after mid.fault answer → new.fault ≡ standing_after (call_of answer)
     ended_fault (Ok done) is = is ∙ before.fault
@@ -117,12 +126,14 @@ module _ {N : Type 0} (flash : N → Flash) (honest calm : N → Bool) (failed :
     ended_tells (Ok done) p = omega (arith, p.put.good, before.tells)
     ended_tells (Err fault) p = page_tells fault (ram old) (ram mid) (ram new) before.tells p
 
-    ended_went : (answer : Result (Unit {0}) WriteFault) → (answer ≢ Err Bus → Went (ram mid) (flash mid.nand) (ram new) (flash new.nand)) → honest old.nand ≡ true → call_of answer ≢ Err (call.Engine Bus) → Went (ram old) (flash old.nand) (ram new) (flash new.nand)
-    ended_went answer went is_honest ne = went_then (ram old) (ram mid) (ram new) _ _ _ before.geometry (before.went is_honest (λ e. (let no : ⊥ = cc in no))) (went (λ bus. ne (ap call_of bus)))
+    ended_went : (answer : Result (Unit {0}) WriteFault) → (answer ≢ Err Bus → Went (ram mid) (flash mid.nand) (recorded mid.nand) (ram new) (flash new.nand) (recorded new.nand)) → honest old.nand ≡ true → call_of answer ≢ Err (call.Engine Bus)
+        → Went (ram old) (flash old.nand) (recorded old.nand) (ram new) (flash new.nand) (recorded new.nand)
+    ended_went answer went is_honest ne = went_then (ram old) (ram mid) (ram new) _ _ _ _ _ _ before.geometry (before.went is_honest (λ e. (let no : ⊥ = cc in no))) (went (λ bus. ne (ap call_of bus)))
 
     pub ends_page : (answer : Result (Unit {0}) WriteFault) → new.fault ≡ fault_after mid.fault answer → (mid.fault ≡ None → answer ≡ Err Bus → HasRisen (failed mid.nand) (failed new.nand)) → (mid.fault ≡ None → PageCosts Data (ram mid) (ram new) answer)
-        → (honest mid.nand ≡ true → answer ≢ Err Bus → Went (ram mid) (flash mid.nand) (ram new) (flash new.nand)) → Ends flash honest calm failed old (call_of answer) new
-    ends_page answer fault rose cost went = record {
+        → (honest mid.nand ≡ true → answer ≢ Err Bus → Went (ram mid) (flash mid.nand) (recorded mid.nand) (ram new) (flash new.nand) (recorded new.nand)) → KeepsOn flash honest old mid
+        → (honest mid.nand ≡ true → mid.fault ≡ None → IsTrue None (ram mid) (image_in flash mid) → answer ≢ Err Bus → StopsSafely flash recorded mid new) → Ends flash recorded honest calm failed old (call_of answer) new
+    ends_page answer fault rose cost went keeps stops = record {
       safe = safe;
       fault = ended_fault answer fault;
       geometry = goes.geometry ∙ before.geometry;
@@ -134,6 +145,9 @@ module _ {N : Type 0} (flash : N → Flash) (honest calm : N → Bool) (failed :
       calm_memory = λ none. calm_law (ram mid) (ram new) beside (before.calm_memory before.fault);
       tells = ended_tells answer (cost before.fault);
       went = λ is_honest ne. ended_went answer (went (before.honest_is ∙ is_honest)) is_honest ne;
+      stops = λ is_honest k ne.
+          let kept = keeps is_honest k in
+          stops_on flash recorded old mid new before.geometry before.limits kept.array (before.stops is_honest k (λ e. (let no : ⊥ = cc in no))) (stops (before.honest_is ∙ is_honest) before.fault kept.truth.truth (λ bus. ne (ap call_of bus)));
     }
 
 module _ {N : Type 0} (flash : N → Flash) (honest : N → Bool) (n : ℕ) where
@@ -146,9 +160,10 @@ module _ {N : Type 0} (flash : N → Flash) (honest : N → Bool) (n : ℕ) wher
     same_keys = r.same_keys;
     cached = r.cached;
     costs = call_kept (HasFunds (honest old.nand) (ram old) (image_in flash old)) fault (ram old) (ram new) r.costs;
+    pins = r.pins;
   }
 
-  module _ (old mid new : Engine N) (same : mid.geometry ≡ old.geometry) (made : Unit {0}) (before : Readies flash honest n 1 old (Ok made) mid) (keys : keys_of new.mapping.cached ≡ keys_of mid.mapping.cached) where
+  module _ (old mid new : Engine N) (same : mid.geometry ≡ old.geometry) (made : Unit {0}) (before : Readies flash honest n 1 old (Ok made) mid) (pin : new.pinned ≡ mid.pinned) (keys : keys_of new.mapping.cached ≡ keys_of mid.mapping.cached) where
     pub readies_page : (answer : Result (Unit {0}) WriteFault) → PageCosts Data (ram mid) (ram new) answer → Readies flash honest n 2 old (call_of answer) new
     readies_page (Ok done) p = record {
       recent = recent_kept n mid.mapping new.mapping keys before.recent;
@@ -157,6 +172,7 @@ module _ {N : Type 0} (flash : N → Flash) (honest : N → Bool) (n : ℕ) wher
       same_keys = λ e. (let no : ⊥ = cc in absurd no);
       cached = λ some e. (let no : ⊥ = cc in absurd no);
       costs = room_page (HasFunds (honest old.nand) (ram old) (image_in flash old)) (ram old) (ram mid) (ram new) same before.costs p;
+      pins = λ none. pin ∙ before.pins none;
     }
     readies_page (Err fault) p = record {
       recent = tt;
@@ -165,6 +181,7 @@ module _ {N : Type 0} (flash : N → Flash) (honest : N → Bool) (n : ℕ) wher
       same_keys = λ e. (let no : ⊥ = cc in absurd no);
       cached = λ some e. (let no : ⊥ = cc in absurd no);
       costs = page_refused (HasFunds (honest old.nand) (ram old) (image_in flash old)) fault (ram old) (ram mid) (ram new) same before.costs p;
+      pins = tt;
     }
 
 -- the page buffer that the look-up left is as it was

@@ -1,13 +1,15 @@
 -- Calls of the engine one after another, where no fault stood.
-use Rattle.std.proofs.Common.{◌≡◌, ◌≤◌, ◌∙◌, Bool, ℕ, None, Some, Result, Ok, Err, refl, ap, arith}
+use Rattle.std.proofs.Common.{◌≡◌, ◌≢◌, ◌≤◌, ◌∙◌, Bool, true, ℕ, Option, None, Some, Result, Ok, Err, refl, ap, arith}
 use Rattle.bad_blocks.specs.Table.{good_count}
 use Rattle.page_layout.specs.Flash.{Flash}
+use Rattle.page_layout.specs.Recording.{Recording}
 use Rattle.mapping_cache.specs.Mapping.{MappingState, HasLimitsOf}
 use Rattle.collection.specs.declared.engine.Engine.{Engine}
 use Rattle.collection.specs.declared.fault.WriteFault.{WriteFault}
 use Rattle.collection.specs.declared.fault.WriteFault.TheVariants.{ReadOnly, SequenceSpent, Damaged, Bus}
 use Rattle.collection.specs.State.{Ram}
-use Rattle.collection.specs.Safe.{IsSafe, ram}
+use Rattle.collection.specs.Safe.{IsSafe, ram, image_in}
+use Rattle.collection.specs.Stops.{StopsSafely}
 use Rattle.collection.specs.Left.{IsCalm}
 use Rattle.budget.specs.declared.stream.Stream.{Stream}
 use Rattle.collection.specs.Acts.{Stands}
@@ -16,9 +18,10 @@ use Rattle.collection.specs.Results.{fault_after}
 use Rattle.collection.proofs.Costs.{risen_over}
 use Rattle.collection.proofs.Logs.{went_same, went_then}
 use Rattle.ftl_device.specs.declared.fault.CallFault.TheVariants as call
-use Rattle.ftl_device.specs.Calls.{Tells, CallTells, standing_after}
+use Rattle.ftl_device.specs.Calls.{Tells, CallTells, standing_after, Knows}
 use Rattle.ftl_device.specs.Changes.{Leaves, Ends}
 use Rattle.ftl_device.proofs.EndLemmas.{call_of}
+use Rattle.ftl_device.proofs.StoppedLemmas.{KeepsOn, stops_same, stops_on}
 
 pub tells_then : {B : Type 0} (a b c : Ram) (result : Result B WriteFault) → good_count b.blocks.table ≤ good_count a.blocks.table → Tells b c result → Tells a c result
 tells_then a b c (Ok answer) fewer h = omega (arith, fewer, h)
@@ -52,10 +55,11 @@ refused_tells A B SequenceSpent a b h = h
 refused_tells A B Damaged a b h = tt
 refused_tells A B Bus a b h = tt
 
-module _ {N : Type 0} (flash : N → Flash) (honest calm : N → Bool) (failed : N → ℕ) where
+module _ {N : Type 0} (flash : N → Flash) (recorded : N → Option Recording) (honest calm : N → Bool) (failed : N → ℕ) where
   -- a call that the engine's standing fault would have stopped
-  pub leaves_by : {A : Type 0} (old new : Engine N) (result : Result A WriteFault) → old.fault ≡ None → Stands flash honest calm failed old new result → new.geometry ≡ old.geometry → Tells (ram old) (ram new) result → Leaves flash honest calm failed old result new
-  leaves_by old new result none s same tells = record {
+  pub leaves_by : {A : Type 0} (old new : Engine N) (result : Result A WriteFault) → old.fault ≡ None → Stands flash recorded honest calm failed old new result → new.geometry ≡ old.geometry → Tells (ram old) (ram new) result
+      → (honest old.nand ≡ true → Knows (ram old) (image_in flash old) → result ≢ Err Bus → StopsSafely flash recorded old new) → Leaves flash recorded honest calm failed old result new
+  leaves_by old new result none s same tells stops = record {
     safe = s.safe;
     fault = fault_noted result (ram old) (ram new) none s.fault;
     geometry = same;
@@ -65,10 +69,11 @@ module _ {N : Type 0} (flash : N → Flash) (honest calm : N → Bool) (failed :
     rose = s.rose none;
     tells = tells;
     went = s.went;
+    stops = stops;
   }
 
   -- nothing was asked
-  pub leaves_same : (e : Engine N) → IsSafe flash e → e.fault ≡ None → Leaves {A = Unit {0}} flash honest calm failed e (Ok tt) e
+  pub leaves_same : (e : Engine N) → IsSafe flash e → e.fault ≡ None → Leaves {A = Unit {0}} flash recorded honest calm failed e (Ok tt) e
   leaves_same e safe none = record {
     safe = safe;
     fault = none;
@@ -78,12 +83,13 @@ module _ {N : Type 0} (flash : N → Flash) (honest calm : N → Bool) (failed :
     failed_is = omega arith;
     rose = λ bus. (let no : ⊥ = cc in absurd no);
     tells = omega arith;
-    went = λ is_honest ne. went_same (ram e) (flash e.nand);
+    went = λ is_honest ne. went_same (ram e) (flash e.nand) (recorded e.nand);
+    stops = λ is_honest k ne. stops_same flash recorded e safe k.truth;
   }
 
   -- one after another, the first done
-  pub leaves_then : {A B : Type 0} (old mid new : Engine N) (done : A) (result : Result B WriteFault) → Leaves flash honest calm failed old (Ok done) mid → Leaves flash honest calm failed mid result new → Leaves flash honest calm failed old result new
-  leaves_then old mid new done result first next = record {
+  pub leaves_then : {A B : Type 0} (old mid new : Engine N) (done : A) (result : Result B WriteFault) → KeepsOn flash honest old mid → HasLimitsOf old.mapping mid.mapping → Leaves flash recorded honest calm failed old (Ok done) mid → Leaves flash recorded honest calm failed mid result new → Leaves flash recorded honest calm failed old result new
+  leaves_then old mid new done result keeps limits first next = record {
     safe = next.safe;
     fault = next.fault;
     geometry = next.geometry ∙ first.geometry;
@@ -92,11 +98,14 @@ module _ {N : Type 0} (flash : N → Flash) (honest calm : N → Bool) (failed :
     failed_is = omega (arith, first.failed_is, next.failed_is);
     rose = λ bus. risen_over (failed old.nand) (failed mid.nand) (failed new.nand) first.failed_is (next.rose bus);
     tells = tells_then (ram old) (ram mid) (ram new) result first.tells next.tells;
-    went = λ is_honest ne. went_then (ram old) (ram mid) (ram new) _ _ _ first.geometry (first.went is_honest (λ bus. (let no : ⊥ = cc in no))) (next.went (first.honest_is ∙ is_honest) ne);
+    went = λ is_honest ne. went_then (ram old) (ram mid) (ram new) _ _ _ _ _ _ first.geometry (first.went is_honest (λ bus. (let no : ⊥ = cc in no))) (next.went (first.honest_is ∙ is_honest) ne);
+    stops = λ is_honest k ne.
+        let kept = keeps is_honest k in
+        stops_on flash recorded old mid new first.geometry limits kept.array (first.stops is_honest k (λ bus. (let no : ⊥ = cc in no))) (next.stops (first.honest_is ∙ is_honest) kept.truth ne);
   }
 
   -- a refusal, whatever the call would have given
-  pub leaves_refused : (A B : Type 0) (old new : Engine N) (fault : WriteFault) → Leaves {A = A} flash honest calm failed old (Err fault) new → Leaves {A = B} flash honest calm failed old (Err fault) new
+  pub leaves_refused : (A B : Type 0) (old new : Engine N) (fault : WriteFault) → Leaves {A = A} flash recorded honest calm failed old (Err fault) new → Leaves {A = B} flash recorded honest calm failed old (Err fault) new
   leaves_refused A B old new fault l = record {
     safe = l.safe;
     fault = l.fault;
@@ -107,10 +116,11 @@ module _ {N : Type 0} (flash : N → Flash) (honest calm : N → Bool) (failed :
     rose = λ bus. l.rose (let same : fault ≡ Bus = cc in ap Err same);
     tells = refused_tells A B fault (ram old) (ram new) l.tells;
     went = λ is_honest ne. l.went is_honest (λ bus. ne (let same : fault ≡ Bus = cc in ap Err same));
+    stops = λ is_honest k ne. l.stops is_honest k (λ bus. ne (let same : fault ≡ Bus = cc in ap Err same));
   }
 
   -- and as the end of the part of a device's call that asks the die
-  pub leaves_ends : (old new : Engine N) (result : Result (Unit {0}) WriteFault) → Leaves flash honest calm failed old result new → HasLimitsOf old.mapping new.mapping → (new.fault ≡ None → IsCalm (ram new)) → Ends flash honest calm failed old (call_of result) new
+  pub leaves_ends : (old new : Engine N) (result : Result (Unit {0}) WriteFault) → Leaves flash recorded honest calm failed old result new → HasLimitsOf old.mapping new.mapping → (new.fault ≡ None → IsCalm (ram new)) → Ends flash recorded honest calm failed old (call_of result) new
   leaves_ends old new result l limits calm_now = record {
     safe = l.safe;
     fault = call_fault result (ram new) l.fault;
@@ -123,14 +133,15 @@ module _ {N : Type 0} (flash : N → Flash) (honest calm : N → Bool) (failed :
     calm_memory = calm_now;
     tells = call_tells result (ram old) (ram new) l.tells;
     went = λ is_honest ne. l.went is_honest (λ bus. ne (ap call_of bus));
+    stops = λ is_honest k ne. l.stops is_honest k (λ bus. ne (ap call_of bus));
   }
 
   -- where it was refused the fault stands, and nothing more is said of what waits in memory
-  pub leaves_stuck : {A : Type 0} (old new : Engine N) (fault : WriteFault) → Leaves {A = A} flash honest calm failed old (Err fault) new → HasLimitsOf old.mapping new.mapping → Ends flash honest calm failed old (Err (call.Engine fault)) new
+  pub leaves_stuck : {A : Type 0} (old new : Engine N) (fault : WriteFault) → Leaves {A = A} flash recorded honest calm failed old (Err fault) new → HasLimitsOf old.mapping new.mapping → Ends flash recorded honest calm failed old (Err (call.Engine fault)) new
   leaves_stuck old new fault l limits = leaves_ends old new (Err fault) (leaves_refused _ _ old new fault l) limits (λ none. (let stands : new.fault ≡ Some fault = l.fault in let no : ⊥ = cc in absurd no))
 
   -- what was done gives what it likes
-  pub leaves_done : {A B : Type 0} (old new : Engine N) (a : A) (b : B) → Leaves flash honest calm failed old (Ok a) new → Leaves flash honest calm failed old (Ok b) new
+  pub leaves_done : {A B : Type 0} (old new : Engine N) (a : A) (b : B) → Leaves flash recorded honest calm failed old (Ok a) new → Leaves flash recorded honest calm failed old (Ok b) new
   leaves_done old new a b l = record {
     safe = l.safe;
     fault = l.fault;
@@ -141,6 +152,7 @@ module _ {N : Type 0} (flash : N → Flash) (honest calm : N → Bool) (failed :
     rose = λ bus. (let no : ⊥ = cc in absurd no);
     tells = l.tells;
     went = λ is_honest ne. l.went is_honest (λ bus. (let no : ⊥ = cc in no));
+    stops = λ is_honest k ne. l.stops is_honest k (λ bus. (let no : ⊥ = cc in no));
   }
 
 -- ---- what stays of the memory

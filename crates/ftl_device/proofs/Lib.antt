@@ -27,3 +27,4 @@ pub mod EndLemmas
 pub mod LeaveLemmas
 pub mod ChangeLemmas
 pub mod UpkeepLemmas
+pub mod StoppedLemmas

@@ -4,6 +4,7 @@ use Rattle.page_layout.specs.declared.geometry.Geometry.{Geometry}
 use Rattle.page_layout.specs.declared.record.Key.TheVariants.{Sector}
 use Rattle.page_layout.specs.Page.{Image}
 use Rattle.page_layout.specs.Flash.{Flash}
+use Rattle.page_layout.specs.Recording.{Recording}
 use Rattle.bad_blocks.specs.Table.{good_count}
 use Rattle.collection.specs.declared.fault.WriteFault.{WriteFault}
 use Rattle.collection.specs.declared.fault.WriteFault.TheVariants.{ReadOnly, SequenceSpent, Damaged, Bus}
@@ -44,10 +45,10 @@ tells_found (Err Bus) a b c d fault first next is of_read = tt
 -- ---- the look-up comes last
 
 module _ (c d : Ram) (fault : Option WriteFault) (is : d ≡ record c { fault = fault }) where
-  pub went_found : (a : Ram) (s t u : Flash) → Went a s c t → u ≡ t → Went a s d u
-  went_found a s t u w same =
-      let noted : Went a s (record c { fault = fault }) t = record { log = w.log; leads = w.leads; follows = w.follows; next = w.next; wears = w.wears } in
-      subst (λ x. Went a s d x) (sym same) (subst (λ r. Went a s r t) (sym is) noted)
+  pub went_found : (a : Ram) (s t u : Flash) (rs rt ru : Option Recording) → Went a s rs c t rt → u ≡ t → ru ≡ rt → Went a s rs d u ru
+  went_found a s t u rs rt ru w same still =
+      let noted : Went a s rs (record c { fault = fault }) t rt = record { log = w.log; leads = w.leads; records = w.records; follows = w.follows; next = w.next; wears = w.wears } in
+      subst (λ x. Went a s rs d x ru) (sym same) (subst (λ x. Went a s rs d t x) (sym still) (subst (λ r. Went a s rs r t rt) (sym is) noted))
 
   truth_found : (x : Image) → IsTrue None c x → IsTrue None d x
   truth_found x w =
@@ -103,10 +104,10 @@ module _ {N : Type 0} (e f : Engine N) (n : ℕ) (row : Option ℕ) (is : f ≡ 
       let here = loaded_limits e.mapping n row in
       subst P (sym is) (record { geometry = here.geometry ∙ l.geometry; capacity = here.capacity ∙ l.capacity })
 
-  pub went_loaded : (flash : N → Flash) (a : Ram) (s : Flash) → Went a s (ram e) (flash e.nand) → Went a s (ram f) (flash f.nand)
-  went_loaded flash a s w =
-      let P : Engine N → Type 0 = λ x. Went a s (ram x) (flash x.nand) in
-      subst P (sym is) (record { log = w.log; leads = w.leads; follows = w.follows; next = w.next; wears = w.wears })
+  pub went_loaded : (flash : N → Flash) (recorded : N → Option Recording) (a : Ram) (s : Flash) (rs : Option Recording) → Went a s rs (ram e) (flash e.nand) (recorded e.nand) → Went a s rs (ram f) (flash f.nand) (recorded f.nand)
+  went_loaded flash recorded a s rs w =
+      let P : Engine N → Type 0 = λ x. Went a s rs (ram x) (flash x.nand) (recorded x.nand) in
+      subst P (sym is) (record { log = w.log; leads = w.leads; records = w.records; follows = w.follows; next = w.next; wears = w.wears })
 
   pub keeps_loaded : (flash : N → Flash) (g : Geometry) (before : Image) → IsRam (ram e) → IsRam (ram f) → KeepsArray g before (ram e) (image_in flash e) → IsTrue None (ram f) (image_in flash e) → KeepsArray g before (ram f) (image_in flash f)
   keeps_loaded flash g before s t kept truth =

@@ -89,6 +89,16 @@ pub room_cleans : (result : Result (Unit {0}) WriteFault) (flushing : Bool) (a b
 room_cleans (Ok done) flushing a b s t same r idle on = clean_now a b s t same (r on) idle
 room_cleans (Err fault) flushing a b s t same r idle on = tt
 
+-- making room pins no block that was not pinned
+pub room_pins : {N : Type 0} (erases : N → ℕ) (a b : Engine N) → RestsOrErases erases a b → a.pinned ≡ None → b.pinned ≡ None
+room_pins {N} erases a b (inl same) none = ap (λ (e : Engine N). e.pinned) same ∙ none
+room_pins erases a b (inr erased) none = erased.1
+
+-- what holds anyhow holds where it was done
+pub ok_any : {A P : Type 0} (result : Result A WriteFault) → P → OnOk result P
+ok_any (Ok answer) p = p
+ok_any (Err fault) p = tt
+
 -- ---- the array stays
 
 pub keeps_room : (a b : Ram) (x y : Image) → IsRearranged a x b y → Knows b y → KeepsArray a.geometry x b y

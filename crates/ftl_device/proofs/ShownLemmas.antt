@@ -1,10 +1,11 @@
 -- What a refused call shows of the image and of its log.
-use Rattle.std.proofs.Common.{◌≡◌, ◌≢◌, ℕ, ◌+◌, ◌≤◌, ◌<◌, ◌⊎◌, inl, inr, Bool, true, List, [], None, Result, Ok, Err, MatchResult, refl, sym, ap}
+use Rattle.std.proofs.Common.{◌≡◌, ◌≢◌, ℕ, ◌+◌, ◌≤◌, ◌<◌, ◌⊎◌, inl, inr, Bool, true, List, [], Option, None, Result, Ok, Err, MatchResult, refl, sym, ap}
 use Rattle.std.proofs.Common.{subst, ◌∙◌, arith}
 use Rattle.std.specs.Prelude.{IfErr}
 use Rattle.std.proofs.lemmas.Bool.{ltb-true}
 use Rattle.page_layout.specs.declared.geometry.Geometry.{Geometry}
 use Rattle.page_layout.specs.Flash.{Flash, Operation}
+use Rattle.page_layout.specs.Recording.{Recording}
 use Rattle.bad_blocks.specs.Table.{good_count}
 use Rattle.allocation.specs.State.{free_count}
 use Rattle.promises.specs.Step.{Command}
@@ -26,7 +27,7 @@ use Rattle.ftl_device.specs.Begin.{is_scarce}
 use Rattle.ftl_device.proofs.CountLemmas.{short_law, lacks_short, failed_counted}
 
 -- where the device was not to change a sector
-pub shown_refused : (r : Ram) (s : Flash) (w : Went r s r s) (ro : Bool) (n : ℕ) (fault : DeviceFault) → IsRam r → IsTrue None r s.image → stop_of r.fault ≡ None → MayNot r ro n fault → IsShown r.geometry (is_bad_by r) r.next [] w.log ro s.image fault
+pub shown_refused : (r : Ram) (s : Flash) {told told' : Option Recording} (w : Went r s told r s told') (ro : Bool) (n : ℕ) (fault : DeviceFault) → IsRam r → IsTrue None r s.image → stop_of r.fault ≡ None → MayNot r ro n fault → IsShown r.geometry (is_bad_by r) r.next [] w.log ro s.image fault
 shown_refused r s w ro n OutOfRange safe truth going not = tt
 shown_refused r s w ro n (ReadOnly good wanted failed) safe truth going not = (short_law r r w.log s.image good wanted failed safe safe refl w.follows truth not.short, inr (inr not.closed))
 shown_refused r s w ro n SequenceSpent safe truth going not = sym w.next ∙ not.last
@@ -35,7 +36,7 @@ shown_refused r s w ro n Damaged safe truth going not = (let no : ⊥ = cc in no
 shown_refused r s w ro n BusFault safe truth going not = (let no : ⊥ = cc in no)
 
 -- where it was stopped short
-shown_at : (old r : Ram) (s t : Flash) (w : Went old s r t) (g : Geometry) (n : ℕ) (bytes : List ℕ) (ro : Bool) (answer : Result (Unit {0}) CallFault) → IsRam old → IsRam r → r.geometry ≡ old.geometry → CallTells old r answer → CallShort old r answer → MatchResult answer (λ _. HoldsSector g n bytes s.image r t.image) (CallRefused g s.image r t.image)
+shown_at : (old r : Ram) (s t : Flash) {told told' : Option Recording} (w : Went old s told r t told') (g : Geometry) (n : ℕ) (bytes : List ℕ) (ro : Bool) (answer : Result (Unit {0}) CallFault) → IsRam old → IsRam r → r.geometry ≡ old.geometry → CallTells old r answer → CallShort old r answer → MatchResult answer (λ _. HoldsSector g n bytes s.image r t.image) (CallRefused g s.image r t.image)
     → answer_of r (good_count old.blocks.table) answer ≢ Err BusFault → IfErr (answer_of r (good_count old.blocks.table) answer) (IsShown old.geometry (is_bad_by old) old.next [] w.log ro t.image)
 shown_at old r s t w g n bytes ro (Ok done) safe safe' same tells lacks so ne = tt
 shown_at old r s t w g n bytes ro (Err (call.Engine engine_fault.ReadOnly)) safe safe' same tells lacks so ne =
@@ -45,12 +46,12 @@ shown_at old r s t w g n bytes ro (Err (call.Engine engine_fault.Damaged)) safe 
 shown_at old r s t w g n bytes ro (Err (call.Engine engine_fault.Bus)) safe safe' same tells lacks so ne = ne refl
 shown_at old r s t w g n bytes ro (Err call.OutOfMemory) safe safe' same tells lacks so ne = tt
 
-pub shown_after : {N : Type 0} (flash : N → Flash) (old e last : Engine N) (w : Went (ram old) (flash old.nand) (ram last) (flash last.nand)) (n : ℕ) (bytes : List ℕ) (ro : Bool) (answer : Result (Unit {0}) CallFault) (result : Result (Unit {0}) DeviceFault) (good : ℕ) → last ≡ e → IsRam (ram old) → IsRam (ram e) → e.geometry ≡ old.geometry → good ≡ good_count (ram old).blocks.table
+pub shown_after : {N : Type 0} (flash : N → Flash) (recorded : N → Option Recording) (old e last : Engine N) (w : Went (ram old) (flash old.nand) (recorded old.nand) (ram last) (flash last.nand) (recorded last.nand)) (n : ℕ) (bytes : List ℕ) (ro : Bool) (answer : Result (Unit {0}) CallFault) (result : Result (Unit {0}) DeviceFault) (good : ℕ) → last ≡ e → IsRam (ram old) → IsRam (ram e) → e.geometry ≡ old.geometry → good ≡ good_count (ram old).blocks.table
     → result ≡ answer_of (ram last) good answer → CallTells (ram old) (ram e) answer → CallShort (ram old) (ram e) answer → MatchResult answer (λ _. HoldsSector old.geometry n bytes (image_in flash old) (ram e) (image_in flash e)) (CallRefused old.geometry (image_in flash old) (ram e) (image_in flash e))
     → result ≢ Err BusFault → IfErr result (IsShown old.geometry (is_bad_by (ram old)) old.next [] w.log ro (image_in flash last))
-shown_after {N} flash old e last w n bytes ro answer result good same safe safe' sized many is tells lacks so ne =
+shown_after {N} flash recorded old e last w n bytes ro answer result good same safe safe' sized many is tells lacks so ne =
     let whole : result ≡ answer_of (ram e) (good_count (ram old).blocks.table) answer = is ∙ (ap (λ x. answer_of (ram x) good answer) same ∙ ap (λ k. answer_of (ram e) k answer) many) in
-    let P : Engine N → Type 0 = λ x. (v : Went (ram old) (flash old.nand) (ram x) (flash x.nand)) → IfErr result (IsShown old.geometry (is_bad_by (ram old)) old.next [] v.log ro (image_in flash x)) in
+    let P : Engine N → Type 0 = λ x. (v : Went (ram old) (flash old.nand) (recorded old.nand) (ram x) (flash x.nand) (recorded x.nand)) → IfErr result (IsShown old.geometry (is_bad_by (ram old)) old.next [] v.log ro (image_in flash x)) in
     let here : P e = λ v. subst (λ y. IfErr y (IsShown old.geometry (is_bad_by (ram old)) old.next [] v.log ro (image_in flash e))) (sym whole)
     (shown_at (ram old) (ram e) (flash old.nand) (flash e.nand) v old.geometry n bytes ro answer safe safe' sized tells lacks so (λ bus. ne (whole ∙ bus))) in
     subst P (sym same) here w
@@ -61,7 +62,7 @@ shown_after {N} flash old e last w n bytes ro answer result good same safe safe'
 not_scarce : (free : ℕ) → 5 ≤ free → is_scarce free ≡ true → ⊥
 not_scarce free five is = (let less : free < 5 = ltb-true free 5 is in omega arith)
 
-module _ (command : Command) (old r : Ram) (s t : Flash) (w : Went old s r t) (ro : Bool) (safe : IsRam old) (safe' : IsRam r) (same : r.geometry ≡ old.geometry) (scarce : is_scarce (free_count r.blocks) ≡ true) where
+module _ (command : Command) (old r : Ram) (s t : Flash) {told told' : Option Recording} (w : Went old s told r t told') (ro : Bool) (safe : IsRam old) (safe' : IsRam r) (same : r.geometry ≡ old.geometry) (scarce : is_scarce (free_count r.blocks) ≡ true) where
   lacks_now : LacksGood old r ⊎ (5 ≤ free_count r.blocks) → LacksGood old r
   lacks_now (inl lacks) = lacks
   lacks_now (inr five) = absurd (not_scarce (free_count r.blocks) five scarce)
@@ -87,7 +88,7 @@ module _ (command : Command) (old r : Ram) (s t : Flash) (w : Went old s r t) (r
   flush_left_at its good (Err (call.Engine engine_fault.Bus)) h = tt
   flush_left_at its good (Err call.OutOfMemory) h = absurd h
 
-module _ {N : Type 0} (flash : N → Flash) (command : Command) (old e last : Engine N) (w : Went (ram old) (flash old.nand) (ram last) (flash last.nand)) (ro after : Bool) (answer : Result (Unit {0}) CallFault) (result : Result (Unit {0}) DeviceFault) (good : ℕ)
+module _ {N : Type 0} (flash : N → Flash) (recorded : N → Option Recording) (command : Command) (old e last : Engine N) (w : Went (ram old) (flash old.nand) (recorded old.nand) (ram last) (flash last.nand) (recorded last.nand)) (ro after : Bool) (answer : Result (Unit {0}) CallFault) (result : Result (Unit {0}) DeviceFault) (good : ℕ)
     (same : last ≡ e) (is : result ≡ answer_of (ram last) good answer) (safe : IsRam (ram old)) (safe' : IsRam (ram last)) (sized : e.geometry ≡ old.geometry) (flag : after ≡ is_scarce (free_count (ram last).blocks)) (on : after ≡ true) where
   abbrev Left : Result (Unit {0}) DeviceFault → Type 0
   Left x = IsLeft command old.geometry (is_bad_by (ram old)) [] w.log ro x

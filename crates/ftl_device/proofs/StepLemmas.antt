@@ -5,8 +5,9 @@ use Rattle.page_layout.specs.Counter.{counted, HasRisen}
 use Rattle.page_layout.specs.declared.geometry.Geometry.{Geometry}
 use Rattle.page_layout.specs.Page.{Image}
 use Rattle.page_layout.specs.Flash.{Flash}
+use Rattle.page_layout.specs.Recording.{Recording}
 use Rattle.page_layout.specs.Geometry.{vmax}
-use Rattle.page_layout.specs.Array.{marks}
+use Rattle.page_layout.specs.Array.{marks, array_of}
 use Rattle.bad_blocks.specs.Table.{is_good_at, good_count}
 use Rattle.budget.specs.declared.stream.Stream.TheVariants.{Meta}
 use Rattle.allocation.specs.State.{State, is_closed, is_open, pointer_at, live_at, free_count}
@@ -43,6 +44,7 @@ use Rattle.ftl_device.specs.Shortage.{LacksGood, CallShort}
 use Rattle.ftl_device.proofs.ShortageLemmas.{leaves_five}
 use Rattle.ftl_device.specs.Changes.{Leaves, CollectsOn}
 use Rattle.ftl_device.proofs.LeaveLemmas.{leaves_same, leaves_then}
+use Rattle.ftl_device.proofs.StoppedLemmas.{stops_same}
 use Rattle.ftl_device.proofs.RoomLemmas.{not_ailing, good_fewer, rescue_worked}
 use Rattle.ftl_device.proofs.PinLemmas.{few_more, unpinned_moved}
 
@@ -221,9 +223,9 @@ module _ {N : Type 0} (flash : N → Flash) (e f : Engine N) (block : ℕ) (is :
   pub worked_pinned : (erases : N → ℕ) (new : Engine N) → HasWorked (ram f) (ram new) (erases f.nand) (erases new.nand) → HasWorked (ram e) (ram new) (erases e.nand) (erases new.nand)
   worked_pinned erases new h = (let P : Engine N → Type 0 = λ z. HasWorked (ram z) (ram new) (erases z.nand) (erases new.nand) in subst P is h)
 
-  module _ (honest calm : N → Bool) (erases failed : N → ℕ) where
-    leaves_pinned : IsSafe flash f → e.fault ≡ None → Leaves {A = Unit {0}} flash honest calm failed e (Ok tt) f
-    leaves_pinned safe none = (let P : Engine N → Type 0 = λ z. IsSafe flash z → Leaves {A = Unit {0}} flash honest calm failed e (Ok tt) z in subst P (sym is) (λ s. record {
+  module _ (recorded : N → Option Recording) (honest calm : N → Bool) (erases failed : N → ℕ) where
+    leaves_pinned : IsSafe flash e → IsSafe flash f → e.fault ≡ None → Leaves {A = Unit {0}} flash recorded honest calm failed e (Ok tt) f
+    leaves_pinned was safe none = (let P : Engine N → Type 0 = λ z. IsSafe flash z → Leaves {A = Unit {0}} flash recorded honest calm failed e (Ok tt) z in subst P (sym is) (λ s. record {
       safe = s;
       fault = none;
       geometry = refl;
@@ -232,13 +234,14 @@ module _ {N : Type 0} (flash : N → Flash) (e f : Engine N) (block : ℕ) (is :
       failed_is = omega arith;
       rose = λ bus. (let no : ⊥ = cc in absurd no);
       tells = omega arith;
-      went = λ is_honest ne. (let w = went_same (ram e) (flash e.nand) in record { log = w.log; leads = w.leads; follows = w.follows; next = w.next; wears = w.wears });
+      went = λ is_honest ne. (let w = went_same (ram e) (flash e.nand) (recorded e.nand) in record { log = w.log; leads = w.leads; records = w.records; follows = w.follows; next = w.next; wears = w.wears });
+      stops = λ is_honest k ne. stops_same flash recorded e was k.truth;
     }) safe)
 
     -- the step after it is one of the engine before
-    pub collects_pinned : (new : Engine N) (result : Result (Unit {0}) WriteFault) → IsSafe flash f → e.fault ≡ None → (Knows (ram e) (image_in flash e) → Knows (ram f) (image_in flash f)) → CollectsOn flash honest calm erases failed f result new → CollectsOn flash honest calm erases failed e result new
-    collects_pinned new result safe going begun k = record {
-      leaves = leaves_then flash honest calm failed e f new tt result (leaves_pinned safe going) k.leaves;
+    pub collects_pinned : (new : Engine N) (result : Result (Unit {0}) WriteFault) → IsSafe flash e → IsSafe flash f → e.fault ≡ None → (Knows (ram e) (image_in flash e) → Knows (ram f) (image_in flash f)) → CollectsOn flash recorded honest calm erases failed f result new → CollectsOn flash recorded honest calm erases failed e result new
+    collects_pinned new result was safe going begun k = record {
+      leaves = leaves_then flash recorded honest calm failed e f new tt result (λ known w. keeps_pinned (begun w)) limits_pinned (leaves_pinned was safe going) k.leaves;
       limits = (let P : Engine N → Type 0 = λ z. HasLimitsOf z.mapping new.mapping in subst P is k.limits);
       calm_memory = k.calm_memory;
       goes = goes_pinned new k.goes;
@@ -251,10 +254,16 @@ module _ {N : Type 0} (flash : N → Flash) (e f : Engine N) (block : ℕ) (is :
         honest_pinned : honest f.nand ≡ honest e.nand
         honest_pinned = ap (λ (z : Engine N). honest z.nand) is
 
+        keeps_pinned : Knows (ram f) (image_in flash f) → KeepsArray e.geometry (image_in flash e) (ram f) (image_in flash f)
+        keeps_pinned k = record { truth = k; array = ap (λ (z : Engine N). array_of e.geometry (image_in flash z)) is }
+
+        limits_pinned : HasLimitsOf e.mapping f.mapping
+        limits_pinned = subst (λ (z : Engine N). HasLimitsOf e.mapping z.mapping) (sym is) (record { geometry = refl; capacity = refl })
+
 -- none begins
-pub collects_none : {N : Type 0} (flash : N → Flash) (honest calm : N → Bool) (erases failed : N → ℕ) (e : Engine N) → IsSafe flash e → e.fault ≡ None → IsCalm (ram e) → CollectsOn flash honest calm erases failed e (Ok tt) e
-collects_none flash honest calm erases failed e safe going calm_now = record {
-  leaves = leaves_same flash honest calm failed e safe going;
+pub collects_none : {N : Type 0} (flash : N → Flash) (recorded : N → Option Recording) (honest calm : N → Bool) (erases failed : N → ℕ) (e : Engine N) → IsSafe flash e → e.fault ≡ None → IsCalm (ram e) → CollectsOn flash recorded honest calm erases failed e (Ok tt) e
+collects_none flash recorded honest calm erases failed e safe going calm_now = record {
+  leaves = leaves_same flash recorded honest calm failed e safe going;
   limits = record { geometry = refl; capacity = refl };
   calm_memory = λ none. calm_now;
   goes = on_same (ram e);

@@ -1,8 +1,7 @@
 -- What a turn has done once there was room.
-use Rattle.std.proofs.Common.{◌≡◌, ◌⊎◌, inl, inr, Bool, true, false, Option, Some, None, MatchOption, Result, Ok, refl, sym, ap, subst}
+use Rattle.std.proofs.Common.{◌≡◌, ◌⊎◌, inl, inr, Bool, true, false, Option, Some, None, MatchOption, Ok, refl, sym, ap, subst}
 use Rattle.collection.specs.declared.engine.Pinned.{Pinned}
 use Rattle.collection.specs.declared.engine.turns.Step.{Step}
-use Rattle.collection.specs.declared.fault.WriteFault.{WriteFault}
 use Rattle.collection.specs.State.{Ram}
 use Rattle.collection.specs.Collect.{HasAiling, HasNoneAiling, RescueCosts}
 use Rattle.collection.specs.Left.{HasStepped, pinned_to}

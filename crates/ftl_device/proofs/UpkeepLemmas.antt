@@ -1,10 +1,12 @@
 -- A device's call that changes no sector, a flush or a turn, from the engine's.
-use Rattle.std.proofs.Common.{◌≡◌, ◌≢◌, ℕ, ◌∙◌, Bool, true, false, None, [], Result, Ok, Err, OnOk, MatchResult, refl, sym, ap, subst, arith}
+use Rattle.std.proofs.Common.{◌≡◌, ◌≢◌, inl, ℕ, ◌∙◌, Bool, true, false, Option, None, [], Result, Ok, Err, OnOk, MatchResult, refl, sym, ap, subst, arith}
+use Rattle.std.specs.Prelude.{IsSome}
 use Rattle.std.proofs.lemmas.Bool.{lt-ltb}
 use Rattle.page_layout.specs.declared.geometry.Geometry.{Geometry}
 use Rattle.page_layout.specs.Geometry.{need}
 use Rattle.page_layout.specs.Page.{Image}
 use Rattle.page_layout.specs.Flash.{Flash}
+use Rattle.page_layout.specs.Recording.{Recording}
 use Rattle.page_layout.specs.Array.{array_of}
 use Rattle.bad_blocks.specs.Table.{good_count}
 use Rattle.allocation.specs.State.{free_count}
@@ -26,12 +28,13 @@ use Rattle.ftl_device.specs.Calls.{Knows, IsWell, state_in, reply_of, stop_of, C
 use Rattle.ftl_device.specs.Counts.{is_bad_by, is_flush, IsLeft}
 use Rattle.ftl_device.specs.Flush.{MayFlush, MayNotFlush, first_of, IsFlushedOut}
 use Rattle.ftl_device.specs.Shortage.{CallShort}
-use Rattle.ftl_device.specs.Changes.{Ends, Logs, Means, Upkeeps}
+use Rattle.ftl_device.specs.Changes.{Ends, PinsNone, MayPin, Logs, Means, Upkeeps}
 use Rattle.ftl_device.proofs.CallLemmas.{well_device, memory_only, mountable_after, went_after}
-use Rattle.ftl_device.proofs.ChangeLemmas.{Why, refuses_made, refuses_at_once, stays_same, not_past}
+use Rattle.ftl_device.proofs.ChangeLemmas.{pins_of, Why, refuses_made, refuses_at_once, stays_same, not_past}
 use Rattle.ftl_device.proofs.PinLemmas.{knows_well}
 use Rattle.ftl_device.proofs.FlushCalls.{flush_well, flush_shown, flush_refused, flush_left_refused}
 use Rattle.ftl_device.proofs.MountableLemmas.{restart_law}
+use Rattle.ftl_device.proofs.StoppedLemmas.{stopped_call, stops_same}
 
 -- ---- a step of the array that changes no sector
 
@@ -53,6 +56,15 @@ module _ (g h : Geometry) (before after : Image) (old new : Ram) (ro on : Bool) 
   quiet_step (Err (call.Engine engine_fault.Bus)) tells is some ne = absurd (ne refl)
   quiet_step (Err call.OutOfMemory) tells is some ne = absurd (some refl)
 
+-- a command that changes no sector keeps the array, whatever it is answered
+kept_array : (g : Geometry) (before after : Image) (new q : Ram) (good : ℕ) (answer : Result (Unit {0}) CallFault) → MatchResult answer (λ _. KeepsArray g before new after) (CallRefused g before new after) → answer_of q good answer ≢ Err BusFault → array_of g after ≡ array_of g before
+kept_array g before after new q good (Ok done) h ne = h.array
+kept_array g before after new q good (Err (call.Engine engine_fault.ReadOnly)) h ne = h.array
+kept_array g before after new q good (Err (call.Engine engine_fault.SequenceSpent)) h ne = h.array
+kept_array g before after new q good (Err (call.Engine engine_fault.Damaged)) h ne = absurd h
+kept_array g before after new q good (Err (call.Engine engine_fault.Bus)) h ne = absurd (ne refl)
+kept_array g before after new q good (Err call.OutOfMemory) h ne = h.array
+
 -- an answer that is `Ok` was one of the engine's
 done_only : (P : Type 0) (answer : Result (Unit {0}) CallFault) (good : ℕ) (r : Ram) → OnOk answer P → answer_of r good answer ≡ Ok tt → P
 done_only P (Ok done) good r h e = h
@@ -64,20 +76,20 @@ done_only P (Err call.OutOfMemory) good r h e = (let no : ⊥ = cc in absurd no)
 
 -- ---- the call was made
 
-module _ {N : Type 0} (flash : N → Flash) (honest calm : N → Bool) (failed : N → ℕ) (command : Command) (old : Device N) where
+module _ {N : Type 0} (flash : N → Flash) (recorded : N → Option Recording) (honest calm : N → Bool) (failed : N → ℕ) (command : Command) (old : Device N) where
   abbrev good_then : ℕ
   good_then = good_count (ram old.engine).blocks.table
 
   -- what is known of the engine as the part ends that asks the die: what a refusal lacks, what leaves the device read-only, and, of a flush,
   -- what the image is worth
   pub record IsUpkept (answer : Result (Unit {0}) CallFault) (e : Engine N) : Type 0 where
-    pub ends : Ends flash honest calm failed old.engine answer e
+    pub ends : Ends flash recorded honest calm failed old.engine answer e
     pub no_memory : answer ≢ Err call.OutOfMemory
     pub truth : honest old.engine.nand ≡ true → Knows (ram old.engine) (image_in flash old.engine) → MatchResult answer (λ _. KeepsArray old.engine.geometry (image_in flash old.engine) (ram e) (image_in flash e)) (CallRefused old.engine.geometry (image_in flash old.engine) (ram e) (image_in flash e))
     pub lacks : honest old.engine.nand ≡ true → Knows (ram old.engine) (image_in flash old.engine) → (fault : CallFault) → answer ≡ Err fault → CallShort (ram old.engine) (ram e) answer
-    pub left : honest old.engine.nand ≡ true → Knows (ram old.engine) (image_in flash old.engine) → (w : Went (ram old.engine) (flash old.engine.nand) (ram e) (flash e.nand)) → (ro : Bool) → ro ≡ is_scarce (free_count (ram e).blocks) → ro ≡ true
+    pub left : honest old.engine.nand ≡ true → Knows (ram old.engine) (image_in flash old.engine) → (w : Went (ram old.engine) (flash old.engine.nand) (recorded old.engine.nand) (ram e) (flash e.nand) (recorded e.nand)) → (ro : Bool) → ro ≡ is_scarce (free_count (ram e).blocks) → ro ≡ true
         → IsLeft command old.engine.geometry (is_bad_by (ram old.engine)) [] w.log old.read_only (answer_of (ram e) good_then answer)
-    pub worth : honest old.engine.nand ≡ true → Knows (ram old.engine) (image_in flash old.engine) → (w : Went (ram old.engine) (flash old.engine.nand) (ram e) (flash e.nand)) → is_flush command ≡ true → OnOk answer (IsFlushedOut (first_of (ram old.engine)) w.log (image_in flash e))
+    pub worth : honest old.engine.nand ≡ true → Knows (ram old.engine) (image_in flash old.engine) → (w : Went (ram old.engine) (flash old.engine.nand) (recorded old.engine.nand) (ram e) (flash e.nand) (recorded e.nand)) → is_flush command ≡ true → OnOk answer (IsFlushedOut (first_of (ram old.engine)) w.log (image_in flash e))
 
   module _ (new : Device N) (device : IsDevice flash old) (device' : IsDevice flash new) (may : MayFlush (ram old.engine) old.read_only)
       (takes : (reply : Reply) (s : State) → QuietStep (state_in flash old) reply s → ArrayStep old.engine.geometry (state_in flash old) command reply s) where
@@ -88,14 +100,16 @@ module _ {N : Type 0} (flash : N → Flash) (honest calm : N → Bool) (failed :
       here : IsWell flash old → Knows (ram old.engine) (image_in flash old.engine)
       here well = knows_well flash old device well may.going
 
-      logs_done : honest old.engine.nand ≡ true → replied ≢ Err BusFault → Logs flash command old replied new
+      logs_done : honest old.engine.nand ≡ true → replied ≢ Err BusFault → Logs flash recorded command old replied new
       logs_done is_honest ne =
-          let w = went_after flash old.engine new.engine new.engine answer replied good_then refl refl (k.ends.went is_honest) ne in
+          let w = went_after flash recorded old.engine new.engine new.engine answer replied good_then refl refl (k.ends.went is_honest) ne in
           record {
             went = w;
-            shown = λ well. flush_shown flash old.engine new.engine new.engine w old.read_only answer replied good_then refl device.engine.memory k.ends.safe.memory k.ends.geometry refl refl k.ends.tells (k.lacks is_honest (here well)) (k.truth is_honest (here well)) ne;
+            shown = λ well. flush_shown flash recorded old.engine new.engine new.engine w old.read_only answer replied good_then refl device.engine.memory k.ends.safe.memory k.ends.geometry refl refl k.ends.tells (k.lacks is_honest (here well)) (k.truth is_honest (here well)) ne;
             left = λ well on. k.left is_honest (here well) w new.read_only device'.read_only on;
             flushed = λ well its done. done_only _ answer good_then (ram new.engine) (k.worth is_honest (here well) w its) done;
+            stopped = λ well. stopped_call flash recorded old.engine new.engine command replied w.log device.engine w.records (k.ends.stops is_honest (here well) (λ bus. ne (ap (answer_of (ram new.engine) good_then) bus)))
+                (inl (kept_array old.engine.geometry (image_in flash old.engine) (image_in flash new.engine) (ram new.engine) (ram new.engine) good_then answer (k.truth is_honest (here well)) ne));
           }
 
       means_done : honest old.engine.nand ≡ true → Knows (ram old.engine) (image_in flash old.engine) → replied ≢ Err BusFault → Means flash command old replied new
@@ -107,7 +121,7 @@ module _ {N : Type 0} (flash : N → Flash) (honest calm : N → Bool) (failed :
             mountable = λ most. mountable_after flash old.engine new new.engine refl k.ends.geometry k.ends.limits device'.engine.memory after most;
           }
 
-      upkeep_done : Upkeeps flash honest calm failed command old replied new
+      upkeep_done : Upkeeps flash recorded honest calm failed command old replied new
       upkeep_done = record {
         stays = record { limits = k.ends.limits; honest_is = k.ends.honest_is; calm_is = k.ends.calm_is; failed_is = k.ends.failed_is };
         refuses = refuses_made failed old new may.going may.writable answer k.ends.fault k.ends.tells k.ends.rose;
@@ -122,10 +136,20 @@ module _ {N : Type 0} (flash : N → Flash) (honest calm : N → Bool) (failed :
       }
 
     -- the device noted nothing else
-    pub upkept_by : (mid : Engine N) (good : ℕ) (answer : Result (Unit {0}) CallFault) (result : Result (Unit {0}) DeviceFault) → new.engine ≡ mid → good ≡ good_then → result ≡ answer_of (ram new.engine) good answer → IsUpkept answer mid → Upkeeps flash honest calm failed command old result new
+    pub upkept_by : (mid : Engine N) (good : ℕ) (answer : Result (Unit {0}) CallFault) (result : Result (Unit {0}) DeviceFault) → new.engine ≡ mid → good ≡ good_then → result ≡ answer_of (ram new.engine) good answer → IsUpkept answer mid → Upkeeps flash recorded honest calm failed command old result new
     upkept_by mid good answer result same many is kept =
         let done = upkeep_done answer (subst (IsUpkept answer) (sym same) kept) in
-        subst (λ r. Upkeeps flash honest calm failed command old r new) (sym (is ∙ ap (λ k. answer_of (ram new.engine) k answer) many)) done
+        subst (λ r. Upkeeps flash recorded honest calm failed command old r new) (sym (is ∙ ap (λ k. answer_of (ram new.engine) k answer) many)) done
+
+-- a flush pins no block, unless it was stopped short
+pub flush_pins : {N : Type 0} (answer : Result (Unit {0}) CallFault) (old e last : Engine N) (result : Result (Unit {0}) DeviceFault) (good : ℕ) → answer ≢ Err call.OutOfMemory → last ≡ e → result ≡ answer_of (ram last) good answer → OnOk answer (old.pinned ≡ None → e.pinned ≡ None) → old.pinned ≡ None → IsSome last.pinned → MayPin result
+flush_pins {N} answer old e last result good memory same is pins none some =
+    subst MayPin (sym is) (pins_of answer old last (ram last) good (by answer memory pins) none some)
+  where
+    by : (a : Result (Unit {0}) CallFault) → a ≢ Err call.OutOfMemory → OnOk a (old.pinned ≡ None → e.pinned ≡ None) → PinsNone a old last
+    by (Ok done) ne h = λ free. ap (λ (x : Engine N). x.pinned) same ∙ h free
+    by (Err (call.Engine fault)) ne h = tt
+    by (Err call.OutOfMemory) ne h = absurd (ne refl)
 
 -- ---- it was refused at once
 
@@ -174,9 +198,9 @@ module _ (r : Ram) (ro : Bool) where
   quiet_refusal s Damaged same not going = (let no : ⊥ = cc in absurd no)
   quiet_refusal s BusFault same not going = (let no : ⊥ = cc in absurd no)
 
-module _ {N : Type 0} (flash : N → Flash) (honest calm : N → Bool) (failed : N → ℕ) (command : Command) (old : Device N) (device : IsDevice flash old)
+module _ {N : Type 0} (flash : N → Flash) (recorded : N → Option Recording) (honest calm : N → Bool) (failed : N → ℕ) (command : Command) (old : Device N) (device : IsDevice flash old)
     (takes : (reply : Reply) (s : State) → QuietStep (state_in flash old) reply s → ArrayStep old.engine.geometry (state_in flash old) command reply s) where
-  pub not_upkept : (fault : DeviceFault) → MayNotFlush (ram old.engine) old.read_only fault → Upkeeps flash honest calm failed command old (Err fault) old
+  pub not_upkept : (fault : DeviceFault) → MayNotFlush (ram old.engine) old.read_only fault → Upkeeps flash recorded honest calm failed command old (Err fault) old
   not_upkept fault not = record {
     stays = stays_same honest calm failed old;
     refuses = refuses_at_once failed old fault (why_not (ram old.engine) old.read_only fault not);
@@ -187,12 +211,13 @@ module _ {N : Type 0} (flash : N → Flash) (honest calm : N → Bool) (failed :
       memory = λ e. (refused_otherwise (ram old.engine) old.read_only fault not).1 (cc);
     };
     logs = λ is_honest ne.
-        let w = went_same (ram old.engine) (flash old.engine.nand) in
+        let w = went_same (ram old.engine) (flash old.engine.nand) (recorded old.engine.nand) in
         record {
           went = w;
           shown = λ well. flush_refused (ram old.engine) (flash old.engine.nand) w old.read_only fault device.engine.memory well.truth well.going not;
           left = λ well on. flush_left_refused command (ram old.engine) w.log old.read_only fault not;
           flushed = λ well its done. (let no : ⊥ = cc in absurd no);
+          stopped = λ well. stopped_call flash recorded old.engine old.engine command (Err fault) w.log device.engine w.records (stops_same flash recorded old.engine device.engine well.truth) (inl refl);
         };
     means = λ is_honest well ne. record {
       step = takes _ _ (quiet_refusal (ram old.engine) old.read_only (state_in flash old) fault refl not well.going);

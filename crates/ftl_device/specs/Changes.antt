@@ -1,9 +1,10 @@
 -- What the calls promise: each clause that `write` and `trim` share, or `flush` and `turn`, or the calls within them, stands here once.
-use Rattle.std.specs.Prelude.{◌≡◌, ◌≢◌, ◌↔◌, ℕ, ◌+◌, ◌-◌, ◌^◌, ◌<◌, ◌≤◌, Bool, true, false, [], None, IsSome, Result, Ok, Err, IfErr, OnOk, MatchResult}
+use Rattle.std.specs.Prelude.{◌≡◌, ◌≢◌, ◌↔◌, ℕ, ◌+◌, ◌-◌, ◌^◌, ◌<◌, ◌≤◌, Bool, true, false, [], Option, None, IsSome, Result, Ok, Err, IfErr, OnOk, MatchResult}
 use Rattle.std.specs.Option.{ForSome}
 use Rattle.std.specs.Map.{keys_of}
 use Rattle.page_layout.specs.Counter.{HasRisen}
 use Rattle.page_layout.specs.Flash.{Flash}
+use Rattle.page_layout.specs.Recording.{Recording}
 use Rattle.page_layout.specs.Geometry.{need}
 use Rattle.page_layout.specs.Page.{Page}
 use Rattle.bad_blocks.specs.Table.{good_count}
@@ -22,21 +23,23 @@ use Rattle.collection.specs.Collect.{GoesOn}
 use Rattle.collection.specs.Cost.{HasPut}
 use Rattle.collection.specs.Log.{Went}
 use Rattle.collection.specs.Results.{fault_after}
+use Rattle.collection.specs.Stops.{StopsSafely}
 use Rattle.ftl_device.specs.declared.device.Device.{Device}
 use Rattle.ftl_device.specs.declared.fault.CallFault.{CallFault}
 use Rattle.ftl_device.specs.declared.fault.CallFault.TheVariants as call
 use Rattle.ftl_device.specs.declared.fault.DeviceFault.{DeviceFault}
-use Rattle.ftl_device.specs.declared.fault.DeviceFault.TheVariants.{OutOfRange, ReadOnly, SequenceSpent, OutOfMemory, BusFault}
+use Rattle.ftl_device.specs.declared.fault.DeviceFault.TheVariants.{OutOfRange, ReadOnly, SequenceSpent, OutOfMemory, Damaged, BusFault}
 use Rattle.ftl_device.specs.Calls.{state_in, reply_of, stop_of, IsWell, Says, Tells, CallTells, standing_after, IsMostRecent, IsReady, HasCost, order_after, Knows, KeepsArray, KeepsBad, CallRefused}
 use Rattle.ftl_device.specs.Counts.{is_bad_by, is_flush, IsShown, IsLeft}
 use Rattle.ftl_device.specs.Read.{IsLookedUp}
 use Rattle.ftl_device.specs.Flush.{first_of, IsFlushedOut}
 use Rattle.ftl_device.specs.Shortage.{HasFunds, CallRoomCosts, StepCounts}
+use Rattle.ftl_device.specs.Stopped.{SurvivesStops}
 
 -- ---- inside the device
 
 -- WHAT A CALL OF THE ENGINE LEAVES where no fault stood, whatever it answers: the fault that it answers stands from then on
-pub record Leaves {A N : Type 0} (flash : N → Flash) (honest calm : N → Bool) (failed : N → ℕ) (old : Engine N) (result : Result A WriteFault) (new : Engine N) : Type 0 where
+pub record Leaves {A N : Type 0} (flash : N → Flash) (recorded : N → Option Recording) (honest calm : N → Bool) (failed : N → ℕ) (old : Engine N) (result : Result A WriteFault) (new : Engine N) : Type 0 where
   pub safe : IsSafe flash new
   pub fault : new.fault ≡ fault_after None result
   pub geometry : new.geometry ≡ old.geometry
@@ -45,10 +48,11 @@ pub record Leaves {A N : Type 0} (flash : N → Flash) (honest calm : N → Bool
   pub failed_is : failed old.nand ≤ failed new.nand
   pub rose : result ≡ Err Bus → HasRisen (failed old.nand) (failed new.nand)
   pub tells : Tells (ram old) (ram new) result
-  pub went : honest old.nand ≡ true → result ≢ Err Bus → Went (ram old) (flash old.nand) (ram new) (flash new.nand)
+  pub went : honest old.nand ≡ true → result ≢ Err Bus → Went (ram old) (flash old.nand) (recorded old.nand) (ram new) (flash new.nand) (recorded new.nand)
+  pub stops : honest old.nand ≡ true → Knows (ram old) (image_in flash old) → result ≢ Err Bus → StopsSafely flash recorded old new
 
 -- AND WHERE THE CALL MAY WANT MEMORY TOO: how the part of a device's call ends that asks the die
-pub record Ends {N : Type 0} (flash : N → Flash) (honest calm : N → Bool) (failed : N → ℕ) (old : Engine N) (result : Result (Unit {0}) CallFault) (new : Engine N) : Type 0 where
+pub record Ends {N : Type 0} (flash : N → Flash) (recorded : N → Option Recording) (honest calm : N → Bool) (failed : N → ℕ) (old : Engine N) (result : Result (Unit {0}) CallFault) (new : Engine N) : Type 0 where
   pub safe : IsSafe flash new
   pub fault : new.fault ≡ standing_after result
   pub geometry : new.geometry ≡ old.geometry
@@ -59,7 +63,14 @@ pub record Ends {N : Type 0} (flash : N → Flash) (honest calm : N → Bool) (f
   pub limits : HasLimitsOf old.mapping new.mapping
   pub calm_memory : new.fault ≡ None → IsCalm (ram new)
   pub tells : CallTells (ram old) (ram new) result
-  pub went : honest old.nand ≡ true → result ≢ Err (call.Engine Bus) → Went (ram old) (flash old.nand) (ram new) (flash new.nand)
+  pub went : honest old.nand ≡ true → result ≢ Err (call.Engine Bus) → Went (ram old) (flash old.nand) (recorded old.nand) (ram new) (flash new.nand) (recorded new.nand)
+  pub stops : honest old.nand ≡ true → Knows (ram old) (image_in flash old) → result ≢ Err (call.Engine Bus) → StopsSafely flash recorded old new
+
+-- where it was done, or memory was refused, no block is pinned that was not
+abbrev pub PinsNone : {N : Type 0} → Result (Unit {0}) CallFault → Engine N → Engine N → Type 0
+PinsNone (Ok done) old new = old.pinned ≡ None → new.pinned ≡ None
+PinsNone (Err (call.Engine fault)) old new = Unit {0}
+PinsNone (Err call.OutOfMemory) old new = old.pinned ≡ None → new.pinned ≡ None
 
 -- and of one that makes a sector ready, and programs at most so many pages once there is room
 pub record Readies {N : Type 0} (flash : N → Flash) (honest : N → Bool) (n pages : ℕ) (old : Engine N) (result : Result (Unit {0}) CallFault) (new : Engine N) : Type 0 where
@@ -69,10 +80,11 @@ pub record Readies {N : Type 0} (flash : N → Flash) (honest : N → Bool) (n p
   pub same_keys : result ≡ Err call.OutOfMemory → keys_of new.mapping.cached ≡ keys_of old.mapping.cached
   pub cached : IsSome (slot_of old.mapping n) → result ≢ Err call.OutOfMemory
   pub costs : CallRoomCosts (HasFunds (honest old.nand) (ram old) (image_in flash old)) pages (ram old) (ram new) result
+  pub pins : PinsNone result old new
 
 -- and of a step of a collection that a turn takes: bad blocks get no page; where the die is honest the array stays
-pub record CollectsOn {N : Type 0} (flash : N → Flash) (honest calm : N → Bool) (erases failed : N → ℕ) (old : Engine N) (result : Result (Unit {0}) WriteFault) (new : Engine N) : Type 0 where
-  pub leaves : Leaves flash honest calm failed old result new
+pub record CollectsOn {N : Type 0} (flash : N → Flash) (recorded : N → Option Recording) (honest calm : N → Bool) (erases failed : N → ℕ) (old : Engine N) (result : Result (Unit {0}) WriteFault) (new : Engine N) : Type 0 where
+  pub leaves : Leaves flash recorded honest calm failed old result new
   pub limits : HasLimitsOf old.mapping new.mapping
   pub calm_memory : new.fault ≡ None → IsCalm (ram new)
   pub goes : GoesOn (ram old) (ram new)
@@ -132,14 +144,29 @@ pub record ProgramsSector {N : Type 0} (n : ℕ) (old : Device N) (result : Resu
   pub unwritten : result ≡ Err OutOfMemory → IsReady n (ram old.engine) (ram new.engine)
   pub same_keys : result ≡ Err OutOfMemory → keys_of new.engine.mapping.cached ≡ keys_of old.engine.mapping.cached
 
+-- AN ANSWER AFTER WHICH A COLLECTION MAY BE LEFT HALF DONE that was not under way: one after which the device changes no sector any more
+abbrev pub MayPin : Result (Unit {0}) DeviceFault → Type 0
+MayPin (Ok done) = ⊥
+MayPin (Err OutOfRange) = ⊥
+MayPin (Err (ReadOnly good wanted failed)) = Unit {0}
+MayPin (Err SequenceSpent) = Unit {0}
+MayPin (Err OutOfMemory) = ⊥
+MayPin (Err Damaged) = Unit {0}
+MayPin (Err BusFault) = Unit {0}
+
+-- a call that pins no block: one is pinned after it only where one was before, or where it was stopped short
+abbrev pub LeavesUnpinned : {N : Type 0} → Device N → Result (Unit {0}) DeviceFault → Device N → Type 0
+LeavesUnpinned old result new = old.engine.pinned ≡ None → IsSome new.engine.pinned → MayPin result
+
 -- ---- where the die is honest and gave every outcome
 
 -- THE LOG OF A CALL, and what its answer says of that log
-pub record Logs {N : Type 0} (flash : N → Flash) (command : Command) (old : Device N) (result : Result (Unit {0}) DeviceFault) (new : Device N) : Type 0 where
-  pub went : Went (ram old.engine) (flash old.engine.nand) (ram new.engine) (flash new.engine.nand)
+pub record Logs {N : Type 0} (flash : N → Flash) (recorded : N → Option Recording) (command : Command) (old : Device N) (result : Result (Unit {0}) DeviceFault) (new : Device N) : Type 0 where
+  pub went : Went (ram old.engine) (flash old.engine.nand) (recorded old.engine.nand) (ram new.engine) (flash new.engine.nand) (recorded new.engine.nand)
   pub shown : IsWell flash old → IfErr result (IsShown old.engine.geometry (is_bad_by (ram old.engine)) old.engine.next [] went.log old.read_only (image_in flash new.engine))
   pub left : IsWell flash old → new.read_only ≡ true → IsLeft command old.engine.geometry (is_bad_by (ram old.engine)) [] went.log old.read_only result
   pub flushed : IsWell flash old → is_flush command ≡ true → result ≡ Ok tt → IsFlushedOut (first_of (ram old.engine)) went.log (image_in flash new.engine)
+  pub stopped : IsWell flash old → SurvivesStops old.engine.geometry old.engine.mapping.capacity command result (image_in flash old.engine) (image_in flash new.engine) (recorded new.engine.nand) went.log
 
 -- what is true of the image after it
 pub record Means {N : Type 0} (flash : N → Flash) (command : Command) (old : Device N) (result : Result (Unit {0}) DeviceFault) (new : Device N) : Type 0 where
@@ -151,21 +178,22 @@ pub record Means {N : Type 0} (flash : N → Flash) (command : Command) (old : D
 -- ---- the whole
 
 -- A CALL THAT CHANGES A SECTOR
-pub record Changes {N : Type 0} (flash : N → Flash) (honest calm : N → Bool) (failed : N
+pub record Changes {N : Type 0} (flash : N → Flash) (recorded : N → Option Recording) (honest calm : N → Bool) (failed : N
     → ℕ) (n : ℕ) (command : Command) (old : Device N) (result : Result (Unit {0}) DeviceFault) (new : Device N) : Type 0 where
   pub stays : Stays honest calm failed old new
   pub refuses : Refuses failed old result new
   pub refuses_sector : RefusesSector n old result new
   pub programs : ProgramsSector n old result new
-  pub logs : honest old.engine.nand ≡ true → result ≢ Err BusFault → Logs flash command old result new
+  pub pins : LeavesUnpinned old result new
+  pub logs : honest old.engine.nand ≡ true → result ≢ Err BusFault → Logs flash recorded command old result new
   pub means : honest old.engine.nand ≡ true → IsWell flash old → result ≢ Err BusFault → Means flash command old result new
   pub stale : honest old.engine.nand ≡ true → IsWell flash old → old.engine.pinned ≡ None → is_stale old.engine.geometry (image_in flash old.engine) n ≡ true → result ≢ Err OutOfMemory
 
 -- A CALL THAT CHANGES NO SECTOR: a flush, or a turn
-pub record Upkeeps {N : Type 0} (flash : N → Flash) (honest calm : N → Bool) (failed : N
+pub record Upkeeps {N : Type 0} (flash : N → Flash) (recorded : N → Option Recording) (honest calm : N → Bool) (failed : N
     → ℕ) (command : Command) (old : Device N) (result : Result (Unit {0}) DeviceFault) (new : Device N) : Type 0 where
   pub stays : Stays honest calm failed old new
   pub refuses : Refuses failed old result new
   pub refuses_upkeep : RefusesUpkeep old result new
-  pub logs : honest old.engine.nand ≡ true → result ≢ Err BusFault → Logs flash command old result new
+  pub logs : honest old.engine.nand ≡ true → result ≢ Err BusFault → Logs flash recorded command old result new
   pub means : honest old.engine.nand ≡ true → IsWell flash old → result ≢ Err BusFault → Means flash command old result new

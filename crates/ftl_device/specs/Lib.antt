@@ -7,3 +7,4 @@ pub mod Flush
 pub mod Shortage
 pub mod Turn
 pub mod Changes
+pub mod Stopped

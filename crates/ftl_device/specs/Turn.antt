@@ -1,5 +1,5 @@
 -- What a turn does once it has begun.
-use Rattle.std.specs.Prelude.{◌≡◌, ◌⊎◌, ℕ, Bool, false, Some, MatchOption}
+use Rattle.std.specs.Prelude.{◌≡◌, ◌⊎◌, false, Some, MatchOption}
 use Rattle.collection.specs.declared.engine.Pinned.{Pinned}
 use Rattle.collection.specs.declared.engine.room.Reserve.TheVariants as reserve
 use Rattle.collection.specs.declared.engine.turns.Step.{Step}

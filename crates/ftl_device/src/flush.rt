@@ -14,7 +14,7 @@ ghost use Rattle.ftl_device.specs.Shortage.{HasFunds, FlushCounts, FlushShort};
 ghost use Rattle.mapping_cache.specs.Mapping.{HasLimitsOf};
 ghost use Rattle.promises.specs.Step.{Flush};
 ghost use Rattle.ftl_device.specs.Device.{IsDevice};
-ghost use Rattle.ftl_device.specs.Changes.{Leaves, Ends, Upkeeps};
+ghost use Rattle.ftl_device.specs.Changes.{Leaves, Ends, Upkeeps, LeavesUnpinned};
 
 use crate::device::Device;
 use crate::fault::{CallFault, DeviceFault};
@@ -28,7 +28,8 @@ fn flush_translation<N: Nand>(engine: &mut Engine<N>, t: u32) -> Result<(), Writ
     requires going { engine.old.fault ≡ None }
     requires calm { IsCalm (ram engine.old) }
     requires page { t < translation_pages engine.old.geometry }
-    ensures leaves { Leaves N.flash N.honest N.calm N.failed engine.old result engine.new }
+    ensures leaves { Leaves N.flash N.recorded N.honest N.calm N.failed engine.old result engine.new }
+    ensures pins { OnOk result (engine.old.pinned ≡ None → engine.new.pinned ≡ None) }
     ensures keys { keys_of engine.new.mapping.cached ≡ keys_of engine.old.mapping.cached }
     ensures limits { HasLimitsOf engine.old.mapping engine.new.mapping }
     ensures calm { engine.new.fault ≡ None → IsCalm (ram engine.new) }
@@ -54,7 +55,8 @@ fn flush_translations<N: Nand>(engine: &mut Engine<N>) -> Result<(), WriteFault>
     requires safe { IsSafe N.flash engine.old }
     requires going { engine.old.fault ≡ None }
     requires calm { IsCalm (ram engine.old) }
-    ensures leaves { Leaves N.flash N.honest N.calm N.failed engine.old result engine.new }
+    ensures leaves { Leaves N.flash N.recorded N.honest N.calm N.failed engine.old result engine.new }
+    ensures pins { OnOk result (engine.old.pinned ≡ None → engine.new.pinned ≡ None) }
     ensures keys { keys_of engine.new.mapping.cached ≡ keys_of engine.old.mapping.cached }
     ensures limits { HasLimitsOf engine.old.mapping engine.new.mapping }
     ensures calm { engine.new.fault ≡ None → IsCalm (ram engine.new) }
@@ -77,7 +79,7 @@ fn flush_translations<N: Nand>(engine: &mut Engine<N>) -> Result<(), WriteFault>
 fn write_tables_once<N: Nand>(engine: &mut Engine<N>) -> Result<(), WriteFault>
     requires safe { IsSafe N.flash engine.old }
     requires going { engine.old.fault ≡ None }
-    ensures leaves { Leaves N.flash N.honest N.calm N.failed engine.old result engine.new }
+    ensures leaves { Leaves N.flash N.recorded N.honest N.calm N.failed engine.old result engine.new }
     ensures mapping { engine.new.mapping ≡ engine.old.mapping }
     ensures beside { LeavesPin (ram engine.old) (ram engine.new) }
     ensures table { KeepsTable (ram engine.old).blocks (ram engine.new).blocks }
@@ -98,7 +100,7 @@ fn write_tables_once<N: Nand>(engine: &mut Engine<N>) -> Result<(), WriteFault>
 fn write_tables<N: Nand>(engine: &mut Engine<N>) -> Result<(), WriteFault>
     requires safe { IsSafe N.flash engine.old }
     requires going { engine.old.fault ≡ None }
-    ensures leaves { Leaves N.flash N.honest N.calm N.failed engine.old result engine.new }
+    ensures leaves { Leaves N.flash N.recorded N.honest N.calm N.failed engine.old result engine.new }
     ensures mapping { engine.new.mapping ≡ engine.old.mapping }
     ensures beside { LeavesPin (ram engine.old) (ram engine.new) }
     ensures cost { OnOk result (WritesTables (ram engine.old) (ram engine.new)) }
@@ -122,8 +124,9 @@ pub(crate) fn flush_ready<N: Nand>(engine: &mut Engine<N>) -> Result<(), CallFau
     requires safe { IsSafe N.flash engine.old }
     requires going { engine.old.fault ≡ None }
     requires calm { IsCalm (ram engine.old) }
-    ensures ends { Ends N.flash N.honest N.calm N.failed engine.old result engine.new }
+    ensures ends { Ends N.flash N.recorded N.honest N.calm N.failed engine.old result engine.new }
     ensures memory { result ≢ Err CallFault.OutOfMemory }
+    ensures pins { OnOk result (engine.old.pinned ≡ None → engine.new.pinned ≡ None) }
     ensures keys { keys_of engine.new.mapping.cached ≡ keys_of engine.old.mapping.cached }
     ensures clean { OnOk result ((t : ℕ) → t < translation_pages engine.old.geometry → IsClean engine.old.geometry t engine.new.mapping) }
     ensures count { HasFunds (N.honest engine.old.nand) (ram engine.old) (image_in N.flash engine.old) → FlushShort (ram engine.old) (ram engine.new) result }
@@ -181,7 +184,8 @@ impl<N: Nand> Device<N> {
         requires device { IsDevice N.flash self.old }
         ensures device { IsDevice N.flash self.new }
         ensures geometry { self.new.engine.geometry ≡ self.old.engine.geometry }
-        ensures upkeeps { Upkeeps N.flash N.honest N.calm N.failed Flush self.old result self.new }
+        ensures upkeeps { Upkeeps N.flash N.recorded N.honest N.calm N.failed Flush self.old result self.new }
+        ensures pins { LeavesUnpinned self.old result self.new }
         ensures keys { keys_of self.new.engine.mapping.cached ≡ keys_of self.old.engine.mapping.cached }
     {
         self.may_flush()?;

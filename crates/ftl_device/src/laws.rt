@@ -2,6 +2,7 @@ ghost use Rattle.ftl_device.specs.Begin.{BeginLaw, FreeLaw, GoodLaw, AccountsLaw
 ghost use Rattle.ftl_device.specs.Calls.{StaleLaw, RestartLaw, LeftBelowLaw, TurnsLaw};
 ghost use Rattle.ftl_device.specs.Counts.{FreeNowLaw, GoodNowLaw, BadNowLaw, ShortLaw};
 ghost use Rattle.ftl_device.specs.Shortage.{LeavesFiveLaw, TablesLeaveLaw};
+ghost use Rattle.ftl_device.specs.Stopped.{QuietStopLaw, RefusedStopLaw, MountsStopLaw, AnsweredStaysLaw};
 ghost use Rattle.ftl_device.specs.Flush.{FreshLaw, AnywhereLaw, ShownBadLaw, ShownWearLaw};
 
 use onfi_cycles::Nand;
@@ -58,4 +59,15 @@ pub fn flushed_laws()
 pub fn shortage_laws()
     ensures five { LeavesFiveLaw }
     ensures tables { TablesLeaveLaw }
+{}
+
+/// What a stop inside a call leaves: a read, a flush and a turn change no sector, nor does a command
+/// that is refused; the image mounts for as many stale sectors as the cache holds and a block has pages;
+/// and what a write was answered Done for stays, where a later write of another sector is stopped. (This
+/// project.)
+pub fn stopped_laws()
+    ensures quiet { QuietStopLaw }
+    ensures refused { RefusedStopLaw }
+    ensures mounts { MountsStopLaw }
+    ensures stays { AnsweredStaysLaw }
 {}

@@ -1,5 +1,5 @@
 //! Sectors are read.
-ghost use Rattle.std.specs.Prelude.{◌≡◌, ◌≢◌, ◌+◌, ◌<◌, ◌≤◌, true, length, None, Some, Err, IsSome, IfErr, OnErr};
+ghost use Rattle.std.specs.Prelude.{◌≡◌, ◌≢◌, ◌+◌, ◌<◌, ◌≤◌, true, [], length, None, Some, Err, IsSome, IfErr, OnErr};
 ghost use Rattle.std.specs.Option.{ForSome};
 ghost use Rattle.page_layout.specs.Page.{Image};
 ghost use Rattle.page_layout.specs.Counter.{HasRisen};
@@ -15,6 +15,7 @@ ghost use Rattle.collection.specs.Pages.{newest_row};
 ghost use Rattle.collection.specs.Looks.{IsReadFault};
 ghost use Rattle.ftl_device.specs.Device.{IsDevice};
 ghost use Rattle.ftl_device.specs.Calls.{IsWell, stop_of, state_in, read_reply_of};
+ghost use Rattle.ftl_device.specs.Stopped.{SurvivesStops};
 ghost use Rattle.ftl_device.specs.Read.{LooksUp, LeavesRead, IsReadRefusal};
 
 use crate::device::Device;
@@ -111,6 +112,11 @@ impl<N: Nand> Device<N> {
         // The truth of it, for a die that keeps its promises.
         ensures same { N.honest self.old.engine.nand ≡ true → result ≢ Err DeviceFault.BusFault →
             N.flash self.new.engine.nand ≡ N.flash self.old.engine.nand }
+        ensures told { N.honest self.old.engine.nand ≡ true → result ≢ Err DeviceFault.BusFault →
+            N.recorded self.new.engine.nand ≡ N.recorded self.old.engine.nand }
+        ensures survives { N.honest self.old.engine.nand ≡ true → IsWell N.flash self.old → result ≢ Err DeviceFault.BusFault →
+            SurvivesStops self.old.engine.geometry self.old.engine.mapping.capacity (Read sector) result
+            (image_in N.flash self.old.engine) (image_in N.flash self.new.engine) (N.recorded self.new.engine.nand) [] }
         ensures well { N.honest self.old.engine.nand ≡ true → IsWell N.flash self.old → result ≢ Err DeviceFault.BusFault →
             IsWell N.flash self.new }
         ensures step { N.honest self.old.engine.nand ≡ true → IsWell N.flash self.old → result ≢ Err DeviceFault.BusFault →

@@ -35,7 +35,7 @@ pub(crate) fn make_room<N: Nand>(engine: &mut Engine<N>, flushing: bool) -> Resu
     requires safe { IsSafe N.flash engine.old }
     requires going { engine.old.fault ≡ None }
     requires calm { IsCalm (ram engine.old) }
-    ensures leaves { Leaves N.flash N.honest N.calm N.failed engine.old result engine.new }
+    ensures leaves { Leaves N.flash N.recorded N.honest N.calm N.failed engine.old result engine.new }
     ensures made { OnOk result (HasMadeRoom flushing (ram engine.old) (ram engine.new)) }
     ensures rests { 9 ≤ free_count (ram engine.old).blocks → IsOk result × (engine.new ≡ engine.old) }
     ensures erases { OnOk result (RestsOrErases N.erases engine.old engine.new) }
@@ -61,7 +61,7 @@ pub(crate) fn make_room<N: Nand>(engine: &mut Engine<N>, flushing: bool) -> Resu
 fn make_place<N: Nand>(engine: &mut Engine<N>, sector: u32) -> Result<(), WriteFault>
     requires safe { IsSafe N.flash engine.old }
     requires going { engine.old.fault ≡ None }
-    ensures leaves { Leaves N.flash N.honest N.calm N.failed engine.old result engine.new }
+    ensures leaves { Leaves N.flash N.recorded N.honest N.calm N.failed engine.old result engine.new }
     ensures place { OnOk result (CanLoad engine.new.mapping sector) }
     ensures keys { keys_of engine.new.mapping.cached ≡ keys_of engine.old.mapping.cached }
     ensures beside { LeavesPin (ram engine.old) (ram engine.new) }
@@ -101,6 +101,7 @@ fn find_row<N: Nand>(engine: &mut Engine<N>, sector: u32) -> Result<Option<u32>,
     ensures checked { IfOk result (FindsRow (ram engine.old) sector (page_in engine.new.scratch)) }
     ensures row { IfOk result (λ row. ForSome row (λ r. r < row_count engine.old.geometry)) }
     ensures same { N.honest engine.old.nand ≡ true → result ≢ Err WriteFault.Bus → N.flash engine.new.nand ≡ N.flash engine.old.nand }
+    ensures told { N.honest engine.old.nand ≡ true → result ≢ Err WriteFault.Bus → N.recorded engine.new.nand ≡ N.recorded engine.old.nand }
     ensures truth { N.honest engine.old.nand ≡ true → IsTrue None (ram engine.old) (image_in N.flash engine.old) →
         MatchResult result
         (λ row. row ≡ newest_row (image_in N.flash engine.old) (Sector sector))
@@ -122,13 +123,14 @@ fn prepare<N: Nand>(engine: &mut Engine<N>, sector: u32) -> Result<Option<u32>, 
     requires going { engine.old.fault ≡ None }
     requires calm { IsCalm (ram engine.old) }
     requires sector { sector < engine.old.geometry.sectors }
-    ensures leaves { Leaves N.flash N.honest N.calm N.failed engine.old result engine.new }
+    ensures leaves { Leaves N.flash N.recorded N.honest N.calm N.failed engine.old result engine.new }
     ensures place { OnOk result (CanLoad engine.new.mapping sector) }
     ensures row { IfOk result (λ row. ForSome row (λ r. r < row_count engine.old.geometry)) }
     ensures checked { IfOk result (FindsRow (ram engine.new) sector (page_in engine.new.scratch)) }
     ensures keys { keys_of engine.new.mapping.cached ≡ keys_of engine.old.mapping.cached }
     ensures limits { HasLimitsOf engine.old.mapping engine.new.mapping }
     ensures calm { OnOk result (IsCalm (ram engine.new)) }
+    ensures pins { OnOk result (engine.old.pinned ≡ None → engine.new.pinned ≡ None) }
     ensures cost { OnOk result (IsReady sector (ram engine.old) (ram engine.new)) }
     ensures costs { RoomCosts (HasFunds (N.honest engine.old.nand) (ram engine.old) (image_in N.flash engine.old)) 1
         (ram engine.old) (ram engine.new) result }
@@ -148,7 +150,7 @@ fn make_ready<N: Nand>(engine: &mut Engine<N>, sector: u32) -> Result<(), CallFa
     requires going { engine.old.fault ≡ None }
     requires calm { IsCalm (ram engine.old) }
     requires sector { sector < engine.old.geometry.sectors }
-    ensures ends { Ends N.flash N.honest N.calm N.failed engine.old result engine.new }
+    ensures ends { Ends N.flash N.recorded N.honest N.calm N.failed engine.old result engine.new }
     ensures readies { Readies N.flash N.honest sector 1 engine.old result engine.new }
     ensures holds { OnOk result (IsSome (slot_of engine.new.mapping sector)) }
     ensures checked { OnOk result (IsLookedUp sector (ram engine.new) (page_in engine.new.scratch)) }
@@ -174,7 +176,7 @@ pub(crate) fn write_ready<N: Nand>(
     requires calm { IsCalm (ram engine.old) }
     requires sector { sector < engine.old.geometry.sectors }
     requires body { length body.now ≡ engine.old.geometry.data_bytes }
-    ensures ends { Ends N.flash N.honest N.calm N.failed engine.old result engine.new }
+    ensures ends { Ends N.flash N.recorded N.honest N.calm N.failed engine.old result engine.new }
     ensures readies { Readies N.flash N.honest sector 2 engine.old result engine.new }
     ensures cost { OnOk result (HasCost sector (ram engine.old) (ram engine.new)) }
     ensures checked { OnOk result (HasLookedUp sector (ram engine.old) (ram engine.new) (page_in engine.new.scratch)) }
@@ -194,7 +196,7 @@ pub(crate) fn trim_ready<N: Nand>(engine: &mut Engine<N>, sector: u32) -> Result
     requires going { engine.old.fault ≡ None }
     requires calm { IsCalm (ram engine.old) }
     requires sector { sector < engine.old.geometry.sectors }
-    ensures ends { Ends N.flash N.honest N.calm N.failed engine.old result engine.new }
+    ensures ends { Ends N.flash N.recorded N.honest N.calm N.failed engine.old result engine.new }
     ensures readies { Readies N.flash N.honest sector 2 engine.old result engine.new }
     ensures cost { OnOk result (HasCost sector (ram engine.old) (ram engine.new)) }
     ensures checked { OnOk result (HasLookedUp sector (ram engine.old) (ram engine.new) (page_in engine.new.scratch)) }

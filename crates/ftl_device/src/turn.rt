@@ -25,7 +25,7 @@ fn step_pinned<N: Nand>(engine: &mut Engine<N>) -> Result<(), WriteFault>
     requires going { engine.old.fault ≡ None }
     requires calm { IsCalm (ram engine.old) }
     requires pinned { IsSome engine.old.pinned }
-    ensures collects { CollectsOn N.flash N.honest N.calm N.erases N.failed engine.old result engine.new }
+    ensures collects { CollectsOn N.flash N.recorded N.honest N.calm N.erases N.failed engine.old result engine.new }
     ensures gone_on { OnOk result (HasGoneOn (ram engine.old) (ram engine.new)) }
     ensures worked { OnOk result (HasWorked (ram engine.old) (ram engine.new) (N.erases engine.old.nand) (N.erases engine.new.nand)) }
     ensures less { N.honest engine.old.nand ≡ true → Knows (ram engine.old) (image_in N.flash engine.old) →
@@ -41,7 +41,7 @@ fn collect_on<N: Nand>(engine: &mut Engine<N>) -> Result<(), WriteFault>
     requires safe { IsSafe N.flash engine.old }
     requires going { engine.old.fault ≡ None }
     requires calm { IsCalm (ram engine.old) }
-    ensures collects { CollectsOn N.flash N.honest N.calm N.erases N.failed engine.old result engine.new }
+    ensures collects { CollectsOn N.flash N.recorded N.honest N.calm N.erases N.failed engine.old result engine.new }
     ensures gone_on { OnOk result ((ram engine.new ≡ ram engine.old) ⊎ HasGoneOn (ram engine.old) (ram engine.new)) }
     ensures rests { engine.old.pinned ≡ None → 12 ≤ free_count (ram engine.old).blocks → IsOk result × (engine.new ≡ engine.old) }
     ensures quiet { N.honest engine.old.nand ≡ true → Knows (ram engine.old) (image_in N.flash engine.old) →
@@ -66,7 +66,7 @@ fn turn_ready<N: Nand>(engine: &mut Engine<N>) -> Result<(), CallFault>
     requires safe { IsSafe N.flash engine.old }
     requires going { engine.old.fault ≡ None }
     requires calm { IsCalm (ram engine.old) }
-    ensures ends { Ends N.flash N.honest N.calm N.failed engine.old result engine.new }
+    ensures ends { Ends N.flash N.recorded N.honest N.calm N.failed engine.old result engine.new }
     ensures memory { result ≢ Err CallFault.OutOfMemory }
     ensures turned { OnOk result (HasTurned (ram engine.old) (ram engine.new)) }
     ensures count { HasFunds (N.honest engine.old.nand) (ram engine.old) (image_in N.flash engine.old) →
@@ -120,7 +120,7 @@ impl<N: Nand> Device<N> {
         requires device { IsDevice N.flash self.old }
         ensures device { IsDevice N.flash self.new }
         ensures geometry { self.new.engine.geometry ≡ self.old.engine.geometry }
-        ensures upkeeps { Upkeeps N.flash N.honest N.calm N.failed Turn self.old result self.new }
+        ensures upkeeps { Upkeeps N.flash N.recorded N.honest N.calm N.failed Turn self.old result self.new }
         ensures turned { OnOk result (HasTurned (ram self.old.engine) (ram self.new.engine)) }
         ensures rests { HasNoneAiling (ram self.old.engine).blocks → self.old.engine.pinned ≡ None → 12 ≤ free_count (ram self.old.engine).blocks →
             OnOk result (self.new.engine ≡ self.old.engine) }

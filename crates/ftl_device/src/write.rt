@@ -136,7 +136,7 @@ impl<N: Nand> Device<N> {
         requires body { length body.now ≡ self.old.engine.geometry.data_bytes }
         ensures device { IsDevice N.flash self.new }
         ensures geometry { self.new.engine.geometry ≡ self.old.engine.geometry }
-        ensures changes { Changes N.flash N.honest N.calm N.failed sector (Write sector body.now) self.old result self.new }
+        ensures changes { Changes N.flash N.recorded N.honest N.calm N.failed sector (Write sector body.now) self.old result self.new }
     {
         self.may_change(sector)?;
         let good = self.engine.blocks.good();
@@ -156,7 +156,7 @@ impl<N: Nand> Device<N> {
         requires device { IsDevice N.flash self.old }
         ensures device { IsDevice N.flash self.new }
         ensures geometry { self.new.engine.geometry ≡ self.old.engine.geometry }
-        ensures changes { Changes N.flash N.honest N.calm N.failed sector (Trim sector) self.old result self.new }
+        ensures changes { Changes N.flash N.recorded N.honest N.calm N.failed sector (Trim sector) self.old result self.new }
     {
         self.may_change(sector)?;
         let good = self.engine.blocks.good();

@@ -1,8 +1,8 @@
-use Rattle.std.proofs.Common.{◌∙◌, Ok, refl}
+use Rattle.std.proofs.Common.{◌∙◌, Ok, refl, ap}
 use Rattle.std.proofs.lemmas.Result.{err_from_is_err_and}
 use Rattle.collection.specs.Safe.{ram}
 use Rattle.ftl_device.proofs.FlushLoops.{limits_then, keeps_then, keeps_refused, clean_then, flushed_by}
-use Rattle.ftl_device.proofs.RoomLemmas.{keeps_room, refused_room}
+use Rattle.ftl_device.proofs.RoomLemmas.{keeps_room, refused_room, room_pins}
 use Rattle.ftl_device.proofs.SpentLemmas.{flush_first, flush_room, flush_done, flush_stuck, flush_tables}
 use Rattle.ftl_device.proofs.LeaveLemmas.{leaves_then, leaves_ends, leaves_stuck, limits_same}
 use Rattle.collection.proofs.Lefts.{calm_law}
@@ -43,22 +43,28 @@ returns-clause-count g c = λ known. flush_done (ram c.args.engine.now) (ram c.f
 pub returns-in_err-flush_translations-clause-ends : goal.returns-in_err-flush_translations-clause-ends
 returns-in_err-flush_translations-clause-ends g c =
     let p = err_from_is_err_and c.from_residual.result c.from_residual.ensures.1 in
-    rw (p.1, p.2) (leaves_stuck g.N.PageSource.flash g.N.PageSource.honest g.N.PageSource.calm g.N.PageSource.failed c.args.engine.now c.flush_translations.new.engine _ c.in_err-flush_translations.ensures.leaves c.flush_translations.ensures.limits)
+    rw (p.1, p.2) (leaves_stuck g.N.PageSource.flash g.N.PageSource.recorded g.N.PageSource.honest g.N.PageSource.calm g.N.PageSource.failed c.args.engine.now c.flush_translations.new.engine _ c.in_err-flush_translations.ensures.leaves c.flush_translations.ensures.limits)
 
 pub returns-in_err-make_room-clause-ends : goal.returns-in_err-make_room-clause-ends
 returns-in_err-make_room-clause-ends g c =
     let p = err_from_is_err_and c.from_residual-in_err-make_room.result c.from_residual-in_err-make_room.ensures.1 in
-    rw (p.1, p.2) (leaves_stuck g.N.PageSource.flash g.N.PageSource.honest g.N.PageSource.calm g.N.PageSource.failed c.args.engine.now c.make_room.new.engine _ (leaves_then g.N.PageSource.flash g.N.PageSource.honest g.N.PageSource.calm g.N.PageSource.failed c.args.engine.now c.flush_translations.new.engine c.make_room.new.engine _ _ c.in_ok-flush_translations.ensures.leaves c.in_err-make_room.ensures.leaves)
+    rw (p.1, p.2) (leaves_stuck g.N.PageSource.flash g.N.PageSource.recorded g.N.PageSource.honest g.N.PageSource.calm g.N.PageSource.failed c.args.engine.now c.make_room.new.engine _ (leaves_then g.N.PageSource.flash g.N.PageSource.recorded g.N.PageSource.honest g.N.PageSource.calm g.N.PageSource.failed c.args.engine.now c.flush_translations.new.engine c.make_room.new.engine _ _ (λ honest k. c.in_ok-flush_translations.ensures.truth honest k) c.flush_translations.ensures.limits c.in_ok-flush_translations.ensures.leaves c.in_err-make_room.ensures.leaves)
     (limits_then _ _ _ c.flush_translations.ensures.limits c.make_room.ensures.keys.limits))
 
 pub returns-in_err-write_tables-clause-ends : goal.returns-in_err-write_tables-clause-ends
 returns-in_err-write_tables-clause-ends g c =
     let p = err_from_is_err_and c.from_residual-in_err-write_tables.result c.from_residual-in_err-write_tables.ensures.1 in
-    rw (p.1, p.2) (leaves_stuck g.N.PageSource.flash g.N.PageSource.honest g.N.PageSource.calm g.N.PageSource.failed c.args.engine.now c.write_tables.new.engine _ (leaves_then g.N.PageSource.flash g.N.PageSource.honest g.N.PageSource.calm g.N.PageSource.failed c.args.engine.now c.make_room.new.engine c.write_tables.new.engine _ _ (leaves_then g.N.PageSource.flash g.N.PageSource.honest g.N.PageSource.calm g.N.PageSource.failed c.args.engine.now c.flush_translations.new.engine c.make_room.new.engine _ _ c.in_ok-flush_translations.ensures.leaves c.in_ok-make_room.ensures.leaves) c.in_err-write_tables.ensures.leaves)
+    rw (p.1, p.2) (leaves_stuck g.N.PageSource.flash g.N.PageSource.recorded g.N.PageSource.honest g.N.PageSource.calm g.N.PageSource.failed c.args.engine.now c.write_tables.new.engine _ (leaves_then g.N.PageSource.flash g.N.PageSource.recorded g.N.PageSource.honest g.N.PageSource.calm g.N.PageSource.failed c.args.engine.now c.flush_translations.new.engine c.write_tables.new.engine _ _ (λ honest k. c.in_ok-flush_translations.ensures.truth honest k) c.flush_translations.ensures.limits c.in_ok-flush_translations.ensures.leaves
+    (leaves_then g.N.PageSource.flash g.N.PageSource.recorded g.N.PageSource.honest g.N.PageSource.calm g.N.PageSource.failed c.flush_translations.new.engine c.make_room.new.engine c.write_tables.new.engine _ _
+    (λ honest k. keeps_room (ram c.flush_translations.new.engine) (ram c.make_room.new.engine) _ _ (c.in_ok-make_room.ensures.truth honest k) (c.in_ok-make_room.ensures.pinned honest k)) c.make_room.ensures.keys.limits
+    c.in_ok-make_room.ensures.leaves c.in_err-write_tables.ensures.leaves))
     (limits_then _ _ _ (limits_then _ _ _ c.flush_translations.ensures.limits c.make_room.ensures.keys.limits) (limits_same _ _ c.write_tables.ensures.mapping)))
 
 pub returns-clause-ends : goal.returns-clause-ends
-returns-clause-ends g c = leaves_ends g.N.PageSource.flash g.N.PageSource.honest g.N.PageSource.calm g.N.PageSource.failed c.args.engine.now c.write_tables.new.engine (Ok tt) (leaves_then g.N.PageSource.flash g.N.PageSource.honest g.N.PageSource.calm g.N.PageSource.failed c.args.engine.now c.make_room.new.engine c.write_tables.new.engine _ _ (leaves_then g.N.PageSource.flash g.N.PageSource.honest g.N.PageSource.calm g.N.PageSource.failed c.args.engine.now c.flush_translations.new.engine c.make_room.new.engine _ _ c.in_ok-flush_translations.ensures.leaves c.in_ok-make_room.ensures.leaves) c.in_ok-write_tables.ensures.leaves)
+returns-clause-ends g c = leaves_ends g.N.PageSource.flash g.N.PageSource.recorded g.N.PageSource.honest g.N.PageSource.calm g.N.PageSource.failed c.args.engine.now c.write_tables.new.engine (Ok tt) (leaves_then g.N.PageSource.flash g.N.PageSource.recorded g.N.PageSource.honest g.N.PageSource.calm g.N.PageSource.failed c.args.engine.now c.flush_translations.new.engine c.write_tables.new.engine _ _ (λ honest k. c.in_ok-flush_translations.ensures.truth honest k) c.flush_translations.ensures.limits c.in_ok-flush_translations.ensures.leaves
+    (leaves_then g.N.PageSource.flash g.N.PageSource.recorded g.N.PageSource.honest g.N.PageSource.calm g.N.PageSource.failed c.flush_translations.new.engine c.make_room.new.engine c.write_tables.new.engine _ _
+    (λ honest k. keeps_room (ram c.flush_translations.new.engine) (ram c.make_room.new.engine) _ _ (c.in_ok-make_room.ensures.truth honest k) (c.in_ok-make_room.ensures.pinned honest k)) c.make_room.ensures.keys.limits
+    c.in_ok-make_room.ensures.leaves c.in_ok-write_tables.ensures.leaves))
     (limits_then _ _ _ (limits_then _ _ _ c.flush_translations.ensures.limits c.make_room.ensures.keys.limits) (limits_same _ _ c.write_tables.ensures.mapping)) (λ none. calm_law (ram c.make_room.new.engine) (ram c.write_tables.new.engine) c.write_tables.ensures.beside c.in_ok-make_room.ensures.made.calm)
 
 pub returns-clause-truth : goal.returns-clause-truth
@@ -87,3 +93,6 @@ returns-in_err-write_tables-clause-truth g c =
     let room = c.in_ok-make_room.ensures.truth still first.truth in
     let knows = c.in_ok-make_room.ensures.pinned still first.truth in
     keeps_refused c.args.engine.now.geometry (ram c.make_room.new.engine) (ram c.write_tables.new.engine) _ _ _ _ (c.make_room.ensures.leaves.geometry ∙ c.flush_translations.ensures.leaves.geometry) (keeps_then _ _ _ _ _ _ c.flush_translations.ensures.leaves.geometry first (keeps_room (ram c.flush_translations.new.engine) (ram c.make_room.new.engine) _ _ room knows)) (c.in_err-write_tables.ensures.truth (c.make_room.ensures.leaves.honest_is ∙ still) knows))
+
+pub returns-clause-pins : goal.returns-clause-pins
+returns-clause-pins g c = λ none. ap (λ p. p.block) c.write_tables.ensures.beside.pin ∙ room_pins g.N.PageSource.erases c.flush_translations.new.engine c.make_room.new.engine c.in_ok-make_room.ensures.erases (c.in_ok-flush_translations.ensures.pins none)

@@ -1,9 +1,9 @@
-use Rattle.std.proofs.Common.{◌∙◌, refl}
+use Rattle.std.proofs.Common.{◌∙◌, refl, ap}
 use Rattle.std.proofs.lemmas.Result.{err_from_is_err_and}
 use Rattle.collection.specs.Safe.{ram}
 use Rattle.collection.proofs.Lefts.{calm_law}
 use Rattle.ftl_device.proofs.PinLemmas.{beside_back}
-use Rattle.ftl_device.proofs.RoomLemmas.{keeps_room, refused_room}
+use Rattle.ftl_device.proofs.RoomLemmas.{keeps_room, refused_room, room_pins, ok_any}
 use Rattle.ftl_device.proofs.FlushLoops.{keeps_cleaned, keeps_same, back_after}
 use Rattle.ftl_device.proofs.SpentLemmas.{funded_here, written_counts, unroomed_counts}
 use Rattle.ftl_device.proofs.LeaveLemmas.{leaves_by, leaves_same, leaves_then, back_told}
@@ -41,7 +41,7 @@ pub returns-clause-count : goal.returns-clause-count
 returns-clause-count g c = λ honest w failures funded. written_counts failures c.write_back.result (ram c.args.engine.now) (ram c.make_room.new.engine) (ram c.write_back.new.self) c.make_room.ensures.leaves.safe.memory c.make_room.ensures.leaves.geometry (c.in_ok-make_room.ensures.count honest w failures funded) (c.write_back.ensures.cost c.in_ok-make_room.ensures.leaves.fault)
 
 pub returns-then-not-lacks-clause-leaves : goal.returns-then-not-lacks-clause-leaves
-returns-then-not-lacks-clause-leaves g c = leaves_same g.N.PageSource.flash g.N.PageSource.honest g.N.PageSource.calm g.N.PageSource.failed c.args.engine.now c.requires.safe c.requires.going
+returns-then-not-lacks-clause-leaves g c = leaves_same g.N.PageSource.flash g.N.PageSource.recorded g.N.PageSource.honest g.N.PageSource.calm g.N.PageSource.failed c.args.engine.now c.requires.safe c.requires.going
 
 pub returns-in_err-make_room-clause-leaves : goal.returns-in_err-make_room-clause-leaves
 returns-in_err-make_room-clause-leaves g c =
@@ -49,5 +49,11 @@ returns-in_err-make_room-clause-leaves g c =
     rw (p.1, p.2) (c.in_err-make_room.ensures.leaves)
 
 pub returns-clause-leaves : goal.returns-clause-leaves
-returns-clause-leaves g c = leaves_then g.N.PageSource.flash g.N.PageSource.honest g.N.PageSource.calm g.N.PageSource.failed c.args.engine.now c.make_room.new.engine c.write_back.new.self _ c.write_back.result c.in_ok-make_room.ensures.leaves
-    (leaves_by g.N.PageSource.flash g.N.PageSource.honest g.N.PageSource.calm g.N.PageSource.failed c.make_room.new.engine c.write_back.new.self c.write_back.result c.in_ok-make_room.ensures.leaves.fault c.write_back.ensures.stands c.write_back.ensures.goes.geometry (back_told c.write_back.result (ram c.make_room.new.engine) (ram c.write_back.new.self) (c.write_back.ensures.cost c.in_ok-make_room.ensures.leaves.fault)))
+returns-clause-leaves g c = leaves_then g.N.PageSource.flash g.N.PageSource.recorded g.N.PageSource.honest g.N.PageSource.calm g.N.PageSource.failed c.args.engine.now c.make_room.new.engine c.write_back.new.self _ c.write_back.result
+    (λ honest k. keeps_room (ram c.args.engine.now) (ram c.make_room.new.engine) _ _ (c.in_ok-make_room.ensures.truth honest k) (c.in_ok-make_room.ensures.pinned honest k)) c.make_room.ensures.keys.limits
+    c.in_ok-make_room.ensures.leaves
+    (leaves_by g.N.PageSource.flash g.N.PageSource.recorded g.N.PageSource.honest g.N.PageSource.calm g.N.PageSource.failed c.make_room.new.engine c.write_back.new.self c.write_back.result c.in_ok-make_room.ensures.leaves.fault c.write_back.ensures.stands c.write_back.ensures.goes.geometry (back_told c.write_back.result (ram c.make_room.new.engine) (ram c.write_back.new.self) (c.write_back.ensures.cost c.in_ok-make_room.ensures.leaves.fault))
+    (λ honest k ne. c.write_back.ensures.stops honest c.in_ok-make_room.ensures.leaves.fault k.truth ne))
+
+pub returns-clause-pins : goal.returns-clause-pins
+returns-clause-pins g c = ok_any c.write_back.result (λ none. ap (λ p. p.block) c.write_back.ensures.pin ∙ room_pins g.N.PageSource.erases c.args.engine.now c.make_room.new.engine c.in_ok-make_room.ensures.erases none)

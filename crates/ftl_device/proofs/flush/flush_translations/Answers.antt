@@ -8,7 +8,8 @@ use Rattle.ftl_device.proofs.flush.flush_translations.Goals as goal
 
 pub translations-init : goal.translations-init
 translations-init g c = record {
-  leaves = leaves_same g.N.PageSource.flash g.N.PageSource.honest g.N.PageSource.calm g.N.PageSource.failed c.args.engine.now c.requires.safe c.requires.going;
+  leaves = leaves_same g.N.PageSource.flash g.N.PageSource.recorded g.N.PageSource.honest g.N.PageSource.calm g.N.PageSource.failed c.args.engine.now c.requires.safe c.requires.going;
+  pins = λ none. none;
   keys = refl;
   limits = record { geometry = refl; capacity = refl };
   calm = c.requires.calm;
@@ -19,7 +20,8 @@ translations-init g c = record {
 
 pub translations-preserved : goal.translations-preserved
 translations-preserved g c = record {
-  leaves = leaves_then g.N.PageSource.flash g.N.PageSource.honest g.N.PageSource.calm g.N.PageSource.failed c.args.engine.now c.translations.engine c.flush_translation.new.engine _ _ c.translations.invariant.leaves c.in_ok-flush_translation.ensures.leaves;
+  leaves = leaves_then g.N.PageSource.flash g.N.PageSource.recorded g.N.PageSource.honest g.N.PageSource.calm g.N.PageSource.failed c.args.engine.now c.translations.engine c.flush_translation.new.engine _ _ (λ honest k. c.translations.invariant.truth honest k) c.translations.invariant.limits c.translations.invariant.leaves c.in_ok-flush_translation.ensures.leaves;
+  pins = λ none. c.in_ok-flush_translation.ensures.pins (c.translations.invariant.pins none);
   keys = c.flush_translation.ensures.keys ∙ c.translations.invariant.keys;
   limits = limits_then _ _ _ c.translations.invariant.limits c.flush_translation.ensures.limits;
   calm = c.flush_translation.ensures.calm c.in_ok-flush_translation.ensures.leaves.fault;
@@ -41,4 +43,4 @@ returns-in_err-flush_translation-clause-count g c =
 pub returns-in_err-flush_translation-clause-leaves : goal.returns-in_err-flush_translation-clause-leaves
 returns-in_err-flush_translation-clause-leaves g c =
     let p = err_from_is_err_and c.from_residual.result c.from_residual.ensures.1 in
-    rw (p.1, p.2) (leaves_then g.N.PageSource.flash g.N.PageSource.honest g.N.PageSource.calm g.N.PageSource.failed c.args.engine.now c.translations.engine c.flush_translation.new.engine _ _ c.translations.invariant.leaves c.in_err-flush_translation.ensures.leaves)
+    rw (p.1, p.2) (leaves_then g.N.PageSource.flash g.N.PageSource.recorded g.N.PageSource.honest g.N.PageSource.calm g.N.PageSource.failed c.args.engine.now c.translations.engine c.flush_translation.new.engine _ _ (λ honest k. c.translations.invariant.truth honest k) c.translations.invariant.limits c.translations.invariant.leaves c.in_err-flush_translation.ensures.leaves)

@@ -1,4 +1,4 @@
-use Rattle.std.proofs.Common.{◌≡◌, ◌<◌, ℕ, true, Ok}
+use Rattle.std.proofs.Common.{◌≡◌, ◌<◌, ℕ, true, Ok, None}
 use Rattle.std.specs.Map.{keys_of}
 use Rattle.budget.specs.Spending.{IsFunded}
 use Rattle.allocation.specs.Counts.{counts_of}
@@ -13,7 +13,8 @@ use Rattle.ftl_device.proofs.flush.flush_translations.Given as goal
 
 abbrev pub invariant-translations : goal.invariant-translations
 invariant-translations g l = record {
-  leaves : Leaves {A = Unit {0}} g.N.PageSource.flash g.N.PageSource.honest g.N.PageSource.calm g.N.PageSource.failed l.initial.engine (Ok tt) l.engine;
+  leaves : Leaves {A = Unit {0}} g.N.PageSource.flash g.N.PageSource.recorded g.N.PageSource.honest g.N.PageSource.calm g.N.PageSource.failed l.initial.engine (Ok tt) l.engine;
+  pins : l.initial.engine.pinned ≡ None → l.engine.pinned ≡ None;
   keys : keys_of l.engine.mapping.cached ≡ keys_of l.initial.engine.mapping.cached;
   limits : HasLimitsOf l.initial.engine.mapping l.engine.mapping;
   calm : IsCalm (ram l.engine);

@@ -3,7 +3,7 @@ use Rattle.std.proofs.lemmas.Result.{err_from_is_err_and}
 use Rattle.collection.specs.Safe.{ram}
 use Rattle.collection.proofs.Beside.{beside_then}
 use Rattle.ftl_device.proofs.FlushLoops.{first_fails, later_fails, first_round, next_round, last_round, spells_first, spells_next}
-use Rattle.ftl_device.proofs.LeaveLemmas.{leaves_then}
+use Rattle.ftl_device.proofs.LeaveLemmas.{leaves_then, limits_same}
 use Rattle.ftl_device.proofs.flush.write_tables.Goals as goal
 
 pub rounds-init : goal.rounds-init
@@ -19,7 +19,7 @@ rounds-init g c = record {
 
 pub rounds-preserved : goal.rounds-preserved
 rounds-preserved g c = record {
-  leaves = leaves_then g.N.PageSource.flash g.N.PageSource.honest g.N.PageSource.calm g.N.PageSource.failed c.args.engine.now c.rounds.engine c.write_tables_once-in-rounds.new.engine _ _ c.rounds.invariant.leaves c.in_ok-write_tables_once-2.ensures.leaves;
+  leaves = leaves_then g.N.PageSource.flash g.N.PageSource.recorded g.N.PageSource.honest g.N.PageSource.calm g.N.PageSource.failed c.args.engine.now c.rounds.engine c.write_tables_once-in-rounds.new.engine _ _ (λ honest k. (c.rounds.invariant.truth honest k).keeps) (limits_same _ _ c.rounds.invariant.mapping) c.rounds.invariant.leaves c.in_ok-write_tables_once-2.ensures.leaves;
   mapping = c.write_tables_once-in-rounds.ensures.mapping ∙ c.rounds.invariant.mapping;
   beside = beside_then _ _ _ c.rounds.invariant.beside c.write_tables_once-in-rounds.ensures.beside;
   most = omega (arith, c.good-good-in-rounds.ensures, c.rounds.invariant.fewer, c.rounds.invariant.most);
@@ -46,7 +46,7 @@ returns-in_err-write_tables_once-2-clause-out g c =
 pub returns-in_err-write_tables_once-2-clause-leaves : goal.returns-in_err-write_tables_once-2-clause-leaves
 returns-in_err-write_tables_once-2-clause-leaves g c =
     let p = err_from_is_err_and c.from_residual-in_err-write_tables_once-2.result c.from_residual-in_err-write_tables_once-2.ensures.1 in
-    rw (p.1, p.2) (leaves_then g.N.PageSource.flash g.N.PageSource.honest g.N.PageSource.calm g.N.PageSource.failed c.args.engine.now c.rounds.engine c.write_tables_once-in-rounds.new.engine _ _ c.rounds.invariant.leaves c.in_err-write_tables_once-2.ensures.leaves)
+    rw (p.1, p.2) (leaves_then g.N.PageSource.flash g.N.PageSource.recorded g.N.PageSource.honest g.N.PageSource.calm g.N.PageSource.failed c.args.engine.now c.rounds.engine c.write_tables_once-in-rounds.new.engine _ _ (λ honest k. (c.rounds.invariant.truth honest k).keeps) (limits_same _ _ c.rounds.invariant.mapping) c.rounds.invariant.leaves c.in_err-write_tables_once-2.ensures.leaves)
 
 pub returns-in_err-write_tables_once-2-clause-beside : goal.returns-in_err-write_tables_once-2-clause-beside
 returns-in_err-write_tables_once-2-clause-beside g c = beside_then _ _ _ c.rounds.invariant.beside c.write_tables_once-in-rounds.ensures.beside

@@ -8,12 +8,12 @@ use Rattle.ftl_device.specs.Flush.{AddsPages}
 use Rattle.collection.proofs.Beside.{beside_then}
 use Rattle.ftl_device.proofs.PinLemmas.{beside_here, beside_mapping}
 use Rattle.ftl_device.proofs.FlushLoops.{page_fails, pages_none, pages_more, tables_none, tables_more, tabled_refused}
-use Rattle.ftl_device.proofs.LeaveLemmas.{leaves_by, leaves_same, leaves_then, page_told}
+use Rattle.ftl_device.proofs.LeaveLemmas.{leaves_by, leaves_same, leaves_then, limits_same, page_told}
 use Rattle.ftl_device.proofs.flush.write_tables_once.Goals as goal
 
 pub pages-init : goal.pages-init
 pages-init g c = record {
-  leaves = leaves_same g.N.PageSource.flash g.N.PageSource.honest g.N.PageSource.calm g.N.PageSource.failed c.args.engine.now c.requires.safe c.requires.going;
+  leaves = leaves_same g.N.PageSource.flash g.N.PageSource.recorded g.N.PageSource.honest g.N.PageSource.calm g.N.PageSource.failed c.args.engine.now c.requires.safe c.requires.going;
   mapping = refl;
   beside = beside_here (ram c.args.engine.now);
   table = record { fewer = omega arith; same = λ as_many. refl };
@@ -23,8 +23,9 @@ pages-init g c = record {
 
 pub pages-preserved : goal.pages-preserved
 pages-preserved g c = record {
-  leaves = leaves_then g.N.PageSource.flash g.N.PageSource.honest g.N.PageSource.calm g.N.PageSource.failed c.args.engine.now c.pages.engine c.write_table.new.self _ (Ok tt) c.pages.invariant.leaves
-      (leaves_by g.N.PageSource.flash g.N.PageSource.honest g.N.PageSource.calm g.N.PageSource.failed c.pages.engine c.write_table.new.self (Ok tt) c.pages.invariant.leaves.fault c.in_ok-write_table.ensures.stands c.write_table.ensures.goes.geometry (page_told Meta (Ok tt) (ram c.pages.engine) (ram c.write_table.new.self) (c.in_ok-write_table.ensures.cost c.pages.invariant.leaves.fault)));
+  leaves = leaves_then g.N.PageSource.flash g.N.PageSource.recorded g.N.PageSource.honest g.N.PageSource.calm g.N.PageSource.failed c.args.engine.now c.pages.engine c.write_table.new.self _ (Ok tt) (λ honest k. (c.pages.invariant.truth honest k).keeps) (limits_same _ _ c.pages.invariant.mapping) c.pages.invariant.leaves
+      (leaves_by g.N.PageSource.flash g.N.PageSource.recorded g.N.PageSource.honest g.N.PageSource.calm g.N.PageSource.failed c.pages.engine c.write_table.new.self (Ok tt) c.pages.invariant.leaves.fault c.in_ok-write_table.ensures.stands c.write_table.ensures.goes.geometry (page_told Meta (Ok tt) (ram c.pages.engine) (ram c.write_table.new.self) (c.in_ok-write_table.ensures.cost c.pages.invariant.leaves.fault))
+      (λ honest k ne. c.in_ok-write_table.ensures.stops honest c.pages.invariant.leaves.fault k.truth ne));
   mapping = c.write_table.ensures.mapping ∙ c.pages.invariant.mapping;
   beside = beside_then _ _ _ c.pages.invariant.beside (beside_mapping (ram c.pages.engine) (ram c.write_table.new.self) c.write_table.ensures.pin c.write_table.ensures.goes c.write_table.ensures.mapping);
   table = table_then _ _ _ c.pages.invariant.table c.write_table.ensures.table;
@@ -47,8 +48,9 @@ returns-in_err-write_table-clause-out g c =
 pub returns-in_err-write_table-clause-leaves : goal.returns-in_err-write_table-clause-leaves
 returns-in_err-write_table-clause-leaves g c =
     let p = err_from_is_err_and c.from_residual.result c.from_residual.ensures.1 in
-    rw (p.1, p.2) (leaves_then g.N.PageSource.flash g.N.PageSource.honest g.N.PageSource.calm g.N.PageSource.failed c.args.engine.now c.pages.engine c.write_table.new.self _ (Err _) c.pages.invariant.leaves
-    (leaves_by g.N.PageSource.flash g.N.PageSource.honest g.N.PageSource.calm g.N.PageSource.failed c.pages.engine c.write_table.new.self (Err _) c.pages.invariant.leaves.fault c.in_err-write_table.ensures.stands c.write_table.ensures.goes.geometry (page_told Meta (Err _) (ram c.pages.engine) (ram c.write_table.new.self) (c.in_err-write_table.ensures.cost c.pages.invariant.leaves.fault))))
+    rw (p.1, p.2) (leaves_then g.N.PageSource.flash g.N.PageSource.recorded g.N.PageSource.honest g.N.PageSource.calm g.N.PageSource.failed c.args.engine.now c.pages.engine c.write_table.new.self _ (Err _) (λ honest k. (c.pages.invariant.truth honest k).keeps) (limits_same _ _ c.pages.invariant.mapping) c.pages.invariant.leaves
+    (leaves_by g.N.PageSource.flash g.N.PageSource.recorded g.N.PageSource.honest g.N.PageSource.calm g.N.PageSource.failed c.pages.engine c.write_table.new.self (Err _) c.pages.invariant.leaves.fault c.in_err-write_table.ensures.stands c.write_table.ensures.goes.geometry (page_told Meta (Err _) (ram c.pages.engine) (ram c.write_table.new.self) (c.in_err-write_table.ensures.cost c.pages.invariant.leaves.fault))
+    (λ honest k ne. c.in_err-write_table.ensures.stops honest c.pages.invariant.leaves.fault k.truth ne)))
 
 pub returns-in_err-write_table-clause-beside : goal.returns-in_err-write_table-clause-beside
 returns-in_err-write_table-clause-beside g c = beside_then _ _ _ c.pages.invariant.beside (beside_mapping (ram c.pages.engine) (ram c.write_table.new.self) c.write_table.ensures.pin c.write_table.ensures.goes c.write_table.ensures.mapping)

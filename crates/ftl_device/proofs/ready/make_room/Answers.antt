@@ -10,8 +10,9 @@ pub returns-clause-cleans : goal.returns-clause-cleans
 returns-clause-cleans g c = room_cleans c.make_room.result c.args.flushing (ram c.args.engine.now) (ram c.make_room.new.self) c.requires.safe.memory c.make_room.ensures.stands.safe.memory (c.make_room.ensures.makes c.requires.going).goes.geometry (c.make_room.ensures.makes c.requires.going).refreshes (c.make_room.ensures.makes c.requires.going).calm
 
 pub returns-clause-leaves : goal.returns-clause-leaves
-returns-clause-leaves g c = leaves_by g.N.PageSource.flash g.N.PageSource.honest g.N.PageSource.calm g.N.PageSource.failed c.args.engine.now c.make_room.new.self c.make_room.result c.requires.going c.make_room.ensures.stands (c.make_room.ensures.makes c.requires.going).goes.geometry
+returns-clause-leaves g c = leaves_by g.N.PageSource.flash g.N.PageSource.recorded g.N.PageSource.honest g.N.PageSource.calm g.N.PageSource.failed c.args.engine.now c.make_room.new.self c.make_room.result c.requires.going c.make_room.ensures.stands (c.make_room.ensures.makes c.requires.going).goes.geometry
     (room_tells c.make_room.result (ram c.args.engine.now) (ram c.make_room.new.self) c.requires.safe.memory c.make_room.ensures.stands.safe.memory (c.make_room.ensures.makes c.requires.going).goes ((c.make_room.ensures.makes c.requires.going).tells))
+    (λ honest k ne. c.make_room.ensures.stops honest c.requires.going k.truth k.passed ne)
 
 pub returns-clause-truth : goal.returns-clause-truth
 returns-clause-truth g c = λ honest k. (c.make_room.ensures.makes c.requires.going).truth honest k.truth k.passed

@@ -2,7 +2,7 @@ use Rattle.std.proofs.Common.{◌∙◌, ap, arith}
 use Rattle.std.proofs.lemmas.Result.{err_from_is_err_and}
 use Rattle.collection.specs.Safe.{ram, image_in}
 use Rattle.collection.proofs.Costs.{risen_over}
-use Rattle.ftl_device.proofs.RoomLemmas.{keeps_room, refused_room}
+use Rattle.ftl_device.proofs.RoomLemmas.{keeps_room, refused_room, room_pins, ok_any}
 use Rattle.ftl_device.proofs.FlushLoops.{engine_keeps, engine_refused}
 use Rattle.ftl_device.proofs.ReadyLemmas.{place_stays}
 use Rattle.ftl_device.proofs.CostLemmas.{ready_found}
@@ -11,6 +11,7 @@ use Rattle.ftl_device.proofs.ReadLemmas.{finds_noted}
 use Rattle.ftl_device.specs.Shortage.{HasFunds}
 use Rattle.ftl_device.proofs.SpentLemmas.{after_room, room_refused, place_refused, found_costs}
 use Rattle.ftl_device.proofs.LeaveLemmas.{leaves_then, leaves_refused}
+use Rattle.ftl_device.proofs.StoppedLemmas.{stops_still}
 use Rattle.ftl_device.proofs.ready.prepare.Goals as goal
 
 pub returns-clause-place : goal.returns-clause-place
@@ -66,16 +67,20 @@ returns-in_err-make_room-clause-costs g c =
 pub returns-in_err-make_room-clause-leaves : goal.returns-in_err-make_room-clause-leaves
 returns-in_err-make_room-clause-leaves g c =
     let p = err_from_is_err_and c.from_residual.result c.from_residual.ensures.1 in
-    rw (p.1, p.2) (leaves_refused g.N.PageSource.flash g.N.PageSource.honest g.N.PageSource.calm g.N.PageSource.failed _ _ c.args.engine.now c.make_room.new.engine _ c.in_err-make_room.ensures.leaves)
+    rw (p.1, p.2) (leaves_refused g.N.PageSource.flash g.N.PageSource.recorded g.N.PageSource.honest g.N.PageSource.calm g.N.PageSource.failed _ _ c.args.engine.now c.make_room.new.engine _ c.in_err-make_room.ensures.leaves)
 
 pub returns-in_err-make_place-clause-leaves : goal.returns-in_err-make_place-clause-leaves
 returns-in_err-make_place-clause-leaves g c =
     let p = err_from_is_err_and c.from_residual-in_err-make_place.result c.from_residual-in_err-make_place.ensures.1 in
-    rw (p.1, p.2) (leaves_refused g.N.PageSource.flash g.N.PageSource.honest g.N.PageSource.calm g.N.PageSource.failed _ _ c.args.engine.now c.make_place.new.engine _ (leaves_then g.N.PageSource.flash g.N.PageSource.honest g.N.PageSource.calm g.N.PageSource.failed c.args.engine.now c.make_room.new.engine c.make_place.new.engine _ _ c.in_ok-make_room.ensures.leaves c.in_err-make_place.ensures.leaves))
+    rw (p.1, p.2) (leaves_refused g.N.PageSource.flash g.N.PageSource.recorded g.N.PageSource.honest g.N.PageSource.calm g.N.PageSource.failed _ _ c.args.engine.now c.make_place.new.engine _ (leaves_then g.N.PageSource.flash g.N.PageSource.recorded g.N.PageSource.honest g.N.PageSource.calm g.N.PageSource.failed c.args.engine.now c.make_room.new.engine c.make_place.new.engine _ _
+    (λ honest k. keeps_room (ram c.args.engine.now) (ram c.make_room.new.engine) _ _ (c.in_ok-make_room.ensures.truth honest k) (c.in_ok-make_room.ensures.pinned honest k)) c.make_room.ensures.keys.limits
+    c.in_ok-make_room.ensures.leaves c.in_err-make_place.ensures.leaves))
 
 pub returns-clause-leaves : goal.returns-clause-leaves
 returns-clause-leaves g c = (
-    let placed = leaves_then g.N.PageSource.flash g.N.PageSource.honest g.N.PageSource.calm g.N.PageSource.failed c.args.engine.now c.make_room.new.engine c.make_place.new.engine _ _ c.in_ok-make_room.ensures.leaves c.in_ok-make_place.ensures.leaves in
+    let placed = leaves_then g.N.PageSource.flash g.N.PageSource.recorded g.N.PageSource.honest g.N.PageSource.calm g.N.PageSource.failed c.args.engine.now c.make_room.new.engine c.make_place.new.engine _ _
+    (λ honest k. keeps_room (ram c.args.engine.now) (ram c.make_room.new.engine) _ _ (c.in_ok-make_room.ensures.truth honest k) (c.in_ok-make_room.ensures.pinned honest k)) c.make_room.ensures.keys.limits
+    c.in_ok-make_room.ensures.leaves c.in_ok-make_place.ensures.leaves in
     record {
       safe = c.find_row.ensures.safe;
       fault = ap (λ r. r.fault) c.find_row.ensures.memory;
@@ -85,5 +90,9 @@ returns-clause-leaves g c = (
       failed_is = omega (arith, placed.failed_is, c.find_row.ensures.failed);
       rose = λ bus. risen_over _ _ _ placed.failed_is (c.find_row.ensures.rose bus);
       tells = tells_found c.find_row.result (ram c.args.engine.now) (ram c.make_room.new.engine) (ram c.make_place.new.engine) (ram c.find_row.new.engine) _ c.in_ok-make_room.ensures.leaves.tells c.in_ok-make_place.ensures.leaves.tells c.find_row.ensures.memory c.find_row.ensures.faults;
-      went = λ honest ne. went_found (ram c.make_place.new.engine) (ram c.find_row.new.engine) _ c.find_row.ensures.memory (ram c.args.engine.now) _ _ _ (placed.went honest (λ e. (let no : ⊥ = cc in no))) (c.find_row.ensures.same (placed.honest_is ∙ honest) ne);
+      went = λ honest ne. went_found (ram c.make_place.new.engine) (ram c.find_row.new.engine) _ c.find_row.ensures.memory (ram c.args.engine.now) _ _ _ _ _ _ (placed.went honest (λ e. (let no : ⊥ = cc in no))) (c.find_row.ensures.same (placed.honest_is ∙ honest) ne) (c.find_row.ensures.told (placed.honest_is ∙ honest) ne);
+      stops = λ honest k ne. stops_still g.N.PageSource.flash g.N.PageSource.recorded c.args.engine.now c.make_place.new.engine c.find_row.new.engine (c.find_row.ensures.same (placed.honest_is ∙ honest) ne) (c.find_row.ensures.told (placed.honest_is ∙ honest) ne) (placed.stops honest k (λ e. (let no : ⊥ = cc in no)));
     })
+
+pub returns-clause-pins : goal.returns-clause-pins
+returns-clause-pins g c = ok_any c.find_row.result (λ none. ap (λ r. r.pin.block) c.find_row.ensures.memory ∙ (ap (λ p. p.block) c.make_place.ensures.beside.pin ∙ room_pins g.N.PageSource.erases c.args.engine.now c.make_room.new.engine c.in_ok-make_room.ensures.erases none))

@@ -1,4 +1,4 @@
-use Rattle.std.proofs.Common.{◌∙◌, Ok, Err}
+use Rattle.std.proofs.Common.{◌∙◌, Ok, Err, ap}
 use Rattle.std.proofs.lemmas.Result.{err_from_is_err_and}
 use Rattle.page_layout.specs.declared.record.Kind.TheVariants.{Trim}
 use Rattle.page_layout.specs.Array.{zeros}
@@ -27,13 +27,13 @@ returns-in_err-make_ready-clause-readies g c =
 pub returns-in_err-trim_sector-clause-ends : goal.returns-in_err-trim_sector-clause-ends
 returns-in_err-trim_sector-clause-ends g c =
     let p = err_from_is_err_and c.from_residual-in_err-trim_sector.result c.from_residual-in_err-trim_sector.ensures.1 in
-    rw (p.1, p.2) (ends_page g.N.PageSource.flash g.N.PageSource.honest g.N.PageSource.calm g.N.PageSource.failed c.args.engine.now c.make_ready.new.engine c.trim_sector.new.self _ c.in_ok-make_ready.ensures.ends c.trim_sector.ensures.stands.safe c.trim_sector.ensures.goes c.trim_sector.ensures.stands.honest_is c.trim_sector.ensures.stands.calm_is
-    c.trim_sector.ensures.stands.failed_is (beside_same (ram c.make_ready.new.engine) (ram c.trim_sector.new.self) c.trim_sector.ensures.pin c.trim_sector.ensures.goes c.trim_sector.ensures.moved c.trim_sector.ensures.no_more.limits) c.trim_sector.ensures.no_more (Err _) c.in_err-trim_sector.ensures.stands.fault c.in_err-trim_sector.ensures.stands.rose c.in_err-trim_sector.ensures.cost c.in_err-trim_sector.ensures.stands.went)
+    rw (p.1, p.2) (ends_page g.N.PageSource.flash g.N.PageSource.recorded g.N.PageSource.honest g.N.PageSource.calm g.N.PageSource.failed c.args.engine.now c.make_ready.new.engine c.trim_sector.new.self _ c.in_ok-make_ready.ensures.ends c.trim_sector.ensures.stands.safe c.trim_sector.ensures.goes c.trim_sector.ensures.stands.honest_is c.trim_sector.ensures.stands.calm_is
+    c.trim_sector.ensures.stands.failed_is (beside_same (ram c.make_ready.new.engine) (ram c.trim_sector.new.self) c.trim_sector.ensures.pin c.trim_sector.ensures.goes c.trim_sector.ensures.moved c.trim_sector.ensures.no_more.limits) c.trim_sector.ensures.no_more (Err _) c.in_err-trim_sector.ensures.stands.fault c.in_err-trim_sector.ensures.stands.rose c.in_err-trim_sector.ensures.cost c.in_err-trim_sector.ensures.stands.went (λ honest k. c.in_ok-make_ready.ensures.truth honest k) c.in_err-trim_sector.ensures.stops)
 
 pub returns-in_err-trim_sector-clause-readies : goal.returns-in_err-trim_sector-clause-readies
 returns-in_err-trim_sector-clause-readies g c =
     let p = err_from_is_err_and c.from_residual-in_err-trim_sector.result c.from_residual-in_err-trim_sector.ensures.1 in
-    rw (p.1, p.2) (readies_page g.N.PageSource.flash g.N.PageSource.honest c.args.sector c.args.engine.now c.make_ready.new.engine c.trim_sector.new.self c.in_ok-make_ready.ensures.ends.geometry _ c.in_ok-make_ready.ensures.readies c.trim_sector.ensures.keys
+    rw (p.1, p.2) (readies_page g.N.PageSource.flash g.N.PageSource.honest c.args.sector c.args.engine.now c.make_ready.new.engine c.trim_sector.new.self c.in_ok-make_ready.ensures.ends.geometry _ c.in_ok-make_ready.ensures.readies (ap (λ p. p.block) c.trim_sector.ensures.pin) c.trim_sector.ensures.keys
     (Err _) (c.in_err-trim_sector.ensures.cost c.in_ok-make_ready.ensures.ends.fault))
 
 pub returns-in_err-trim_sector-clause-truth : goal.returns-in_err-trim_sector-clause-truth
@@ -47,11 +47,11 @@ returns-in_err-trim_sector-clause-truth g c =
 
 pub returns-clause-ends : goal.returns-clause-ends
 returns-clause-ends g c =
-    ends_page g.N.PageSource.flash g.N.PageSource.honest g.N.PageSource.calm g.N.PageSource.failed c.args.engine.now c.make_ready.new.engine c.trim_sector.new.self _ c.in_ok-make_ready.ensures.ends c.trim_sector.ensures.stands.safe c.trim_sector.ensures.goes c.trim_sector.ensures.stands.honest_is c.trim_sector.ensures.stands.calm_is
-    c.trim_sector.ensures.stands.failed_is (beside_same (ram c.make_ready.new.engine) (ram c.trim_sector.new.self) c.trim_sector.ensures.pin c.trim_sector.ensures.goes c.trim_sector.ensures.moved c.trim_sector.ensures.no_more.limits) c.trim_sector.ensures.no_more (Ok _) c.in_ok-trim_sector.ensures.stands.fault c.in_ok-trim_sector.ensures.stands.rose c.in_ok-trim_sector.ensures.cost c.in_ok-trim_sector.ensures.stands.went
+    ends_page g.N.PageSource.flash g.N.PageSource.recorded g.N.PageSource.honest g.N.PageSource.calm g.N.PageSource.failed c.args.engine.now c.make_ready.new.engine c.trim_sector.new.self _ c.in_ok-make_ready.ensures.ends c.trim_sector.ensures.stands.safe c.trim_sector.ensures.goes c.trim_sector.ensures.stands.honest_is c.trim_sector.ensures.stands.calm_is
+    c.trim_sector.ensures.stands.failed_is (beside_same (ram c.make_ready.new.engine) (ram c.trim_sector.new.self) c.trim_sector.ensures.pin c.trim_sector.ensures.goes c.trim_sector.ensures.moved c.trim_sector.ensures.no_more.limits) c.trim_sector.ensures.no_more (Ok _) c.in_ok-trim_sector.ensures.stands.fault c.in_ok-trim_sector.ensures.stands.rose c.in_ok-trim_sector.ensures.cost c.in_ok-trim_sector.ensures.stands.went (λ honest k. c.in_ok-make_ready.ensures.truth honest k) c.in_ok-trim_sector.ensures.stops
 
 pub returns-clause-readies : goal.returns-clause-readies
-returns-clause-readies g c = readies_page g.N.PageSource.flash g.N.PageSource.honest c.args.sector c.args.engine.now c.make_ready.new.engine c.trim_sector.new.self c.in_ok-make_ready.ensures.ends.geometry _ c.in_ok-make_ready.ensures.readies c.trim_sector.ensures.keys
+returns-clause-readies g c = readies_page g.N.PageSource.flash g.N.PageSource.honest c.args.sector c.args.engine.now c.make_ready.new.engine c.trim_sector.new.self c.in_ok-make_ready.ensures.ends.geometry _ c.in_ok-make_ready.ensures.readies (ap (λ p. p.block) c.trim_sector.ensures.pin) c.trim_sector.ensures.keys
     (Ok _) (c.in_ok-trim_sector.ensures.cost c.in_ok-make_ready.ensures.ends.fault)
 
 pub returns-clause-cost : goal.returns-clause-cost

@@ -1,4 +1,4 @@
-use Rattle.std.proofs.Common.{◌∙◌, Ok, Err}
+use Rattle.std.proofs.Common.{◌∙◌, Ok, Err, ap}
 use Rattle.std.proofs.lemmas.Result.{err_from_is_err_and}
 use Rattle.page_layout.specs.declared.record.Kind.TheVariants.{Sector}
 use Rattle.collection.specs.Safe.{ram}
@@ -26,13 +26,13 @@ returns-in_err-make_ready-clause-readies g c =
 pub returns-in_err-write_sector-clause-ends : goal.returns-in_err-write_sector-clause-ends
 returns-in_err-write_sector-clause-ends g c =
     let p = err_from_is_err_and c.from_residual-in_err-write_sector.result c.from_residual-in_err-write_sector.ensures.1 in
-    rw (p.1, p.2) (ends_page g.N.PageSource.flash g.N.PageSource.honest g.N.PageSource.calm g.N.PageSource.failed c.args.engine.now c.make_ready.new.engine c.write_sector.new.self _ c.in_ok-make_ready.ensures.ends c.write_sector.ensures.stands.safe c.write_sector.ensures.goes c.write_sector.ensures.stands.honest_is c.write_sector.ensures.stands.calm_is
-    c.write_sector.ensures.stands.failed_is (beside_same (ram c.make_ready.new.engine) (ram c.write_sector.new.self) c.write_sector.ensures.pin c.write_sector.ensures.goes c.write_sector.ensures.moved c.write_sector.ensures.no_more.limits) c.write_sector.ensures.no_more (Err _) c.in_err-write_sector.ensures.stands.fault c.in_err-write_sector.ensures.stands.rose c.in_err-write_sector.ensures.cost c.in_err-write_sector.ensures.stands.went)
+    rw (p.1, p.2) (ends_page g.N.PageSource.flash g.N.PageSource.recorded g.N.PageSource.honest g.N.PageSource.calm g.N.PageSource.failed c.args.engine.now c.make_ready.new.engine c.write_sector.new.self _ c.in_ok-make_ready.ensures.ends c.write_sector.ensures.stands.safe c.write_sector.ensures.goes c.write_sector.ensures.stands.honest_is c.write_sector.ensures.stands.calm_is
+    c.write_sector.ensures.stands.failed_is (beside_same (ram c.make_ready.new.engine) (ram c.write_sector.new.self) c.write_sector.ensures.pin c.write_sector.ensures.goes c.write_sector.ensures.moved c.write_sector.ensures.no_more.limits) c.write_sector.ensures.no_more (Err _) c.in_err-write_sector.ensures.stands.fault c.in_err-write_sector.ensures.stands.rose c.in_err-write_sector.ensures.cost c.in_err-write_sector.ensures.stands.went (λ honest k. c.in_ok-make_ready.ensures.truth honest k) c.in_err-write_sector.ensures.stops)
 
 pub returns-in_err-write_sector-clause-readies : goal.returns-in_err-write_sector-clause-readies
 returns-in_err-write_sector-clause-readies g c =
     let p = err_from_is_err_and c.from_residual-in_err-write_sector.result c.from_residual-in_err-write_sector.ensures.1 in
-    rw (p.1, p.2) (readies_page g.N.PageSource.flash g.N.PageSource.honest c.args.sector c.args.engine.now c.make_ready.new.engine c.write_sector.new.self c.in_ok-make_ready.ensures.ends.geometry _ c.in_ok-make_ready.ensures.readies c.write_sector.ensures.keys
+    rw (p.1, p.2) (readies_page g.N.PageSource.flash g.N.PageSource.honest c.args.sector c.args.engine.now c.make_ready.new.engine c.write_sector.new.self c.in_ok-make_ready.ensures.ends.geometry _ c.in_ok-make_ready.ensures.readies (ap (λ p. p.block) c.write_sector.ensures.pin) c.write_sector.ensures.keys
     (Err _) (c.in_err-write_sector.ensures.cost c.in_ok-make_ready.ensures.ends.fault))
 
 pub returns-in_err-write_sector-clause-truth : goal.returns-in_err-write_sector-clause-truth
@@ -46,11 +46,11 @@ returns-in_err-write_sector-clause-truth g c =
 
 pub returns-clause-ends : goal.returns-clause-ends
 returns-clause-ends g c =
-    ends_page g.N.PageSource.flash g.N.PageSource.honest g.N.PageSource.calm g.N.PageSource.failed c.args.engine.now c.make_ready.new.engine c.write_sector.new.self _ c.in_ok-make_ready.ensures.ends c.write_sector.ensures.stands.safe c.write_sector.ensures.goes c.write_sector.ensures.stands.honest_is c.write_sector.ensures.stands.calm_is
-    c.write_sector.ensures.stands.failed_is (beside_same (ram c.make_ready.new.engine) (ram c.write_sector.new.self) c.write_sector.ensures.pin c.write_sector.ensures.goes c.write_sector.ensures.moved c.write_sector.ensures.no_more.limits) c.write_sector.ensures.no_more (Ok _) c.in_ok-write_sector.ensures.stands.fault c.in_ok-write_sector.ensures.stands.rose c.in_ok-write_sector.ensures.cost c.in_ok-write_sector.ensures.stands.went
+    ends_page g.N.PageSource.flash g.N.PageSource.recorded g.N.PageSource.honest g.N.PageSource.calm g.N.PageSource.failed c.args.engine.now c.make_ready.new.engine c.write_sector.new.self _ c.in_ok-make_ready.ensures.ends c.write_sector.ensures.stands.safe c.write_sector.ensures.goes c.write_sector.ensures.stands.honest_is c.write_sector.ensures.stands.calm_is
+    c.write_sector.ensures.stands.failed_is (beside_same (ram c.make_ready.new.engine) (ram c.write_sector.new.self) c.write_sector.ensures.pin c.write_sector.ensures.goes c.write_sector.ensures.moved c.write_sector.ensures.no_more.limits) c.write_sector.ensures.no_more (Ok _) c.in_ok-write_sector.ensures.stands.fault c.in_ok-write_sector.ensures.stands.rose c.in_ok-write_sector.ensures.cost c.in_ok-write_sector.ensures.stands.went (λ honest k. c.in_ok-make_ready.ensures.truth honest k) c.in_ok-write_sector.ensures.stops
 
 pub returns-clause-readies : goal.returns-clause-readies
-returns-clause-readies g c = readies_page g.N.PageSource.flash g.N.PageSource.honest c.args.sector c.args.engine.now c.make_ready.new.engine c.write_sector.new.self c.in_ok-make_ready.ensures.ends.geometry _ c.in_ok-make_ready.ensures.readies c.write_sector.ensures.keys
+returns-clause-readies g c = readies_page g.N.PageSource.flash g.N.PageSource.honest c.args.sector c.args.engine.now c.make_ready.new.engine c.write_sector.new.self c.in_ok-make_ready.ensures.ends.geometry _ c.in_ok-make_ready.ensures.readies (ap (λ p. p.block) c.write_sector.ensures.pin) c.write_sector.ensures.keys
     (Ok _) (c.in_ok-write_sector.ensures.cost c.in_ok-make_ready.ensures.ends.fault)
 
 pub returns-clause-cost : goal.returns-clause-cost

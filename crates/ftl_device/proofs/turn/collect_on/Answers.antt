@@ -14,7 +14,7 @@ none_pinned (Some p) b is off = (let no : ⊥ = cc in absurd no)
 -- ---- none begins
 
 pub returns-in_default-clause-collects : goal.returns-in_default-clause-collects
-returns-in_default-clause-collects g c = collects_none g.N.PageSource.flash g.N.PageSource.honest g.N.PageSource.calm g.N.PageSource.erases g.N.PageSource.failed c.args.engine.now c.requires.safe c.requires.going c.requires.calm
+returns-in_default-clause-collects g c = collects_none g.N.PageSource.flash g.N.PageSource.recorded g.N.PageSource.honest g.N.PageSource.calm g.N.PageSource.erases g.N.PageSource.failed c.args.engine.now c.requires.safe c.requires.going c.requires.calm
 
 pub returns-in_default-clause-gone_on : goal.returns-in_default-clause-gone_on
 returns-in_default-clause-gone_on g c = inl refl
@@ -35,7 +35,7 @@ pub returns-clause-collects : goal.returns-clause-collects
 returns-clause-collects g c =
     let none = none_pinned c.args.engine.now.pinned c.is_some.result c.is_some.ensures c.if-is_some.false in
     let idle = unpinned_idle (ram c.args.engine.now) c.requires.calm none in
-    collects_pinned g.N.PageSource.flash c.args.engine.now c.pin.new.self c.in-Some.block c.pin.ensures.pinned g.N.PageSource.honest g.N.PageSource.calm g.N.PageSource.erases g.N.PageSource.failed c.step_pinned-2.new.engine c.step_pinned-2.result c.pin.ensures.safe c.requires.going
+    collects_pinned g.N.PageSource.flash c.args.engine.now c.pin.new.self c.in-Some.block c.pin.ensures.pinned g.N.PageSource.recorded g.N.PageSource.honest g.N.PageSource.calm g.N.PageSource.erases g.N.PageSource.failed c.step_pinned-2.new.engine c.step_pinned-2.result c.requires.safe c.pin.ensures.safe c.requires.going
     (knows_pinned g.N.PageSource.flash c.args.engine.now c.pin.new.self c.in-Some.block c.pin.ensures.pinned c.requires.safe.memory (c.pin.ensures.calm idle) (c.pin.ensures.passed _) c.in-Some.ensures idle.moved)
     c.step_pinned-2.ensures.collects
 

@@ -25,7 +25,7 @@ returns-in_err-make_room-clause-count g c =
 pub returns-in_err-make_room-clause-ends : goal.returns-in_err-make_room-clause-ends
 returns-in_err-make_room-clause-ends g c =
     let p = err_from_is_err_and c.from_residual.result c.from_residual.ensures.1 in
-    rw (p.1, p.2) (leaves_stuck g.N.PageSource.flash g.N.PageSource.honest g.N.PageSource.calm g.N.PageSource.failed c.args.engine.now c.make_room.new.engine _ c.in_err-make_room.ensures.leaves c.make_room.ensures.keys.limits)
+    rw (p.1, p.2) (leaves_stuck g.N.PageSource.flash g.N.PageSource.recorded g.N.PageSource.honest g.N.PageSource.calm g.N.PageSource.failed c.args.engine.now c.make_room.new.engine _ c.in_err-make_room.ensures.leaves c.make_room.ensures.keys.limits)
 
 -- ---- the rescue was refused
 
@@ -45,8 +45,11 @@ returns-in_err-rescue_one-clause-count g c =
 pub returns-in_err-rescue_one-clause-ends : goal.returns-in_err-rescue_one-clause-ends
 returns-in_err-rescue_one-clause-ends g c =
     let p = err_from_is_err_and c.from_residual-in_err-rescue_one.result c.from_residual-in_err-rescue_one.ensures.1 in
-    rw (p.1, p.2) (leaves_stuck g.N.PageSource.flash g.N.PageSource.honest g.N.PageSource.calm g.N.PageSource.failed c.args.engine.now c.rescue_one.new.self _ (leaves_then g.N.PageSource.flash g.N.PageSource.honest g.N.PageSource.calm g.N.PageSource.failed c.args.engine.now c.make_room.new.engine c.rescue_one.new.self _ _ c.in_ok-make_room.ensures.leaves (leaves_by g.N.PageSource.flash g.N.PageSource.honest g.N.PageSource.calm g.N.PageSource.failed c.make_room.new.engine c.rescue_one.new.self (Err _) c.in_ok-make_room.ensures.leaves.fault c.in_err-rescue_one.ensures.stands c.rescue_one.ensures.goes.geometry
-    (rescue_told (Err _) (ram c.make_room.new.engine) (ram c.rescue_one.new.self) c.make_room.ensures.leaves.safe.memory c.rescue_one.ensures.stands.safe.memory c.rescue_one.ensures.goes (c.in_err-rescue_one.ensures.cost c.in_ok-make_room.ensures.leaves.fault)))) (limits_then _ _ _ c.make_room.ensures.keys.limits c.rescue_one.ensures.keys.limits))
+    rw (p.1, p.2) (leaves_stuck g.N.PageSource.flash g.N.PageSource.recorded g.N.PageSource.honest g.N.PageSource.calm g.N.PageSource.failed c.args.engine.now c.rescue_one.new.self _ (leaves_then g.N.PageSource.flash g.N.PageSource.recorded g.N.PageSource.honest g.N.PageSource.calm g.N.PageSource.failed c.args.engine.now c.make_room.new.engine c.rescue_one.new.self _ _
+    (λ honest k. keeps_room (ram c.args.engine.now) (ram c.make_room.new.engine) _ _ (c.in_ok-make_room.ensures.truth honest k) (c.in_ok-make_room.ensures.pinned honest k)) c.make_room.ensures.keys.limits
+    c.in_ok-make_room.ensures.leaves (leaves_by g.N.PageSource.flash g.N.PageSource.recorded g.N.PageSource.honest g.N.PageSource.calm g.N.PageSource.failed c.make_room.new.engine c.rescue_one.new.self (Err _) c.in_ok-make_room.ensures.leaves.fault c.in_err-rescue_one.ensures.stands c.rescue_one.ensures.goes.geometry
+    (rescue_told (Err _) (ram c.make_room.new.engine) (ram c.rescue_one.new.self) c.make_room.ensures.leaves.safe.memory c.rescue_one.ensures.stands.safe.memory c.rescue_one.ensures.goes (c.in_err-rescue_one.ensures.cost c.in_ok-make_room.ensures.leaves.fault))
+    (λ honest k ne. c.in_err-rescue_one.ensures.stops honest c.in_ok-make_room.ensures.leaves.fault k.truth ne))) (limits_then _ _ _ c.make_room.ensures.keys.limits c.rescue_one.ensures.keys.limits))
 
 -- ---- a page was rescued
 
@@ -89,9 +92,12 @@ pub returns-then-needs_rescue-clause-count : goal.returns-then-needs_rescue-clau
 returns-then-needs_rescue-clause-count g c = λ known five. rescue_short (ram c.args.engine.now) (ram c.make_room.new.engine) (ram c.rescue_one.new.self) c.requires.safe.memory c.make_room.ensures.leaves.safe.memory c.rescue_one.ensures.stands.safe.memory c.in_ok-make_room.ensures.made c.rescue_one.ensures.goes (c.in_ok-make_room.ensures.count known.0 known.1 0 known.2) _ (c.in_ok-rescue_one.ensures.cost c.in_ok-make_room.ensures.leaves.fault)
 
 pub returns-then-needs_rescue-clause-ends : goal.returns-then-needs_rescue-clause-ends
-returns-then-needs_rescue-clause-ends g c = leaves_ends g.N.PageSource.flash g.N.PageSource.honest g.N.PageSource.calm g.N.PageSource.failed c.args.engine.now c.rescue_one.new.self (Ok tt) (leaves_done g.N.PageSource.flash g.N.PageSource.honest g.N.PageSource.calm g.N.PageSource.failed c.args.engine.now c.rescue_one.new.self _ tt (leaves_then g.N.PageSource.flash g.N.PageSource.honest g.N.PageSource.calm g.N.PageSource.failed c.args.engine.now c.make_room.new.engine c.rescue_one.new.self _ _ c.in_ok-make_room.ensures.leaves
-    (leaves_by g.N.PageSource.flash g.N.PageSource.honest g.N.PageSource.calm g.N.PageSource.failed c.make_room.new.engine c.rescue_one.new.self (Ok _) c.in_ok-make_room.ensures.leaves.fault c.in_ok-rescue_one.ensures.stands c.rescue_one.ensures.goes.geometry
-    (rescue_told (Ok _) (ram c.make_room.new.engine) (ram c.rescue_one.new.self) c.make_room.ensures.leaves.safe.memory c.rescue_one.ensures.stands.safe.memory c.rescue_one.ensures.goes (c.in_ok-rescue_one.ensures.cost c.in_ok-make_room.ensures.leaves.fault)))))
+returns-then-needs_rescue-clause-ends g c = leaves_ends g.N.PageSource.flash g.N.PageSource.recorded g.N.PageSource.honest g.N.PageSource.calm g.N.PageSource.failed c.args.engine.now c.rescue_one.new.self (Ok tt) (leaves_done g.N.PageSource.flash g.N.PageSource.recorded g.N.PageSource.honest g.N.PageSource.calm g.N.PageSource.failed c.args.engine.now c.rescue_one.new.self _ tt (leaves_then g.N.PageSource.flash g.N.PageSource.recorded g.N.PageSource.honest g.N.PageSource.calm g.N.PageSource.failed c.args.engine.now c.make_room.new.engine c.rescue_one.new.self _ _
+    (λ honest k. keeps_room (ram c.args.engine.now) (ram c.make_room.new.engine) _ _ (c.in_ok-make_room.ensures.truth honest k) (c.in_ok-make_room.ensures.pinned honest k)) c.make_room.ensures.keys.limits
+    c.in_ok-make_room.ensures.leaves
+    (leaves_by g.N.PageSource.flash g.N.PageSource.recorded g.N.PageSource.honest g.N.PageSource.calm g.N.PageSource.failed c.make_room.new.engine c.rescue_one.new.self (Ok _) c.in_ok-make_room.ensures.leaves.fault c.in_ok-rescue_one.ensures.stands c.rescue_one.ensures.goes.geometry
+    (rescue_told (Ok _) (ram c.make_room.new.engine) (ram c.rescue_one.new.self) c.make_room.ensures.leaves.safe.memory c.rescue_one.ensures.stands.safe.memory c.rescue_one.ensures.goes (c.in_ok-rescue_one.ensures.cost c.in_ok-make_room.ensures.leaves.fault))
+    (λ honest k ne. c.in_ok-rescue_one.ensures.stops honest c.in_ok-make_room.ensures.leaves.fault k.truth ne))))
     (limits_then _ _ _ c.make_room.ensures.keys.limits c.rescue_one.ensures.keys.limits) (λ none. calm_law (ram c.make_room.new.engine) (ram c.rescue_one.new.self) c.in_ok-rescue_one.ensures.beside c.in_ok-make_room.ensures.made.calm)
 
 -- ---- a step was refused
@@ -112,7 +118,9 @@ returns-in_err-collect_on-clause-count g c =
 pub returns-in_err-collect_on-clause-ends : goal.returns-in_err-collect_on-clause-ends
 returns-in_err-collect_on-clause-ends g c =
     let p = err_from_is_err_and c.from_residual-in_err-collect_on.result c.from_residual-in_err-collect_on.ensures.1 in
-    rw (p.1, p.2) (leaves_stuck g.N.PageSource.flash g.N.PageSource.honest g.N.PageSource.calm g.N.PageSource.failed c.args.engine.now c.collect_on.new.engine _ (leaves_then g.N.PageSource.flash g.N.PageSource.honest g.N.PageSource.calm g.N.PageSource.failed c.args.engine.now c.make_room.new.engine c.collect_on.new.engine _ _ c.in_ok-make_room.ensures.leaves c.in_err-collect_on.ensures.collects.leaves) (limits_then _ _ _ c.make_room.ensures.keys.limits c.collect_on.ensures.collects.limits))
+    rw (p.1, p.2) (leaves_stuck g.N.PageSource.flash g.N.PageSource.recorded g.N.PageSource.honest g.N.PageSource.calm g.N.PageSource.failed c.args.engine.now c.collect_on.new.engine _ (leaves_then g.N.PageSource.flash g.N.PageSource.recorded g.N.PageSource.honest g.N.PageSource.calm g.N.PageSource.failed c.args.engine.now c.make_room.new.engine c.collect_on.new.engine _ _
+    (λ honest k. keeps_room (ram c.args.engine.now) (ram c.make_room.new.engine) _ _ (c.in_ok-make_room.ensures.truth honest k) (c.in_ok-make_room.ensures.pinned honest k)) c.make_room.ensures.keys.limits
+    c.in_ok-make_room.ensures.leaves c.in_err-collect_on.ensures.collects.leaves) (limits_then _ _ _ c.make_room.ensures.keys.limits c.collect_on.ensures.collects.limits))
 
 -- ---- a collection went on
 
@@ -146,7 +154,9 @@ pub returns-clause-count : goal.returns-clause-count
 returns-clause-count g c = λ known five. step_short (ram c.args.engine.now) (ram c.make_room.new.engine) (ram c.collect_on.new.engine) c.requires.safe.memory c.make_room.ensures.leaves.safe.memory c.collect_on.ensures.collects.leaves.safe.memory c.in_ok-make_room.ensures.made c.collect_on.ensures.collects.goes (c.in_ok-make_room.ensures.count known.0 known.1 0 known.2) c.in_ok-collect_on.ensures.collects.counts
 
 pub returns-clause-ends : goal.returns-clause-ends
-returns-clause-ends g c = leaves_ends g.N.PageSource.flash g.N.PageSource.honest g.N.PageSource.calm g.N.PageSource.failed c.args.engine.now c.collect_on.new.engine (Ok tt) (leaves_then g.N.PageSource.flash g.N.PageSource.honest g.N.PageSource.calm g.N.PageSource.failed c.args.engine.now c.make_room.new.engine c.collect_on.new.engine _ _ c.in_ok-make_room.ensures.leaves c.in_ok-collect_on.ensures.collects.leaves) (limits_then _ _ _ c.make_room.ensures.keys.limits c.collect_on.ensures.collects.limits) c.collect_on.ensures.collects.calm_memory
+returns-clause-ends g c = leaves_ends g.N.PageSource.flash g.N.PageSource.recorded g.N.PageSource.honest g.N.PageSource.calm g.N.PageSource.failed c.args.engine.now c.collect_on.new.engine (Ok tt) (leaves_then g.N.PageSource.flash g.N.PageSource.recorded g.N.PageSource.honest g.N.PageSource.calm g.N.PageSource.failed c.args.engine.now c.make_room.new.engine c.collect_on.new.engine _ _
+    (λ honest k. keeps_room (ram c.args.engine.now) (ram c.make_room.new.engine) _ _ (c.in_ok-make_room.ensures.truth honest k) (c.in_ok-make_room.ensures.pinned honest k)) c.make_room.ensures.keys.limits
+    c.in_ok-make_room.ensures.leaves c.in_ok-collect_on.ensures.collects.leaves) (limits_then _ _ _ c.make_room.ensures.keys.limits c.collect_on.ensures.collects.limits) c.collect_on.ensures.collects.calm_memory
 
 -- ---- nothing was to be done
 

@@ -4,6 +4,8 @@ use Rattle.collection.specs.Truth.{IsTrue}
 use Rattle.collection.proofs.Looks.{ok_not_bus}
 use Rattle.ftl_device.proofs.CallLemmas.{mountable_kept}
 use Rattle.ftl_device.proofs.MountableLemmas.{restart_law}
+use Rattle.ftl_device.proofs.StoppedLemmas.{stopped_none}
+use Rattle.promises.specs.Step as step
 use Rattle.ftl_device.proofs.ReadLemmas.{read_step, read_done, read_well}
 use Rattle.ftl_device.proofs.device.Device.read.Goals as goal
 
@@ -23,3 +25,11 @@ returns-in-Ok-clause-mountable g c = λ honest well not_bus most.
 
 pub returns-in-Ok-clause-well : goal.returns-in-Ok-clause-well
 returns-in-Ok-clause-well g c = λ honest well not_bus. read_well g.N.PageSource.flash c.args.self.now c.remember.new.self c.read_sector.new.self c.in-Ok.ensures.looks.memory (c.in-Ok.ensures.looks.same honest (ok_not_bus c.in-Ok.row)) c.remember.ensures.same c.remember.ensures.moved well (c.remember.ensures.truth _ (subst (λ r. IsTrue None r (image_in g.N.PageSource.flash c.args.self.now.engine)) (sym c.in-Ok.ensures.looks.memory) well.truth) (c.in-Ok.ensures.truth honest well.truth).found)
+
+-- ---- a stop inside it
+
+pub returns-then-sector-sectors-clause-survives : goal.returns-then-sector-sectors-clause-survives
+returns-then-sector-sectors-clause-survives g c = λ honest well ne. stopped_none c.args.self.now.engine.geometry c.args.self.now.engine.mapping.capacity (step.Read c.args.sector) _ (image_in g.N.PageSource.flash c.args.self.now.engine) _ _ (restart_law (ram c.args.self.now.engine) _ c.requires.device.engine.memory well.truth)
+
+pub returns-in-Ok-clause-survives : goal.returns-in-Ok-clause-survives
+returns-in-Ok-clause-survives g c = λ honest well ne. stopped_none c.args.self.now.engine.geometry c.args.self.now.engine.mapping.capacity (step.Read c.args.sector) _ (image_in g.N.PageSource.flash c.args.self.now.engine) _ _ (restart_law (ram c.args.self.now.engine) _ c.requires.device.engine.memory well.truth)

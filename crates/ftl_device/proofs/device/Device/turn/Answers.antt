@@ -14,16 +14,16 @@ use Rattle.ftl_device.proofs.device.Device.turn.Goals as goal
 pub returns-in_err-may_flush-clause-upkeeps : goal.returns-in_err-may_flush-clause-upkeeps
 returns-in_err-may_flush-clause-upkeeps g c =
     let p = err_from_is_err_and c.from_residual.result c.from_residual.ensures.1 in
-    rw (p.1, p.2) (not_upkept g.N.PageSource.flash g.N.PageSource.honest g.N.PageSource.calm g.N.PageSource.failed step.Turn c.args.self.now c.requires.device (λ reply s h. h) _ c.in_err-may_flush.ensures.may_not)
+    rw (p.1, p.2) (not_upkept g.N.PageSource.flash g.N.PageSource.recorded g.N.PageSource.honest g.N.PageSource.calm g.N.PageSource.failed step.Turn c.args.self.now c.requires.device (λ reply s h. h) _ c.in_err-may_flush.ensures.may_not)
 
 pub returns-clause-upkeeps : goal.returns-clause-upkeeps
-returns-clause-upkeeps g c = upkept_by g.N.PageSource.flash g.N.PageSource.honest g.N.PageSource.calm g.N.PageSource.failed step.Turn c.args.self.now c.finish.new.self c.requires.device c.finish.ensures.device c.in_ok-may_flush.ensures.may (λ reply s h. h)
+returns-clause-upkeeps g c = upkept_by g.N.PageSource.flash g.N.PageSource.recorded g.N.PageSource.honest g.N.PageSource.calm g.N.PageSource.failed step.Turn c.args.self.now c.finish.new.self c.requires.device c.finish.ensures.device c.in_ok-may_flush.ensures.may (λ reply s h. h)
     c.turn_ready-answer.new.engine c.good-good.result c.turn_ready-answer.result c.finish.result c.finish.ensures.engine c.good-good.ensures c.finish.ensures.answer (record {
       ends = c.turn_ready-answer.ensures.ends;
       no_memory = c.turn_ready-answer.ensures.memory;
       truth = c.turn_ready-answer.ensures.truth;
       lacks = λ honest w. λ fault is. c.turn_ready-answer.ensures.count (honest, w, funded_begun (ram c.args.self.now.engine) c.args.self.now.read_only c.requires.device.read_only c.in_ok-may_flush.ensures.may.writable) (five_free (ram c.args.self.now.engine) c.args.self.now.read_only c.requires.device.read_only c.in_ok-may_flush.ensures.may.writable);
-      left = λ honest w log ro flag on. left_after g.N.PageSource.flash step.Turn c.args.self.now.engine c.turn_ready-answer.new.engine c.turn_ready-answer.new.engine log c.args.self.now.read_only ro c.turn_ready-answer.result _ _ refl refl c.requires.device.engine.memory c.turn_ready-answer.ensures.ends.safe.memory c.turn_ready-answer.ensures.ends.geometry flag on (c.turn_ready-answer.ensures.count (honest, w, funded_begun (ram c.args.self.now.engine) c.args.self.now.read_only c.requires.device.read_only c.in_ok-may_flush.ensures.may.writable) (five_free (ram c.args.self.now.engine) c.args.self.now.read_only c.requires.device.read_only c.in_ok-may_flush.ensures.may.writable));
+      left = λ honest w log ro flag on. left_after g.N.PageSource.flash g.N.PageSource.recorded step.Turn c.args.self.now.engine c.turn_ready-answer.new.engine c.turn_ready-answer.new.engine log c.args.self.now.read_only ro c.turn_ready-answer.result _ _ refl refl c.requires.device.engine.memory c.turn_ready-answer.ensures.ends.safe.memory c.turn_ready-answer.ensures.ends.geometry flag on (c.turn_ready-answer.ensures.count (honest, w, funded_begun (ram c.args.self.now.engine) c.args.self.now.read_only c.requires.device.read_only c.in_ok-may_flush.ensures.may.writable) (five_free (ram c.args.self.now.engine) c.args.self.now.read_only c.requires.device.read_only c.in_ok-may_flush.ensures.may.writable));
       worth = λ honest w log its. (let no : ⊥ = cc in absurd no);
     })
 
