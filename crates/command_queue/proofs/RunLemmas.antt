@@ -1,11 +1,14 @@
 -- A run goes on by one call.
 use Rattle.std.proofs.Common.{◌≡◌, ◌≢◌, ◌↔◌, ℕ, ◌+◌, ◌<◌, ◌≤◌, min, inl, inr, Bool, true, false, not, ◌&&◌, List, [], ◌∷◌, ◌++◌, Option, Some, Result, Ok, Err, refl, sym, ap, subst}
 use Rattle.std.proofs.Common.{◌∙◌, None, arith, append_assoc}
-use Rattle.std.specs.Prelude.{IfErr, OnOk, is_some}
+use Rattle.std.specs.Prelude.{◌⊎◌, IfErr, OnOk, IsSome, is_some}
 use Rattle.std.proofs.lemmas.List.{map-append, append-nil}
 use Rattle.page_layout.specs.declared.geometry.Geometry.{Geometry}
 use Rattle.page_layout.specs.Page.{Image, Page}
 use Rattle.page_layout.specs.Flash.{Flash, Operation, Leads}
+use Rattle.page_layout.specs.Recording.{Recording, Records}
+use Rattle.collection.proofs.Logs.{records_none}
+use Rattle.ftl_device.specs.Stopped.{SurvivesStops}
 use Rattle.page_layout.specs.Array.{array_of}
 use Rattle.bad_blocks.specs.Table.{wear_at, most_wear}
 use Rattle.allocation.specs.State.{State}
@@ -32,6 +35,8 @@ use Rattle.ftl_device.specs.Calls.{IsWell, Says, HasRescued, state_in, reply_of,
 use Rattle.ftl_device.specs.Counts.{is_bad_by, is_flush, IsShown, IsLeft}
 use Rattle.ftl_device.specs.Read.{LeavesRead, IsReadRefusal}
 use Rattle.command_queue.specs.Commands.{needs_no_memory, is_read, is_turn}
+use Rattle.ftl_device.specs.Changes.{MayPin}
+use Rattle.ftl_device.proofs.ChangeLemmas.{unpinned_some}
 use Rattle.command_queue.specs.Exchanges.{answer_to, reply_in, Exchange}
 use Rattle.command_queue.specs.Tells.{die_in, Happened, Tells}
 use Rattle.command_queue.specs.Run.{IsFair, AreFair, HasRun, IsEventOf, HappensEach, Ran}
@@ -54,6 +59,23 @@ leaves_mapping n (Err OutOfMemory) old new p q bytes leaves ne = subst (λ (x : 
 leaves_mapping n (Err Damaged) old new p q bytes leaves ne = subst (λ (x : Ram). new ≡ record old { mapping = x.mapping }) (sym leaves) leaves
 leaves_mapping n (Err BusFault) old new p q bytes leaves ne = absurd (ne refl)
 
+-- nor does it pin a block
+pub read_pins : (n : ℕ) (result : Result (Unit {0}) DeviceFault) (old new : Ram) (p q : Page) (bytes : List ℕ) → LeavesRead n result old new p q bytes → old.pin.block ≡ None → IsSome new.pin.block → MayPin result
+read_pins n (Ok done) old new p q bytes leaves none some = unpinned_some new.pin.block (ap (λ (x : Ram). x.pin.block) leaves.others ∙ none) some
+read_pins n (Err OutOfRange) old new p q bytes leaves none some = unpinned_some new.pin.block (ap (λ (x : Ram). x.pin.block) leaves ∙ none) some
+read_pins n (Err (ReadOnly good wanted failed)) old new p q bytes leaves none some = tt
+read_pins n (Err SequenceSpent) old new p q bytes leaves none some = tt
+read_pins n (Err OutOfMemory) old new p q bytes leaves none some = unpinned_some new.pin.block (ap (λ (x : Ram). x.pin.block) leaves ∙ none) some
+read_pins n (Err Damaged) old new p q bytes leaves none some = tt
+read_pins n (Err BusFault) old new p q bytes leaves none some = tt
+
+-- what an event says of it
+pins_so : {A : Type 0} (was is : Option A) (turn : Bool) (P : Type 0) → (turn ≡ false → was ≡ None → IsSome is → P) → is_some was ≡ false → is_some is ≡ true → (turn ≡ true) ⊎ P
+pins_so None is true P h none some = inl refl
+pins_so None (Some x) false P h none some = inr (h refl refl refl)
+pins_so None None false P h none some = (let no : ⊥ = cc in absurd no)
+pins_so (Some x) is turn P h none some = (let no : ⊥ = cc in absurd no)
+
 pub read_geometry : (n : ℕ) (result : Result (Unit {0}) DeviceFault) (old new : Ram) (p q : Page) (bytes : List ℕ) → LeavesRead n result old new p q bytes → new.geometry ≡ old.geometry
 read_geometry n (Ok done) old new p q bytes leaves = ap (λ (x : Ram). x.geometry) leaves.others
 read_geometry n (Err OutOfRange) old new p q bytes leaves = ap (λ (x : Ram). x.geometry) leaves
@@ -64,10 +86,11 @@ read_geometry n (Err Damaged) old new p q bytes leaves = ap (λ (x : Ram). x.geo
 read_geometry n (Err BusFault) old new p q bytes leaves = ap (λ (x : Ram). x.geometry) leaves
 
 -- no operation was asked for
-pub went_none : (old new : Ram) (s t : Flash) → new ≡ record old { mapping = new.mapping } → t ≡ s → Went old s new t
-went_none old new s t same kept = record {
+pub went_none : (old new : Ram) (s t : Flash) (told told' : Option Recording) → new ≡ record old { mapping = new.mapping } → t ≡ s → told' ≡ told → Went old s told new t told'
+went_none old new s t told told' same kept still = record {
   log = [];
   leads = kept;
+  records = subst (λ x. Records told [] x) (sym still) (records_none told);
   follows = record { legal = λ accounts a. tt; accounted = λ accounts a. subst (IsAccounted accounts) (sym (ap (λ (x : Ram). x.blocks) same)) a };
   next = ap (λ (x : Ram). x.next) same ∙ omega arith;
   wears = record { worn = λ b most. (let e : wear_at new.blocks.table b ≡ wear_at old.blocks.table b = ap (λ (x : Ram). wear_at x.blocks.table b) same in omega arith) };
@@ -119,17 +142,19 @@ quiet_sound s t (Err OutOfMemory) is = tt
 quiet_sound s t (Err Damaged) is = is
 quiet_sound s t (Err BusFault) is = tt
 
-module _ {N : Type 0} (flash : N → Flash) (old new : Device N) (result : Result (Unit {0}) DeviceFault) (ne : result ≢ Err BusFault) where
+module _ {N : Type 0} (flash : N → Flash) (recorded : N → Option Recording) (old new : Device N) (result : Result (Unit {0}) DeviceFault) (ne : result ≢ Err BusFault) where
   read_view : flash new.engine.nand ≡ flash old.engine.nand → new.read_only ≡ old.read_only → is_some new.engine.pinned ≡ is_some old.engine.pinned → die_in flash new ≡ die_in flash old
   read_view kept flag pin =
       let view : Flash → Bool → Bool → DeviceView = λ f ro pinned. record { flash = f; ro = ro; pinned = pinned } in
       ap (λ f. view f new.read_only (is_some new.engine.pinned)) kept ∙ (ap (λ ro. view (flash old.engine.nand) ro (is_some new.engine.pinned)) flag ∙ ap (view (flash old.engine.nand) old.read_only) pin)
 
-  pub read_happened : (n : ℕ) (bytes : List ℕ) (p q : Page) → ReadStep old.engine.geometry (state_in flash old) n (read_reply_of bytes result) (state_in flash new) → flash new.engine.nand ≡ flash old.engine.nand → LeavesRead n result (ram old.engine) (ram new.engine) p q bytes → new.read_only ≡ old.read_only → IfErr result IsReadRefusal → Happened flash old (record { command = step.Read n; result = result; bytes = bytes }) new
+  pub read_happened : (n : ℕ) (bytes : List ℕ) (p q : Page) → ReadStep old.engine.geometry (state_in flash old) n (read_reply_of bytes result) (state_in flash new) → flash new.engine.nand ≡ flash old.engine.nand → recorded new.engine.nand ≡ recorded old.engine.nand → LeavesRead n result (ram old.engine) (ram new.engine) p q bytes → new.read_only ≡ old.read_only → IfErr result IsReadRefusal
+      → SurvivesStops old.engine.geometry old.engine.mapping.capacity (step.Read n) result (image_in flash old.engine) (image_in flash new.engine) (recorded new.engine.nand) [] → Happened flash recorded old (record { command = step.Read n; result = result; bytes = bytes }) new
   unfolding went_none
-  read_happened n bytes p q is kept leaves flag of_read = record {
+  read_happened n bytes p q is kept still leaves flag of_read survives = record {
     step = is;
-    went = went_none (ram old.engine) (ram new.engine) (flash old.engine.nand) (flash new.engine.nand) (leaves_mapping n result (ram old.engine) (ram new.engine) p q bytes leaves ne) kept;
+    went = went_none (ram old.engine) (ram new.engine) (flash old.engine.nand) (flash new.engine.nand) (recorded old.engine.nand) (recorded new.engine.nand) (leaves_mapping n result (ram old.engine) (ram new.engine) p q bytes leaves ne) kept still;
+    stopped = survives;
     stale = λ any. no_memory result of_read;
     shown = λ bad next before bads spent. read_shown old.engine.geometry bad next before [] old.read_only (image_in flash new.engine) n bytes (state_in flash old) (state_in flash new) result of_read is ne;
     flushed = λ is. (let no : ⊥ = cc in absurd no);
@@ -138,7 +163,7 @@ module _ {N : Type 0} (flash : N → Flash) (old new : Device N) (result : Resul
     left = λ bad before bads on. read_left old.engine.geometry bad before [] old.read_only n result (sym flag ∙ on);
   }
 
-  module _ (safe : IsRam (ram old.engine)) (safe' : IsRam (ram new.engine)) (sized : new.engine.geometry ≡ old.engine.geometry) (was : IsWell flash old) (well : IsWell flash new) (w : Went (ram old.engine) (flash old.engine.nand) (ram new.engine) (flash new.engine.nand)) (says : IfErr result (Says (ram old.engine) (ram new.engine)))
+  module _ (safe : IsRam (ram old.engine)) (safe' : IsRam (ram new.engine)) (sized : new.engine.geometry ≡ old.engine.geometry) (was : IsWell flash old) (well : IsWell flash new) (w : Went (ram old.engine) (flash old.engine.nand) (recorded old.engine.nand) (ram new.engine) (flash new.engine.nand) (recorded new.engine.nand)) (says : IfErr result (Says (ram old.engine) (ram new.engine)))
       (shown : IfErr result (IsShown old.engine.geometry (is_bad_by (ram old.engine)) old.engine.next [] w.log old.read_only (image_in flash new.engine))) where
     rescued_so : HasRescued (ram old.engine) (ram new.engine) → Rescues old.engine.geometry (is_bad_by (ram old.engine)) w.log (image_in flash old.engine) (image_in flash new.engine)
     rescued_so h =
@@ -146,8 +171,10 @@ module _ {N : Type 0} (flash : N → Flash) (old new : Device N) (result : Resul
         (λ none. (let same : flash new.engine.nand ≡ flash old.engine.nand = subst (λ l. Leads (flash old.engine.nand) l (flash new.engine.nand)) none w.leads in ap (λ (f : Flash). f.image) same))
 
     -- a call that may change sectors
-    pub changed : (command : step.Command) (bytes : List ℕ) → is_read command ≡ false → (is_turn command ≡ true → OnOk result (HasRescued (ram old.engine) (ram new.engine))) → (is_flush command ≡ true → result ≡ Ok tt → IsFlushedOut (first_of (ram old.engine)) w.log (image_in flash new.engine)) → (new.read_only ≡ true → IsLeft command old.engine.geometry (is_bad_by (ram old.engine)) [] w.log old.read_only result) → NoDamage result → (needs_no_memory (is_some old.engine.pinned) old.engine.geometry (image_in flash old.engine) command ≡ true → result ≢ Err OutOfMemory) → ArrayStep old.engine.geometry (state_in flash old) command (answer_to command bytes result) (state_in flash new) → Happened flash old (record { command = command; result = result; bytes = bytes }) new
-    changed command bytes no_read rescued flushed left is stale whole = record {
+    pub changed : (command : step.Command) (bytes : List ℕ) → is_read command ≡ false → (is_turn command ≡ true → OnOk result (HasRescued (ram old.engine) (ram new.engine))) → (is_flush command ≡ true → result ≡ Ok tt → IsFlushedOut (first_of (ram old.engine)) w.log (image_in flash new.engine)) → (new.read_only ≡ true → IsLeft command old.engine.geometry (is_bad_by (ram old.engine)) [] w.log old.read_only result) → NoDamage result → (needs_no_memory (is_some old.engine.pinned) old.engine.geometry (image_in flash old.engine) command ≡ true → result ≢ Err OutOfMemory) → ArrayStep old.engine.geometry (state_in flash old) command (answer_to command bytes result) (state_in flash new)
+        → SurvivesStops old.engine.geometry old.engine.mapping.capacity command result (image_in flash old.engine) (image_in flash new.engine) (recorded new.engine.nand) w.log → Happened flash recorded old (record { command = command; result = result; bytes = bytes }) new
+    changed command bytes no_read rescued flushed left is stale whole survives = record {
+      stopped = survives;
       flushed = flushed;
       reads = λ read. (let no : ⊥ = cc in absurd no);
       rescues = λ turn done. rescued_so (subst (λ r. OnOk r (HasRescued (ram old.engine) (ram new.engine))) done (rescued turn));
@@ -175,11 +202,11 @@ fair_more first old mid before total (e ∷ events) [] event x fair here all is 
 fair_more first old mid before total (e ∷ events) (y ∷ xs) event x fair here all is =
     (fair.0, fair_more first e.left mid (before ++ e.piece) total events xs event x fair.1 here (all ∙ sym (append_assoc before e.piece (log_of events))) is)
 
-each_more : {N : Type 0} (flash : N → Flash) (honest : N → Bool) (failed erases : N → ℕ) (old mid new : Device N) (events : List Event) (xs : List Exchange) (event : Event) (x : Exchange) → HappensEach flash honest failed erases old events xs mid → IsEventOf flash honest failed erases mid event x new → HappensEach flash honest failed erases old (events ++ event ∷ []) (xs ++ x ∷ []) new
-each_more flash honest failed erases old mid new [] [] event x each is = (new, subst (λ d. IsEventOf flash honest failed erases d event x new) each is, refl)
-each_more flash honest failed erases old mid new [] (y ∷ xs) event x each is = absurd each
-each_more flash honest failed erases old mid new (e ∷ events) [] event x each is = absurd each
-each_more flash honest failed erases old mid new (e ∷ events) (y ∷ xs) event x each is = (each.0, each.1, each_more flash honest failed erases each.0 mid new events xs event x each.2 is)
+each_more : {N : Type 0} (flash : N → Flash) (recorded : N → Option Recording) (honest : N → Bool) (failed erases : N → ℕ) (old mid new : Device N) (events : List Event) (xs : List Exchange) (event : Event) (x : Exchange) → HappensEach flash recorded honest failed erases old events xs mid → IsEventOf flash recorded honest failed erases mid event x new → HappensEach flash recorded honest failed erases old (events ++ event ∷ []) (xs ++ x ∷ []) new
+each_more flash recorded honest failed erases old mid new [] [] event x each is = (new, subst (λ d. IsEventOf flash recorded honest failed erases d event x new) each is, refl)
+each_more flash recorded honest failed erases old mid new [] (y ∷ xs) event x each is = absurd each
+each_more flash recorded honest failed erases old mid new (e ∷ events) [] event x each is = absurd each
+each_more flash recorded honest failed erases old mid new (e ∷ events) (y ∷ xs) event x each is = (each.0, each.1, each_more flash recorded honest failed erases each.0 mid new events xs event x each.2 is)
 
 -- a flush later in the run
 flushed_then : (a b c : Ram) (xs ys : List Operation) (image : Image) → b.geometry ≡ a.geometry → ((k : ℕ) → wear_at a.blocks.table k ≤ most_wear) → Wears xs a.blocks b.blocks
@@ -198,13 +225,13 @@ flushed_then a b c xs ys image same most wears here there f = record {
 }
 
 -- with the last image, the last device and the last log
-module _ {N : Type 0} (flash : N → Flash) (honest : N → Bool) (failed erases : N → ℕ) (old mid new : Device N) (done : List Exchange) (x : Exchange)
+module _ {N : Type 0} (flash : N → Flash) (recorded : N → Option Recording) (honest : N → Bool) (failed erases : N → ℕ) (old mid new : Device N) (done : List Exchange) (x : Exchange)
     (sized : mid.engine.geometry ≡ old.engine.geometry) (sized' : new.engine.geometry ≡ mid.engine.geometry)
     (die : (flash mid.engine.nand).geometry ≡ mid.engine.geometry) (die' : (flash new.engine.nand).geometry ≡ new.engine.geometry)
-    (limits : HasLimitsOf old.engine.mapping new.engine.mapping) (most : (b : ℕ) → wear_at (ram old.engine).blocks.table b ≤ most_wear) (safe : IsRam (ram old.engine)) (mid_safe : IsRam (ram mid.engine)) (safe' : IsRam (ram new.engine)) (well : IsWell flash new)
-    (ran : Ran flash honest failed erases old done mid) (tells : Tells flash honest failed erases mid x new) (h : Happened flash mid x new) where
+    (limits : HasLimitsOf old.engine.mapping new.engine.mapping) (most : (b : ℕ) → wear_at (ram old.engine).blocks.table b ≤ most_wear) (safe : IsRam (ram old.engine)) (mid_limits : HasLimitsOf old.engine.mapping mid.engine.mapping) (mid_safe : IsRam (ram mid.engine)) (safe' : IsRam (ram new.engine)) (well : IsWell flash new)
+    (ran : Ran flash recorded honest failed erases old done mid) (tells : Tells flash recorded honest failed erases mid x new) (h : Happened flash recorded mid x new) where
   event : Event
-  event = record { command = x.command; reply = reply_in x; piece = h.went.log; left = die_in flash new }
+  event = record { command = x.command; reply = reply_in x; piece = h.went.log; left = die_in flash new; told = recorded new.engine.nand }
 
   follows : Follows old.engine.geometry.pages (log_of ran.run.events ++ h.went.log) (ram old.engine).blocks (ram new.engine).blocks
   follows = follows_then old.engine.geometry.pages (log_of ran.run.events) h.went.log (ram old.engine).blocks (ram mid.engine).blocks (ram new.engine).blocks ran.follows
@@ -257,6 +284,10 @@ module _ {N : Type 0} (flash : N → Flash) (honest : N → Bool) (failed erases
     stale = λ need e. h.stale (subst (λ (g : Geometry). needs_no_memory (is_some mid.engine.pinned) g (image_in flash mid.engine) x.command ≡ true) (sym sized) need) e;
     mountable = λ most. mountable_after flash old.engine new new.engine refl (sized' ∙ sized) limits safe' well most;
     reads = h.reads;
+    pins = λ none some. pins_so mid.engine.pinned new.engine.pinned (is_turn x.command) (MayPin x.result) tells.pins none some;
+    stopped =
+        let P : Geometry → ℕ → Type 0 = λ g c. SurvivesStops g c x.command x.result (image_in flash mid.engine) (image_in flash new.engine) (recorded new.engine.nand) h.went.log in
+        subst (λ g. P g old.engine.mapping.capacity) sized (subst (P mid.engine.geometry) mid_limits.capacity h.stopped);
     rescues = λ is done.
         let here : Rescues old.engine.geometry (is_bad_by (ram mid.engine)) h.went.log (image_in flash mid.engine) (image_in flash new.engine) = subst (λ (g : Geometry). Rescues g (is_bad_by (ram mid.engine)) h.went.log (image_in flash mid.engine) (image_in flash new.engine)) sized (h.rescues is done) in
         rescues_as old.engine.geometry (is_bad_by (ram mid.engine)) (bad_of old.engine.geometry.pages (is_bad_by (ram old.engine)) (log_of ran.run.events)) (λ b lt. bad_now_law (ram old.engine) (ram mid.engine) (log_of ran.run.events) b safe.blocks_of ran.follows lt) h.went.log (image_in flash mid.engine) (image_in flash new.engine) here;
@@ -276,11 +307,11 @@ module _ {N : Type 0} (flash : N → Flash) (honest : N → Bool) (failed erases
   unfolding event
   log_is = sym (logs ran.run.events (event ∷ []) ∙ ap (λ l. log_of ran.run.events ++ l) (append-nil h.went.log))
 
-  each : HappensEach flash honest failed erases old (ran.run.events ++ event ∷ []) (done ++ x ∷ []) new
+  each : HappensEach flash recorded honest failed erases old (ran.run.events ++ event ∷ []) (done ++ x ∷ []) new
   unfolding event
-  each = each_more flash honest failed erases old mid new ran.run.events done event x ran.each (record { tells = tells; happened = h; piece = refl; left = refl })
+  each = each_more flash recorded honest failed erases old mid new ran.run.events done event x ran.each (record { tells = tells; happened = h; piece = refl; left = refl; told = refl })
 
-  pub ran_more : Ran flash honest failed erases old (done ++ x ∷ []) new
+  pub ran_more : Ran flash recorded honest failed erases old (done ++ x ∷ []) new
   unfolding run_more
   ran_more = record {
     run = run_more;
@@ -290,8 +321,8 @@ module _ {N : Type 0} (flash : N → Flash) (honest : N → Bool) (failed erases
     wears = subst (λ l. Wears l (ram old.engine).blocks (ram new.engine).blocks) log_is wears;
   }
 
-pub ran_none : {N : Type 0} (flash : N → Flash) (honest : N → Bool) (failed erases : N → ℕ) (old : Device N) → Ran flash honest failed erases old [] old
-ran_none flash honest failed erases old = record {
+pub ran_none : {N : Type 0} (flash : N → Flash) (recorded : N → Option Recording) (honest : N → Bool) (failed erases : N → ℕ) (old : Device N) → Ran flash recorded honest failed erases old [] old
+ran_none flash recorded honest failed erases old = record {
   run = record { events = []; commands = refl; replies = refl; run = refl; fair = tt };
   each = refl;
   follows = record { legal = λ accounts a. tt; accounted = λ accounts a. a };

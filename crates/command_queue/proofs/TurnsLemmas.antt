@@ -1,9 +1,10 @@
 -- Turns in a row.
-use Rattle.std.proofs.Common.{◌≡◌, ◌≢◌, ◌⊎◌, inl, inr, ℕ, ◌<◌, ◌≤◌, ◌+◌, Bool, true, List, [], ◌∷◌, length, Result, Ok, Err, refl, sym, ap, subst, ◌∙◌, arith}
+use Rattle.std.proofs.Common.{◌≡◌, ◌≢◌, ◌⊎◌, inl, inr, ℕ, ◌<◌, ◌≤◌, ◌+◌, Bool, true, List, [], ◌∷◌, length, Result, Ok, Err, sym, ap, subst, ◌∙◌, arith, Option}
 use Rattle.std.specs.Prelude.{OnOk}
 use Rattle.page_layout.specs.declared.geometry.Geometry.{Geometry}
 use Rattle.page_layout.specs.Counter.{HasRisen}
 use Rattle.page_layout.specs.Flash.{Flash}
+use Rattle.page_layout.specs.Recording.{Recording}
 use Rattle.page_layout.specs.Geometry.{need}
 use Rattle.bad_blocks.specs.Table.{good_count}
 use Rattle.allocation.specs.State.{free_count}
@@ -32,7 +33,7 @@ use Rattle.command_queue.proofs.RescueLemmas.{none_on}
 not_bus : (result : Result (Unit {0}) DeviceFault) → result ≡ Ok tt → result ≢ Err BusFault
 not_bus result done is = (let no : ⊥ = cc in no)
 
-module _ {N : Type 0} (flash : N → Flash) (honest : N → Bool) (failed erases : N → ℕ) where
+module _ {N : Type 0} (flash : N → Flash) (recorded : N → Option Recording) (honest : N → Bool) (failed erases : N → ℕ) where
   takes_turn : (command : step.Command) (old new : Device N) (result : Result (Unit {0}) DeviceFault) → is_turn command ≡ true → TakesIfTurn flash honest erases command old result new → TakesTurn flash honest erases old result new
   takes_turn (step.Read sector) old new result is takes = (let no : ⊥ = cc in absurd no)
   takes_turn (step.Write sector body) old new result is takes = (let no : ⊥ = cc in absurd no)
@@ -41,7 +42,7 @@ module _ {N : Type 0} (flash : N → Flash) (honest : N → Bool) (failed erases
   takes_turn step.Turn old new result is takes = takes
 
   -- of a turn that is done
-  module _ (old new : Device N) (event : Event) (x : Exchange) (well : IsWell flash old) (is_honest : honest old.engine.nand ≡ true) (is : is_turn x.command ≡ true) (done : x.result ≡ Ok tt) (its : IsEventOf flash honest failed erases old event x new) where
+  module _ (old new : Device N) (event : Event) (x : Exchange) (well : IsWell flash old) (is_honest : honest old.engine.nand ≡ true) (is : is_turn x.command ≡ true) (done : x.result ≡ Ok tt) (its : IsEventOf flash recorded honest failed erases old event x new) where
     takes : TakesTurn flash honest erases old x.result new
     takes = takes_turn x.command old new x.result is its.tells.turned
 
@@ -73,13 +74,13 @@ module _ {N : Type 0} (flash : N → Flash) (honest : N → Bool) (failed erases
 
   -- with fewer left than there are turns, one of them rests
   row : (old new : Device N) (events : List Event) (xs : List Exchange) → IsDevice flash old → honest old.engine.nand ≡ true → IsWell flash old → HasNoneAiling (ram old.engine).blocks → left (ram old.engine) (image_in flash old.engine) < length xs
-      → AreTurnsDone xs → FailNowhere old.engine.geometry events → (each : HappensEach flash honest failed erases old events xs new) → OneRests flash honest failed erases old events xs new each
+      → AreTurnsDone xs → FailNowhere old.engine.geometry events → (each : HappensEach flash recorded honest failed erases old events xs new) → OneRests flash recorded honest failed erases old events xs new each
   row old new [] [] device is_honest well none below turns nowhere each = omega (arith, below)
   row old new [] (x ∷ xs) device is_honest well none below turns nowhere each = each
   row old new (event ∷ events) [] device is_honest well none below turns nowhere each = each
   row old new (event ∷ events) (x ∷ xs) device is_honest well none below turns nowhere each =
       let its = each.1 in
-      let on : left (ram each.0.engine) (image_in flash each.0.engine) < length xs → OneRests flash honest failed erases each.0 events xs new each.2 = λ less.
+      let on : left (ram each.0.engine) (image_in flash each.0.engine) < length xs → OneRests flash recorded honest failed erases each.0 events xs new each.2 = λ less.
       row each.0 new events xs its.tells.device (its.tells.honest_is ∙ is_honest) (well_then old each.0 event x well is_honest turns.0.0 turns.0.1 its) (none_then old each.0 event x well is_honest turns.0.0 turns.0.1 its device nowhere.0 none) less turns.1
       (subst (λ (g : Geometry). FailNowhere g events) (sym its.tells.sized) nowhere.1) each.2 in
       elim (falls old each.0 event x well is_honest turns.0.0 turns.0.1 its none) [
@@ -88,9 +89,9 @@ module _ {N : Type 0} (flash : N → Flash) (honest : N → Bool) (failed erases
         | inr (inr less) ↦ inr (inr (on (omega (arith, less, below))))
       ]
 
-  pub turns_in_a_row_law : TurnsInARowLaw flash honest failed erases
+  pub turns_in_a_row_law : TurnsInARowLaw flash recorded honest failed erases
   turns_in_a_row_law old new events xs device is_honest well writable none size turns nowhere each =
       row old new events xs device is_honest well none (omega (arith, left_below_law flash old device well writable, size)) turns nowhere each
 
-  pub quiet_turn_law : QuietTurnLaw flash honest failed erases
+  pub quiet_turn_law : QuietTurnLaw flash recorded honest failed erases
   quiet_turn_law old new event x is_honest well is done its = quiet old new event x well is_honest is done its

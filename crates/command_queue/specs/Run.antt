@@ -1,8 +1,9 @@
 -- A RUN OF A DEVICE: commands that it is told one after another, what it answered to each, and what its die held after each.
-use Rattle.std.specs.Prelude.{◌≡◌, ◌≢◌, ℕ, ◌+◌, ◌≤◌, Bool, true, false, List, [], ◌∷◌, ◌++◌}
+use Rattle.std.specs.Prelude.{◌≡◌, ◌≢◌, ◌⊎◌, ℕ, ◌+◌, ◌≤◌, Bool, true, false, List, [], ◌∷◌, ◌++◌, Option}
 use Rattle.std.specs.Prelude.{Ok, Err}
 use Rattle.page_layout.specs.declared.geometry.Geometry.{Geometry}
 use Rattle.page_layout.specs.Flash.{Flash, Operation}
+use Rattle.page_layout.specs.Recording.{Recording}
 use Rattle.certificate.specs.Claim.{Claim}
 use Rattle.image_check.specs.Mountable.{IsMountable}
 use Rattle.image_check.specs.Stale.{stale_sectors}
@@ -14,10 +15,12 @@ use Rattle.collection.specs.Safe.{ram}
 use Rattle.collection.specs.Log.{IsAccounted, Follows, Wears}
 use Rattle.ftl_device.specs.declared.device.Device.{Device}
 use Rattle.ftl_device.specs.declared.fault.DeviceFault.{DeviceFault}
-use Rattle.ftl_device.specs.declared.fault.DeviceFault.TheVariants.{ReadOnly, SequenceSpent, OutOfMemory}
+use Rattle.ftl_device.specs.declared.fault.DeviceFault.TheVariants.{OutOfMemory}
 use Rattle.ftl_device.specs.Begin.{begun_ram, is_bad_in, wear_in, free_in, is_scarce}
 use Rattle.ftl_device.specs.Flush.{First, first_of, IsFlushedOut}
 use Rattle.ftl_device.specs.Counts.{is_flush, IsShown, IsLeft}
+use Rattle.ftl_device.specs.Changes.{MayPin}
+use Rattle.ftl_device.specs.Stopped.{SurvivesStops}
 use Rattle.command_queue.specs.Commands.{needs_no_memory, is_read, is_turn}
 use Rattle.command_queue.specs.Exchanges.{Exchange, commands_in, replies_in}
 use Rattle.command_queue.specs.Rescues.{Rescues}
@@ -27,7 +30,8 @@ use Rattle.command_queue.specs.Tells.{die_in, Happened, Tells}
 -- counts, and `SequenceSpent` the last sequence, by the image and the one log; a call that leaves the device read-only does so in a shortage,
 -- or is a flush in which two blocks failed; a command that changes no sector took no memory, and so did one whose sector was stale in the image while no block was pinned; and afterwards
 -- the image has a certificate. A read programs and erases nothing and leaves the device as it was, and a turn that is done rescues pages from
--- bad blocks.
+-- bad blocks. A block is pinned afterwards only where one was before, by a turn, or by a call after which nothing is changed any more. And where the die tells a record as the event ends, a stop at any moment in it leaves an image that mounts, with the array before it
+-- or, of a write or trim that is done, the one after it: so whatever was answered stays.
 pub record IsFair (first : First) (old : runs.DeviceView) (before : List Operation) (event : Event) (x : Exchange) : Type 0 where
   pub shown : (fault : DeviceFault) → x.result ≡ Err fault → IsShown first.geometry first.bad first.next before event.piece old.ro event.left.flash.image fault
   pub left : event.left.ro ≡ true → IsLeft x.command first.geometry first.bad before event.piece old.ro x.result
@@ -36,6 +40,8 @@ pub record IsFair (first : First) (old : runs.DeviceView) (before : List Operati
   pub mountable : first.capacity + first.geometry.pages ≤ 65536 → IsMountable first.geometry (first.capacity + first.geometry.pages) event.left.flash.image
   pub reads : is_read x.command ≡ true → (event.piece ≡ []) × (event.left ≡ old)
   pub rescues : is_turn x.command ≡ true → x.result ≡ Ok tt → Rescues first.geometry (bad_of first.geometry.pages first.bad before) event.piece old.flash.image event.left.flash.image
+  pub pins : old.pinned ≡ false → event.left.pinned ≡ true → (is_turn x.command ≡ true) ⊎ MayPin x.result
+  pub stopped : SurvivesStops first.geometry first.capacity x.command x.result old.flash.image event.left.flash.image event.told event.piece
 
 -- and so of all of them, each with the log up to it
 abbrev pub AreFair : First → runs.DeviceView → List Operation → List Event → List Exchange → Type 0
@@ -53,25 +59,26 @@ pub record HasRun (first : First) (old new : runs.DeviceView) (xs : List Exchang
   pub run : Run old events new
   pub fair : AreFair first old [] events xs
 
--- AN EVENT IS A CALL: it has the log of what one call did, from a device to the next, and leaves the die of that device
-pub record IsEventOf {N : Type 0} (flash : N → Flash) (honest : N → Bool) (failed erases : N → ℕ) (old : Device N) (event : Event) (x : Exchange) (new : Device N) : Type 0 where
-  pub tells : Tells flash honest failed erases old x new
-  pub happened : Happened flash old x new
+-- AN EVENT IS A CALL: it has the log of what one call did, from a device to the next, leaves the die of that device, and tells what that die tells
+pub record IsEventOf {N : Type 0} (flash : N → Flash) (recorded : N → Option Recording) (honest : N → Bool) (failed erases : N → ℕ) (old : Device N) (event : Event) (x : Exchange) (new : Device N) : Type 0 where
+  pub tells : Tells flash recorded honest failed erases old x new
+  pub happened : Happened flash recorded old x new
   pub piece : event.piece ≡ happened.went.log
   pub left : event.left ≡ die_in flash new
+  pub told : event.told ≡ recorded new.engine.nand
 
 -- THE EVENTS ARE THE CALLS, one after another, from the one device to the other
-abbrev pub HappensEach : {N : Type 0} → (N → Flash) → (N → Bool) → (failed erases : N → ℕ) → Device N → List Event → List Exchange → Device N → Type 0
-HappensEach flash honest failed erases old [] [] new = new ≡ old
-HappensEach flash honest failed erases old [] (x ∷ xs) new = ⊥
-HappensEach flash honest failed erases old (event ∷ events) [] new = ⊥
-HappensEach {N} flash honest failed erases old (event ∷ events) (x ∷ xs) new = (mid : Device N) × IsEventOf flash honest failed erases old event x mid × HappensEach flash honest failed erases mid events xs new
+abbrev pub HappensEach : {N : Type 0} → (N → Flash) → (N → Option Recording) → (N → Bool) → (failed erases : N → ℕ) → Device N → List Event → List Exchange → Device N → Type 0
+HappensEach flash recorded honest failed erases old [] [] new = new ≡ old
+HappensEach flash recorded honest failed erases old [] (x ∷ xs) new = ⊥
+HappensEach flash recorded honest failed erases old (event ∷ events) [] new = ⊥
+HappensEach {N} flash recorded honest failed erases old (event ∷ events) (x ∷ xs) new = (mid : Device N) × IsEventOf flash recorded honest failed erases old event x mid × HappensEach flash recorded honest failed erases mid events xs new
 
 -- a run from a device as it is: its events are its calls, its log is legal by accounts that agree with the memory, it leaves such accounts, and
 -- each program in it took the next sequence
-pub record Ran {N : Type 0} (flash : N → Flash) (honest : N → Bool) (failed erases : N → ℕ) (old : Device N) (xs : List Exchange) (new : Device N) : Type 0 where
+pub record Ran {N : Type 0} (flash : N → Flash) (recorded : N → Option Recording) (honest : N → Bool) (failed erases : N → ℕ) (old : Device N) (xs : List Exchange) (new : Device N) : Type 0 where
   pub run : HasRun (first_of (ram old.engine)) (die_in flash old) (die_in flash new) xs
-  pub each : HappensEach flash honest failed erases old run.events xs new
+  pub each : HappensEach flash recorded honest failed erases old run.events xs new
   pub follows : Follows old.engine.geometry.pages (log_of run.events) (ram old.engine).blocks (ram new.engine).blocks
   pub next : new.engine.next ≡ old.engine.next + programs_in (log_of run.events)
   pub wears : Wears (log_of run.events) (ram old.engine).blocks (ram new.engine).blocks
@@ -86,12 +93,12 @@ accepted_device s c = record { flash = s; ro = is_scarce (free_in s.geometry c s
 
 -- It is a run from a device that `start` begins over this die: nothing is pinned. The accounts of the accepted image are those of its memory, and the log
 -- leads them to those of the memory as it ends; so a later run of the same device (`Ran`) goes on with one legal log.
-pub record RanFrom {N : Type 0} (flash : N → Flash) (honest : N → Bool) (failed erases : N → ℕ) (s : Flash) (c : Claim) (xs : List Exchange) (new : Device N) : Type 0 where
+pub record RanFrom {N : Type 0} (flash : N → Flash) (recorded : N → Option Recording) (honest : N → Bool) (failed erases : N → ℕ) (s : Flash) (c : Claim) (xs : List Exchange) (new : Device N) : Type 0 where
   pub first : Device N
   pub held : flash first.engine.nand ≡ s
   pub begun : ram first.engine ≡ begun_ram s.geometry c (stale_sectors s.geometry s.image)
   pub run : HasRun (accepted_first s.geometry c) (accepted_device s c) (die_in flash new) xs
-  pub each : HappensEach flash honest failed erases first run.events xs new
+  pub each : HappensEach flash recorded honest failed erases first run.events xs new
   pub legal : IsLegal s.geometry s.image (is_bad_in c) (log_of run.events)
   pub accounted : IsAccounted (accounts_of s.geometry s.image (is_bad_in c)) (ram first.engine).blocks
   pub follows : Follows s.geometry.pages (log_of run.events) (ram first.engine).blocks (ram new.engine).blocks

@@ -1,9 +1,10 @@
 -- What a device was told: one call, and a chain of them.
-use Rattle.std.specs.Prelude.{◌≡◌, ◌≢◌, ℕ, ◌+◌, ◌<◌, ◌≤◌, Bool, true, List, [], ◌∷◌, ◌++◌, is_some}
+use Rattle.std.specs.Prelude.{◌≡◌, ◌≢◌, ℕ, ◌+◌, ◌<◌, ◌≤◌, Bool, true, false, List, [], ◌∷◌, ◌++◌, is_some, Option}
 use Rattle.std.specs.Prelude.{None, Some, Result, Ok, Err, IfErr, OnOk}
 use Rattle.std.specs.Option.{ForSome}
 use Rattle.page_layout.specs.Counter.{HasRisen}
 use Rattle.page_layout.specs.Flash.{Flash, Operation}
+use Rattle.page_layout.specs.Recording.{Recording}
 use Rattle.mapping_cache.specs.Mapping.{HasLimitsOf}
 use Rattle.allocation.specs.State.{free_count}
 use Rattle.promises.specs.Step as step
@@ -18,9 +19,10 @@ use Rattle.ftl_device.specs.declared.fault.DeviceFault.{DeviceFault}
 use Rattle.ftl_device.specs.declared.fault.DeviceFault.TheVariants.{OutOfMemory, BusFault}
 use Rattle.ftl_device.specs.Device.{IsDevice}
 use Rattle.ftl_device.specs.Calls.{state_in, stop_of, IsWell, HasRescued, HasWorked, HasFallen, IsQuiet}
-use Rattle.ftl_device.specs.Changes.{RefusesUpkeep}
+use Rattle.ftl_device.specs.Changes.{RefusesUpkeep, LeavesUnpinned}
 use Rattle.ftl_device.specs.Flush.{first_of, IsFlushedOut}
 use Rattle.ftl_device.specs.Counts.{is_bad_by, is_flush, IsShown, IsLeft}
+use Rattle.ftl_device.specs.Stopped.{SurvivesStops}
 use Rattle.ftl_device.specs.Turn.{HasTurned}
 use Rattle.command_queue.specs.Commands.{needs_no_memory, is_read, is_turn}
 use Rattle.command_queue.specs.Exchanges.{Exchange, reply_in, Stops}
@@ -33,10 +35,10 @@ die_in flash d = record { flash = flash d.engine.nand; ro = d.read_only; pinned 
 -- ---- one call
 
 -- What was answered to a command is a step from the array before to the array after; one log leads from the one image to the other, and a
--- refusal shows what it says for every longer log that ends with it.
-pub record Happened {N : Type 0} (flash : N → Flash) (old : Device N) (x : Exchange) (new : Device N) : Type 0 where
+-- refusal shows what it says for every longer log that ends with it. A stop at any moment of it leaves either array.
+pub record Happened {N : Type 0} (flash : N → Flash) (recorded : N → Option Recording) (old : Device N) (x : Exchange) (new : Device N) : Type 0 where
   pub step : ArrayStep old.engine.geometry (state_in flash old) x.command (reply_in x) (state_in flash new)
-  pub went : Went (ram old.engine) (flash old.engine.nand) (ram new.engine) (flash new.engine.nand)
+  pub went : Went (ram old.engine) (flash old.engine.nand) (recorded old.engine.nand) (ram new.engine) (flash new.engine.nand) (recorded new.engine.nand)
   pub stale : needs_no_memory (is_some old.engine.pinned) old.engine.geometry (image_in flash old.engine) x.command ≡ true → x.result ≢ Err OutOfMemory
   pub shown : (bad : ℕ → Bool) (next : ℕ) (before : List Operation) → ((b : ℕ) → b < old.engine.geometry.blocks → is_bad_by (ram new.engine) b ≡ bad_of old.engine.geometry.pages bad (before ++ went.log) b) → new.engine.next ≡ next + programs_in (before ++ went.log)
       → IfErr x.result (IsShown old.engine.geometry bad next before went.log old.read_only (image_in flash new.engine))
@@ -45,6 +47,7 @@ pub record Happened {N : Type 0} (flash : N → Flash) (old : Device N) (x : Exc
   pub flushed : is_flush x.command ≡ true → x.result ≡ Ok tt → IsFlushedOut (first_of (ram old.engine)) went.log (image_in flash new.engine)
   pub reads : is_read x.command ≡ true → (went.log ≡ []) × (die_in flash new ≡ die_in flash old)
   pub rescues : is_turn x.command ≡ true → x.result ≡ Ok tt → Rescues old.engine.geometry (is_bad_by (ram old.engine)) went.log (image_in flash old.engine) (image_in flash new.engine)
+  pub stopped : SurvivesStops old.engine.geometry old.engine.mapping.capacity x.command x.result (image_in flash old.engine) (image_in flash new.engine) (recorded new.engine.nand) went.log
 
 -- WHAT THE CONTRACT OF A TURN SAYS (`Device::turn`). It is refused by a device that is read-only or has no sequence. One that is done has made room,
 -- and then rescued a page from a bad block, or gone on with a collection, or found nothing to do. Where the die is honest, it has
@@ -69,7 +72,7 @@ TakesIfTurn flash honest erases step.Flush old result new = Unit {0}
 TakesIfTurn flash honest erases step.Turn old result new = TakesTurn flash honest erases old result new
 
 -- ONE CALL, as a run needs it: what holds whatever the die does, and then what is true of an honest die that gave every outcome.
-pub record Tells {N : Type 0} (flash : N → Flash) (honest : N → Bool) (failed erases : N → ℕ) (old : Device N) (x : Exchange) (new : Device N) : Type 0 where
+pub record Tells {N : Type 0} (flash : N → Flash) (recorded : N → Option Recording) (honest : N → Bool) (failed erases : N → ℕ) (old : Device N) (x : Exchange) (new : Device N) : Type 0 where
   pub device : IsDevice flash new
   pub sized : new.engine.geometry ≡ old.engine.geometry
   pub limits : HasLimitsOf old.engine.mapping new.engine.mapping
@@ -81,10 +84,12 @@ pub record Tells {N : Type 0} (flash : N → Flash) (honest : N → Bool) (faile
   pub standing : ForSome (stop_of new.engine.fault) (λ fault. x.result ≡ Err fault)
   pub rose : stop_of old.engine.fault ≡ None → x.result ≡ Err BusFault → HasRisen (failed old.engine.nand) (failed new.engine.nand)
   pub well : honest old.engine.nand ≡ true → IsWell flash old → x.result ≢ Err BusFault → IsWell flash new
-  pub happened : honest old.engine.nand ≡ true → IsWell flash old → x.result ≢ Err BusFault → Happened flash old x new
+  pub happened : honest old.engine.nand ≡ true → IsWell flash old → x.result ≢ Err BusFault → Happened flash recorded old x new
   pub turned : TakesIfTurn flash honest erases x.command old x.result new
+  -- only a turn begins a collection that goes on after it, unless the call was stopped short
+  pub pins : is_turn x.command ≡ false → LeavesUnpinned old x.result new
 
 -- EACH CALL DID WHAT IT PROMISES, from a device to the next: a chain of devices, from the one to the other
-abbrev pub ToldEach : {N : Type 0} → (N → Flash) → (N → Bool) → (failed erases : N → ℕ) → Device N → List Exchange → Device N → Type 0
-ToldEach flash honest failed erases old [] new = new ≡ old
-ToldEach {N} flash honest failed erases old (x ∷ xs) new = (mid : Device N) × Tells flash honest failed erases old x mid × ToldEach flash honest failed erases mid xs new
+abbrev pub ToldEach : {N : Type 0} → (N → Flash) → (N → Option Recording) → (N → Bool) → (failed erases : N → ℕ) → Device N → List Exchange → Device N → Type 0
+ToldEach flash recorded honest failed erases old [] new = new ≡ old
+ToldEach {N} flash recorded honest failed erases old (x ∷ xs) new = (mid : Device N) × Tells flash recorded honest failed erases old x mid × ToldEach flash recorded honest failed erases mid xs new

@@ -7,6 +7,6 @@ use onfi_cycles::Nand;
 /// nothing and erases nothing leaves twelve free blocks, where three more are good than the geometry asks
 /// for. (This project.)
 pub fn turn_run_laws<N: Nand>()
-    ensures row { TurnsInARowLaw N.flash N.honest N.failed N.erases }
-    ensures quiet { QuietTurnLaw N.flash N.honest N.failed N.erases }
+    ensures row { TurnsInARowLaw N.flash N.recorded N.honest N.failed N.erases }
+    ensures quiet { QuietTurnLaw N.flash N.recorded N.honest N.failed N.erases }
 {}

@@ -1,12 +1,13 @@
 //! Commands, told to a device one after another.
-ghost use Rattle.std.specs.Prelude.{◌≡◌, ◌≢◌, ◌≤◌, ◌⊎◌, true, map, None, Some, Err, IfOk, IfErr, OnOk, OnErr};
+ghost use Rattle.std.specs.Prelude.{◌≡◌, ◌≢◌, ◌≤◌, ◌⊎◌, true, false, map, None, Some, Err, IfOk, IfErr, OnOk, OnErr};
 ghost use Rattle.std.specs.Option.{ForSome};
 ghost use Rattle.page_layout.specs.Counter.{HasRisen};
 ghost use Rattle.mapping_cache.specs.Mapping.{HasLimitsOf};
 ghost use Rattle.certificate.specs.Claim.{sizes_of};
 ghost use Rattle.ftl_device.specs.Device.{IsDevice};
 ghost use Rattle.ftl_device.specs.Calls.{stop_of, IsWell};
-ghost use Rattle.command_queue.specs.Commands.{command_of, told, HasRoom, AreWhole, AreAnswered};
+ghost use Rattle.ftl_device.specs.Changes.{LeavesUnpinned};
+ghost use Rattle.command_queue.specs.Commands.{command_of, is_turn, told, HasRoom, AreWhole, AreAnswered};
 ghost use Rattle.command_queue.specs.Exchanges.{exchanges_of, AreKnown};
 ghost use Rattle.command_queue.specs.Commands.{KeepsBytes, HaveKept};
 ghost use Rattle.command_queue.specs.Exchanges.{Stops, StaysStopped};
@@ -50,8 +51,9 @@ pub fn tell<N: Nand>(
     ensures well { N.honest device.old.engine.nand ≡ true → IsWell N.flash device.old → result ≢ Err DeviceFault.BusFault →
         IsWell N.flash device.new }
     ensures happened { N.honest device.old.engine.nand ≡ true → IsWell N.flash device.old → result ≢ Err DeviceFault.BusFault →
-        Happened N.flash device.old (record { command = command_of command.entry; result = result; bytes = bytes.new }) device.new }
+        Happened N.flash N.recorded device.old (record { command = command_of command.entry; result = result; bytes = bytes.new }) device.new }
     ensures turned { TakesIfTurn N.flash N.honest N.erases (command_of command.entry) device.old result device.new }
+    ensures pins { is_turn (command_of command.entry) ≡ false → LeavesUnpinned device.old result device.new }
 {
     match command {
         Command::Read { sector } => device.read(sector, bytes),
@@ -82,7 +84,7 @@ pub fn run<N: Nand>(device: &mut Device<N>, calls: &mut [Call<'_>])
     requires device { IsDevice N.flash device.old }
     requires whole { AreWhole device.old.engine.geometry calls.old }
     ensures calm { N.calm device.new.engine.nand ≡ N.calm device.old.engine.nand }
-    ensures told { WasTold N.flash N.honest N.failed N.erases device.old (exchanges_of calls.new) device.new }
+    ensures told { WasTold N.flash N.recorded N.honest N.failed N.erases device.old (exchanges_of calls.new) device.new }
     ensures whole { AreWhole device.old.engine.geometry calls.new }
     ensures commands { map told calls.new ≡ map told calls.old }
     ensures answered { AreAnswered calls.new }
@@ -123,11 +125,11 @@ pub fn run_accepted<'a, N: Nand>(
     ensures calm { IfOk result (λ d. N.calm d.engine.nand ≡ N.calm nand) }
     ensures failed { IfOk result (λ d. N.failed nand ≤ N.failed d.engine.nand) }
     ensures stays { OnOk result (StaysStopped (exchanges_of calls.new)) }
-    ensures each { IfOk result (ToldFrom N.flash N.honest N.failed N.erases nand accepted.entry (exchanges_of calls.new)) }
+    ensures each { IfOk result (ToldFrom N.flash N.recorded N.honest N.failed N.erases nand accepted.entry (exchanges_of calls.new)) }
     ensures rose { IfOk result (λ d. AreKnown (exchanges_of calls.new) ⊎ HasRisen (N.failed nand) (N.failed d.engine.nand)) }
 
     // Up to the first fault of the bus.
-    ensures until { IfOk result (Until (RunsFrom N.flash N.honest N.failed N.erases nand accepted.entry) (Tells N.flash N.honest N.failed N.erases) (exchanges_of calls.new)) }
+    ensures until { IfOk result (Until (RunsFrom N.flash N.recorded N.honest N.failed N.erases nand accepted.entry) (Tells N.flash N.recorded N.honest N.failed N.erases) (exchanges_of calls.new)) }
     ensures fault { IfErr result (λ fault. fault ≡ StartFault.OutOfMemory nand accepted.entry) }
     ensures untold { OnErr result (calls.new ≡ calls.old) }
 {
