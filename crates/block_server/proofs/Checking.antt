@@ -1,17 +1,17 @@
 -- What was served over a checked die.
-use Rattle.std.proofs.Common.{◌≡◌, ◌≢◌, ◌⊎◌, inl, inr, ℕ, ◌≤◌, Bool, true, List, map, arith, Option, None, Some, Result, Ok, Err, refl, sym, ap, subst, ◌∙◌}
+use Rattle.std.proofs.Common.{◌≡◌, ◌≢◌, ◌⊎◌, inl, inr, ℕ, ◌≤◌, Bool, true, List, arith, Option, None, Result, Ok, Err, refl, sym, ap, subst, ◌∙◌}
 use Rattle.std.specs.Prelude.{is_some}
 use Rattle.page_layout.specs.declared.geometry.Geometry.{Geometry}
-use Rattle.page_layout.specs.Page.{Image, IsImage}
+use Rattle.page_layout.specs.Page.{IsImage}
 use Rattle.page_layout.specs.Array.{HasOneArray}
 use Rattle.page_layout.specs.Counter.{HasRisen}
 use Rattle.page_layout.specs.Flash.{Flash}
+use Rattle.page_layout.specs.Recording.{Recording}
 use Rattle.certificate.specs.Claim.{Claim}
 use Rattle.allocation.specs.View.{state}
 use Rattle.promises.specs.Run.{log_of}
 use Rattle.promises.specs.Legal.{IsLegal, accounts_of}
 use Rattle.image_check.specs.Accepted.{Acceptance, IsAcceptance}
-use Rattle.image_check.specs.Agrees.{Agrees}
 use Rattle.image_check.specs.declared.refusal.Refusal.{Refusal}
 use Rattle.image_check.specs.declared.refusal.Refusal.TheVariants.{Source}
 use Rattle.collection.specs.State.{Ram}
@@ -61,13 +61,13 @@ pub refusal_is : (e : Refusal) → e ≡ Source → refused_as e ≡ refused_as 
 refusal_is e is = ap refused_as is
 
 -- the run of the headline, its log, and the calls that are its events
-record RunsLegally {N : Type 0} (flash : N → Flash) (honest : N → Bool) (failed erases : N → ℕ) (d e : Device N) (g : Geometry) (c : Claim) (s t : Flash) (ro pinned : Bool) (xs : List Exchange) : Type 0 where
+record RunsLegally {N : Type 0} (flash : N → Flash) (recorded : N → Option Recording) (honest : N → Bool) (failed erases : N → ℕ) (d e : Device N) (g : Geometry) (c : Claim) (s t : Flash) (ro pinned : Bool) (xs : List Exchange) : Type 0 where
   pub run : HasRun (accepted_first g c) (accepted_device s c) (record { flash = t; ro = ro; pinned = pinned }) xs
   pub legal : IsLegal g s.image (is_bad_in c) (log_of run.events)
-  pub each : HappensEach flash honest failed erases d run.events xs e
+  pub each : HappensEach flash recorded honest failed erases d run.events xs e
 
 -- Of a die as it was handed in, as the checker left it, and as the device gives it back.
-module _ {N : Type 0} (flash : N → Flash) (honest : N → Bool) (failed erases : N → ℕ) (nand checked given : N) (g : Geometry) (capacity : ℕ) (c : Claim) (a : Acceptance) (d : Device N)
+module _ {N : Type 0} (flash : N → Flash) (recorded : N → Option Recording) (honest : N → Bool) (failed erases : N → ℕ) (nand checked given : N) (g : Geometry) (capacity : ℕ) (c : Claim) (a : Acceptance) (d : Device N)
     (sized : (flash nand).geometry ≡ g) (sized' : (flash checked).geometry ≡ (flash nand).geometry)
     (honest_is : honest checked ≡ honest nand) (failed_is : failed nand ≤ failed checked)
     (same : honest nand ≡ true → flash checked ≡ flash nand) (whole : honest nand ≡ true → IsImage g (flash nand).image)
@@ -94,20 +94,20 @@ module _ {N : Type 0} (flash : N → Flash) (honest : N → Bool) (failed erases
       (subst (λ k. HasOneArray k (image_in flash d.engine)) geometry_is (known_truth h).one)
 
   -- the exchanges that lead to this device
-  module _ (xs : List Exchange) (e : Device N) (runs_to : RunsTo flash honest failed erases d xs e) where
-    runs : honest nand ≡ true → RunsLegally flash honest failed erases d e g c (flash nand) (flash e.engine.nand) e.read_only (is_some e.engine.pinned) xs
+  module _ (xs : List Exchange) (e : Device N) (runs_to : RunsTo flash recorded honest failed erases d xs e) where
+    runs : honest nand ≡ true → RunsLegally flash recorded honest failed erases d e g c (flash nand) (flash e.engine.nand) e.read_only (is_some e.engine.pinned) xs
     runs h =
-        let ran : Ran flash honest failed erases d xs e = (runs_to.1 (ap honest nand_is ∙ (honest_is ∙ h)) (well h)).1 in
-        let from : RanFrom flash honest failed erases (flash checked) a.claim xs e = ran_accepted flash honest failed erases (flash checked) a d e xs (ap flash nand_is) begun (accepted h) (free (honest_is ∙ h) (accepted h)) (accounts (honest_is ∙ h) (accepted h)) ran in
-        let each = ran_each flash honest failed erases (flash checked) a d e xs (ap flash nand_is) begun (accepted h) (free (honest_is ∙ h) (accepted h)) (accounts (honest_is ∙ h) (accepted h)) ran in
-        let first : RunsLegally flash honest failed erases d e (flash checked).geometry a.claim (flash checked) (flash e.engine.nand) e.read_only (is_some e.engine.pinned) xs = record { run = from.run; legal = from.legal; each = each } in
-        let then : RunsLegally flash honest failed erases d e (flash nand).geometry a.claim (flash nand) (flash e.engine.nand) e.read_only (is_some e.engine.pinned) xs =
-        subst (λ (f : Flash). RunsLegally flash honest failed erases d e f.geometry a.claim f (flash e.engine.nand) e.read_only (is_some e.engine.pinned) xs) (same h) first in
-        let there : RunsLegally flash honest failed erases d e g a.claim (flash nand) (flash e.engine.nand) e.read_only (is_some e.engine.pinned) xs =
-        subst (λ k. RunsLegally flash honest failed erases d e k a.claim (flash nand) (flash e.engine.nand) e.read_only (is_some e.engine.pinned) xs) sized then in
-        subst (λ k. RunsLegally flash honest failed erases d e g k (flash nand) (flash e.engine.nand) e.read_only (is_some e.engine.pinned) xs) claim_is there
+        let ran : Ran flash recorded honest failed erases d xs e = (runs_to.1 (ap honest nand_is ∙ (honest_is ∙ h)) (well h)).1 in
+        let from : RanFrom flash recorded honest failed erases (flash checked) a.claim xs e = ran_accepted flash recorded honest failed erases (flash checked) a d e xs (ap flash nand_is) begun (accepted h) (free (honest_is ∙ h) (accepted h)) (accounts (honest_is ∙ h) (accepted h)) ran in
+        let each = ran_each flash recorded honest failed erases (flash checked) a d e xs (ap flash nand_is) begun (accepted h) (free (honest_is ∙ h) (accepted h)) (accounts (honest_is ∙ h) (accepted h)) ran in
+        let first : RunsLegally flash recorded honest failed erases d e (flash checked).geometry a.claim (flash checked) (flash e.engine.nand) e.read_only (is_some e.engine.pinned) xs = record { run = from.run; legal = from.legal; each = each } in
+        let then : RunsLegally flash recorded honest failed erases d e (flash nand).geometry a.claim (flash nand) (flash e.engine.nand) e.read_only (is_some e.engine.pinned) xs =
+        subst (λ (f : Flash). RunsLegally flash recorded honest failed erases d e f.geometry a.claim f (flash e.engine.nand) e.read_only (is_some e.engine.pinned) xs) (same h) first in
+        let there : RunsLegally flash recorded honest failed erases d e g a.claim (flash nand) (flash e.engine.nand) e.read_only (is_some e.engine.pinned) xs =
+        subst (λ k. RunsLegally flash recorded honest failed erases d e k a.claim (flash nand) (flash e.engine.nand) e.read_only (is_some e.engine.pinned) xs) sized then in
+        subst (λ k. RunsLegally flash recorded honest failed erases d e g k (flash nand) (flash e.engine.nand) e.read_only (is_some e.engine.pinned) xs) claim_is there
 
-    holds_to : HoldsTo flash honest failed erases nand g capacity c d xs e
+    holds_to : HoldsTo flash recorded honest failed erases nand g capacity c d xs e
     holds_to h =
         let its = runs h in
         record {
@@ -118,8 +118,8 @@ module _ {N : Type 0} (flash : N → Flash) (honest : N → Bool) (failed erases
         }
 
     -- the call that came then, and that the bus failed in
-    has_failed : (x : Exchange) (f : Device N) → AreKnown xs → x.result ≡ Err BusFault → Tells flash honest failed erases e x f → HasFailed flash honest failed erases e x f
-    has_failed x f known bus tells = record { tells = tells; rose = fault_rose flash honest failed erases e f x tells (runs_to.0.going (ap (λ (r : Ram). stop_of r.fault) begun) known) bus }
+    has_failed : (x : Exchange) (f : Device N) → AreKnown xs → x.result ≡ Err BusFault → Tells flash recorded honest failed erases e x f → HasFailed flash recorded honest failed erases e x f
+    has_failed x f known bus tells = record { tells = tells; rose = fault_rose flash recorded honest failed erases e f x tells (runs_to.0.going (ap (λ (r : Ram). stop_of r.fault) begun) known) bus }
 
   -- the device as it was started
   is_begun : IsBegun flash honest failed nand g c d
@@ -143,11 +143,11 @@ module _ {N : Type 0} (flash : N → Flash) (honest : N → Bool) (failed erases
         let from : HasRisen (failed checked) (failed e.engine.nand) = subst (λ n. HasRisen (failed n) (failed e.engine.nand)) nand_is risen in
         inr (subst (λ n. HasRisen (failed nand) (failed n)) (sym given_is) (risen_over (failed nand) (failed checked) (failed e.engine.nand) failed_is from))
 
-    holds_until : (xs : List Exchange) → Until (RunsTo flash honest failed erases d) (Tells flash honest failed erases) xs e → Until (HoldsTo flash honest failed erases nand g capacity c d) (HasFailed flash honest failed erases) xs e
+    holds_until : (xs : List Exchange) → Until (RunsTo flash recorded honest failed erases d) (Tells flash recorded honest failed erases) xs e → Until (HoldsTo flash recorded honest failed erases nand g capacity c d) (HasFailed flash recorded honest failed erases) xs e
     holds_until xs until =
-        until_so (λ f. f) (RunsTo flash honest failed erases d) (HoldsTo flash honest failed erases nand g capacity c d) (Tells flash honest failed erases) (HasFailed flash honest failed erases) xs e holds_to (λ before mid x known runs_to bus tells. has_failed before mid runs_to x e known bus tells) until
+        until_so (λ f. f) (RunsTo flash recorded honest failed erases d) (HoldsTo flash recorded honest failed erases nand g capacity c d) (Tells flash recorded honest failed erases) (HasFailed flash recorded honest failed erases) xs e holds_to (λ before mid x known runs_to bus tells. has_failed before mid runs_to x e known bus tells) until
 
-    pub is_served : (u v b w : Option (List ℕ)) (result : Result Served ServeFault) → Session flash honest failed erases d e u v b w result → IsServed flash honest failed erases nand g capacity c u v b w result given
+    pub is_served : (u v b w : Option (List ℕ)) (result : Result Served ServeFault) → Session flash recorded honest failed erases d e u v b w result → IsServed flash recorded honest failed erases nand g capacity c u v b w result given
     is_served u v b w result session =
         let calls = session.told.calls in
         record {

@@ -1,10 +1,11 @@
 -- THE HEADLINE, and what else serving a checked die comes to.
-use Rattle.std.specs.Prelude.{◌≡◌, ◌≢◌, ◌⊎◌, ℕ, ◌≤◌, Bool, true, List, map, Option, Result, Ok, Err, is_some}
+use Rattle.std.specs.Prelude.{◌≡◌, ◌≢◌, ◌⊎◌, ℕ, ◌≤◌, Bool, true, List, map, Option, Result, Err, is_some}
 use Rattle.std.specs.Io.KnownBytes.{Keeps}
 use Rattle.page_layout.specs.declared.geometry.Geometry.{Geometry}
 use Rattle.page_layout.specs.Array.{HasOneArray}
 use Rattle.page_layout.specs.Counter.{HasRisen}
 use Rattle.page_layout.specs.Flash.{Flash}
+use Rattle.page_layout.specs.Recording.{Recording}
 use Rattle.promises.specs.Stream.{Request, command_of}
 use Rattle.promises.specs.Run.{log_of}
 use Rattle.promises.specs.Legal.{IsLegal}
@@ -43,18 +44,18 @@ pub record Headline (g : Geometry) (capacity : ℕ) (c : Claim) (s t : Flash) (x
   pub legal : IsLegal g s.image (is_bad_in c) (log_of run.events)
 
 -- the headline holds of these exchanges, and its events are the calls that lead from the one device to the other
-pub record Holds {N : Type 0} (flash : N → Flash) (honest : N → Bool) (failed erases : N → ℕ) (g : Geometry) (capacity : ℕ) (c : Claim) (s : Flash) (old : Device N) (xs : List Exchange) (new : Device N) : Type 0 where
+pub record Holds {N : Type 0} (flash : N → Flash) (recorded : N → Option Recording) (honest : N → Bool) (failed erases : N → ℕ) (g : Geometry) (capacity : ℕ) (c : Claim) (s : Flash) (old : Device N) (xs : List Exchange) (new : Device N) : Type 0 where
   pub headline : Headline g capacity c s (flash new.engine.nand) xs
-  pub each : HappensEach flash honest failed erases old headline.run.events xs new
+  pub each : HappensEach flash recorded honest failed erases old headline.run.events xs new
   pub ro_is : headline.ro ≡ new.read_only
   pub pinned_is : headline.pinned ≡ is_some new.engine.pinned
 
-abbrev pub HoldsTo : {N : Type 0} → (N → Flash) → (N → Bool) → (failed erases : N → ℕ) → N → Geometry → ℕ → Claim → Device N → List Exchange → Device N → Type 0
-HoldsTo flash honest failed erases nand g capacity c old xs new = honest nand ≡ true → Holds flash honest failed erases g capacity c (flash nand) old xs new
+abbrev pub HoldsTo : {N : Type 0} → (N → Flash) → (N → Option Recording) → (N → Bool) → (failed erases : N → ℕ) → N → Geometry → ℕ → Claim → Device N → List Exchange → Device N → Type 0
+HoldsTo flash recorded honest failed erases nand g capacity c old xs new = honest nand ≡ true → Holds flash recorded honest failed erases g capacity c (flash nand) old xs new
 
 -- the bus failed in this call: the die's count of failures rose in it, or stands at its top
-pub record HasFailed {N : Type 0} (flash : N → Flash) (honest : N → Bool) (failed erases : N → ℕ) (old : Device N) (x : Exchange) (new : Device N) : Type 0 where
-  pub tells : Tells flash honest failed erases old x new
+pub record HasFailed {N : Type 0} (flash : N → Flash) (recorded : N → Option Recording) (honest : N → Bool) (failed erases : N → ℕ) (old : Device N) (x : Exchange) (new : Device N) : Type 0 where
+  pub tells : Tells flash recorded honest failed erases old x new
   pub rose : HasRisen (failed old.engine.nand) (failed new.engine.nand)
 
 -- a device that `start` begins from the certificate that was accepted, over a die that is as honest as it was: nothing is pinned, and no fault stands
@@ -76,7 +77,7 @@ pub record IsHandedBack {N : Type 0} (flash : N → Flash) (honest : N → Bool)
 -- Requests were served: what was read and written, and what the device answered, that `start` began over the die. It was told one after another, and
 -- each call did what it promises. Where the die is honest, the headline holds of the exchanges before the first fault of the bus: of all of them where there
 -- is none. From it on each is answered that fault.
-pub record IsServed {N : Type 0} (flash : N → Flash) (honest : N → Bool) (failed erases : N → ℕ) (nand : N) (g : Geometry) (capacity : ℕ) (c : Claim) (unread left before after : Option (List ℕ)) (result : Result Served ServeFault) (given : N) : Type 0 where
+pub record IsServed {N : Type 0} (flash : N → Flash) (recorded : N → Option Recording) (honest : N → Bool) (failed erases : N → ℕ) (nand : N) (g : Geometry) (capacity : ℕ) (c : Claim) (unread left before after : Option (List ℕ)) (result : Result Served ServeFault) (given : N) : Type 0 where
   pub requests : List Request
   pub exchanges : List Exchange
   pub commands : commands_in exchanges ≡ map command_of requests
@@ -87,9 +88,9 @@ pub record IsServed {N : Type 0} (flash : N → Flash) (honest : N → Bool) (fa
   pub first : Device N
   pub last : Device N
   pub begun : IsBegun flash honest failed nand g c first
-  pub each : ToldEach flash honest failed erases first exchanges last
+  pub each : ToldEach flash recorded honest failed erases first exchanges last
   pub given_is : given ≡ last.engine.nand
-  pub headline : Until (HoldsTo flash honest failed erases nand g capacity c first) (HasFailed flash honest failed erases) exchanges last
+  pub headline : Until (HoldsTo flash recorded honest failed erases nand g capacity c first) (HasFailed flash recorded honest failed erases) exchanges last
 
 -- nothing was read or written
 pub record IsUntouched (unread left before after : Option (List ℕ)) : Type 0 where
@@ -110,7 +111,7 @@ pub record IsUnstarted {N : Type 0} (flash : N → Flash) (honest : N → Bool) 
   pub back : IsHandedBack flash honest failed nand g given
 
 -- why requests were not served to their end
-abbrev pub Fails : {N : Type 0} → (N → Flash) → (N → Bool) → (failed erases : N → ℕ) → N → Geometry → ℕ → Claim → (unread left before after : Option (List ℕ)) → RunFault N → Type 0
-Fails flash honest failed erases nand g capacity c unread left before after (Refused why given) = IsUntouched unread left before after × IsUnaccepted flash honest failed nand g capacity c why given
-Fails flash honest failed erases nand g capacity c unread left before after (Start given) = IsUntouched unread left before after × IsUnstarted flash honest failed nand g capacity c given
-Fails flash honest failed erases nand g capacity c unread left before after (Serve stop given) = IsServed flash honest failed erases nand g capacity c unread left before after (Err stop) given
+abbrev pub Fails : {N : Type 0} → (N → Flash) → (N → Option Recording) → (N → Bool) → (failed erases : N → ℕ) → N → Geometry → ℕ → Claim → (unread left before after : Option (List ℕ)) → RunFault N → Type 0
+Fails flash recorded honest failed erases nand g capacity c unread left before after (Refused why given) = IsUntouched unread left before after × IsUnaccepted flash honest failed nand g capacity c why given
+Fails flash recorded honest failed erases nand g capacity c unread left before after (Start given) = IsUntouched unread left before after × IsUnstarted flash honest failed nand g capacity c given
+Fails flash recorded honest failed erases nand g capacity c unread left before after (Serve stop given) = IsServed flash recorded honest failed erases nand g capacity c unread left before after (Err stop) given

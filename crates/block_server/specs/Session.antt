@@ -3,6 +3,7 @@ use Rattle.std.specs.Prelude.{◌≡◌, ◌⊎◌, ◌+◌, ℕ, false, Bool, L
 use Rattle.std.specs.List.{flat_map, AllByRecursion}
 use Rattle.std.specs.Io.KnownBytes.{Appends, Consumes, Keeps}
 use Rattle.page_layout.specs.Flash.{Flash}
+use Rattle.page_layout.specs.Recording.{Recording}
 use Rattle.promises.specs.Step.{Reply}
 use Rattle.promises.specs.Stream.{Request, IsRequest, IsBeginning, Splits, command_of, is_header, request_bytes, reply_bytes, replies_bytes, out_bytes}
 use Rattle.promises.specs.declared.stream.End.{End}
@@ -49,11 +50,11 @@ Serves size unread left before after requests replies (Err fault.OutOfMemory) = 
 -- ---- the device
 
 -- THE SESSION: each request was told to the device, and it answered
-pub record Session {N : Type 0} (flash : N → Flash) (honest : N → Bool) (failed erases : N → ℕ) (old new : Device N) (unread left before after : Option (List ℕ)) (result : Result Served ServeFault) : Type 0 where
+pub record Session {N : Type 0} (flash : N → Flash) (recorded : N → Option Recording) (honest : N → Bool) (failed erases : N → ℕ) (old new : Device N) (unread left before after : Option (List ℕ)) (result : Result Served ServeFault) : Type 0 where
   pub requests : List Request
   pub exchanges : List Exchange
   pub commands : commands_in exchanges ≡ map command_of requests
-  pub told : WasTold flash honest failed erases old exchanges new
+  pub told : WasTold flash recorded honest failed erases old exchanges new
   pub stream : Serves old.engine.geometry.data_bytes unread left before after requests (replies_in exchanges) result
 
 -- ---- one request
@@ -67,20 +68,20 @@ IsBodyOf body told.Flush = Unit {0}
 IsBodyOf body told.Turn = Unit {0}
 
 -- the device was told what the request asks, and the reply was written, or a beginning of it
-pub record Answers {N : Type 0} (flash : N → Flash) (honest : N → Bool) (failed erases : N → ℕ) (old new : Device N) (r : Request) (before after : Option (List ℕ)) (result : Result (Unit {0}) ServeFault) : Type 0 where
+pub record Answers {N : Type 0} (flash : N → Flash) (recorded : N → Option Recording) (honest : N → Bool) (failed erases : N → ℕ) (old new : Device N) (r : Request) (before after : Option (List ℕ)) (result : Result (Unit {0}) ServeFault) : Type 0 where
   pub exchange : Exchange
   pub command_is : exchange.command ≡ command_of r
-  pub tells : Tells flash honest failed erases old exchange new
+  pub tells : Tells flash recorded honest failed erases old exchange new
   pub sends : Sends before after (reply_bytes r (reply_in exchange)) result
 
 -- a request was read, the device was told it, and its reply was written as this says
-pub record HasServed {N : Type 0} (flash : N → Flash) (honest : N → Bool) (failed erases : N → ℕ) (old new : Device N) (unread left : Option (List ℕ)) (writes : List ℕ → Type 0) : Type 0 where
+pub record HasServed {N : Type 0} (flash : N → Flash) (recorded : N → Option Recording) (honest : N → Bool) (failed erases : N → ℕ) (old new : Device N) (unread left : Option (List ℕ)) (writes : List ℕ → Type 0) : Type 0 where
   pub request : Request
   pub exchange : Exchange
   pub whole : IsRequest old.engine.geometry.data_bytes request
   pub read : Consumes unread left (request_bytes request)
   pub command_is : exchange.command ≡ command_of request
-  pub tells : Tells flash honest failed erases old exchange new
+  pub tells : Tells flash recorded honest failed erases old exchange new
   pub written : writes (reply_bytes request (reply_in exchange))
 
 -- no request was read whole
@@ -91,9 +92,9 @@ pub record HasNone {N : Type 0} (old new : Device N) (unread left before after :
   pub same : new ≡ old
   pub kept : after ≡ before
 
-abbrev pub ServesNext : {N : Type 0} → (N → Flash) → (N → Bool) → (failed erases : N → ℕ) → (old new : Device N) → (unread left before after : Option (List ℕ)) → Result (Option End) ServeFault → Type 0
-ServesNext flash honest failed erases old new unread left before after (Ok None) = HasServed flash honest failed erases old new unread left (Appends before after)
-ServesNext flash honest failed erases old new unread left before after (Ok (Some end)) = HasNone old new unread left before after (λ tail. Rests old.engine.geometry.data_bytes end tail left)
-ServesNext flash honest failed erases old new unread left before after (Err fault.Read) = HasNone old new unread left before after (IsBeginning old.engine.geometry.data_bytes)
-ServesNext flash honest failed erases old new unread left before after (Err fault.Write) = HasServed flash honest failed erases old new unread left (AppendsFront before after)
-ServesNext flash honest failed erases old new unread left before after (Err fault.OutOfMemory) = ⊥
+abbrev pub ServesNext : {N : Type 0} → (N → Flash) → (N → Option Recording) → (N → Bool) → (failed erases : N → ℕ) → (old new : Device N) → (unread left before after : Option (List ℕ)) → Result (Option End) ServeFault → Type 0
+ServesNext flash recorded honest failed erases old new unread left before after (Ok None) = HasServed flash recorded honest failed erases old new unread left (Appends before after)
+ServesNext flash recorded honest failed erases old new unread left before after (Ok (Some end)) = HasNone old new unread left before after (λ tail. Rests old.engine.geometry.data_bytes end tail left)
+ServesNext flash recorded honest failed erases old new unread left before after (Err fault.Read) = HasNone old new unread left before after (IsBeginning old.engine.geometry.data_bytes)
+ServesNext flash recorded honest failed erases old new unread left before after (Err fault.Write) = HasServed flash recorded honest failed erases old new unread left (AppendsFront before after)
+ServesNext flash recorded honest failed erases old new unread left before after (Err fault.OutOfMemory) = ⊥

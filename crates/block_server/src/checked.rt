@@ -67,9 +67,9 @@ pub fn serve_checked<N: Nand, R: Read, W: Write>(
     writer: &mut W,
 ) -> Result<(Served, N), RunFault<N>>
     requires same_geometry { (N.flash nand).geometry ≡ geometry.now }
-    ensures served { IfOk result (λ done. IsServed N.flash N.honest N.failed N.erases nand geometry.now capacity certificate.now
+    ensures served { IfOk result (λ done. IsServed N.flash N.recorded N.honest N.failed N.erases nand geometry.now capacity certificate.now
         (R.remaining reader.old) (R.remaining reader.new) (W.contents writer.old) (W.contents writer.new) (Ok done.0) done.1) }
-    ensures fault { IfErr result (Fails N.flash N.honest N.failed N.erases nand geometry.now capacity certificate.now
+    ensures fault { IfErr result (Fails N.flash N.recorded N.honest N.failed N.erases nand geometry.now capacity certificate.now
         (R.remaining reader.old) (R.remaining reader.new) (W.contents writer.old) (W.contents writer.new)) }
 {
     let accepted = match check(alloc, &mut nand, geometry, capacity, certificate) {

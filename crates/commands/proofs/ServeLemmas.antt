@@ -23,7 +23,7 @@ use Rattle.commands.specs.declared.text.CommandFault.{CommandFault}
 use Rattle.commands.specs.declared.text.CommandFault.TheVariants as fault
 use Rattle.commands.specs.Check.{IsWhole}
 use Rattle.commands.specs.Files.{Gives, Left, Leaves}
-use Rattle.commands.specs.Serve.{Driver, flash_behind, is_honest, failures_of, erases_of, bad_in, stop_in, DoesServe, Ends, HasClaim, HasRun, HasServed, IsUnserved, IsUnservedDie, IsUnstarted, ServesDie}
+use Rattle.commands.specs.Serve.{Driver, flash_behind, recorded_of, is_honest, failures_of, erases_of, bad_in, stop_in, DoesServe, Ends, HasClaim, HasRun, HasServed, IsUnserved, IsUnservedDie, IsUnstarted, ServesDie}
 use Rattle.commands.proofs.FormatLemmas.{not_risen}
 
 -- a count that stays at none did not rise
@@ -32,7 +32,7 @@ all_known xs was now most (inl known) le none = known
 all_known xs was now most (inr risen) le none = absurd (not_risen was now most risen le none)
 
 pub die_served : (nand given : Driver) (g : Geometry) (capacity : ℕ) (c : Claim) (u v b w : Option (List ℕ)) (result : Result Served ServeFault) (how : Option ServeStop) (after : List ℕ) (back : Flash) (most : ℕ)
-    → IsServed flash_behind is_honest failures_of erases_of nand g capacity c u v b w result given → failures_of given ≤ most → most ≡ 0 → back ≡ flash_behind given → back.geometry ≡ g
+    → IsServed flash_behind recorded_of is_honest failures_of erases_of nand g capacity c u v b w result given → failures_of given ≤ most → most ≡ 0 → back ≡ flash_behind given → back.geometry ≡ g
     → how ≡ stop_in result → raw_image back.geometry after ≡ back.image → after ≡ raw_bytes back.image → HasServed g capacity c (flash_behind nand) after u v b w how
 die_served nand given g capacity c u v b w result how after back most s le none same sized how_is pages bytes =
     let known : AreKnown s.exchanges = all_known s.exchanges (failures_of nand) (failures_of given) most s.rose le none in
@@ -50,7 +50,7 @@ die_served nand given g capacity c u v b w result how after back most s le none 
         nand = nand;
         held = refl;
         begun = s.begun;
-        holds = until_known (HoldsTo flash_behind is_honest failures_of erases_of nand g capacity c s.first) (HasFailed flash_behind is_honest failures_of erases_of) s.exchanges s.last s.headline known refl;
+        holds = until_known (HoldsTo flash_behind recorded_of is_honest failures_of erases_of nand g capacity c s.first) (HasFailed flash_behind recorded_of is_honest failures_of erases_of) s.exchanges s.last s.headline known refl;
         pages = ap (λ k. raw_image k after) (sym sized) ∙ (pages ∙ ap (λ (f : Flash). f.image) there);
         bytes = bytes ∙ ap (λ (f : Flash). raw_bytes f.image) there;
       };

@@ -4,6 +4,7 @@ use Rattle.std.specs.List.{range_with_len}
 use Rattle.std.specs.Io.KnownBytes.{Keeps}
 use Rattle.page_layout.specs.declared.geometry.Geometry.{Geometry}
 use Rattle.page_layout.specs.Flash.{Flash}
+use Rattle.page_layout.specs.Recording.{Recording}
 use Rattle.page_layout.specs.Raw.{raw_image, raw_bytes}
 use Rattle.certificate.specs.Claim.{Claim}
 use Rattle.onfi_cycles.specs.Driver.{DriverState, flash_by}
@@ -46,6 +47,10 @@ Driver = DriverState SteadyDie
 abbrev pub flash_behind : Driver → Flash
 flash_behind d = flash_by (λ (bus : SteadyDie). bus.die.state) d
 
+-- it tells no record
+abbrev pub recorded_of : Driver → Option Recording
+recorded_of d = None
+
 abbrev pub is_honest : Driver → Bool
 is_honest d = true
 
@@ -67,7 +72,7 @@ pub record ServesDie (g : Geometry) (capacity : ℕ) (c : Claim) (s : Flash) (af
   pub last : Device Driver
   pub held : flash_behind nand ≡ s
   pub begun : IsBegun flash_behind is_honest failures_of nand g c first
-  pub holds : Holds flash_behind is_honest failures_of erases_of g capacity c s first exchanges last
+  pub holds : Holds flash_behind recorded_of is_honest failures_of erases_of g capacity c s first exchanges last
   pub pages : raw_image g after ≡ (flash_behind last.engine.nand).image
   pub bytes : after ≡ raw_bytes (flash_behind last.engine.nand).image
 

@@ -1,11 +1,10 @@
 use Rattle.std.proofs.Common.{◌≡◌, length}
 use Rattle.std.specs.Io.KnownBytes.{Appends}
-use Rattle.ftl_device.specs.Device.{IsDevice}
 use Rattle.block_server.proofs.Serving.{IsServing}
 use Rattle.block_server.proofs.server.serve_with.Given as goal
 
 abbrev pub invariant-loop-replies : goal.invariant-loop-replies
 invariant-loop-replies g l =
     (length l.body ≡ l.initial.device.engine.geometry.data_bytes) × (length l.bytes ≡ l.initial.device.engine.geometry.data_bytes)
-    × IsServing g.N.PageSource.flash g.N.PageSource.honest g.N.PageSource.failed g.N.PageSource.erases l.initial.device l.device (g.R.Read.remaining l.initial.reader) (g.R.Read.remaining l.reader)
+    × IsServing g.N.PageSource.flash g.N.PageSource.recorded g.N.PageSource.honest g.N.PageSource.failed g.N.PageSource.erases l.initial.device l.device (g.R.Read.remaining l.initial.reader) (g.R.Read.remaining l.reader)
     (Appends (g.W.Write.contents l.initial.writer) (g.W.Write.contents l.writer)) l.replies
