@@ -30,8 +30,9 @@ use Rattle.command_queue.specs.Tells.{die_in, Happened, Tells}
 -- counts, and `SequenceSpent` the last sequence, by the image and the one log; a call that leaves the device read-only does so in a shortage,
 -- or is a flush in which two blocks failed; a command that changes no sector took no memory, and so did one whose sector was stale in the image while no block was pinned; and afterwards
 -- the image has a certificate. A read programs and erases nothing and leaves the device as it was, and a turn that is done rescues pages from
--- bad blocks. A block is pinned afterwards only where one was before, by a turn, or by a call after which nothing is changed any more. And where the die tells a record as the event ends, a stop at any moment in it leaves an image that mounts, with the array before it
--- or, of a write or trim that is done, the one after it: so whatever was answered stays.
+-- bad blocks. A block is pinned afterwards only where one was before, by a turn, or by a call after which no sector is changed any more. And
+-- where the die tells a record as the event ends, a stop at any moment in it leaves an image that mounts, with the array before it or, of a
+-- write or trim that is done, the one after it: so whatever was answered stays.
 pub record IsFair (first : First) (old : runs.DeviceView) (before : List Operation) (event : Event) (x : Exchange) : Type 0 where
   pub shown : (fault : DeviceFault) → x.result ≡ Err fault → IsShown first.geometry first.bad first.next before event.piece old.ro event.left.flash.image fault
   pub left : event.left.ro ≡ true → IsLeft x.command first.geometry first.bad before event.piece old.ro x.result

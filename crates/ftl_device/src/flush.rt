@@ -165,7 +165,8 @@ impl<N: Nand> Device<N> {
     /// and it shows the bad blocks and the erase counts that are known.
     ///
     /// The table pages are written again, all of them, as long as a program fails meanwhile. The
-    /// sectors that are cached stay, and their order.
+    /// sectors that are cached stay, and their order. Where the power goes inside it, each sector holds
+    /// what it held.
     ///
     /// # Errors
     ///

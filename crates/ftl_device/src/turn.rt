@@ -107,7 +107,8 @@ impl<N: Nand> Device<N> {
     ///
     /// A turn that is done without programming or erasing leaves twelve free blocks, where three more
     /// are good than the geometry asks for. Turns without failures in between which all program have
-    /// an erase among as many of them as a block has pages.
+    /// an erase among as many of them as a block has pages. Where the power goes inside one, each sector
+    /// holds what it held.
     ///
     /// # Errors
     ///

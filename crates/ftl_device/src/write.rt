@@ -99,6 +99,9 @@ impl<N: Nand> Device<N> {
     /// A call that ends with fewer than five free blocks leaves the device read-only, whatever it
     /// answered.
     ///
+    /// Where the power goes inside it, the sector holds the old bytes or these, and all others hold what
+    /// they held; where the call is refused, the old ones.
+    ///
     /// # Errors
     ///
     /// As the call begins, the first of these that holds; nothing has changed then:
@@ -145,7 +148,8 @@ impl<N: Nand> Device<N> {
     }
 
     /// Trims a sector: Done, it reads as 00h bytes and all others hold what they held. A trim page of
-    /// it is programmed, as `write` programs its page, also where the sector was never written.
+    /// it is programmed, as `write` programs its page, also where the sector was never written. What
+    /// stays where the power goes inside it is as there.
     ///
     /// # Errors
     ///

@@ -132,7 +132,7 @@ fn run_on_die(
     requires same { driver.geometry ≡ geometry.now }
     requires whole { AreWhole geometry.now calls.old }
     ensures rose { IfOk result (λ d. AreKnown (exchanges_of calls.new) ⊎ HasRisen driver.failures d.engine.nand.failures) }
-    ensures ran { IfOk result (λ d. AreKnown (exchanges_of calls.new) → RanFrom (flash_by (λ die. die.state)) (λ _. true) (λ n. n.failures) (λ n. n.erases)
+    ensures ran { IfOk result (λ d. AreKnown (exchanges_of calls.new) → RanFrom (flash_by (λ die. die.state)) (λ n. n.bus.recorded) (λ _. true) (λ n. n.failures) (λ n. n.erases)
         (flash_by (λ die. die.state) driver) certificate.now (exchanges_of calls.new) d) }
 {
     let accepted = check(alloc, &mut driver, geometry, 4, certificate)?;
