@@ -3,6 +3,7 @@
 
 ghost use Rattle.page_layout.specs.Count.{SmallBlockLaw};
 ghost use Rattle.page_layout.specs.Laws.{WorthLaw, SectorEntryLaw, BlockEntryLaw, TableFitsLaw, SoundLaw, ErasedLaw, ErasedUnsoundLaw, NewestLaw};
+ghost use Rattle.page_layout.specs.Laws.{OneVersionLaw, ShortSpareLaw, VersionLaw, NoVersionLaw};
 ghost use Rattle.page_layout.specs.Laws.{ScanLaw, HasNewestLaw, SectorLaw, ArrayLaw, KeysLaw, NoOtherKeyLaw, LiveSumLaw, RawBytesLaw, RawImageLaw};
 ghost use Rattle.page_layout.specs.Laws.{RawAgainLaw, GapLaw, PointerLaw, TopWearLaw, RowAgainLaw, WordAgainLaw};
 ghost use Rattle.page_layout.specs.ChangeLaws.{ProgramLaw, FailureLaw, EraseLaw, NoneLiveLaw, KeepsNothingLaw, KeepsTwiceLaw, KeepsThenWritesLaw};
@@ -23,12 +24,21 @@ pub fn geometry_laws()
     ensures table_fits { TableFitsLaw }
 {}
 
-/// A page is sound with the one record that its spare area spells under its seal; an erased page
-/// is one of FFh bytes alone, and is not sound.
+/// A page is sound with the one record that its spare area spells under its seal, in one of the two
+/// versions; an erased page is one of FFh bytes alone, and is not sound.
 pub fn record_laws()
     ensures sound { SoundLaw }
     ensures erased { ErasedLaw }
     ensures erased_unsound { ErasedUnsoundLaw }
+{}
+
+/// A page has one version at most: the one that it is sound in, which is 1 where the spare area has
+/// fewer than 40 bytes.
+pub fn version_laws()
+    ensures one { OneVersionLaw }
+    ensures short_spare { ShortSpareLaw }
+    ensures version { VersionLaw }
+    ensures no_version { NoVersionLaw }
 {}
 
 /// The bytes of a raw image and its pages are each other's.
