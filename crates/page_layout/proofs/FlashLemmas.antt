@@ -13,7 +13,7 @@ use Rattle.std.proofs.lemmas.Option.{slice_get-get_or, slice_get_past}
 use Rattle.page_layout.specs.declared.record.Record.{Record}
 use Rattle.page_layout.specs.declared.geometry.Geometry.{Geometry}
 use Rattle.page_layout.specs.Page.{Page, Image}
-use Rattle.page_layout.specs.Sound.{record_of}
+use Rattle.page_layout.specs.Sound.{version_of, version_for, record_of}
 use Rattle.page_layout.specs.Key.{key_of}
 use Rattle.page_layout.specs.OneArray.{AreBelow}
 use Rattle.page_layout.specs.Live.{IsKeyOf}
@@ -114,10 +114,10 @@ program_sets old new row p left steps = image-program old new row p true left st
 
 -- passed, over a page that is not sound, with a record that is newer than all
 pub program_writes : (g : Geometry) (old new : Flash) (row : ℕ) (p left : Page) (r : Record) → Steps old (Program row p true left) new
-    → HasOneArray g old.image → IsUnsoundAt old.image row → record_of p ≡ Some r → AreBelow (marks old.image) r.sequence → IsKeyOf g (key_of r)
+    → HasOneArray g old.image → IsUnsoundAt old.image row → record_of p ≡ Some r → version_of p ≡ Some (version_for g) → AreBelow (marks old.image) r.sequence → IsKeyOf g (key_of r)
     → Writes g r row p.body old.image new.image
-program_writes g old new row p left r steps one was is below in_range =
-    passed_writes g row old.image new.image p r one steps.lawful.in_range was is below in_range (program_sets old new row p left steps)
+program_writes g old new row p left r steps one was is version below in_range =
+    passed_writes g row old.image new.image p r one steps.lawful.in_range was is version below in_range (program_sets old new row p left steps)
 
 -- the next sequence is newer than all then
 pub program_below : (old new : Flash) (row : ℕ) (p left : Page) (r : Record) → Steps old (Program row p true left) new
@@ -254,10 +254,10 @@ program_next old new row p left false r steps was is below =
 
 -- what it did, by its outcome
 pub program_means : (g : Geometry) (old new : Flash) (row : ℕ) (p left : Page) (passed : Bool) (r : Record) → Steps old (Program row p passed left) new
-    → HasOneArray g old.image → IsUnsoundAt old.image row → record_of p ≡ Some r → AreBelow (marks old.image) r.sequence → IsKeyOf g (key_of r)
+    → HasOneArray g old.image → IsUnsoundAt old.image row → record_of p ≡ Some r → version_of p ≡ Some (version_for g) → AreBelow (marks old.image) r.sequence → IsKeyOf g (key_of r)
     → ProgramMeans g r row p.body passed old.image new.image
-program_means g old new row p left true r steps one was is below in_range = program_writes g old new row p left r steps one was is below in_range
-program_means g old new row p left false r steps one was is below in_range = program_keeps g old new row p left steps one was
+program_means g old new row p left true r steps one was is version below in_range = program_writes g old new row p left r steps one was is version below in_range
+program_means g old new row p left false r steps one was is version below in_range = program_keeps g old new row p left steps one was
 
 -- an erase that passed
 pub erase_erases : (g : Geometry) (old new : Flash) (block : ℕ) (left : List Page) → old.geometry ≡ g → Steps old (Erase block true left) new → ErasesIn g block old.image new.image

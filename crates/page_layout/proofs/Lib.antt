@@ -7,6 +7,7 @@ pub mod NewestLemmas
 pub mod RecordLemmas
 pub mod LaneLemmas
 pub mod LiveLemmas
+pub mod VersionLemmas
 pub mod ArrayLemmas
 pub mod RawLemmas
 pub mod BlockLemmas

@@ -9,7 +9,7 @@ use Rattle.page_layout.specs.declared.record.Key.{Key}
 use Rattle.page_layout.specs.declared.record.Key.TheVariants.{Sector}
 use Rattle.page_layout.specs.declared.geometry.Geometry.{Geometry}
 use Rattle.page_layout.specs.Page.{Page, Image}
-use Rattle.page_layout.specs.Sound.{record_of}
+use Rattle.page_layout.specs.Sound.{record_of, version_of, version_for}
 use Rattle.page_layout.specs.Key.{key_of}
 use Rattle.page_layout.specs.Newest.{newest}
 use Rattle.page_layout.specs.OneArray.{AreDistinct, AreBelow}
@@ -21,6 +21,7 @@ use Rattle.page_layout.proofs.LiveLemmas.{live_same, live_programmed}
 use Rattle.page_layout.specs.Sound.{is_filled}
 use Rattle.page_layout.proofs.RecordLemmas.{is_filled-replicate, erased_no_record}
 use Rattle.page_layout.proofs.LiveLemmas.{live_zero}
+use Rattle.page_layout.proofs.VersionLemmas.{version_page, version_same}
 use Rattle.page_layout.proofs.ArrayLemmas.{content-record, unsound_at, mark-same, mark-page, body_page, body_same, slice_get-set_other}
 use Rattle.page_layout.proofs.ArrayLemmas.{slice_get-set_same, newest-other, forgets, marks-set, length-marks, IsNewer, newest_failed, sector_failed}
 use Rattle.page_layout.proofs.ArrayLemmas.{newest_written, newest_unwritten, sector_written, sector_unwritten, newest_lost, sector_lost}
@@ -31,6 +32,7 @@ Keeps-refl g image one = record {
   size = refl;
   newest_same = λ key. refl;
   bodies = λ key row is. refl;
+  versions = λ key row is. refl;
   sector_same = λ n. refl;
   live_same = λ b. refl;
   one = one;
@@ -47,6 +49,7 @@ Keeps-trans g a b c x y = record {
   size = y.size ∙ x.size;
   newest_same = λ key. y.newest_same key ∙ x.newest_same key;
   bodies = λ key row is. y.bodies key row (x.newest_same key ∙ is) ∙ x.bodies key row is;
+  versions = λ key row is. y.versions key row (x.newest_same key ∙ is) ∙ x.versions key row is;
   sector_same = λ n. y.sector_same n ∙ x.sector_same n;
   live_same = λ block. y.live_same block ∙ x.live_same block;
   one = y.one;
@@ -63,7 +66,9 @@ Keeps-Writes g r row body a b c x y = record {
   newest_others = λ other ne. y.newest_others other ne ∙ x.newest_same other;
   record_here = y.record_here;
   here = y.here;
+  version_here = y.version_here;
   bodies = λ other q ne is. y.bodies other q ne (x.newest_same other ∙ is) ∙ x.bodies other q is;
+  versions = λ other q ne is. y.versions other q ne (x.newest_same other ∙ is) ∙ x.versions other q is;
   sector_now = y.sector_now;
   sector_others = λ n ne. y.sector_others n ne ∙ x.sector_same n;
   live_moved = λ block. (let moved = y.live_moved block in rw (x.newest_same (key_of r), x.live_same block) at moved);
@@ -83,7 +88,9 @@ Writes-Keeps g r row body a b c x y = record {
       let was : get_or (marks b) row None ≡ Some found.0 = y.records row found.0 found.1 in
       found.1 ∙ (sym was ∙ x.record_here);
   here = y.bodies (key_of r) row x.newest_now ∙ x.here;
+  version_here = y.versions (key_of r) row x.newest_now ∙ x.version_here;
   bodies = λ other q ne is. y.bodies other q (x.newest_others other ne ∙ is) ∙ x.bodies other q ne is;
+  versions = λ other q ne is. y.versions other q (x.newest_others other ne ∙ is) ∙ x.versions other q ne is;
   sector_now = λ n is. y.sector_same n ∙ x.sector_now n is;
   sector_others = λ n ne. y.sector_same n ∙ x.sector_others n ne;
   live_moved = λ block. rw (y.live_same block) (x.live_moved block);
@@ -114,6 +121,7 @@ failed_keeps g row old new one was (inr torn) =
       size = length-set old row p;
       newest_same = λ key. newest_failed old row p key was torn.2;
       bodies = λ key q is. body_same (set old row p) old q (slice_get-set_other old row q p (newest-other old row q key was is));
+      versions = λ key q is. version_same (set old row p) old q (slice_get-set_other old row q p (newest-other old row q key was is));
       sector_same = λ n. sector_failed g old row p n was torn.2;
       live_same = λ block. ap (λ ms. live g ms block) same;
       one = record {
@@ -147,8 +155,8 @@ passed_below row old new p r within is below same =
     })
 
 -- passed, with a record that is newer than all
-pub passed_writes : (g : Geometry) (row : ℕ) (old new : Image) (p : Page) (r : Record) → HasOneArray g old → row < length old → IsUnsoundAt old row → record_of p ≡ Some r → AreBelow (marks old) r.sequence → IsKeyOf g (key_of r) → new ≡ set old row p → Writes g r row p.body old new
-passed_writes g row old new p r one within was is below in_range same =
+pub passed_writes : (g : Geometry) (row : ℕ) (old new : Image) (p : Page) (r : Record) → HasOneArray g old → row < length old → IsUnsoundAt old row → record_of p ≡ Some r → version_of p ≡ Some (version_for g) → AreBelow (marks old) r.sequence → IsKeyOf g (key_of r) → new ≡ set old row p → Writes g r row p.body old new
+passed_writes g row old new p r one within was is version below in_range same =
     let newer : IsNewer old r = record {
       above = λ q s at.
           let found : IsOf (key_of r) (get_or (marks old) q None) s = sequence_at-is (marks old) (key_of r) q s at in
@@ -164,7 +172,9 @@ passed_writes g row old new p r one within was is below in_range same =
       newest_others = λ k ne. newest_unwritten old row p r k within was is ne;
       record_here = mark-page (set old row p) row p (slice_get-set_same old row p within) ∙ is;
       here = body_page (set old row p) row p (slice_get-set_same old row p within);
+      version_here = version_page (set old row p) row p (slice_get-set_same old row p within) ∙ version;
       bodies = λ k q ne at. body_same (set old row p) old q (other q (newest-other old row q k was at));
+      versions = λ k q ne at. version_same (set old row p) old q (other q (newest-other old row q k was at));
       sector_now = λ n of_key. sector_written g old row p r n within is newer of_key ∙ content-record g p r is;
       sector_others = λ n ne. sector_unwritten g old row p r n within was is ne;
       live_moved = λ block. rw now (live_programmed g (marks old) row block r l was in_range newer.above);
@@ -183,6 +193,7 @@ lost_keeps g block old new one empty lost =
       size = lost.length_same;
       newest_same = same;
       bodies = λ key q is. body_same new old q (lost.others q (empty.none key q is));
+      versions = λ key q is. version_same new old q (lost.others q (empty.none key q is));
       sector_same = λ n. sector_lost g g.pages block old new n one.distinct empty lost;
       live_same = λ b. live_same g (marks old) (marks new) b same;
       one = OneArray_lost g g.pages block old new one lost;

@@ -6,12 +6,13 @@ use Rattle.page_layout.specs.declared.record.Key.{Key}
 use Rattle.page_layout.specs.declared.record.Key.TheVariants.{Sector}
 use Rattle.page_layout.specs.declared.geometry.Geometry.{Geometry}
 use Rattle.page_layout.specs.Page.{Page, Image, page, body_at}
-use Rattle.page_layout.specs.Sound.{record_of, is_erased_page}
+use Rattle.page_layout.specs.Sound.{record_of, version_for, is_erased_page}
 use Rattle.page_layout.specs.Key.{key_of}
 use Rattle.page_layout.specs.Newest.{newest}
 use Rattle.page_layout.specs.OneArray.{AreBelow}
 use Rattle.page_layout.specs.Live.{live, is_in_block}
 use Rattle.page_layout.specs.Array.{marks, sector_of, content_of_kind, HasOneArray}
+use Rattle.page_layout.specs.Version.{version_at}
 
 -- the row's page has no sound record
 abbrev pub IsUnsoundAt : Image → ℕ → Type 0
@@ -51,12 +52,13 @@ pub record ErasesIn (g : Geometry) (block : ℕ) (old new : Image) : Type 0 wher
 abbrev pub one_if : Bool → ℕ
 one_if b = if b then 1 else 0
 
--- Nothing that counts has changed: each key has its newest page where it was, with the data area that it had, each sector and each live
--- count is as it was, a page that had no record has none, and a record that a page has it had before.
+-- Nothing that counts has changed: each key has its newest page where it was, with the data area and the version that it had, each sector and
+-- each live count is as it was, a page that had no record has none, and a record that a page has it had before.
 pub record Keeps (g : Geometry) (old new : Image) : Type 0 where
   pub size : length new ≡ length old
   pub newest_same : (key : Key) → newest (marks new) key ≡ newest (marks old) key
   pub bodies : (key : Key) (row : ℕ) → newest (marks old) key ≡ Some row → body_at new row ≡ body_at old row
+  pub versions : (key : Key) (row : ℕ) → newest (marks old) key ≡ Some row → version_at new row ≡ version_at old row
   pub sector_same : (n : ℕ) → sector_of g new n ≡ sector_of g old n
   pub live_same : (block : ℕ) → live g (marks new) block ≡ live g (marks old) block
   pub one : HasOneArray g new
@@ -64,15 +66,17 @@ pub record Keeps (g : Geometry) (old new : Image) : Type 0 where
   pub records : (row : ℕ) (x : Record) → get_or (marks new) row None ≡ Some x → get_or (marks old) row None ≡ Some x
   pub below : (next : ℕ) → AreBelow (marks old) next → AreBelow (marks new) next
 
--- The row has a page with this record and this data area, which is now the newest of its key; a sector of that key reads by it. Nothing else
--- that counts has changed, and no record is newer.
+-- The row has a page with this record and this data area, in the version for the die, which is now the newest of its key; a sector of that
+-- key reads by it. Nothing else that counts has changed, and no record is newer.
 pub record Writes (g : Geometry) (r : Record) (row : ℕ) (body : List ℕ) (old new : Image) : Type 0 where
   pub size : length new ≡ length old
   pub newest_now : newest (marks new) (key_of r) ≡ Some row
   pub newest_others : (other : Key) → key_of r ≢ other → newest (marks new) other ≡ newest (marks old) other
   pub record_here : get_or (marks new) row None ≡ Some r
   pub here : body_at new row ≡ body
+  pub version_here : version_at new row ≡ Some (version_for g)
   pub bodies : (other : Key) (q : ℕ) → key_of r ≢ other → newest (marks old) other ≡ Some q → body_at new q ≡ body_at old q
+  pub versions : (other : Key) (q : ℕ) → key_of r ≢ other → newest (marks old) other ≡ Some q → version_at new q ≡ version_at old q
   pub sector_now : (n : ℕ) → key_of r ≡ Sector n → sector_of g new n ≡ content_of_kind g r.kind body
   pub sector_others : (n : ℕ) → key_of r ≢ Sector n → sector_of g new n ≡ sector_of g old n
   pub live_moved : (block : ℕ) → live g (marks new) block + one_if (is_in_block g.pages block (newest (marks old) (key_of r))) ≡ live g (marks old) block + one_if (row / g.pages == block)

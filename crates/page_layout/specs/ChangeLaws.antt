@@ -4,7 +4,7 @@ use Rattle.page_layout.specs.declared.record.Record.{Record}
 use Rattle.page_layout.specs.declared.record.Key.TheVariants.{Sector}
 use Rattle.page_layout.specs.declared.geometry.Geometry.{Geometry}
 use Rattle.page_layout.specs.Page.{Page, Image}
-use Rattle.page_layout.specs.Sound.{record_of}
+use Rattle.page_layout.specs.Sound.{record_of, version_of, version_for}
 use Rattle.page_layout.specs.Key.{key_of}
 use Rattle.page_layout.specs.OneArray.{AreBelow}
 use Rattle.page_layout.specs.Live.{IsKeyOf, live}
@@ -13,10 +13,10 @@ use Rattle.page_layout.specs.Change.{IsUnsoundAt, FailsAt, LosesIn, HoldsNone, K
 
 -- ---- one change
 
--- a program that passes, over a page that is not sound, with a record newer than all
+-- a program that passes, over a page that is not sound, with a record newer than all, in the version for the die
 abbrev pub ProgramLaw : Type 0
 ProgramLaw = (g : Geometry) (row : ℕ) (old new : Image) (p : Page) (r : Record) → HasOneArray g old → row < length old → IsUnsoundAt old row
-    → record_of p ≡ Some r → AreBelow (marks old) r.sequence → IsKeyOf g (key_of r) → new ≡ slice_set old row p → Writes g r row p.body old new
+    → record_of p ≡ Some r → version_of p ≡ Some (version_for g) → AreBelow (marks old) r.sequence → IsKeyOf g (key_of r) → new ≡ slice_set old row p → Writes g r row p.body old new
 
 -- a program that fails or is cut short, over a page that is not sound
 abbrev pub FailureLaw : Type 0

@@ -6,7 +6,7 @@ use Rattle.page_layout.specs.declared.record.Key.{Key}
 use Rattle.page_layout.specs.declared.geometry.Geometry.{Geometry}
 use Rattle.page_layout.specs.Geometry.{entries, translation_pages, table_pages, vmax, key_count}
 use Rattle.page_layout.specs.Page.{Page, Image, IsImage}
-use Rattle.page_layout.specs.Sound.{AreFill, IsSound, IsSoundV1, IsSoundV2, record_of, version_of, is_erased_page}
+use Rattle.page_layout.specs.Sound.{AreFill, IsSound, record_of, is_erased_page}
 use Rattle.page_layout.specs.Key.{key_of, key_eq}
 use Rattle.page_layout.specs.Newest.{newest, latest_below, IsNewest, Tells}
 use Rattle.page_layout.specs.Live.{IsKeyOf, keys, live}
@@ -42,21 +42,6 @@ SoundLaw = (p : Page) (r : Record) → (record_of p ≡ Some r) ↔ IsSound p r
 -- a page is erased just where all its bytes are FFh
 abbrev pub ErasedLaw : Type 0
 ErasedLaw = (p : Page) → (is_erased_page p ≡ true) ↔ (AreFill p.body × AreFill p.spare)
-
--- no page is sound in both versions
-abbrev pub OneVersionLaw : Type 0
-OneVersionLaw = (p : Page) (r other : Record) → IsSoundV1 p r → ¬ IsSoundV2 p other
-
--- with fewer than 40 spare bytes there is version 1 only
-abbrev pub ShortSpareLaw : Type 0
-ShortSpareLaw = (p : Page) (r : Record) → length p.spare < 40 → IsSound p r → IsSoundV1 p r
-
--- `version_of` is the version in which the page is sound, and none where it is not sound
-abbrev pub VersionLaw : Type 0
-VersionLaw = (p : Page) (r : Record) → record_of p ≡ Some r → ((version_of p ≡ Some 1) ↔ IsSoundV1 p r) × ((version_of p ≡ Some 2) ↔ IsSoundV2 p r)
-
-abbrev pub NoVersionLaw : Type 0
-NoVersionLaw = (p : Page) → (version_of p ≡ None) ↔ (record_of p ≡ None)
 
 -- no erased page is sound
 abbrev pub ErasedUnsoundLaw : Type 0

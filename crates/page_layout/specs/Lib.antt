@@ -18,6 +18,7 @@ pub mod Newest
 pub mod OneArray
 pub mod Live
 pub mod Array
+pub mod Version
 pub mod Block
 -- what changes an image, and the die's law
 pub mod Counter
@@ -30,4 +31,5 @@ pub mod Count
 pub mod CounterLaws
 pub mod Laws
 pub mod ChangeLaws
+pub mod VersionLaws
 pub mod StepLaws

@@ -3,7 +3,7 @@ use Rattle.std.specs.Prelude.{◌≡◌, ◌≢◌, ℕ, ◌+◌, ◌/◌, ◌<�
 use Rattle.page_layout.specs.declared.record.Record.{Record}
 use Rattle.page_layout.specs.declared.geometry.Geometry.{Geometry}
 use Rattle.page_layout.specs.Page.{Page, Image, IsImage}
-use Rattle.page_layout.specs.Sound.{record_of}
+use Rattle.page_layout.specs.Sound.{record_of, version_of, version_for}
 use Rattle.page_layout.specs.Key.{key_of}
 use Rattle.page_layout.specs.OneArray.{AreBelow}
 use Rattle.page_layout.specs.Live.{IsKeyOf}
@@ -14,10 +14,10 @@ use Rattle.page_layout.specs.Change.{IsUnsoundAt, IsErasedAt, FailsAt, LosesIn, 
 
 -- ---- programs
 
--- a program that passed wrote its page
+-- a program of a page of the die's version, that passed, wrote it
 abbrev pub PassedStepLaw : Type 0
 PassedStepLaw = (g : Geometry) (old new : Flash) (row : ℕ) (p left : Page) (r : Record) → Steps old (Program row p true left) new
-    → HasOneArray g old.image → IsUnsoundAt old.image row → record_of p ≡ Some r → AreBelow (marks old.image) r.sequence → IsKeyOf g (key_of r)
+    → HasOneArray g old.image → IsUnsoundAt old.image row → record_of p ≡ Some r → version_of p ≡ Some (version_for g) → AreBelow (marks old.image) r.sequence → IsKeyOf g (key_of r)
     → Writes g r row p.body old.image new.image
 
 -- one that failed kept everything
@@ -28,7 +28,7 @@ FailedStepLaw = (g : Geometry) (old new : Flash) (row : ℕ) (p left : Page) →
 -- the same by the outcome
 abbrev pub OutcomeStepLaw : Type 0
 OutcomeStepLaw = (g : Geometry) (old new : Flash) (row : ℕ) (p left : Page) (passed : Bool) (r : Record) → Steps old (Program row p passed left) new
-    → HasOneArray g old.image → IsUnsoundAt old.image row → record_of p ≡ Some r → AreBelow (marks old.image) r.sequence → IsKeyOf g (key_of r)
+    → HasOneArray g old.image → IsUnsoundAt old.image row → record_of p ≡ Some r → version_of p ≡ Some (version_for g) → AreBelow (marks old.image) r.sequence → IsKeyOf g (key_of r)
     → ProgramMeans g r row p.body passed old.image new.image
 
 -- what one that failed left of its page

@@ -3,7 +3,8 @@
 
 ghost use Rattle.page_layout.specs.Count.{SmallBlockLaw};
 ghost use Rattle.page_layout.specs.Laws.{WorthLaw, SectorEntryLaw, BlockEntryLaw, TableFitsLaw, SoundLaw, ErasedLaw, ErasedUnsoundLaw, NewestLaw};
-ghost use Rattle.page_layout.specs.Laws.{OneVersionLaw, ShortSpareLaw, VersionLaw, NoVersionLaw};
+ghost use Rattle.page_layout.specs.VersionLaws.{OneVersionLaw, ShortSpareLaw, VersionLaw, NoVersionLaw, RowVersionLaw, OldLaw};
+ghost use Rattle.page_layout.specs.VersionLaws.{KeptVersionsLaw, WrittenVersionsLaw, NoMoreOldLaw, FewerOldLaw};
 ghost use Rattle.page_layout.specs.Laws.{ScanLaw, HasNewestLaw, SectorLaw, ArrayLaw, KeysLaw, NoOtherKeyLaw, LiveSumLaw, RawBytesLaw, RawImageLaw};
 ghost use Rattle.page_layout.specs.Laws.{RawAgainLaw, GapLaw, PointerLaw, TopWearLaw, RowAgainLaw, WordAgainLaw};
 ghost use Rattle.page_layout.specs.ChangeLaws.{ProgramLaw, FailureLaw, EraseLaw, NoneLiveLaw, KeepsNothingLaw, KeepsTwiceLaw, KeepsThenWritesLaw};
@@ -39,6 +40,17 @@ pub fn version_laws()
     ensures short_spare { ShortSpareLaw }
     ensures version { VersionLaw }
     ensures no_version { NoVersionLaw }
+{}
+
+/// Which newest pages of an image are of version 1, and that there are ever fewer of them where the
+/// die's pages are written in version 2.
+pub fn old_page_laws()
+    ensures row { RowVersionLaw }
+    ensures old { OldLaw }
+    ensures kept { KeptVersionsLaw }
+    ensures written { WrittenVersionsLaw }
+    ensures no_more { NoMoreOldLaw }
+    ensures fewer { FewerOldLaw }
 {}
 
 /// The bytes of a raw image and its pages are each other's.
