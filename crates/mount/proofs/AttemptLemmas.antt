@@ -8,7 +8,7 @@ use Rattle.page_layout.specs.declared.record.Record.{Record}
 use Rattle.page_layout.specs.declared.record.Key.TheVariants.{Sector, Translation, Table}
 use Rattle.page_layout.specs.Geometry.{entries, row_count, table_pages}
 use Rattle.page_layout.specs.Page.{Page}
-use Rattle.page_layout.specs.Sound.{record_of}
+use Rattle.page_layout.specs.Sound.{version_of, version_for, record_of}
 use Rattle.page_layout.specs.Change.{IsUnsoundAt, Keeps, Writes}
 use Rattle.page_layout.specs.Flash.{Flash, Operation, Program, Steps, page_at}
 use Rattle.page_layout.proofs.ArrayLemmas.{mark-same}
@@ -127,8 +127,8 @@ kept_more g first old new table block done next row log its left passed h steps 
 -- the pages that stand in the block
 page_more : (g : Geometry) (first old new : Flash) (table : List TableRow) (block done next u : ℕ) (log : List Operation) (its left : Page) (h : IsNext g first old table block done next log)
     → Steps old (Program (row_of g block done) its true left) new → Writes g (table_record done next) (row_of g block done) its.body old.image new.image → its.body ≡ table_bytes (entries g) table done → record_of its ≡ Some (table_record done next)
-    → u < done + 1 → HasTablePage g new.image (row_of g block u) u (h.so_far.sequence + u) table
-page_more g first old new table block done next u log its left h steps writes body says l = elim (cases_eq u done) [
+    → version_of its ≡ Some (version_for g) → u < done + 1 → HasTablePage g new.image (row_of g block u) u (h.so_far.sequence + u) table
+page_more g first old new table block done next u log its left h steps writes body says version l = elim (cases_eq u done) [
   | inl same ↦
       let P : ℕ → Type 0 = λ k. HasTablePage g new.image (row_of g block k) k (h.so_far.sequence + k) table in
       let in_image : row_of g block done < length old.image = steps.lawful.in_range in
@@ -139,6 +139,7 @@ page_more g first old new table block done next u log its left h steps writes bo
         at = ap (λ (i : List Page). slice_get i (row_of g block done)) (program_sets old new (row_of g block done) its left steps) ∙ slice_get-set_same old.image (row_of g block done) its in_image;
         body = body;
         says = says ∙ ap (λ s. Some (table_record done s)) (sym sequence);
+        version = version;
       })
   | inr ne ↦
       let before : HasTablePage g old.image (row_of g block u) u (h.so_far.sequence + u) table = h.so_far.pages u (omega arith) in
@@ -148,6 +149,7 @@ page_more g first old new table block done next u log its left h steps writes bo
         at = program_other old new (row_of g block done) (row_of g block u) its left true steps (λ e. ne (omega (arith, e))) ∙ before.at;
         body = before.body;
         says = before.says;
+        version = before.version;
       }
 ]
   where
@@ -155,15 +157,15 @@ page_more g first old new table block done next u log its left h steps writes bo
     key_number u done e = cc
 
 pub passes : (g : Geometry) (first old new : Flash) (table : List TableRow) (block done next : ℕ) (log : List Operation) (its left : Page) → IsNext g first old table block done next log
-    → Steps old (Program (row_of g block done) its true left) new → its.body ≡ table_bytes (entries g) table done → record_of its ≡ Some (table_record done next)
+    → Steps old (Program (row_of g block done) its true left) new → its.body ≡ table_bytes (entries g) table done → record_of its ≡ Some (table_record done next) → version_of its ≡ Some (version_for g)
     → IsUnderway g first new table block (done + 1) (next + 1) (log ++ Program (row_of g block done) its true left ∷ [])
-passes g first old new table block done next log its left h steps body says =
+passes g first old new table block done next log its left h steps body says version =
     let row : ℕ = row_of g block done in
     let op : Operation = Program row its true left in
     let u : IsUnderway g first old table block done next log = h.so_far in
     let r : Record = table_record done next in
     let unsound : IsUnsoundAt old.image row = next_unsound g first old table block done next log h in
-    let writes : Writes g r row its.body old.image new.image = program_writes g old new row its left r steps u.one unsound says u.below h.room in
+    let writes : Writes g r row its.body old.image new.image = program_writes g old new row its left r steps u.one unsound says version u.below h.room in
     let accounts : List Account = accounts_of g first.image (is_marked g first.image) in
     let size : length (accounted_all g.pages accounts log) ≡ g.blocks = length-accounted_all g.pages accounts log ∙ length-accounts_of g first.image (is_marked g first.image) in
     record {
@@ -195,7 +197,7 @@ passes g first old new table block done next log its left h steps body says =
       tried = λ other b failed l good. u.tried other b (sym (failed_in-passed g.pages log op other refl) ∙ failed) l good;
       sequence = u.sequence;
       sequence_is = omega (arith, u.sequence_is);
-      pages = λ k l. page_more g first old new table block done next k log its left h steps writes body says l;
+      pages = λ k l. page_more g first old new table block done next k log its left h steps writes body says version l;
     }
 
 -- ---- a program that failed
@@ -275,7 +277,7 @@ tries_more g first old new table block done next failed outcome trying within ro
     let steps : Steps old (Program row program.its true left) new = subst (λ b. Steps old (Program row program.its b left) new) passed program.step in
     record {
       log = trying.log ++ Program row program.its true left ∷ [];
-      underway = passes g first old new table block done next trying.log program.its left h steps program.body program.says;
+      underway = passes g first old new table block done next trying.log program.its left h steps program.body program.says program.version;
       failed_is = failures-passed trying.log (Program row program.its true left) refl ∙ trying.failed_is;
       fewer = trying.fewer;
     }

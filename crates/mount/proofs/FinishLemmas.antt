@@ -22,7 +22,7 @@ use Rattle.bad_blocks.specs.Table.{is_good_at, good_count}
 use Rattle.mount.specs.Formatted.{good_after, is_good_after, table_after, shows_failure, HasTablePage, IsFormatted}
 use Rattle.mount.specs.Log.{failures}
 use Rattle.mount.specs.Attempt.{done_in, IsUnderway}
-use Rattle.mount.proofs.LookLemmas.{erased_unsound}
+use Rattle.page_layout.proofs.RecordLemmas.{erased_no_record}
 use Rattle.mount.proofs.BlockLemmas.{row_block, block_of_row, page_of_row, length-block_pages, get_or-block_pages, none_of_block, gap_free, unbroken}
 use Rattle.mount.proofs.TableLemmas.{IsClear, good_is_clear, good_after-table, good_count-table}
 use Rattle.mount.proofs.FreshLemmas.{fresh_erased}
@@ -94,7 +94,7 @@ shows_none g first now table block done next b log u within good =
     ∙ rest_erased g first now table block done next b k log u within good (omega (arith, l, most)) ge))
   where
     sound_unerased : (p : Page) → is_some (record_of p) ≡ true → is_erased_page p ≡ false
-    sound_unerased p sound = false_from_ne_true (is_erased_page p) (λ erased. (let bad : false ≡ true = sym (ap is_some (erased_unsound p erased)) ∙ sound in cc bad))
+    sound_unerased p sound = false_from_ne_true (is_erased_page p) (λ erased. (let bad : false ≡ true = sym (ap is_some (erased_no_record p erased)) ∙ sound in cc bad))
 
 -- ---- the whole die
 

@@ -27,7 +27,7 @@ use Rattle.promises.specs.Legal.{Account, account_at, accounts_of}
 use Rattle.promises.proofs.AccountLemmas.{account_of}
 use Rattle.mount.specs.Formatted.{table_after, good_after}
 use Rattle.mount.specs.Attempt.{done_in, IsTrying}
-use Rattle.mount.proofs.LookLemmas.{erased_unsound}
+use Rattle.page_layout.proofs.RecordLemmas.{erased_no_record}
 use Rattle.mount.proofs.BlockLemmas.{block_of_row, none_of_block, past_last-zero}
 use Rattle.mount.proofs.TableLemmas.{IsClear, good_is_clear, good_count-table}
 
@@ -47,7 +47,7 @@ none_from (Some r) is = absurd (cc is)
 fresh_page : (g : Geometry) (image : Image) (row : ℕ) → IsFresh g image → row < row_count g → record_of (get_or image row no_page) ≡ None
 fresh_page g image row fresh within = elim (cases_Bool (is_marked g image (row / g.pages))) [
   | inl marked ↦ none_from (record_of (get_or image row no_page)) (ap (λ m. is_page_used m (get_or image row no_page)) (sym marked) ∙ fresh.none row (omega arith) within)
-  | inr unmarked ↦ erased_unsound (get_or image row no_page) (fresh_erased g image row fresh within unmarked)
+  | inr unmarked ↦ erased_no_record (get_or image row no_page) (fresh_erased g image row fresh within unmarked)
 ]
 
 pub fresh_unsound : (g : Geometry) (image : Image) (row : ℕ) → IsFresh g image → length image ≡ row_count g → get_or (marks image) row None ≡ None

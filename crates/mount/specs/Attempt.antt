@@ -4,7 +4,7 @@ use Rattle.page_layout.specs.declared.geometry.Geometry.{Geometry}
 use Rattle.page_layout.specs.declared.record.Key.TheVariants.{Sector, Translation}
 use Rattle.page_layout.specs.Geometry.{entries, need, row_count, table_pages}
 use Rattle.page_layout.specs.Page.{Page, IsImage}
-use Rattle.page_layout.specs.Sound.{record_of}
+use Rattle.page_layout.specs.Sound.{record_of, version_of, version_for}
 use Rattle.page_layout.specs.Newest.{newest}
 use Rattle.page_layout.specs.OneArray.{AreBelow}
 use Rattle.page_layout.specs.Array.{marks, HasOneArray}
@@ -26,12 +26,14 @@ use Rattle.mount.specs.declared.format_fault.FormatFault.TheVariants.{TooFewGood
 
 -- ---- one program
 
--- table page u of the table was programmed in a row of a block that was never erased, with a record of this sequence
+-- table page u of the table was programmed in a row of a block that was never erased, with a record of this sequence, in the version for
+-- the die
 pub record IsTableProgram (g : Geometry) (old new : Flash) (row u sequence : ℕ) (table : List TableRow) (outcome : Outcome) : Type 0 where
   pub its : Page
   pub step : Steps old (Program row its (is_passed outcome) (page_at new row)) new
   pub body : its.body ≡ table_bytes (entries g) table u
   pub says : record_of its ≡ Some (table_record u sequence)
+  pub version : version_of its ≡ Some (version_for g)
 
 -- ---- the programs so far
 

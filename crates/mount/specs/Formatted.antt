@@ -8,7 +8,7 @@ use Rattle.page_layout.specs.declared.record.Kind.TheVariants as kind
 use Rattle.page_layout.specs.declared.record.Key.TheVariants.{Sector, Translation, Table}
 use Rattle.page_layout.specs.Geometry.{entries, need, row_count, table_pages}
 use Rattle.page_layout.specs.Page.{Page, Image, IsImage}
-use Rattle.page_layout.specs.Sound.{record_of}
+use Rattle.page_layout.specs.Sound.{record_of, version_of, version_for}
 use Rattle.page_layout.specs.Block.{block_pages, is_broken, has_gap}
 use Rattle.page_layout.specs.Newest.{newest}
 use Rattle.page_layout.specs.OneArray.{AreBelow}
@@ -62,13 +62,14 @@ pub record IsDone (g : Geometry) (old new : Flash) (log : List Operation) : Type
 abbrev pub table_record : ℕ → ℕ → Record
 table_record u sequence = record { kind = kind.Table; number = u; sequence = sequence; wear = 0 }
 
--- the row's page is table page u of the table
+-- the row's page is table page u of the table, in the version for the die
 pub record HasTablePage (g : Geometry) (image : Image) (row u sequence : ℕ) (table : List TableRow) : Type 0 where
   pub newest_is : newest (marks image) (Table u) ≡ Some row
   pub its : Page
   pub at : slice_get image row ≡ Some its
   pub body : its.body ≡ table_bytes (entries g) table u
   pub says : record_of its ≡ Some (table_record u sequence)
+  pub version : version_of its ≡ Some (version_for g)
 
 -- some page of the block is neither erased nor sound, or comes after an erased one without being erased
 abbrev pub shows_failure : Geometry → Image → ℕ → Bool
