@@ -15,7 +15,7 @@ from pathlib import Path
 import reference as ref
 from program import PROGRAM
 
-GEOMETRIES = [(64, 32, 8, 32, 32), (64, 32, 8, 24, 32), (64, 40, 4, 12, 1), (64, 33, 4, 40, 50), (128, 64, 8, 32, 70)]
+GEOMETRIES = [(64, 32, 8, 32, 32), (64, 32, 8, 24, 32), (64, 40, 4, 12, 1), (64, 39, 4, 40, 50), (128, 64, 8, 32, 70)]
 
 
 def run(words, folder):
@@ -74,11 +74,11 @@ def fill(rng, image):
                 data = image.data[image.newest("table", made.number)]
             else:
                 data = data_for(rng, g, made.kind)
-            image.put(row, made, data)
+            image.put(row, made, data, rng.choice([None, 1]))
             sequence += 0 if rng.random() < 0.003 else rng.choice([1, 1, 1, 3])
     if rng.random() < 0.05:
         row = rng.randrange(g.rows)
-        image.put(row, record(rng, g, 2**64 - rng.choice([1, 2, 3])), data_for(rng, g, 1))
+        image.put(row, record(rng, g, 2**64 - rng.choice([1, 2, 3])), data_for(rng, g, 1), rng.choice([None, 1]))
     for _ in range(rng.choice([0, 0, 1, 3])):
         row = rng.randrange(g.rows)
         spare = bytearray(image.spare[row])

@@ -16,10 +16,12 @@ KINDS = {"data": 1, "trim": 2, "translation": 3, "table": 4}
 
 
 def spare_area(size, kind, number, sequence, wear, data):
-    """A record of version 1: its fields, the seal over the data area and the fields, and fill bytes."""
-    fields = b"\xff\xff\x01" + bytes([kind]) + struct.pack("<IQI", number, sequence, wear) + b"\xff" * 4
-    seal = hashlib.sha256(data + fields).digest()[:8]
-    return fields + seal + b"\xff" * (size - 32)
+    """A record: its fields, the seal over the data area and the fields, and fill bytes. It is of version 2, with a seal of 16
+    bytes, where the spare area has at least 40, else of version 1, with a seal of 8."""
+    version, seal_size = (2, 16) if size >= 40 else (1, 8)
+    fields = b"\xff\xff" + bytes([version, kind]) + struct.pack("<IQI", number, sequence, wear) + b"\xff" * 4
+    seal = hashlib.sha256(data + fields).digest()[:seal_size]
+    return (fields + seal).ljust(size, b"\xff")
 
 
 def filler(row, size):

@@ -9,6 +9,8 @@ NONE = 0xFFFFFFFF
 MOST_WEAR = 16777215
 MOST_CAPACITY = 65536
 KINDS = {1: "data", 2: "trim", 3: "translation", 4: "table"}
+# The length of the seal by the version of the record.
+SEALS = {1: 8, 2: 16}
 
 
 class Refused(Exception):
@@ -64,22 +66,35 @@ class Record:
         return {1: "sector", 2: "sector", 3: "translation", 4: "table"}[self.kind], self.number
 
 
-def seal(data, head):
-    return hashlib.sha256(data + head).digest()[:8]
+def written_version(g):
+    """The version in which a die's pages are written."""
+    return 2 if g.spare >= 40 else 1
 
 
-def spare_of(g, record, data):
-    head = b"\xff\xff\x01" + bytes([record.kind]) + struct.pack("<IQI", record.number, record.sequence, record.wear)
-    head += b"\xff" * 4
-    return head + seal(data, head) + b"\xff" * (g.spare - 32)
+def spare_of(g, record, data, version=None):
+    """The spare area of a page, in the version for the die or another one that there is room for."""
+    version = version or written_version(g)
+    head = b"\xff\xff" + bytes([version, record.kind])
+    head += struct.pack("<IQI", record.number, record.sequence, record.wear) + b"\xff" * 4
+    seal = hashlib.sha256(data + head).digest()[: SEALS[version]]
+    return (head + seal).ljust(g.spare, b"\xff")
+
+
+def version_of(data, spare):
+    """The version in which a page is sound, or None."""
+    version = spare[2]
+    if version not in SEALS or (version == 2 and len(spare) < 40):
+        return None
+    end = 24 + SEALS[version]
+    if spare[:2] != b"\xff\xff" or spare[3] not in KINDS or spare[20:24] != b"\xff" * 4:
+        return None
+    if spare[end:].strip(b"\xff") or spare[24:end] != hashlib.sha256(data + spare[:24]).digest()[: end - 24]:
+        return None
+    return version
 
 
 def record_of(data, spare):
-    if spare[:2] != b"\xff\xff" or spare[2] != 1 or spare[3] not in KINDS:
-        return None
-    if spare[20:24] != b"\xff" * 4 or spare[32:] != b"\xff" * (len(spare) - 32):
-        return None
-    if spare[24:32] != seal(data, spare[:24]):
+    if version_of(data, spare) is None:
         return None
     return Record(spare[3], *struct.unpack("<IQI", spare[4:20]))
 
@@ -99,8 +114,8 @@ class Image:
     def raw(self):
         return b"".join(d + s for d, s in zip(self.data, self.spare))
 
-    def put(self, row, record, data):
-        self.data[row], self.spare[row] = data, spare_of(self.g, record, data)
+    def put(self, row, record, data, version=None):
+        self.data[row], self.spare[row] = data, spare_of(self.g, record, data, version)
         self.records[row], self.erased[row] = record, False
 
     def of_key(self, kind, number):

@@ -1,7 +1,7 @@
 //! Spare records and their seals.
 use super::hold;
 use page_layout::geometry::Geometry;
-use page_layout::record::{Key, Kind, Record, is_erased, read_record, sequence_in, write_record};
+use page_layout::record::{Key, Kind, Record, is_erased, read_record, record_version, sequence_in, write_record, write_record_v1};
 use std::process::Abort;
 use std::test::Fail;
 
@@ -17,38 +17,48 @@ const TRIM_5: [u8; 40] = [
     0xFF, 0xFF, 0xFF, 0xFF, 0xFF, 0xFF, 0xFF, 0xFF,
 ];
 
-// A sound page: its record, the byte that fills its data area, its spare area, and what it is of.
-struct Sound {
-    written: Record,
-    fill: u8,
-    spare: &'static [u8],
-    key: Key,
-}
+// The same in version 2, with a seal of 16 bytes, in the least spare area that has room for it and in a longer one.
+const TRIM_5_OF_16: [u8; 40] = [
+    0xFF, 0xFF, 0x02, 0x02, 0x05, 0x00, 0x00, 0x00, 0x04, 0x00, 0x00, 0x00, 0x00, 0x00, 0x00, 0x00,
+    0x07, 0x00, 0x00, 0x00, 0xFF, 0xFF, 0xFF, 0xFF, 0x4D, 0x7B, 0x79, 0xC6, 0xA3, 0x45, 0x3E, 0x01,
+    0x66, 0xAB, 0x23, 0xDC, 0x7A, 0x16, 0x35, 0x83,
+];
 
-const SOUND: [Sound; 2] = [
-    Sound {
-        written: Record {
-            kind: Kind::Sector,
-            number: 5,
-            sequence: 3,
-            wear: 0,
-        },
-        fill: 0x11,
-        spare: &SECTOR_5,
-        key: Key::Sector(5),
-    },
-    // In a longer spare area.
-    Sound {
-        written: Record {
-            kind: Kind::Trim,
-            number: 5,
-            sequence: 4,
-            wear: 7,
-        },
-        fill: 0,
-        spare: &TRIM_5,
-        key: Key::Sector(5),
-    },
+const SECTOR_5_OF_16: [u8; 48] = [
+    0xFF, 0xFF, 0x02, 0x01, 0x05, 0x00, 0x00, 0x00, 0x03, 0x00, 0x00, 0x00, 0x00, 0x00, 0x00, 0x00,
+    0x00, 0x00, 0x00, 0x00, 0xFF, 0xFF, 0xFF, 0xFF, 0x6A, 0xFC, 0xA8, 0x47, 0x6F, 0x2F, 0xC2, 0x18,
+    0x48, 0x6D, 0x4D, 0xA7, 0xDF, 0x5E, 0xB6, 0xD8, 0xFF, 0xFF, 0xFF, 0xFF, 0xFF, 0xFF, 0xFF, 0xFF,
+];
+
+// Version 2 with a seal of 8 bytes.
+const HALF_SEALED: [u8; 40] = [
+    0xFF, 0xFF, 0x02, 0x01, 0x05, 0x00, 0x00, 0x00, 0x03, 0x00, 0x00, 0x00, 0x00, 0x00, 0x00, 0x00,
+    0x00, 0x00, 0x00, 0x00, 0xFF, 0xFF, 0xFF, 0xFF, 0x6A, 0xFC, 0xA8, 0x47, 0x6F, 0x2F, 0xC2, 0x18,
+    0xFF, 0xFF, 0xFF, 0xFF, 0xFF, 0xFF, 0xFF, 0xFF,
+];
+
+const SECTOR: Record = Record {
+    kind: Kind::Sector,
+    number: 5,
+    sequence: 3,
+    wear: 0,
+};
+
+const TRIM: Record = Record {
+    kind: Kind::Trim,
+    number: 5,
+    sequence: 4,
+    wear: 7,
+};
+
+// A sound page: its record, the byte that fills its data area, its spare area, and its version.
+type Sound = (Record, u8, &'static [u8], u8);
+
+const SOUND: [Sound; 4] = [
+    (SECTOR, 0x11, &SECTOR_5, 1),
+    (TRIM, 0, &TRIM_5, 1),
+    (TRIM, 0, &TRIM_5_OF_16, 2),
+    (SECTOR, 0x11, &SECTOR_5_OF_16, 2),
 ];
 
 // The die of a page with this spare area.
@@ -57,19 +67,26 @@ fn geometry_of(rt: &impl Abort, spare: &[u8]) -> Result<Geometry, Fail> {
     Ok(Geometry::new(64, spare.len() as u32, 8, 32, 32)?)
 }
 
-// Writes the record over `spare`.
-fn write(rt: &impl Abort, written: &Record, body: &[u8], spare: &mut [u8]) -> Result<(), Fail> {
+// Writes the record over `spare`, as pages are written now, or as those of version 1.
+fn write(rt: &impl Abort, written: &Record, old: bool, body: &[u8], spare: &mut [u8]) -> Result<(), Fail> {
     let geometry = geometry_of(rt, spare)?;
     assert!(rt; body.len() == geometry.data_bytes() && spare.len() == geometry.spare_bytes());
-    write_record(&geometry, written, body, spare);
+    if old {
+        write_record_v1(&geometry, written, body, spare);
+    } else {
+        write_record(&geometry, written, body, spare);
+    }
     Ok(())
 }
 
-// The record of a page.
-fn read(rt: &impl Abort, body: &[u8], spare: &[u8]) -> Result<Option<Record>, Fail> {
+// The record of a page, and its version.
+fn read(rt: &impl Abort, body: &[u8], spare: &[u8]) -> Result<Option<(Record, u8)>, Fail> {
     let geometry = geometry_of(rt, spare)?;
     assert!(rt; body.len() == geometry.data_bytes() && spare.len() == geometry.spare_bytes());
-    Ok(read_record(&geometry, body, spare))
+    let found = read_record(&geometry, body, spare);
+    let version = record_version(&geometry, body, spare);
+    assert!(rt; found.is_some() == version.is_some());
+    Ok(found.zip(version))
 }
 
 // The sequence of a page, where it is of this key.
@@ -81,14 +98,37 @@ fn sequence(rt: &impl Abort, key: Key, body: &[u8], spare: &[u8]) -> Result<Opti
 
 #[test]
 fn sound_pages(rt: HostRuntime) -> Result<(), Fail> {
-    for page in &SOUND {
-        let body = [page.fill; 64];
-        let mut spare = vec![in rt.alloc(); 0u8; page.spare.len()]?;
-        write(&rt, &page.written, &body, &mut spare)?;
-        hold(&rt, &page.written, &spare.as_slice(), &page.spare);
-        let found = read(&rt, &body, &spare)?;
-        hold(&rt, &page.written, &found, &Some(page.written));
-        hold(&rt, &page.written, &page.written.key(), &page.key);
+    for (written, fill, expected, version) in SOUND {
+        let body = [fill; 64];
+        let mut spare = vec![in rt.alloc(); 0u8; expected.len()]?;
+        write(&rt, &written, version == 1, &body, &mut spare)?;
+        hold(&rt, &written, &spare.as_slice(), &expected);
+        hold(&rt, &written, &read(&rt, &body, expected)?, &Some((written, version)));
+        hold(&rt, &written, &written.key(), &Key::Sector(5));
+    }
+    Ok(())
+}
+
+// With less room pages are written in version 1.
+#[test]
+fn a_spare_area_without_room(rt: HostRuntime) -> Result<(), Fail> {
+    let mut spare = [0; 39];
+    write(&rt, &TRIM, false, &[0; 64], &mut spare)?;
+    hold(&rt, &TRIM, &spare.as_slice(), &&TRIM_5[..39]);
+    Ok(())
+}
+
+// Each byte of a page of version 2 is altered in turn.
+#[test]
+fn an_altered_page_of_version_2(rt: HostRuntime) -> Result<(), Fail> {
+    for at in 0..104 {
+        let mut body = [0; 64];
+        let mut spare = TRIM_5_OF_16;
+        match at {
+            0..64 => body[at] ^= 0x01,
+            _ => spare[at - 64] ^= 0x80,
+        }
+        hold(&rt, &at, &read(&rt, &body, &spare)?, &None);
     }
     Ok(())
 }
@@ -214,8 +254,10 @@ const TRIM_ENDED: [u8; 40] = [
     0xFF, 0xFF, 0xFF, 0xFF, 0xFF, 0xFF, 0xFF, 0xFE,
 ];
 
-// Pages without a record: the sector's with another data area, the trim's with another last byte, and an erased one.
-const WITHOUT_RECORD: [(&[u8], &[u8]); 3] = [
+// Pages without a record: the sector's with another data area or with half a seal, the trim's with another last byte, and an
+// erased one.
+const WITHOUT_RECORD: [(&[u8], &[u8]); 4] = [
+    (&[0x11; 64], &HALF_SEALED),
     (&ALMOST, &SECTOR_5),
     (&[0; 64], &TRIM_ENDED),
     (&[0xFF; 64], &[0xFF; 32]),
