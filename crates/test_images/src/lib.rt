@@ -1,9 +1,9 @@
-//! What several crates of tests build: raw images and certificates of a small die, of 32 blocks of 8 pages of 64 and 32 bytes
-//! with 32 sectors. It holds no test, and no crate but one of tests stands on it.
+//! What several crates of tests build: raw images and certificates of a small die, of 32 blocks of 8 pages with data areas of 64
+//! bytes, and of 32 sectors. It holds no test, and no crate but one of tests stands on it.
 #![tactic(auto)]
 
 use page_layout::geometry::Geometry;
-use page_layout::record::{Kind, Record, write_record};
+use page_layout::record::{Kind, Record, write_record, write_record_v1};
 use std::alloc::{AllocError, Global};
 
 /// A page that was written: its row; the kind, the number, the sequence and the erase count of its record; and the byte that
@@ -26,33 +26,89 @@ fn record_of(page: &Written) -> Record {
     }
 }
 
+/// How the pages of a die are laid out: the length of its spare areas, and whether the pages of odd rows are of version 1 even
+/// where there is room for version 2.
+#[derive(Clone, Copy, Debug)]
+pub struct Layout {
+    /// In bytes, at least 32.
+    pub spare_bytes: u32,
+    /// Odd rows are of version 1.
+    pub mixed: bool,
+}
+
+/// Version 1 alone, version 2 alone, both, and both in the longest spare areas. No check, mount or format tells them apart.
+pub const LAYOUTS: [Layout; 4] = [
+    Layout {
+        spare_bytes: 32,
+        mixed: false,
+    },
+    Layout {
+        spare_bytes: 40,
+        mixed: false,
+    },
+    Layout {
+        spare_bytes: 40,
+        mixed: true,
+    },
+    Layout {
+        spare_bytes: 256,
+        mixed: true,
+    },
+];
+
 // Writes the spare area of a page with this record, where both areas are as long as the geometry says.
-fn write_spare(geometry: &Geometry, record: &Record, body: &[u8], spare: &mut [u8]) {
-    if geometry.data_bytes() == body.len() && geometry.spare_bytes() == spare.len() {
+fn write_spare(geometry: &Geometry, record: &Record, old: bool, body: &[u8], spare: &mut [u8]) {
+    if geometry.data_bytes() != body.len() || geometry.spare_bytes() != spare.len() {
+        return;
+    }
+    if old {
+        write_record_v1(geometry, record, body, spare);
+    } else {
         write_record(geometry, record, body, spare);
     }
 }
 
 // The bytes of a page are put at the end.
-fn push_page(geometry: &Geometry, page: &Written, bytes: &mut Vec<u8>) -> Result<(), AllocError> {
+fn push_page(
+    alloc: Global,
+    geometry: &Geometry,
+    page: &Written,
+    old: bool,
+    bytes: &mut Vec<u8>,
+) -> Result<(), AllocError> {
     let body = [page.5; 64];
-    let mut spare = [0xFF; 32];
-    write_spare(geometry, &record_of(page), &body, &mut spare);
+    let mut spare = vec![in alloc; 0u8; geometry.spare_bytes()]?;
+    write_spare(geometry, &record_of(page), old, &body, &mut spare);
     bytes.extend_from_slice(&body)?;
     bytes.extend_from_slice(&spare)
 }
 
 // The page of a row is put at the end: the first of these, or an erased one.
 fn push_row(
+    alloc: Global,
     geometry: &Geometry,
+    mixed: bool,
     pages: &[Written],
     row: u32,
     bytes: &mut Vec<u8>,
 ) -> Result<(), AllocError> {
     match pages.iter().find(|page| page.0 == row) {
-        Some(page) => push_page(geometry, page, bytes),
-        None => bytes.extend_from_slice(&[0xFF; 96]),
+        Some(page) => push_page(alloc, geometry, page, mixed && row % 2 == 1, bytes),
+        None => bytes.resize(bytes.len() + 64 + geometry.spare_bytes(), 0xFF),
     }
+}
+
+fn push_rows(
+    alloc: Global,
+    geometry: &Geometry,
+    mixed: bool,
+    pages: &[Written],
+) -> Result<Vec<u8>, AllocError> {
+    let mut bytes = Vec::new(alloc);
+    for row in 0..256 {
+        push_row(alloc, geometry, mixed, pages, row, &mut bytes)?;
+    }
+    Ok(bytes)
 }
 
 /// The image of a die that is erased but for these pages.
@@ -61,11 +117,17 @@ pub fn image_of(
     geometry: &Geometry,
     pages: &[Written],
 ) -> Result<Vec<u8>, AllocError> {
-    let mut bytes = Vec::new(alloc);
-    for row in 0..256 {
-        push_row(geometry, pages, row, &mut bytes)?;
-    }
-    Ok(bytes)
+    push_rows(alloc, geometry, false, pages)
+}
+
+/// The same of a die of this layout, whose geometry it is.
+pub fn laid_out(
+    alloc: Global,
+    geometry: &Geometry,
+    layout: Layout,
+    pages: &[Written],
+) -> Result<Vec<u8>, AllocError> {
+    push_rows(alloc, geometry, layout.mixed, pages)
 }
 
 /// What a certificate says of a block: its number, class, write pointer, live pages and erase count.
@@ -77,6 +139,8 @@ pub const META: Said = (0, 2, 2, 2, 0);
 /// What a certificate says. Blocks that are not named are free and were never erased, and sectors that are not have no row.
 #[derive(Clone, Copy)]
 pub struct Claim {
+    /// The length of the spare areas.
+    pub spare_bytes: u32,
     /// The capacity of the cache, in entries.
     pub capacity: u32,
     /// The next sequence.
@@ -91,6 +155,7 @@ pub struct Claim {
 
 /// What the certificate of a formatted die without marks says, for a cache of 4 entries.
 pub const FORMATTED: Claim = Claim {
+    spare_bytes: 32,
     capacity: 4,
     next: 3,
     blocks: &[META],
@@ -141,7 +206,10 @@ fn push_sectors(bytes: &mut Vec<u8>, sectors: &[(u32, u32)]) -> Result<(), Alloc
 /// The bytes of a certificate.
 pub fn certificate_bytes(alloc: Global, claim: &Claim) -> Result<Vec<u8>, AllocError> {
     let mut bytes = Vec::from_slice(alloc, b"DFTLCRT1")?;
-    push_numbers(&mut bytes, &[64, 32, 8, 32, 32, claim.capacity])?;
+    push_numbers(
+        &mut bytes,
+        &[64, claim.spare_bytes, 8, 32, 32, claim.capacity],
+    )?;
     bytes.extend_from_slice(&claim.next.to_le_bytes())?;
     push_blocks(&mut bytes, claim.blocks)?;
     push_directory(&mut bytes, &claim.directory)?;

@@ -1,4 +1,4 @@
-//! The checker on images of the geometry 64,32,8,32,32, whose pages are built one by one.
+//! The checker on images of small dies, whose pages are built one by one, in either version and mixed.
 use certificate::{Certificate, read_certificate};
 use image_check::{Accepted, Refusal, check, check_stream};
 use page_layout::geometry::Geometry;
@@ -8,7 +8,7 @@ use std::alloc::Global;
 use std::process::Abort;
 use std::test::Fail;
 pub(super) use test_images::image_of;
-use test_images::{Claim, FORMATTED, META, Said, TABLE_0, TABLE_1, Written, certificate_bytes};
+use test_images::{Claim, FORMATTED, LAYOUTS, Layout, META, Said, TABLE_0, TABLE_1, Written, certificate_bytes, laid_out};
 
 // The pages of a die that is else erased, the capacity that a certificate of it is checked for, and the answer: the stale
 // sectors where it is accepted.
@@ -384,17 +384,17 @@ fn hold_answer(rt: &impl Abort, case: &Case, form: &str, answer: Result<Accepted
 fn hold_source(
     rt: &impl Abort,
     alloc: Global,
+    geometry: &Geometry,
     case: &Case,
     bytes: &[u8],
     certificate: &Certificate,
 ) -> Result<(), Fail> {
-    let geometry = Geometry::new(64, 32, 8, 32, 32)?;
-    let mut source = ImageSlice::new(&geometry, bytes)?;
+    let mut source = ImageSlice::new(geometry, bytes)?;
     hold_answer(
         rt,
         case,
         "page by page",
-        check(alloc, &mut source, &geometry, case.asked, certificate),
+        check(alloc, &mut source, geometry, case.asked, certificate),
     );
     Ok(())
 }
@@ -403,33 +403,39 @@ fn hold_source(
 fn hold_reader(
     rt: &impl Abort,
     alloc: Global,
+    geometry: &Geometry,
     case: &Case,
     bytes: &[u8],
     certificate: &Certificate,
-) -> Result<(), Fail> {
-    let geometry = Geometry::new(64, 32, 8, 32, 32)?;
+) {
     let mut reader = bytes;
     hold_answer(
         rt,
         case,
         "streamed",
-        check_stream(alloc, &mut reader, &geometry, case.asked, certificate),
+        check_stream(alloc, &mut reader, geometry, case.asked, certificate),
     );
-    Ok(())
 }
 
-fn hold_case(rt: &impl Abort, alloc: Global, case: &Case) -> Result<(), Fail> {
-    let geometry = Geometry::new(64, 32, 8, 32, 32)?;
-    let certificate = certificate_of(alloc, &case.claim)?;
-    let bytes = image_of(alloc, &geometry, case.pages)?;
-    hold_source(rt, alloc, case, &bytes, &certificate)?;
-    hold_reader(rt, alloc, case, &bytes, &certificate)
+fn hold_case(rt: &impl Abort, alloc: Global, case: &Case, layout: Layout) -> Result<(), Fail> {
+    let geometry = Geometry::new(64, layout.spare_bytes, 8, 32, 32)?;
+    let claim = Claim {
+        spare_bytes: layout.spare_bytes,
+        ..case.claim
+    };
+    let certificate = certificate_of(alloc, &claim)?;
+    let bytes = laid_out(alloc, &geometry, layout, case.pages)?;
+    hold_source(rt, alloc, &geometry, case, &bytes, &certificate)?;
+    hold_reader(rt, alloc, &geometry, case, &bytes, &certificate);
+    Ok(())
 }
 
 #[test]
 fn cases_are_answered(rt: HostRuntime) -> Result<(), Fail> {
     for case in &CASES {
-        hold_case(&rt, rt.alloc(), case)?;
+        for layout in LAYOUTS {
+            hold_case(&rt, rt.alloc(), case, layout)?;
+        }
     }
     Ok(())
 }

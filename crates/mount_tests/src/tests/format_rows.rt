@@ -5,7 +5,7 @@ use mount::{FormatFault, format};
 use nand_die::{Die, Fault, Mark};
 use onfi_cycles::{Bus, Driver, Nand};
 use page_layout::geometry::Geometry;
-use page_layout::record::{Kind, Record, read_record};
+use page_layout::record::{Kind, Record, read_record, record_version};
 use page_layout::source::PageSource;
 use std::alloc::{AllocError, Global};
 use std::process::Abort;
@@ -24,13 +24,13 @@ struct Call {
 }
 
 // A new die with these blocks marked, and all from one on in their first pages, whose first so many programs fail; or, where
-// bytes are told, a die with those in an image that is else erased.
+// bytes are told by row and place, a die with those in an image that is else erased.
 struct Case {
     name: &'static str,
     marks: &'static [Mark],
     marked_from: u32,
     failing: u64,
-    image: &'static [(usize, u8)],
+    image: &'static [(usize, usize, u8)],
     calls: &'static [Call],
 }
 
@@ -138,7 +138,7 @@ const CASES: [Case; 7] = [
         marks: &[],
         marked_from: 32,
         failing: 0,
-        image: &[(40 * 96 + 7, 0), (48 * 96 + 7, 0)],
+        image: &[(40, 7, 0), (48, 7, 0)],
         calls: &[Call {
             answer: Err(FormatFault::NotFresh { row: 40 }),
             pages: &[],
@@ -174,11 +174,17 @@ fn faults_of(alloc: Global, failing: u64) -> Result<Vec<Fault>, Fail> {
     Ok(faults)
 }
 
-fn image_of(rt: &impl Abort, alloc: Global, written: &[(usize, u8)]) -> Result<Vec<u8>, Fail> {
-    let mut bytes = vec![in alloc; 0xFFu8; 24576]?;
-    for (place, byte) in written {
-        assert!(rt; *place < bytes.len());
-        bytes[*place] = *byte;
+fn image_of(
+    rt: &impl Abort,
+    alloc: Global,
+    geometry: &Geometry,
+    written: &[(usize, usize, u8)],
+) -> Result<Vec<u8>, Fail> {
+    let page_bytes = 64 + geometry.spare_bytes();
+    let mut bytes = vec![in alloc; 0xFFu8; 256 * page_bytes]?;
+    for (row, place, byte) in written {
+        assert!(rt; *row < 256 && *place < page_bytes);
+        bytes[*row * page_bytes + *place] = *byte;
     }
     Ok(bytes)
 }
@@ -209,8 +215,18 @@ fn die_of(
 ) -> Result<Driver<Die>, Fail>
     ensures { IfOk result (λ driver. driver.geometry ≡ geometry) }
 {
-    let image = image_of(rt, alloc, case.image)?;
+    let image = image_of(rt, alloc, &geometry, case.image)?;
     driver_of(Die::from_image(alloc, geometry, &image, &[])?, geometry)
+}
+
+// Whether the pages of a die are of the version that its spare areas have room for.
+fn is_version(geometry: &Geometry, version: Option<u8>) -> bool {
+    match version {
+        Some(2) => geometry.spare_bytes() >= 40,
+        Some(1) => geometry.spare_bytes() < 40,
+        Some(_) => false,
+        None => true,
+    }
 }
 
 // Reads a page into areas of its size, and gives its record.
@@ -229,12 +245,14 @@ fn read_page<S: PageSource>(
     assert!(rt; geometry.spare_bytes() == spare.len());
     assert!(rt; geometry.has_row(row));
     source.read_page(row, body, spare)?;
+    assert!(rt; is_version(geometry, record_version(geometry, body, spare)));
     Ok(read_record(geometry, body, spare))
 }
 
-// The record and the data area of a page of 64 and 32 bytes.
+// The record and the data area of a page.
 fn page_of<S: PageSource>(
     rt: &impl Abort,
+    alloc: Global,
     source: &mut S,
     geometry: &Geometry,
     row: u32,
@@ -243,7 +261,7 @@ fn page_of<S: PageSource>(
     ensures { (S.flash source.new).geometry ≡ geometry.now }
 {
     let mut body = [0; 64];
-    let mut spare = [0; 32];
+    let mut spare = vec![in alloc; 0u8; geometry.spare_bytes()]?;
     let found = read_page(rt, source, geometry, row, &mut body, &mut spare)?;
     Ok((found, body))
 }
@@ -271,6 +289,7 @@ fn filled(rt: &impl Abort, fill: u8, differing: &[(usize, u8)]) -> [u8; 64] {
 
 fn hold_page<S: PageSource>(
     rt: &impl Abort,
+    alloc: Global,
     source: &mut S,
     geometry: &Geometry,
     name: &str,
@@ -280,7 +299,7 @@ fn hold_page<S: PageSource>(
     ensures { (S.flash source.new).geometry ≡ geometry.now }
 {
     let (row, said, fill, differing) = page;
-    let (found, body) = page_of(rt, source, geometry, row)?;
+    let (found, body) = page_of(rt, alloc, source, geometry, row)?;
     assert!(rt; found == table_record(said), "{name}: record of row {row}");
     assert!(rt; body == filled(rt, fill, differing), "{name}: row {row}");
     Ok(())
@@ -288,6 +307,7 @@ fn hold_page<S: PageSource>(
 
 fn hold_pages<S: PageSource>(
     rt: &impl Abort,
+    alloc: Global,
     source: &mut S,
     geometry: &Geometry,
     name: &str,
@@ -297,13 +317,14 @@ fn hold_pages<S: PageSource>(
     ensures { (S.flash source.new).geometry ≡ geometry.now }
 {
     for page in pages {
-        hold_page(rt, source, geometry, name, *page)?;
+        hold_page(rt, alloc, source, geometry, name, *page)?;
     }
     Ok(())
 }
 
 fn hold_untouched<S: PageSource>(
     rt: &impl Abort,
+    alloc: Global,
     source: &mut S,
     geometry: &Geometry,
     name: &str,
@@ -313,7 +334,7 @@ fn hold_untouched<S: PageSource>(
     ensures { (S.flash source.new).geometry ≡ geometry.now }
 {
     for row in from..geometry.rows() {
-        hold_page(rt, source, geometry, name, (row, None, 0xFF, &[]))?;
+        hold_page(rt, alloc, source, geometry, name, (row, None, 0xFF, &[]))?;
     }
     Ok(())
 }
@@ -330,8 +351,8 @@ fn hold_call<N: Nand>(
     ensures { (N.flash nand.new).geometry ≡ geometry.now }
 {
     assert!(rt; format(alloc, nand, geometry) == call.answer, "{name}");
-    hold_pages(rt, nand, geometry, name, call.pages)?;
-    hold_untouched(rt, nand, geometry, name, call.untouched)
+    hold_pages(rt, alloc, nand, geometry, name, call.pages)?;
+    hold_untouched(rt, alloc, nand, geometry, name, call.untouched)
 }
 
 fn hold_calls<N: Nand>(
@@ -349,8 +370,8 @@ fn hold_calls<N: Nand>(
     Ok(())
 }
 
-fn hold_case(rt: &impl Abort, alloc: Global, case: &Case) -> Result<(), Fail> {
-    let geometry = Geometry::new(64, 32, 8, 32, 32)?;
+fn hold_case(rt: &impl Abort, alloc: Global, case: &Case, spare_bytes: u32) -> Result<(), Fail> {
+    let geometry = Geometry::new(64, spare_bytes, 8, 32, 32)?;
     let mut driver = if case.image.len() > 0 {
         die_of(rt, alloc, geometry, case)?
     } else {
@@ -364,7 +385,9 @@ fn hold_case(rt: &impl Abort, alloc: Global, case: &Case) -> Result<(), Fail> {
 #[test]
 fn dies_are_formatted(rt: HostRuntime) -> Result<(), Fail> {
     for case in &CASES {
-        hold_case(&rt, rt.alloc(), case)?;
+        for spare_bytes in [32, 39, 40, 256] {
+            hold_case(&rt, rt.alloc(), case, spare_bytes)?;
+        }
     }
     Ok(())
 }

@@ -1,4 +1,4 @@
-//! Images of the geometry 64,32,8,32,32, whose pages are built one by one, and sources that fail.
+//! Images of small dies, whose pages are built one by one, in either version and mixed, and sources that fail.
 use super::said::{Said, hold_said, mounted, mounted_counted, stale_count};
 use image_check::Refusal;
 use mount::Mounted;
@@ -8,7 +8,7 @@ use page_layout::source::{ImageSlice, PageSource, SourceFault};
 use std::alloc::Global;
 use std::process::Abort;
 use std::test::Fail;
-use test_images::{TABLE_0, TABLE_1, Written, image_of};
+use test_images::{LAYOUTS, Layout, TABLE_0, TABLE_1, Written, image_of, laid_out};
 
 // What the certificate says that mounting answers, and how many sectors a check of it finds stale.
 type Accepted = (&'static [Said], usize);
@@ -163,9 +163,9 @@ const CASES: [Case; 15] = [
     },
 ];
 
-fn hold_case(rt: &impl Abort, alloc: Global, case: &Case) -> Result<(), Fail> {
-    let geometry = Geometry::new(64, 32, 8, 32, 32)?;
-    let bytes = image_of(alloc, &geometry, case.pages)?;
+fn hold_case(rt: &impl Abort, alloc: Global, case: &Case, layout: Layout) -> Result<(), Fail> {
+    let geometry = Geometry::new(64, layout.spare_bytes, 8, 32, 32)?;
+    let bytes = laid_out(alloc, &geometry, layout, case.pages)?;
     let mut source = ImageSlice::new(&geometry, &bytes)?;
     match mounted_counted(alloc, &mut source, &geometry, case.capacity) {
         Ok(Mounted { certificate, stale }) => {
@@ -183,7 +183,9 @@ fn hold_case(rt: &impl Abort, alloc: Global, case: &Case) -> Result<(), Fail> {
 #[test]
 fn images_are_mounted(rt: HostRuntime) -> Result<(), Fail> {
     for case in &CASES {
-        hold_case(&rt, rt.alloc(), case)?;
+        for layout in LAYOUTS {
+            hold_case(&rt, rt.alloc(), case, layout)?;
+        }
     }
     Ok(())
 }
