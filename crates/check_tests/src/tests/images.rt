@@ -8,7 +8,10 @@ use std::alloc::Global;
 use std::process::Abort;
 use std::test::Fail;
 pub(super) use test_images::image_of;
-use test_images::{Claim, FORMATTED, LAYOUTS, Layout, META, Said, TABLE_0, TABLE_1, Written, certificate_bytes, laid_out};
+use test_images::{
+    Claim, FORMATTED, LAYOUTS, Layout, META, Said, TABLE_0, TABLE_1, Written, certificate_bytes,
+    laid_out,
+};
 
 // The pages of a die that is else erased, the capacity that a certificate of it is checked for, and the answer: the stale
 // sectors where it is accepted.

@@ -1,7 +1,10 @@
 //! Spare records and their seals.
 use super::hold;
 use page_layout::geometry::Geometry;
-use page_layout::record::{Key, Kind, Record, is_erased, read_record, record_version, sequence_in, write_record, write_record_v1};
+use page_layout::record::{
+    Key, Kind, Record, is_erased, read_record, record_version, sequence_in, write_record,
+    write_record_v1,
+};
 use std::process::Abort;
 use std::test::Fail;
 
@@ -68,7 +71,13 @@ fn geometry_of(rt: &impl Abort, spare: &[u8]) -> Result<Geometry, Fail> {
 }
 
 // Writes the record over `spare`, as pages are written now, or as those of version 1.
-fn write(rt: &impl Abort, written: &Record, old: bool, body: &[u8], spare: &mut [u8]) -> Result<(), Fail> {
+fn write(
+    rt: &impl Abort,
+    written: &Record,
+    old: bool,
+    body: &[u8],
+    spare: &mut [u8],
+) -> Result<(), Fail> {
     let geometry = geometry_of(rt, spare)?;
     assert!(rt; body.len() == geometry.data_bytes() && spare.len() == geometry.spare_bytes());
     if old {
@@ -103,7 +112,12 @@ fn sound_pages(rt: HostRuntime) -> Result<(), Fail> {
         let mut spare = vec![in rt.alloc(); 0u8; expected.len()]?;
         write(&rt, &written, version == 1, &body, &mut spare)?;
         hold(&rt, &written, &spare.as_slice(), &expected);
-        hold(&rt, &written, &read(&rt, &body, expected)?, &Some((written, version)));
+        hold(
+            &rt,
+            &written,
+            &read(&rt, &body, expected)?,
+            &Some((written, version)),
+        );
         hold(&rt, &written, &written.key(), &Key::Sector(5));
     }
     Ok(())
