@@ -29,7 +29,8 @@ use Rattle.collection.specs.Live.{IsLivePage}
 use Rattle.collection.specs.Results.{MayPut, IsReplaced, IsLastPage, Goes, last_record}
 use Rattle.collection.specs.Cost.{HasPut, PutCosts}
 use Rattle.collection.specs.Settle.{HasPlace, SetsMapping}
-use Rattle.collection.specs.Collect.{IsMovedOut, KeepsKeys, HasCopied, FaultCosts, Refreshes, IsUpToDate, marks_after}
+use Rattle.page_layout.proofs.VersionLemmas.{written_not_old}
+use Rattle.collection.specs.Collect.{IsMovedOut, IsRenewed, KeepsKeys, HasCopied, FaultCosts, Refreshes, IsUpToDate, marks_after}
 use Rattle.collection.specs.declared.fault.WriteFault.TheVariants.{ReadOnly, SequenceSpent, Damaged, Bus}
 use Rattle.budget.specs.declared.stream.Stream.{Stream}
 use Rattle.page_layout.proofs.GeometryLemmas.{sector_entry}
@@ -90,6 +91,17 @@ exact_at r image b s w lt = (let P : Geometry → Type 0 = λ g. (k : ℕ) → k
 apart_shut : (r : Ram) (row row' : ℕ) → IsOutside r row' → is_shut r.blocks (row / r.geometry.pages) ≡ true → row' / r.geometry.pages ≢ row / r.geometry.pages
 apart_shut r row row' out shut e = (let a : is_shut r.blocks (row' / r.geometry.pages) ≡ true = ap (is_shut r.blocks) e ∙ shut in let no : true ≡ false = sym a ∙ out.outside in let never : ⊥ = cc in never)
 
+-- what a copy is, wherever its page stood
+pub renewed_by : (r r' : Ram) (old new : Image) (row row' : ℕ) (rec : Record) (body : List ℕ) → IsLivePage row body rec old → IsOutside r row' → IsReplaced rec.kind rec.number row' body r old r' new → IsRenewed (key_of rec) r old r' new
+renewed_by r r' old new row row' rec body l out p = record {
+  same = record {
+    truth = p.truth;
+    array = copy_array r.geometry old new row row' rec (last_record rec.kind rec.number row' r') body l refl refl p.writes;
+    leaves = leaves_written r (last_record rec.kind rec.number row' r') row' body old new p.writes out;
+  };
+  renewed = λ two. written_not_old r.geometry (last_record rec.kind rec.number row' r') row' body old new two p.writes;
+}
+
 pub moved_out : (r r' : Ram) (old new : Image) (row row' : ℕ) (rec : Record) (body : List ℕ) → IsRam r → IsRam r' → r'.geometry ≡ r.geometry → IsTrue None r old → IsLivePage row body rec old → IsKeyOf r.geometry (key_of rec) → row < row_count r.geometry → is_shut r.blocks (row / r.geometry.pages) ≡ true → IsOutside r row' → IsReplaced rec.kind rec.number row' body r old r' new → IsMovedOut row r old r' new
 moved_out r r' old new row row' rec body s s' same w l of_key lt shut out p =
     let ne : row' / r.geometry.pages ≢ row / r.geometry.pages = apart_shut r row row' out shut in
@@ -98,11 +110,7 @@ moved_out r r' old new row row' rec body s s' same w l of_key lt shut out p =
     let after : live_at r'.blocks (row / r.geometry.pages) ≡ live r.geometry (marks new) (row / r.geometry.pages) = (let P : Geometry → Type 0 = λ g. (row / r.geometry.pages < g.blocks → live_at r'.blocks (row / r.geometry.pages) ≡ live g (marks new) (row / r.geometry.pages)) in subst P same (exact_at r' new (row / r.geometry.pages) s' p.truth) within) in
     let less = live_less r.geometry old new row row' (last_record rec.kind rec.number row' r') body p.writes l.newest ne in
     record {
-      same = record {
-        truth = p.truth;
-        array = copy_array r.geometry old new row row' rec (last_record rec.kind rec.number row' r') body l refl refl p.writes;
-        leaves = leaves_written r (last_record rec.kind rec.number row' r') row' body old new p.writes out;
-      };
+      same = (renewed_by r r' old new row row' rec body l out p).same;
       gone = gone_copied r.geometry old new row row' rec (last_record rec.kind rec.number row' r') body l.mark refl p.writes (λ e. ne (ap (λ k. k / r.geometry.pages) e));
       others = λ k ne. p.writes.newest_others k (λ e. ne (ap (newest_row old) (sym e) ∙ l.newest));
       fewer = omega (arith, before, after, less);
@@ -174,6 +182,9 @@ module _ (flushing : Bool) (key : Key) (row : ℕ) (r b r' : Ram) (is : r' ≡ r
 
   pub moved_marked : (from : ℕ) (x y : Image) → IsMovedOut from r x b y → IsMovedOut from r x r' y
   moved_marked from x y m = record { same = record { truth = true_marked y m.same.truth; array = m.same.array; leaves = m.same.leaves }; gone = m.gone; others = m.others; fewer = (let f = m.fewer in rw is f) }
+
+  pub renewed_marked : (k : Key) (x y : Image) → IsRenewed k r x b y → IsRenewed k r x r' y
+  renewed_marked k x y m = record { same = record { truth = true_marked y m.same.truth; array = m.same.array; leaves = m.same.leaves }; renewed = m.renewed }
 
   pub pin_marked : flushing ≡ false → r'.pin ≡ b.pin
   pin_marked off = (let f : Bool → Pin = λ x. record { block = b.pin.block; marks = marks_after x b.geometry key b.pin.marks } in ap (λ (z : Ram). z.pin) is ∙ ap f off)

@@ -136,7 +136,7 @@ module _ (a b : Ram) (to : Option Pinned) where
   }
 
   same_from : (x y : Image) → IsSame (pinned_to to a) x b y → IsSame a x b y
-  same_from x y k = record { truth = k.truth; array = k.array; leaves = record { each = k.leaves.each } }
+  same_from x y k = record { truth = k.truth; array = k.array; leaves = record { each = k.leaves.each; versions = k.leaves.versions } }
 
   refused_from : (x y : Image) (fault : WriteFault) → Refused (pinned_to to a) x b y fault → Refused a x b y fault
   refused_from x y ReadOnly k = same_from x y k

@@ -17,6 +17,9 @@ use Rattle.mapping_cache.specs.Mapping.{MappingState}
 use Rattle.collection.specs.declared.fault.WriteFault.{WriteFault}
 use Rattle.collection.specs.declared.fault.WriteFault.TheVariants.{ReadOnly, SequenceSpent, Damaged, Bus}
 use Rattle.collection.specs.State.{Ram}
+use Rattle.page_layout.specs.Sound.{version_for}
+use Rattle.page_layout.specs.Version.{HasOldAt}
+use Rattle.page_layout.proofs.VersionLemmas.{kept_adds_none, written_adds_none}
 use Rattle.collection.specs.Pages.{newest_row}
 use Rattle.collection.specs.Maps.{IsPageFor}
 use Rattle.collection.specs.Truth.{IsTrue}
@@ -30,10 +33,10 @@ kept_same r image w = record { truth = w; keeps = Keeps-refl r.geometry image w.
 
 -- what was kept has the same array
 pub same_kept : (a b : Ram) (x y : Image) → IsKept a x b y → IsSame a x b y
-same_kept a b x y k = record { truth = k.truth; array = array_kept a.geometry x y k.keeps; leaves = record { each = λ key. inl (k.keeps.newest_same key) } }
+same_kept a b x y k = record { truth = k.truth; array = array_kept a.geometry x y k.keeps; leaves = record { each = λ key. inl (k.keeps.newest_same key); versions = kept_adds_none a.geometry x y k.keeps } }
 
 pub leaves_same : (r : Ram) (old new : Image) → new ≡ old → Leaves r old new
-leaves_same r old new same = record { each = λ key. inl (ap (λ i. newest_row i key) same) }
+leaves_same r old new same = record { each = λ key. inl (ap (λ i. newest_row i key) same); versions = λ two key row at. subst (λ i. HasOldAt i key row) same at }
 
 pub leaves_written : (r : Ram) (rec : Record) (row : ℕ) (body : List ℕ) (old new : Image) → Writes r.geometry rec row body old new → IsOutside r row → Leaves r old new
 leaves_written r rec row body old new w out = record {
@@ -41,6 +44,7 @@ leaves_written r rec row body old new w out = record {
     | inl same ↦ inr (λ q is. (let e : newest_row new k ≡ Some row = ap (newest_row new) (sym same) ∙ w.newest_now in let h : q ≡ row = cc in rw h out.outside))
     | inr other ↦ inl (w.newest_others k other)
   ];
+  versions = written_adds_none r.geometry rec row body old new w;
 }
 
 -- ---- one call after another
@@ -67,6 +71,7 @@ module _ (a b c : Ram) (x y z : Image) (goes : Goes a b) (after : c.geometry ≡
       ]
       | inr out ↦ inr (λ q is. within q (newest_block key q is) (out q is))
     ];
+    versions = λ two key row at. k.versions two key row (l.versions (ap version_for goes.geometry ∙ two) key row at);
   }
     where
       newest_block : (key : Key) (q : ℕ) → newest_row z key ≡ Some q → q / a.geometry.pages < a.geometry.blocks

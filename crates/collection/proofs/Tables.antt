@@ -14,6 +14,7 @@ use Rattle.bad_blocks.specs.TablePage.{IsWellFormed, table_bytes}
 use Rattle.bad_blocks.proofs.PageLemmas.{table_bytes_page, right_word}
 use Rattle.allocation.specs.State.{State}
 use Rattle.collection.specs.State.{Ram}
+use Rattle.page_layout.proofs.VersionLemmas.{written_not_old}
 use Rattle.collection.specs.Pages.{newest_row}
 use Rattle.collection.specs.Truth.{IsTrue, AreWorn}
 use Rattle.collection.specs.Safe.{IsRam, IsOutside}
@@ -60,4 +61,5 @@ tabled r r' x y u row body spelled p out = record {
     newest_is = p.writes.newest_others (Table v) (apart u v other) ∙ h.newest_is;
     spelled = p.writes.bodies (Table v) h.row (apart u v other) h.newest_is ∙ h.spelled;
   };
+  renewed = λ two. written_not_old r.geometry _ row body x y two p.writes;
 }

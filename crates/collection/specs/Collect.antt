@@ -10,6 +10,8 @@ use Rattle.page_layout.specs.declared.record.Record.{Record}
 use Rattle.page_layout.specs.declared.record.Key.TheVariants.{Sector, Translation, Table}
 use Rattle.page_layout.specs.Geometry.{translation_pages, entries, need, vmax}
 use Rattle.page_layout.specs.Change.{HoldsNone}
+use Rattle.page_layout.specs.Sound.{version_for}
+use Rattle.page_layout.specs.Version.{is_old}
 use Rattle.page_layout.specs.Array.{array_of}
 use Rattle.bad_blocks.specs.Table.{is_good_at, wear_at, most_wear}
 use Rattle.budget.specs.declared.stream.Stream.{Stream}
@@ -170,6 +172,11 @@ pub record IsMovedOut (row : ℕ) (old : Ram) (before : Image) (new : Ram) (afte
   pub gone : NotAt row after
   pub others : (key : Key) → newest_row before key ≢ Some row → newest_row after key ≡ newest_row before key
   pub fewer : live_at new.blocks (row / old.geometry.pages) + 1 ≡ live_at old.blocks (row / old.geometry.pages)
+
+-- A page of the key was copied: the array is as it was. Where the die has version 2 the newest page of the key is of it.
+pub record IsRenewed (key : Key) (old : Ram) (before : Image) (new : Ram) (after : Image) : Type 0 where
+  pub same : IsSame old before new after
+  pub renewed : version_for old.geometry ≡ 2 → is_old after key ≡ false
 
 -- a page was copied: the array is as it was, the block has one newest page less, and none up to that page
 pub record IsCopied (block page : ℕ) (old : Ram) (before : Image) (new : Ram) (after : Image) : Type 0 where

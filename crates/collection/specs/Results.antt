@@ -5,13 +5,14 @@ use Rattle.page_layout.specs.declared.record.Record.{Record}
 use Rattle.page_layout.specs.declared.record.Kind.{Kind}
 use Rattle.page_layout.specs.declared.record.Kind.TheVariants as kind
 use Rattle.page_layout.specs.declared.record.Key.{Key}
-use Rattle.page_layout.specs.declared.record.Key.TheVariants.{Translation}
+use Rattle.page_layout.specs.declared.record.Key.TheVariants.{Translation, Table}
 use Rattle.page_layout.specs.Page.{Page, Image, body_at}
-use Rattle.page_layout.specs.Sound.{record_of}
+use Rattle.page_layout.specs.Sound.{record_of, version_for}
 use Rattle.page_layout.specs.Key.{key_of, key_from}
 use Rattle.page_layout.specs.OneArray.{AreBelow}
 use Rattle.page_layout.specs.Live.{IsKeyOf}
 use Rattle.page_layout.specs.Array.{marks, zeros, content_of_kind, array_of, HasOneArray}
+use Rattle.page_layout.specs.Version.{is_old, AddsNoOld}
 use Rattle.page_layout.specs.Flash.{Flash, Program, Steps}
 use Rattle.page_layout.specs.Recording.{Recording, Records}
 use Rattle.page_layout.specs.Change.{IsUnsoundAt, Keeps, Writes}
@@ -83,9 +84,11 @@ pub record IsReplaced (kind : Kind) (n row : ℕ) (body : List ℕ) (old : Ram) 
   pub truth : IsTrue None new after
   pub writes : Writes old.geometry (last_record kind n row new) row body before after
 
--- each newest page is where it was, or in a block that was neither bad nor closed
+-- Each newest page is where it was, or in a block that was neither bad nor closed. Where the die has version 2, no newest page of version 1 is
+-- added.
 pub record Leaves (r : Ram) (old new : Image) : Type 0 where
   pub each : (key : Key) → (newest_row new key ≡ newest_row old key) ⊎ ((row : ℕ) → newest_row new key ≡ Some row → is_shut r.blocks (row / r.geometry.pages) ≡ false)
+  pub versions : AddsNoOld r.geometry old new
 
 -- the array is as it was
 pub record IsSame (old : Ram) (before : Image) (new : Ram) (after : Image) : Type 0 where
@@ -127,11 +130,13 @@ pub record IsWrittenBack (t : ℕ) (old : Ram) (before : Image) (new : Ram) (aft
   pub newest_is : newest_row after (Translation t) ≡ Some row
   pub filled : IsFilled t (body_at after row) old.geometry after
 
--- the array is as it was, the newest table page u spells the table that was, and each other one spells what it spelled
+-- the array is as it was, the newest table page u spells the table that was, in version 2 where the die has it, and each other one spells what
+-- it spelled
 pub record IsTabled (u : ℕ) (old : Ram) (before : Image) (new : Ram) (after : Image) : Type 0 where
   pub same : IsSame old before new after
   pub now : SpellsTable old.geometry old.blocks.table after u
   pub others : (v : ℕ) (rows : List TableRow) → v ≢ u → SpellsTable old.geometry rows before v → SpellsTable old.geometry rows after v
+  pub renewed : version_for old.geometry ≡ 2 → is_old after (Table u) ≡ false
 
 -- ---- what every call leaves alone, whatever the die does
 

@@ -27,15 +27,6 @@ version_same a b row same = ap version_in same
 
 -- ---- the newest page of a key
 
--- a key whose newest page stands where it stood, in its version
-old_same : (old new : Image) (key : Key) → newest (marks new) key ≡ newest (marks old) key → ((row : ℕ) → newest (marks old) key ≡ Some row → version_at new row ≡ version_at old row) → is_old new key ≡ is_old old key
-unfolding is_old
-old_same old new key same kept = ap (is_old_at new) same ∙ at_row (newest (marks old) key) refl
-  where
-    at_row : (o : Option ℕ) → newest (marks old) key ≡ o → is_old_at new o ≡ is_old_at old o
-    at_row None is = refl
-    at_row (Some row) is = ap is_1 (kept row is)
-
 old_by : (image : Image) (key : Key) (row : ℕ) → newest (marks image) key ≡ Some row → is_old image key ≡ is_1 (version_at image row)
 unfolding is_old
 old_by image key row is = ap (is_old_at image) is
@@ -58,17 +49,28 @@ old_from image key at = old_by image key at.0 at.1.newest_is ∙ ap is_1 at.1.ve
 -- ---- old pages only fall
 
 pub kept_adds_none : (g : Geometry) (old new : Image) → Keeps g old new → AddsNoOld g old new
-kept_adds_none g old new keeps two key is = sym (old_same old new key (keeps.newest_same key) (keeps.versions key)) ∙ is
+kept_adds_none g old new keeps two key row at =
+    let was : newest (marks old) key ≡ Some row = sym (keeps.newest_same key) ∙ at.newest_is in
+    record { newest_is = was; version = sym (keeps.versions key row was) ∙ at.version }
 
 -- the key of a page that was written is not old
 pub written_not_old : (g : Geometry) (r : Record) (row : ℕ) (body : List ℕ) (old new : Image) → version_for g ≡ 2 → Writes g r row body old new → is_old new (key_of r) ≡ false
 written_not_old g r row body old new two writes = old_by new (key_of r) row writes.newest_now ∙ ap is_1 (writes.version_here ∙ ap Some two)
 
 pub written_adds_none : (g : Geometry) (r : Record) (row : ℕ) (body : List ℕ) (old new : Image) → Writes g r row body old new → AddsNoOld g old new
-written_adds_none g r row body old new writes two key is = elim (cases_key (key_of r) key) [
-  | inl same ↦ absurd (let not_old : is_old new key ≡ false = ap (is_old new) (sym same) ∙ written_not_old g r row body old new two writes in cc)
-  | inr other ↦ sym (old_same old new key (writes.newest_others key other) (λ q at. writes.versions key q other at)) ∙ is
+written_adds_none g r row body old new writes two key q at = elim (cases_key (key_of r) key) [
+  | inl same ↦ absurd (
+      let fresh : is_old new key ≡ false = ap (is_old new) (sym same) ∙ written_not_old g r row body old new two writes in
+      let old : is_old new key ≡ true = old_from new key (q, at) in
+      cc)
+  | inr other ↦
+      let was : newest (marks old) key ≡ Some q = sym (writes.newest_others key other) ∙ at.newest_is in
+      record { newest_is = was; version = sym (writes.versions key q other was) ∙ at.version }
 ]
+
+-- each old key was old before
+pub old_before : (g : Geometry) (old new : Image) → version_for g ≡ 2 → AddsNoOld g old new → (key : Key) → is_old new key ≡ true → is_old old key ≡ true
+old_before g old new two adds key is = (let at = old_at new key is in old_from old key (at.0, adds two key at.0 at.1))
 
 -- ---- how many there are
 
@@ -104,9 +106,9 @@ no_more p q (x ∷ xs) adds =
 
 pub no_more_old : (g : Geometry) (old new : Image) → version_for g ≡ 2 → AddsNoOld g old new → old_pages g new ≤ old_pages g old
 unfolding old_pages
-no_more_old g old new two adds = no_more (is_old old) (is_old new) (keys g) (adds two)
+no_more_old g old new two adds = no_more (is_old old) (is_old new) (keys g) (old_before g old new two adds)
 
 pub fewer_old : (g : Geometry) (old new : Image) (key : Key) → version_for g ≡ 2 → AddsNoOld g old new → IsKeyOf g key → is_old old key ≡ true → is_old new key ≡ false → old_pages g new < old_pages g old
 unfolding old_pages
 fewer_old g old new key two adds within was is =
-    omega (arith, one_more (is_old old) (is_old new) key (keys g) (adds two) was is, key_once g key within)
+    omega (arith, one_more (is_old old) (is_old new) key (keys g) (old_before g old new two adds) was is, key_once g key within)

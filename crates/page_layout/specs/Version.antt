@@ -39,6 +39,6 @@ pub record HasOldAt (image : Image) (key : Key) (row : ℕ) : Type 0 where
   pub newest_is : newest (marks image) key ≡ Some row
   pub version : version_at image row ≡ Some 1
 
--- Where the die's pages are written in version 2: each key whose newest page is of version 1 had such a one before.
+-- Where the die's pages are written in version 2: each newest page of version 1 was so before, in its row.
 abbrev pub AddsNoOld : Geometry → Image → Image → Type 0
-AddsNoOld g old new = version_for g ≡ 2 → (key : Key) → is_old new key ≡ true → is_old old key ≡ true
+AddsNoOld g old new = version_for g ≡ 2 → (key : Key) (row : ℕ) → HasOldAt new key row → HasOldAt old key row

@@ -5,6 +5,7 @@ use Rattle.page_layout.specs.declared.record.Key.{Key}
 use Rattle.page_layout.specs.declared.geometry.Geometry.{Geometry}
 use Rattle.page_layout.specs.Page.{Page, Image}
 use Rattle.page_layout.specs.Sound.{IsSound, IsSoundV1, IsSoundV2, record_of, version_of, version_for}
+use Rattle.page_layout.specs.Key.{key_of}
 use Rattle.page_layout.specs.Live.{IsKeyOf}
 use Rattle.page_layout.specs.Change.{Keeps, Writes}
 use Rattle.page_layout.specs.Version.{version_at, is_old, old_pages, HasOldAt, AddsNoOld}
@@ -44,6 +45,10 @@ KeptVersionsLaw = (g : Geometry) (old new : Image) → Keeps g old new → AddsN
 
 abbrev pub WrittenVersionsLaw : Type 0
 WrittenVersionsLaw = (g : Geometry) (r : Record) (row : ℕ) (body : List ℕ) (old new : Image) → Writes g r row body old new → AddsNoOld g old new
+
+-- and the page that was written is the newest of its key, and no old one
+abbrev pub WrittenNewLaw : Type 0
+WrittenNewLaw = (g : Geometry) (r : Record) (row : ℕ) (body : List ℕ) (old new : Image) → version_for g ≡ 2 → Writes g r row body old new → is_old new (key_of r) ≡ false
 
 -- where none is added there are no more than before
 abbrev pub NoMoreOldLaw : Type 0

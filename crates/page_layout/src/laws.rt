@@ -4,7 +4,7 @@
 ghost use Rattle.page_layout.specs.Count.{SmallBlockLaw};
 ghost use Rattle.page_layout.specs.Laws.{WorthLaw, SectorEntryLaw, BlockEntryLaw, TableFitsLaw, SoundLaw, ErasedLaw, ErasedUnsoundLaw, NewestLaw};
 ghost use Rattle.page_layout.specs.VersionLaws.{OneVersionLaw, ShortSpareLaw, VersionLaw, NoVersionLaw, RowVersionLaw, OldLaw};
-ghost use Rattle.page_layout.specs.VersionLaws.{KeptVersionsLaw, WrittenVersionsLaw, NoMoreOldLaw, FewerOldLaw};
+ghost use Rattle.page_layout.specs.VersionLaws.{KeptVersionsLaw, WrittenVersionsLaw, WrittenNewLaw, NoMoreOldLaw, FewerOldLaw};
 ghost use Rattle.page_layout.specs.Laws.{ScanLaw, HasNewestLaw, SectorLaw, ArrayLaw, KeysLaw, NoOtherKeyLaw, LiveSumLaw, RawBytesLaw, RawImageLaw};
 ghost use Rattle.page_layout.specs.Laws.{RawAgainLaw, GapLaw, PointerLaw, TopWearLaw, RowAgainLaw, WordAgainLaw};
 ghost use Rattle.page_layout.specs.ChangeLaws.{ProgramLaw, FailureLaw, EraseLaw, NoneLiveLaw, KeepsNothingLaw, KeepsTwiceLaw, KeepsThenWritesLaw};
@@ -49,6 +49,7 @@ pub fn old_page_laws()
     ensures old { OldLaw }
     ensures kept { KeptVersionsLaw }
     ensures written { WrittenVersionsLaw }
+    ensures new { WrittenNewLaw }
     ensures no_more { NoMoreOldLaw }
     ensures fewer { FewerOldLaw }
 {}

@@ -16,7 +16,7 @@ ghost use Rattle.collection.specs.Whole.{erases_after};
 ghost use Rattle.collection.specs.Collect.{has_moved, due_count, marks_after, IsLowestDue, HasNoneDue, Refreshes, KeepsKeys};
 ghost use Rattle.collection.specs.Settle.{SetsMapping};
 ghost use Rattle.collection.specs.Left.{TouchesNoMore};
-ghost use Rattle.collection.specs.Collect.{GoesBut, HasCopied, HasWritten, HasErased, IsReleased, FaultCosts, StepCosts, IsMovedOut};
+ghost use Rattle.collection.specs.Collect.{GoesBut, HasCopied, HasWritten, HasErased, IsReleased, FaultCosts, StepCosts, IsMovedOut, IsRenewed};
 ghost use Rattle.collection.specs.Collect.{IsCopiedOr, IsStepped};
 ghost use Rattle.collection.specs.Acts.{Acts, OnlyPrograms};
 ghost use Rattle.collection.specs.Stops.{StopsSafely};
@@ -106,6 +106,11 @@ impl<N: Nand> Engine<N> {
             IsLivePage row self.old.page.body.items found.now (image_in N.flash self.old) →
             MatchResult result
             (λ _. IsMovedOut row (ram self.old) (image_in N.flash self.old) (ram self.new) (image_in N.flash self.new))
+            (Refused (ram self.old) (image_in N.flash self.old) (ram self.new) (image_in N.flash self.new)) }
+        ensures renews { N.honest self.old.nand ≡ true → truth.IsTrue None (ram self.old) (image_in N.flash self.old) →
+            IsLivePage row self.old.page.body.items found.now (image_in N.flash self.old) →
+            MatchResult result
+            (λ _. IsRenewed (key_of found.now) (ram self.old) (image_in N.flash self.old) (ram self.new) (image_in N.flash self.new))
             (Refused (ram self.old) (image_in N.flash self.old) (ram self.new) (image_in N.flash self.new)) }
         ensures stops { N.honest self.old.nand ≡ true → truth.IsTrue None (ram self.old) (image_in N.flash self.old) → IsLivePage row self.old.page.body.items found.now (image_in N.flash self.old) → result ≢ Err WriteFault.Bus →
             StopsSafely N.flash N.recorded self.old self.new }

@@ -3,7 +3,7 @@ use Rattle.std.proofs.lemmas.Result.{err_from_is_err_and}
 use Rattle.page_layout.specs.Key.{key_of}
 use Rattle.budget.specs.Stream.{stream_of}
 use Rattle.collection.specs.Safe.{ram, page_in}
-use Rattle.collection.proofs.Copies.{may_copy, moved_out, marked_at, last_marked, goes_marked, cost_marked, refreshes_marked, moved_marked}
+use Rattle.collection.proofs.Copies.{may_copy, moved_out, renewed_by, renewed_marked, marked_at, last_marked, goes_marked, cost_marked, refreshes_marked, moved_marked}
 use Rattle.collection.proofs.Copies.{pin_marked, followed}
 use Rattle.collection.proofs.Lefts.{copied_touches}
 use Rattle.collection.proofs.Looks.{ok_not_bus}
@@ -12,6 +12,11 @@ use Rattle.collection.proofs.engine.Engine.copy_page.Goals as goal
 
 pub returns-in_err-replace-clause-truth : goal.returns-in_err-replace-clause-truth
 returns-in_err-replace-clause-truth g c = λ honest w shut live.
+    let p = err_from_is_err_and c.from_residual.result c.from_residual.ensures.1 in
+    rw (p.1, p.2) (c.in_err-replace.ensures.truth honest (may_copy (ram c.args.self.now) _ c.args.row c.args.found.now _ w c.requires.key live))
+
+pub returns-in_err-replace-clause-renews : goal.returns-in_err-replace-clause-renews
+returns-in_err-replace-clause-renews g c = λ honest w live.
     let p = err_from_is_err_and c.from_residual.result c.from_residual.ensures.1 in
     rw (p.1, p.2) (c.in_err-replace.ensures.truth honest (may_copy (ram c.args.self.now) _ c.args.row c.args.found.now _ w c.requires.key live))
 
@@ -42,6 +47,16 @@ returns-clause-truth g c = λ honest w shut live.
     let replaced = c.in_ok-replace.ensures.truth honest (may_copy r _ c.args.row c.args.found.now _ w c.requires.key live) in
     let moved = moved_out r b old new c.args.row c.in_ok-replace.field-0 c.args.found.now c.args.self.now.page.body.items c.requires.safe.memory c.replace.ensures.acts.safe.memory c.replace.ensures.goes.geometry w live c.requires.key c.requires.row shut c.in_ok-replace.ensures.row replaced in
     rw c.mark.ensures.nand (moved_marked c.args.flushing c.key.result c.in_ok-replace.field-0 r b _ c.mark.ensures.marked c.args.row old new moved)
+
+pub returns-clause-renews : goal.returns-clause-renews
+returns-clause-renews g c = λ honest w live.
+    let r = ram c.args.self.now in
+    let b = ram c.replace.new.self in
+    let old = (g.N.PageSource.flash c.args.self.now.nand).image in
+    let new = (g.N.PageSource.flash c.replace.new.self.nand).image in
+    let replaced = c.in_ok-replace.ensures.truth honest (may_copy r _ c.args.row c.args.found.now _ w c.requires.key live) in
+    let renewed = renewed_by r b old new c.args.row c.in_ok-replace.field-0 c.args.found.now c.args.self.now.page.body.items live c.in_ok-replace.ensures.row replaced in
+    rw c.mark.ensures.nand (renewed_marked c.args.flushing c.key.result c.in_ok-replace.field-0 r b _ c.mark.ensures.marked (key_of c.args.found.now) old new renewed)
 
 -- ---- what a stop leaves
 
