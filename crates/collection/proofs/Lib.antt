@@ -14,6 +14,7 @@ pub mod Ledgers
 pub mod Rooms
 pub mod Noted
 pub mod Made
+pub mod Renews
 pub mod Rescues
 pub mod Blocks
 pub mod Memory

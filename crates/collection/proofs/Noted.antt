@@ -10,6 +10,7 @@ use Rattle.collection.specs.Results.{Refused, fault_after}
 use Rattle.collection.specs.Collect.{GoesBut, GoesOn, Refreshes, HasNoneWorth, HasRoom, CollectCosts, CollectsFew, IsEmptied, IsRearranged, RoomRefused}
 use Rattle.collection.specs.Left.{PinIsFew}
 use Rattle.collection.specs.Collect.{RoomTells, RoomCounts, StreamRunsOut, StreamSpends, RescueCosts, IsRescued}
+use Rattle.collection.specs.Renew.{IsRenewedAt}
 use Rattle.collection.proofs.Gates.{true_noted, same_noted, refused_noted}
 
 module _ (fault : Option WriteFault) (b : Ram) where
@@ -34,7 +35,7 @@ module _ (fault : Option WriteFault) where
   emptied_noted block a b x y (Err f) k = refused_noted fault a b x y f k
 
   rearranged_noted : (a b : Ram) (x y : Image) → IsRearranged a x b y → IsRearranged a x (record b { fault = fault }) y
-  rearranged_noted a b x y k = record { truth = true_noted fault None b y k.truth; array = k.array; bad = k.bad }
+  rearranged_noted a b x y k = record { truth = true_noted fault None b y k.truth; array = k.array; bad = k.bad; versions = k.versions }
 
   pub room_refused_noted : (a b : Ram) (x y : Image) (f : WriteFault) → RoomRefused a x b y f → RoomRefused a x (record b { fault = fault }) y f
   room_refused_noted a b x y ReadOnly k = rearranged_noted a b x y k
@@ -69,6 +70,10 @@ module _ (fault : Option WriteFault) where
   pub rescued_noted : (a b : Ram) (x y : Image) (result : Result Bool WriteFault) → MatchResult result (IsRescued a x b y) (Refused a x b y) → MatchResult result (IsRescued a x (record b { fault = fault }) y) (Refused a x (record b { fault = fault }) y)
   rescued_noted a b x y (Ok found) k = record { same = same_noted fault a b x y k.same; lowest = k.lowest; some = k.some; none = k.none; bad = k.bad }
   rescued_noted a b x y (Err f) k = refused_noted fault a b x y f k
+
+  pub renewed_noted : (row : ℕ) (a b : Ram) (x y : Image) (result : Result Bool WriteFault) → MatchResult result (λ found. IsRenewedAt row a x b y) (Refused a x b y) → MatchResult result (λ found. IsRenewedAt row a x (record b { fault = fault }) y) (Refused a x (record b { fault = fault }) y)
+  renewed_noted row a b x y (Ok found) k = record { same = same_noted fault a b x y k.same; none = k.none }
+  renewed_noted row a b x y (Err f) k = refused_noted fault a b x y f k
 
 pub cost_noted : (flushing : Bool) (block : ℕ) (a b : Ram) (result : Result (Unit {0}) WriteFault) → CollectCosts flushing block a b result → CollectCosts flushing block a (record b { fault = fault_after b.fault result }) result
 cost_noted flushing block a b (Ok u) x = x

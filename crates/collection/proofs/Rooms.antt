@@ -32,6 +32,7 @@ use Rattle.collection.specs.Safe.{IsRam, is_shut}
 use Rattle.collection.specs.Pages.{newest_row}
 use Rattle.collection.specs.Truth.{IsTrue}
 use Rattle.collection.specs.Results.{IsSame, Leaves, Refused}
+use Rattle.page_layout.specs.Sound.{version_for}
 use Rattle.collection.specs.Collect.{GoesOn, GoesBut, CollectCosts, CollectCounts, HasNoneWorth, RoomTells, IsRearranged, RoomRefused}
 use Rattle.collection.specs.declared.engine.Engine.{Engine}
 use Rattle.collection.specs.Acts.{RestsOrErases}
@@ -164,7 +165,7 @@ shut_fewer r r' x y k s s' same w w' l lt shut =
     omega (arith, before, after, fewer)
 
 pub rearranged_same : (r : Ram) (x : Image) → IsTrue None r x → IsRearranged r x r x
-rearranged_same r x w = record { truth = w; array = refl; bad = λ b lt bad. omega arith }
+rearranged_same r x w = record { truth = w; array = refl; bad = λ b lt bad. omega arith; versions = λ two key row at. at }
 
 pub rearranged_then : (a b c : Ram) (x y z : Image) → IsRam b → IsRam c → GoesOn a b → c.geometry ≡ b.geometry → IsRearranged a x b y → IsSame b y c z → IsRearranged a x c z
 rearranged_then a b c x y z s s' on same k e = record {
@@ -175,6 +176,7 @@ rearranged_then a b c x y z s s' on same k e = record {
       let fewer : live_at c.blocks i ≤ live_at b.blocks i = shut_fewer b c y z i s s' same k.truth e.truth e.leaves (rw on.geometry lt) (bad_shut b.blocks i (still_bad a.blocks b.blocks i left bad)) in
       let before = k.bad i lt bad in
       omega arith;
+  versions = λ two key row at. k.versions two key row (e.leaves.versions (ap version_for on.geometry ∙ two) key row at);
 }
 
 pub room_refused : (a b c : Ram) (x y z : Image) (fault : WriteFault) → IsRam b → IsRam c → GoesOn a b → c.geometry ≡ b.geometry → IsRearranged a x b y → Refused b y c z fault → RoomRefused a x c z fault

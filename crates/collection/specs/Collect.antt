@@ -11,7 +11,7 @@ use Rattle.page_layout.specs.declared.record.Key.TheVariants.{Sector, Translatio
 use Rattle.page_layout.specs.Geometry.{translation_pages, entries, need, vmax}
 use Rattle.page_layout.specs.Change.{HoldsNone}
 use Rattle.page_layout.specs.Sound.{version_for}
-use Rattle.page_layout.specs.Version.{is_old}
+use Rattle.page_layout.specs.Version.{is_old, AddsNoOld}
 use Rattle.page_layout.specs.Array.{array_of}
 use Rattle.bad_blocks.specs.Table.{is_good_at, wear_at, most_wear}
 use Rattle.budget.specs.declared.stream.Stream.{Stream}
@@ -308,11 +308,12 @@ RoomTells new SequenceSpent = new.next ≡ 2 ^ 64 - 1
 RoomTells new Damaged = Unit {0}
 RoomTells new Bus = Unit {0}
 
--- the array is as it was, and no bad block has more newest pages
+-- The array is as it was, and no bad block has more newest pages. Where the die has version 2, no newest page of version 1 is added.
 pub record IsRearranged (old : Ram) (before : Image) (new : Ram) (after : Image) : Type 0 where
   pub truth : IsTrue None new after
   pub array : array_of old.geometry after ≡ array_of old.geometry before
   pub bad : (b : ℕ) → b < old.geometry.blocks → is_good_at old.blocks.table b ≡ false → live_at new.blocks b ≤ live_at old.blocks b
+  pub versions : AddsNoOld old.geometry before after
 
 -- after a fault
 abbrev pub RoomRefused : Ram → Image → Ram → Image → WriteFault → Type 0

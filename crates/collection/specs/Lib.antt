@@ -14,6 +14,7 @@ pub mod Stops
 pub mod Settle
 pub mod Live
 pub mod Collect
+pub mod Renew
 pub mod Whole
 pub mod Left
 pub mod Turns

@@ -14,6 +14,7 @@ mod gate;
 mod live;
 mod look;
 mod put;
+mod renew;
 mod rescue;
 mod room;
 mod settle;
@@ -49,7 +50,8 @@ pub struct Pinned {
 /// used for.
 ///
 /// Contracts see the memory as a `Ram`, and the die by its `Flash`. Once a `put`, `write_back`,
-/// `collect`, `step`, `make_room`, `rescue_one`, `write_sector`, `trim_sector` or `write_table` was refused,
+/// `collect`, `step`, `make_room`, `rescue_one`, `next_old`, `renew_at`, `write_sector`, `trim_sector` or
+/// `write_table` was refused,
 /// each of these answers the same fault ever after.
 ///
 /// Source: the DFTL paper, for the directory, the cached mapping table and the two streams; the rest

@@ -1,5 +1,5 @@
 //! Pages that are the newest of their keys.
-ghost use Rattle.std.specs.Prelude.{◌≡◌, ◌↔◌, ◌+◌, ◌-◌, ◌*◌, ◌<◌, ◌≤◌, true, IsTrue, Some, None, Err, IfOk, IfErr, MatchResult};
+ghost use Rattle.std.specs.Prelude.{◌≡◌, ◌↔◌, ◌+◌, ◌-◌, ◌*◌, ◌<◌, ◌≤◌, true, IsTrue, slice_get, Some, None, Err, IfOk, IfErr, OnOk, MatchResult};
 ghost use Rattle.std.specs.Option.{ForSome};
 ghost use Rattle.page_layout.specs.Geometry.{row_count};
 ghost use Rattle.page_layout.specs.Live.{IsKeyOf};
@@ -60,6 +60,7 @@ impl<N: Nand> Engine<N> {
         ensures reads { N.reads self.new.nand ≤ N.reads self.old.nand + 1 }
         ensures faults { IfErr result (λ fault. fault ≡ WriteFault.Bus) }
         ensures sound { IfOk result (λ found. found ≡ record_of (page_in self.new.page)) }
+        ensures stands { N.honest self.old.nand ≡ true → OnOk result (slice_get (image_in N.flash self.old) row ≡ Some (page_in self.new.page)) }
         ensures truth { N.honest self.old.nand ≡ true →
             IfOk result (λ found. IsTaken row found self.new.page.body.items (image_in N.flash self.old)) }
     {
@@ -84,6 +85,7 @@ impl<N: Nand> Engine<N> {
         ensures looks { OnlyLooks N.flash N.recorded N.honest N.calm N.programs N.erases N.failed self.old self.new result }
         ensures reads { N.reads self.new.nand ≤ N.reads self.old.nand + 2 }
         ensures checked { IfOk result (λ found. ForSome found (IsFoundIn (ram self.old) (page_in self.new.page) (page_in self.new.scratch) row)) }
+        ensures stands { N.honest self.old.nand ≡ true → OnOk result (slice_get (image_in N.flash self.old) row ≡ Some (page_in self.new.page)) }
         ensures truth { N.honest self.old.nand ≡ true → truth.IsTrue None (ram self.old) (image_in N.flash self.old) →
             MatchResult result
             (LooksAt row self.new.page.body.items (image_in N.flash self.old))

@@ -73,7 +73,7 @@ impl<N: Nand> Engine<N> {
     }
 
     // Writes back the translation page of a sector that was moved.
-    fn follow_moved(&mut self, key: Key) -> Result<(), WriteFault>
+    pub(crate) fn follow_moved(&mut self, key: Key) -> Result<(), WriteFault>
         requires safe { IsSafe N.flash self.old }
         requires key { IsKeyOf self.old.geometry key }
         ensures acts { Acts N.flash N.recorded N.honest N.calm N.failed self.old self.new result }

@@ -1,0 +1,187 @@
+use Rattle.std.proofs.Common.{◌∙◌, length, refl, ap, sym, subst, arith}
+use Rattle.std.proofs.lemmas.Result.{err_from_is_err_and}
+use Rattle.collection.specs.Safe.{ram}
+use Rattle.page_layout.specs.Key.{key_of}
+use Rattle.page_layout.specs.Live.{IsKeyOf}
+use Rattle.collection.specs.Collect.{IsRenewed}
+use Rattle.collection.proofs.Acts.{acts_then, acts_ok, acts_err, looked}
+use Rattle.collection.proofs.Looks.{none_from, ok_not_bus}
+use Rattle.collection.proofs.Memory.{goes_then}
+use Rattle.collection.proofs.Puts.{refused_then}
+use Rattle.collection.proofs.Renews.{due_known, renewed_as, renewed_at, none_renewed}
+use Rattle.collection.proofs.Rescues.{rescued_beside, goes_from, rescued_cost, uncopied_cost, unfollowed_cost, unread_rescue, unread_refused}
+use Rattle.collection.specs.Collect.{IsFollowedBy}
+use Rattle.promises.proofs.StopLemmas.{leaves_nothing}
+use Rattle.collection.proofs.Stops.{same_left, leaves_still, stops_looked, stops_then, fault_not_bus, IsSized}
+use Rattle.collection.proofs.Costs.{not_bus}
+use Rattle.collection.proofs.engine.Engine.renew.Goals as goal
+
+-- ---- the copy
+
+pub copy_page-requires-clause-key : goal.copy_page-requires-clause-key
+copy_page-requires-clause-key g c = rw (ap (λ r. r.geometry) c.due_record.ensures.looks.memory) (c.in_ok-due.ensures.checked _ c.in-Some.is).of_key
+
+pub copy_page-requires-clause-row : goal.copy_page-requires-clause-row
+copy_page-requires-clause-row g c = rw (ap (λ r. r.geometry) c.due_record.ensures.looks.memory) c.requires.row
+
+pub copy_page-requires-clause-room : goal.copy_page-requires-clause-room
+copy_page-requires-clause-room g c =
+    let moved = ap (λ r. length r.mapping.moved) c.due_record.ensures.looks.memory in
+    let pages = ap (λ r. r.geometry.pages) c.due_record.ensures.looks.memory in
+    omega (arith, moved, pages, c.if-moved_count-pages.false, c.moved_count.ensures, c.pages.ensures)
+
+-- ---- the look was refused, or found none
+
+pub returns-in_err-due-clause-cost : goal.returns-in_err-due-clause-cost
+returns-in_err-due-clause-cost g c =
+    let p = err_from_is_err_and c.from_residual.result c.from_residual.ensures.1 in
+    rw (p.1, p.2) (unread_rescue (ram c.args.self.now) (ram c.due_record.new.self) _ c.in_err-due.ensures.looks.faults)
+
+pub returns-in_err-due-clause-acts : goal.returns-in_err-due-clause-acts
+returns-in_err-due-clause-acts g c =
+    let p = err_from_is_err_and c.from_residual.result c.from_residual.ensures.1 in
+    rw (p.1, p.2) (acts_err _ _ _ (looked _ _ _ c.in_err-due.ensures.looks))
+
+pub returns-in_err-due-clause-truth : goal.returns-in_err-due-clause-truth
+returns-in_err-due-clause-truth g c =
+    let p = err_from_is_err_and c.from_residual.result c.from_residual.ensures.1 in
+    rw (p.1, p.2) (λ honest w room. unread_refused (ram c.args.self.now) (ram c.due_record.new.self) _ _ _ (c.in_err-due.ensures.truth honest w))
+
+pub returns-in_default-clause-acts : goal.returns-in_default-clause-acts
+returns-in_default-clause-acts g c = acts_ok _ _ _ _ (looked _ _ _ c.in_ok-due.ensures.looks)
+
+pub returns-in_default-clause-truth : goal.returns-in_default-clause-truth
+returns-in_default-clause-truth g c = λ honest w room.
+    let still = ap (λ f. f.image) (c.in_ok-due.ensures.looks.same honest (ok_not_bus _)) in
+    none_renewed (ram c.args.self.now) (ram c.due_record.new.self) _ _ c.args.row _ c.in_ok-due.due c.due_record.ensures.looks.memory still w (c.in_ok-due.ensures.truth honest w) (none_from c.in_ok-due.due c.in_default.not-Some)
+
+pub returns-in_err-copy_page-clause-cost : goal.returns-in_err-copy_page-clause-cost
+returns-in_err-copy_page-clause-cost g c =
+    let p = err_from_is_err_and c.from_residual-in_err-copy_page.result c.from_residual-in_err-copy_page.ensures.1 in
+    rw (p.1, p.2) (uncopied_cost (ram c.args.self.now) (ram c.due_record.new.self) (ram c.copy_page.new.self) _ c.requires.safe.memory c.due_record.ensures.looks.memory c.in_err-copy_page.ensures.cost)
+
+pub returns-in_err-copy_page-clause-acts : goal.returns-in_err-copy_page-clause-acts
+returns-in_err-copy_page-clause-acts g c =
+    let p = err_from_is_err_and c.from_residual-in_err-copy_page.result c.from_residual-in_err-copy_page.ensures.1 in
+    rw (p.1, p.2) (acts_then _ _ _ _ _ (ap (λ r. r.geometry) c.due_record.ensures.looks.memory) (looked _ _ _ c.in_ok-due.ensures.looks) (acts_err _ _ _ c.in_err-copy_page.ensures.acts))
+
+-- ---- its translation page follows
+
+pub follow_moved-requires-clause-key : goal.follow_moved-requires-clause-key
+follow_moved-requires-clause-key g c =
+    let of_key = (c.in_ok-due.ensures.checked _ c.in-Some.is).of_key in
+    let geometry = c.copy_page.ensures.goes.geometry ∙ ap (λ r. r.geometry) c.due_record.ensures.looks.memory in
+    subst (IsKeyOf c.copy_page.new.self.geometry) (sym c.key.ensures) (subst (λ x. IsKeyOf x (key_of c.in-Some.found)) (sym geometry) of_key)
+
+pub returns-in_err-follow_moved-clause-goes : goal.returns-in_err-follow_moved-clause-goes
+returns-in_err-follow_moved-clause-goes g c = goes_then (ram c.args.self.now) (ram c.copy_page.new.self) _ (goes_from (ram c.args.self.now) (ram c.due_record.new.self) (ram c.copy_page.new.self) c.due_record.ensures.looks.memory c.copy_page.ensures.goes) c.follow_moved.ensures.goes
+
+pub returns-in_err-follow_moved-clause-cost : goal.returns-in_err-follow_moved-clause-cost
+returns-in_err-follow_moved-clause-cost g c =
+    let p = err_from_is_err_and c.from_residual-in_err-follow_moved.result c.from_residual-in_err-follow_moved.ensures.1 in
+    rw (p.1, p.2) (unfollowed_cost (ram c.args.self.now) (ram c.due_record.new.self) (ram c.copy_page.new.self) (ram c.follow_moved.new.self) _ c.requires.safe.memory c.due_record.ensures.looks.memory c.in_ok-copy_page.ensures.cost c.in_err-follow_moved.ensures.cost)
+
+pub returns-in_err-follow_moved-clause-acts : goal.returns-in_err-follow_moved-clause-acts
+returns-in_err-follow_moved-clause-acts g c =
+    let p = err_from_is_err_and c.from_residual-in_err-follow_moved.result c.from_residual-in_err-follow_moved.ensures.1 in
+    rw (p.1, p.2) (acts_then _ _ _ _ _ (ap (λ r. r.geometry) c.due_record.ensures.looks.memory) (looked _ _ _ c.in_ok-due.ensures.looks) (acts_then _ _ _ _ _ c.copy_page.ensures.goes.geometry c.in_ok-copy_page.ensures.acts (acts_err _ _ _ c.in_err-follow_moved.ensures.acts)))
+
+pub returns-in_err-follow_moved-clause-truth : goal.returns-in_err-follow_moved-clause-truth
+returns-in_err-follow_moved-clause-truth g c =
+    let p = err_from_is_err_and c.from_residual-in_err-follow_moved.result c.from_residual-in_err-follow_moved.ensures.1 in
+    rw (p.1, p.2) (λ honest w room.
+    let a = ram c.args.self.now in
+    let b = ram c.due_record.new.self in
+    let n = ram c.copy_page.new.self in
+    let y = (g.N.PageSource.flash c.copy_page.new.self.nand).image in
+    let still = ap (λ f. f.image) (c.in_ok-due.ensures.looks.same honest (ok_not_bus _)) in
+    let now = c.due_record.ensures.looks.only_reads.honest_is ∙ honest in
+    let m = renewed_as a b _ _ c.args.row c.in-Some.found _ c.in_ok-due.due c.due_record.ensures.looks.memory still w (c.in_ok-due.ensures.truth honest w) c.in-Some.is (λ r i. IsRenewed (key_of c.in-Some.found) r i n y) (c.in_ok-copy_page.ensures.renews now) in
+    refused_then a n (ram c.follow_moved.new.self) _ y _ (goes_from a b n c.due_record.ensures.looks.memory c.copy_page.ensures.goes) c.follow_moved.ensures.goes.geometry _ m.same (c.in_err-follow_moved.ensures.truth (c.copy_page.ensures.acts.honest_is ∙ now) m.same.truth))
+
+pub returns-clause-goes : goal.returns-clause-goes
+returns-clause-goes g c = goes_then (ram c.args.self.now) (ram c.copy_page.new.self) _ (goes_from (ram c.args.self.now) (ram c.due_record.new.self) (ram c.copy_page.new.self) c.due_record.ensures.looks.memory c.copy_page.ensures.goes) c.follow_moved.ensures.goes
+
+pub returns-clause-cost : goal.returns-clause-cost
+returns-clause-cost g c = rescued_cost (ram c.args.self.now) (ram c.due_record.new.self) (ram c.copy_page.new.self) (ram c.follow_moved.new.self) c.requires.safe.memory c.due_record.ensures.looks.memory c.copy_page.ensures.goes.geometry c.in_ok-copy_page.ensures.cost c.in_ok-follow_moved.ensures.cost
+
+pub returns-clause-acts : goal.returns-clause-acts
+returns-clause-acts g c = acts_then _ _ _ _ _ (ap (λ r. r.geometry) c.due_record.ensures.looks.memory) (looked _ _ _ c.in_ok-due.ensures.looks) (acts_then _ _ _ _ _ c.copy_page.ensures.goes.geometry c.in_ok-copy_page.ensures.acts (acts_ok _ _ _ _ c.in_ok-follow_moved.ensures.acts))
+
+pub returns-clause-truth : goal.returns-clause-truth
+returns-clause-truth g c = λ honest w room.
+    let a = ram c.args.self.now in
+    let b = ram c.due_record.new.self in
+    let n = ram c.copy_page.new.self in
+    let y = (g.N.PageSource.flash c.copy_page.new.self.nand).image in
+    let still = ap (λ f. f.image) (c.in_ok-due.ensures.looks.same honest (ok_not_bus _)) in
+    let now = c.due_record.ensures.looks.only_reads.honest_is ∙ honest in
+    let finds = c.in_ok-due.ensures.truth honest w in
+    let m = renewed_as a b _ _ c.args.row c.in-Some.found _ c.in_ok-due.due c.due_record.ensures.looks.memory still w finds c.in-Some.is (λ r i. IsRenewed (key_of c.in-Some.found) r i n y) (c.in_ok-copy_page.ensures.renews now) in
+    renewed_at a b _ _ c.args.row c.in-Some.found _ c.in_ok-due.due c.due_record.ensures.looks.memory still w finds c.in-Some.is n (ram c.follow_moved.new.self) y _ (goes_from a b n c.due_record.ensures.looks.memory c.copy_page.ensures.goes) c.follow_moved.ensures.goes.geometry m (λ t. subst (λ k. IsFollowedBy k n y (ram c.follow_moved.new.self) (g.N.PageSource.flash c.follow_moved.new.self.nand).image) c.key.ensures (c.in_ok-follow_moved.ensures.truth (c.copy_page.ensures.acts.honest_is ∙ now) t))
+
+pub returns-clause-beside : goal.returns-clause-beside
+returns-clause-beside g c = rescued_beside (key_of c.in-Some.found) c.key.result (ram c.args.self.now) (ram c.due_record.new.self) (ram c.copy_page.new.self) (ram c.follow_moved.new.self) c.due_record.ensures.looks.memory (returns-clause-goes g c) c.in_ok-copy_page.ensures.settled c.copy_page.ensures.keys (c.copy_page.ensures.pinned refl) c.key.ensures c.in_ok-follow_moved.ensures.followed c.follow_moved.ensures.keys c.follow_moved.ensures.pin
+
+pub returns-clause-one_more : goal.returns-clause-one_more
+returns-clause-one_more g c = (let b = returns-clause-beside g c in omega (arith, b.fewer))
+
+-- ---- what a stop leaves
+
+pub returns-in_err-due-clause-stops : goal.returns-in_err-due-clause-stops
+returns-in_err-due-clause-stops g c =
+    let p = err_from_is_err_and c.from_residual.result c.from_residual.ensures.1 in
+    rw (p.1, p.2) (λ honest w ne. absurd (fault_not_bus _ ne (c.in_err-due.ensures.truth honest w)))
+
+pub returns-in_default-clause-stops : goal.returns-in_default-clause-stops
+returns-in_default-clause-stops g c = λ honest w ne. leaves_still _ _ _ _ _ (c.in_ok-due.ensures.looks.same honest (ok_not_bus _)) (c.in_ok-due.ensures.looks.told honest (ok_not_bus _)) (same_left (ram c.args.self.now) _ _ c.requires.safe.memory w)
+
+pub returns-in_err-copy_page-clause-stops : goal.returns-in_err-copy_page-clause-stops
+returns-in_err-copy_page-clause-stops g c =
+    let p = err_from_is_err_and c.from_residual-in_err-copy_page.result c.from_residual-in_err-copy_page.ensures.1 in
+    rw (p.1, p.2) (λ honest w ne.
+    let a = ram c.args.self.now in
+    let b = ram c.due_record.new.self in
+    let looks = c.in_ok-due.ensures.looks in
+    let still = looks.same honest (ok_not_bus _) in
+    let now = looks.only_reads.honest_is ∙ honest in
+    let finds = c.in_ok-due.ensures.truth honest w in
+    let known = due_known a b _ _ c.args.row c.in-Some.found _ c.in_ok-due.due looks.memory (ap (λ f. f.image) still) w finds c.in-Some.is in
+    stops_looked a b _ _ _ _ _ _ looks.memory still (looks.told honest (ok_not_bus _)) (c.in_err-copy_page.ensures.stops now known.0 known.1 (not_bus _ ne)))
+
+pub returns-in_err-follow_moved-clause-stops : goal.returns-in_err-follow_moved-clause-stops
+returns-in_err-follow_moved-clause-stops g c =
+    let p = err_from_is_err_and c.from_residual-in_err-follow_moved.result c.from_residual-in_err-follow_moved.ensures.1 in
+    rw (p.1, p.2) (λ honest w ne.
+    let a = ram c.args.self.now in
+    let b = ram c.due_record.new.self in
+    let looks = c.in_ok-due.ensures.looks in
+    let still = looks.same honest (ok_not_bus _) in
+    let now = looks.only_reads.honest_is ∙ honest in
+    let finds = c.in_ok-due.ensures.truth honest w in
+    let known = due_known a b _ _ c.args.row c.in-Some.found _ c.in_ok-due.due looks.memory (ap (λ f. f.image) still) w finds c.in-Some.is in
+    let n = ram c.copy_page.new.self in
+    let y = (g.N.PageSource.flash c.copy_page.new.self.nand).image in
+    let copied = stops_looked a b _ _ _ _ _ _ looks.memory still (looks.told honest (ok_not_bus _)) (c.in_ok-copy_page.ensures.stops now known.0 known.1 (ok_not_bus _)) in
+    let m = renewed_as a b _ _ c.args.row c.in-Some.found _ c.in_ok-due.due looks.memory (ap (λ f. f.image) still) w finds c.in-Some.is (λ r i. IsRenewed (key_of c.in-Some.found) r i n y) (c.in_ok-copy_page.ensures.renews now) in
+    let sized : IsSized a n = record { geometry = c.copy_page.ensures.goes.geometry ∙ ap (λ r. r.geometry) looks.memory; capacity = c.copy_page.ensures.keys.limits.capacity ∙ ap (λ r. r.mapping.capacity) looks.memory } in
+    stops_then a n _ _ _ _ _ _ sized m.same.array copied (c.in_err-follow_moved.ensures.stops (c.copy_page.ensures.acts.honest_is ∙ now) m.same.truth (not_bus _ ne)))
+
+pub returns-clause-stops : goal.returns-clause-stops
+returns-clause-stops g c = λ honest w ne.
+    let a = ram c.args.self.now in
+    let b = ram c.due_record.new.self in
+    let looks = c.in_ok-due.ensures.looks in
+    let still = looks.same honest (ok_not_bus _) in
+    let now = looks.only_reads.honest_is ∙ honest in
+    let finds = c.in_ok-due.ensures.truth honest w in
+    let known = due_known a b _ _ c.args.row c.in-Some.found _ c.in_ok-due.due looks.memory (ap (λ f. f.image) still) w finds c.in-Some.is in
+    let n = ram c.copy_page.new.self in
+    let y = (g.N.PageSource.flash c.copy_page.new.self.nand).image in
+    let copied = stops_looked a b _ _ _ _ _ _ looks.memory still (looks.told honest (ok_not_bus _)) (c.in_ok-copy_page.ensures.stops now known.0 known.1 (ok_not_bus _)) in
+    let m = renewed_as a b _ _ c.args.row c.in-Some.found _ c.in_ok-due.due looks.memory (ap (λ f. f.image) still) w finds c.in-Some.is (λ r i. IsRenewed (key_of c.in-Some.found) r i n y) (c.in_ok-copy_page.ensures.renews now) in
+    let sized : IsSized a n = record { geometry = c.copy_page.ensures.goes.geometry ∙ ap (λ r. r.geometry) looks.memory; capacity = c.copy_page.ensures.keys.limits.capacity ∙ ap (λ r. r.mapping.capacity) looks.memory } in
+    stops_then a n _ _ _ _ _ _ sized m.same.array copied (c.in_ok-follow_moved.ensures.stops (c.copy_page.ensures.acts.honest_is ∙ now) m.same.truth (ok_not_bus _))
+
+pub returns-then-moved_count-pages-clause-stops : goal.returns-then-moved_count-pages-clause-stops
+returns-then-moved_count-pages-clause-stops g c = λ honest w ne. leaves_nothing _ _ _ (same_left (ram c.args.self.now) _ _ c.requires.safe.memory w)
