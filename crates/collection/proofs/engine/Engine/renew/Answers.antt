@@ -1,10 +1,11 @@
 use Rattle.std.proofs.Common.{◌∙◌, length, refl, ap, sym, subst, arith}
 use Rattle.std.proofs.lemmas.Result.{err_from_is_err_and}
+use Rattle.collection.specs.declared.fault.WriteFault.TheVariants.{Damaged}
 use Rattle.collection.specs.Safe.{ram}
 use Rattle.page_layout.specs.Key.{key_of}
 use Rattle.page_layout.specs.Live.{IsKeyOf}
 use Rattle.collection.specs.Collect.{IsRenewed}
-use Rattle.collection.proofs.Acts.{acts_then, acts_ok, acts_err, looked}
+use Rattle.collection.proofs.Acts.{acts_then, acts_ok, acts_err, acts_same, acts_end, looked}
 use Rattle.collection.proofs.Looks.{none_from, ok_not_bus}
 use Rattle.collection.proofs.Memory.{goes_then}
 use Rattle.collection.proofs.Puts.{refused_then}
@@ -185,3 +186,6 @@ returns-clause-stops g c = λ honest w ne.
 
 pub returns-then-moved_count-pages-clause-stops : goal.returns-then-moved_count-pages-clause-stops
 returns-then-moved_count-pages-clause-stops g c = λ honest w ne. leaves_nothing _ _ _ (same_left (ram c.args.self.now) _ _ c.requires.safe.memory w)
+
+pub returns-then-moved_count-pages-clause-acts : goal.returns-then-moved_count-pages-clause-acts
+returns-then-moved_count-pages-clause-acts g c = acts_end _ _ tt Damaged (λ e. (let no : ⊥ = cc in no)) (acts_same c.args.self.now c.requires.safe)

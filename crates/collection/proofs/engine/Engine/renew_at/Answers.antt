@@ -1,7 +1,8 @@
+use Rattle.std.proofs.lemmas.Result.{err_from_is_err_and}
 use Rattle.collection.specs.Safe.{ram}
 use Rattle.collection.proofs.Gates.{goes_noted}
 use Rattle.collection.proofs.Beside.{beside_noted_ok}
-use Rattle.collection.proofs.Acts.{acts_noted, not_standing}
+use Rattle.collection.proofs.Acts.{acts_noted, not_standing, stands_still, is_standing}
 use Rattle.collection.proofs.Noted.{renewed_noted, rescue_cost_noted}
 use Rattle.collection.proofs.engine.Engine.renew_at.Goals as goal
 
@@ -24,3 +25,8 @@ returns-clause-beside g c = rw (c.noted.ensures.same, c.noted.ensures.noted) (be
 
 pub returns-clause-stops : goal.returns-clause-stops
 returns-clause-stops g c = λ honest none w. rw (c.noted.ensures.same, c.noted.ensures.noted) (λ ne. c.renew-answer.ensures.stops honest w ne)
+
+pub returns-in_err-standing-clause-stands : goal.returns-in_err-standing-clause-stands
+returns-in_err-standing-clause-stands g c =
+    let p = err_from_is_err_and c.from_residual.result c.from_residual.ensures.1 in
+    rw (p.1, p.2) (stands_still _ _ c.requires.safe (is_standing _ _ c.in_err-standing.ensures))
