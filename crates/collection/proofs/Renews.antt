@@ -1,5 +1,5 @@
 -- A page of version 1 is found and copied.
-use Rattle.std.proofs.Common.{◌≡◌, ◌≢◌, inl, inr, ℕ, ◌+◌, ◌<◌, ◌≤◌, ◌&&◌, not, Bool, true, false, List, Option, Some, None, refl, ap, sym, ◌∙◌, subst, arith}
+use Rattle.std.proofs.Common.{◌≡◌, inl, inr, ℕ, ◌+◌, ◌<◌, ◌≤◌, not, Bool, true, false, List, Option, Some, None, refl, ap, sym, ◌∙◌, subst, arith}
 use Rattle.std.specs.Prelude.{slice_get}
 use Rattle.std.proofs.lemmas.Bool.{cases_eq, and_parts, and_from, eqb-true, not_from_false}
 use Rattle.page_layout.specs.declared.record.Record.{Record}
@@ -9,17 +9,16 @@ use Rattle.page_layout.specs.Geometry.{row_count}
 use Rattle.page_layout.specs.Sound.{version_of, version_for}
 use Rattle.page_layout.specs.Key.{key_of}
 use Rattle.page_layout.specs.Array.{marks}
-use Rattle.page_layout.specs.Version.{version_at, is_1, is_old, HasOldAt}
+use Rattle.page_layout.specs.Version.{is_1, is_old, HasOldAt}
 use Rattle.page_layout.proofs.NewestLemmas.{newest-record}
 use Rattle.page_layout.proofs.VersionLemmas.{version_page, old_from}
 use Rattle.collection.specs.State.{Ram}
-use Rattle.collection.specs.Safe.{IsRam}
 use Rattle.collection.specs.Pages.{newest_row}
 use Rattle.collection.specs.Truth.{IsTrue}
 use Rattle.collection.specs.Live.{NotAt, IsLivePage}
 use Rattle.collection.specs.Results.{IsSame, Goes}
 use Rattle.collection.specs.Collect.{IsRenewed, IsFollowedBy}
-use Rattle.collection.specs.Renew.{is_table, is_due_page, HasNoneDue, HasDue, IsDuePage, LooksAtDue, IsNextDue, FindsDue, IsRenewedAt}
+use Rattle.collection.specs.Renew.{is_table, is_due_page, HasNoneDue, IsDuePage, LooksAtDue, IsNextDue, IsRenewedAt}
 use Rattle.collection.proofs.Puts.{same_then}
 use Rattle.collection.proofs.Lowest.{same_here}
 use Rattle.collection.proofs.Truths.{newest_in}
