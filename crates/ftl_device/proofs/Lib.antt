@@ -26,5 +26,6 @@ pub mod SpentLemmas
 pub mod EndLemmas
 pub mod LeaveLemmas
 pub mod ChangeLemmas
+pub mod MigrateLemmas
 pub mod UpkeepLemmas
 pub mod StoppedLemmas

@@ -8,3 +8,4 @@ pub mod Shortage
 pub mod Turn
 pub mod Changes
 pub mod Stopped
+pub mod Migrate

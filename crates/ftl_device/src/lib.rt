@@ -6,6 +6,7 @@ mod device;
 mod fault;
 mod flush;
 mod laws;
+mod migrate;
 mod read;
 mod ready;
 mod turn;

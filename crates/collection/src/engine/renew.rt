@@ -1,5 +1,5 @@
 //! Pages of version 1 are copied, so that a die's pages come to be of version 2.
-ghost use Rattle.std.specs.Prelude.{◌≡◌, ◌≢◌, ◌+◌, ◌<◌, ◌≤◌, true, length, Some, None, Ok, Err, IfOk, OnOk, MatchResult};
+ghost use Rattle.std.specs.Prelude.{◌≡◌, ◌≢◌, ◌+◌, ◌<◌, ◌≤◌, true, length, Some, None, Ok, Err, IfOk, IfErr, OnOk, MatchResult};
 ghost use Rattle.std.specs.Option.{ForSome};
 ghost use Rattle.page_layout.specs.Geometry.{row_count};
 ghost use Rattle.page_layout.specs.OnlyReads.{OnlyReads};
@@ -7,6 +7,7 @@ ghost use Rattle.collection.specs.Safe.{IsSafe, ram, image_in, page_in};
 ghost use Rattle.collection.specs.Left.{LeavesPin};
 ghost use Rattle.collection.specs.Truth as truth;
 ghost use Rattle.collection.specs.Live.{IsFoundIn};
+ghost use Rattle.collection.specs.Looks.{IsReadFault};
 ghost use Rattle.collection.specs.Results.{Refused, Goes};
 ghost use Rattle.collection.specs.Collect.{KeepsKeys, RescueCosts};
 ghost use Rattle.page_layout.specs.Version.{is_1};
@@ -136,11 +137,16 @@ impl<N: Nand> Engine<N> {
         requires safe { IsSafe N.flash self.old }
         ensures stands { Stands N.flash N.recorded N.honest N.calm N.failed self.old self.new result }
         ensures only_reads { OnlyReads N.flash N.honest N.calm N.programs N.erases N.failed self.old.nand self.new.nand }
-        ensures still { OnOk result (ram self.new ≡ ram self.old) }
+        ensures still { ram self.new ≡ record (ram self.old) { fault = self.new.fault } }
         ensures same { N.honest self.old.nand ≡ true → OnOk result (N.flash self.new.nand ≡ N.flash self.old.nand) }
+        ensures faults { self.old.fault ≡ None → IfErr result IsReadFault }
         ensures row { IfOk result (λ found. ForSome found (λ row. row < row_count self.old.geometry)) }
         ensures truth { N.honest self.old.nand ≡ true → self.old.fault ≡ None → truth.IsTrue None (ram self.old) (image_in N.flash self.old) →
-            IfOk result (FindsDue from (image_in N.flash self.old)) }
+            MatchResult result
+            (FindsDue from (image_in N.flash self.old))
+            (λ fault. fault ≡ WriteFault.Bus) }
+        ensures stops { N.honest self.old.nand ≡ true → self.old.fault ≡ None → truth.IsTrue None (ram self.old) (image_in N.flash self.old) → result ≢ Err WriteFault.Bus →
+            StopsSafely N.flash N.recorded self.old self.new }
     {
         self.standing()?;
         let answer = self.look_for_due(from);

@@ -1,0 +1,138 @@
+-- Pages of version 1 are brought forward.
+use Rattle.std.proofs.Common.{◌≡◌, ◌≢◌, inl, inr, ℕ, ◌<◌, ◌≤◌, Bool, true, false, Option, Some, None, Result, Ok, Err, refl, ap, sym, ◌∙◌, subst, arith}
+use Rattle.std.proofs.lemmas.Bool.{cases_Bool}
+use Rattle.page_layout.specs.declared.geometry.Geometry.{Geometry}
+use Rattle.page_layout.specs.declared.record.Key.{Key}
+use Rattle.page_layout.specs.Page.{Image}
+use Rattle.page_layout.specs.Sound.{version_for}
+use Rattle.page_layout.specs.Key.{key_of}
+use Rattle.page_layout.specs.Newest.{newest}
+use Rattle.page_layout.specs.Live.{IsKeyOf}
+use Rattle.page_layout.specs.Array.{marks, HasOneArray}
+use Rattle.page_layout.specs.Version.{is_old, old_pages, HasOldAt, AddsNoOld}
+use Rattle.page_layout.proofs.NewestLemmas.{newest-record}
+use Rattle.page_layout.proofs.VersionLemmas.{old_at, old_from, fewer_old}
+use Rattle.collection.specs.State.{Ram}
+use Rattle.collection.specs.Collect.{IsRearranged}
+use Rattle.collection.specs.Renew.{is_table, HasNoneDue, HasDue, IsRenewedAt}
+use Rattle.page_layout.specs.Flash.{Flash}
+use Rattle.page_layout.specs.Recording.{Recording}
+use Rattle.std.specs.Prelude.{IfErr, OnOk}
+use Rattle.bad_blocks.specs.Table.{good_count}
+use Rattle.allocation.specs.State.{State}
+use Rattle.mapping_cache.specs.Mapping.{HasLimitsOf}
+use Rattle.collection.specs.declared.engine.Engine.{Engine}
+use Rattle.collection.specs.declared.fault.WriteFault.{WriteFault}
+use Rattle.collection.specs.declared.fault.WriteFault.TheVariants.{ReadOnly, SequenceSpent, Damaged, Bus}
+use Rattle.collection.specs.Safe.{ram, image_in}
+use Rattle.collection.specs.Looks.{IsReadFault}
+use Rattle.collection.proofs.Costs.{risen_over}
+use Rattle.collection.proofs.Logs.{went_then}
+use Rattle.ftl_device.specs.declared.fault.CallFault.{CallFault}
+use Rattle.ftl_device.specs.declared.fault.CallFault.TheVariants as call
+use Rattle.ftl_device.specs.Calls.{Tells, CallTells, Knows, KeepsArray, CallRefused}
+use Rattle.ftl_device.specs.Shortage.{CallShort}
+use Rattle.ftl_device.specs.Changes.{Leaves, Ends}
+use Rattle.ftl_device.proofs.FlushLoops.{keeps_same, limits_then}
+use Rattle.ftl_device.proofs.StoppedLemmas.{KeepsOn, stops_on}
+use Rattle.ftl_device.specs.Migrate.{Renews, Migrates}
+
+pub renews_by : (a b c : Ram) (x y z : Image) (row : ℕ) → b.geometry ≡ a.geometry → IsRearranged a x b y → IsRenewedAt row b y c z → Renews row a.geometry x z
+renews_by a b c x y z row same room one = record {
+  adds = λ two key q at. room.versions two key q (one.same.leaves.versions (ap version_for same ∙ two) key q at);
+  none = λ two. one.none (ap version_for same ∙ two);
+}
+
+-- ---- none is left, or fewer
+
+pub none_old : (g : Geometry) (before after : Image) → ((row : ℕ) → HasNoneDue row after) → Migrates false g before after
+none_old g before after none key no_table = elim (cases_Bool (is_old after key)) [
+  | inl old ↦ absurd (let at = old_at after key old in none at.0 key no_table at.1)
+  | inr not ↦ not
+]
+
+one_row : (image : Image) (key : Key) (a b : ℕ) → newest (marks image) key ≡ Some a → newest (marks image) key ≡ Some b → a ≡ b
+one_row image key a b x y = (let e : Some a ≡ Some b = sym x ∙ y in cc)
+
+key_within : (g : Geometry) (image : Image) (key : Key) (row : ℕ) → HasOneArray g image → newest (marks image) key ≡ Some row → IsKeyOf g key
+key_within g image key row one is =
+    let found = newest-record (marks image) key row is in
+    subst (IsKeyOf g) found.2 (one.in_range row found.0 found.1)
+
+pub one_fewer : (g : Geometry) (before after : Image) (row : ℕ) → HasOneArray g before → HasDue row before → Renews row g before after → Migrates true g before after
+one_fewer g before after row one due renews two =
+    let key : Key = due.key in
+    let was : is_old before key ≡ true = old_from before key (row, due.old) in
+    let is : is_old after key ≡ false = elim (cases_Bool (is_old after key)) [
+      | inl old ↦ absurd (
+          let at = old_at after key old in
+          let same : at.0 ≡ row = one_row before key at.0 row (renews.adds two key at.0 at.1).newest_is due.old.newest_is in
+          renews.none two key due.no_table (subst (HasOldAt after key) same at.1))
+      | inr not ↦ not
+    ] in
+    fewer_old g before after key two renews.adds (key_within g before key row one due.old.newest_is) was is
+
+pub ok_fewer : (result : Result (Unit {0}) CallFault) (g : Geometry) (before after : Image) (row : ℕ) → HasOneArray g before → HasDue row before → OnOk result (Renews row g before after) → OnOk result (Migrates true g before after)
+ok_fewer (Ok done) g before after row one due renews = one_fewer g before after row one due renews
+ok_fewer (Err fault) g before after row one due renews = tt
+
+-- ---- a look before the call, that leaves memory as it is
+
+-- it was done
+pub still_ok : (a b : Ram) → b ≡ record a { fault = b.fault } → b.fault ≡ a.fault → b ≡ a
+still_ok a b still same = still ∙ ap (λ f. record a { fault = f }) same
+
+-- what is so of the memory and the image after a look is so of those before it
+pub over : (P : Ram → Image → Type 0) (a b : Ram) (x y : Image) → b ≡ a → y ≡ x → P b y → P a x
+over P a b x y same still h = subst (P a) still (subst (λ r. P r y) same h)
+
+pub look_tells : {A : Type 0} (result : Result A WriteFault) (a b : Ram) → b.blocks ≡ a.blocks → IfErr result IsReadFault → Tells a b result
+look_tells (Ok x) a b same faults = (let e : good_count b.blocks.table ≡ good_count a.blocks.table = ap (λ (t : State). good_count t.table) same in omega arith)
+look_tells (Err ReadOnly) a b same faults = absurd faults
+look_tells (Err SequenceSpent) a b same faults = absurd faults
+look_tells (Err Damaged) a b same faults = tt
+look_tells (Err Bus) a b same faults = tt
+
+pub look_short : (fault : WriteFault) (a b : Ram) → IsReadFault fault → CallShort a b (Err (call.Engine fault))
+look_short ReadOnly a b h = absurd h
+look_short SequenceSpent a b h = absurd h
+look_short Damaged a b h = tt
+look_short Bus a b h = tt
+
+pub look_refused : (fault : WriteFault) (g : Geometry) (x y : Image) (r : Ram) → fault ≡ Bus → CallRefused g x r y (call.Engine fault)
+look_refused fault g x y r is = subst (λ f. CallRefused g x r y (call.Engine f)) (sym is) tt
+
+call_tells_then : (a b c : Ram) (result : Result (Unit {0}) CallFault) → b.blocks ≡ a.blocks → CallTells b c result → CallTells a c result
+call_tells_then a b c (Ok done) same h = (let e : good_count b.blocks.table ≡ good_count a.blocks.table = ap (λ (t : State). good_count t.table) same in omega (arith, h))
+call_tells_then a b c (Err (call.Engine ReadOnly)) same h = (let e : good_count b.blocks.table ≡ good_count a.blocks.table = ap (λ (t : State). good_count t.table) same in (h.0, omega (arith, h.1)))
+call_tells_then a b c (Err (call.Engine SequenceSpent)) same h = h
+call_tells_then a b c (Err (call.Engine Damaged)) same h = tt
+call_tells_then a b c (Err (call.Engine Bus)) same h = tt
+call_tells_then a b c (Err call.OutOfMemory) same h = h
+
+module _ {N : Type 0} (flash : N → Flash) (recorded : N → Option Recording) (honest calm : N → Bool) (failed : N → ℕ) where
+  -- a call that was done after a look keeps what is known
+  pub keeps_look : (old mid : Engine N) → ram mid ≡ ram old → (honest old.nand ≡ true → flash mid.nand ≡ flash old.nand) → KeepsOn flash honest old mid
+  keeps_look old mid same still = λ is_honest k. over (λ r i. KeepsArray old.geometry (image_in flash old) r i) (ram mid) (ram old) (image_in flash mid) (image_in flash old) (sym same) (ap (λ f. f.image) (sym (still is_honest))) (keeps_same (ram old) (image_in flash old) k)
+
+  -- the rest of the call after it
+  pub ends_after : {A : Type 0} (old mid new : Engine N) (x : A) (result : Result (Unit {0}) CallFault) → ram mid ≡ ram old → (honest old.nand ≡ true → flash mid.nand ≡ flash old.nand) → Leaves flash recorded honest calm failed old (Ok x) mid → Ends flash recorded honest calm failed mid result new → Ends flash recorded honest calm failed old result new
+  ends_after old mid new x result same still first next = record {
+    safe = next.safe;
+    fault = next.fault;
+    geometry = next.geometry ∙ first.geometry;
+    honest_is = next.honest_is ∙ first.honest_is;
+    calm_is = next.calm_is ∙ first.calm_is;
+    failed_is = omega (arith, first.failed_is, next.failed_is);
+    rose = λ bus. risen_over (failed old.nand) (failed mid.nand) (failed new.nand) first.failed_is (next.rose bus);
+    limits = limits_then _ _ _ limits next.limits;
+    calm_memory = next.calm_memory;
+    tells = call_tells_then (ram old) (ram mid) (ram new) result (ap (λ (r : Ram). r.blocks) same) next.tells;
+    went = λ is_honest ne. went_then (ram old) (ram mid) (ram new) _ _ _ _ _ _ first.geometry (first.went is_honest (λ bus. (let no : ⊥ = cc in no))) (next.went (first.honest_is ∙ is_honest) ne);
+    stops = λ is_honest k ne.
+        let kept = keeps_look old mid same still is_honest k in
+        stops_on flash recorded old mid new first.geometry limits kept.array (first.stops is_honest k (λ bus. (let no : ⊥ = cc in no))) (next.stops (first.honest_is ∙ is_honest) kept.truth ne);
+  }
+    where
+      limits : HasLimitsOf old.mapping mid.mapping
+      limits = record { geometry = ap (λ (r : Ram). r.mapping.geometry) same; capacity = ap (λ (r : Ram). r.mapping.capacity) same }

@@ -1,0 +1,57 @@
+use Rattle.std.proofs.Common.{◌≡◌, inr, refl, Ok, Err}
+use Rattle.std.proofs.lemmas.Result.{err_from_is_err_and}
+use Rattle.promises.specs.Step as step
+use Rattle.collection.specs.Safe.{ram, image_in}
+use Rattle.ftl_device.proofs.FlushLoops.{keeps_same}
+use Rattle.ftl_device.proofs.LeaveLemmas.{leaves_same, leaves_ends}
+use Rattle.ftl_device.proofs.ShownLemmas.{left_after}
+use Rattle.ftl_device.proofs.SpentLemmas.{funded_begun, five_free}
+use Rattle.ftl_device.proofs.UpkeepLemmas.{upkept_by, not_upkept}
+use Rattle.ftl_device.proofs.device.Device.migrate_one.Goals as goal
+
+pub returns-in_err-may_flush-clause-upkeeps : goal.returns-in_err-may_flush-clause-upkeeps
+returns-in_err-may_flush-clause-upkeeps g c =
+    let p = err_from_is_err_and c.from_residual.result c.from_residual.ensures.1 in
+    rw (p.1, p.2) (not_upkept g.N.PageSource.flash g.N.PageSource.recorded g.N.PageSource.honest g.N.PageSource.calm g.N.PageSource.failed step.Turn c.args.self.now c.requires.device (λ reply s h. h) _ c.in_err-may_flush.ensures.may_not)
+
+-- ---- nothing was looked for
+
+pub returns-then-spare_bytes-lt-SPARE_FOR_VERSION_2-clause-upkeeps : goal.returns-then-spare_bytes-lt-SPARE_FOR_VERSION_2-clause-upkeeps
+returns-then-spare_bytes-lt-SPARE_FOR_VERSION_2-clause-upkeeps g c =
+    let d = c.args.self.now in
+    let may = c.in_ok-may_flush.ensures.may in
+    let five = five_free (ram d.engine) d.read_only c.requires.device.read_only may.writable in
+    upkept_by g.N.PageSource.flash g.N.PageSource.recorded g.N.PageSource.honest g.N.PageSource.calm g.N.PageSource.failed step.Turn d d c.requires.device c.requires.device may (λ reply s h. h) d.engine _ (Ok tt) (Ok tt) refl refl refl (record {
+      ends = leaves_ends g.N.PageSource.flash g.N.PageSource.recorded g.N.PageSource.honest g.N.PageSource.calm g.N.PageSource.failed d.engine d.engine (Ok tt) (leaves_same g.N.PageSource.flash g.N.PageSource.recorded g.N.PageSource.honest g.N.PageSource.calm g.N.PageSource.failed d.engine c.requires.device.engine may.going) (record { geometry = refl; capacity = refl }) c.requires.device.calm;
+      no_memory = λ e. (let no : ⊥ = cc in no);
+      truth = λ honest w. keeps_same (ram d.engine) (image_in g.N.PageSource.flash d.engine) w;
+      lacks = λ honest w fault e. (let no : ⊥ = cc in absurd no);
+      left = λ honest w log ro flag on. left_after g.N.PageSource.flash g.N.PageSource.recorded step.Turn d.engine d.engine d.engine log d.read_only ro (Ok tt) (Ok tt) 0 refl refl c.requires.device.engine.memory c.requires.device.engine.memory refl flag on (inr five);
+      worth = λ honest w log its. (let no : ⊥ = cc in absurd no);
+    })
+
+-- ---- a page was looked for
+
+pub returns-in_err-finish-clause-upkeeps : goal.returns-in_err-finish-clause-upkeeps
+returns-in_err-finish-clause-upkeeps g c =
+    let p = err_from_is_err_and c.from_residual-in_err-finish.result c.from_residual-in_err-finish.ensures.1 in
+    rw (p.1, p.2) (upkept_by g.N.PageSource.flash g.N.PageSource.recorded g.N.PageSource.honest g.N.PageSource.calm g.N.PageSource.failed step.Turn c.args.self.now c.finish.new.self c.requires.device c.finish.ensures.device c.in_ok-may_flush.ensures.may (λ reply s h. h)
+    c.migrate_ready-answer.new.engine c.good-good.result c.migrate_ready-answer.result (Err _) c.finish.ensures.engine c.good-good.ensures c.in_err-finish.ensures.answer (record {
+      ends = c.migrate_ready-answer.ensures.ends;
+      no_memory = c.migrate_ready-answer.ensures.memory;
+      truth = c.migrate_ready-answer.ensures.truth;
+      lacks = λ honest w. λ fault is. c.migrate_ready-answer.ensures.count (honest, w, funded_begun (ram c.args.self.now.engine) c.args.self.now.read_only c.requires.device.read_only c.in_ok-may_flush.ensures.may.writable) (five_free (ram c.args.self.now.engine) c.args.self.now.read_only c.requires.device.read_only c.in_ok-may_flush.ensures.may.writable);
+      left = λ honest w log ro flag on. left_after g.N.PageSource.flash g.N.PageSource.recorded step.Turn c.args.self.now.engine c.migrate_ready-answer.new.engine c.migrate_ready-answer.new.engine log c.args.self.now.read_only ro c.migrate_ready-answer.result _ _ refl refl c.requires.device.engine.memory c.migrate_ready-answer.ensures.ends.safe.memory c.migrate_ready-answer.ensures.ends.geometry flag on (c.migrate_ready-answer.ensures.count (honest, w, funded_begun (ram c.args.self.now.engine) c.args.self.now.read_only c.requires.device.read_only c.in_ok-may_flush.ensures.may.writable) (five_free (ram c.args.self.now.engine) c.args.self.now.read_only c.requires.device.read_only c.in_ok-may_flush.ensures.may.writable));
+      worth = λ honest w log its. (let no : ⊥ = cc in absurd no);
+    }))
+
+pub returns-clause-upkeeps : goal.returns-clause-upkeeps
+returns-clause-upkeeps g c = upkept_by g.N.PageSource.flash g.N.PageSource.recorded g.N.PageSource.honest g.N.PageSource.calm g.N.PageSource.failed step.Turn c.args.self.now c.finish.new.self c.requires.device c.finish.ensures.device c.in_ok-may_flush.ensures.may (λ reply s h. h)
+    c.migrate_ready-answer.new.engine c.good-good.result c.migrate_ready-answer.result (Ok tt) c.finish.ensures.engine c.good-good.ensures c.in_ok-finish.ensures.answer (record {
+      ends = c.migrate_ready-answer.ensures.ends;
+      no_memory = c.migrate_ready-answer.ensures.memory;
+      truth = c.migrate_ready-answer.ensures.truth;
+      lacks = λ honest w. λ fault is. c.migrate_ready-answer.ensures.count (honest, w, funded_begun (ram c.args.self.now.engine) c.args.self.now.read_only c.requires.device.read_only c.in_ok-may_flush.ensures.may.writable) (five_free (ram c.args.self.now.engine) c.args.self.now.read_only c.requires.device.read_only c.in_ok-may_flush.ensures.may.writable);
+      left = λ honest w log ro flag on. left_after g.N.PageSource.flash g.N.PageSource.recorded step.Turn c.args.self.now.engine c.migrate_ready-answer.new.engine c.migrate_ready-answer.new.engine log c.args.self.now.read_only ro c.migrate_ready-answer.result _ _ refl refl c.requires.device.engine.memory c.migrate_ready-answer.ensures.ends.safe.memory c.migrate_ready-answer.ensures.ends.geometry flag on (c.migrate_ready-answer.ensures.count (honest, w, funded_begun (ram c.args.self.now.engine) c.args.self.now.read_only c.requires.device.read_only c.in_ok-may_flush.ensures.may.writable) (five_free (ram c.args.self.now.engine) c.args.self.now.read_only c.requires.device.read_only c.in_ok-may_flush.ensures.may.writable));
+      worth = λ honest w log its. (let no : ⊥ = cc in absurd no);
+    })

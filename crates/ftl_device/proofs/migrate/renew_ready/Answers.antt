@@ -1,0 +1,74 @@
+use Rattle.std.proofs.Common.{◌∙◌, Ok, Err, refl, arith, ap}
+use Rattle.std.proofs.lemmas.Result.{err_from_is_err_and}
+use Rattle.collection.specs.Safe.{ram}
+use Rattle.collection.proofs.Lefts.{calm_law}
+use Rattle.ftl_device.proofs.FlushLoops.{limits_then, engine_keeps, keeps_then, keeps_refused}
+use Rattle.ftl_device.proofs.RoomLemmas.{rescue_told, keeps_room, refused_room}
+use Rattle.ftl_device.proofs.SpentLemmas.{rescue_short, rescue_stuck, unroomed_short}
+use Rattle.ftl_device.proofs.LeaveLemmas.{leaves_by, leaves_then, leaves_done, leaves_ends, leaves_stuck}
+use Rattle.ftl_device.proofs.StepLemmas.{moved_less, rescue_refused}
+use Rattle.ftl_device.proofs.MigrateLemmas.{renews_by}
+use Rattle.ftl_device.proofs.migrate.renew_ready.Goals as goal
+
+pub returns-in_err-make_room-clause-truth : goal.returns-in_err-make_room-clause-truth
+returns-in_err-make_room-clause-truth g c =
+    let p = err_from_is_err_and c.from_residual.result c.from_residual.ensures.1 in
+    rw (p.1, p.2) (λ honest w. refused_room (ram c.args.engine.now) (ram c.make_room.new.engine) _ _ _ (c.in_err-make_room.ensures.truth honest w) (c.in_err-make_room.ensures.pinned honest w))
+
+pub returns-in_err-make_room-clause-count : goal.returns-in_err-make_room-clause-count
+returns-in_err-make_room-clause-count g c =
+    let p = err_from_is_err_and c.from_residual.result c.from_residual.ensures.1 in
+    rw (p.1, p.2) (λ known five. unroomed_short _ (ram c.args.engine.now) (ram c.make_room.new.engine) (c.in_err-make_room.ensures.count known.0 known.1 0 known.2))
+
+pub returns-in_err-make_room-clause-ends : goal.returns-in_err-make_room-clause-ends
+returns-in_err-make_room-clause-ends g c =
+    let p = err_from_is_err_and c.from_residual.result c.from_residual.ensures.1 in
+    rw (p.1, p.2) (leaves_stuck g.N.PageSource.flash g.N.PageSource.recorded g.N.PageSource.honest g.N.PageSource.calm g.N.PageSource.failed c.args.engine.now c.make_room.new.engine _ c.in_err-make_room.ensures.leaves c.make_room.ensures.keys.limits)
+
+pub returns-in_err-renew_at-clause-truth : goal.returns-in_err-renew_at-clause-truth
+returns-in_err-renew_at-clause-truth g c =
+    let p = err_from_is_err_and c.from_residual-in_err-renew_at.result c.from_residual-in_err-renew_at.ensures.1 in
+    rw (p.1, p.2) (λ honest w.
+    let room = c.in_ok-make_room.ensures.truth honest w in
+    let knows = c.in_ok-make_room.ensures.pinned honest w in
+    keeps_refused c.args.engine.now.geometry (ram c.make_room.new.engine) (ram c.renew_at.new.self) _ _ _ _ c.make_room.ensures.leaves.geometry (keeps_room (ram c.args.engine.now) (ram c.make_room.new.engine) _ _ room knows) (rescue_refused (ram c.make_room.new.engine) (ram c.renew_at.new.self) _ _ c.make_room.ensures.leaves.safe.memory c.renew_at.ensures.stands.safe.memory c.renew_at.ensures.goes c.renew_at.ensures.pin c.renew_at.ensures.one_more knows _ (c.in_err-renew_at.ensures.truth (c.make_room.ensures.leaves.honest_is ∙ honest) c.in_ok-make_room.ensures.leaves.fault room.truth (moved_less (ram c.make_room.new.engine) _ knows))))
+
+pub returns-in_err-renew_at-clause-count : goal.returns-in_err-renew_at-clause-count
+returns-in_err-renew_at-clause-count g c =
+    let p = err_from_is_err_and c.from_residual-in_err-renew_at.result c.from_residual-in_err-renew_at.ensures.1 in
+    rw (p.1, p.2) (λ known five. rescue_stuck (ram c.args.engine.now) (ram c.make_room.new.engine) (ram c.renew_at.new.self) c.requires.safe.memory c.make_room.ensures.leaves.safe.memory c.renew_at.ensures.stands.safe.memory c.in_ok-make_room.ensures.made c.renew_at.ensures.goes (c.in_ok-make_room.ensures.count known.0 known.1 0 known.2) _ (c.in_err-renew_at.ensures.cost c.in_ok-make_room.ensures.leaves.fault))
+
+pub returns-in_err-renew_at-clause-ends : goal.returns-in_err-renew_at-clause-ends
+returns-in_err-renew_at-clause-ends g c =
+    let p = err_from_is_err_and c.from_residual-in_err-renew_at.result c.from_residual-in_err-renew_at.ensures.1 in
+    rw (p.1, p.2) (leaves_stuck g.N.PageSource.flash g.N.PageSource.recorded g.N.PageSource.honest g.N.PageSource.calm g.N.PageSource.failed c.args.engine.now c.renew_at.new.self _ (leaves_then g.N.PageSource.flash g.N.PageSource.recorded g.N.PageSource.honest g.N.PageSource.calm g.N.PageSource.failed c.args.engine.now c.make_room.new.engine c.renew_at.new.self _ _
+    (λ honest k. keeps_room (ram c.args.engine.now) (ram c.make_room.new.engine) _ _ (c.in_ok-make_room.ensures.truth honest k) (c.in_ok-make_room.ensures.pinned honest k)) c.make_room.ensures.keys.limits
+    c.in_ok-make_room.ensures.leaves (leaves_by g.N.PageSource.flash g.N.PageSource.recorded g.N.PageSource.honest g.N.PageSource.calm g.N.PageSource.failed c.make_room.new.engine c.renew_at.new.self (Err _) c.in_ok-make_room.ensures.leaves.fault c.in_err-renew_at.ensures.stands c.renew_at.ensures.goes.geometry
+    (rescue_told (Err _) (ram c.make_room.new.engine) (ram c.renew_at.new.self) c.make_room.ensures.leaves.safe.memory c.renew_at.ensures.stands.safe.memory c.renew_at.ensures.goes (c.in_err-renew_at.ensures.cost c.in_ok-make_room.ensures.leaves.fault))
+    (λ honest k ne. c.in_err-renew_at.ensures.stops honest c.in_ok-make_room.ensures.leaves.fault k.truth ne))) (limits_then _ _ _ c.make_room.ensures.keys.limits c.renew_at.ensures.keys.limits))
+
+pub returns-clause-truth : goal.returns-clause-truth
+returns-clause-truth g c = λ honest w.
+    let room = c.in_ok-make_room.ensures.truth honest w in
+    let knows = c.in_ok-make_room.ensures.pinned honest w in
+    let one = c.in_ok-renew_at.ensures.truth (c.make_room.ensures.leaves.honest_is ∙ honest) c.in_ok-make_room.ensures.leaves.fault room.truth (moved_less (ram c.make_room.new.engine) _ knows) in
+    engine_keeps c.args.engine.now.geometry (ram c.make_room.new.engine) (ram c.renew_at.new.self) _ _ _ c.make_room.ensures.leaves.geometry c.make_room.ensures.leaves.safe.memory c.renew_at.ensures.stands.safe.memory c.in_ok-renew_at.ensures.beside (keeps_room (ram c.args.engine.now) (ram c.make_room.new.engine) _ _ room knows) one.same
+
+pub returns-clause-count : goal.returns-clause-count
+returns-clause-count g c = λ known five. rescue_short (ram c.args.engine.now) (ram c.make_room.new.engine) (ram c.renew_at.new.self) c.requires.safe.memory c.make_room.ensures.leaves.safe.memory c.renew_at.ensures.stands.safe.memory c.in_ok-make_room.ensures.made c.renew_at.ensures.goes (c.in_ok-make_room.ensures.count known.0 known.1 0 known.2) _ (c.in_ok-renew_at.ensures.cost c.in_ok-make_room.ensures.leaves.fault)
+
+pub returns-clause-ends : goal.returns-clause-ends
+returns-clause-ends g c = leaves_ends g.N.PageSource.flash g.N.PageSource.recorded g.N.PageSource.honest g.N.PageSource.calm g.N.PageSource.failed c.args.engine.now c.renew_at.new.self (Ok tt) (leaves_done g.N.PageSource.flash g.N.PageSource.recorded g.N.PageSource.honest g.N.PageSource.calm g.N.PageSource.failed c.args.engine.now c.renew_at.new.self _ tt (leaves_then g.N.PageSource.flash g.N.PageSource.recorded g.N.PageSource.honest g.N.PageSource.calm g.N.PageSource.failed c.args.engine.now c.make_room.new.engine c.renew_at.new.self _ _
+    (λ honest k. keeps_room (ram c.args.engine.now) (ram c.make_room.new.engine) _ _ (c.in_ok-make_room.ensures.truth honest k) (c.in_ok-make_room.ensures.pinned honest k)) c.make_room.ensures.keys.limits
+    c.in_ok-make_room.ensures.leaves
+    (leaves_by g.N.PageSource.flash g.N.PageSource.recorded g.N.PageSource.honest g.N.PageSource.calm g.N.PageSource.failed c.make_room.new.engine c.renew_at.new.self (Ok _) c.in_ok-make_room.ensures.leaves.fault c.in_ok-renew_at.ensures.stands c.renew_at.ensures.goes.geometry
+    (rescue_told (Ok _) (ram c.make_room.new.engine) (ram c.renew_at.new.self) c.make_room.ensures.leaves.safe.memory c.renew_at.ensures.stands.safe.memory c.renew_at.ensures.goes (c.in_ok-renew_at.ensures.cost c.in_ok-make_room.ensures.leaves.fault))
+    (λ honest k ne. c.in_ok-renew_at.ensures.stops honest c.in_ok-make_room.ensures.leaves.fault k.truth ne))))
+    (limits_then _ _ _ c.make_room.ensures.keys.limits c.renew_at.ensures.keys.limits) (λ none. calm_law (ram c.make_room.new.engine) (ram c.renew_at.new.self) c.in_ok-renew_at.ensures.beside c.in_ok-make_room.ensures.made.calm)
+
+pub returns-clause-renews : goal.returns-clause-renews
+returns-clause-renews g c = λ honest w.
+    let room = c.in_ok-make_room.ensures.truth honest w in
+    let knows = c.in_ok-make_room.ensures.pinned honest w in
+    let one = c.in_ok-renew_at.ensures.truth (c.make_room.ensures.leaves.honest_is ∙ honest) c.in_ok-make_room.ensures.leaves.fault room.truth (moved_less (ram c.make_room.new.engine) _ knows) in
+    renews_by (ram c.args.engine.now) (ram c.make_room.new.engine) (ram c.renew_at.new.self) _ _ _ c.args.row c.make_room.ensures.leaves.geometry room one
