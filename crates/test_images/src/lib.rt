@@ -26,35 +26,54 @@ fn record_of(page: &Written) -> Record {
     }
 }
 
-/// How the pages of a die are laid out: the length of its spare areas, and whether the pages of odd rows are of version 1 even
-/// where there is room for version 2.
+/// Which pages of a die are of version 1 although there is room for version 2.
+#[derive(Clone, Copy, Debug)]
+pub enum Old {
+    /// None is.
+    Never,
+    /// Those of odd rows are.
+    Odd,
+    /// All are.
+    All,
+}
+
+/// How the pages of a die are laid out.
 #[derive(Clone, Copy, Debug)]
 pub struct Layout {
-    /// In bytes, at least 32.
+    /// The length of its spare areas, in bytes, at least 32.
     pub spare_bytes: u32,
-    /// Odd rows are of version 1.
-    pub mixed: bool,
+    /// The pages of version 1.
+    pub old: Old,
 }
 
 /// Version 1 alone, version 2 alone, both, and both in the longest spare areas. No check, mount or format tells them apart.
 pub const LAYOUTS: [Layout; 4] = [
     Layout {
         spare_bytes: 32,
-        mixed: false,
+        old: Old::Never,
     },
     Layout {
         spare_bytes: 40,
-        mixed: false,
+        old: Old::Never,
     },
     Layout {
         spare_bytes: 40,
-        mixed: true,
+        old: Old::Odd,
     },
     Layout {
         spare_bytes: 256,
-        mixed: true,
+        old: Old::Odd,
     },
 ];
+
+// Whether the page of a row is one of those.
+fn is_old(old: Old, row: u32) -> bool {
+    match old {
+        Old::Never => false,
+        Old::Odd => row % 2 == 1,
+        Old::All => true,
+    }
+}
 
 // Writes the spare area of a page with this record, where both areas are as long as the geometry says.
 fn write_spare(geometry: &Geometry, record: &Record, old: bool, body: &[u8], spare: &mut [u8]) {
@@ -87,13 +106,13 @@ fn push_page(
 fn push_row(
     alloc: Global,
     geometry: &Geometry,
-    mixed: bool,
+    old: Old,
     pages: &[Written],
     row: u32,
     bytes: &mut Vec<u8>,
 ) -> Result<(), AllocError> {
     match pages.iter().find(|page| page.0 == row) {
-        Some(page) => push_page(alloc, geometry, page, mixed && row % 2 == 1, bytes),
+        Some(page) => push_page(alloc, geometry, page, is_old(old, row), bytes),
         None => bytes.resize(bytes.len() + 64 + geometry.spare_bytes(), 0xFF),
     }
 }
@@ -101,12 +120,12 @@ fn push_row(
 fn push_rows(
     alloc: Global,
     geometry: &Geometry,
-    mixed: bool,
+    old: Old,
     pages: &[Written],
 ) -> Result<Vec<u8>, AllocError> {
     let mut bytes = Vec::new(alloc);
     for row in 0..256 {
-        push_row(alloc, geometry, mixed, pages, row, &mut bytes)?;
+        push_row(alloc, geometry, old, pages, row, &mut bytes)?;
     }
     Ok(bytes)
 }
@@ -117,7 +136,7 @@ pub fn image_of(
     geometry: &Geometry,
     pages: &[Written],
 ) -> Result<Vec<u8>, AllocError> {
-    push_rows(alloc, geometry, false, pages)
+    push_rows(alloc, geometry, Old::Never, pages)
 }
 
 /// The same of a die of this layout, whose geometry it is.
@@ -127,7 +146,7 @@ pub fn laid_out(
     layout: Layout,
     pages: &[Written],
 ) -> Result<Vec<u8>, AllocError> {
-    push_rows(alloc, geometry, layout.mixed, pages)
+    push_rows(alloc, geometry, layout.old, pages)
 }
 
 /// What a certificate says of a block: its number, class, write pointer, live pages and erase count.
