@@ -144,7 +144,9 @@ def show(image, row):
         raise Refused("image", 2, "RowRange")
     found = image.records[row]
     if found is not None:
-        return f"{KINDS[found.kind]} {found.number} sequence {found.sequence} wear {found.wear}\n"
+        version = version_of(image.data[row], image.spare[row])
+        told = "" if version == 1 else f" version {version}"
+        return f"{KINDS[found.kind]} {found.number} sequence {found.sequence} wear {found.wear}{told}\n"
     return "erased\n" if image.erased[row] else "unsound\n"
 
 

@@ -1,5 +1,5 @@
 -- What a page shows of itself, and the command `show`.
-use Rattle.std.specs.Prelude.{◌≡◌, ◌≢◌, ◌⊎◌, ◌<◌, ◌≤◌, ◌*◌, ℕ, Bool, true, false, List, [], ◌∷◌, ◌++◌, length, codes, slice_get, Option, Some, None}
+use Rattle.std.specs.Prelude.{◌≡◌, ◌≢◌, ◌⊎◌, ◌<◌, ◌≤◌, ◌*◌, ◌==◌, if◌then◌else◌, ℕ, Bool, true, false, List, [], ◌∷◌, ◌++◌, length, codes, slice_get, Option, Some, None}
 use Rattle.std.specs.Prelude.{Result, Ok, Err}
 use Rattle.std.specs.Io.KnownBytes.{Appends, Keeps}
 use Rattle.std.specs.Fmt.{decimal}
@@ -11,7 +11,7 @@ use Rattle.page_layout.specs.Geometry.{row_count, page_bytes}
 use Rattle.page_layout.specs.Faults.{IsFirstFault}
 use Rattle.page_layout.specs.Page.{Page, Image}
 use Rattle.page_layout.specs.Raw.{raw_image}
-use Rattle.page_layout.specs.Sound.{record_of, is_erased_page}
+use Rattle.page_layout.specs.Sound.{record_of, version_of, is_erased_page}
 use Rattle.request_stream.specs.Frames.{AppendsFront}
 use Rattle.command_words.specs.declared.numbers.GeometryNumbers.{GeometryNumbers}
 use Rattle.commands.specs.declared.show.Shown.{Shown}
@@ -24,14 +24,16 @@ use Rattle.command_words.specs.Numbers.{SpellsGeometry, number_of}
 use Rattle.commands.specs.Files.{Gives}
 use Rattle.commands.specs.Sector.{AsksForNumber, HasImage}
 
--- its record where it has one, else whether it is erased
-abbrev pub shown_by : Option Record → Bool → Shown
-shown_by (Some r) erased = Sound r
-shown_by None true = Erased
-shown_by None false = Unsound
+-- its record and its version where it has them, else whether it is erased
+abbrev pub shown_by : Option Record → Option ℕ → Bool → Shown
+shown_by (Some r) (Some version) erased = Sound r version
+shown_by (Some r) None true = Erased
+shown_by (Some r) None false = Unsound
+shown_by None version true = Erased
+shown_by None version false = Unsound
 
 abbrev pub shown_of : Page → Shown
-shown_of p = shown_by (record_of p) (is_erased_page p)
+shown_of p = shown_by (record_of p) (version_of p) (is_erased_page p)
 
 -- what a page holds, in one word
 abbrev pub kind_word : Kind → List ℕ
@@ -40,10 +42,14 @@ kind_word kind.Trim = codes "trim"
 kind_word kind.Translation = codes "translation"
 kind_word kind.Table = codes "table"
 
+-- a version that is not the first is told
+abbrev pub version_words : ℕ → List ℕ
+version_words version = if version == 2 then codes " version 2" else []
+
 -- the line
 abbrev pub shown_line : Shown → List ℕ
-shown_line (Sound r) =
-    kind_word r.kind ++ (codes " " ++ (decimal r.number ++ (codes " sequence " ++ (decimal r.sequence ++ (codes " wear " ++ (decimal r.wear ++ (10 ∷ [])))))))
+shown_line (Sound r version) =
+    kind_word r.kind ++ (codes " " ++ (decimal r.number ++ (codes " sequence " ++ (decimal r.sequence ++ (codes " wear " ++ (decimal r.wear ++ (version_words version ++ (10 ∷ []))))))))
 shown_line Erased = codes "erased" ++ (10 ∷ [])
 shown_line Unsound = codes "unsound" ++ (10 ∷ [])
 

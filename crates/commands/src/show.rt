@@ -12,15 +12,15 @@ use crate::text::CommandFault;
 use command_words::ImageWords;
 use itoa::Buffer;
 use page_layout::geometry::Geometry;
-use page_layout::record::{Kind, Record, is_erased, read_record};
+use page_layout::record::{Kind, Record, is_erased, read_record, record_version};
 use page_layout::source::ImageSlice;
 use std::io::Write;
 
 /// What a page shows of itself.
 #[derive(Clone, Copy)]
 pub enum Shown {
-    /// It is sound, with this record.
-    Sound(Record),
+    /// It is sound, with this record, in this version.
+    Sound(Record, u8),
     /// All its bytes are FFh.
     Erased,
     /// It is neither.
@@ -39,10 +39,21 @@ fn kind_word(kind: Kind) -> &'static str
     }
 }
 
+// What the line of a sound page ends with: a version that is not the first is told.
+fn version_words(version: u8) -> &'static str
+    ensures { result.now ≡ Rattle.commands.specs.Show.version_words version }
+{
+    if version == 2 { " version 2" } else { "" }
+}
+
 // Writes the line of a sound page.
-fn print_record<'a, W: Write>(found: &Record, out: &mut W) -> Result<(), CommandFault<'a>>
-    ensures ok { OnOk result (Appends (W.contents out.old) (W.contents out.new) (shown_line (Shown.Sound found.now))) }
-    ensures fault { IfErr result (IsUnprinted (shown_line (Shown.Sound found.now)) (W.contents out.old) (W.contents out.new)) }
+fn print_record<'a, W: Write>(
+    found: &Record,
+    version: u8,
+    out: &mut W,
+) -> Result<(), CommandFault<'a>>
+    ensures ok { OnOk result (Appends (W.contents out.old) (W.contents out.new) (shown_line (Shown.Sound found.now version))) }
+    ensures fault { IfErr result (IsUnprinted (shown_line (Shown.Sound found.now version)) (W.contents out.old) (W.contents out.new)) }
 {
     let (mut number, mut sequence, mut wear) = (Buffer::new(), Buffer::new(), Buffer::new());
     let line = [
@@ -53,6 +64,7 @@ fn print_record<'a, W: Write>(found: &Record, out: &mut W) -> Result<(), Command
         sequence.format(found.sequence),
         " wear ",
         wear.format(found.wear),
+        version_words(version),
         "\n",
     ];
     print(out, &line)
@@ -64,7 +76,7 @@ fn print_shown<'a, W: Write>(shown: &Shown, out: &mut W) -> Result<(), CommandFa
     ensures fault { IfErr result (IsUnprinted (shown_line shown.now) (W.contents out.old) (W.contents out.new)) }
 {
     match shown {
-        Shown::Sound(record) => print_record(record, out),
+        Shown::Sound(record, version) => print_record(record, *version, out),
         Shown::Erased => print(out, &["erased\n"]),
         Shown::Unsound => print(out, &["unsound\n"]),
     }
@@ -75,15 +87,16 @@ fn look_at(geometry: &Geometry, body: &[u8], spare: &[u8]) -> Shown
     requires spare_whole { length spare.now ≡ geometry.now.spare_bytes }
     ensures { result ≡ shown_of (page body.now spare.now) }
 {
-    match read_record(geometry, body, spare) {
-        Some(record) => Shown::Sound(record),
+    let found = read_record(geometry, body, spare);
+    match found.zip(record_version(geometry, body, spare)) {
+        Some((record, version)) => Shown::Sound(record, version),
         None if is_erased(body, spare) => Shown::Erased,
         None => Shown::Unsound,
     }
 }
 
-/// Writes what a page of the image shows of itself as one line: its record where it is sound, else
-/// `erased` where all its bytes are FFh, else `unsound`.
+/// Writes what a page of the image shows of itself as one line: its record where it is sound, and
+/// `version 2` where it is of that version, else `erased` where all its bytes are FFh, else `unsound`.
 ///
 /// # Errors
 ///

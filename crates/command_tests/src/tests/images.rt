@@ -3,7 +3,10 @@ use page_layout::geometry::Geometry;
 use std::alloc::{AllocError, Global};
 use std::process::Abort;
 use std::test::Fail;
-use test_images::{Claim, FORMATTED, Said, TABLE_0, TABLE_1, Written, certificate_bytes, image_of};
+use test_images::{
+    Claim, FORMATTED, Layout, Said, TABLE_0, TABLE_1, Written, certificate_bytes, image_of,
+    laid_out,
+};
 
 /// The bytes of a page.
 pub const PAGE_BYTES: usize = 96;
@@ -15,6 +18,12 @@ pub const IMAGE_BYTES: usize = 24576;
 fn image(alloc: Global, pages: &[Written]) -> Result<Vec<u8>, Fail> {
     let geometry = Geometry::new(64, 32, 8, 32, 32)?;
     Ok(image_of(alloc, &geometry, pages)?)
+}
+
+// The same of a die of another layout.
+fn image_in(alloc: Global, layout: Layout, pages: &[Written]) -> Result<Vec<u8>, Fail> {
+    let geometry = Geometry::new(64, layout.spare_bytes, 8, 32, 32)?;
+    Ok(laid_out(alloc, &geometry, layout, pages)?)
 }
 
 // The image of a formatted die without marks, with these pages besides its two table pages.
@@ -98,6 +107,8 @@ pub enum Made {
     Marked(&'static [usize]),
     /// An image of erased pages, but for these.
     Image(&'static [Written]),
+    /// The same of a die of another layout.
+    LaidOut(Layout, &'static [Written]),
     /// Such an image in which the byte at this place is another.
     ImageBut(&'static [Written], usize, u8),
     /// The image of a formatted die without marks, with these pages besides its two table pages.
@@ -115,6 +126,7 @@ pub fn bytes_of(rt: &impl Abort, alloc: Global, bytes: &Made) -> Result<Vec<u8>,
         Made::Erased(length) => erased(alloc, *length)?,
         Made::Marked(rows) => marked(rt, alloc, rows)?,
         Made::Image(pages) => image(alloc, pages)?,
+        Made::LaidOut(layout, pages) => image_in(alloc, *layout, pages)?,
         Made::ImageBut(pages, at, value) => image_but(rt, alloc, pages, *at, *value)?,
         Made::Formatted(pages) => formatted(alloc, pages)?,
         Made::Certificate(claimed) => cut(rt, alloc, claimed, 472)?,

@@ -3,7 +3,7 @@ use super::images::{IMAGE_BYTES, Made};
 use super::runs::{Case, Step, expect_cases};
 use page_layout::record::Kind;
 use std::test::Fail;
-use test_images::Written;
+use test_images::{Layout, Written};
 
 const KINDS: [Written; 4] = [
     (0, Kind::Sector, 5, 3, 0, 0x11),
@@ -40,11 +40,39 @@ const SHOWN: [Step; 6] = [
 
 const PAST: &str = "nandctl show 64,32,8,32,32 image.bin 256";
 
-const CASES: [Case; 3] = [
+// A page of version 2, and one of version 1.
+const EITHER: [Step; 2] = [
+    Step::Run(
+        "nandctl show 64,40,8,32,32 image.bin 0",
+        0,
+        "data 5 sequence 3 wear 0 version 2\n",
+    ),
+    Step::Run(
+        "nandctl show 64,40,8,32,32 image.bin 1",
+        0,
+        "trim 5 sequence 3 wear 7\n",
+    ),
+];
+
+const CASES: [Case; 4] = [
     Case {
         name: "a page of each kind",
         files: &[("image.bin", Made::ImageBut(&KINDS, IMAGE_BYTES - 1, 0xFE))],
         steps: &SHOWN,
+    },
+    Case {
+        name: "a page of each version",
+        files: &[(
+            "image.bin",
+            Made::LaidOut(
+                Layout {
+                    spare_bytes: 40,
+                    mixed: true,
+                },
+                &KINDS,
+            ),
+        )],
+        steps: &EITHER,
     },
     Case {
         name: "a row past the die",
