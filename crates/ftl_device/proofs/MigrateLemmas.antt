@@ -1,20 +1,19 @@
 -- Pages of version 1 are brought forward.
-use Rattle.std.proofs.Common.{◌≡◌, ◌≢◌, inl, inr, ℕ, ◌<◌, ◌≤◌, Bool, true, false, Option, Some, None, Result, Ok, Err, refl, ap, sym, ◌∙◌, subst, arith}
+use Rattle.std.proofs.Common.{◌≡◌, inl, inr, ℕ, Bool, true, false, Option, Some, Result, Ok, Err, ap, sym, ◌∙◌, subst, arith}
 use Rattle.std.proofs.lemmas.Bool.{cases_Bool}
 use Rattle.page_layout.specs.declared.geometry.Geometry.{Geometry}
 use Rattle.page_layout.specs.declared.record.Key.{Key}
 use Rattle.page_layout.specs.Page.{Image}
 use Rattle.page_layout.specs.Sound.{version_for}
-use Rattle.page_layout.specs.Key.{key_of}
 use Rattle.page_layout.specs.Newest.{newest}
 use Rattle.page_layout.specs.Live.{IsKeyOf}
 use Rattle.page_layout.specs.Array.{marks, HasOneArray}
-use Rattle.page_layout.specs.Version.{is_old, old_pages, HasOldAt, AddsNoOld}
+use Rattle.page_layout.specs.Version.{is_old, HasOldAt}
 use Rattle.page_layout.proofs.NewestLemmas.{newest-record}
 use Rattle.page_layout.proofs.VersionLemmas.{old_at, old_from, fewer_old}
 use Rattle.collection.specs.State.{Ram}
 use Rattle.collection.specs.Collect.{IsRearranged}
-use Rattle.collection.specs.Renew.{is_table, HasNoneDue, HasDue, IsRenewedAt}
+use Rattle.collection.specs.Renew.{HasNoneDue, HasDue, IsRenewedAt}
 use Rattle.page_layout.specs.Flash.{Flash}
 use Rattle.page_layout.specs.Recording.{Recording}
 use Rattle.std.specs.Prelude.{IfErr, OnOk}
@@ -30,7 +29,7 @@ use Rattle.collection.proofs.Costs.{risen_over}
 use Rattle.collection.proofs.Logs.{went_then}
 use Rattle.ftl_device.specs.declared.fault.CallFault.{CallFault}
 use Rattle.ftl_device.specs.declared.fault.CallFault.TheVariants as call
-use Rattle.ftl_device.specs.Calls.{Tells, CallTells, Knows, KeepsArray, CallRefused}
+use Rattle.ftl_device.specs.Calls.{Tells, CallTells, KeepsArray, CallRefused}
 use Rattle.ftl_device.specs.Shortage.{CallShort}
 use Rattle.ftl_device.specs.Changes.{Leaves, Ends}
 use Rattle.ftl_device.proofs.FlushLoops.{keeps_same, limits_then}

@@ -1,12 +1,11 @@
 -- What a call of `migrate_one` does to the pages of version 1.
-use Rattle.std.specs.Prelude.{◌≡◌, ℕ, ◌<◌, Bool, true, false, Option, Some, None, Result, Ok, Err}
+use Rattle.std.specs.Prelude.{◌≡◌, ℕ, ◌<◌, Bool, true, false, Result, Ok, Err}
 use Rattle.page_layout.specs.declared.geometry.Geometry.{Geometry}
 use Rattle.page_layout.specs.declared.record.Key.{Key}
 use Rattle.page_layout.specs.Page.{Image}
 use Rattle.page_layout.specs.Sound.{version_for}
 use Rattle.page_layout.specs.Version.{is_old, old_pages, AddsNoOld}
-use Rattle.collection.specs.Renew.{is_table, HasNoneDue, HasDue}
-use Rattle.ftl_device.specs.declared.fault.CallFault.{CallFault}
+use Rattle.collection.specs.Renew.{is_table, HasNoneDue}
 use Rattle.ftl_device.specs.declared.fault.DeviceFault.{DeviceFault}
 
 -- how the call ended, whatever it found

@@ -3,7 +3,7 @@ use super::images::{IMAGE_BYTES, Made};
 use super::runs::{Case, Step, expect_cases};
 use page_layout::record::Kind;
 use std::test::Fail;
-use test_images::{Layout, Written};
+use test_images::{Layout, Old, Written};
 
 const KINDS: [Written; 4] = [
     (0, Kind::Sector, 5, 3, 0, 0x11),
@@ -67,7 +67,7 @@ const CASES: [Case; 4] = [
             Made::LaidOut(
                 Layout {
                     spare_bytes: 40,
-                    mixed: true,
+                    old: Old::Odd,
                 },
                 &KINDS,
             ),

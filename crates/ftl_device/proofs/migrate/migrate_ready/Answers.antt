@@ -1,8 +1,8 @@
-use Rattle.std.proofs.Common.{◌≡◌, ◌∙◌, ap, sym, subst, inr, arith, true, Ok, OnOk, MatchResult}
+use Rattle.std.proofs.Common.{◌∙◌, ap, sym, subst, inr, arith, Ok, OnOk}
 use Rattle.collection.specs.Safe.{ram, image_in}
 use Rattle.collection.specs.Renew.{FindsDue}
 use Rattle.collection.proofs.Looks.{none_from}
-use Rattle.ftl_device.specs.Calls.{Knows, KeepsArray, CallRefused}
+use Rattle.ftl_device.specs.Calls.{Knows}
 use Rattle.ftl_device.specs.Shortage.{HasFunds, CallShort}
 use Rattle.ftl_device.specs.Migrate.{Migrates}
 use Rattle.ftl_device.proofs.LeaveLemmas.{leaves_by}

@@ -1,4 +1,4 @@
-use Rattle.std.proofs.Common.{◌≡◌, inr, refl, Ok, Err}
+use Rattle.std.proofs.Common.{inr, refl, Ok, Err}
 use Rattle.std.proofs.lemmas.Result.{err_from_is_err_and}
 use Rattle.promises.specs.Step as step
 use Rattle.collection.specs.Safe.{ram, image_in}
