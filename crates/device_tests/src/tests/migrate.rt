@@ -8,27 +8,14 @@ use ftl_device::{Device, DeviceFault};
 use nand_die::Die;
 use onfi_cycles::{Driver, Nand};
 use page_layout::geometry::Geometry;
-use page_layout::record::{Kind, Record, read_record, record_version};
+use page_layout::record::{Kind, read_record, record_version};
 use page_layout::source::ImageSlice;
 use std::alloc::Global;
 use std::test::Fail;
 use test_images::{Layout, Old, TABLE_0, TABLE_1, Written, laid_out};
 
-// A page: its row, its record, and the version of that.
-type Row = (u32, Record, u8);
-
-const fn page(row: u32, kind: Kind, number: u32, sequence: u64, version: u8) -> Row {
-    (
-        row,
-        Record {
-            kind,
-            number,
-            sequence,
-            wear: 0,
-        },
-        version,
-    )
-}
+// A page: its row, the kind, the number and the sequence of its record, and its version.
+type Row = (u32, Kind, u32, u64, u8);
 
 // A die of this layout with these pages, how many calls migrate one, and the pages that it has after a flush.
 struct Case {
@@ -46,10 +33,9 @@ const WRITTEN: [Written; 4] = [
     (9, Kind::Trim, 7, 4, 0, 0),
 ];
 
-const OLD_TABLES: [Row; 2] = [
-    page(0, Kind::Table, 0, 1, 1),
-    page(1, Kind::Table, 1, 2, 1),
-];
+const OLD_TABLE_0: Row = (0, Kind::Table, 0, 1, 1);
+
+const OLD_TABLE_1: Row = (1, Kind::Table, 1, 2, 1);
 
 const CASES: [Case; 3] = [
     Case {
@@ -61,15 +47,15 @@ const CASES: [Case; 3] = [
         pages: &WRITTEN,
         migrated: 2,
         rows: &[
-            OLD_TABLES[0],
-            OLD_TABLES[1],
-            page(2, Kind::Translation, 0, 7, 2),
-            page(3, Kind::Table, 0, 8, 2),
-            page(4, Kind::Table, 1, 9, 2),
-            page(8, Kind::Sector, 5, 3, 1),
-            page(9, Kind::Trim, 7, 4, 1),
-            page(10, Kind::Sector, 5, 5, 2),
-            page(11, Kind::Trim, 7, 6, 2),
+            OLD_TABLE_0,
+            OLD_TABLE_1,
+            (2, Kind::Translation, 0, 7, 2),
+            (3, Kind::Table, 0, 8, 2),
+            (4, Kind::Table, 1, 9, 2),
+            (8, Kind::Sector, 5, 3, 1),
+            (9, Kind::Trim, 7, 4, 1),
+            (10, Kind::Sector, 5, 5, 2),
+            (11, Kind::Trim, 7, 6, 2),
         ],
     },
     Case {
@@ -81,14 +67,14 @@ const CASES: [Case; 3] = [
         pages: &WRITTEN,
         migrated: 1,
         rows: &[
-            page(0, Kind::Table, 0, 1, 2),
-            OLD_TABLES[1],
-            page(2, Kind::Translation, 0, 6, 2),
-            page(3, Kind::Table, 0, 7, 2),
-            page(4, Kind::Table, 1, 8, 2),
-            page(8, Kind::Sector, 5, 3, 2),
-            page(9, Kind::Trim, 7, 4, 1),
-            page(10, Kind::Trim, 7, 5, 2),
+            (0, Kind::Table, 0, 1, 2),
+            OLD_TABLE_1,
+            (2, Kind::Translation, 0, 6, 2),
+            (3, Kind::Table, 0, 7, 2),
+            (4, Kind::Table, 1, 8, 2),
+            (8, Kind::Sector, 5, 3, 2),
+            (9, Kind::Trim, 7, 4, 1),
+            (10, Kind::Trim, 7, 5, 2),
         ],
     },
     Case {
@@ -100,13 +86,13 @@ const CASES: [Case; 3] = [
         pages: &WRITTEN,
         migrated: 0,
         rows: &[
-            OLD_TABLES[0],
-            OLD_TABLES[1],
-            page(2, Kind::Translation, 0, 5, 1),
-            page(3, Kind::Table, 0, 6, 1),
-            page(4, Kind::Table, 1, 7, 1),
-            page(8, Kind::Sector, 5, 3, 1),
-            page(9, Kind::Trim, 7, 4, 1),
+            OLD_TABLE_0,
+            OLD_TABLE_1,
+            (2, Kind::Translation, 0, 5, 1),
+            (3, Kind::Table, 0, 6, 1),
+            (4, Kind::Table, 1, 7, 1),
+            (8, Kind::Sector, 5, 3, 1),
+            (9, Kind::Trim, 7, 4, 1),
         ],
     },
 ];
@@ -143,7 +129,7 @@ fn image_of(alloc: Global, geometry: &Geometry, driver: Driver<Die>) -> Result<V
     Ok(image)
 }
 
-// What a row shows: its record and its version.
+// The page of a row, if it is sound.
 fn shown(geometry: &Geometry, image: &ImageSlice, row: u32) -> Option<Row> {
     if !image.geometry().has_row(row) {
         return None;
@@ -153,7 +139,8 @@ fn shown(geometry: &Geometry, image: &ImageSlice, row: u32) -> Option<Row> {
         return None;
     }
     let found = read_record(geometry, body, spare)?;
-    Some((row, found, record_version(geometry, body, spare)?))
+    let version = record_version(geometry, body, spare)?;
+    Some((row, found.kind, found.number, found.sequence, version))
 }
 
 // The image has these pages and no other sound ones.
