@@ -25,9 +25,9 @@ returns-clause-fault c =
     let g = c.args.geometry in
     let first = c.driver_of-driver.result in
     let last = c.format-answer.new.nand in
-    let loaded = c.driver_of-driver.ensures.flash ∙ ap (λ (d : DieValue). d.state.flash) c.in-Ok.ensures.made in
+    let its = c.driver_of-driver.ensures.flash ∙ ap (λ (d : DieValue). d.state.flash) c.in-Ok.ensures.made in
     let flawless : is_flawless c.into_bus-die.result.die ≡ true =
     ap (λ (bus : SteadyDie). is_flawless bus.die) c.into_bus-die.ensures.bus ∙ (c.format-answer.ensures.calm ∙ (c.driver_of-driver.ensures.flawless ∙ loaded_flawless g c.args.image.now _ c.in-Ok.ensures.made)) in
     unformatted g c.args.image.now c.in-Err-answer.fault (seen first.geometry first.bus.die.state.flash) (seen last.geometry last.bus.die.state.flash) c.into_bus-die.result.die
-    c.in-Ok.ensures.whole loaded (c.in-Err-answer.ensures.formats refl) (c.into_bus-die.ensures.flash refl) flawless
+    c.in-Ok.ensures.whole its (c.in-Err-answer.ensures.formats refl) (c.into_bus-die.ensures.flash refl) flawless
     (λ bus. not_risen first.failures last.failures 0 (c.in-Err-answer.ensures.bus (ap Err bus)) (c.into_bus-die.ensures.counted refl) refl)
