@@ -59,9 +59,11 @@ refused_as g before (refuse.NotFresh row) back flawless answered used = (used.en
 
 pub unformatted : (g : Geometry) (before : List ℕ) (refused : FormatFault) (old new : Flash) (back : DieValue) → length before ≡ row_count g * page_bytes g
     → old ≡ loaded_flash g before [] → Formats g old new (Err refused) → back.state.flash ≡ new → is_flawless back ≡ true → (refused ≡ refuse.Bus → ⊥) → IsUnformatted g before (fault.Format refused)
-unformatted g before refused old new back whole loaded formats same flawless answered =
-    (whole, refused_as g before refused back flawless answered
-    (subst (λ (f : Flash). Formats g f back.state.flash (Err refused)) loaded (subst (λ (f : Flash). Formats g old f (Err refused)) (sym same) formats)))
+unformatted g before refused old new back whole loaded formats same flawless answered = (
+  whole,
+  refused_as g before refused back flawless answered
+      (subst (λ (f : Flash). Formats g f back.state.flash (Err refused)) loaded (subst (λ (f : Flash). Formats g old f (Err refused)) (sym same) formats)),
+)
 
 -- ---- the command
 

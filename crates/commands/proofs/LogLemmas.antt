@@ -56,9 +56,10 @@ agrees old new op accounts next due passed moved is_due is_passed agree asked ne
       | inl e ↦
           let noted_is : account_at (accounted pages accounts op) b ≡ noted (account_at accounts at) op =
           subst (λ k. account_at (accounted pages accounts op) k ≡ noted (account_at accounts at) op) (sym e) (accounted-same pages accounts op at refl (within accounts at (due_good pages accounts op asked))) in
-          let here : turn_at new b ≡ turn_at new at = ap (turn_at new) e in
-          (ap (λ (t : TurnState). t.barred) here ∙ moved.passes_good is_due is_passed,
-          ap (λ (t : TurnState). t.next) here ∙ (moved.passes_next is_due is_passed ∙ (sym next_is ∙ ap (λ (a : Account). a.next) (sym noted_is))))
+          let here : turn_at new b ≡ turn_at new at = ap (turn_at new) e in (
+            ap (λ (t : TurnState). t.barred) here ∙ moved.passes_good is_due is_passed,
+            ap (λ (t : TurnState). t.next) here ∙ (moved.passes_next is_due is_passed ∙ (sym next_is ∙ ap (λ (a : Account). a.next) (sym noted_is))),
+          )
       | inr ne ↦
           let same : account_at (accounted pages accounts op) b ≡ account_at accounts b = accounted-other pages accounts op b (λ e. ne (sym e)) in
           let turn : turn_at new b ≡ turn_at old b = moved.others b ne in
