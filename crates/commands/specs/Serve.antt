@@ -143,7 +143,8 @@ Ends path image how before after (Ok done) = (how ≡ None) × (after ≡ with_s
 Ends path image how before after (Err (fault.Serve stopped)) = (how ≡ Some stopped) × (after ≡ with_store before (written path image))
 Ends path image how before after (Err (fault.Write text)) = (how ≡ None) × (text.now ≡ path) × (after ≡ with_store before (unwritten path image))
 Ends path image how before after (Err fault.OutOfMemory) = (how ≡ None) × (after ≡ before)
-Ends path image how before after (Err (fault.ServeUnstored stopped text)) = (how ≡ Some stopped) × (text.now ≡ path) × ((after ≡ with_store before (unwritten path image)) ⊎ (after ≡ before))
+Ends path image how before after (Err (fault.ServeUnstored stopped text)) = (how ≡ Some stopped) × (text.now ≡ path)
+    × ((after ≡ with_store before (unwritten path image)) ⊎ (after ≡ before))
 Ends path image how before after (Err _) = ⊥
 
 -- it ran: requests were served over the image, and it ended so
