@@ -18,7 +18,7 @@ stops gives words before after result stop is leaves because =
     subst P (sym is) (inl (leaves, because))
 
 -- the certificate that was made is the image's
-pub mounted_as : (gives : Gives) (words : CertificateWords) (g : Geometry) (capacity : ℕ) (bytes : List ℕ) (m : Mounted) → AsksForCapacity words g capacity → gives words.image.now (Ok bytes)
+abbrev pub mounted_as : (gives : Gives) (words : CertificateWords) (g : Geometry) (capacity : ℕ) (bytes : List ℕ) (m : Mounted) → AsksForCapacity words g capacity → gives words.image.now (Ok bytes)
     → IsMountedAs g capacity bytes m → HasMounted gives words
 mounted_as gives words g capacity bytes m asked given is = record { geometry = g; capacity = capacity; bytes = bytes; claim = is.claim; asked = asked; image = given; certified = is.certified }
 
