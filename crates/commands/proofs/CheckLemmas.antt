@@ -3,12 +3,11 @@ use Rattle.std.proofs.Common.{◌≡◌, ℕ, Bool, List, Option, Some, None, If
 use Rattle.std.specs.Io.KnownBytes.{Appends, Keeps}
 use Rattle.page_layout.specs.declared.geometry.Geometry.{Geometry}
 use Rattle.page_layout.specs.Counter.{HasRisen}
-use Rattle.page_layout.specs.Flash.{Flash}
-use Rattle.page_layout.specs.Raw.{raw_image, still}
+use Rattle.page_layout.specs.Raw.{raw_image}
 use Rattle.certificate.specs.Claim.{Claim}
 use Rattle.image_check.specs.declared.refusal.Refusal.{Refusal}
 use Rattle.image_check.specs.declared.refusal.Refusal.TheVariants as refusals
-use Rattle.image_check.specs.Refused.{IsFirstWrong, IsRefusal}
+use Rattle.image_check.specs.Refused.{IsFirstWrong}
 use Rattle.image_check.specs.Streamed.{IsStreamRefusal}
 use Rattle.image_check.specs.Accepted.{Acceptance, IsAcceptance}
 use Rattle.commands.specs.declared.files.FileFault.{FileFault}

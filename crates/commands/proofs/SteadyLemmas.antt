@@ -1,18 +1,18 @@
 -- No cycle changes whether a die is flawless, on which no stop is set. One that is loaded without bad blocks is.
-use Rattle.std.proofs.Common.{◌≡◌, ◌<◌, ◌+◌, ◌-◌, ◌/◌, ◌==◌, ◌&&◌, ◌||◌, ℕ, zero, suc, Bool, true, false, not, List, [], ◌∷◌, refl, sym, ap, ◌∙◌, arith, length, get_or, map, slice_set, is_some, None, if◌then◌else◌}
+use Rattle.std.proofs.Common.{◌≡◌, ◌<◌, ◌+◌, ◌-◌, ◌/◌, ◌==◌, ◌&&◌, ◌||◌, ℕ, zero, suc, Bool, true, false, not, List, [], ◌∷◌, refl, sym, ap, ◌∙◌, arith, length, get_or, map, slice_set, is_some, if◌then◌else◌}
 use Rattle.std.specs.List.{list_any, range_with_len}
 use Rattle.std.proofs.lemmas.Bool.{and_parts, ne_eqb, not-true}
 use Rattle.page_layout.specs.declared.geometry.Geometry.{Geometry}
 use Rattle.page_layout.specs.Page.{Page}
 use Rattle.page_layout.specs.Raw.{raw_image}
-use Rattle.page_layout.specs.Flash.{Flash, TurnState, Program, Erase, no_turn, turn_at, may_program, may_erase, after, after_program, after_erase}
+use Rattle.page_layout.specs.Flash.{TurnState, Program, Erase, no_turn, turn_at, may_program, may_erase, after, after_program, after_erase}
 use Rattle.onfi_cycles.specs.Cycles.{Cycle, Command, Address, DataIn, DataOut, Due, Moves, Resets, Programs, Erases, Refuses}
 use Rattle.nand_die.specs.declared.fault.Fault.{Fault}
 use Rattle.nand_die.specs.ChipValue.{ChipValue, answered, fault_next, program_passes, erase_passes, program_left, erase_left}
 use Rattle.nand_die.specs.DieValue.{DieValue, after_command, after_cycle, after_quiet, before_reset, chip_of, die_of, done_as, due_now, failed_as, is_calm, stops}
 use Rattle.nand_die.specs.Stopping.{is_change, left_by_stop}
 use Rattle.nand_die.specs.Faults.{fault_at}
-use Rattle.nand_die.specs.Made.{first_turn, first_turns, is_named, loaded_flash, next_in}
+use Rattle.nand_die.specs.Made.{first_turn, is_named, loaded_flash, next_in}
 use Rattle.nand_die.proofs.StopLemmas.{calm_stops, first_true}
 use Rattle.commands.specs.Steady.{is_flawless}
 

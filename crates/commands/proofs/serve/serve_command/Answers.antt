@@ -6,7 +6,7 @@ use Rattle.nand_die.specs.Made.{loaded_flash}
 use Rattle.commands.specs.declared.steady.SteadyDie.{SteadyDie}
 use Rattle.commands.specs.Check.{IsNoCertificate, IsSpelled, IsWhole}
 use Rattle.commands.specs.Files.{Stored, left}
-use Rattle.commands.specs.Serve.{Ends, HasClaim, HasServed, IsUnserved, bad_in, checked_words}
+use Rattle.commands.specs.Serve.{Ends, HasClaim, HasServed, IsUnserved, bad_in}
 use Rattle.commands.proofs.CheckLemmas.{unread_before}
 use Rattle.commands.proofs.FormatLemmas.{kept_whole}
 use Rattle.commands.proofs.ServeLemmas.{served_does, stops, unserved}
