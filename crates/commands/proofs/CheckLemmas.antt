@@ -3,12 +3,11 @@ use Rattle.std.proofs.Common.{◌≡◌, ℕ, Bool, List, Option, Some, None, If
 use Rattle.std.specs.Io.KnownBytes.{Appends, Keeps}
 use Rattle.page_layout.specs.declared.geometry.Geometry.{Geometry}
 use Rattle.page_layout.specs.Counter.{HasRisen}
-use Rattle.page_layout.specs.Flash.{Flash}
-use Rattle.page_layout.specs.Raw.{raw_image, still}
+use Rattle.page_layout.specs.Raw.{raw_image}
 use Rattle.certificate.specs.Claim.{Claim}
 use Rattle.image_check.specs.declared.refusal.Refusal.{Refusal}
 use Rattle.image_check.specs.declared.refusal.Refusal.TheVariants as refusals
-use Rattle.image_check.specs.Refused.{IsFirstWrong, IsRefusal}
+use Rattle.image_check.specs.Refused.{IsFirstWrong}
 use Rattle.image_check.specs.Streamed.{IsStreamRefusal}
 use Rattle.image_check.specs.Accepted.{Acceptance, IsAcceptance}
 use Rattle.commands.specs.declared.files.FileFault.{FileFault}
@@ -18,7 +17,7 @@ use Rattle.commands.specs.declared.text.CommandFault.TheVariants as fault
 use Rattle.command_words.specs.declared.words.CertificateWords.{CertificateWords}
 use Rattle.commands.specs.Files.{Gives}
 use Rattle.commands.specs.Inputs.{IsUnread}
-use Rattle.commands.specs.Check.{Accepts, DoesCheck, HasFiles, IsCheckFault, IsHeld, IsKept, IsSpelled, IsToldAs, IsUnheld, IsWhole, accepted_line}
+use Rattle.commands.specs.Check.{Accepts, DoesCheck, HasCertificate, HasFiles, IsCheckFault, IsHeld, IsKept, IsSpelled, IsToldAs, IsUnheld, IsWhole, accepted_line}
 use Rattle.commands.specs.Lines.{IsUnprinted}
 
 -- a count of failures that stays at none did not rise
@@ -61,15 +60,19 @@ held_accepts g capacity path known c before after (Err stop) held told un = inr 
 -- after all that came before it
 pub accepted_does : (gives : Gives) (tells : Bool) (words : CertificateWords) (g : Geometry) (capacity : ℕ) (known : Option (List ℕ)) (written : List ℕ) (c : Claim) (before after : Option (List ℕ)) (result : Result (Unit {0}) CommandFault)
     → HasFiles gives tells words g capacity known written → IsSpelled c written → Accepts g capacity words.image.now known c before after result → DoesCheck gives tells words before after result
-accepted_does gives tells words g capacity known written c before after (Ok done) files spelled accepts = (g, capacity, known, written, c, files, spelled, accepts.0, accepts.1)
-accepted_does gives tells words g capacity known written c before after (Err stop) files spelled (inl unheld) =
-    (kept stop before after unheld.0, inr (inr (inr (inr (inl (g, capacity, known, written, c, files, spelled, unheld.1))))))
-accepted_does gives tells words g capacity known written c before after (Err stop) files spelled (inr unprinted) =
-    (unkept stop unprinted.1, inr (inr (inr (inr (inr (g, capacity, known, written, c, files, spelled, unprinted.0, unprinted.1))))))
+accepted_does gives tells words g capacity known written c before after result files spelled accepts = go result accepts
   where
+    has : HasCertificate gives tells words
+    has = record { geometry = g; capacity = capacity; known = known; written = written; claim = c; files = files; spelled = spelled }
+
     unkept : (stop : CommandFault) → IsUnprinted accepted_line before after stop → IsKept stop before after
     unkept (fault.Write path) is = tt
     unkept _ is = absurd is
+
+    go : (r : Result (Unit {0}) CommandFault) → Accepts g capacity words.image.now known c before after r → DoesCheck gives tells words before after r
+    go (Ok done) held = (has, held.0, held.1)
+    go (Err stop) (inl unheld) = (kept stop before after unheld.0, inr (inr (inr (inr (inl (has, unheld.1))))))
+    go (Err stop) (inr unprinted) = (unkept stop unprinted.1, inr (inr (inr (inr (inr (has, unprinted.0, unprinted.1))))))
 
 -- why a stream was refused
 pub unheld_of : (g : Geometry) (capacity : ℕ) (path : List ℕ) (known : Option (List ℕ)) (c : Claim) (refusal : Refusal) → (refusal ≡ refusals.Source → ⊥) → (refusal ≡ refusals.WrongLength → ⊥)

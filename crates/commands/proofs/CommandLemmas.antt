@@ -45,34 +45,34 @@ shown_does gives words g n bytes before after (Err _) image shown unshown = absu
 -- words that are an order are never called no command
 check_is_command : (gives : Gives) (tells : Bool) (words : CertificateWords) (before after : Option (List ℕ)) → IsCheckFault gives tells words before after fault.NoSuchCommand → ⊥
 check_is_command gives tells words before after (inl unasked) = unasked
-check_is_command gives tells words before after (inr (inl unread)) = unread.3
-check_is_command gives tells words before after (inr (inr (inl unread))) = unread.5
-check_is_command gives tells words before after (inr (inr (inr (inl broken)))) = broken.5
-check_is_command gives tells words before after (inr (inr (inr (inr (inl unheld))))) = unheld.7
-check_is_command gives tells words before after (inr (inr (inr (inr (inr unprinted))))) = unprinted.8
+check_is_command gives tells words before after (inr (inl unopened)) = unopened.unread
+check_is_command gives tells words before after (inr (inr (inl lacks))) = lacks.unread
+check_is_command gives tells words before after (inr (inr (inr (inl malformed)))) = malformed.broken
+check_is_command gives tells words before after (inr (inr (inr (inr (inl unheld))))) = unheld.1
+check_is_command gives tells words before after (inr (inr (inr (inr (inr unprinted))))) = unprinted.2
 
 mount_is_command : (gives : Gives) (words : CertificateWords) (before after : Left) → DoesMount gives words before after (Err fault.NoSuchCommand) → ⊥
 mount_is_command gives words before after (inl (leaves, inl unasked)) = unasked
-mount_is_command gives words before after (inl (leaves, inr (inl unread))) = unread.3
-mount_is_command gives words before after (inl (leaves, inr (inr unmounted))) = unmounted.5
-mount_is_command gives words before after (inr (inl unstored)) = unstored.5
-mount_is_command gives words before after (inr (inr unprinted)) = unprinted.6
+mount_is_command gives words before after (inl (leaves, inr (inl unopened))) = unopened.unread
+mount_is_command gives words before after (inl (leaves, inr (inr lacks))) = lacks.unmounted
+mount_is_command gives words before after (inr (inl unstored)) = unstored.1
+mount_is_command gives words before after (inr (inr unprinted)) = unprinted.2
 
 -- for want of memory nothing is left
 mount_leaves : (gives : Gives) (words : CertificateWords) (before after : Left) → DoesMount gives words before after (Err fault.OutOfMemory) → Leaves before after
 mount_leaves gives words before after (inl unstarted) = unstarted.0
-mount_leaves gives words before after (inr (inl unstored)) = (unstored.5, unstored.6)
-mount_leaves gives words before after (inr (inr unprinted)) = absurd unprinted.6
+mount_leaves gives words before after (inr (inl unstored)) = (unstored.1, unstored.2)
+mount_leaves gives words before after (inr (inr unprinted)) = absurd unprinted.2
 
 serve_is_command : (gives : Gives) (words : ServeWords) (unread left : Option (List ℕ)) (before after : Left) → DoesServe gives words unread left before after (Err fault.NoSuchCommand) → ⊥
 serve_is_command gives words unread left before after (inl none) = unstarted none.because
   where
     unstarted : IsUnstarted gives words fault.NoSuchCommand → ⊥
     unstarted (inl unasked) = unasked
-    unstarted (inr (inl unread)) = unread.3
-    unstarted (inr (inr (inl unread))) = unread.5
-    unstarted (inr (inr (inr (inl broken)))) = broken.5
-    unstarted (inr (inr (inr (inr unserved)))) = unserved.5
+    unstarted (inr (inl unopened)) = unopened.unread
+    unstarted (inr (inr (inl lacks))) = lacks.unread
+    unstarted (inr (inr (inr (inl malformed)))) = malformed.broken
+    unstarted (inr (inr (inr (inr unserved)))) = unserved.unserved
 serve_is_command gives words unread left before after (inr ran) = ran.ends
 
 -- what the order of the words came to, the words came to

@@ -1,5 +1,5 @@
 -- From what the format of a die came to, to what became of its image.
-use Rattle.std.proofs.Common.{◌≡◌, ◌++◌, drop, take, ℕ, ◌≤◌, ◌*◌, List, [], length, Ok, Err, OnOk, IfErr, Result, inl, inr, refl, ap, arith, sym, subst, ◌∙◌}
+use Rattle.std.proofs.Common.{true, ◌≡◌, ◌++◌, drop, take, ℕ, ◌≤◌, ◌*◌, List, [], length, Ok, Err, OnOk, IfErr, Result, inl, inr, refl, ap, arith, sym, subst, ◌∙◌}
 use Rattle.std.specs.Io.KnownBytes.{Appends, Keeps}
 use lib.Seq.{take-append_seam}
 use Rattle.page_layout.specs.declared.geometry.Geometry.{Geometry}
@@ -7,47 +7,63 @@ use Rattle.page_layout.specs.Counter.{HasRisen}
 use Rattle.page_layout.specs.Geometry.{row_count, page_bytes}
 use Rattle.page_layout.specs.Flash.{Flash}
 use Rattle.page_layout.specs.Raw.{raw_image, raw_bytes}
+use Rattle.nand_die.specs.DieValue.{DieValue}
 use Rattle.nand_die.specs.Made.{loaded_flash}
 use Rattle.mount.specs.declared.format_fault.FormatFault.{FormatFault}
 use Rattle.mount.specs.declared.format_fault.FormatFault.TheVariants as refuse
 use Rattle.mount.specs.Formatted.{Formats, IsFormatted}
+use Rattle.mount.specs.Log.{failures}
 use Rattle.commands.specs.declared.text.CommandFault.{CommandFault}
 use Rattle.commands.specs.declared.text.CommandFault.TheVariants as fault
 use Rattle.command_words.specs.declared.words.FileWords.{FileWords}
 use Rattle.commands.specs.Files.{Gives, Left, Leaves, IsUnstored, with_store, written}
 use Rattle.commands.specs.Lines.{IsUnprinted}
 use Rattle.commands.specs.Inputs.{IsUnread}
+use Rattle.commands.specs.Steady.{is_flawless}
+use Rattle.commands.proofs.LogLemmas.{all_passed}
 use Rattle.commands.specs.Format.{DoesFormat, HasFormatted, HasInput, IsFormattedImage, IsGeometry, IsRefused, IsUnformatted, good_line}
 
--- the die that came back holds the image of the one that was formatted
-pub formatted_image : (g : Geometry) (before after : List ℕ) (good : ℕ) (old new back : Flash) → length before ≡ row_count g * page_bytes g
-    → old ≡ loaded_flash g before [] → IsFormatted g old new good → back ≡ new → new.geometry ≡ g
-    → raw_image back.geometry after ≡ back.image → after ≡ raw_bytes back.image → IsFormattedImage g before after good
-formatted_image g before after good old new back whole loaded formatted same its pages bytes = record {
-  whole = whole;
-  flash = back;
-  formatted = subst (λ (f : Flash). IsFormatted g f back good) loaded (subst (λ (f : Flash). IsFormatted g old f good) (sym same) formatted);
-  pages = ap (λ h. raw_image h after) (sym (ap (λ (f : Flash). f.geometry) same ∙ its)) ∙ pages;
-  bytes = bytes;
-}
-
-refused_image : (g : Geometry) (before : List ℕ) (refused : FormatFault) (old new : Flash) → length before ≡ row_count g * page_bytes g
-    → old ≡ loaded_flash g before [] → Formats g old new (Err refused) → IsRefused g before refused
-refused_image g before refused old new whole loaded formats = record {
-  whole = whole;
-  flash = new;
-  formats = subst (λ (f : Flash). Formats g f new (Err refused)) loaded formats;
-}
+-- the die that came back holds the image of the one that was formatted, and no program failed
+pub formatted_image : (g : Geometry) (before after : List ℕ) (good : ℕ) (old new : Flash) (back : DieValue) → length before ≡ row_count g * page_bytes g
+    → old ≡ loaded_flash g before [] → IsFormatted g old new good → back.state.flash ≡ new → new.geometry ≡ g → is_flawless back ≡ true
+    → raw_image back.state.flash.geometry after ≡ back.state.flash.image → after ≡ raw_bytes back.state.flash.image → IsFormattedImage g before after good
+formatted_image g before after good old new back whole loaded formatted same its flawless pages bytes =
+    let its_format : IsFormatted g (loaded_flash g before []) back.state.flash good =
+    subst (λ (f : Flash). IsFormatted g f back.state.flash good) loaded (subst (λ (f : Flash). IsFormatted g old f good) (sym same) formatted) in
+    record {
+      whole = whole;
+      flash = back.state.flash;
+      formatted = its_format;
+      passed = all_passed g before _ back its_format.log flawless its_format.done.legal its_format.done.leads;
+      pages = ap (λ h. raw_image h after) (sym (ap (λ (f : Flash). f.geometry) same ∙ its)) ∙ pages;
+      bytes = bytes;
+    }
 
 -- a count that stays 0 has not risen
 pub not_risen : (was now most : ℕ) → HasRisen was now → now ≤ most → most ≡ 0 → ⊥
 not_risen was now most (inl rose) le none = omega arith
 not_risen was now most (inr top) le none = omega arith
 
-pub unformatted : (g : Geometry) (before : List ℕ) (refused : FormatFault) (old new : Flash) → length before ≡ row_count g * page_bytes g
-    → old ≡ loaded_flash g before [] → Formats g old new (Err refused) → (refused ≡ refuse.Bus → ⊥) → IsUnformatted g before (fault.Format refused)
-unformatted g before refuse.Bus old new whole loaded formats answered = absurd (answered refl)
-unformatted g before refused old new whole loaded formats answered = refused_image g before refused old new whole loaded formats
+-- a refusal of a die of which no program failed
+refused_as : (g : Geometry) (before : List ℕ) (refused : FormatFault) (back : DieValue) → is_flawless back ≡ true → (refused ≡ refuse.Bus → ⊥)
+    → Formats g (loaded_flash g before []) back.state.flash (Err refused) → IsRefused g (raw_image g before) refused
+refused_as g before (refuse.TooFewGood good asked) back flawless answered few =
+    let passed : failures few.log ≡ 0 = all_passed g before _ back few.log flawless few.done.legal few.done.leads in
+    (omega (arith, few.fewer, passed), few.few, few.asked_is)
+refused_as g before refuse.Bus back flawless answered formats = absurd (answered refl)
+refused_as g before refuse.OutOfMemory back flawless answered same = tt
+refused_as g before refuse.WriteFailed back flawless answered failed =
+    let passed : failures failed.log ≡ 0 = all_passed g before _ back failed.log flawless failed.done.legal failed.done.leads in
+    absurd (omega (arith, failed.three, passed))
+refused_as g before (refuse.NotFresh row) back flawless answered used = (used.enough, used.first)
+
+pub unformatted : (g : Geometry) (before : List ℕ) (refused : FormatFault) (old new : Flash) (back : DieValue) → length before ≡ row_count g * page_bytes g
+    → old ≡ loaded_flash g before [] → Formats g old new (Err refused) → back.state.flash ≡ new → is_flawless back ≡ true → (refused ≡ refuse.Bus → ⊥) → IsUnformatted g before (fault.Format refused)
+unformatted g before refused old new back whole loaded formats same flawless answered = (
+  whole,
+  refused_as g before refused back flawless answered
+      (subst (λ (f : Flash). Formats g f back.state.flash (Err refused)) loaded (subst (λ (f : Flash). Formats g old f (Err refused)) (sym same) formats)),
+)
 
 -- ---- the command
 

@@ -6,3 +6,6 @@ pub mod CommandLemmas
 pub mod FormatLemmas
 pub mod ServeLemmas
 pub mod BadLemmas
+pub mod SaidLemmas
+pub mod LogLemmas
+pub mod SteadyLemmas

@@ -2,14 +2,13 @@
 use Rattle.std.proofs.Common.{◌≡◌, ℕ, List, Result, Ok, Err, OnOk, IfErr, inl, inr, ap, ◌∙◌, subst, sym}
 use Rattle.std.specs.Io.KnownBytes.{Appends, Keeps}
 use Rattle.page_layout.specs.declared.geometry.Geometry.{Geometry}
-use Rattle.certificate.specs.Claim.{Claim}
 use Rattle.commands.specs.declared.mount_image.Mounted.{Mounted}
 use Rattle.commands.specs.declared.text.CommandFault.{CommandFault}
 use Rattle.command_words.specs.declared.words.CertificateWords.{CertificateWords}
 use Rattle.commands.specs.Check.{AsksForCapacity}
 use Rattle.commands.specs.Files.{Gives, IsUnstored, Left, Leaves, with_store, written}
 use Rattle.commands.specs.Lines.{IsUnprinted}
-use Rattle.commands.specs.Mount.{DoesMount, HasCertificate, IsMountedAs, IsUncertified, line_of, mounted_line, stored_as}
+use Rattle.commands.specs.Mount.{DoesMount, HasMounted, IsMountedAs, IsUncertified, Stores, line_of, mounted_line}
 
 -- a step before the storing that ended the command
 pub stops : (gives : Gives) (words : CertificateWords) (before after : Left) (result : Result (Unit {0}) CommandFault) (stop : CommandFault)
@@ -19,9 +18,9 @@ stops gives words before after result stop is leaves because =
     subst P (sym is) (inl (leaves, because))
 
 -- the certificate that was made is the image's
-pub certified : (gives : Gives) (words : CertificateWords) (g : Geometry) (capacity : ℕ) (bytes : List ℕ) (m : Mounted) → AsksForCapacity words g capacity → gives words.image.now (Ok bytes)
-    → (is : IsMountedAs g capacity bytes m) → HasCertificate gives words g capacity bytes is.claim
-certified gives words g capacity bytes m asked given is = record { asked = asked; image = given; certified = is.certified }
+abbrev pub mounted_as : (gives : Gives) (words : CertificateWords) (g : Geometry) (capacity : ℕ) (bytes : List ℕ) (m : Mounted) → AsksForCapacity words g capacity → gives words.image.now (Ok bytes)
+    → IsMountedAs g capacity bytes m → HasMounted gives words
+mounted_as gives words g capacity bytes m asked given is = record { geometry = g; capacity = capacity; bytes = bytes; claim = is.claim; asked = asked; image = given; certified = is.certified }
 
 -- the storing, where it failed
 pub unstored : (gives : Gives) (words : CertificateWords) (g : Geometry) (capacity : ℕ) (bytes spelled : List ℕ) (m : Mounted) (before after : Left) (result : Result (Unit {0}) CommandFault)
@@ -30,7 +29,7 @@ pub unstored : (gives : Gives) (words : CertificateWords) (g : Geometry) (capaci
 unstored gives words g capacity bytes spelled m before after result stop asked given mounted same is failed keeps =
     let P : Result (Unit {0}) CommandFault → Type 0 = λ r. DoesMount gives words before after r in
     let Q : List ℕ → Type 0 = λ b. IsUnstored words.certificate.now b before.stores after.stores stop in
-    subst P (sym is) (inr (inl (g, capacity, bytes, mounted.claim, certified gives words g capacity bytes m asked given mounted, subst Q (same ∙ mounted.written_is) failed, keeps)))
+    subst P (sym is) (inr (inl (mounted_as gives words g capacity bytes m asked given mounted, subst Q (same ∙ mounted.written_is) failed, keeps)))
 
 -- the printing, after all that came before it
 pub prints : (gives : Gives) (words : CertificateWords) (g : Geometry) (capacity : ℕ) (bytes spelled : List ℕ) (m : Mounted) (before after : Left) (result : Result (Unit {0}) CommandFault)
@@ -40,19 +39,16 @@ pub prints : (gives : Gives) (words : CertificateWords) (g : Geometry) (capacity
     → DoesMount gives words before after result
 prints gives words g capacity bytes spelled m before after result asked given mounted same stored ok failed = go result ok failed
   where
-    c : Claim
-    c = mounted.claim
+    has : HasMounted gives words
+    has = mounted_as gives words g capacity bytes m asked given mounted
 
-    has : HasCertificate gives words g capacity bytes mounted.claim
-    has = certified gives words g capacity bytes m asked given mounted
-
-    stores : after.stores ≡ with_store before.stores (stored_as words mounted.claim)
+    stores : Stores has before after
     stores = stored ∙ ap (λ b. with_store before.stores (written words.certificate.now b)) (same ∙ mounted.written_is)
 
-    line : mounted_line m.next m.good m.stale ≡ line_of g bytes mounted.claim
+    line : mounted_line m.next m.good m.stale ≡ line_of has
     line = λ i. mounted_line (mounted.next_is i) (mounted.good_is i) (mounted.stale_is i)
 
     go : (r : Result (Unit {0}) CommandFault) → OnOk r (Appends before.out after.out (mounted_line m.next m.good m.stale))
         → IfErr r (IsUnprinted (mounted_line m.next m.good m.stale) before.out after.out) → DoesMount gives words before after r
-    go (Ok done) told told_not = let P : List ℕ → Type 0 = λ l. Appends before.out after.out l in (g, capacity, bytes, mounted.claim, has, stores, subst P line told)
-    go (Err stop) told told_not = let P : List ℕ → Type 0 = λ l. IsUnprinted l before.out after.out stop in inr (inr (g, capacity, bytes, mounted.claim, has, stores, subst P line told_not))
+    go (Ok done) told told_not = let P : List ℕ → Type 0 = λ l. Appends before.out after.out l in (has, stores, subst P line told)
+    go (Err stop) told told_not = let P : List ℕ → Type 0 = λ l. IsUnprinted l before.out after.out stop in inr (inr (has, stores, subst P line told_not))

@@ -99,24 +99,63 @@ abbrev pub IsKept : CommandFault → Option (List ℕ) → Option (List ℕ) →
 IsKept (fault.Write path) before after = Unit {0}
 IsKept _ before after = Keeps before after
 
--- Why the command ended before it was done. Each case says that none before it in the order held: the words, the image's
--- file, the certificate's file, the certificate's bytes, the image's length and the checker, and at last the printing.
+-- ---- the command
+
+-- the words ask for a check, and the image's file was not opened
+pub record IsUnopened (gives : Gives) (words : CertificateWords) (stop : CommandFault) : Type 0 where
+  pub geometry : Geometry
+  pub capacity : ℕ
+  pub asked : AsksForCapacity words geometry capacity
+  pub unread : IsUnread gives words.image.now stop
+
+-- the image's file was opened, and the certificate's was not read
+pub record LacksCertificate (gives : Gives) (tells : Bool) (words : CertificateWords) (stop : CommandFault) : Type 0 where
+  pub geometry : Geometry
+  pub capacity : ℕ
+  pub known : Option (List ℕ)
+  pub asked : AsksForCapacity words geometry capacity
+  pub image : IsOpened gives tells words.image.now known
+  pub unread : IsUnread gives words.certificate.now stop
+
+-- both were, and the bytes of the second are no certificate
+pub record HasNoCertificate (gives : Gives) (tells : Bool) (words : CertificateWords) (stop : CommandFault) : Type 0 where
+  pub geometry : Geometry
+  pub capacity : ℕ
+  pub known : Option (List ℕ)
+  pub written : List ℕ
+  pub files : HasFiles gives tells words geometry capacity known written
+  pub broken : IsNoCertificate written stop
+
+-- both were, and this is the certificate
+pub record HasCertificate (gives : Gives) (tells : Bool) (words : CertificateWords) : Type 0 where
+  pub geometry : Geometry
+  pub capacity : ℕ
+  pub known : Option (List ℕ)
+  pub written : List ℕ
+  pub claim : Claim
+  pub files : HasFiles gives tells words geometry capacity known written
+  pub spelled : IsSpelled claim written
+
+-- the image is whole, and the certificate agrees with it
+abbrev pub Holds : {gives : Gives} {tells : Bool} {words : CertificateWords} → HasCertificate gives tells words → Type 0
+Holds has = IfSome has.known (λ bytes. IsHeld has.geometry has.capacity bytes has.claim)
+
+-- or it was not found to
+abbrev pub HoldsNot : {gives : Gives} {tells : Bool} {words : CertificateWords} → HasCertificate gives tells words → CommandFault → Type 0
+HoldsNot {words = words} has stop = IsUnheld has.geometry has.capacity words.image.now has.known has.claim stop
+
+-- Why the command ended before it was done. Each case says that none before it in the order held: the words, the image's file, the
+-- certificate's file, the certificate's bytes, the image's length and the checker, and at last the printing.
 abbrev pub IsCheckFault : Gives → Bool → CertificateWords → Option (List ℕ) → Option (List ℕ) → CommandFault → Type 0
 IsCheckFault gives tells words before after stop =
     IsUnasked words stop
-    ⊎ ((g : Geometry) × (capacity : ℕ) × AsksForCapacity words g capacity × IsUnread gives words.image.now stop)
-    ⊎ ((g : Geometry) × (capacity : ℕ) × (known : Option (List ℕ)) × AsksForCapacity words g capacity × IsOpened gives tells words.image.now known × IsUnread gives words.certificate.now stop)
-    ⊎ ((g : Geometry) × (capacity : ℕ) × (known : Option (List ℕ)) × (written : List ℕ) × HasFiles gives tells words g capacity known written × IsNoCertificate written stop)
-    ⊎ ((g : Geometry) × (capacity : ℕ) × (known : Option (List ℕ)) × (written : List ℕ) × (c : Claim)
-    × HasFiles gives tells words g capacity known written × IsSpelled c written × IsUnheld g capacity words.image.now known c stop)
-    ⊎ ((g : Geometry) × (capacity : ℕ) × (known : Option (List ℕ)) × (written : List ℕ) × (c : Claim)
-    × HasFiles gives tells words g capacity known written × IsSpelled c written × IfSome known (λ bytes. IsHeld g capacity bytes c)
-    × IsUnprinted accepted_line before after stop)
+    ⊎ IsUnopened gives words stop
+    ⊎ LacksCertificate gives tells words stop
+    ⊎ HasNoCertificate gives tells words stop
+    ⊎ ((has : HasCertificate gives tells words) × HoldsNot has stop)
+    ⊎ ((has : HasCertificate gives tells words) × Holds has × IsUnprinted accepted_line before after stop)
 
 -- What the command came to, with the bytes of standard output before and after.
 abbrev pub DoesCheck : Gives → Bool → CertificateWords → Option (List ℕ) → Option (List ℕ) → Result (Unit {0}) CommandFault → Type 0
-DoesCheck gives tells words before after (Ok done) =
-    (g : Geometry) × (capacity : ℕ) × (known : Option (List ℕ)) × (written : List ℕ) × (c : Claim)
-    × HasFiles gives tells words g capacity known written × IsSpelled c written × IfSome known (λ bytes. IsHeld g capacity bytes c)
-    × Appends before after accepted_line
+DoesCheck gives tells words before after (Ok done) = (has : HasCertificate gives tells words) × Holds has × Appends before after accepted_line
 DoesCheck gives tells words before after (Err stop) = IsKept stop before after × IsCheckFault gives tells words before after stop

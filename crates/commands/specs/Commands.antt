@@ -42,4 +42,5 @@ Reports (Err fault) before after status = IsTold fault before after status
 
 -- what the words came to and what was told of it: the stores and standard output, and standard error, each before and after, and the status
 abbrev pub Runs : Gives → Bool → List (List ℕ) → Option (List ℕ) → Option (List ℕ) → Left → Left → Option (List ℕ) → Option (List ℕ) → ℕ → Type 0
-Runs gives tells words unread left before after told telling status = (done : Result (Unit {0}) CommandFault) × Obeys gives tells words unread left before after done × Reports done told telling status
+Runs gives tells words unread left before after told telling status =
+    (done : Result (Unit {0}) CommandFault) × Obeys gives tells words unread left before after done × Reports done told telling status

@@ -1,17 +1,20 @@
 -- What the command `format` comes to.
-use Rattle.std.specs.Prelude.{◌≡◌, ◌≢◌, ◌⊎◌, ◌*◌, ℕ, List, [], ◌∷◌, ◌++◌, length, codes, Result, Ok, Err}
+use Rattle.std.specs.Prelude.{◌≡◌, ◌≢◌, ◌⊎◌, ◌*◌, ◌<◌, ◌≤◌, ℕ, List, [], ◌∷◌, ◌++◌, length, codes, Result, Ok, Err}
 use Rattle.std.specs.Io.KnownBytes.{Appends, Keeps}
 use Rattle.std.specs.Fmt.{decimal}
 use Rattle.page_layout.specs.declared.geometry.Geometry.{Geometry}
-use Rattle.page_layout.specs.Geometry.{row_count, page_bytes}
+use Rattle.page_layout.specs.Geometry.{need, row_count, page_bytes}
 use Rattle.page_layout.specs.Faults.{HasNumbers, IsFirstFault}
 use Rattle.page_layout.specs.Flash.{Flash}
+use Rattle.page_layout.specs.Page.{Image}
 use Rattle.page_layout.specs.Raw.{raw_image, raw_bytes}
 use Rattle.nand_die.specs.declared.fault.DieFault.TheVariants as die
 use Rattle.nand_die.specs.Made.{loaded_flash}
 use Rattle.mount.specs.declared.format_fault.FormatFault.{FormatFault}
 use Rattle.mount.specs.declared.format_fault.FormatFault.TheVariants as refuse
-use Rattle.mount.specs.Formatted.{Formats, IsFormatted}
+use Rattle.mount.specs.Formatted.{IsFormatted, good_after}
+use Rattle.mount.specs.Fresh.{is_used, IsFirstPass}
+use Rattle.mount.specs.Log.{failures}
 use Rattle.command_words.specs.declared.numbers.GeometryNumbers.{GeometryNumbers}
 use Rattle.request_stream.specs.Frames.{AppendsFront}
 use Rattle.commands.specs.declared.files.FileFault.TheVariants as file
@@ -23,26 +26,29 @@ use Rattle.commands.specs.Files.{Gives, Left, Leaves, with_store, written, unwri
 
 -- ---- an image in place
 
--- the die that holds an image, with no bad blocks, formatted, holds this one
+-- the die that holds an image, with no bad blocks, formatted, holds this one; no program of it failed
 pub record IsFormattedImage (g : Geometry) (before after : List ℕ) (good : ℕ) : Type 0 where
   pub whole : length before ≡ row_count g * page_bytes g
   pub flash : Flash
   pub formatted : IsFormatted g (loaded_flash g before []) flash good
+  pub passed : failures formatted.log ≡ 0
   pub pages : raw_image g after ≡ flash.image
   pub bytes : after ≡ raw_bytes flash.image
 
--- the image has as many bytes as the die's pages, and the format of that die came to this refusal
-pub record IsRefused (g : Geometry) (bytes : List ℕ) (refused : FormatFault) : Type 0 where
-  pub whole : length bytes ≡ row_count g * page_bytes g
-  pub flash : Flash
-  pub formats : Formats g (loaded_flash g bytes []) flash (Err refused)
+-- Why the die that holds an image was not formatted: too few of its blocks are unmarked, or a page is used. It answers each read, and each
+-- program passes.
+abbrev pub IsRefused : Geometry → Image → FormatFault → Type 0
+IsRefused g image (refuse.TooFewGood good asked) = (good ≡ good_after g image []) × (good < need g) × (asked ≡ need g)
+IsRefused g image refuse.Bus = ⊥
+IsRefused g image refuse.OutOfMemory = Unit {0}
+IsRefused g image refuse.WriteFailed = ⊥
+IsRefused g image (refuse.NotFresh row) = (need g ≤ good_after g image []) × IsFirstPass (is_used g image) 0 (row_count g) row
 
--- Why an image was not formatted. A die in memory answers each read and each program.
+-- why an image was not formatted
 abbrev pub IsUnformatted : Geometry → List ℕ → CommandFault → Type 0
 IsUnformatted g bytes fault.WrongLength = length bytes ≢ row_count g * page_bytes g
 IsUnformatted g bytes (fault.Die die.OutOfMemory) = length bytes ≡ row_count g * page_bytes g
-IsUnformatted g bytes (fault.Format refuse.Bus) = ⊥
-IsUnformatted g bytes (fault.Format refused) = IsRefused g bytes refused
+IsUnformatted g bytes (fault.Format refused) = (length bytes ≡ row_count g * page_bytes g) × IsRefused g (raw_image g bytes) refused
 IsUnformatted g bytes _ = ⊥
 
 -- ---- the command

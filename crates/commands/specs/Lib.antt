@@ -1,6 +1,7 @@
 pub mod Text
 pub mod Lines
 pub mod Files
+pub mod Said
 pub mod Sector
 pub mod Show
 pub mod Format
@@ -9,3 +10,4 @@ pub mod Check
 pub mod Mount
 pub mod Commands
 pub mod Serve
+pub mod Steady

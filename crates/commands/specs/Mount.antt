@@ -14,9 +14,8 @@ use Rattle.commands.specs.declared.mount_image.Mounted.{Mounted}
 use Rattle.commands.specs.declared.text.CommandFault.{CommandFault}
 use Rattle.commands.specs.declared.text.CommandFault.TheVariants as fault
 use Rattle.command_words.specs.declared.words.CertificateWords.{CertificateWords}
-use Rattle.commands.specs.Check.{AsksForCapacity, IsUnasked, IsWhole}
-use Rattle.commands.specs.Files.{Gives, IsUnstored, Left, Leaves, Stored, with_store, written}
-use Rattle.commands.specs.Inputs.{IsUnread}
+use Rattle.commands.specs.Check.{AsksForCapacity, IsUnasked, IsUnopened, IsWhole}
+use Rattle.commands.specs.Files.{Gives, IsUnstored, Left, Leaves, with_store, written}
 use Rattle.commands.specs.Lines.{IsUnprinted}
 
 -- the bytes are an image, and this is its certificate
@@ -49,39 +48,50 @@ IsUnmounted g capacity bytes _ = ⊥
 abbrev pub mounted_line : ℕ → ℕ → ℕ → List ℕ
 mounted_line next good stale = codes "mounted next " ++ (decimal next ++ (codes " good " ++ (decimal good ++ (codes " stale " ++ (decimal stale ++ (10 ∷ []))))))
 
--- that of this image and its certificate
-abbrev pub line_of : Geometry → List ℕ → Claim → List ℕ
-line_of g bytes c = mounted_line c.next (good_blocks c) (stale_count g (raw_image g bytes))
+-- ---- the command
 
--- the words are numbers, the image's file was read, and it has this certificate
-pub record HasCertificate (gives : Gives) (words : CertificateWords) (g : Geometry) (capacity : ℕ) (bytes : List ℕ) (c : Claim) : Type 0 where
-  pub asked : AsksForCapacity words g capacity
+-- the words are numbers, the image's file was read, and this is the certificate of its bytes
+pub record HasMounted (gives : Gives) (words : CertificateWords) : Type 0 where
+  pub geometry : Geometry
+  pub capacity : ℕ
+  pub bytes : List ℕ
+  pub claim : Claim
+  pub asked : AsksForCapacity words geometry capacity
   pub image : gives words.image.now (Ok bytes)
-  pub certified : IsCertified g capacity bytes c
+  pub certified : IsCertified geometry capacity bytes claim
+
+-- the bytes have none, or it was not spelled
+pub record LacksMount (gives : Gives) (words : CertificateWords) (stop : CommandFault) : Type 0 where
+  pub geometry : Geometry
+  pub capacity : ℕ
+  pub bytes : List ℕ
+  pub asked : AsksForCapacity words geometry capacity
+  pub image : gives words.image.now (Ok bytes)
+  pub unmounted : IsUnmounted geometry capacity bytes stop
+
+-- the line of an image and its certificate
+abbrev pub line_of : {gives : Gives} {words : CertificateWords} → HasMounted gives words → List ℕ
+line_of has = mounted_line has.claim.next (good_blocks has.claim) (stale_count has.geometry (raw_image has.geometry has.bytes))
 
 -- the certificate was handed over to be written, and it was
-abbrev pub stored_as : CertificateWords → Claim → Stored
-stored_as words c = written words.certificate.now (certificate_bytes c)
+abbrev pub Stores : {gives : Gives} {words : CertificateWords} → HasMounted gives words → Left → Left → Type 0
+Stores {words = words} has before after = after.stores ≡ with_store before.stores (written words.certificate.now (certificate_bytes has.claim))
+
+-- or it was not
+abbrev pub StoresNot : {gives : Gives} {words : CertificateWords} → HasMounted gives words → Left → Left → CommandFault → Type 0
+StoresNot {words = words} has before after stop = IsUnstored words.certificate.now (certificate_bytes has.claim) before.stores after.stores stop
 
 -- Why the command ended before there was a certificate to store. Each case says that none before it in the order held: the
 -- words, the image's file, and the image.
 abbrev pub IsUncertified : Gives → CertificateWords → CommandFault → Type 0
-IsUncertified gives words stop =
-    IsUnasked words stop
-    ⊎ ((g : Geometry) × (capacity : ℕ) × AsksForCapacity words g capacity × IsUnread gives words.image.now stop)
-    ⊎ ((g : Geometry) × (capacity : ℕ) × (bytes : List ℕ) × AsksForCapacity words g capacity × gives words.image.now (Ok bytes) × IsUnmounted g capacity bytes stop)
+IsUncertified gives words stop = IsUnasked words stop ⊎ IsUnopened gives words stop ⊎ LacksMount gives words stop
 
 -- What the command came to, with the stores and the bytes of standard output before and after. Where there is no
 -- certificate nothing is stored and nothing printed; where it was not stored nothing is printed; where the line was not
 -- printed, or not whole, the certificate is stored.
 abbrev pub DoesMount : Gives → CertificateWords → Left → Left → Result (Unit {0}) CommandFault → Type 0
-DoesMount gives words before after (Ok done) =
-    (g : Geometry) × (capacity : ℕ) × (bytes : List ℕ) × (c : Claim) × HasCertificate gives words g capacity bytes c
-    × (after.stores ≡ with_store before.stores (stored_as words c))
-    × Appends before.out after.out (line_of g bytes c)
+DoesMount gives words before after (Ok done) = (has : HasMounted gives words) × Stores has before after × Appends before.out after.out (line_of has)
 DoesMount gives words before after (Err stop) =
     (Leaves before after × IsUncertified gives words stop)
-    ⊎ ((g : Geometry) × (capacity : ℕ) × (bytes : List ℕ) × (c : Claim) × HasCertificate gives words g capacity bytes c
-    × IsUnstored words.certificate.now (certificate_bytes c) before.stores after.stores stop × Keeps before.out after.out)
-    ⊎ ((g : Geometry) × (capacity : ℕ) × (bytes : List ℕ) × (c : Claim) × HasCertificate gives words g capacity bytes c
-    × (after.stores ≡ with_store before.stores (stored_as words c)) × IsUnprinted (line_of g bytes c) before.out after.out stop)
+    ⊎ ((has : HasMounted gives words) × StoresNot has before after stop × Keeps before.out after.out)
+    ⊎ ((has : HasMounted gives words) × Stores has before after × IsUnprinted (line_of has) before.out after.out stop)

@@ -75,7 +75,8 @@ DoesSector gives words before after (Err (fault.BadNumber word)) = Keeps before 
 DoesSector gives words before after (Err (fault.Geometry broken)) = Keeps before after
     × ((numbers : GeometryNumbers) × (n : ℕ) × SpellsGeometry words.geometry.now numbers × (number_of words.number.now ≡ Some n)
     × IsFirstFault numbers.data_bytes numbers.spare_bytes numbers.pages numbers.blocks numbers.sectors broken)
-DoesSector gives words before after (Err (fault.Read path)) = Keeps before after × (path.now ≡ words.image.now) × gives words.image.now (Err file.Failed) × ((g : Geometry) × (n : ℕ) × AsksForNumber words g n)
+DoesSector gives words before after (Err (fault.Read path)) = Keeps before after × (path.now ≡ words.image.now)
+    × gives words.image.now (Err file.Failed) × ((g : Geometry) × (n : ℕ) × AsksForNumber words g n)
 DoesSector gives words before after (Err fault.WrongLength) = Keeps before after
     × ((g : Geometry) × (n : ℕ) × (bytes : List ℕ) × AsksForNumber words g n × gives words.image.now (Ok bytes) × (length bytes ≢ row_count g * page_bytes g))
 DoesSector gives words before after (Err (fault.Sector refused)) = Keeps before after

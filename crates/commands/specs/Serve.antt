@@ -30,9 +30,8 @@ use Rattle.commands.specs.declared.text.CommandFault.TheVariants as fault
 use Rattle.commands.specs.declared.steady.SteadyDie.{SteadyDie}
 use Rattle.commands.specs.declared.text.ServeStop.{ServeStop}
 use Rattle.commands.specs.declared.text.ServeStop.TheVariants as stop
-use Rattle.commands.specs.Check.{HasFiles, AsksForCapacity, IsNoCertificate, IsSpelled, IsUnasked, IsWhole}
+use Rattle.commands.specs.Check.{HasFiles, HasNoCertificate, IsSpelled, IsUnasked, IsUnopened, IsWhole, LacksCertificate}
 use Rattle.commands.specs.Files.{Gives, Left, Leaves, Stored, with_store, written, unwritten}
-use Rattle.commands.specs.Inputs.{IsUnread}
 
 -- ---- an image in place
 
@@ -62,7 +61,8 @@ erases_of d = d.erases
 
 -- Requests were served over a die in memory: what was read and written, the calls of the device that `start` began over it, and the image that it
 -- holds then. The headline holds, since a die in memory is honest and answers all that it is asked; its events are those calls.
-pub record ServesDie (g : Geometry) (capacity : ℕ) (c : Claim) (s : Flash) (after : List ℕ) (unread left out out' : Option (List ℕ)) (result : Result Served ServeFault) : Type 0 where
+pub record ServesDie (g : Geometry) (capacity : ℕ) (c : Claim) (s : Flash) (after : List ℕ)
+    (unread left out out' : Option (List ℕ)) (result : Result Served ServeFault) : Type 0 where
   pub requests : List Request
   pub exchanges : List Exchange
   pub commands : commands_in exchanges ≡ map command_of requests
@@ -122,14 +122,24 @@ pub record HasClaim (gives : Gives) (words : ServeWords) (g : Geometry) (capacit
   pub files : HasFiles gives true (checked_words words) g capacity (Some bytes) written
   pub spelled : IsSpelled c written
 
--- Why the command ended before anything was read from standard input. Each case says that none before it in the order held.
+-- but the die was not served
+pub record IsClaimUnserved (gives : Gives) (words : ServeWords) (stopped : CommandFault) : Type 0 where
+  pub geometry : Geometry
+  pub capacity : ℕ
+  pub bytes : List ℕ
+  pub claim : Claim
+  pub has : HasClaim gives words geometry capacity bytes claim
+  pub unserved : IsUnserved geometry capacity bytes claim stopped
+
+-- Why the command ended before anything was read from standard input. Each case says that none before it in the order held. The image's
+-- file was loaded whole, so its bytes are known.
 abbrev pub IsUnstarted : Gives → ServeWords → CommandFault → Type 0
 IsUnstarted gives words stopped =
     IsUnasked (checked_words words) stopped
-    ⊎ ((g : Geometry) × (capacity : ℕ) × AsksForCapacity (checked_words words) g capacity × IsUnread gives words.image.now stopped)
-    ⊎ ((g : Geometry) × (capacity : ℕ) × (bytes : List ℕ) × AsksForCapacity (checked_words words) g capacity × gives words.image.now (Ok bytes) × IsUnread gives words.certificate.now stopped)
-    ⊎ ((g : Geometry) × (capacity : ℕ) × (bytes written : List ℕ) × HasFiles gives true (checked_words words) g capacity (Some bytes) written × IsNoCertificate written stopped)
-    ⊎ ((g : Geometry) × (capacity : ℕ) × (bytes : List ℕ) × (c : Claim) × HasClaim gives words g capacity bytes c × IsUnserved g capacity bytes c stopped)
+    ⊎ IsUnopened gives (checked_words words) stopped
+    ⊎ LacksCertificate gives true (checked_words words) stopped
+    ⊎ HasNoCertificate gives true (checked_words words) stopped
+    ⊎ IsClaimUnserved gives words stopped
 
 -- How it ended after the run: the image was stored, and what stopped the server is told; or it could not be stored, and that is told, after
 -- what stopped the server.
@@ -138,7 +148,8 @@ Ends path image how before after (Ok done) = (how ≡ None) × (after ≡ with_s
 Ends path image how before after (Err (fault.Serve stopped)) = (how ≡ Some stopped) × (after ≡ with_store before (written path image))
 Ends path image how before after (Err (fault.Write text)) = (how ≡ None) × (text.now ≡ path) × (after ≡ with_store before (unwritten path image))
 Ends path image how before after (Err fault.OutOfMemory) = (how ≡ None) × (after ≡ before)
-Ends path image how before after (Err (fault.ServeUnstored stopped text)) = (how ≡ Some stopped) × (text.now ≡ path) × ((after ≡ with_store before (unwritten path image)) ⊎ (after ≡ before))
+Ends path image how before after (Err (fault.ServeUnstored stopped text)) = (how ≡ Some stopped) × (text.now ≡ path)
+    × ((after ≡ with_store before (unwritten path image)) ⊎ (after ≡ before))
 Ends path image how before after (Err _) = ⊥
 
 -- it ran: requests were served over the image, and it ended so

@@ -2,6 +2,7 @@
 use Rattle.std.specs.Prelude.{◌≡◌, ◌⊎◌, ℕ, List, [], ◌∷◌, ◌++◌, codes, Option}
 use Rattle.std.specs.Io.KnownBytes.{Appends}
 use Rattle.std.specs.Fmt.{decimal}
+use Rattle.request_stream.specs.Frames.{AppendsFront}
 use Rattle.page_layout.specs.declared.geometry.GeometryFault.{GeometryFault}
 use Rattle.page_layout.specs.declared.geometry.GeometryFault.TheVariants as geometry
 use Rattle.image_check.specs.declared.scan.SectorFault.{SectorFault}
@@ -136,6 +137,13 @@ status_of (ServeUnstored stopped path) = 3
 status_of (Read path) = 3
 status_of (Write path) = 3
 
--- The fault's line was written, and the status is the fault's. Where it could not be written the status is 3.
+-- the line as it is written
+abbrev pub told_line : CommandFault → List ℕ
+told_line fault = line_of fault ++ (10 ∷ [])
+
+-- The fault's line was written, and the status is the fault's. Or it could not be written: the status is 3, and a beginning of the line
+-- stands there, or nothing.
 abbrev pub IsTold : CommandFault → Option (List ℕ) → Option (List ℕ) → ℕ → Type 0
-IsTold fault before after status = ((status ≡ status_of fault) × Appends before after (line_of fault ++ (10 ∷ []))) ⊎ (status ≡ 3)
+IsTold fault before after status =
+    ((status ≡ status_of fault) × Appends before after (told_line fault))
+    ⊎ ((status ≡ 3) × AppendsFront before after (told_line fault))

@@ -6,6 +6,7 @@ ghost use Rattle.nand_die.specs.DieValue.{is_calm};
 ghost use Rattle.commands.specs.Format.{DoesFormat, IsFormattedImage, IsUnformatted, good_line};
 ghost use Rattle.commands.specs.Files.{left};
 ghost use Rattle.commands.specs.Lines.{IsUnprinted};
+ghost use Rattle.commands.specs.Steady.{is_flawless};
 
 use crate::files::FileStore;
 use crate::inputs::{geometry_of, load, numbers_at};
@@ -28,6 +29,7 @@ pub(crate) fn driver_of(die: Die, geometry: Geometry) -> Driver<SteadyDie>
     requires steady { is_calm die ≡ true }
     ensures geometry { result.geometry ≡ geometry }
     ensures flash { seen result.geometry result.bus.die.state.flash ≡ die.state.flash }
+    ensures flawless { is_flawless result.bus.die ≡ is_flawless die }
 {
     match Driver::new(SteadyDie { die }, geometry) {
         Ok(driver) => driver,
@@ -40,7 +42,8 @@ pub(crate) fn driver_of(die: Die, geometry: Geometry) -> Driver<SteadyDie>
 /// # Errors
 ///
 /// `WrongLength` where the image has not as many bytes as the geometry says. `Die` with `OutOfMemory` where a growth was refused while
-/// the die was made. `Format` with the fault of `mount::format`. After each the image is as it was.
+/// the die was made. `Format` with the fault of `mount::format`, but never `Bus` or `WriteFailed`, and `TooFewGood` only with the
+/// blocks that the factory did not mark, since no read and no program of this die fails. After each the image is as it was.
 pub fn format_image<'a>(
     alloc: Global,
     geometry: Geometry,

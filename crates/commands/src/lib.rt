@@ -12,6 +12,7 @@ mod mount_image;
 mod outputs;
 mod program;
 mod readers;
+mod said;
 mod sector;
 mod serve;
 mod show;

@@ -1,5 +1,5 @@
 //! Lines on standard output. Std's own `writeln!` does not say how much of a line stands there after a failed write.
-ghost use Rattle.std.specs.Prelude.{◌≡◌, OnOk, IfErr};
+ghost use Rattle.std.specs.Prelude.{◌≡◌, [], ◌∷◌, ◌++◌, OnOk, IfErr};
 ghost use Rattle.std.specs.List.{concat};
 ghost use Rattle.std.specs.Io.KnownBytes.{Appends};
 ghost use Rattle.request_stream.specs.Frames.{Sends};
@@ -19,6 +19,24 @@ fn send_parts<W: Write>(out: &mut W, parts: &[&str]) -> Result<(), ServeFault>
         send(out, part.as_bytes())?;
     }
     Ok(())
+}
+
+/// Writes a line: five texts, of which some may be empty, and a line feed.
+///
+/// # Errors
+///
+/// `Write` where a write failed, was interrupted or took nothing: a beginning of the line is out.
+pub fn send_line<'a, W: Write>(
+    out: &mut W,
+    area: &'a str,
+    name: &'a str,
+    first: &'a str,
+    between: &'a str,
+    second: &'a str,
+) -> Result<(), ServeFault>
+    ensures { Sends (W.contents out.old) (W.contents out.new) (area.now ++ (name.now ++ (first.now ++ (between.now ++ (second.now ++ (10 ∷ [])))))) result }
+{
+    send_parts(out, &[area, name, first, between, second, "\n"])
 }
 
 /// Writes the parts of a line, the last of which ends in its line feed.

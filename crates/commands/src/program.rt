@@ -23,7 +23,8 @@ fn carry_out<'a, F: FileStore, R: Read, W: Write>(
     input: &mut R,
     out: &mut W,
 ) -> Result<(), CommandFault<'a>>
-    ensures { Does (F.gives files.old) (F.tells files.old) order.entry (R.remaining input.old) (R.remaining input.new) (left (F.stores files.old) (W.contents out.old)) (left (F.stores files.new) (W.contents out.new)) result }
+    ensures { Does (F.gives files.old) (F.tells files.old) order.entry (R.remaining input.old) (R.remaining input.new)
+        (left (F.stores files.old) (W.contents out.old)) (left (F.stores files.new) (W.contents out.new)) result }
 {
     match order {
         Order::Sector(words) => sector_command(alloc, words, files, out),
@@ -43,7 +44,8 @@ fn obey<'a, F: FileStore, R: Read, W: Write>(
     input: &mut R,
     out: &mut W,
 ) -> Result<(), CommandFault<'a>>
-    ensures { Obeys (F.gives files.old) (F.tells files.old) (texts words.now) (R.remaining input.old) (R.remaining input.new) (left (F.stores files.old) (W.contents out.old)) (left (F.stores files.new) (W.contents out.new)) result }
+    ensures { Obeys (F.gives files.old) (F.tells files.old) (texts words.now) (R.remaining input.old) (R.remaining input.new)
+        (left (F.stores files.old) (W.contents out.old)) (left (F.stores files.new) (W.contents out.new)) result }
 {
     match parse(alloc, words) {
         Ok(order) => carry_out(alloc, order, files, input, out),
@@ -54,7 +56,7 @@ fn obey<'a, F: FileStore, R: Read, W: Write>(
 
 /// Does what the words say, and answers the exit status: 0 done, 1 refused, 2 usage, 3 input or
 /// output. `words` begins with the program's name. Results go to `out`; of a command that was not
-/// done one line goes to `err`, and nothing to `out` unless it is `out` that failed. `serve` alone reads
+/// done one line goes to `err`, or a beginning of it where `err` failed, and nothing to `out` unless it is `out` that failed. `serve` alone reads
 /// `input`, and writes its replies to `out`, also where it is stopped.
 ///
 /// Where several faults hold, the first of this order is told: words that are no command, numbers by
@@ -71,7 +73,8 @@ pub fn run<F: FileStore, R: Read, W: Write, E: Write>(
     out: &mut W,
     err: &mut E,
 ) -> u8
-    ensures { Runs (F.gives files.old) (F.tells files.old) (texts words.now) (R.remaining input.old) (R.remaining input.new) (left (F.stores files.old) (W.contents out.old)) (left (F.stores files.new) (W.contents out.new)) (E.contents err.old) (E.contents err.new) result }
+    ensures { Runs (F.gives files.old) (F.tells files.old) (texts words.now) (R.remaining input.old) (R.remaining input.new)
+        (left (F.stores files.old) (W.contents out.old)) (left (F.stores files.new) (W.contents out.new)) (E.contents err.old) (E.contents err.new) result }
 {
     match obey(alloc, words, files, input, out) {
         Ok(()) => DONE,

@@ -94,7 +94,8 @@ pub fn print_sector<W: Write>(
     ensures ok { OnOk result (Appends (W.contents out.old) (W.contents out.new) (Rattle.commands.specs.Sector.sector_line image.now.flash.geometry image.now.flash.image sector)) }
     ensures readable { OnOk result (IsReadable image.now.flash.geometry image.now.flash.image sector) }
     ensures fault { IfErr result (IsPrintFault image.now.flash.geometry image.now.flash.image sector) }
-    ensures unprinted { IfErr result (λ fault. IsUnprinted (Rattle.commands.specs.Sector.sector_line image.now.flash.geometry image.now.flash.image sector) fault (W.contents out.old) (W.contents out.new)) }
+    ensures unprinted { IfErr result (λ fault. IsUnprinted (Rattle.commands.specs.Sector.sector_line image.now.flash.geometry image.now.flash.image sector) fault
+        (W.contents out.old) (W.contents out.new)) }
 {
     let line = sector_line(alloc, image, sector)?;
     match send(out, line.as_bytes()) {

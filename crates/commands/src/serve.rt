@@ -163,7 +163,8 @@ pub fn serve_command<'a, F: FileStore, R: Read, W: Write>(
     input: &mut R,
     out: &mut W,
 ) -> Result<(), CommandFault<'a>>
-    ensures { DoesServe (F.gives files.old) words.entry (R.remaining input.old) (R.remaining input.new) (left (F.stores files.old) (W.contents out.old)) (left (F.stores files.new) (W.contents out.new)) result }
+    ensures { DoesServe (F.gives files.old) words.entry (R.remaining input.old) (R.remaining input.new)
+        (left (F.stores files.old) (W.contents out.old)) (left (F.stores files.new) (W.contents out.new)) result }
 {
     let asked = cache_asked(&CertificateWords {
         geometry: words.geometry,

@@ -1,6 +1,7 @@
 //! A die in memory that is not to stop.
 ghost use Rattle.std.specs.Prelude.{◌≡◌, true};
 ghost use Rattle.nand_die.specs.DieValue.{is_calm};
+ghost use Rattle.commands.specs.Steady.{is_flawless};
 
 use nand_die::Die;
 use onfi_cycles::{Bus, BusFault};
@@ -19,7 +20,8 @@ impl Bus for SteadyDie {
 
     ghost failed = { λ _. 0 };
 
-    ghost calm = { λ _. true };
+    // What no call changes: whether it is flawless, so that no operation that is due fails.
+    ghost calm = { λ d. is_flawless d.die };
 
     fn command(&mut self, code: u8) -> Result<(), BusFault> {
         self.die.command(code)

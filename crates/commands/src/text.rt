@@ -1,16 +1,16 @@
 //! What the program says when a command ends before it is done: one line, and the exit status.
-ghost use Rattle.std.specs.Prelude.{◌≡◌, ◌∷◌, [], ◌++◌, IfOk, OnOk, OnErr};
-ghost use Rattle.std.specs.Io.KnownBytes.{Appends};
-ghost use Rattle.commands.specs.Text.{IsTold, line_of, status_of};
+ghost use Rattle.std.specs.Prelude.{◌≡◌, ◌++◌};
+ghost use Rattle.commands.specs.Said.{said_bytes};
+ghost use Rattle.commands.specs.Text.{IsTold, line_of, stop_words};
 
+use crate::said::{self, Said, send_said};
 use certificate::CertFault;
 use image_check::{Refusal, SectorFault};
 use mount::FormatFault;
 use nand_die::DieFault;
 use page_layout::geometry::GeometryFault;
 use request_stream::ServeFault;
-use std::fmt;
-use std::io::{self, Write};
+use std::io::Write;
 
 /// The exit status of a command that was done.
 pub const DONE: u8 = 0;
@@ -106,231 +106,54 @@ impl CommandFault<'_> {
     }
 }
 
-/// The line that says the fault, without its line feed.
-impl fmt::Display for CommandFault<'_> {
-    ghost use Rattle.std.specs.Prelude.{Some};
-    ghost use Rattle.commands.specs.Text.{line_of};
-
-    ghost output = { λ fault. Some (line_of fault) };
-
-    fn fmt<W: fmt::Write>(&self, f: &mut fmt::Formatter<W>) -> fmt::Result {
-        match self {
-            CommandFault::NoSuchCommand => f.write_str("usage: no such command"),
-            CommandFault::BadNumber(word) => write!(f, "usage: bad number {word}"),
-            CommandFault::Geometry(fault) => {
-                let words = Words(*fault);
-                write!(f, "refused geometry {words}")
-            }
-            CommandFault::Capacity => f.write_str("refused geometry 6 Capacity"),
-            CommandFault::WrongLength => f.write_str("refused image 1 WrongLength"),
-            CommandFault::RowRange => f.write_str("refused image 2 RowRange"),
-            CommandFault::OutOfMemory => f.write_str("refused image 3 OutOfMemory"),
-            CommandFault::Sector(fault) => {
-                let words = Words(*fault);
-                write!(f, "refused sector {words}")
-            }
-            CommandFault::Die(fault) => {
-                let words = Words(*fault);
-                write!(f, "refused die {words}")
-            }
-            CommandFault::Format(fault) => {
-                let words = Words(*fault);
-                write!(f, "refused format {words}")
-            }
-            CommandFault::Certificate(fault) => {
-                let words = Words(*fault);
-                write!(f, "refused certificate {words}")
-            }
-            CommandFault::Check(refusal) => {
-                let words = Words(*refusal);
-                write!(f, "refused check {words}")
-            }
-            CommandFault::Mount(refusal) => {
-                let words = Words(*refusal);
-                write!(f, "refused mount {words}")
-            }
-            CommandFault::Start => f.write_str("refused start 1 OutOfMemory"),
-            CommandFault::Serve(stop) => {
-                let words = Words(*stop);
-                write!(f, "{words}")
-            }
-            CommandFault::ServeUnstored(stop, path) => {
-                let words = Words(*stop);
-                write!(f, "{words}\nfault write {path}")
-            }
-            CommandFault::Read(path) => write!(f, "fault read {path}"),
-            CommandFault::Write(path) => write!(f, "fault write {path}"),
-        }
-    }
-}
-
-// A fault as its number, its name and its fields.
-#[derive(Clone, Copy)]
-struct Words<T>(T);
-
-impl fmt::Display for Words<ServeStop> {
-    ghost use Rattle.std.specs.Prelude.{Some};
-    ghost use Rattle.commands.specs.Text.{stop_words};
-
-    ghost output = { λ words. Some (stop_words words.0) };
-
-    fn fmt<W: fmt::Write>(&self, f: &mut fmt::Formatter<W>) -> fmt::Result {
-        f.write_str(match self.0 {
-            ServeStop::BadFrame => "refused serve 7 BadFrame",
-            ServeStop::Fault(ServeFault::Read) => "fault read -",
-            ServeStop::Fault(ServeFault::Write) => "fault write -",
-            ServeStop::Fault(ServeFault::OutOfMemory) => "refused serve 3 OutOfMemory",
-        })
-    }
-}
-
-impl fmt::Display for Words<GeometryFault> {
-    ghost use Rattle.std.specs.Prelude.{Some};
-    ghost use Rattle.commands.specs.Text.{geometry_words};
-
-    ghost output = { λ words. Some (geometry_words words.0) };
-
-    fn fmt<W: fmt::Write>(&self, f: &mut fmt::Formatter<W>) -> fmt::Result {
-        f.write_str(match self.0 {
-            GeometryFault::DataSize => "1 DataSize",
-            GeometryFault::SpareSize => "2 SpareSize",
-            GeometryFault::PagesPerBlock => "3 PagesPerBlock",
-            GeometryFault::Blocks => "4 Blocks",
-            GeometryFault::Sectors => "5 Sectors",
-        })
-    }
-}
-
-impl fmt::Display for Words<SectorFault> {
-    ghost use Rattle.std.specs.Prelude.{Some};
-    ghost use Rattle.commands.specs.Text.{sector_words};
-
-    ghost output = { λ words. Some (sector_words words.0) };
-
-    fn fmt<W: fmt::Write>(&self, f: &mut fmt::Formatter<W>) -> fmt::Result {
-        match self.0 {
-            SectorFault::OutOfRange => f.write_str("1 OutOfRange"),
-            SectorFault::SequenceRepeated { first, second } => {
-                write!(f, "2 SequenceRepeated row {first} row {second}")
-            }
-            SectorFault::Source => f.write_str("3 Source"),
-        }
-    }
-}
-
-impl fmt::Display for Words<DieFault> {
-    ghost use Rattle.std.specs.Prelude.{Some};
-    ghost use Rattle.commands.specs.Text.{die_words};
-
-    ghost output = { λ words. Some (die_words words.0) };
-
-    fn fmt<W: fmt::Write>(&self, f: &mut fmt::Formatter<W>) -> fmt::Result {
-        match self.0 {
-            DieFault::WrongLength => f.write_str("1 WrongLength"),
-            DieFault::BadMark { block } => write!(f, "2 BadMark block {block}"),
-            DieFault::OutOfMemory => f.write_str("3 OutOfMemory"),
-            DieFault::SoundFaultPage => f.write_str("4 SoundFaultPage"),
-        }
-    }
-}
-
-impl fmt::Display for Words<FormatFault> {
-    ghost use Rattle.std.specs.Prelude.{Some};
-    ghost use Rattle.commands.specs.Text.{format_words};
-
-    ghost output = { λ words. Some (format_words words.0) };
-
-    fn fmt<W: fmt::Write>(&self, f: &mut fmt::Formatter<W>) -> fmt::Result {
-        match self.0 {
-            FormatFault::TooFewGood { good, need } => {
-                write!(f, "1 TooFewGood good {good} need {need}")
-            }
-            FormatFault::Bus => f.write_str("2 Bus"),
-            FormatFault::OutOfMemory => f.write_str("3 OutOfMemory"),
-            FormatFault::WriteFailed => f.write_str("4 WriteFailed"),
-            FormatFault::NotFresh { row } => write!(f, "5 NotFresh row {row}"),
-        }
-    }
-}
-
-impl fmt::Display for Words<CertFault> {
-    ghost use Rattle.std.specs.Prelude.{Some};
-    ghost use Rattle.commands.specs.Text.{certificate_words};
-
-    ghost output = { λ words. Some (certificate_words words.0) };
-
-    fn fmt<W: fmt::Write>(&self, f: &mut fmt::Formatter<W>) -> fmt::Result {
-        f.write_str(match self.0 {
-            CertFault::Magic => "1 Magic",
-            CertFault::Short => "2 Short",
-            CertFault::Long => "3 Long",
-            CertFault::Limit => "4 Limit",
-            CertFault::RowRange => "5 RowRange",
-            CertFault::ClassRange => "6 ClassRange",
-            CertFault::OutOfMemory => "7 OutOfMemory",
-        })
-    }
-}
-
-impl fmt::Display for Words<Refusal> {
-    ghost use Rattle.std.specs.Prelude.{Some};
-    ghost use Rattle.commands.specs.Text.{refusal_words};
-
-    ghost output = { λ words. Some (refusal_words words.0) };
-
-    fn fmt<W: fmt::Write>(&self, f: &mut fmt::Formatter<W>) -> fmt::Result {
-        match self.0 {
-            Refusal::GeometryDiffers => f.write_str("1 GeometryDiffers"),
-            Refusal::SequenceRepeated { first, second } => {
-                write!(f, "2 SequenceRepeated row {first} row {second}")
-            }
-            Refusal::NotNewest { sector, row } => {
-                write!(f, "3 NotNewest sector {sector} row {row}")
-            }
-            Refusal::NoSuchRecord { sector, row } => {
-                write!(f, "4 NoSuchRecord sector {sector} row {row}")
-            }
-            Refusal::DirectoryWrong { page } => write!(f, "5 DirectoryWrong page {page}"),
-            Refusal::NumberRange { row } => write!(f, "6 NumberRange row {row}"),
-            Refusal::BlockState { block } => write!(f, "7 BlockState block {block}"),
-            Refusal::BadSetWrong { block } => write!(f, "8 BadSetWrong block {block}"),
-            Refusal::LiveWrong { block } => write!(f, "9 LiveWrong block {block}"),
-            Refusal::WearWrong { block } => write!(f, "10 WearWrong block {block}"),
-            Refusal::NextSequence => f.write_str("11 NextSequence"),
-            Refusal::TooStale { stale, capacity } => {
-                write!(f, "12 TooStale stale {stale} capacity {capacity}")
-            }
-            Refusal::NotFormatted => f.write_str("13 NotFormatted"),
-            Refusal::TableDamaged { page } => write!(f, "14 TableDamaged page {page}"),
-            Refusal::Source => f.write_str("15 Source"),
-            Refusal::OutOfMemory => f.write_str("16 OutOfMemory"),
-            Refusal::WrongLength => f.write_str("17 WrongLength"),
-        }
-    }
-}
-
-// Writes the fault's line, with a line feed, and answers its exit status.
-fn write_line<E: Write>(fault: &CommandFault<'_>, err: &mut E) -> io::Result<u8>
-    ensures status { IfOk result (λ status. status ≡ status_of fault.now) }
-    ensures line { OnOk result (Appends (E.contents err.old) (E.contents err.new) (line_of fault.now ++ (10 ∷ []))) }
+// The line of what stopped a server, without its line feed.
+fn stop_text<'a>(stop: ServeStop) -> &'a str
+    ensures { result.now ≡ stop_words stop }
 {
-    writeln!(err, "{fault}")?;
-    Ok(fault.status())
+    match stop {
+        ServeStop::BadFrame => "refused serve 7 BadFrame",
+        ServeStop::Fault(ServeFault::Read) => "fault read -",
+        ServeStop::Fault(ServeFault::Write) => "fault write -",
+        ServeStop::Fault(ServeFault::OutOfMemory) => "refused serve 3 OutOfMemory",
+    }
 }
 
-// The exit status of a line that was written, else the one of output that failed.
-fn status_told(told: io::Result<u8>) -> u8
-    ensures written { IfOk told (λ status. result ≡ status) }
-    ensures unwritten { OnErr told (result ≡ 3) }
+// The line of a fault: its area, and what is said behind it.
+fn line<'a>(fault: &CommandFault<'a>) -> (&'a str, Said<'a>)
+    ensures { result.0.now ++ said_bytes result.1 ≡ line_of fault.now }
 {
-    told.unwrap_or(IO)
+    match *fault {
+        CommandFault::NoSuchCommand => ("usage: ", Said::Text("no such command")),
+        CommandFault::BadNumber(word) => ("usage: bad number ", Said::Text(word)),
+        CommandFault::Geometry(broken) => ("refused geometry ", said::of_geometry(broken)),
+        CommandFault::Capacity => ("refused geometry ", Said::Text("6 Capacity")),
+        CommandFault::WrongLength => ("refused image ", Said::Text("1 WrongLength")),
+        CommandFault::RowRange => ("refused image ", Said::Text("2 RowRange")),
+        CommandFault::OutOfMemory => ("refused image ", Said::Text("3 OutOfMemory")),
+        CommandFault::Sector(refused) => ("refused sector ", said::of_sector(refused)),
+        CommandFault::Die(refused) => ("refused die ", said::of_die(refused)),
+        CommandFault::Format(refused) => ("refused format ", said::of_format(refused)),
+        CommandFault::Certificate(broken) => ("refused certificate ", said::of_certificate(broken)),
+        CommandFault::Check(refusal) => ("refused check ", said::of_refusal(refusal)),
+        CommandFault::Mount(refusal) => ("refused mount ", said::of_refusal(refusal)),
+        CommandFault::Start => ("refused start ", Said::Text("1 OutOfMemory")),
+        CommandFault::Serve(stop) => ("", Said::Text(stop_text(stop))),
+        CommandFault::ServeUnstored(stop, path) => {
+            (stop_text(stop), Said::Texts("\nfault write ", path))
+        }
+        CommandFault::Read(path) => ("fault read ", Said::Text(path)),
+        CommandFault::Write(path) => ("fault write ", Said::Text(path)),
+    }
 }
 
-/// Writes the fault's line to `err`, with a line feed, and answers its exit status, or 3 where the
-/// line could not be written, of which a part may then stand there. (The lines and the statuses are
-/// this project's.)
+/// Writes the fault's line to `err`, with a line feed, and answers its exit status. Where a write failed, was interrupted or took
+/// nothing it answers 3, and a beginning of the line stands there, or nothing. (The lines and the statuses are this project's.)
 pub fn tell<E: Write>(fault: &CommandFault<'_>, err: &mut E) -> u8
     ensures { IsTold fault.now (E.contents err.old) (E.contents err.new) result }
 {
-    status_told(write_line(fault, err))
+    let (area, said) = line(fault);
+    match send_said(err, area, said) {
+        Ok(()) => fault.status(),
+        Err(_) => IO,
+    }
 }

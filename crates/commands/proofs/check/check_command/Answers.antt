@@ -7,13 +7,20 @@ pub returns-in_err-image-clause-does : goal.returns-in_err-image-clause-does
 returns-in_err-image-clause-does g c =
     let asked = c.in_ok-asked.asked in
     stops (g.F.FileStore.gives c.args.files.now) (g.F.FileStore.tells c.args.files.now) c.args.words _ _ c.from_residual-in_err-image.result c.in_err-image.field-0.0 (search rules) (search rules)
-    (inr (inl (asked.geometry, asked.capacity, c.in_ok-asked.ensures.ok, c.in_err-image.ensures.fault)))
+    (inr (inl (record { geometry = asked.geometry; capacity = asked.capacity; asked = c.in_ok-asked.ensures.ok; unread = c.in_err-image.ensures.fault })))
 
 pub returns-in_err-written-clause-does : goal.returns-in_err-written-clause-does
 returns-in_err-written-clause-does g c =
     let asked = c.in_ok-asked.asked in
     stops (g.F.FileStore.gives c.args.files.now) (g.F.FileStore.tells c.args.files.now) c.args.words _ _ c.from_residual-in_err-written.result c.in_err-written.field-0.0 (search rules) (search rules)
-    (inr (inr (inl (asked.geometry, asked.capacity, g.F.Reader.Read.remaining c.in_ok-image.image, c.in_ok-asked.ensures.ok, c.in_ok-image.ensures.ok, unread_before _ _ _ _ c.in_ok-image.ensures.same c.in_err-written.ensures.fault))))
+    (inr (inr (inl (record {
+      geometry = asked.geometry;
+      capacity = asked.capacity;
+      known = g.F.Reader.Read.remaining c.in_ok-image.image;
+      asked = c.in_ok-asked.ensures.ok;
+      image = c.in_ok-image.ensures.ok;
+      unread = unread_before _ _ _ _ c.in_ok-image.ensures.same c.in_err-written.ensures.fault;
+    }))))
 
 pub returns-in_err-certificate-clause-does : goal.returns-in_err-certificate-clause-does
 returns-in_err-certificate-clause-does g c =
@@ -26,7 +33,14 @@ returns-in_err-certificate-clause-does g c =
     record { asked = c.in_ok-asked.ensures.ok; image = c.in_ok-image.ensures.ok; certificate = c.in_ok-image.ensures.same c.args.words.certificate.now (Ok written) c.in_ok-written.ensures.ok } in
     let P : List ℕ → Type 0 = λ w. IsNoCertificate w c.in_err-certificate.field-0.0 in
     stops gives tells c.args.words _ _ c.from_residual-in_err-certificate.result c.in_err-certificate.field-0.0 (search rules) (search rules)
-    (inr (inr (inr (inl (asked.geometry, asked.capacity, known, written, files, subst P c.deref.ensures.value c.in_err-certificate.ensures.fault)))))
+    (inr (inr (inr (inl (record {
+      geometry = asked.geometry;
+      capacity = asked.capacity;
+      known = known;
+      written = written;
+      files = files;
+      broken = subst P c.deref.ensures.value c.in_err-certificate.ensures.fault;
+    })))))
 
 pub returns-clause-does : goal.returns-clause-does
 returns-clause-does g c =

@@ -1,4 +1,4 @@
-use Rattle.std.proofs.Common.{Err, IfErr, Result, subst, sym}
+use Rattle.std.proofs.Common.{IfErr, Result, subst, sym}
 use Rattle.commands.specs.declared.text.CommandFault.{CommandFault}
 use Rattle.commands.specs.Check.{IsUnheld}
 use Rattle.commands.proofs.CheckLemmas.{told_unheld}

@@ -13,7 +13,7 @@ pub returns-in_err-bytes : goal.returns-in_err-bytes
 returns-in_err-bytes g c =
     let asked = c.in_ok-asked.asked in
     stops (g.F.FileStore.gives c.args.files.now) c.args.words _ _ c.from_residual-in_err-bytes.result c.in_err-bytes.field-0.0 (search rules) (c.in_err-bytes.ensures.stores, search rules)
-    (inr (inl (asked.geometry, asked.capacity, c.in_ok-asked.ensures.ok, c.in_err-bytes.ensures.fault)))
+    (inr (inl (record { geometry = asked.geometry; capacity = asked.capacity; asked = c.in_ok-asked.ensures.ok; unread = c.in_err-bytes.ensures.fault })))
 
 pub returns-in_err-mounted : goal.returns-in_err-mounted
 returns-in_err-mounted g c =
@@ -21,7 +21,14 @@ returns-in_err-mounted g c =
     let bytes = c.in_ok-bytes.bytes.items in
     let P : List ℕ → Type 0 = λ b. IsUnmounted asked.geometry asked.capacity b c.in_err-mounted.field-0.0 in
     stops (g.F.FileStore.gives c.args.files.now) c.args.words _ _ c.from_residual-in_err-mounted.result c.in_err-mounted.field-0.0 (search rules) (c.in_ok-bytes.ensures.stores, search rules)
-    (inr (inr (asked.geometry, asked.capacity, bytes, c.in_ok-asked.ensures.ok, c.in_ok-bytes.ensures.ok, subst P c.deref.ensures.value c.in_err-mounted.ensures.fault)))
+    (inr (inr (record {
+      geometry = asked.geometry;
+      capacity = asked.capacity;
+      bytes = bytes;
+      asked = c.in_ok-asked.ensures.ok;
+      image = c.in_ok-bytes.ensures.ok;
+      unmounted = subst P c.deref.ensures.value c.in_err-mounted.ensures.fault;
+    })))
 
 pub returns-in_err-store : goal.returns-in_err-store
 returns-in_err-store g c =

@@ -1,4 +1,4 @@
-use Rattle.std.proofs.Common.{◌≡◌, ◌∙◌, List, Ok, Option, ℕ, ap, inl, inr, refl, rules, subst, sym}
+use Rattle.std.proofs.Common.{◌≡◌, ◌∙◌, List, Ok, Option, Some, ℕ, ap, inl, inr, refl, rules, subst, sym}
 use Rattle.page_layout.specs.Flash.{Flash}
 use Rattle.onfi_cycles.specs.Driver.{flash_by}
 use Rattle.nand_die.specs.DieValue.{DieValue}
@@ -6,7 +6,7 @@ use Rattle.nand_die.specs.Made.{loaded_flash}
 use Rattle.commands.specs.declared.steady.SteadyDie.{SteadyDie}
 use Rattle.commands.specs.Check.{IsNoCertificate, IsSpelled, IsWhole}
 use Rattle.commands.specs.Files.{Stored, left}
-use Rattle.commands.specs.Serve.{Ends, HasClaim, HasServed, IsUnserved, bad_in, checked_words}
+use Rattle.commands.specs.Serve.{Ends, HasClaim, HasServed, IsUnserved, bad_in}
 use Rattle.commands.proofs.CheckLemmas.{unread_before}
 use Rattle.commands.proofs.FormatLemmas.{kept_whole}
 use Rattle.commands.proofs.ServeLemmas.{served_does, stops, unserved}
@@ -21,14 +21,21 @@ pub returns-in_err-bytes : goal.returns-in_err-bytes
 returns-in_err-bytes g c =
     let asked = c.in_ok-asked.asked in
     stops (g.F.FileStore.gives c.args.files.now) c.args.words _ _ _ _ c.from_residual-in_err-bytes.result c.in_err-bytes.field-0.0 (search rules) (c.in_err-bytes.ensures.stores, search rules) (search rules)
-    (inr (inl (asked.geometry, asked.capacity, c.in_ok-asked.ensures.ok, c.in_err-bytes.ensures.fault)))
+    (inr (inl (record { geometry = asked.geometry; capacity = asked.capacity; asked = c.in_ok-asked.ensures.ok; unread = c.in_err-bytes.ensures.fault })))
 
 pub returns-in_err-written : goal.returns-in_err-written
 returns-in_err-written g c =
     let asked = c.in_ok-asked.asked in
     stops (g.F.FileStore.gives c.args.files.now) c.args.words _ _ _ _ c.from_residual-in_err-written.result c.in_err-written.field-0.0 (search rules)
     (c.in_err-written.ensures.stores ∙ c.in_ok-bytes.ensures.stores, search rules) (search rules)
-    (inr (inr (inl (asked.geometry, asked.capacity, c.in_ok-bytes.bytes.items, c.in_ok-asked.ensures.ok, c.in_ok-bytes.ensures.ok, unread_before _ _ _ _ c.in_ok-bytes.ensures.same c.in_err-written.ensures.fault))))
+    (inr (inr (inl (record {
+      geometry = asked.geometry;
+      capacity = asked.capacity;
+      known = Some c.in_ok-bytes.bytes.items;
+      asked = c.in_ok-asked.ensures.ok;
+      image = record { bytes = c.in_ok-bytes.ensures.ok; told = λ _. refl };
+      unread = unread_before _ _ _ _ c.in_ok-bytes.ensures.same c.in_err-written.ensures.fault;
+    }))))
 
 pub returns-in_err-certificate : goal.returns-in_err-certificate
 returns-in_err-certificate g c =
@@ -39,14 +46,14 @@ returns-in_err-certificate g c =
     let stop = c.in_err-certificate.field-0.0 in
     let P : List ℕ → Type 0 = λ w. IsNoCertificate w stop in
     stops gives c.args.words _ _ _ _ c.from_residual-in_err-certificate.result stop (search rules) (c.in_ok-written.ensures.stores ∙ c.in_ok-bytes.ensures.stores, search rules) (search rules)
-    (inr (inr (inr (inl (
-      asked.geometry,
-      asked.capacity,
-      bytes,
-      written,
-      record { asked = c.in_ok-asked.ensures.ok; image = record { bytes = c.in_ok-bytes.ensures.ok; told = λ _. refl }; certificate = c.in_ok-bytes.ensures.same c.args.words.certificate.now (Ok written) c.in_ok-written.ensures.ok },
-      subst P c.deref.ensures.value c.in_err-certificate.ensures.fault,
-    )))))
+    (inr (inr (inr (inl (record {
+      geometry = asked.geometry;
+      capacity = asked.capacity;
+      known = Some bytes;
+      written = written;
+      files = record { asked = c.in_ok-asked.ensures.ok; image = record { bytes = c.in_ok-bytes.ensures.ok; told = λ _. refl }; certificate = c.in_ok-bytes.ensures.same c.args.words.certificate.now (Ok written) c.in_ok-written.ensures.ok };
+      broken = subst P c.deref.ensures.value c.in_err-certificate.ensures.fault;
+    })))))
 
 pub returns-in_err-die : goal.returns-in_err-die
 returns-in_err-die g c =
@@ -64,7 +71,14 @@ returns-in_err-die g c =
       spelled = subst Q c.deref.ensures.value c.in_ok-certificate.ensures.ok;
     } in
     stops gives c.args.words _ _ _ _ c.from_residual-in_err-die.result stop (search rules) (c.in_ok-written.ensures.stores ∙ c.in_ok-bytes.ensures.stores, search rules) (search rules)
-    (inr (inr (inr (inr (asked.geometry, asked.capacity, bytes, claim, has, subst P c.deref-2.ensures.value c.in_err-die.ensures.fault)))))
+    (inr (inr (inr (inr (record {
+      geometry = asked.geometry;
+      capacity = asked.capacity;
+      bytes = bytes;
+      claim = claim;
+      has = has;
+      unserved = subst P c.deref-2.ensures.value c.in_err-die.ensures.fault;
+    })))))
 
 pub returns-in_err-stop : goal.returns-in_err-stop
 returns-in_err-stop g c =
@@ -86,7 +100,14 @@ returns-in_err-stop g c =
     let loaded : s ≡ loaded_flash asked.geometry bytes (bad_in asked.geometry claim) = subst (λ (b : List ℕ). s ≡ loaded_flash asked.geometry b (bad_in asked.geometry claim)) c.deref-2.ensures.value made in
     let whole : IsWhole asked.geometry bytes = subst (λ (b : List ℕ). IsWhole asked.geometry b) c.deref-2.ensures.value c.in_ok-die.ensures.whole in
     stops gives c.args.words _ _ _ _ c.from_residual-in_err-stop.result stop (search rules) (c.in_ok-written.ensures.stores ∙ c.in_ok-bytes.ensures.stores, c.in_err-stop.ensures.unwritten) c.in_err-stop.ensures.unread
-    (inr (inr (inr (inr (asked.geometry, asked.capacity, bytes, claim, has, unserved asked.geometry asked.capacity bytes claim s stop whole loaded c.in_err-stop.ensures.fault)))))
+    (inr (inr (inr (inr (record {
+      geometry = asked.geometry;
+      capacity = asked.capacity;
+      bytes = bytes;
+      claim = claim;
+      has = has;
+      unserved = unserved asked.geometry asked.capacity bytes claim s stop whole loaded c.in_err-stop.ensures.fault;
+    })))))
 
 pub returns : goal.returns
 returns g c =

@@ -1,6 +1,5 @@
 use Rattle.std.proofs.Common.{refl, ap, ◌∙◌}
 use Rattle.page_layout.specs.Flash.{Flash}
-use Rattle.onfi_cycles.specs.Driver.{flash_by}
 use Rattle.commands.proofs.ServeLemmas.{die_served, read_through}
 use Rattle.commands.proofs.serve.serve_die.Goals as goal
 

@@ -1,0 +1,6 @@
+use Rattle.onfi_cycles.specs.Cycles.{DataIn}
+use Rattle.commands.proofs.SteadyLemmas.{cycle_same}
+use Rattle.commands.proofs.steady.SteadyDieBus.data_in.Goals as goal
+
+pub returns-clause-calm : goal.returns-clause-calm
+returns-clause-calm c = cycle_same (DataIn c.args.bytes.now) c.args.self.now.die c.data_in.new.self c.args.self.now.steady c.data_in.ensures.called.does

@@ -1,0 +1,7 @@
+use Rattle.std.proofs.Common.{length}
+use Rattle.onfi_cycles.specs.Cycles.{DataOut}
+use Rattle.commands.proofs.SteadyLemmas.{cycle_same}
+use Rattle.commands.proofs.steady.SteadyDieBus.data_out.Goals as goal
+
+pub returns-clause-calm : goal.returns-clause-calm
+returns-clause-calm c = cycle_same (DataOut (length c.args.bytes.now)) c.args.self.now.die c.data_out.new.self c.args.self.now.steady c.data_out.ensures.called.does
