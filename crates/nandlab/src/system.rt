@@ -71,13 +71,15 @@ impl<F: Seek + Write> Target for SectorFile<F> {
 }
 
 impl<R: Files + AllocGlobal> LabFiles for SystemFiles<'_, R> {
-    ghost use Rattle.std.specs.Prelude.{None, ◌≡◌};
+    ghost use Rattle.std.specs.Prelude.{None, false, ◌≡◌};
 
     type Reader = BufReader<R::File>;
 
     type Target = SectorFile<R::File>;
 
     ghost gives = { λ _ _ _. Unit {0} };
+
+    ghost tells = { λ _. false };
 
     ghost says_file = { λ _ _ _. Unit {0} };
 
