@@ -16,6 +16,7 @@ import time
 from pathlib import Path
 
 import compare
+import measure
 import reference as ref
 
 BUILT = Path(__file__).resolve().parent.parent / "crates/nandlab/out/nandlab"
@@ -208,6 +209,10 @@ def refusals(folder):
     ]:
         answer = run(words, folder)
         assert answer == want, (words, answer, want)
+    (folder / "link").symlink_to("nowhere")
+    answer = run(["array", "64,32,8,32,32", "dump.bin", "link"], folder)
+    assert answer == (1, "", "refused out 2 Exists\n"), answer
+    (folder / "link").unlink()
     assert [p.name for p in folder.iterdir()] == ["dump.bin"]
     (folder / "dump.bin").unlink()
 
@@ -231,12 +236,6 @@ def spent(words, folder):
     return best
 
 
-def peak(words, folder):
-    """The most memory that a run held, in KiB."""
-    pid = os.posix_spawn(words[0], words, os.environ, file_actions=[(os.POSIX_SPAWN_OPEN, 1, os.devnull, os.O_WRONLY, 0)])
-    return os.wait4(pid, 0)[2].ru_maxrss
-
-
 def times(folder):
     os.chdir(folder)
     g = ref.Geometry(2048, 64, 64, 512, 20000)
@@ -246,7 +245,7 @@ def times(folder):
     print(f"{size} bytes: sha256sum {hashed:.3f} s")
     for words in [["array", g.words(), "dump.bin", "out.bin", "--force"], ["survey", g.words(), "dump.bin"]]:
         made = spent([LAB, *words], folder)
-        print(f"nandlab {words[0]} {made:.3f} s, {made / hashed:.2f} times, {peak([LAB, *words], folder)} KiB")
+        print(f"nandlab {words[0]} {made:.3f} s, {made / hashed:.2f} times, {measure.run([LAB, *words])[1]} KiB")
 
 
 def main():

@@ -1,7 +1,7 @@
 -- What a page of a dump is: sound, erased, or neither.
-use Rattle.std.specs.Prelude.{◌≡◌, ℕ, Bool, true, false, List, Option, Some, None}
+use Rattle.std.specs.Prelude.{Bool, true, false, Option, Some, None}
 use Rattle.page_layout.specs.declared.record.Record.{Record}
-use Rattle.page_layout.specs.Page.{Page, page}
+use Rattle.page_layout.specs.Page.{Page}
 use Rattle.page_layout.specs.Sound.{record_of, is_erased_page}
 use Rattle.lab_scan.specs.declared.look.Look.{Look}
 use Rattle.lab_scan.specs.declared.look.Look.TheVariants.{Sound, Erased, Unsound}
