@@ -65,12 +65,7 @@ fn table_at(survey: &DieSurvey, from: u32, page: u32) -> Option<Line>
 }
 
 // The table pages that are a reason against a mount.
-fn print_tables<W: Write>(
-    out: &mut W,
-    survey: &DieSurvey,
-    from: u32,
-    count: u32,
-) -> io::Result<()>
+fn print_tables<W: Write>(out: &mut W, survey: &DieSurvey, from: u32, count: u32) -> io::Result<()>
     requires few { from + count < 2 ^ 32 }
     requires within { from + count ≤ length survey.now.keys.items }
     requires formed { count ≤ length survey.now.formed.items }
@@ -121,7 +116,10 @@ fn print_sound<W: Write>(out: &mut W, survey: &DieSurvey) -> io::Result<()>
 {
     print_line(out, Some(Line::Pages(Sort::Data, survey.counts.sectors)))?;
     print_line(out, Some(Line::Pages(Sort::Trim, survey.counts.trims)))?;
-    print_line(out, Some(Line::Pages(Sort::Translation, survey.counts.translations)))?;
+    print_line(
+        out,
+        Some(Line::Pages(Sort::Translation, survey.counts.translations)),
+    )?;
     print_line(out, Some(Line::Pages(Sort::Table, survey.counts.tables)))
 }
 

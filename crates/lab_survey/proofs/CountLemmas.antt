@@ -1,5 +1,5 @@
 -- One page more in the counts.
-use Rattle.std.proofs.Common.{◌≡◌, ◌≢◌, ℕ, zero, suc, ◌+◌, ◌/◌, ◌<◌, ◌≤◌, List, [], ◌∷◌, ◌++◌, length, get_or, set, take, replicate, Option, Some, None, All}
+use Rattle.std.proofs.Common.{◌≡◌, ℕ, zero, suc, ◌+◌, ◌/◌, ◌<◌, ◌≤◌, List, [], ◌∷◌, ◌++◌, length, get_or, set, take, replicate, Option, Some, None, All}
 use Rattle.std.proofs.Common.{Bool, true, false, refl, sym, ap, ◌∙◌, subst, arith, slice_get, inl, inr, cond, count_by}
 use Rattle.std.specs.Prelude.{◌==◌, ◌&&◌, not, is_some}
 use Rattle.std.specs.List.{range_with_len}
@@ -135,7 +135,7 @@ unsound_set g image row b d new p items h is e block within more =
             let yes : is_unsound_in g image b row ≡ true = ap (λ t. t && is_broken_page (slice_get image row)) (ap (λ k. k == b) (sym block) ∙ eq-eqb b b refl) ∙ at_row image row p true is e in
             let old : new ≡ unsound_below g image row b + 1 = more ∙ ap (λ k. k + 1) (get_or_default items b d 0 in_items ∙ h.at b within) in
             subst (λ k. get_or (set items b new) k 0 ≡ unsound_below g image (row + 1) k) (sym same)
-                (get_or-set_same items b new 0 in_items ∙ (old ∙ sym (below_more g image row b ∙ ap (λ t. unsound_below g image row b + one t) yes)))
+            (get_or-set_same items b new 0 in_items ∙ (old ∙ sym (below_more g image row b ∙ ap (λ t. unsound_below g image row b + one t) yes)))
         | inr ne ↦
             get_or-set_other items b c new 0 ne ∙ (h.at c l ∙ sym (below_same g image row c (ap (λ t. t && is_broken_page (slice_get image row)) (ne_eqb (row / g.pages) c (λ x. ne (sym x ∙ sym block))))))
       ];

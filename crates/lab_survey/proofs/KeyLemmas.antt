@@ -1,5 +1,5 @@
 -- One page more in what is known of the keys.
-use Rattle.std.proofs.Common.{◌≡◌, ◌≢◌, ◌⊎◌, ◌↔◌, ℕ, suc, ◌+◌, ◌<◌, Bool, true, false, List, [], length, get_or, set, length-set, replicate, Option, Some, None}
+use Rattle.std.proofs.Common.{◌≡◌, ◌≢◌, ◌⊎◌, ◌↔◌, ℕ, ◌+◌, ◌<◌, Bool, true, false, List, length, get_or, set, length-set, replicate, Option, Some, None}
 use Rattle.std.proofs.Common.{refl, sym, ap, subst, ◌∙◌, arith, inl, inr, slice_get, cond, ltb, get_or-set_same, get_or-set_other}
 use Rattle.std.proofs.lemmas.Bool.{cases_order, cases_eq}
 use Rattle.std.proofs.lemmas.List.{length-replicate, get_or-replicate, get_or_default}
@@ -52,9 +52,9 @@ step_seen : (l : Latest) (row s : ℕ) → is_seen (step l row (Some s)) ≡ tru
 step_seen Never row s = refl
 step_seen (Once q t) row s = (elim (ltb t s) as (λ b. is_seen (cond b (Once row s) (cond (ltb s t) (Once q t) (Tied q row t))) ≡ true) [
   | true ↦ refl
-  | false ↦ elim (ltb s t) as (λ b. is_seen (cond b (Once q t) (Tied q row t)) ≡ true) [ | true ↦ refl | false ↦ refl ]
+  | false ↦ elim (ltb s t) as (λ b. is_seen (cond b (Once q t) (Tied q row t)) ≡ true) [ true ↦ refl | false ↦ refl ]
 ])
-step_seen (Tied a b t) row s = (elim (ltb t s) as (λ c. is_seen (cond c (Once row s) (Tied a b t)) ≡ true) [ | true ↦ refl | false ↦ refl ])
+step_seen (Tied a b t) row s = (elim (ltb t s) as (λ c. is_seen (cond c (Once row s) (Tied a b t)) ≡ true) [ true ↦ refl | false ↦ refl ])
 
 pub seen_set : (g : Geometry) (ms : List (Option Record)) (row i : ℕ) (seen : List Bool) (r : Record) → HasSeen g ms row seen → get_or ms row None ≡ Some r → IsKeyOf g (key_of r) → i ≡ index_of g (key_of r) → HasSeen g ms (row + 1) (set seen i true)
 seen_set g ms row i seen r h e within at =
@@ -135,7 +135,7 @@ formed_new g image row v formed is h kv none newest says =
             let at_v : place_of (latest_below (marks image) (Table v) (row + 1)) ≡ Some q = subst (λ (x : ℕ). place_of (latest_below (marks image) (Table x) (row + 1)) ≡ Some q) same e in
             let q_row : row ≡ q = (let both : Some row ≡ Some q = sym newest ∙ at_v in cc) in
             subst (λ (x : ℕ). Says g image x q (get_or (set formed v is) x false)) (sym same)
-                (subst (λ b. Says g image v q b) (sym (get_or-set_same formed v is false in_items)) (subst (λ k. Says g image v k is) q_row says))
+            (subst (λ b. Says g image v q b) (sym (get_or-set_same formed v is false in_items)) (subst (λ k. Says g image v k is) q_row says))
         | inr ne ↦ subst (λ b. Says g image u q b) (sym (get_or-set_other formed v u is false ne)) (stays_other g image row u q formed h (none u ne) ku e)
       ];
     }
@@ -178,7 +178,7 @@ stated_more newest seen n states d x h within is = record {
 }
   where
     below : (i n : ℕ) → i < n + 1 → i ≢ n → i < n
-    below i n l ne = elim (cases_order i n) [ | inl same ↦ absurd (ne same) | inr (inl less) ↦ less | inr (inr more) ↦ absurd (omega arith) ]
+    below i n l ne = elim (cases_order i n) [ inl same ↦ absurd (ne same) | inr (inl less) ↦ less | inr (inr more) ↦ absurd (omega arith) ]
 
 pub keys_stated : (g : Geometry) (image : Image) (newest : List Newest) (seen : List Bool) (states : List State) → length image ≡ row_count g → HasNewest g (marks image) (row_count g) newest → HasSeen g (marks image) (row_count g) seen
     → ((i : ℕ) → i < length newest → get_or states i Absent ≡ state_seen (place_in (get_or newest i blank)) (get_or seen i false)) → (key : Key) → IsKeyOf g key → get_or states (index_of g key) Absent ≡ key_state image key

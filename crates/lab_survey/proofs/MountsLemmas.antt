@@ -1,15 +1,14 @@
 -- A die mounts just where its survey has no reason against it.
-use Rattle.std.proofs.Common.{◌≡◌, ◌≢◌, ◌↔◌, ℕ, zero, suc, ◌+◌, ◌-◌, ◌^◌, ◌<◌, ◌≤◌, List, [], ◌∷◌, length, get_or, Option, Some, None, Bool, true, false}
-use Rattle.std.proofs.Common.{refl, sym, ap, subst, ◌∙◌, arith, cond, slice_get, count_by}
+use Rattle.std.proofs.Common.{◌≡◌, ℕ, zero, suc, ◌+◌, ◌-◌, ◌^◌, ◌<◌, ◌≤◌, List, [], ◌∷◌, length, get_or, Option, Some, None, Bool, true, false}
+use Rattle.std.proofs.Common.{refl, sym, ap, ◌∙◌, arith, cond, slice_get, count_by}
 use Rattle.std.specs.Prelude.{not, nat_lt}
-use Rattle.std.proofs.lemmas.Bool.{lt-ltb, ltb-true, eqb-true, eq-eqb, not-false, both_ways}
+use Rattle.std.proofs.lemmas.Bool.{lt-ltb, ltb-true, not-false}
 use Rattle.std.proofs.lemmas.List.Sums.{sum_by-cons}
-use Rattle.std.proofs.lemmas.Option.{slice_get-get_or, slice_get_within, same_Some}
 use Rattle.page_layout.specs.declared.geometry.Geometry.{Geometry}
 use Rattle.page_layout.specs.declared.record.Record.{Record}
 use Rattle.page_layout.specs.declared.record.Key.{Key}
 use Rattle.page_layout.specs.declared.record.Key.TheVariants.{Sector, Translation, Table}
-use Rattle.page_layout.specs.Geometry.{row_count, table_pages, translation_pages, entries}
+use Rattle.page_layout.specs.Geometry.{table_pages, translation_pages}
 use Rattle.page_layout.specs.Page.{Page, Image}
 use Rattle.page_layout.specs.Sound.{record_of}
 use Rattle.page_layout.specs.Key.{key_of}
@@ -17,17 +16,14 @@ use Rattle.page_layout.specs.Live.{IsKeyOf}
 use Rattle.page_layout.specs.OneArray.{AreDistinct, AreBelow}
 use Rattle.page_layout.specs.Array.{marks}
 use Rattle.page_layout.proofs.ArrayLemmas.{mark-page, length-marks}
-use Rattle.image_check.specs.Agrees.{AreInRange, HasTables}
-use Rattle.image_check.specs.Mountable.{IsMountable, IsOrderly}
+use Rattle.image_check.specs.Agrees.{AreInRange}
+use Rattle.image_check.specs.Mountable.{IsOrderly}
 use Rattle.image_check.specs.Stale.{stale_count}
-use Rattle.image_check.specs.Survey.{index_of}
 use Rattle.image_check.proofs.PartLemmas.{mark_within}
 use Rattle.image_check.proofs.MountableLemmas.{mountable}
-use Rattle.lab_array.specs.declared.held.State.TheVariants.{Absent, Found}
 use Rattle.lab_survey.specs.declared.counts.PageCounts.{PageCounts}
 use Rattle.lab_survey.specs.declared.survey.DieSurvey.{DieSurvey}
 use Rattle.lab_survey.specs.Count.{counts_of, is_in_range, is_outside, is_last}
-use Rattle.lab_survey.specs.Keys.{key_state}
 use Rattle.lab_survey.specs.Surveyed.{HasNoReason, IsSurveyed, MountsLaw, RepeatsAs}
 use Rattle.lab_survey.proofs.KeyLemmas.{found_of, place_found}
 
@@ -83,9 +79,11 @@ in_range g (Translation t) l = lt-ltb t (translation_pages g) l
 in_range g (Table u) l = lt-ltb u (table_pages g) l
 
 numbers_of : (g : Geometry) (image : Image) → count_by (λ p. is_outside g (record_of p)) image ≡ 0 → AreInRange g (marks image)
-numbers_of g image e = record { in_range = λ row r at.
-    let m = marked image row r at in
-    range_of g (key_of r) (not-false (is_in_range g (key_of r)) (sym (ap (is_outside g) m.says) ∙ none_at (λ p. is_outside g (record_of p)) image row m.its e m.is)) }
+numbers_of g image e = record {
+  in_range = λ row r at.
+      let m = marked image row r at in
+      range_of g (key_of r) (not-false (is_in_range g (key_of r)) (sym (ap (is_outside g) m.says) ∙ none_at (λ p. is_outside g (record_of p)) image row m.its e m.is));
+}
 
 outside_none : (g : Geometry) (image : Image) → AreInRange g (marks image) → count_by (λ p. is_outside g (record_of p)) image ≡ 0
 outside_none g image h = none_all (λ p. is_outside g (record_of p)) image (λ row p is. by (record_of p) row (mark-page image row p is))
@@ -95,9 +93,11 @@ outside_none g image h = none_all (λ p. is_outside g (record_of p)) image (λ r
     by (Some r) row e = ap not (in_range g (key_of r) (h.in_range row r e))
 
 last_of : (image : Image) → count_by (λ p. is_last (record_of p)) image ≡ 0 → AreBelow (marks image) (2 ^ 64 - 1)
-last_of image e = record { below = λ row r at.
-    let m = marked image row r at in
-    ltb-true r.sequence (2 ^ 64 - 1) (not-false (nat_lt r.sequence (2 ^ 64 - 1)) (sym (ap is_last m.says) ∙ none_at (λ p. is_last (record_of p)) image row m.its e m.is)) }
+last_of image e = record {
+  below = λ row r at.
+      let m = marked image row r at in
+      ltb-true r.sequence (2 ^ 64 - 1) (not-false (nat_lt r.sequence (2 ^ 64 - 1)) (sym (ap is_last m.says) ∙ none_at (λ p. is_last (record_of p)) image row m.its e m.is));
+}
 
 last_none : (image : Image) → AreBelow (marks image) (2 ^ 64 - 1) → count_by (λ p. is_last (record_of p)) image ≡ 0
 last_none image h = none_all (λ p. is_last (record_of p)) image (λ row p is. by (record_of p) row (mark-page image row p is))

@@ -1,6 +1,6 @@
 -- The pages that share a sequence, the blocks' states, and the reasons against a mount.
-use Rattle.std.proofs.Common.{◌≡◌, ◌≢◌, ◌⊎◌, ◌↔◌, ℕ, ◌+◌, ◌-◌, ◌^◌, ◌<◌, ◌≤◌, List, [], length, get_or, Option, Some, None, IfNone, IfSome}
-use Rattle.std.proofs.Common.{refl, sym, ap, subst, ◌∙◌, arith, inl, inr}
+use Rattle.std.proofs.Common.{◌≡◌, ℕ, List, [], length, Option, Some, None, IfNone, IfSome}
+use Rattle.std.proofs.Common.{subst, arith}
 use Rattle.std.specs.Prelude.{IsPermutation}
 use Rattle.page_layout.specs.declared.geometry.Geometry.{Geometry}
 use Rattle.page_layout.specs.Geometry.{row_count}
@@ -10,7 +10,7 @@ use Rattle.certificate.specs.Claim.{Claim, sizes_of}
 use Rattle.image_check.specs.declared.refusal.Refusal.{Refusal}
 use Rattle.image_check.specs.declared.refusal.Refusal.TheVariants as refusals
 use Rattle.image_check.specs.Pairs.{AreInOrder, DifferBelow, IsLowestBelow}
-use Rattle.image_check.specs.Refused.{Part, Numbers, Sequences, Tables, Holds, FailsFrom, HoldBetween, IsOfImage, part_of}
+use Rattle.image_check.specs.Refused.{Part, Numbers, Sequences, Tables, Holds, FailsFrom, HoldBetween, IsOfImage}
 use Rattle.image_check.specs.Survey.{pairs_below}
 use Rattle.image_check.proofs.SequenceLemmas.{distinct_holds, repeated_at}
 use Rattle.lab_survey.specs.Surveyed.{IsReadable, RepeatsAs}

@@ -94,12 +94,7 @@ impl PageCounts {
     }
 
     // The counts with one page more.
-    pub(crate) fn step(
-        self,
-        geometry: &Geometry,
-        found: Option<Record>,
-        erased: bool,
-    ) -> PageCounts
+    pub(crate) fn step(self, geometry: &Geometry, found: Option<Record>, erased: bool) -> PageCounts
         requires { AreFew (2 ^ 32 - 2) self }
         ensures { result ≡ counted geometry.now self found erased }
     {

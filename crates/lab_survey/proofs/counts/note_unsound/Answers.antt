@@ -1,4 +1,4 @@
-use Rattle.std.proofs.Common.{◌≡◌, ◌+◌, ◌∙◌, sym, ap, refl, true, false, is_some}
+use Rattle.std.proofs.Common.{◌≡◌, ◌∙◌, sym, ap, refl, false, is_some}
 use Rattle.page_layout.specs.Block.{is_broken}
 use Rattle.lab_survey.proofs.CountLemmas.{unsound_none, unsound_set, whole_erased, whole_sound, broken_of}
 use Rattle.lab_survey.proofs.counts.note_unsound.Goals.{then-erased-via-then-erased, then-erased-via-else-erased+then-is_some}

@@ -1,6 +1,5 @@
-use Rattle.std.proofs.Common.{◌≡◌, ◌+◌, ◌/◌, length, get_or, [], ap, sym, subst, ◌∙◌}
+use Rattle.std.proofs.Common.{◌+◌, ◌/◌, length, get_or, [], ap, sym, subst, ◌∙◌}
 use Rattle.page_layout.specs.declared.record.Key.TheVariants.{Table}
-use Rattle.page_layout.specs.Geometry.{entries}
 use Rattle.page_layout.specs.Live.{IsKeyOf}
 use Rattle.page_layout.specs.Array.{marks}
 use Rattle.page_layout.specs.Newest.{latest_below}

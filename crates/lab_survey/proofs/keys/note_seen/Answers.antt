@@ -1,4 +1,4 @@
-use Rattle.std.proofs.Common.{◌∙◌, sym, ap, subst}
+use Rattle.std.proofs.Common.{◌∙◌, ap, subst}
 use Rattle.image_check.specs.Survey.{index_of}
 use Rattle.page_layout.specs.Live.{IsKeyOf}
 use Rattle.lab_survey.proofs.KeyLemmas.{seen_set}

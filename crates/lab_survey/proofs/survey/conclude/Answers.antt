@@ -1,5 +1,4 @@
-use Rattle.std.proofs.Common.{◌≡◌, ℕ, List, ap, sym, subst, ◌∙◌}
-use Rattle.std.specs.Prelude.{IsPermutation}
+use Rattle.std.proofs.Common.{ap, sym, ◌∙◌}
 use Rattle.lab_survey.specs.Count.{unsound_below}
 use Rattle.lab_survey.proofs.CountLemmas.{counts_whole}
 use Rattle.lab_survey.proofs.KeyLemmas.{keys_stated, formed_all}

@@ -1,5 +1,4 @@
-use Rattle.std.proofs.Common.{◌≡◌, ◌+◌, ◌≤◌, All, length, replicate, false, ap, sym, subst, ◌∙◌, refl, arith}
-use Rattle.std.proofs.lemmas.List.{length-replicate}
+use Rattle.std.proofs.Common.{◌≡◌, ◌+◌, ◌≤◌, All, replicate, false, ap, sym, subst, ◌∙◌, arith}
 use Rattle.page_layout.specs.Geometry.{key_count}
 use Rattle.page_layout.specs.Array.{marks}
 use Rattle.lab_survey.proofs.CountLemmas.{counts_none, few_none, few_start, unsound_start}
