@@ -4,8 +4,8 @@
     [LAB=..] bench/lab.py [CASES] [SEED]
     [LAB=..] bench/lab.py --time
 
-LAB is the program, or the one that `rt run` in crates/nandlab builds. The array, the report, the refusals and the exit status are
-compared, and that no file is left beside OUT."""
+LAB is the program, or the one that `rt run` in crates/nandlab builds. The array, what is printed, the refusals and the exit status are
+compared, and that no file is left beside OUT. The dumps are intact, damaged, cut, or read under another geometry of the same size."""
 
 import os
 import random
@@ -16,6 +16,7 @@ import time
 from pathlib import Path
 
 import compare
+import measure
 import reference as ref
 
 BUILT = Path(__file__).resolve().parent.parent / "crates/nandlab/out/nandlab"
@@ -27,6 +28,13 @@ def run(words, folder):
     return done.returncode, done.stdout.decode(), done.stderr.decode()
 
 
+def age_line(image):
+    unsound = sum(1 for r, e in zip(image.records, image.erased) if r is None and not e)
+    if unsound == 0:
+        return "unsound 0: the array is that of every page that was programmed\n"
+    return f"unsound {unsound}: at most {unsound} sectors may be older than the last write\n"
+
+
 def array_of(image):
     """The sectors, and the report."""
     g, sectors, told = image.g, [], ""
@@ -36,12 +44,103 @@ def array_of(image):
         except ref.Refused:
             sectors.append(bytes(g.data))
             told += f"tied sector {n}\n"
-    unsound = sum(1 for r, e in zip(image.records, image.erased) if r is None and not e)
-    if unsound == 0:
-        told += "unsound 0: the array is that of every page that was programmed\n"
-    else:
-        told += f"unsound {unsound}: at most {unsound} sectors may be older than the last write\n"
+    told += age_line(image)
     return b"".join(sectors), told
+
+
+CLASSES = ["free", "data", "mapping", "closed", "factory", "grown"]
+
+
+def key_state(image, kind, number):
+    """"found", "tied" or "absent"."""
+    rows = image.of_key(kind, number)
+    top = max((image.records[r].sequence for r in rows), default=None)
+    return ["absent", "found", "tied"][min(2, sum(image.records[r].sequence == top for r in rows))]
+
+
+def is_well_formed(image, page):
+    g, row = image.g, image.newest("table", page)
+    words = [int.from_bytes(image.data[row][4 * i : 4 * i + 4], "little") for i in range(g.entries)]
+    blocks = [page * g.entries + i for i in range(g.entries)]
+    return all(w % 256 < 3 if b < g.blocks else w == ref.NONE for w, b in zip(words, blocks))
+
+
+def survey_of(image):
+    """The lines of `survey`."""
+    g = image.g
+    limits = {"sector": g.sectors, "translation": g.translation, "table": g.tables}
+    sound = [x for x in image.records if x is not None]
+    broken = [r for r in range(g.rows) if image.records[r] is None and not image.erased[r]]
+    lines = [f"pages {name} {sum(x.kind == kind for x in sound)}" for kind, name in enumerate(["data", "trim", "translation", "table"], 1)]
+    lines += [f"pages erased {sum(image.erased)}", f"pages unsound {len(broken)}"]
+    outside = sum(x.number >= limits[x.key()[0]] for x in sound)
+    repeated = ref.first_repeated_sequence(image)
+    last = sum(x.sequence == 2**64 - 1 for x in sound)
+    lines += [f"reason NumberRange pages {outside}"] * (outside > 0)
+    lines += [f"reason SequenceRepeated row {repeated[0]} row {repeated[1]}"] if repeated else []
+    lines += [f"reason NextSequence pages {last}"] * (last > 0)
+    tables = [key_state(image, "table", u) for u in range(g.tables)]
+    formed = [state == "found" and is_well_formed(image, u) for u, state in enumerate(tables)]
+    for u, state in enumerate(tables):
+        if state != "found":
+            lines.append(f"reason NotFormatted table {u}")
+        elif not formed[u]:
+            lines.append(f"reason TableDamaged table {u}")
+    for kind, count in limits.items():
+        for n in range(count):
+            state = key_state(image, kind, n)
+            if state == "tied":
+                lines.append(f"tied {kind} {n}")
+            elif state == "absent" and kind != "sector":
+                lines.append(f"missing {kind} {n}")
+    shown = ref.Shown(image) if outside == 0 and repeated is None and all(formed) else None
+    for b in range(g.blocks):
+        unsound = sum(r // g.pages == b for r in broken)
+        if shown is None:
+            lines.append(f"block {b} unsound {unsound}")
+        else:
+            kind, pointer, live, wear = shown.blocks[b]
+            lines.append(f"block {b} class {CLASSES[kind]} pointer {pointer} live {live} wear {wear} unsound {unsound}")
+    return "".join(line + "\n" for line in lines) + age_line(image), shown
+
+
+def mounts_as_told(image, told, shown):
+    """What the reference's own mount says: it is refused for a reason that was told, and for none where none was."""
+    try:
+        ref.mount(image, max(1, len(shown.stale)) if shown else 65536)
+        assert "reason" not in told, told
+    except ref.Refused as refused:
+        assert f"reason {refused.line.split()[3]}" in told, (refused.line, told)
+
+
+def other_shape(rng, g):
+    """Another geometry of a dump of this size."""
+    shapes = [(g.data, g.spare, g.pages * 2, g.blocks // 2, g.sectors), (g.data, g.spare, g.pages, g.blocks, max(1, g.sectors // 2))]
+    shapes += [(g.data, g.spare, g.pages, g.blocks, g.sectors + 20), (g.data, g.spare, g.pages // 2, g.blocks * 2, g.sectors)]
+    made = [ref.Geometry(*x) for x in shapes if x[2] in (4, 8, 16) and x[3] >= 12 and x[2] * x[3] == g.rows]
+    return rng.choice(made)
+
+
+def survey_case(rng, folder):
+    g, image = dump_for(rng)
+    if rng.random() < 0.3:
+        g = other_shape(rng, g)
+        image = ref.Image(g, image.raw())
+    raw = image.raw()
+    cut = rng.random()
+    if cut < 0.05:
+        raw = raw[: rng.randrange(len(raw))]
+    elif cut < 0.1:
+        raw += b"\0"
+    (folder / "dump.bin").write_bytes(raw)
+    answer = run(["survey", g.words(), "dump.bin"], folder)
+    if len(raw) != g.rows * g.page:
+        assert answer == (1, "", "refused image 1 WrongLength\n"), (g.words(), answer)
+        return
+    told, shown = survey_of(image)
+    assert answer == (0, told, ""), (g.words(), answer, told)
+    mounts_as_told(image, told, shown)
+    assert [p.name for p in folder.iterdir()] == ["dump.bin"]
 
 
 def dump_for(rng):
@@ -99,12 +198,21 @@ def refusals(folder):
         (["array", "64,32,8,32,32", "none.bin", "out.bin"], (3, "", "fault read none.bin\n")),
         (["array", "64,32,8,32,32", "dump.bin", "none/out.bin"], (3, "", "fault write none/out.bin\n")),
         (["array", "64,32,8,32,32", "dump.bin"], (2, "", "usage: no such command\n")),
+        (["survey", "64,32,8,32", "dump.bin"], (2, "", "usage: bad number 64,32,8,32\n")),
+        (["survey", "63,32,8,32,32", "dump.bin"], (1, "", "refused geometry 1 DataSize\n")),
+        (["survey", "64,32,8,32,32", "none.bin"], (3, "", "fault read none.bin\n")),
+        (["survey", "64,32,8,32,32"], (2, "", "usage: no such command\n")),
+        (["survey", "64,32,8,32,32", "dump.bin", "--force"], (2, "", "usage: no such command\n")),
         (["arrays"], (2, "", "usage: no such command\n")),
         ([], (2, "", "usage: no such command\n")),
         (["--version"], (0, "nandlab 0.1.0\n", "")),
     ]:
         answer = run(words, folder)
         assert answer == want, (words, answer, want)
+    (folder / "link").symlink_to("nowhere")
+    answer = run(["array", "64,32,8,32,32", "dump.bin", "link"], folder)
+    assert answer == (1, "", "refused out 2 Exists\n"), answer
+    (folder / "link").unlink()
     assert [p.name for p in folder.iterdir()] == ["dump.bin"]
     (folder / "dump.bin").unlink()
 
@@ -129,12 +237,15 @@ def spent(words, folder):
 
 
 def times(folder):
+    os.chdir(folder)
     g = ref.Geometry(2048, 64, 64, 512, 20000)
     full_dump(folder / "dump.bin", g)
     size = (folder / "dump.bin").stat().st_size
     hashed = spent(["sha256sum", "dump.bin"], folder)
-    made = spent([LAB, "array", g.words(), "dump.bin", "out.bin", "--force"], folder)
-    print(f"{size} bytes: sha256sum {hashed:.3f} s, nandlab array {made:.3f} s, {made / hashed:.2f} times")
+    print(f"{size} bytes: sha256sum {hashed:.3f} s")
+    for words in [["array", g.words(), "dump.bin", "out.bin", "--force"], ["survey", g.words(), "dump.bin"]]:
+        made = spent([LAB, *words], folder)
+        print(f"nandlab {words[0]} {made:.3f} s, {made / hashed:.2f} times, {measure.run([LAB, *words])[1]} KiB")
 
 
 def main():
@@ -146,7 +257,8 @@ def main():
         refusals(folder)
         for i in range(cases):
             case(random.Random(f"{seed}.{i}"), folder)
-        print(f"{cases} dumps agree with the reference, and the refusals")
+            survey_case(random.Random(f"survey {seed}.{i}"), folder)
+        print(f"array and survey of {cases} dumps each agree with the reference, and the refusals")
 
 
 if __name__ == "__main__":

@@ -1,8 +1,10 @@
 -- The pieces while the sectors are written.
-use Rattle.std.specs.Prelude.{◌≡◌, ℕ, ◌<◌, ◌≤◌, List, [], length, get_or, take, count_by, Option, IfSome}
+use Rattle.std.specs.Prelude.{◌≡◌, ℕ, ◌<◌, ◌≤◌, List, [], length, get_or, take, count_by, Option, Some, IfSome}
 use Rattle.page_layout.specs.declared.geometry.Geometry.{Geometry}
+use Rattle.page_layout.specs.declared.record.Record.{Record}
 use Rattle.page_layout.specs.declared.record.Key.TheVariants.{Sector}
-use Rattle.page_layout.specs.Page.{Image}
+use Rattle.page_layout.specs.Page.{Image, page}
+use Rattle.page_layout.specs.Sound.{record_of}
 use Rattle.page_layout.specs.Greatest.{place_of}
 use Rattle.page_layout.specs.Newest.{latest_below}
 use Rattle.page_layout.specs.Array.{marks, zeros, content_at}
@@ -24,6 +26,11 @@ unsound_below image rows = count_by is_broken (take rows image)
 pub record AreOwn (g : Geometry) (pieces : List (List ℕ)) : Type 0 where
   pub size : length pieces ≡ g.sectors
   pub each : (n : ℕ) → n < g.sectors → MayRead g n (get_or pieces n [])
+
+-- these bytes are the data area of a page that is sound with this record
+pub record IsBodyOf (r : Record) (body : List ℕ) : Type 0 where
+  pub spare : List ℕ
+  pub says : record_of (page body spare) ≡ Some r
 
 -- whatever the pages were
 pub record Stands (g : Geometry) (rows : ℕ) (held : List Held) (blank : List ℕ) (unsound : ℕ) (pieces : Option (List (List ℕ))) : Type 0 where

@@ -4,14 +4,12 @@ ghost use Rattle.page_layout.specs.Geometry.{row_count};
 ghost use Rattle.page_layout.specs.Page.{Page, Image};
 ghost use Rattle.page_layout.specs.Array.{content_of_kind, zeros};
 ghost use Rattle.page_layout.specs.Sound.{record_of};
-ghost use Rattle.lab_scan.specs.Look.{IsLookAt, look_of};
-ghost use Rattle.lab_scan.specs.declared.look.Look.TheVariants.{Sound};
 ghost use Rattle.lab_array.specs.Held.{pieces_after};
-ghost use Rattle.lab_array.specs.Writing.{Stands, Shows};
+ghost use Rattle.lab_array.specs.Writing.{IsBodyOf, Stands, Shows};
 
 use crate::held::{Change, Held};
 use crate::target::{Target, TargetFault};
-use lab_scan::{Look, Stopped, Taker};
+use lab_scan::{Look, Stopped, Taker, look_at};
 use page_layout::geometry::Geometry;
 use page_layout::record::{Key, Kind, Record};
 
@@ -56,7 +54,7 @@ impl<T: Target> Writing<T> {
         body: &[u8],
     ) -> Result<(), Stopped>
         requires row_in { row < row_count geometry.now }
-        requires looked { IsLookAt body.now (Sound found.now) }
+        requires looked { IsBodyOf found.now body.now }
         requires stands { Stands geometry.now row self.old.held.items self.old.zeros.items self.old.unsound (T.pieces self.old.target) }
         ensures stands { OnOk result (Stands geometry.now (row + 1) self.new.held.items self.new.zeros.items self.new.unsound (T.pieces self.new.target)) }
         ensures shows { OnOk result ((image : Image) (p : Page) → Shows geometry.now row image self.old.held.items self.old.unsound (T.pieces self.old.target) → slice_get image row ≡ Some p → body.now ≡ p.body → record_of p ≡ Some found.now
@@ -88,8 +86,7 @@ impl<T: Target> Writing<T> {
 impl<T: Target> Taker for Writing<T> {
     ghost use Rattle.std.specs.Prelude.{◌≡◌, ◌<◌, ◌+◌, ℕ, length, slice_get, OnOk, Some};
     ghost use Rattle.page_layout.specs.Geometry.{row_count};
-    ghost use Rattle.page_layout.specs.Page.{Page, Image};
-    ghost use Rattle.lab_scan.specs.Look.{look_of, IsLookAt};
+    ghost use Rattle.page_layout.specs.Page.{Image, page};
     ghost use Rattle.lab_array.specs.Writing.{Stands, Shows};
 
     ghost stands = { λ s g rows. Stands g rows s.held.items s.zeros.items s.unsound (T.pieces s.target) };
@@ -100,10 +97,10 @@ impl<T: Target> Taker for Writing<T> {
         &mut self,
         geometry: &Geometry,
         row: u32,
-        look: Look,
         body: &[u8],
+        spare: &[u8],
     ) -> Result<(), Stopped> {
-        match look {
+        match look_at(geometry, body, spare) {
             Look::Erased => Ok(()),
             Look::Unsound => {
                 self.unsound += 1;

@@ -1,7 +1,12 @@
--- The files that were put in their places.
-use Rattle.std.specs.Prelude.{ℕ, List, [], ◌∷◌, ◌++◌, Option, Result, Ok, Err}
+-- The files that are read, and those that were put in their places.
+use Rattle.std.specs.Prelude.{◌≡◌, ℕ, Bool, true, List, [], ◌∷◌, ◌++◌, Option, IfSome, IsSome, Result, Ok, Err}
 use Rattle.std.specs.Option.{option_map}
 use Rattle.lab_commands.specs.declared.files.FileFault.{FileFault}
+
+-- what is known of a reader's bytes: they are some that the file gives, and they are known where the store tells them
+pub record IsOpened (gives : List ℕ → Type 0) (tells : Bool) (known : Option (List ℕ)) : Type 0 where
+  pub given : IfSome known gives
+  pub told : tells ≡ true → IsSome known
 
 -- a file of this path, with these pieces one behind another, where they are known
 pub record Kept : Type 0 where

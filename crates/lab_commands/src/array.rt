@@ -1,52 +1,18 @@
 //! The command `array GEOM DUMP OUT`.
 ghost use Rattle.std.specs.Prelude.{◌≡◌, OnOk, OnErr, IfOk, IfErr};
-ghost use Rattle.lab_commands.specs.Array.{IsAllowed, IsGeometryAt, IsMade, IsUndone, WroteArray};
+ghost use Rattle.lab_commands.specs.Array.{IsAllowed, IsMade, WroteArray};
 ghost use Rattle.lab_commands.specs.Files.{with_kept};
+ghost use Rattle.lab_commands.specs.Undone.{IsUndone};
 
 use crate::files::{FileFault, LabFiles};
+use crate::opening::{geometry_at, open_dump, read_fault, write_fault};
 use crate::report::print_report;
 use crate::text::LabFault;
-use command_words::geometry_numbers;
 use lab_array::{ArrayFault, Written, write_array};
 use lab_words::ArrayWords;
 use page_layout::geometry::Geometry;
 use std::alloc::Global;
 use std::io::Write;
-
-// The geometry that a word says.
-fn geometry_at<'a>(word: &'a str) -> Result<Geometry, LabFault<'a>>
-    ensures { IfOk result (IsGeometryAt word.now) }
-{
-    let Some(numbers) = geometry_numbers(word) else {
-        return Err(LabFault::BadNumber(word));
-    };
-    match Geometry::new(
-        numbers.data_bytes,
-        numbers.spare_bytes,
-        numbers.pages,
-        numbers.blocks,
-        numbers.sectors,
-    ) {
-        Ok(geometry) => Ok(geometry),
-        Err(fault) => Err(LabFault::Geometry(fault)),
-    }
-}
-
-// Why a file was not read or asked about.
-fn read_fault(fault: FileFault, path: &str) -> LabFault<'_> {
-    match fault {
-        FileFault::Failed => LabFault::Read(path),
-        FileFault::OutOfMemory => LabFault::OutOfMemory,
-    }
-}
-
-// Why a file was not written.
-fn write_fault(fault: FileFault, path: &str) -> LabFault<'_> {
-    match fault {
-        FileFault::Failed => LabFault::Write(path),
-        FileFault::OutOfMemory => LabFault::OutOfMemory,
-    }
-}
 
 // Why no array was made.
 fn array_fault<'a>(fault: ArrayFault, words: &ArrayWords<'a>) -> LabFault<'a> {
@@ -83,13 +49,10 @@ fn make<'a, F: LabFiles>(
     geometry: &Geometry,
     files: &mut F,
 ) -> Result<Written<F::Target>, LabFault<'a>>
-    ensures made { IfOk result (λ written. IsMade (F.gives files.old words.now.dump.now) geometry.now (F.Target.pieces written.target) written.held.items written.unsound) }
+    ensures made { IfOk result (λ written. IsMade (F.gives files.old words.now.dump.now) (F.tells files.old) geometry.now (F.Target.pieces written.target) written.held.items written.unsound) }
     ensures kept { F.kept files.new ≡ F.kept files.old }
 {
-    let mut dump = match files.open(words.dump) {
-        Ok(dump) => dump,
-        Err(fault) => return Err(read_fault(fault, words.dump)),
-    };
+    let mut dump = open_dump(files, words.dump)?;
     let target = match files.create(words.out, geometry.sectors(), geometry.data_bytes()) {
         Ok(target) => target,
         Err(fault) => return Err(write_fault(fault, words.out)),
@@ -135,7 +98,7 @@ pub(crate) fn array_command<'a, F: LabFiles, W: Write>(
     files: &mut F,
     out: &mut W,
 ) -> Result<(), LabFault<'a>>
-    ensures ok { OnOk result (WroteArray (F.gives files.old) (F.says_file files.old) (F.says_same files.old) words.entry (F.kept files.old) (F.kept files.new) (W.contents out.old) (W.contents out.new)) }
+    ensures ok { OnOk result (WroteArray (F.gives files.old) (F.tells files.old) (F.says_file files.old) (F.says_same files.old) words.entry (F.kept files.old) (F.kept files.new) (W.contents out.old) (W.contents out.new)) }
     ensures err { IfErr result (IsUndone (F.kept files.old) (F.kept files.new) (W.contents out.old) (W.contents out.new)) }
 {
     let geometry = geometry_at(words.geometry)?;

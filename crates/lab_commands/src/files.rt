@@ -17,7 +17,7 @@ pub enum FileFault {
 /// The files that the words name, by their paths as written: those of the system, or some in memory.
 pub trait LabFiles {
     ghost use Rattle.std.specs.Prelude.{◌≡◌, Bool, List, ℕ, Option, Result, Ok, IfOk, IfSome, replicate};
-    ghost use Rattle.lab_commands.specs.Files.{Kept, kept_after};
+    ghost use Rattle.lab_commands.specs.Files.{IsOpened, Kept, kept_after};
 
     /// What reads a dump piece by piece.
     type Reader: Read + Drop;
@@ -27,6 +27,9 @@ pub trait LabFiles {
 
     /// The bytes that a reader of a path may tell.
     ghost gives: { Self → List ℕ → List ℕ → Type 0 };
+
+    /// Whether each reader that it opens tells its bytes: those of the system's files don't, those of files in memory may.
+    ghost tells: { Self → Bool };
 
     /// What it may answer to whether there is a file of this path.
     ghost says_file: { Self → List ℕ → Bool → Type 0 };
@@ -49,7 +52,7 @@ pub trait LabFiles {
 
     /// A reader of a file, from its first byte on. No file is changed.
     fn open(&mut self, path: &str) -> Result<Self::Reader, FileFault>
-        ensures bytes { IfOk result (λ reader. IfSome (Self.Reader.remaining reader) (gives self.old path.now)) }
+        ensures bytes { IfOk result (λ reader. IsOpened (gives self.old path.now) (tells self.old) (Self.Reader.remaining reader)) }
         ensures kept { kept self.new ≡ kept self.old };
 
     /// A new file beside that of this path, of so many pieces of so many zeros.

@@ -4,8 +4,12 @@
 
 mod array;
 mod files;
+mod lines;
+mod opening;
 mod program;
 mod report;
+mod survey;
+mod survey_report;
 mod text;
 
 pub use files::{FileFault, LabFiles};

@@ -66,7 +66,7 @@ fn print_doubt<W: Write>(out: &mut W, unsound: u32) -> io::Result<()>
 }
 
 // The last line: how far the array may be from the last write.
-fn print_age<W: Write>(out: &mut W, unsound: u32) -> io::Result<()>
+pub(crate) fn print_age<W: Write>(out: &mut W, unsound: u32) -> io::Result<()>
     ensures { OnOk result (Appends (W.contents out.old) (W.contents out.new) (age_line unsound)) }
 {
     if unsound == 0 {

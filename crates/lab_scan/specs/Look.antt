@@ -1,7 +1,7 @@
 -- What a page of a dump is: sound, erased, or neither.
-use Rattle.std.specs.Prelude.{◌≡◌, ℕ, Bool, true, false, List, Option, Some, None}
+use Rattle.std.specs.Prelude.{Bool, true, false, Option, Some, None}
 use Rattle.page_layout.specs.declared.record.Record.{Record}
-use Rattle.page_layout.specs.Page.{Page, page}
+use Rattle.page_layout.specs.Page.{Page}
 use Rattle.page_layout.specs.Sound.{record_of, is_erased_page}
 use Rattle.lab_scan.specs.declared.look.Look.{Look}
 use Rattle.lab_scan.specs.declared.look.Look.TheVariants.{Sound, Erased, Unsound}
@@ -15,14 +15,3 @@ look_by None false = Unsound
 -- what a page is: sound with its record, else as an erase leaves it, else neither
 unfoldable pub look_of : Page → Look
 look_of p = look_by (record_of p) (is_erased_page p)
-
--- the record that it says
-abbrev pub record_in : Look → Option Record
-record_in (Sound r) = Some r
-record_in Erased = None
-record_in Unsound = None
-
--- these bytes are the data area of a page that is so
-pub record IsLookAt (body : List ℕ) (look : Look) : Type 0 where
-  pub spare : List ℕ
-  pub is : look ≡ look_of (page body spare)

@@ -5,5 +5,5 @@
 mod look;
 mod pages;
 
-pub use look::{Look, look_at};
+pub use look::{Look, look_at, look_with};
 pub use pages::{ScanFault, Stopped, Taker, scan};

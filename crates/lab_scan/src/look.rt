@@ -1,7 +1,8 @@
 //! What one page of a dump is.
 ghost use Rattle.std.specs.Prelude.{◌≡◌, length};
 ghost use Rattle.page_layout.specs.Page.{page};
-ghost use Rattle.lab_scan.specs.Look.{look_of};
+ghost use Rattle.page_layout.specs.Sound.{is_erased_page};
+ghost use Rattle.lab_scan.specs.Look.{look_by, look_of};
 
 use page_layout::geometry::Geometry;
 use page_layout::record::{Record, is_erased, read_record};
@@ -17,6 +18,17 @@ pub enum Look {
     Unsound,
 }
 
+/// What a page is with this data area and this spare area, where `found` is its record.
+pub fn look_with(found: Option<Record>, body: &[u8], spare: &[u8]) -> Look
+    ensures { result ≡ look_by found (is_erased_page (page body.now spare.now)) }
+{
+    match found {
+        Some(found) => Look::Sound(found),
+        None if is_erased(body, spare) => Look::Erased,
+        None => Look::Unsound,
+    }
+}
+
 /// What a page is with this data area and this spare area, of the lengths that the geometry says.
 #[tactic(auto, unfolding(crate::specs::Look::look_of))]
 pub fn look_at(geometry: &Geometry, body: &[u8], spare: &[u8]) -> Look
@@ -24,12 +36,5 @@ pub fn look_at(geometry: &Geometry, body: &[u8], spare: &[u8]) -> Look
     requires spare_whole { length spare.now ≡ geometry.now.spare_bytes }
     ensures { result ≡ look_of (page body.now spare.now) }
 {
-    if let Some(found) = read_record(geometry, body, spare) {
-        return Look::Sound(found);
-    }
-    if is_erased(body, spare) {
-        Look::Erased
-    } else {
-        Look::Unsound
-    }
+    look_with(read_record(geometry, body, spare), body, spare)
 }

@@ -6,7 +6,6 @@ ghost use Rattle.page_layout.specs.Page.{Image};
 ghost use Rattle.lab_scan.specs.Scan.{HasMore, IsCut, IsReadTo, IsTaken, IsUntaken};
 ghost use Rattle.lab_scan.specs.declared.pages.ScanFault.TheVariants as faults;
 
-use crate::look::{Look, look_at};
 use page_layout::geometry::Geometry;
 use std::io::Read;
 use thiserror::Error;
@@ -45,8 +44,7 @@ pub trait Taker {
     ghost use Rattle.std.specs.Prelude.{◌≡◌, ◌<◌, ◌+◌, ℕ, length, slice_get, OnOk, Some};
     ghost use Rattle.page_layout.specs.declared.geometry.Geometry.{Geometry};
     ghost use Rattle.page_layout.specs.Geometry.{row_count};
-    ghost use Rattle.page_layout.specs.Page.{Page, Image};
-    ghost use Rattle.lab_scan.specs.Look.{look_of, IsLookAt};
+    ghost use Rattle.page_layout.specs.Page.{Image, page};
 
     /// What holds of it once it took so many pages of a die of this geometry, whatever they were.
     ghost stands: { Self → Geometry → ℕ → Type 0 };
@@ -54,7 +52,7 @@ pub trait Taker {
     /// What it has of this image's first pages, of which there are so many.
     ghost shows: { Self → Geometry → ℕ → Image → Type 0 };
 
-    /// Takes the page of a row: what it is, and its data area.
+    /// Takes the page of a row: its data area and its spare area.
     ///
     /// # Errors
     ///
@@ -63,15 +61,15 @@ pub trait Taker {
         &mut self,
         geometry: &Geometry,
         row: u32,
-        look: Look,
         body: &[u8],
+        spare: &[u8],
     ) -> Result<(), Stopped>
         requires row_in { row < row_count geometry.now }
         requires body_whole { length body.now ≡ geometry.now.data_bytes }
-        requires looked { IsLookAt body.now look }
+        requires spare_whole { length spare.now ≡ geometry.now.spare_bytes }
         requires stands { stands self.old geometry.now row }
         ensures stands { OnOk result (stands self.new geometry.now (row + 1)) }
-        ensures shows { OnOk result ((image : Image) (p : Page) → shows self.old geometry.now row image → slice_get image row ≡ Some p → body.now ≡ p.body → look ≡ look_of p → shows self.new geometry.now (row + 1) image) };
+        ensures shows { OnOk result ((image : Image) → shows self.old geometry.now row image → slice_get image row ≡ Some (page body.now spare.now) → shows self.new geometry.now (row + 1) image) };
 }
 
 // Why a buffer was not filled.
@@ -139,7 +137,7 @@ fn take_pages<R: Read, T: Taker>(
 {
     for row in 0..geometry.rows() {
         read_page(reader, body, spare)?;
-        taker.take(geometry, row, look_at(geometry, body, spare), body)?;
+        taker.take(geometry, row, body, spare)?;
     }
     Ok(())
 }

@@ -1,5 +1,5 @@
 -- The grammar is one of which `clap` tells what it makes of all words.
-use Rattle.std.proofs.Common.{◌≡◌, ◌⊎◌, inl, inr, ℕ, ◌<◌, true, List, Option, Some, None, IfSome, option_map, refl, ap, sym, subst, ◌∙◌, arith}
+use Rattle.std.proofs.Common.{◌≡◌, ◌⊎◌, inl, inr, ℕ, ◌<◌, true, List, [], Option, Some, None, IfSome, option_map, refl, ap, sym, subst, ◌∙◌, arith}
 use Rattle.std.specs.Prelude.{◌↔◌, IsTrue, nat_lt}
 use Rattle.std.specs.Borrow.{Bor}
 use Rattle.std.proofs.lemmas.Bool.Decides.{nat_tests}
@@ -14,8 +14,11 @@ use Rattle.clap.specs.Simple.{subcommand_rows_of}
 use Rattle.clap.proofs.WalkLemmas.{first_value-rows}
 use Rattle.clap.specs.Simple.{is_simple}
 use Rattle.clap.specs.Faults.{is_simple_and_free}
+use Rattle.clap.specs.Words.{fault_of, subcommand_of}
 use Rattle.clap.proofs.OnLiterals.{clap_on_literals}
-use Rattle.lab_words.specs.Words.{grammar, IsTextFor}
+use Rattle.lab_words.specs.declared.words.Asked.{Asked}
+use Rattle.lab_words.specs.declared.words.Asked.TheVariants as asked
+use Rattle.lab_words.specs.Words.{grammar, IsAsked, IsAt, IsCommandOf, IsTextFor}
 
 pub simple_grammar : is_simple_and_free grammar ≡ true
 unfolding clap_on_literals
@@ -42,6 +45,12 @@ map_map g f (Some a) = refl
 -- the name of the command that was named
 pub rows_name : (m : ArgMatches) → option_map (λ p. p.0) (subcommand_rows_of m) ≡ subcommand_name_of m
 rows_name m = map_map (λ (p : Text × List Row). p.0) _ _
+
+-- a command that was met is what the words ask for
+pub asked_by : (found : Asked) (words : List (List ℕ)) → fault_of grammar words ≡ [] → IsCommandOf (subcommand_of grammar words) found → IsAsked words found
+asked_by (asked.Array read) words taken met = (taken, met)
+asked_by (asked.Survey read) words taken met = (taken, met)
+asked_by (asked.Text text) words taken met = absurd met.read
 
 -- more than none
 pub forced_is : (m n : ℕ) → m ≡ n → IsTrue (nat_lt 0 m) ↔ (0 < n)

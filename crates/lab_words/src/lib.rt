@@ -3,4 +3,4 @@
 
 mod words;
 
-pub use words::{ArrayWords, Asked, WordsFault, parse};
+pub use words::{ArrayWords, Asked, SurveyWords, WordsFault, parse};

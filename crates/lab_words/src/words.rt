@@ -2,7 +2,7 @@
 ghost use Rattle.std.specs.Prelude.{◌≡◌, ◌≢◌, ◌↔◌, ◌<◌, [], List, ℕ, IfOk, IfSome, IfErr, OnOk, Some, codes, false, option_map, IsTrue};
 ghost use Rattle.clap.specs.declared.builder.command.Command.{out-Command};
 ghost use Rattle.clap.specs.Words.{app_of, first_of, found_of, rows_of, rule_of, fault_of, subcommand_of, subcommand_rows_of, count_of};
-ghost use Rattle.lab_words.specs.Words.{AreRead, IsAsked, IsTextFor, texts};
+ghost use Rattle.lab_words.specs.Words.{IsArrayAt, IsAsked, IsAt, IsCommandOf, IsSurveyAt, IsTextFor, texts};
 
 use clap::error::ErrorKind;
 use clap::{Arg, ArgAction, ArgMatches, Command, Error};
@@ -18,11 +18,20 @@ pub struct ArrayWords<'a> {
     pub force: bool,
 }
 
+/// The words of `survey GEOM DUMP`.
+#[derive(Clone, Copy)]
+pub struct SurveyWords<'a> {
+    pub geometry: &'a str,
+    pub dump: &'a str,
+}
+
 /// What the words ask for.
 #[derive(Drop)]
 pub enum Asked<'a> {
     /// The array of a dump.
     Array(ArrayWords<'a>),
+    /// What a dump tells of its die.
+    Survey(SurveyWords<'a>),
     /// This text, of help or of the version.
     Text(String),
 }
@@ -69,6 +78,30 @@ fn force<'a>(alloc: Global) -> Arg<'a>
         .help("Replaces OUT where there is such a file")
 }
 
+// The word of a geometry.
+fn geometry_place<'a>(alloc: Global) -> Arg<'a>
+    ensures rule { rule_of result ≡ Rattle.lab_words.specs.Words.place (codes "GEOM") }
+    ensures local { result.global ≡ false }
+{
+    place(
+        alloc,
+        "GEOM",
+        "data,spare,pages,blocks,sectors: five numbers",
+    )
+}
+
+// The word of a dump.
+fn dump_place<'a>(alloc: Global) -> Arg<'a>
+    ensures rule { rule_of result ≡ Rattle.lab_words.specs.Words.place (codes "DUMP") }
+    ensures local { result.global ≡ false }
+{
+    place(
+        alloc,
+        "DUMP",
+        "The dump: the pages in row order, each data area then spare area",
+    )
+}
+
 // The command `array`.
 fn array<'a>(alloc: Global) -> Result<Command<'a>, AllocError>
     ensures app { IfOk result (λ command. app_of command ≡ Rattle.lab_words.specs.Words.array) }
@@ -76,18 +109,21 @@ fn array<'a>(alloc: Global) -> Result<Command<'a>, AllocError>
 {
     Command::new(alloc, "array")
         .about("Writes every sector of a dump, as a disk image")
-        .arg(place(
-            alloc,
-            "GEOM",
-            "data,spare,pages,blocks,sectors: five numbers",
-        ))?
-        .arg(place(
-            alloc,
-            "DUMP",
-            "The dump: the pages in row order, each data area then spare area",
-        ))?
+        .arg(geometry_place(alloc))?
+        .arg(dump_place(alloc))?
         .arg(place(alloc, "OUT", "The disk image to be written"))?
         .arg(force(alloc))
+}
+
+// The command `survey`.
+fn survey<'a>(alloc: Global) -> Result<Command<'a>, AllocError>
+    ensures app { IfOk result (λ command. app_of command ≡ Rattle.lab_words.specs.Words.survey) }
+    ensures local { IfOk result (λ command. (out-Command command).has_globals ≡ false) }
+{
+    Command::new(alloc, "survey")
+        .about("Tells what a dump says of its die, and each reason why the die would not mount")
+        .arg(geometry_place(alloc))?
+        .arg(dump_place(alloc))
 }
 
 // The commands that the program has.
@@ -99,7 +135,8 @@ fn grammar<'a>(alloc: Global) -> Result<Command<'a>, AllocError>
         .about("Tools for recovery laboratories, on dumps of one NAND die")
         .disable_help_subcommand(true)
         .subcommand_required(true)
-        .subcommand(array(alloc)?)
+        .subcommand(array(alloc)?)?
+        .subcommand(survey(alloc)?)
 }
 
 // The text of help or of the version, where that was asked for.
@@ -114,8 +151,8 @@ fn text_of(alloc: Global, error: &Error) -> Result<String, WordsFault>
 }
 
 // The words of the command `array`, where its matches give them.
-fn words_found<'a>(found: &ArgMatches<'a>) -> Option<ArrayWords<'a>>
-    ensures { IfSome result (AreRead (rows_of (found_of found.now))) }
+fn array_words<'a>(found: &ArgMatches<'a>) -> Option<ArrayWords<'a>>
+    ensures { IfSome result (IsArrayAt (rows_of (found_of found.now))) }
 {
     Some(ArrayWords {
         geometry: found.get_str("GEOM")?,
@@ -125,11 +162,37 @@ fn words_found<'a>(found: &ArgMatches<'a>) -> Option<ArrayWords<'a>>
     })
 }
 
-// The words of the command `array`, where the matches are its.
-fn array_found<'a>(matches: &ArgMatches<'a>) -> Option<ArrayWords<'a>>
-    ensures { IfSome result (λ read. Rattle.lab_words.specs.Words.IsArrayOf (subcommand_rows_of matches.now) read) }
+// The words of the command `survey`, where its matches give them.
+fn survey_words<'a>(found: &ArgMatches<'a>) -> Option<SurveyWords<'a>>
+    ensures { IfSome result (IsSurveyAt (rows_of (found_of found.now))) }
 {
-    words_found(matches.subcommand_matches("array")?)
+    Some(SurveyWords {
+        geometry: found.get_str("GEOM")?,
+        dump: found.get_str("DUMP")?,
+    })
+}
+
+// What the command's matches ask for.
+fn array_asked<'a>(found: &ArgMatches<'a>) -> Option<Asked<'a>>
+    ensures { IfSome result (IsAt (codes "array") (rows_of (found_of found.now))) }
+{
+    Some(Asked::Array(array_words(found)?))
+}
+
+fn survey_asked<'a>(found: &ArgMatches<'a>) -> Option<Asked<'a>>
+    ensures { IfSome result (IsAt (codes "survey") (rows_of (found_of found.now))) }
+{
+    Some(Asked::Survey(survey_words(found)?))
+}
+
+// What the command asks for that was met.
+fn command_asked<'a>(matches: &ArgMatches<'a>) -> Option<Asked<'a>>
+    ensures { IfSome result (IsCommandOf (subcommand_rows_of matches.now)) }
+{
+    if let Some(found) = matches.subcommand_matches("array") {
+        return array_asked(found);
+    }
+    survey_asked(matches.subcommand_matches("survey")?)
 }
 
 /// What the words ask for, of which the first is the program's name: as `clap` reads them.
@@ -141,8 +204,8 @@ pub fn parse<'a>(alloc: Global, words: &'a [&'a str]) -> Result<Asked<'a>, Words
     ensures { IfOk result (IsAsked (texts words.now)) }
 {
     match grammar(alloc)?.try_get_matches_from(words) {
-        Ok(matches) => match array_found(&matches) {
-            Some(read) => Ok(Asked::Array(read)),
+        Ok(matches) => match command_asked(&matches) {
+            Some(asked) => Ok(asked),
             None => Err(WordsFault::NoSuchCommand),
         },
         Err(error) => Ok(Asked::Text(text_of(alloc, &error)?)),

@@ -71,13 +71,15 @@ impl<F: Seek + Write> Target for SectorFile<F> {
 }
 
 impl<R: Files + AllocGlobal> LabFiles for SystemFiles<'_, R> {
-    ghost use Rattle.std.specs.Prelude.{None, ◌≡◌};
+    ghost use Rattle.std.specs.Prelude.{None, false, ◌≡◌};
 
     type Reader = BufReader<R::File>;
 
     type Target = SectorFile<R::File>;
 
     ghost gives = { λ _ _ _. Unit {0} };
+
+    ghost tells = { λ _. false };
 
     ghost says_file = { λ _ _ _. Unit {0} };
 
@@ -95,8 +97,12 @@ impl<R: Files + AllocGlobal> LabFiles for SystemFiles<'_, R> {
 
     fn is_same(&mut self, first: &str, second: &str) -> Result<bool, FileFault> {
         let first = fs::canonicalize(self.rt, first).map_err(fault_of)?;
-        let second = fs::canonicalize(self.rt, second).map_err(fault_of)?;
-        Ok(first.as_str() == second.as_str())
+        match fs::canonicalize(self.rt, second) {
+            Ok(second) => Ok(first.as_str() == second.as_str()),
+            // a link that leads nowhere
+            Err(error) if error.kind() == ErrorKind::NotFound => Ok(false),
+            Err(error) => Err(fault_of(error)),
+        }
     }
 
     fn open(&mut self, path: &str) -> Result<BufReader<R::File>, FileFault> {

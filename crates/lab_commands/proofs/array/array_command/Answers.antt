@@ -18,7 +18,7 @@ returns-in-Ok-clause-ok g c =
       unsound = c.in_ok-written.written.unsound;
       geometry_is = c.in_ok-geometry.ensures;
       allowed = c.in_ok-allow.ensures.ok;
-      made = subst (λ f. IsMade (g.F.LabFiles.gives f words.dump.now) c.in_ok-geometry.geometry (g.F.Target.Target.pieces c.in_ok-written.written.target) c.in_ok-written.written.held.items c.in_ok-written.written.unsound) same c.in_ok-written.ensures.made;
+      made = subst (λ f. IsMade (g.F.LabFiles.gives f words.dump.now) (g.F.LabFiles.tells f) c.in_ok-geometry.geometry (g.F.Target.Target.pieces c.in_ok-written.written.target) c.in_ok-written.written.held.items c.in_ok-written.written.unsound) same c.in_ok-written.ensures.made;
       put = c.in_ok-put.ensures.ok ∙ ap (λ k. with_kept k words.out.now (g.F.Target.Target.pieces c.in_ok-written.written.target)) (c.in_ok-written.ensures.kept ∙ ap g.F.LabFiles.kept same);
       told = subst (λ (hs : List Held). Appends (g.W.Write.contents c.args.out.now) (g.W.Write.contents c.print_report.new.out) (report_of (map state_in hs) c.in_ok-written.written.unsound)) c.deref.ensures.value c.in-Ok.ensures;
     }

@@ -1,4 +1,4 @@
-use Rattle.std.proofs.Common.{IfSome, refl}
+use Rattle.std.proofs.Common.{IfSome}
 use Rattle.std.specs.Io.KnownBytes.{IsAtEnd}
 use Rattle.page_layout.specs.Geometry.{row_count}
 use Rattle.lab_scan.specs.Scan.{IsTaken}

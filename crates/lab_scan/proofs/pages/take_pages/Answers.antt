@@ -1,5 +1,5 @@
 use Rattle.std.proofs.lemmas.Result.{err_from_is_err_and}
-use Rattle.std.proofs.Common.{refl, arith, ◌+◌}
+use Rattle.std.proofs.Common.{arith, ◌+◌}
 use Rattle.lab_scan.proofs.ScanLemmas.{read_none, read_more, read_cut, cut_untaken}
 use Rattle.lab_scan.proofs.pages.take_pages.Goals as goal
 
@@ -21,7 +21,7 @@ loop-row-preserved g c =
       body_whole = omega arith;
       spare_whole = omega arith;
       read = read_more geo row _ _ _ (g.T.Taker.shows c.loop-row.taker geo row) (g.T.Taker.shows c.take.new.self geo (row + 1)) c.read_page.new.body c.read_page.new.spare inv.read c.in_ok-read_page.ensures.whole (omega arith) (omega arith) (omega arith)
-          (λ image shown at. c.in_ok-take.ensures.shows image _ shown at refl c.look_at.ensures);
+          (λ image shown at. c.in_ok-take.ensures.shows image shown at);
     }
 
 pub returns-in_err-read_page-clause-untaken : goal.returns-in_err-read_page-clause-untaken

@@ -1,7 +1,7 @@
 use Rattle.std.proofs.Common.{◌≡◌, true, [], ap, sym, subst, ◌∙◌}
 use Rattle.clap.specs.Words.{HasKind, app_of, fault_of, is_simple, is_simple_and_free, subcommand_of, subcommand_rows_of}
-use Rattle.lab_words.specs.Words.{grammar, texts, IsArrayOf}
-use Rattle.lab_words.proofs.GrammarLemmas.{simple_grammar, plain_grammar, text_asked}
+use Rattle.lab_words.specs.Words.{grammar, texts, IsCommandOf}
+use Rattle.lab_words.proofs.GrammarLemmas.{simple_grammar, plain_grammar, text_asked, asked_by}
 use Rattle.lab_words.proofs.words.parse.Goals as goal
 
 pub returns-in-Some : goal.returns-in-Some
@@ -12,7 +12,7 @@ returns-in-Some c =
     let simple : is_simple (app_of c.in_ok-grammar.field-0) ≡ true = ap is_simple same ∙ plain_grammar in
     let taken : fault_of grammar words ≡ [] = subst (λ a. fault_of a words ≡ []) same (c.in-Ok.ensures.kinds free) in
     let met : subcommand_rows_of c.in-Ok.matches ≡ subcommand_of grammar words = subst (λ a. subcommand_rows_of c.in-Ok.matches ≡ subcommand_of a words) same (c.in-Ok.ensures.matches simple).1 in
-    (taken, subst (λ m. IsArrayOf m c.in-Some.read) met c.in-Some.ensures)
+    asked_by c.in-Some.asked words taken (subst (λ m. IsCommandOf m c.in-Some.asked) met c.in-Some.ensures)
 
 pub returns : goal.returns
 returns c =

@@ -3,10 +3,9 @@ use Rattle.std.proofs.lemmas.List.{length-set}
 use Rattle.page_layout.specs.declared.record.Key.TheVariants as key
 use Rattle.page_layout.specs.Key.{key_of}
 use Rattle.page_layout.specs.Array.{content_of_kind, zeros}
-use Rattle.page_layout.specs.Page.{page}
 use Rattle.lab_array.specs.Held.{pieces_after}
 use Rattle.lab_array.specs.Writing.{AreOwn, Shows}
-use Rattle.lab_array.proofs.WritingLemmas.{look_sound, sound_whole, unsound_same, other_none, nothing_noted, sector_noted, may_read, own_after, sector_same}
+use Rattle.lab_array.proofs.WritingLemmas.{sound_whole, unsound_same, other_none, nothing_noted, sector_noted, may_read, own_after, sector_same}
 use Rattle.lab_array.proofs.writing.Writing.take_sound.Goals as goal
 
 pub returns-in_default-clause-shows : goal.returns-in_default-clause-shows
@@ -32,7 +31,7 @@ returns-in-Ok-clause-stands g c =
     let key_is : key_of c.args.found.now ≡ key.Sector n = sym c.key.ensures ∙ c.in-Sector.is in
     let found = c.args.found.now in
     let body = c.args.body.now in
-    let says = look_sound (page body c.requires.looked.spare) found (sym c.requires.looked.is) in
+    let says = c.requires.looked.says in
     record {
       size = length-set c.args.self.now.held.items n c.step-held.result.0 ∙ stands.size;
       blank_is = stands.blank_is;

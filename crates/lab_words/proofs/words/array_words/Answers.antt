@@ -1,7 +1,7 @@
 use Rattle.std.proofs.Common.{codes}
 use Rattle.clap.specs.Words.{found_of}
 use Rattle.lab_words.proofs.GrammarLemmas.{word_at, forced_is}
-use Rattle.lab_words.proofs.words.words_found.Goals as goal
+use Rattle.lab_words.proofs.words.array_words.Goals as goal
 
 pub returns : goal.returns
 returns c =

@@ -1,0 +1,69 @@
+//! The command `survey GEOM DUMP`.
+ghost use Rattle.std.specs.Prelude.{◌≡◌, OnOk, IfOk, IfErr};
+ghost use Rattle.lab_survey.specs.Surveyed.{IsWhole};
+ghost use Rattle.lab_commands.specs.Survey.{IsSeen, ToldSurvey};
+ghost use Rattle.lab_commands.specs.Undone.{IsUndone};
+
+use crate::files::LabFiles;
+use crate::opening::{geometry_at, open_dump};
+use crate::survey_report::print_survey;
+use crate::text::LabFault;
+use lab_survey::{DieSurvey, SurveyFault, survey_dump};
+use lab_words::SurveyWords;
+use page_layout::geometry::Geometry;
+use std::alloc::Global;
+use std::io::Write;
+
+// Why there is no survey.
+fn survey_fault(fault: SurveyFault, dump: &str) -> LabFault<'_> {
+    match fault {
+        SurveyFault::WrongLength => LabFault::WrongLength,
+        SurveyFault::Source => LabFault::Read(dump),
+        SurveyFault::OutOfMemory => LabFault::OutOfMemory,
+    }
+}
+
+// The survey of a dump.
+fn survey_of<'a, F: LabFiles>(
+    alloc: Global,
+    dump: &'a str,
+    geometry: &Geometry,
+    files: &mut F,
+) -> Result<DieSurvey, LabFault<'a>>
+    ensures seen { IfOk result (IsSeen (F.gives files.old dump.now) (F.tells files.old) geometry.now) }
+    ensures whole { IfOk result (IsWhole geometry.now) }
+    ensures kept { F.kept files.new ≡ F.kept files.old }
+{
+    let mut reader = open_dump(files, dump)?;
+    match survey_dump(alloc, &mut reader, geometry) {
+        Ok(survey) => Ok(survey),
+        Err(fault) => Err(survey_fault(fault, dump)),
+    }
+}
+
+/// The command `survey`: prints what the dump DUMP, of the geometry GEOM, tells of its die.
+///
+/// # Errors
+///
+/// The first of this order: `BadNumber` where GEOM writes no numbers, `Geometry` where they are no geometry, `Read` where DUMP cannot be
+/// opened; then each when it happens: `OutOfMemory` where a growth was refused, `Read` where a read of DUMP fails, `WrongLength` where it
+/// has not as many bytes as the geometry says. After each of these nothing was printed. `Write` of `-` where `out` failed.
+///
+/// (This project's.)
+pub(crate) fn survey_command<'a, F: LabFiles, W: Write>(
+    alloc: Global,
+    words: SurveyWords<'a>,
+    files: &mut F,
+    out: &mut W,
+) -> Result<(), LabFault<'a>>
+    ensures ok { OnOk result (ToldSurvey (F.gives files.old) (F.tells files.old) words.entry (W.contents out.old) (W.contents out.new)) }
+    ensures kept { F.kept files.new ≡ F.kept files.old }
+    ensures err { IfErr result (IsUndone (F.kept files.old) (F.kept files.new) (W.contents out.old) (W.contents out.new)) }
+{
+    let geometry = geometry_at(words.geometry)?;
+    let survey = survey_of(alloc, words.dump, &geometry, files)?;
+    match print_survey(out, &geometry, &survey) {
+        Ok(()) => Ok(()),
+        Err(_) => Err(LabFault::Write("-")),
+    }
+}

@@ -1,0 +1,4 @@
+pub mod CountLemmas
+pub mod KeyLemmas
+pub mod RepeatLemmas
+pub mod MountsLemmas
