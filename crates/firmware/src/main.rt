@@ -6,100 +6,94 @@ ghost use Rattle.ftl_device.specs.Device.{IsDevice};
 
 mod board;
 mod failure;
+mod power;
+mod request;
 
 use board::Board;
 use failure::Failure;
-use ftl_device::{Device, StartFault};
-use image_check::check;
-use mount::{format, mount};
+use ftl_device::Device;
+use mount::format;
 use nand_die::Die;
-use onfi_cycles::{Bus, Driver, Nand};
+use onfi_cycles::{Bus, Nand};
 use page_layout::geometry::Geometry;
-use std::alloc::{AllocError, Global};
+use power::{reset, start, stop};
+use request::Request::{Flush, Idle, Read, Trim, Write};
+use request::{Request, answer};
+use std::alloc::Global;
 
-// The entries of the mapping that are kept in memory.
-const CACHE: u32 = 4;
+// What the host asks for until the power goes the first time. No flush is the last.
+const BEFORE: [Request; 9] = [
+    Write(5, 0x33),
+    Write(6, 0x44),
+    Flush,
+    Idle,
+    Write(5, 0x55),
+    Trim(6),
+    Read(5),
+    Idle,
+    Read(6),
+];
 
-// Sends Reset.
-fn reset<B: Bus + Drop>(bus: B, geometry: Geometry) -> Result<Driver<B>, Failure>
-    requires { B.honest bus ≡ true → (B.die bus).flash.geometry ≡ geometry }
-    ensures { IfOk result (λ driver. driver.geometry ≡ geometry) }
-{
-    match Driver::new(bus, geometry) {
-        Ok(driver) => Ok(driver),
-        Err((_, fault)) => Err(Failure::Reset(fault)),
-    }
-}
+// What it asks for then.
+const AFTER: [Request; 4] = [Read(5), Read(6), Write(6, 0x66), Read(6)];
 
-// At each start the certificate is made from the pages, and held against them.
-fn start<N: Nand + Drop>(
+// Once in a die's life: it is made ready.
+fn prepare<B: Bus + Drop>(
+    rt: &impl Print,
     alloc: Global,
-    mut nand: N,
-    geometry: &Geometry,
-) -> Result<Device<N>, Failure>
-    requires { (N.flash nand).geometry ≡ geometry.now }
-    ensures { IfOk result (IsDevice N.flash) }
+    bus: B,
+    geometry: Geometry,
+) -> Result<B, Failure>
+    requires { B.honest bus ≡ true → (B.die bus).flash.geometry ≡ geometry }
+    ensures { IfOk result (λ bus. B.honest bus ≡ true → (B.die bus).flash.geometry ≡ geometry) }
 {
-    let certificate = mount(alloc, &mut nand, geometry, CACHE)?;
-    let accepted = check(alloc, &mut nand, geometry, CACHE, &certificate)?;
-    match Device::start(alloc, nand, accepted) {
-        Ok(device) => Ok(device),
-        Err(StartFault::OutOfMemory { .. }) => Err(Failure::Memory(AllocError)),
-    }
+    let mut driver = reset(bus, geometry)?;
+    let good = format(alloc, &mut driver, &geometry)?;
+    println!(rt; "formatted: {good} good blocks")?;
+    Ok(driver.into_bus())
 }
 
-// A sector is written with one byte throughout. After the flush any later start finds it.
-fn write<N: Nand>(
+// The loop of a device: one request after another, and a turn where there is none.
+fn serve<N: Nand>(
+    rt: &impl Print,
     alloc: Global,
     device: &mut Device<N>,
-    sector: u32,
-    byte: u8,
+    requests: &[Request],
 ) -> Result<(), Failure>
     requires { IsDevice N.flash device.old }
     ensures { IsDevice N.flash device.new }
 {
-    let body = vec![in alloc; byte; device.engine.geometry.data_bytes()]?;
-    device.write(sector, &body)?;
-    device.flush()?;
+    for request in requests {
+        answer(rt, alloc, device, *request)?;
+    }
     Ok(())
 }
 
-// A sector is read.
-fn read<N: Nand>(alloc: Global, device: &mut Device<N>, sector: u32) -> Result<Vec<u8>, Failure>
-    requires { IsDevice N.flash device.old }
-    ensures { IsDevice N.flash device.new }
+// From the moment when power comes to the one when it goes. What is left is the bus, and the die's geometry.
+fn live<B: Bus + Drop>(
+    rt: &impl Print,
+    alloc: Global,
+    bus: B,
+    geometry: Geometry,
+    requests: &[Request],
+) -> Result<(B, Geometry), Failure>
+    requires { B.honest bus ≡ true → (B.die bus).flash.geometry ≡ geometry }
+    ensures { IfOk result (λ left. B.honest left.0 ≡ true → (B.die left.0).flash.geometry ≡ left.1) }
 {
-    let mut body = vec![in alloc; 0; device.engine.geometry.data_bytes()]?;
-    device.read(sector, &mut body)?;
-    Ok(body)
-}
-
-// The die is given up, as where the power goes.
-fn stop<N: Nand>(device: Device<N>) -> (N, Geometry)
-    requires { IsDevice N.flash device }
-    ensures { (N.flash result.0).geometry ≡ result.1 }
-{
-    let geometry = device.engine.geometry;
-    (device.into_nand(), geometry)
+    let driver = reset(bus, geometry)?;
+    let mut device = start(alloc, driver, &geometry)?;
+    serve(rt, alloc, &mut device, requests)?;
+    println!(rt; "the power goes")?;
+    let (driver, geometry) = stop(device);
+    Ok((driver.into_bus(), geometry))
 }
 
 fn main(rt: HostRuntime) -> Result<(), Failure> {
     let alloc = rt.alloc();
     let geometry = Geometry::new(64, 32, 8, 32, 32)?;
     let die = Die::new(alloc, geometry, &[])?;
-
-    let mut driver = reset(Board { die }, geometry)?;
-    let good = format(alloc, &mut driver, &geometry)?;
-    println!(rt; "formatted: {good} good blocks")?;
-
-    let mut device = start(alloc, driver, &geometry)?;
-    write(alloc, &mut device, 5, 0x33)?;
-    println!(rt; "sector 5 written and flushed")?;
-
-    let (driver, geometry) = stop(device);
-    let driver = reset(driver.into_bus(), geometry)?;
-    let mut device = start(alloc, driver, &geometry)?;
-    let body = read(alloc, &mut device, 5)?;
-    println!(rt; "sector 5 after a restart: {}", hex::encode(alloc, &body)?)?;
+    let board = prepare(&rt, alloc, Board { die }, geometry)?;
+    let (board, geometry) = live(&rt, alloc, board, geometry, &BEFORE)?;
+    live(&rt, alloc, board, geometry, &AFTER)?;
     Ok(())
 }
