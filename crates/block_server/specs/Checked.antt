@@ -34,7 +34,8 @@ use Rattle.block_server.specs.Session.{Serves}
 -- The certificate agrees with the image, and the image holds just one array of sectors. The exchanges are a run that begins with it: each
 -- answer is the array's, and after each the die's image holds the array. The log of it all is legal for the image and the certificate's bad
 -- blocks: pages are programmed in their order, once between erases, and no block is programmed or erased that is bad or has failed. And
--- each refusal shows what it says by the image and the log (`fair` in the run): `ReadOnly` comes only in a shortage.
+-- each refusal shows what it says by the image and the log (`fair` in the run): `ReadOnly` comes only in a shortage. Where the die tells a
+-- record, what was answered stays, wherever the power goes in a call (`stopped` of each event there).
 pub record Headline (g : Geometry) (capacity : ℕ) (c : Claim) (s t : Flash) (xs : List Exchange) : Type 0 where
   pub agrees : Agrees g capacity s.image c
   pub one : HasOneArray g s.image
