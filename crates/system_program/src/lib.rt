@@ -3,6 +3,7 @@
 #![tactic(auto)]
 
 mod program;
+mod replace;
 mod system;
 mod words;
 

@@ -3,6 +3,7 @@ ghost use Rattle.std.specs.Prelude.{◌≡◌, ◌≢◌, IfErr};
 ghost use Rattle.std.specs.IoError.{error_kind};
 ghost use Rattle.commands.specs.Files.{stores_after};
 
+use crate::replace::replace;
 use commands::{FileFault, FileStore};
 use std::fs;
 use std::io::{BufReader, Error, ErrorKind};
@@ -56,11 +57,11 @@ impl<R: Files + AllocGlobal> FileStore for SystemFiles<'_, R> {
         BufReader::with_capacity(self.rt.alloc(), READ_AHEAD, file).map_err(fault_of)
     }
 
-    // Writing asks for no memory, and a fault of the system may come after the file was cut short: so a failure is `Failed`.
+    // A store that was refused memory is a failed one too: what stands there is as it was.
     fn store(&mut self, path: &str, bytes: &[u8]) -> Result<(), FileFault>
         ensures stores { None ≡ stores_after None path.now bytes.now result }
         ensures failed { IfErr result (λ fault. fault ≡ FileFault.Failed) }
     {
-        fs::write(self.rt, path, bytes).map_err(|_| FileFault::Failed)
+        replace(self.rt, path, bytes).map_err(|_| FileFault::Failed)
     }
 }

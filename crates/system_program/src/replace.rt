@@ -1,0 +1,104 @@
+//! A file is replaced whole: its bytes are written beside it, synced, and take its name. Where that fails the file is as it was,
+//! and nothing new stands beside it.
+use std::fs::{self, File, Metadata, OpenFile, OpenOptions};
+use std::io::{self, Error, ErrorKind, Write};
+use std::path::PathBuf;
+use std::rt::Files;
+
+// How many names beside a file are tried: a run that was killed may have left some.
+const NAMES: u32 = 100;
+
+// What stands at a path, where links lead.
+enum Place {
+    // Nothing.
+    Free,
+    // A regular file: its own path, and what the system tells of it.
+    Regular(PathBuf, Metadata),
+    // A device, a pipe, or a link that leads to nothing.
+    Other,
+}
+
+// Whether nothing stands at a path, and no link either.
+fn is_free<R: Files>(rt: &R, path: &str) -> io::Result<bool> {
+    match fs::symlink_metadata(rt, path) {
+        Ok(_) => Ok(false),
+        Err(error) if error.kind() == ErrorKind::NotFound => Ok(true),
+        Err(error) => Err(error),
+    }
+}
+
+fn place_of<R: Files + AllocGlobal>(rt: &R, path: &str) -> io::Result<Place> {
+    match fs::metadata(rt, path) {
+        Ok(found) if found.is_file() => Ok(Place::Regular(fs::canonicalize(rt, path)?, found)),
+        Ok(_) => Ok(Place::Other),
+        Err(error) if error.kind() == ErrorKind::NotFound => {
+            if is_free(rt, path)? {
+                Ok(Place::Free)
+            } else {
+                Ok(Place::Other)
+            }
+        }
+        Err(error) => Err(error),
+    }
+}
+
+// A new file beside a path, under a name that no file has, with that name.
+fn new_beside<R: Files + AllocGlobal>(rt: &R, path: &str) -> io::Result<(R::File, String)> {
+    for number in 0..NAMES {
+        let name = format!(in rt.alloc(); "{path}.part{number}")?;
+        match File::create_new(rt, name.as_str()) {
+            Ok(file) => return Ok((file, name)),
+            Err(error) if error.kind() == ErrorKind::AlreadyExists => {}
+            Err(error) => return Err(error),
+        }
+    }
+    Err(Error::from(ErrorKind::AlreadyExists))
+}
+
+// Writes all bytes to a new file, for whom it was meant before, and waits until the system keeps them.
+fn fill<F: Write + OpenFile + Drop>(
+    mut file: F,
+    bytes: &[u8],
+    before: Option<&Metadata>,
+) -> io::Result<()> {
+    if let Some(found) = before {
+        file.set_permissions(found.permissions())?;
+    }
+    file.write_all(bytes)?;
+    file.sync_all()
+}
+
+// Puts a file of these bytes at a path, whole or not at all.
+fn put_whole<R: Files + AllocGlobal>(
+    rt: &R,
+    path: &str,
+    bytes: &[u8],
+    before: Option<&Metadata>,
+) -> io::Result<()> {
+    let (file, name) = new_beside(rt, path)?;
+    let done = match fill(file, bytes, before) {
+        Ok(()) => fs::rename(rt, name.as_str(), path),
+        Err(error) => Err(error),
+    };
+    if done.is_err() {
+        let _ = fs::remove_file(rt, name.as_str());
+    }
+    done
+}
+
+/// Stores these bytes at a path. A regular file there is replaced, where links lead to it, and keeps its permissions: it is opened
+/// for writing first, so that one which may not be written is refused. What is there and no regular file is written as it is.
+///
+/// # Errors
+///
+/// That of the system's call that failed, or of a growth that was refused. A regular file is then as it was. (This project's.)
+pub(crate) fn replace<R: Files + AllocGlobal>(rt: &R, path: &str, bytes: &[u8]) -> io::Result<()> {
+    match place_of(rt, path)? {
+        Place::Free => put_whole(rt, path, bytes, None),
+        Place::Regular(real, found) => {
+            OpenOptions::new().write(true).open(rt, real.as_str())?;
+            put_whole(rt, real.as_str(), bytes, Some(&found))
+        }
+        Place::Other => fs::write(rt, path, bytes),
+    }
+}
