@@ -1,12 +1,12 @@
 -- What a sector of an image is asked for, and what the answers say.
-use Rattle.std.specs.Prelude.{◌≡◌, ◌⊎◌, ℕ, ◌<◌, ◌≤◌, List, Result, Ok, Err, Some}
+use Rattle.std.specs.Prelude.{◌≡◌, ◌⊎◌, ℕ, ◌<◌, ◌≤◌, List, Result, Ok, Err, Some, take, drop}
 use Rattle.page_layout.specs.declared.geometry.Geometry.{Geometry}
 use Rattle.page_layout.specs.declared.record.Record.{Record}
 use Rattle.page_layout.specs.declared.record.Kind.TheVariants as kind
 use Rattle.page_layout.specs.declared.record.Key.TheVariants as key
 use Rattle.page_layout.specs.declared.newest.Latest.{Latest}
 use Rattle.page_layout.specs.declared.newest.Latest.TheVariants.{Never, Once, Tied}
-use Rattle.page_layout.specs.Page.{Image, page}
+use Rattle.page_layout.specs.Page.{Image, Page, page}
 use Rattle.page_layout.specs.Sound.{record_of}
 use Rattle.page_layout.specs.Newest.{AreTied}
 use Rattle.page_layout.specs.Array.{marks, zeros}
@@ -35,6 +35,18 @@ abbrev pub NamesLowest : Image → ℕ → SectorFault → Type 0
 NamesLowest image n (SequenceRepeated first second) = (a b : ℕ) → SharesSequence image n a b → (first ≤ a) × (second ≤ b)
 NamesLowest image n OutOfRange = Unit {0}
 NamesLowest image n Source = Unit {0}
+
+-- the page is sound and holds the sector, and the bytes are its data area
+pub record ShowsSector (n : ℕ) (p : Page) (bytes : List ℕ) : Type 0 where
+  pub its : Record
+  pub says : record_of p ≡ Some its
+  pub kind_is : its.kind ≡ kind.Sector
+  pub number_is : its.number ≡ n
+  pub body_is : bytes ≡ p.body
+
+-- the bytes are zeros, or the data area of the page that stands in these bytes of a page, which holds the sector
+abbrev pub MayShow : Geometry → ℕ → (scratch bytes : List ℕ) → Type 0
+MayShow g n scratch bytes = (bytes ≡ zeros g) ⊎ ShowsSector n (page (take g.data_bytes scratch) (drop g.data_bytes scratch)) bytes
 
 -- the bytes are the data area of a sound page that holds the sector
 pub record HoldsSector (n : ℕ) (bytes : List ℕ) : Type 0 where

@@ -10,7 +10,7 @@ ghost use Rattle.page_layout.specs.declared.record.Key.TheVariants as key;
 ghost use Rattle.page_layout.specs.declared.record.Kind.TheVariants as kind;
 ghost use Rattle.page_layout.specs.Geometry.{row_count, page_bytes};
 ghost use Rattle.page_layout.specs.OnlyReads.{OnlyReads};
-ghost use Rattle.image_check.specs.Sector.{IsAmbiguous, NamesRows, NamesLowest, HoldsSector, MayRead, IsRepeated, IsBelow};
+ghost use Rattle.image_check.specs.Sector.{IsAmbiguous, NamesRows, NamesLowest, MayShow, ShowsSector, IsRepeated, IsBelow};
 
 use page_layout::geometry::Geometry;
 use page_layout::newest::Latest;
@@ -61,7 +61,7 @@ fn content<'a>(geometry: &Geometry, sector: u32, body: &'a [u8], spare: &[u8]) -
     requires spare_whole { length spare.now ≡ geometry.now.spare_bytes }
     ensures is { IsSome (sequence_of (key.Sector sector) (record_of (page body.now spare.now))) →
         unwrap_or (option_copied result) (zeros geometry.now) ≡ content geometry.now (Some (page body.now spare.now)) }
-    ensures own { IfSome result (λ found. HoldsSector sector found.now) }
+    ensures own { IfSome result (λ found. ShowsSector sector (page body.now spare.now) found.now) }
     ensures whole { IfSome result (λ found. length found.now ≡ geometry.now.data_bytes) }
 {
     let Some(found) = read_record(geometry, body, spare) else {
@@ -159,7 +159,8 @@ fn latest_of<S: PageSource>(
 /// `page` is scratch of one page, data area and spare area together; `out` has the bytes of a data
 /// area. Takes no memory. Reads each page once and the newest one once more, programs and erases
 /// nothing, and leaves an honest source's pages as they are. A source that changes its pages in between is shown as zeros,
-/// or as the sector stands in the page that was read last, and never as another sector.
+/// or as the sector stands in the page that was read last, and never as another sector: `page` holds that page then, a sound one of
+/// this sector.
 ///
 /// # Errors
 ///
@@ -191,8 +192,8 @@ pub fn sector<S: PageSource>(
     ensures lowest { S.honest source.old ≡ true → IfErr result (NamesLowest (S.flash source.old).image sector) }
     ensures same { S.honest source.old ≡ true → result ≢ Err SectorFault.Source → S.flash source.new ≡ S.flash source.old }
 
-    // What any source shows: no bytes of another sector.
-    ensures own { OnOk result (MayRead geometry.now sector out.new) }
+    // What any source shows: zeros, or the page that `page` then holds, which is a sound one of the sector.
+    ensures own { OnOk result (MayShow geometry.now sector page.new out.new) }
 
     // What stays the same of any source.
     ensures unread { geometry.now.sectors ≤ sector → source.new ≡ source.old }
