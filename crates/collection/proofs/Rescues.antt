@@ -29,9 +29,8 @@ use Rattle.collection.specs.Collect.{KeepsKeys, IsFollowed, IsFollowedBy, Leaves
 use Rattle.collection.specs.Settle.{SetsMapping}
 use Rattle.collection.specs.Left.{LeavesPin}
 use Rattle.page_layout.specs.declared.record.Key.{Key}
-use Rattle.page_layout.specs.declared.record.Key.TheVariants.{Sector, Translation, Table}
+use Rattle.page_layout.specs.declared.record.Key.TheVariants.{Sector, Translation}
 use Rattle.page_layout.specs.Key.{key_of}
-use Rattle.mapping_cache.specs.Mapping.{MappingState, slot_of}
 use Rattle.std.proofs.Math.Nat.{div-lt_iff_lt-mul}
 use Rattle.collection.proofs.Finds.{none_all}
 use Rattle.collection.proofs.Copies.{keys_then}

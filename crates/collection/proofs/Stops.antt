@@ -1,5 +1,5 @@
 -- What stops in calls leave: of one operation, of a page with its tries, and of one call after another.
-use Rattle.std.proofs.Common.{◌≡◌, ◌≢◌, ◌⊎◌, inl, inr, ℕ, ◌+◌, ◌*◌, Bool, true, List, [], ◌∷◌, ◌++◌, Option, Some, None, IsSome, Result, Ok, Err, IfOk, refl, ap, sym, ◌∙◌, subst}
+use Rattle.std.proofs.Common.{◌≡◌, ◌≢◌, inl, inr, ℕ, ◌+◌, ◌*◌, Bool, List, [], ◌∷◌, ◌++◌, Option, Some, None, Result, Ok, Err, IfOk, refl, ap, sym, ◌∙◌, subst}
 use Rattle.std.proofs.lemmas.List.{append_cancel_left}
 use Rattle.page_layout.specs.declared.geometry.Geometry.{Geometry}
 use Rattle.page_layout.specs.declared.record.Record.{Record}
@@ -11,7 +11,7 @@ use Rattle.page_layout.specs.Change.{Keeps, HoldsNone, LosesIn}
 use Rattle.page_layout.specs.Flash.{Flash, Operation, Program, Erase, Steps, page_at}
 use Rattle.page_layout.specs.Recording.{Recording, Records, RanOn}
 use Rattle.page_layout.proofs.RecordingLemmas.{ran_on}
-use Rattle.page_layout.proofs.StepLemmas.{Keeps-refl, Keeps-trans, failed_keeps, lost_keeps, array_kept}
+use Rattle.page_layout.proofs.StepLemmas.{Keeps-trans, failed_keeps, lost_keeps, array_kept}
 use Rattle.onfi_cycles.specs.declared.nand.Outcome.{Outcome}
 use Rattle.onfi_cycles.specs.declared.nand.BusFault.{BusFault}
 use Rattle.onfi_cycles.specs.Outcomes.{is_passed}

@@ -1,6 +1,5 @@
 use Rattle.promises.proofs.StopLemmas.{leaves_nothing}
 use Rattle.collection.proofs.Stops.{same_left}
-use Rattle.collection.proofs.Looks.{ok_not_bus}
 use Rattle.collection.specs.Safe.{ram}
 use Rattle.collection.proofs.Acts.{acts_same}
 use Rattle.collection.proofs.engine.Engine.follow_moved.Goals as goal

@@ -8,7 +8,6 @@ use Rattle.collection.proofs.Copies.{keys_then, refreshes_then}
 use Rattle.collection.proofs.Rooms.{room_tells, on_then, erased_more, rearranged_then, room_refused, funded_then, refused_room, made_none, made_some, final_counts}
 use Rattle.collection.proofs.Made.{not_resting, enough_made}
 use Rattle.collection.proofs.Stops.{stops_then}
-use Rattle.collection.proofs.Costs.{not_bus}
 use Rattle.collection.proofs.engine.Engine.regain.Goals as goal
 
 pub rounds-init : goal.rounds-init

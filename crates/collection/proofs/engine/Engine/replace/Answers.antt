@@ -1,7 +1,7 @@
 use Rattle.std.proofs.Common.{ap}
 use Rattle.page_layout.specs.Key.{key_from}
 use Rattle.collection.proofs.Settles.{settled_cost, replaced_by}
-use Rattle.std.proofs.Common.{sym, ◌∙◌, subst, Err}
+use Rattle.std.proofs.Common.{sym, ◌∙◌, subst}
 use Rattle.std.proofs.lemmas.Result.{err_from_is_err_and}
 use Rattle.collection.proofs.Stops.{put_left, refused_same, sets_capacity, fault_not_bus}
 use Rattle.collection.proofs.Looks.{ok_not_bus}
