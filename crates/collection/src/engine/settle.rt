@@ -87,8 +87,8 @@ impl<N: Nand> Engine<N> {
             MatchResult result
             (λ row. IsReplaced kind number row self.old.page.body.items (ram self.old) (image_in N.flash self.old) (ram self.new) (image_in N.flash self.new))
             (Refused (ram self.old) (image_in N.flash self.old) (ram self.new) (image_in N.flash self.new)) }
-        ensures stops { N.honest self.old.nand ≡ true → MayPut kind number old_row self.old.page.body.items (ram self.old) (image_in N.flash self.old) → result ≢ Err WriteFault.Bus →
-            StopsSafely N.flash N.recorded self.old self.new }
+        ensures stops { N.honest self.old.nand ≡ true → MayPut kind number old_row self.old.page.body.items (ram self.old) (image_in N.flash self.old) →
+            result ≢ Err WriteFault.Bus → StopsSafely N.flash N.recorded self.old self.new }
     {
         let row = self.put_page(kind, number, old_row)?;
         self.settle(kind, number, row);
@@ -116,8 +116,8 @@ impl<N: Nand> Engine<N> {
             MatchResult result
             (λ _. IsWritten kind sector self.old.page.body.items (ram self.old) (image_in N.flash self.old) (ram self.new) (image_in N.flash self.new))
             (Refused (ram self.old) (image_in N.flash self.old) (ram self.new) (image_in N.flash self.new)) }
-        ensures stops { N.honest self.old.nand ≡ true → IsTrue None (ram self.old) (image_in N.flash self.old) → result ≢ Err WriteFault.Bus →
-            StopsSafely N.flash N.recorded self.old self.new }
+        ensures stops { N.honest self.old.nand ≡ true → IsTrue None (ram self.old) (image_in N.flash self.old) →
+            result ≢ Err WriteFault.Bus → StopsSafely N.flash N.recorded self.old self.new }
     {
         let old_row = self.row_of_key(Key::Sector(sector));
         self.replace(kind, sector, old_row)?;

@@ -112,7 +112,8 @@ impl<N: Nand> Engine<N> {
             MatchResult result
             (λ _. IsRenewed (key_of found.now) (ram self.old) (image_in N.flash self.old) (ram self.new) (image_in N.flash self.new))
             (Refused (ram self.old) (image_in N.flash self.old) (ram self.new) (image_in N.flash self.new)) }
-        ensures stops { N.honest self.old.nand ≡ true → truth.IsTrue None (ram self.old) (image_in N.flash self.old) → IsLivePage row self.old.page.body.items found.now (image_in N.flash self.old) → result ≢ Err WriteFault.Bus →
+        ensures stops { N.honest self.old.nand ≡ true → truth.IsTrue None (ram self.old) (image_in N.flash self.old) →
+            IsLivePage row self.old.page.body.items found.now (image_in N.flash self.old) → result ≢ Err WriteFault.Bus →
             StopsSafely N.flash N.recorded self.old self.new }
     {
         self.replace(found.kind, found.number, Some(row))?;
@@ -153,8 +154,8 @@ impl<N: Nand> Engine<N> {
             MatchResult result
             (IsCopiedOr block (ram self.old) (image_in N.flash self.old) (ram self.new) (image_in N.flash self.new))
             (Refused (ram self.old) (image_in N.flash self.old) (ram self.new) (image_in N.flash self.new)) }
-        ensures stops { N.honest self.old.nand ≡ true → truth.IsTrue None (ram self.old) (image_in N.flash self.old) → result ≢ Err WriteFault.Bus →
-            StopsSafely N.flash N.recorded self.old self.new }
+        ensures stops { N.honest self.old.nand ≡ true → truth.IsTrue None (ram self.old) (image_in N.flash self.old) →
+            result ≢ Err WriteFault.Bus → StopsSafely N.flash N.recorded self.old self.new }
     {
         if self.blocks.live(block) == 0 {
             return Ok(None);
@@ -201,8 +202,8 @@ impl<N: Nand> Engine<N> {
             MatchResult result
             (λ _. IsSame (ram self.old) (image_in N.flash self.old) (ram self.new) (image_in N.flash self.new))
             (Refused (ram self.old) (image_in N.flash self.old) (ram self.new) (image_in N.flash self.new)) }
-        ensures stops { N.honest self.old.nand ≡ true → truth.IsTrue None (ram self.old) (image_in N.flash self.old) → result ≢ Err WriteFault.Bus →
-            StopsSafely N.flash N.recorded self.old self.new }
+        ensures stops { N.honest self.old.nand ≡ true → truth.IsTrue None (ram self.old) (image_in N.flash self.old) →
+            result ≢ Err WriteFault.Bus → StopsSafely N.flash N.recorded self.old self.new }
     {
         let due = self.lowest_due(flushing);
         let Some(t) = due else {
@@ -232,7 +233,8 @@ impl<N: Nand> Engine<N> {
         ensures truth { N.honest self.old.nand ≡ true → truth.IsTrue None (ram self.old) (image_in N.flash self.old) →
             HoldsNone self.old.geometry.pages block (image_in N.flash self.old) →
             OnOk result (IsKept (ram self.old) (image_in N.flash self.old) (ram self.new) (image_in N.flash self.new)) }
-        ensures stops { N.honest self.old.nand ≡ true → truth.IsTrue None (ram self.old) (image_in N.flash self.old) → HoldsNone self.old.geometry.pages block (image_in N.flash self.old) → result ≢ Err WriteFault.Bus →
+        ensures stops { N.honest self.old.nand ≡ true → truth.IsTrue None (ram self.old) (image_in N.flash self.old) →
+            HoldsNone self.old.geometry.pages block (image_in N.flash self.old) → result ≢ Err WriteFault.Bus →
             StopsSafely N.flash N.recorded self.old self.new }
     {
         match self.nand.erase(block) {
@@ -288,7 +290,8 @@ impl<N: Nand> Engine<N> {
         ensures touched { N.honest self.old.nand ≡ true → truth.IsTrue None (ram self.old) (image_in N.flash self.old) →
             (page : ℕ) → result ≡ Ok (Progress.Copied page) →
             TouchesNoMore flushing block (ram self.old) (image_in N.flash self.old) (ram self.new) }
-        ensures stops { N.honest self.old.nand ≡ true → truth.IsTrue None (ram self.old) (image_in N.flash self.old) → HoldsNoneIn self.old.geometry.pages block 0 first (image_in N.flash self.old) → result ≢ Err WriteFault.Bus →
+        ensures stops { N.honest self.old.nand ≡ true → truth.IsTrue None (ram self.old) (image_in N.flash self.old) →
+            HoldsNoneIn self.old.geometry.pages block 0 first (image_in N.flash self.old) → result ≢ Err WriteFault.Bus →
             StopsSafely N.flash N.recorded self.old self.new }
     {
         let copied = self.copy_lowest(block, first, flushing)?;

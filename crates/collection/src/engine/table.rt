@@ -34,8 +34,8 @@ impl<N: Nand> Engine<N> {
             MatchResult result
             (λ _. IsTabled u (ram self.old) (image_in N.flash self.old) (ram self.new) (image_in N.flash self.new))
             (Refused (ram self.old) (image_in N.flash self.old) (ram self.new) (image_in N.flash self.new)) }
-        ensures stops { N.honest self.old.nand ≡ true → IsTrue None (ram self.old) (image_in N.flash self.old) → result ≢ Err WriteFault.Bus →
-            StopsSafely N.flash N.recorded self.old self.new }
+        ensures stops { N.honest self.old.nand ≡ true → IsTrue None (ram self.old) (image_in N.flash self.old) →
+            result ≢ Err WriteFault.Bus → StopsSafely N.flash N.recorded self.old self.new }
     {
         write_table_page(self.blocks.table(), u, &mut self.page.body);
         let old_row = self.row_of_key(Key::Table(u));
@@ -71,8 +71,8 @@ impl<N: Nand> Engine<N> {
             MatchResult result
             (λ _. IsTabled u (ram self.old) (image_in N.flash self.old) (ram self.new) (image_in N.flash self.new))
             (Refused (ram self.old) (image_in N.flash self.old) (ram self.new) (image_in N.flash self.new)) }
-        ensures stops { N.honest self.old.nand ≡ true → self.old.fault ≡ None → IsTrue None (ram self.old) (image_in N.flash self.old) → result ≢ Err WriteFault.Bus →
-            StopsSafely N.flash N.recorded self.old self.new }
+        ensures stops { N.honest self.old.nand ≡ true → self.old.fault ≡ None → IsTrue None (ram self.old) (image_in N.flash self.old) →
+            result ≢ Err WriteFault.Bus → StopsSafely N.flash N.recorded self.old self.new }
     {
         self.standing()?;
         let answer = self.put_table(u);

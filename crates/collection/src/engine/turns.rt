@@ -119,7 +119,8 @@ impl<N: Nand> Engine<N> {
         ensures touched { N.honest self.old.nand ≡ true → truth.IsTrue None (ram self.old) (image_in N.flash self.old) →
             (page : ℕ) → result ≡ Ok (Progress.Copied page) →
             TouchesNoMore flushing pinned.block (ram self.old) (image_in N.flash self.old) (ram self.new) }
-        ensures stops { N.honest self.old.nand ≡ true → truth.IsTrue None (ram self.old) (image_in N.flash self.old) → HasPassed (ram self.old) (image_in N.flash self.old) pinned → result ≢ Err WriteFault.Bus →
+        ensures stops { N.honest self.old.nand ≡ true → truth.IsTrue None (ram self.old) (image_in N.flash self.old) →
+            HasPassed (ram self.old) (image_in N.flash self.old) pinned → result ≢ Err WriteFault.Bus →
             StopsSafely N.flash N.recorded self.old self.new }
     {
         let progress = self.collect_step(pinned.block, pinned.first, flushing)?;
@@ -134,7 +135,8 @@ impl<N: Nand> Engine<N> {
         requires half_done { IsHalfDone (ram self.old) pinned }
         ensures acts { Acts N.flash N.recorded N.honest N.calm N.failed self.old self.new result }
         ensures advances { Advances N.flash N.honest N.reads N.erases flushing pinned self.old self.new result }
-        ensures stops { N.honest self.old.nand ≡ true → truth.IsTrue None (ram self.old) (image_in N.flash self.old) → HasPassed (ram self.old) (image_in N.flash self.old) pinned → result ≢ Err WriteFault.Bus →
+        ensures stops { N.honest self.old.nand ≡ true → truth.IsTrue None (ram self.old) (image_in N.flash self.old) →
+            HasPassed (ram self.old) (image_in N.flash self.old) pinned → result ≢ Err WriteFault.Bus →
             StopsSafely N.flash N.recorded self.old self.new }
     {
         let progress = self.step_on(pinned, flushing)?;
@@ -167,7 +169,8 @@ impl<N: Nand> Engine<N> {
         ensures stands { Stands N.flash N.recorded N.honest N.calm N.failed self.old self.new result }
         ensures advances { self.old.fault ≡ None → ForSome (ram self.old).pin.block
             (λ p. Advances N.flash N.honest N.reads N.erases flushing p self.old self.new result) }
-        ensures stops { N.honest self.old.nand ≡ true → self.old.fault ≡ None → truth.IsTrue None (ram self.old) (image_in N.flash self.old) → PinHasPassed (ram self.old) (image_in N.flash self.old) → result ≢ Err WriteFault.Bus →
+        ensures stops { N.honest self.old.nand ≡ true → self.old.fault ≡ None → truth.IsTrue None (ram self.old) (image_in N.flash self.old) →
+            PinHasPassed (ram self.old) (image_in N.flash self.old) → result ≢ Err WriteFault.Bus →
             StopsSafely N.flash N.recorded self.old self.new }
     {
         self.standing()?;

@@ -48,8 +48,8 @@ impl<N: Nand> Engine<N> {
             MatchResult result
             (λ _. IsWritten Kind.Sector sector body.now (ram self.old) (image_in N.flash self.old) (ram self.new) (image_in N.flash self.new))
             (Refused (ram self.old) (image_in N.flash self.old) (ram self.new) (image_in N.flash self.new)) }
-        ensures stops { N.honest self.old.nand ≡ true → self.old.fault ≡ None → IsTrue None (ram self.old) (image_in N.flash self.old) → result ≢ Err WriteFault.Bus →
-            StopsSafely N.flash N.recorded self.old self.new }
+        ensures stops { N.honest self.old.nand ≡ true → self.old.fault ≡ None → IsTrue None (ram self.old) (image_in N.flash self.old) →
+            result ≢ Err WriteFault.Bus → StopsSafely N.flash N.recorded self.old self.new }
     {
         self.standing()?;
         self.page.body.copy_from_slice(body);
@@ -85,8 +85,8 @@ impl<N: Nand> Engine<N> {
             MatchResult result
             (λ _. IsWritten Kind.Trim sector (zeros self.old.geometry) (ram self.old) (image_in N.flash self.old) (ram self.new) (image_in N.flash self.new))
             (Refused (ram self.old) (image_in N.flash self.old) (ram self.new) (image_in N.flash self.new)) }
-        ensures stops { N.honest self.old.nand ≡ true → self.old.fault ≡ None → IsTrue None (ram self.old) (image_in N.flash self.old) → result ≢ Err WriteFault.Bus →
-            StopsSafely N.flash N.recorded self.old self.new }
+        ensures stops { N.honest self.old.nand ≡ true → self.old.fault ≡ None → IsTrue None (ram self.old) (image_in N.flash self.old) →
+            result ≢ Err WriteFault.Bus → StopsSafely N.flash N.recorded self.old self.new }
     {
         self.standing()?;
         clear(&mut self.page.body);

@@ -89,8 +89,8 @@ impl<N: Nand> Engine<N> {
             MatchResult result
             (λ _. IsWrittenBack t (ram self.old) (image_in N.flash self.old) (ram self.new) (image_in N.flash self.new))
             (Refused (ram self.old) (image_in N.flash self.old) (ram self.new) (image_in N.flash self.new)) }
-        ensures stops { N.honest self.old.nand ≡ true → IsTrue None (ram self.old) (image_in N.flash self.old) → result ≢ Err WriteFault.Bus →
-            StopsSafely N.flash N.recorded self.old self.new }
+        ensures stops { N.honest self.old.nand ≡ true → IsTrue None (ram self.old) (image_in N.flash self.old) →
+            result ≢ Err WriteFault.Bus → StopsSafely N.flash N.recorded self.old self.new }
     {
         let row = self.directory.row_of(t);
         self.fill_translation(t, row)?;
@@ -142,8 +142,8 @@ impl<N: Nand> Engine<N> {
             MatchResult result
             (λ _. IsWrittenBack t (ram self.old) (image_in N.flash self.old) (ram self.new) (image_in N.flash self.new))
             (Refused (ram self.old) (image_in N.flash self.old) (ram self.new) (image_in N.flash self.new)) }
-        ensures stops { N.honest self.old.nand ≡ true → self.old.fault ≡ None → IsTrue None (ram self.old) (image_in N.flash self.old) → result ≢ Err WriteFault.Bus →
-            StopsSafely N.flash N.recorded self.old self.new }
+        ensures stops { N.honest self.old.nand ≡ true → self.old.fault ≡ None → IsTrue None (ram self.old) (image_in N.flash self.old) →
+            result ≢ Err WriteFault.Bus → StopsSafely N.flash N.recorded self.old self.new }
     {
         self.standing()?;
         let answer = self.write_page_back(t);
