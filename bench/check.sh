@@ -1,6 +1,6 @@
 #!/usr/bin/env bash
 # Times `nandctl check` and `nandctl mount` beside `cat` and `sha256sum` on raw images of which every page is programmed: one of
-# about 256 MiB with 4,096-byte pages, and a die of 1,048,576 pages of 512 bytes; and `nandctl check` on a die of erased pages,
+# about 256 MiB with 4,096-byte pages, in either version of the record, and a die of 1,048,576 pages of 512 bytes; and `nandctl check` on a die of erased pages,
 # of which it is refused. Fails where one takes more than 1.15 times as long as `sha256sum` (the erased die: reads less than
 # 2 GiB a second), or where the check holds more than the certificate, 32 bytes a page and 4 MiB. The program is PROGRAM, or
 # the one that `rt run` in crates/nandctl builds.
@@ -17,10 +17,11 @@ most_of_check() {
     IFS=, read -r _ _ pages blocks _ <<< "$1"
     echo $(($(stat -c %s "$2") + 32 * pages * blocks + 4 * 1048576))
 }
-for geometry in 4096,128,64,992,60000 512,32,256,4096,700000; do
-    echo "geometry $geometry"
+for case in 4096,128,64,992,60000:2 4096,128,64,992,60000:1 512,32,256,4096,700000:1; do
+    geometry="${case%:*}" version="${case#*:}"
+    echo "geometry $geometry, records of version $version"
     image="$folder/image.bin" cert="$folder/cert.bin"
-    python3 "$top/bench/make_mounted.py" "$geometry" 4 "$image" "$cert"
+    python3 "$top/bench/make_mounted.py" "$geometry" 4 "$image" "$cert" "$version"
     python3 "$top/bench/measure.py" "$repeats" "$image" "nandctl check" 1.15 "$(most_of_check "$geometry" "$cert")" \
         "$program" check "$geometry" 4 "$image" "$cert"
     # mount holds the image as well

@@ -1,10 +1,10 @@
 #!/usr/bin/env python3
 """Writes a raw image of which every page is programmed, and its certificate, independently of the crates.
 
-    make_mounted.py GEOM C IMAGE CERT
+    make_mounted.py GEOM C IMAGE CERT [VERSION]
 
 The blocks before the last few hold sectors in turn; the last few hold table page 0 over and over, the translation pages and
-the table pages. No sector is stale, and no block is bad."""
+the table pages. No sector is stale, and no block is bad. The records are of VERSION, or of the version for the die."""
 
 import hashlib
 import struct
@@ -58,12 +58,13 @@ class Layout:
         else:
             u = row - self.first_kept - g.translation
             kind, number, data = 4, u, self.table(u)
-        return data + ref.spare_of(g, ref.Record(kind, number, row + 1, 0), data)
+        return data + ref.spare_of(g, ref.Record(kind, number, row + 1, 0), data, self.version)
 
 
 def main(words):
     g = ref.Geometry(*(int(n) for n in words[0].split(",")))
     layout = Layout(g)
+    layout.version = int(words[4]) if len(words) > 4 else None
     with open(words[2], "wb") as out:
         for row in range(g.rows):
             out.write(layout.page(row))
