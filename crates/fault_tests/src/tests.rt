@@ -3,3 +3,5 @@ mod fault_scripts;
 mod faults;
 mod pairs;
 mod script;
+mod stop_rows;
+mod stops;
