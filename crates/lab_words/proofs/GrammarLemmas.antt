@@ -18,7 +18,7 @@ use Rattle.clap.specs.Words.{fault_of, subcommand_of}
 use Rattle.clap.proofs.OnLiterals.{clap_on_literals}
 use Rattle.lab_words.specs.declared.words.Asked.{Asked}
 use Rattle.lab_words.specs.declared.words.Asked.TheVariants as asked
-use Rattle.lab_words.specs.Words.{grammar, IsAsked, IsAt, IsCommandOf, IsTextFor}
+use Rattle.lab_words.specs.Words.{grammar, IsAsked, IsCommandOf, IsTextFor}
 
 pub simple_grammar : is_simple_and_free grammar ≡ true
 unfolding clap_on_literals

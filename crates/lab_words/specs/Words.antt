@@ -1,5 +1,5 @@
 -- The words of the command line, as `clap` reads them.
-use Rattle.std.specs.Prelude.{◌≡◌, ◌⊎◌, ◌↔◌, ℕ, ◌<◌, true, List, [], ◌∷◌, codes, Option, Some, None, map, option_map, IsTrue}
+use Rattle.std.specs.Prelude.{◌≡◌, ◌⊎◌, ◌↔◌, ℕ, ◌<◌, true, List, [], codes, Option, Some, map, option_map, IsTrue}
 use Rattle.std.specs.Borrow.{Bor}
 use Rattle.clap.specs.declared.builder.action.ArgAction.TheVariants.{Set, Count}
 use Rattle.clap.specs.declared.error.Error.{Error}

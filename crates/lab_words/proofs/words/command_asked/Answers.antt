@@ -1,7 +1,7 @@
-use Rattle.std.proofs.Common.{◌∙◌, rules, Option, codes}
+use Rattle.std.proofs.Common.{◌∙◌, rules, codes}
 use Rattle.std.specs.Prelude.{IsSome}
-use Rattle.clap.specs.Words.{found_of, rows_of, subcommand_rows_of}
-use Rattle.lab_words.specs.Words.{IsAt, IsCommandOf}
+use Rattle.clap.specs.Words.{subcommand_rows_of}
+use Rattle.lab_words.specs.Words.{IsCommandOf}
 use Rattle.lab_words.proofs.GrammarLemmas.{if_more, rows_name}
 use Rattle.lab_words.proofs.words.command_asked.Goals as goal
 

@@ -1,4 +1,4 @@
-use Rattle.std.proofs.Common.{◌≡◌, true, [], ap, sym, subst, ◌∙◌}
+use Rattle.std.proofs.Common.{◌≡◌, true, [], ap, subst, ◌∙◌}
 use Rattle.clap.specs.Words.{HasKind, app_of, fault_of, is_simple, is_simple_and_free, subcommand_of, subcommand_rows_of}
 use Rattle.lab_words.specs.Words.{grammar, texts, IsCommandOf}
 use Rattle.lab_words.proofs.GrammarLemmas.{simple_grammar, plain_grammar, text_asked, asked_by}
