@@ -1,11 +1,9 @@
 -- The lines of the report.
-use Rattle.std.proofs.Common.{◌≡◌, ℕ, zero, suc, ◌+◌, ◌<◌, List, [], ◌∷◌, ◌++◌, length, get_or, map, codes, refl, ap, sym, ◌∙◌, arith, Option}
-use Rattle.std.specs.Fmt.{decimal}
+use Rattle.std.proofs.Common.{◌≡◌, ℕ, zero, suc, ◌+◌, ◌<◌, List, ◌++◌, length, get_or, map, refl, ap, sym, ◌∙◌, arith, Option}
 use Rattle.std.specs.Io.KnownBytes.{Appends}
 use Rattle.std.proofs.KnownBytes.{Appends-nil}
 use Rattle.std.proofs.lemmas.List.{get_or-map, length-map}
 use Rattle.lab_array.specs.declared.held.Held.{Held}
-use Rattle.lab_array.specs.declared.held.Held.TheVariants.{Never}
 use Rattle.lab_array.specs.declared.held.State.{State}
 use Rattle.lab_array.specs.declared.held.State.TheVariants.{Absent}
 use Rattle.lab_array.specs.Held.{state_in}

@@ -1,8 +1,8 @@
-use Rattle.std.proofs.Common.{◌≡◌, List, ap, subst, ◌∙◌, map, rules}
+use Rattle.std.proofs.Common.{List, ap, subst, ◌∙◌, map}
 use Rattle.std.specs.Io.KnownBytes.{Appends}
 use Rattle.lab_array.specs.Held.{state_in}
 use Rattle.lab_array.specs.declared.held.Held.{Held}
-use Rattle.lab_commands.specs.Array.{IsAllowed, IsMade}
+use Rattle.lab_commands.specs.Array.{IsMade}
 use Rattle.lab_commands.specs.Files.{with_kept}
 use Rattle.lab_commands.specs.Report.{report_of}
 use Rattle.lab_commands.proofs.array.array_command.Goals as goal

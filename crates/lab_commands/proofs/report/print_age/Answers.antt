@@ -1,4 +1,4 @@
-use Rattle.std.proofs.Common.{◌≡◌, ℕ, List, OnOk, sym, subst, arith}
+use Rattle.std.proofs.Common.{ℕ, List, OnOk, sym, subst, arith}
 use Rattle.std.specs.Io.KnownBytes.{Appends}
 use Rattle.lab_commands.proofs.ReportLemmas.{age_more}
 use Rattle.lab_commands.proofs.report.print_age.Goals as goal

@@ -1,7 +1,6 @@
-use Rattle.std.proofs.Common.{◌≡◌, ℕ, ◌+◌, Option, get_or, false, option_map, subst, arith}
+use Rattle.std.proofs.Common.{◌≡◌, ℕ, Option, get_or, option_map, subst, arith}
 use Rattle.std.specs.Io.KnownBytes.{Appends}
 use Rattle.std.proofs.KnownBytes.{Appends-trans}
-use Rattle.lab_array.specs.declared.held.State.TheVariants.{Absent}
 use Rattle.lab_commands.specs.declared.lines.Line.{Line}
 use Rattle.lab_commands.specs.Lines.{block_line, state_at, line_text, text_below}
 use Rattle.lab_commands.proofs.LineLemmas.{none_below, one_more}

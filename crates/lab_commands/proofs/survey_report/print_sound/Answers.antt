@@ -1,5 +1,3 @@
-use Rattle.std.proofs.Common.{subst}
-use Rattle.std.specs.Io.KnownBytes.{Appends}
 use Rattle.lab_commands.specs.Lines.{sound_text}
 use Rattle.lab_commands.proofs.LineLemmas.{then_last}
 use Rattle.lab_commands.proofs.survey_report.print_sound.Goals as goal

@@ -1,4 +1,3 @@
-use Rattle.std.proofs.Common.{option_map}
 use Rattle.std.specs.Io.KnownBytes.{Appends}
 use Rattle.lab_commands.specs.Lines.{tables_text}
 use Rattle.lab_commands.proofs.survey_report.print_tables.Given as goal
