@@ -3,5 +3,3 @@ mod fault_scripts;
 mod faults;
 mod pairs;
 mod script;
-mod stop_rows;
-mod stops;

@@ -37,12 +37,12 @@ impl Script {
     }
 
     // The byte of a sector.
-    pub fn byte(&self, sector: u32) -> u8 {
+    fn byte(&self, sector: u32) -> u8 {
         self.sectors[(sector % MOST) as usize]
     }
 
     // A call was done.
-    pub fn note(&mut self, call: Call) {
+    fn note(&mut self, call: Call) {
         if let Call::Write(..) | Call::Trim(_) = call {
             self.sectors[(call.sector() % MOST) as usize] = call.byte();
             self.done = self.done.saturating_add(1);
