@@ -6,6 +6,7 @@ use std::test::Fail;
 use system_program::SystemFiles;
 
 const PATH: &str = "stored.bin";
+
 const LINK: &str = "link.bin";
 // A name that a run which was killed might have left beside it.
 const LEFT: &str = "stored.bin.part0";
@@ -41,7 +42,10 @@ fn a_link_keeps_pointing_and_nothing_is_left_beside(rt: HostRuntime) -> Result<(
     assert_eq!(rt; files.store(LINK, b"new"), Ok(()));
     assert!(rt; fs::symlink_metadata(&rt, LINK)?.is_symlink());
     assert_eq!(rt; fs::read_to_string(&rt, PATH)?.as_str(), "new");
-    assert_eq!(rt; fs::read_to_string(&rt, LEFT)?.as_str(), "left by another run");
+    assert_eq!(rt;
+        fs::read_to_string(&rt, LEFT)?.as_str(),
+        "left by another run"
+    );
     assert!(rt; !fs::exists(&rt, "stored.bin.part1")?);
     for path in [LINK, PATH, LEFT] {
         fs::remove_file(&rt, path)?;
