@@ -1,5 +1,5 @@
 //! Dies with pages of version 1 are brought forward.
-ghost use Rattle.std.specs.Prelude.{◌≡◌, IfOk, OnOk};
+ghost use Rattle.std.specs.Prelude.{◌≡◌, IfOk};
 ghost use Rattle.ftl_device.specs.Device.{IsDevice};
 
 use device_bench::bench::{driver_on, given_up, started};
@@ -108,12 +108,12 @@ fn migrate_all<N: Nand>(device: &mut Device<N>) -> Result<u32, DeviceFault>
     requires { IsDevice N.flash device.old }
     ensures { IsDevice N.flash device.new }
 {
-    let mut migrated = 0;
+    let mut migrated = 0u32;
     for _ in 0..256 {
         if !device.migrate_one()? {
             break;
         }
-        migrated += 1;
+        migrated = migrated.saturating_add(1);
     }
     device.flush()?;
     Ok(migrated)
@@ -125,7 +125,8 @@ fn image_of(alloc: Global, geometry: &Geometry, driver: Driver<Die>) -> Result<V
 {
     let rows = geometry.blocks() as usize * geometry.pages() as usize;
     let mut image = vec![in alloc; 0; rows * (geometry.data_bytes() + geometry.spare_bytes())]?;
-    driver.into_bus().image_into(&mut image);
+    let die = driver.into_bus();
+    die.image_into(&mut image);
     Ok(image)
 }
 
