@@ -2,6 +2,5 @@
 mod flush;
 mod lists;
 mod memory;
-mod migrate;
 mod restarts;
 mod rows;
