@@ -184,7 +184,9 @@ fn image_of(
     let mut bytes = vec![in alloc; 0xFFu8; 256 * page_bytes]?;
     for (row, place, byte) in written {
         assert!(rt; *row < 256 && *place < page_bytes);
-        bytes[*row * page_bytes + *place] = *byte;
+        *bytes
+            .get_mut(*row * page_bytes + *place)
+            .ok_or("no such byte")? = *byte;
     }
     Ok(bytes)
 }
