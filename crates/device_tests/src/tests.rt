@@ -2,5 +2,6 @@
 mod flush;
 mod lists;
 mod memory;
+mod migrate;
 mod restarts;
 mod rows;

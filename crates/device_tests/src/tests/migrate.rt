@@ -1,0 +1,174 @@
+//! Dies with pages of version 1 are brought forward.
+ghost use Rattle.std.specs.Prelude.{◌≡◌, IfOk};
+ghost use Rattle.ftl_device.specs.Device.{IsDevice};
+
+use device_bench::bench::{driver_on, given_up, started};
+use device_bench::hold::hold_same;
+use ftl_device::{Device, DeviceFault};
+use nand_die::Die;
+use onfi_cycles::{Driver, Nand};
+use page_layout::geometry::Geometry;
+use page_layout::record::{Kind, read_record, record_version};
+use page_layout::source::ImageSlice;
+use std::alloc::Global;
+use std::test::Fail;
+use test_images::{Layout, Old, TABLE_0, TABLE_1, Written, laid_out};
+
+// A page: its row, the kind, the number and the sequence of its record, and its version.
+type Row = (u32, Kind, u32, u64, u8);
+
+// A die of this layout with these pages, how many calls migrate one, and the pages that it has after a flush.
+struct Case {
+    name: &'static str,
+    layout: Layout,
+    pages: &'static [Written],
+    migrated: u32,
+    rows: &'static [Row],
+}
+
+const WRITTEN: [Written; 4] = [
+    TABLE_0,
+    TABLE_1,
+    (8, Kind::Sector, 5, 3, 0, 0x11),
+    (9, Kind::Trim, 7, 4, 0, 0),
+];
+
+const OLD_TABLE_0: Row = (0, Kind::Table, 0, 1, 1);
+
+const OLD_TABLE_1: Row = (1, Kind::Table, 1, 2, 1);
+
+const CASES: [Case; 3] = [
+    Case {
+        name: "all pages are of version 1",
+        layout: Layout {
+            spare_bytes: 40,
+            old: Old::All,
+        },
+        pages: &WRITTEN,
+        migrated: 2,
+        rows: &[
+            OLD_TABLE_0,
+            OLD_TABLE_1,
+            (2, Kind::Translation, 0, 7, 2),
+            (3, Kind::Table, 0, 8, 2),
+            (4, Kind::Table, 1, 9, 2),
+            (8, Kind::Sector, 5, 3, 1),
+            (9, Kind::Trim, 7, 4, 1),
+            (10, Kind::Sector, 5, 5, 2),
+            (11, Kind::Trim, 7, 6, 2),
+        ],
+    },
+    Case {
+        name: "one is",
+        layout: Layout {
+            spare_bytes: 40,
+            old: Old::Odd,
+        },
+        pages: &WRITTEN,
+        migrated: 1,
+        rows: &[
+            (0, Kind::Table, 0, 1, 2),
+            OLD_TABLE_1,
+            (2, Kind::Translation, 0, 6, 2),
+            (3, Kind::Table, 0, 7, 2),
+            (4, Kind::Table, 1, 8, 2),
+            (8, Kind::Sector, 5, 3, 2),
+            (9, Kind::Trim, 7, 4, 1),
+            (10, Kind::Trim, 7, 5, 2),
+        ],
+    },
+    Case {
+        name: "there is no room for version 2",
+        layout: Layout {
+            spare_bytes: 32,
+            old: Old::All,
+        },
+        pages: &WRITTEN,
+        migrated: 0,
+        rows: &[
+            OLD_TABLE_0,
+            OLD_TABLE_1,
+            (2, Kind::Translation, 0, 5, 1),
+            (3, Kind::Table, 0, 6, 1),
+            (4, Kind::Table, 1, 7, 1),
+            (8, Kind::Sector, 5, 3, 1),
+            (9, Kind::Trim, 7, 4, 1),
+        ],
+    },
+];
+
+fn loaded(alloc: Global, geometry: Geometry, image: &[u8]) -> Result<Driver<Die>, Fail>
+    ensures { IfOk result (λ driver. driver.geometry ≡ geometry) }
+{
+    driver_on(Die::from_image(alloc, geometry, image, &[])?, geometry)
+}
+
+// How many calls migrate one, and then a flush.
+fn migrate_all<N: Nand>(device: &mut Device<N>) -> Result<u32, DeviceFault>
+    requires { IsDevice N.flash device.old }
+    ensures { IsDevice N.flash device.new }
+{
+    let mut migrated = 0u32;
+    for _ in 0..256 {
+        if !device.migrate_one()? {
+            break;
+        }
+        migrated = migrated.saturating_add(1);
+    }
+    device.flush()?;
+    Ok(migrated)
+}
+
+// The image of a die.
+fn image_of(alloc: Global, geometry: &Geometry, driver: Driver<Die>) -> Result<Vec<u8>, Fail>
+    requires { driver.geometry ≡ geometry.now }
+{
+    let rows = geometry.blocks() as usize * geometry.pages() as usize;
+    let mut image = vec![in alloc; 0; rows * (geometry.data_bytes() + geometry.spare_bytes())]?;
+    let die = driver.into_bus();
+    die.image_into(&mut image);
+    Ok(image)
+}
+
+// The page of a row, if it is sound.
+fn shown(geometry: &Geometry, image: &ImageSlice, row: u32) -> Option<Row> {
+    if !image.geometry().has_row(row) {
+        return None;
+    }
+    let (body, spare) = image.page(row);
+    if body.len() != geometry.data_bytes() || spare.len() != geometry.spare_bytes() {
+        return None;
+    }
+    let found = read_record(geometry, body, spare)?;
+    let version = record_version(geometry, body, spare)?;
+    Some((row, found.kind, found.number, found.sequence, version))
+}
+
+// The image has these pages and no other sound ones.
+fn hold_image(geometry: &Geometry, bytes: &[u8], case: &Case) -> Result<(), Fail> {
+    let image = ImageSlice::new(geometry, bytes)?;
+    for row in 0..256 {
+        let wanted = case.rows.iter().find(|page| page.0 == row).copied();
+        hold_same(case.name, "a row", &shown(geometry, &image, row), &wanted)?;
+    }
+    Ok(())
+}
+
+fn hold_case(alloc: Global, case: &Case) -> Result<(), Fail> {
+    let geometry = Geometry::new(64, case.layout.spare_bytes, 8, 32, 32)?;
+    let image = laid_out(alloc, &geometry, case.layout, case.pages)?;
+    let driver = loaded(alloc, geometry, &image)?;
+    let mut device = started(alloc, driver, &geometry, 4)?;
+    let migrated = migrate_all(&mut device)?;
+    hold_same(case.name, "migrated", &migrated, &case.migrated)?;
+    let (driver, geometry) = given_up(device);
+    hold_image(&geometry, &image_of(alloc, &geometry, driver)?, case)
+}
+
+#[test]
+fn migrate_rows(rt: HostRuntime) -> Result<(), Fail> {
+    for case in &CASES {
+        hold_case(rt.alloc(), case)?;
+    }
+    Ok(())
+}
