@@ -33,6 +33,7 @@ use Rattle.command_queue.specs.Exchanges.{Exchange}
 use Rattle.command_queue.specs.Tells.{die_in}
 use Rattle.command_queue.specs.Run.{AreFair, HasRun, HappensEach, Ran, accepted_device, RanFrom}
 use Rattle.command_queue.proofs.RescueLemmas.{rescues_as}
+use Rattle.command_queue.proofs.QuietLemmas.{twelve_as}
 use Rattle.bad_blocks.specs.Table.{wear_at, most_wear}
 use Rattle.allocation.specs.Begun.{begun}
 use Rattle.std.proofs.lemmas.Option.{slice_get_within}
@@ -116,6 +117,7 @@ module _ (g : Geometry) (p q : ℕ → Bool) (u v : ℕ → ℕ) (same : (b : �
           pins = its.pins;
           stopped = its.stopped;
           rescues = λ is done. rescues_as g (bad_of g.pages p before) (bad_of g.pages q before) (λ b lt. ap (λ x. x || failed_in g.pages before b) (same b lt)) e.piece old.flash.image e.left.flash.image (its.rescues is done);
+          quiet = λ is done. twelve_as g (bad_of g.pages p before) (bad_of g.pages q before) (λ b lt. ap (λ x. x || failed_in g.pages before b) (same b lt)) e.piece e.left.flash.image (its.quiet is done);
         },
         fair_as capacity next e.left (before ++ e.piece) events calls fair.1,
       )

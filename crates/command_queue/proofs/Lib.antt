@@ -1,5 +1,6 @@
 pub mod RefusalLemmas
 pub mod RescueLemmas
+pub mod QuietLemmas
 pub mod RunLemmas
 pub mod ToldLemmas
 pub mod LoopLemmas

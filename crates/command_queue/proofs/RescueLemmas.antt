@@ -34,10 +34,10 @@ live_is r image safe w b lt =
     subst (λ (g : Geometry). live_at r.blocks b ≡ live g (marks image) b) safe.blocks_of (w.live b (subst (λ (g : Geometry). b < g.blocks) (sym safe.blocks_of) lt))
 
 module _ (old new : Ram) (log : List Operation) (safe : IsRam old) (safe' : IsRam new) (sized : new.geometry ≡ old.geometry) (follows : Follows old.geometry.pages log old.blocks new.blocks) (h : HasRescued old new) where
-  bad_still : FailsNowhere old.geometry log → (b : ℕ) → b < old.geometry.blocks → is_bad_by new b ≡ is_bad_by old b
+  pub bad_still : FailsNowhere old.geometry log → (b : ℕ) → b < old.geometry.blocks → is_bad_by new b ≡ is_bad_by old b
   bad_still nowhere b lt = bad_now_law old new log b safe.blocks_of follows lt ∙ or_false (is_bad_by old b) (failed_in old.geometry.pages log b) (nowhere b lt)
 
-  good_still : FailsNowhere old.geometry log → good_count new.blocks.table ≡ good_count old.blocks.table
+  pub good_still : FailsNowhere old.geometry log → good_count new.blocks.table ≡ good_count old.blocks.table
   good_still nowhere =
       let here : logs.good_count old.geometry (is_bad_by new) [] ≡ logs.good_count old.geometry (is_bad_by old) [] =
       count_same (logs.good_of old.geometry.pages (is_bad_by new) []) (logs.good_of old.geometry.pages (is_bad_by old) []) 0 old.geometry.blocks (λ b low high. ap (λ x. not (x || false)) (bad_still nowhere b (omega arith))) in

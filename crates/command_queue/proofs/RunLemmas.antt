@@ -40,8 +40,10 @@ use Rattle.ftl_device.proofs.ChangeLemmas.{unpinned_some}
 use Rattle.command_queue.specs.Exchanges.{answer_to, reply_in, Exchange}
 use Rattle.command_queue.specs.Tells.{die_in, Happened, Tells}
 use Rattle.command_queue.specs.Run.{IsFair, AreFair, HasRun, IsEventOf, HappensEach, Ran}
-use Rattle.command_queue.specs.Rescues.{Rescues}
+use Rattle.ftl_device.specs.Turn.{HasTurned}
+use Rattle.command_queue.specs.Rescues.{Rescues, LeavesTwelve}
 use Rattle.command_queue.proofs.RescueLemmas.{rescues, rescues_as}
+use Rattle.command_queue.proofs.QuietLemmas.{leaves_twelve, twelve_as}
 use Rattle.ftl_device.specs.Flush.{ShowsBad, First, first_of, IsFlushedOut}
 use Rattle.ftl_device.proofs.CountLemmas.{bad_now_law}
 use Rattle.command_queue.proofs.RefusalLemmas.{NoDamage, shown_on, left_on}
@@ -160,24 +162,31 @@ module _ {N : Type 0} (flash : N → Flash) (recorded : N → Option Recording) 
     flushed = λ is. (let no : ⊥ = cc in absurd no);
     reads = λ is. (refl, read_view kept flag (ap (λ (r : Ram). is_some r.pin.block) (leaves_mapping n result (ram old.engine) (ram new.engine) p q bytes leaves ne)));
     rescues = λ is. (let no : ⊥ = cc in absurd no);
+    quiet = λ is. (let no : ⊥ = cc in absurd no);
     left = λ bad before bads on. read_left old.engine.geometry bad before [] old.read_only n result (sym flag ∙ on);
   }
 
   module _ (safe : IsRam (ram old.engine)) (safe' : IsRam (ram new.engine)) (sized : new.engine.geometry ≡ old.engine.geometry) (was : IsWell flash old) (well : IsWell flash new) (w : Went (ram old.engine) (flash old.engine.nand) (recorded old.engine.nand) (ram new.engine) (flash new.engine.nand) (recorded new.engine.nand)) (says : IfErr result (Says (ram old.engine) (ram new.engine)))
       (shown : IfErr result (IsShown old.engine.geometry (is_bad_by (ram old.engine)) old.engine.next [] w.log old.read_only (image_in flash new.engine))) where
+    -- with no operation the image is as it was
+    unwritten : w.log ≡ [] → image_in flash new.engine ≡ image_in flash old.engine
+    unwritten none = (let same : flash new.engine.nand ≡ flash old.engine.nand = subst (λ l. Leads (flash old.engine.nand) l (flash new.engine.nand)) none w.leads in ap (λ (f : Flash). f.image) same)
+
     rescued_so : HasRescued (ram old.engine) (ram new.engine) → Rescues old.engine.geometry (is_bad_by (ram old.engine)) w.log (image_in flash old.engine) (image_in flash new.engine)
-    rescued_so h =
-        rescues (ram old.engine) (ram new.engine) w.log safe safe' sized w.follows h (image_in flash old.engine) (image_in flash new.engine) was.truth well.truth
-        (λ none. (let same : flash new.engine.nand ≡ flash old.engine.nand = subst (λ l. Leads (flash old.engine.nand) l (flash new.engine.nand)) none w.leads in ap (λ (f : Flash). f.image) same))
+    rescued_so h = rescues (ram old.engine) (ram new.engine) w.log safe safe' sized w.follows h (image_in flash old.engine) (image_in flash new.engine) was.truth well.truth unwritten
+
+    twelve_so : HasRescued (ram old.engine) (ram new.engine) → HasTurned (ram old.engine) (ram new.engine) → LeavesTwelve old.engine.geometry (is_bad_by (ram old.engine)) w.log (image_in flash new.engine)
+    twelve_so h t = leaves_twelve (ram old.engine) (ram new.engine) w.log safe safe' sized w.follows h w.next (image_in flash old.engine) (image_in flash new.engine) was.truth well.truth unwritten t
 
     -- a call that may change sectors
-    pub changed : (command : step.Command) (bytes : List ℕ) → is_read command ≡ false → (is_turn command ≡ true → OnOk result (HasRescued (ram old.engine) (ram new.engine))) → (is_flush command ≡ true → result ≡ Ok tt → IsFlushedOut (first_of (ram old.engine)) w.log (image_in flash new.engine)) → (new.read_only ≡ true → IsLeft command old.engine.geometry (is_bad_by (ram old.engine)) [] w.log old.read_only result) → NoDamage result → (needs_no_memory (is_some old.engine.pinned) old.engine.geometry (image_in flash old.engine) command ≡ true → result ≢ Err OutOfMemory) → ArrayStep old.engine.geometry (state_in flash old) command (answer_to command bytes result) (state_in flash new)
+    pub changed : (command : step.Command) (bytes : List ℕ) → is_read command ≡ false → (is_turn command ≡ true → OnOk result (HasRescued (ram old.engine) (ram new.engine))) → (is_turn command ≡ true → OnOk result (HasTurned (ram old.engine) (ram new.engine))) → (is_flush command ≡ true → result ≡ Ok tt → IsFlushedOut (first_of (ram old.engine)) w.log (image_in flash new.engine)) → (new.read_only ≡ true → IsLeft command old.engine.geometry (is_bad_by (ram old.engine)) [] w.log old.read_only result) → NoDamage result → (needs_no_memory (is_some old.engine.pinned) old.engine.geometry (image_in flash old.engine) command ≡ true → result ≢ Err OutOfMemory) → ArrayStep old.engine.geometry (state_in flash old) command (answer_to command bytes result) (state_in flash new)
         → SurvivesStops old.engine.geometry old.engine.mapping.capacity command result (image_in flash old.engine) (image_in flash new.engine) (recorded new.engine.nand) w.log → Happened flash recorded old (record { command = command; result = result; bytes = bytes }) new
-    changed command bytes no_read rescued flushed left is stale whole survives = record {
+    changed command bytes no_read rescued turned flushed left is stale whole survives = record {
       stopped = survives;
       flushed = flushed;
       reads = λ read. (let no : ⊥ = cc in absurd no);
       rescues = λ turn done. rescued_so (subst (λ r. OnOk r (HasRescued (ram old.engine) (ram new.engine))) done (rescued turn));
+      quiet = λ turn done. twelve_so (subst (λ r. OnOk r (HasRescued (ram old.engine) (ram new.engine))) done (rescued turn)) (subst (λ r. OnOk r (HasTurned (ram old.engine) (ram new.engine))) done (turned turn));
       step = whole;
       went = w;
       stale = stale;
@@ -291,6 +300,9 @@ module _ {N : Type 0} (flash : N → Flash) (recorded : N → Option Recording) 
     rescues = λ is done.
         let here : Rescues old.engine.geometry (is_bad_by (ram mid.engine)) h.went.log (image_in flash mid.engine) (image_in flash new.engine) = subst (λ (g : Geometry). Rescues g (is_bad_by (ram mid.engine)) h.went.log (image_in flash mid.engine) (image_in flash new.engine)) sized (h.rescues is done) in
         rescues_as old.engine.geometry (is_bad_by (ram mid.engine)) (bad_of old.engine.geometry.pages (is_bad_by (ram old.engine)) (log_of ran.run.events)) (λ b lt. bad_now_law (ram old.engine) (ram mid.engine) (log_of ran.run.events) b safe.blocks_of ran.follows lt) h.went.log (image_in flash mid.engine) (image_in flash new.engine) here;
+    quiet = λ is done.
+        let here : LeavesTwelve old.engine.geometry (is_bad_by (ram mid.engine)) h.went.log (image_in flash new.engine) = subst (λ (g : Geometry). LeavesTwelve g (is_bad_by (ram mid.engine)) h.went.log (image_in flash new.engine)) sized (h.quiet is done) in
+        twelve_as old.engine.geometry (is_bad_by (ram mid.engine)) (bad_of old.engine.geometry.pages (is_bad_by (ram old.engine)) (log_of ran.run.events)) (λ b lt. bad_now_law (ram old.engine) (ram mid.engine) (log_of ran.run.events) b safe.blocks_of ran.follows lt) h.went.log (image_in flash new.engine) here;
   }
 
   run_more : HasRun (first_of (ram old.engine)) (die_in flash old) (die_in flash new) (done ++ x ∷ [])

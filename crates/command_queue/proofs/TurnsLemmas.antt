@@ -27,8 +27,9 @@ use Rattle.command_queue.specs.Exchanges.{Exchange}
 use Rattle.command_queue.specs.Rescues.{FailsNowhere}
 use Rattle.command_queue.specs.Tells.{TakesTurn, TakesIfTurn}
 use Rattle.command_queue.specs.Run.{IsEventOf, HappensEach}
-use Rattle.command_queue.specs.Turns.{AreTurnsDone, FailNowhere, OneRests, TurnsInARowLaw, QuietTurnLaw}
+use Rattle.command_queue.specs.Turns.{AreTurnsDone, FailNowhere, OneRests, TurnsInARowLaw, QuietTurnLaw, QuietEventLaw}
 use Rattle.command_queue.proofs.RescueLemmas.{none_on}
+use Rattle.command_queue.proofs.QuietLemmas.{joined_good, joined_free}
 
 not_bus : (result : Result (Unit {0}) DeviceFault) → result ≡ Ok tt → result ≢ Err BusFault
 not_bus result done is = (let no : ⊥ = cc in no)
@@ -95,3 +96,8 @@ module _ {N : Type 0} (flash : N → Flash) (recorded : N → Option Recording) 
 
   pub quiet_turn_law : QuietTurnLaw flash recorded honest failed erases
   quiet_turn_law old new event x is_honest well is done its = quiet old new event x well is_honest is done its
+
+pub quiet_event_law : QuietEventLaw
+quiet_event_law first old before event x fair is done none many =
+    let g = first.geometry in
+    omega (arith, fair.quiet is done none (omega (arith, many, joined_good g first.bad before)), joined_free g first.bad before event.left.flash.image)

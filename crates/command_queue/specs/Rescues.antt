@@ -1,11 +1,12 @@
--- WHAT A TURN DOES FOR BAD BLOCKS, as the image and the log show it.
-use Rattle.std.specs.Prelude.{◌≡◌, ◌≢◌, ℕ, ◌<◌, ◌≤◌, Bool, true, false, List, []}
+-- WHAT A TURN DOES, as the image and the log show it: for bad blocks, and for blocks to be free.
+use Rattle.std.specs.Prelude.{◌≡◌, ◌≢◌, ℕ, ◌+◌, ◌<◌, ◌≤◌, Bool, true, false, List, []}
 use Rattle.page_layout.specs.declared.geometry.Geometry.{Geometry}
 use Rattle.page_layout.specs.Page.{Image}
+use Rattle.page_layout.specs.Geometry.{need}
 use Rattle.page_layout.specs.Array.{marks}
 use Rattle.page_layout.specs.Live.{live}
 use Rattle.page_layout.specs.Flash.{Operation}
-use Rattle.promises.specs.Log.{failed_in}
+use Rattle.promises.specs.Log.{failed_in, good_count, free_count}
 
 -- how many newest pages the image has in a block
 abbrev pub newest_in : Geometry → Image → ℕ → ℕ
@@ -28,3 +29,7 @@ pub record Rescues (g : Geometry) (bad : ℕ → Bool) (piece : List Operation) 
   pub keeps : (b : ℕ) → b < g.blocks → bad b ≡ true → newest_in g new b ≤ newest_in g old b
   pub works : (b : ℕ) → IsAilingIn g bad old b → piece ≢ []
   pub fewer : (b : ℕ) → IsAilingIn g bad old b → FailsNowhere g piece → (block : ℕ) × IsAilingIn g bad old block × (newest_in g new block < newest_in g old block)
+
+-- A TURN THAT IS DONE AND QUIET, that programs and erases nothing, leaves twelve free blocks, where three more are good than the geometry asks for
+abbrev pub LeavesTwelve : Geometry → (ℕ → Bool) → List Operation → Image → Type 0
+LeavesTwelve g bad piece new = piece ≡ [] → need g + 3 ≤ good_count g bad [] → 12 ≤ free_count g bad [] new

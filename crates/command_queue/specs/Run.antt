@@ -23,14 +23,14 @@ use Rattle.ftl_device.specs.Changes.{MayPin}
 use Rattle.ftl_device.specs.Stopped.{SurvivesStops}
 use Rattle.command_queue.specs.Commands.{needs_no_memory, is_read, is_turn}
 use Rattle.command_queue.specs.Exchanges.{Exchange, commands_in, replies_in}
-use Rattle.command_queue.specs.Rescues.{Rescues}
+use Rattle.command_queue.specs.Rescues.{Rescues, LeavesTwelve}
 use Rattle.command_queue.specs.Tells.{die_in, Happened, Tells}
 
 -- What is so of each event, where `before` is the log up to it. `ReadOnly` comes in a shortage, with fewer than five free blocks, and has its
 -- counts, and `SequenceSpent` the last sequence, by the image and the one log; a call that leaves the device read-only does so in a shortage,
 -- or is a flush in which two blocks failed; a command that changes no sector took no memory, and so did one whose sector was stale in the image while no block was pinned; and afterwards
 -- the image has a certificate. A read programs and erases nothing and leaves the device as it was, and a turn that is done rescues pages from
--- bad blocks. A block is pinned afterwards only where one was before, by a turn, or by a call after which no sector is changed any more. And
+-- bad blocks, and leaves twelve free where it does nothing and enough are good. A block is pinned afterwards only where one was before, by a turn, or by a call after which no sector is changed any more. And
 -- where the die tells a record as the event ends, a stop at any moment in it leaves an image that mounts, with the array before it or, of a
 -- write or trim that is done, the one after it: so whatever was answered stays.
 pub record IsFair (first : First) (old : runs.DeviceView) (before : List Operation) (event : Event) (x : Exchange) : Type 0 where
@@ -41,6 +41,7 @@ pub record IsFair (first : First) (old : runs.DeviceView) (before : List Operati
   pub mountable : first.capacity + first.geometry.pages ≤ 65536 → IsMountable first.geometry (first.capacity + first.geometry.pages) event.left.flash.image
   pub reads : is_read x.command ≡ true → (event.piece ≡ []) × (event.left ≡ old)
   pub rescues : is_turn x.command ≡ true → x.result ≡ Ok tt → Rescues first.geometry (bad_of first.geometry.pages first.bad before) event.piece old.flash.image event.left.flash.image
+  pub quiet : is_turn x.command ≡ true → x.result ≡ Ok tt → LeavesTwelve first.geometry (bad_of first.geometry.pages first.bad before) event.piece event.left.flash.image
   pub pins : old.pinned ≡ false → event.left.pinned ≡ true → (is_turn x.command ≡ true) ⊎ MayPin x.result
   pub stopped : SurvivesStops first.geometry first.capacity x.command x.result old.flash.image event.left.flash.image event.told event.piece
 

@@ -26,7 +26,7 @@ use Rattle.ftl_device.specs.Stopped.{SurvivesStops}
 use Rattle.ftl_device.specs.Turn.{HasTurned}
 use Rattle.command_queue.specs.Commands.{needs_no_memory, is_read, is_turn}
 use Rattle.command_queue.specs.Exchanges.{Exchange, reply_in, Stops}
-use Rattle.command_queue.specs.Rescues.{Rescues}
+use Rattle.command_queue.specs.Rescues.{Rescues, LeavesTwelve}
 
 -- a device between two commands
 abbrev pub die_in : {N : Type 0} → (N → Flash) → Device N → DeviceView
@@ -47,6 +47,7 @@ pub record Happened {N : Type 0} (flash : N → Flash) (recorded : N → Option 
   pub flushed : is_flush x.command ≡ true → x.result ≡ Ok tt → IsFlushedOut (first_of (ram old.engine)) went.log (image_in flash new.engine)
   pub reads : is_read x.command ≡ true → (went.log ≡ []) × (die_in flash new ≡ die_in flash old)
   pub rescues : is_turn x.command ≡ true → x.result ≡ Ok tt → Rescues old.engine.geometry (is_bad_by (ram old.engine)) went.log (image_in flash old.engine) (image_in flash new.engine)
+  pub quiet : is_turn x.command ≡ true → x.result ≡ Ok tt → LeavesTwelve old.engine.geometry (is_bad_by (ram old.engine)) went.log (image_in flash new.engine)
   pub stopped : SurvivesStops old.engine.geometry old.engine.mapping.capacity x.command x.result (image_in flash old.engine) (image_in flash new.engine) (recorded new.engine.nand) went.log
 
 -- WHAT THE CONTRACT OF A TURN SAYS (`Device::turn`). It is refused by a device that is read-only or has no sequence. One that is done has made room,

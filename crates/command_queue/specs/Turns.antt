@@ -3,10 +3,11 @@ use Rattle.std.specs.Prelude.{◌≡◌, ◌⊎◌, ℕ, ◌+◌, ◌<◌, ◌�
 use Rattle.std.specs.List.{AllByRecursion}
 use Rattle.page_layout.specs.declared.geometry.Geometry.{Geometry}
 use Rattle.page_layout.specs.Counter.{HasRisen}
-use Rattle.page_layout.specs.Flash.{Flash}
+use Rattle.page_layout.specs.Flash.{Flash, Operation}
 use Rattle.page_layout.specs.Recording.{Recording}
 use Rattle.page_layout.specs.Geometry.{need}
-use Rattle.promises.specs.Log.{programs_in}
+use Rattle.promises.specs.Log.{programs_in, good_count, free_count}
+use Rattle.promises.specs.Run as runs
 use Rattle.promises.specs.Run.{Event}
 use Rattle.collection.specs.Safe.{ram, image_in}
 use Rattle.collection.specs.Collect.{HasNoneAiling}
@@ -14,10 +15,11 @@ use Rattle.ftl_device.specs.declared.device.Device.{Device}
 use Rattle.ftl_device.specs.Device.{IsDevice}
 use Rattle.ftl_device.specs.Calls.{IsWell}
 use Rattle.ftl_device.specs.Counts.{free_by, good_by}
+use Rattle.ftl_device.specs.Flush.{First}
 use Rattle.command_queue.specs.Commands.{is_turn}
 use Rattle.command_queue.specs.Exchanges.{Exchange}
 use Rattle.command_queue.specs.Rescues.{FailsNowhere}
-use Rattle.command_queue.specs.Run.{IsEventOf, HappensEach}
+use Rattle.command_queue.specs.Run.{IsFair, IsEventOf, HappensEach}
 
 -- each is a turn that is done
 abbrev pub AreTurnsDone : List Exchange → Type 0
@@ -48,3 +50,9 @@ TurnsInARowLaw {N} flash recorded honest failed erases = (old new : Device N) (e
 abbrev pub QuietTurnLaw : {N : Type 0} → (N → Flash) → (N → Option Recording) → (N → Bool) → (failed erases : N → ℕ) → Type 0
 QuietTurnLaw {N} flash recorded honest failed erases = (old new : Device N) (event : Event) (x : Exchange) → honest old.engine.nand ≡ true → IsWell flash old → is_turn x.command ≡ true → x.result ≡ Ok tt → IsEventOf flash recorded honest failed erases old event x new
     → (0 < programs_in event.piece) ⊎ HasRisen (erases old.engine.nand) (erases new.engine.nand) ⊎ (need new.engine.geometry + 3 ≤ good_by (ram new.engine) → 12 ≤ free_by (ram new.engine) (image_in flash new.engine))
+
+-- A TURN OF A RUN THAT IS DONE AND PROGRAMS AND ERASES NOTHING leaves twelve free blocks by the image and the log up to it, where three more are good by
+-- that log than the geometry asks for
+abbrev pub QuietEventLaw : Type 0
+QuietEventLaw = (first : First) (old : runs.DeviceView) (before : List Operation) (event : Event) (x : Exchange) → IsFair first old before event x → is_turn x.command ≡ true → x.result ≡ Ok tt → event.piece ≡ []
+    → need first.geometry + 3 ≤ good_count first.geometry first.bad before → 12 ≤ free_count first.geometry first.bad before event.left.flash.image

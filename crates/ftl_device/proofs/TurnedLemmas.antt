@@ -6,7 +6,7 @@ use Rattle.collection.specs.State.{Ram}
 use Rattle.collection.specs.Collect.{HasAiling, HasNoneAiling, RescueCosts}
 use Rattle.collection.specs.Left.{HasStepped, pinned_to}
 use Rattle.collection.specs.Room.{IsWorth}
-use Rattle.ftl_device.specs.Turn.{IsBlockOf, HasGoneOn, TurnsOn}
+use Rattle.ftl_device.specs.Turn.{IsBlockOf, HasGoneOn, HasNoneToCollect, TurnsOn}
 
 block_of : (r : Ram) (o : Option Pinned) (p : Pinned) → r.pin.block ≡ o → MatchOption o (IsWorth 3 r p.block × (p.first ≡ 0)) (λ q. q ≡ p) → IsBlockOf r p
 block_of r o p is h = (let P : Option Pinned → Type 0 = λ x. MatchOption x (IsWorth 3 r p.block × (p.first ≡ 0)) (λ q. q ≡ p) in subst P (sym is) h)
@@ -29,8 +29,8 @@ gone_begun p a m c pinned none zero worth h = by (let P : Ram → Type 0 = λ z.
 
 pub rescue_turned : (a b : Ram) (found : Bool) → HasAiling a.blocks → RescueCosts a b (Ok found) → TurnsOn a b
 rescue_turned a b true some cost = inr (inl (some, cost))
-rescue_turned a b false some cost = inl cost
+rescue_turned a b false some cost = inl (cost, inl some)
 
-pub collect_turned : (a b : Ram) → HasNoneAiling a.blocks → (b ≡ a) ⊎ HasGoneOn a b → TurnsOn a b
-collect_turned a b none (inl still) = inl still
+pub collect_turned : (a b : Ram) → HasNoneAiling a.blocks → ((b ≡ a) × HasNoneToCollect a) ⊎ HasGoneOn a b → TurnsOn a b
+collect_turned a b none (inl still) = inl (still.0, inr still.1)
 collect_turned a b none (inr on) = inr (inr (none, on))

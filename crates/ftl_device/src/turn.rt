@@ -8,7 +8,7 @@ ghost use Rattle.collection.specs.Collect.{HasAiling, HasNoneAiling};
 ghost use Rattle.ftl_device.specs.Device.{IsDevice};
 ghost use Rattle.ftl_device.specs.Calls.{IsWell, Knows, KeepsArray, CallRefused, HasRescued};
 ghost use Rattle.ftl_device.specs.Calls.{HasWorked, HasLess, HasFallen, IsQuiet};
-ghost use Rattle.ftl_device.specs.Turn.{HasGoneOn, HasTurned};
+ghost use Rattle.ftl_device.specs.Turn.{HasGoneOn, HasNoneToCollect, HasTurned};
 ghost use Rattle.ftl_device.specs.Changes.{CollectsOn, Ends, Upkeeps};
 ghost use Rattle.allocation.specs.State.{free_count, live_at};
 ghost use Rattle.ftl_device.specs.Shortage.{HasFunds, CallShort};
@@ -42,7 +42,7 @@ fn collect_on<N: Nand>(engine: &mut Engine<N>) -> Result<(), WriteFault>
     requires going { engine.old.fault ≡ None }
     requires calm { IsCalm (ram engine.old) }
     ensures collects { CollectsOn N.flash N.recorded N.honest N.calm N.erases N.failed engine.old result engine.new }
-    ensures gone_on { OnOk result ((ram engine.new ≡ ram engine.old) ⊎ HasGoneOn (ram engine.old) (ram engine.new)) }
+    ensures gone_on { OnOk result (((ram engine.new ≡ ram engine.old) × HasNoneToCollect (ram engine.old)) ⊎ HasGoneOn (ram engine.old) (ram engine.new)) }
     ensures rests { engine.old.pinned ≡ None → 12 ≤ free_count (ram engine.old).blocks → IsOk result × (engine.new ≡ engine.old) }
     ensures quiet { N.honest engine.old.nand ≡ true → Knows (ram engine.old) (image_in N.flash engine.old) →
         OnOk result (IsQuiet N.erases engine.old engine.new) }
