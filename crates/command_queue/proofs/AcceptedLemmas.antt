@@ -99,6 +99,7 @@ module _ (g : Geometry) (p q : ℕ → Bool) (u v : ℕ → ℕ) (same : (b : �
     fresh = f.fresh;
     bad = λ b lt. subst (λ x. ShowsBad g image b ↔ ((x || failed_in g.pages log b) ≡ true)) (same b lt) (f.bad b lt);
     wear = λ b lt. omega (arith, f.wear b lt, worn b lt);
+    renewed = f.renewed;
   }
 
   fair_as : (capacity next : ℕ) (old : runs.DeviceView) (before : List Operation) (events : List Event) (calls : List Exchange) → AreFair (first_by g p u capacity next) old before events calls → AreFair (first_by g q v capacity next) old before events calls
@@ -116,6 +117,7 @@ module _ (g : Geometry) (p q : ℕ → Bool) (u v : ℕ → ℕ) (same : (b : �
           reads = its.reads;
           pins = its.pins;
           stopped = its.stopped;
+          versions = its.versions;
           rescues = λ is done. rescues_as g (bad_of g.pages p before) (bad_of g.pages q before) (λ b lt. ap (λ x. x || failed_in g.pages before b) (same b lt)) e.piece old.flash.image e.left.flash.image (its.rescues is done);
           quiet = λ is done. twelve_as g (bad_of g.pages p before) (bad_of g.pages q before) (λ b lt. ap (λ x. x || failed_in g.pages before b) (same b lt)) e.piece e.left.flash.image (its.quiet is done);
         },

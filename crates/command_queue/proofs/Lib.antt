@@ -6,3 +6,4 @@ pub mod ToldLemmas
 pub mod LoopLemmas
 pub mod AcceptedLemmas
 pub mod TurnsLemmas
+pub mod AskedLemmas

@@ -7,6 +7,9 @@ use Rattle.page_layout.specs.declared.geometry.Geometry.{Geometry}
 use Rattle.page_layout.specs.Page.{Image, Page}
 use Rattle.page_layout.specs.Flash.{Flash, Operation, Leads}
 use Rattle.page_layout.specs.Recording.{Recording, Records}
+use Rattle.page_layout.specs.declared.record.Key.TheVariants.{Table}
+use Rattle.page_layout.specs.Sound.{version_for}
+use Rattle.page_layout.specs.Version.{is_old, AddsNoOld}
 use Rattle.collection.proofs.Logs.{records_none}
 use Rattle.ftl_device.specs.Stopped.{SurvivesStops}
 use Rattle.page_layout.specs.Array.{array_of}
@@ -157,6 +160,7 @@ module _ {N : Type 0} (flash : N → Flash) (recorded : N → Option Recording) 
     step = is;
     went = went_none (ram old.engine) (ram new.engine) (flash old.engine.nand) (flash new.engine.nand) (recorded old.engine.nand) (recorded new.engine.nand) (leaves_mapping n result (ram old.engine) (ram new.engine) p q bytes leaves ne) kept still;
     stopped = survives;
+    versions = subst (λ (f : Flash). AddsNoOld old.engine.geometry (image_in flash old.engine) f.image) (sym kept) (λ two key row at. at);
     stale = λ any. no_memory result of_read;
     shown = λ bad next before bads spent. read_shown old.engine.geometry bad next before [] old.read_only (image_in flash new.engine) n bytes (state_in flash old) (state_in flash new) result of_read is ne;
     flushed = λ is. (let no : ⊥ = cc in absurd no);
@@ -180,9 +184,10 @@ module _ {N : Type 0} (flash : N → Flash) (recorded : N → Option Recording) 
 
     -- a call that may change sectors
     pub changed : (command : step.Command) (bytes : List ℕ) → is_read command ≡ false → (is_turn command ≡ true → OnOk result (HasRescued (ram old.engine) (ram new.engine))) → (is_turn command ≡ true → OnOk result (HasTurned (ram old.engine) (ram new.engine))) → (is_flush command ≡ true → result ≡ Ok tt → IsFlushedOut (first_of (ram old.engine)) w.log (image_in flash new.engine)) → (new.read_only ≡ true → IsLeft command old.engine.geometry (is_bad_by (ram old.engine)) [] w.log old.read_only result) → NoDamage result → (needs_no_memory (is_some old.engine.pinned) old.engine.geometry (image_in flash old.engine) command ≡ true → result ≢ Err OutOfMemory) → ArrayStep old.engine.geometry (state_in flash old) command (answer_to command bytes result) (state_in flash new)
-        → SurvivesStops old.engine.geometry old.engine.mapping.capacity command result (image_in flash old.engine) (image_in flash new.engine) (recorded new.engine.nand) w.log → Happened flash recorded old (record { command = command; result = result; bytes = bytes }) new
-    changed command bytes no_read rescued turned flushed left is stale whole survives = record {
+        → SurvivesStops old.engine.geometry old.engine.mapping.capacity command result (image_in flash old.engine) (image_in flash new.engine) (recorded new.engine.nand) w.log → AddsNoOld old.engine.geometry (image_in flash old.engine) (image_in flash new.engine) → Happened flash recorded old (record { command = command; result = result; bytes = bytes }) new
+    changed command bytes no_read rescued turned flushed left is stale whole survives versions = record {
       stopped = survives;
+      versions = versions;
       flushed = flushed;
       reads = λ read. (let no : ⊥ = cc in absurd no);
       rescues = λ turn done. rescued_so (subst (λ r. OnOk r (HasRescued (ram old.engine) (ram new.engine))) done (rescued turn));
@@ -196,7 +201,7 @@ module _ {N : Type 0} (flash : N → Flash) (recorded : N → Option Recording) 
 
 -- ---- one more event
 
-follows_then : (pages : ℕ) (xs ys : List Operation) (a b c : State) → Follows pages xs a b → Follows pages ys b c → Follows pages (xs ++ ys) a c
+pub follows_then : (pages : ℕ) (xs ys : List Operation) (a b c : State) → Follows pages xs a b → Follows pages ys b c → Follows pages (xs ++ ys) a c
 follows_then pages xs ys a b c before after = record {
   legal = λ accounts s. legal_append pages accounts xs ys (before.legal accounts s) (after.legal (accounted_all pages accounts xs) (before.accounted accounts s));
   accounted = λ accounts s. rw (accounts_join pages accounts xs ys) (after.accounted (accounted_all pages accounts xs) (before.accounted accounts s));
@@ -231,6 +236,7 @@ flushed_then a b c xs ys image same most wears here there f = record {
       let first : wear_at b.blocks.table k ≡ min (wear_at a.blocks.table k + passed_erases_of xs k) most_wear = wears.worn k (most k) in
       let second : erase_count b.geometry image k ≡ min (wear_at b.blocks.table k + passed_erases_of ys k) most_wear = f.wear k lt in
       omega (arith, (counts a.geometry.pages k xs ys).passed_erases_at));
+  renewed = subst (λ (g : Geometry). version_for g ≡ 2 → (u : ℕ) → is_old image (Table u) ≡ false) same f.renewed;
 }
 
 -- with the last image, the last device and the last log
@@ -293,6 +299,7 @@ module _ {N : Type 0} (flash : N → Flash) (recorded : N → Option Recording) 
     stale = λ need e. h.stale (subst (λ (g : Geometry). needs_no_memory (is_some mid.engine.pinned) g (image_in flash mid.engine) x.command ≡ true) (sym sized) need) e;
     mountable = λ most. mountable_after flash old.engine new new.engine refl (sized' ∙ sized) limits safe' well most;
     reads = h.reads;
+    versions = subst (λ (g : Geometry). AddsNoOld g (image_in flash mid.engine) (image_in flash new.engine)) sized h.versions;
     pins = λ none some. pins_so mid.engine.pinned new.engine.pinned (is_turn x.command) (MayPin x.result) tells.pins none some;
     stopped =
         let P : Geometry → ℕ → Type 0 = λ g c. SurvivesStops g c x.command x.result (image_in flash mid.engine) (image_in flash new.engine) (recorded new.engine.nand) h.went.log in

@@ -5,3 +5,4 @@ pub mod Tells
 pub mod Run
 pub mod Told
 pub mod Turns
+pub mod Asked

@@ -4,6 +4,7 @@ use Rattle.std.specs.Prelude.{Ok, Err}
 use Rattle.page_layout.specs.declared.geometry.Geometry.{Geometry}
 use Rattle.page_layout.specs.Flash.{Flash, Operation}
 use Rattle.page_layout.specs.Recording.{Recording}
+use Rattle.page_layout.specs.Version.{AddsNoOld}
 use Rattle.certificate.specs.Claim.{Claim}
 use Rattle.image_check.specs.Mountable.{IsMountable}
 use Rattle.image_check.specs.Stale.{stale_sectors}
@@ -32,7 +33,7 @@ use Rattle.command_queue.specs.Tells.{die_in, Happened, Tells}
 -- the image has a certificate. A read programs and erases nothing and leaves the device as it was, and a turn that is done rescues pages from
 -- bad blocks, and leaves twelve free where it does nothing and enough are good. A block is pinned afterwards only where one was before, by a turn, or by a call after which no sector is changed any more. And
 -- where the die tells a record as the event ends, a stop at any moment in it leaves an image that mounts, with the array before it or, of a
--- write or trim that is done, the one after it: so whatever was answered stays.
+-- write or trim that is done, the one after it: so whatever was answered stays. Where the die has version 2 no newest page of version 1 is added.
 pub record IsFair (first : First) (old : runs.DeviceView) (before : List Operation) (event : Event) (x : Exchange) : Type 0 where
   pub shown : (fault : DeviceFault) → x.result ≡ Err fault → IsShown first.geometry first.bad first.next before event.piece old.ro event.left.flash.image fault
   pub left : event.left.ro ≡ true → IsLeft x.command first.geometry first.bad before event.piece old.ro x.result
@@ -44,6 +45,7 @@ pub record IsFair (first : First) (old : runs.DeviceView) (before : List Operati
   pub quiet : is_turn x.command ≡ true → x.result ≡ Ok tt → LeavesTwelve first.geometry (bad_of first.geometry.pages first.bad before) event.piece event.left.flash.image
   pub pins : old.pinned ≡ false → event.left.pinned ≡ true → (is_turn x.command ≡ true) ⊎ MayPin x.result
   pub stopped : SurvivesStops first.geometry first.capacity x.command x.result old.flash.image event.left.flash.image event.told event.piece
+  pub versions : AddsNoOld first.geometry old.flash.image event.left.flash.image
 
 -- and so of all of them, each with the log up to it
 abbrev pub AreFair : First → runs.DeviceView → List Operation → List Event → List Exchange → Type 0

@@ -5,6 +5,7 @@ use Rattle.std.specs.Option.{ForSome}
 use Rattle.page_layout.specs.Counter.{HasRisen}
 use Rattle.page_layout.specs.Flash.{Flash, Operation}
 use Rattle.page_layout.specs.Recording.{Recording}
+use Rattle.page_layout.specs.Version.{AddsNoOld}
 use Rattle.mapping_cache.specs.Mapping.{HasLimitsOf}
 use Rattle.allocation.specs.State.{free_count}
 use Rattle.promises.specs.Step as step
@@ -35,7 +36,8 @@ die_in flash d = record { flash = flash d.engine.nand; ro = d.read_only; pinned 
 -- ---- one call
 
 -- What was answered to a command is a step from the array before to the array after; one log leads from the one image to the other, and a
--- refusal shows what it says for every longer log that ends with it. A stop at any moment of it leaves either array.
+-- refusal shows what it says for every longer log that ends with it. A stop at any moment of it leaves either array. Where the die has version 2 no
+-- newest page of version 1 is added.
 pub record Happened {N : Type 0} (flash : N → Flash) (recorded : N → Option Recording) (old : Device N) (x : Exchange) (new : Device N) : Type 0 where
   pub step : ArrayStep old.engine.geometry (state_in flash old) x.command (reply_in x) (state_in flash new)
   pub went : Went (ram old.engine) (flash old.engine.nand) (recorded old.engine.nand) (ram new.engine) (flash new.engine.nand) (recorded new.engine.nand)
@@ -49,6 +51,7 @@ pub record Happened {N : Type 0} (flash : N → Flash) (recorded : N → Option 
   pub rescues : is_turn x.command ≡ true → x.result ≡ Ok tt → Rescues old.engine.geometry (is_bad_by (ram old.engine)) went.log (image_in flash old.engine) (image_in flash new.engine)
   pub quiet : is_turn x.command ≡ true → x.result ≡ Ok tt → LeavesTwelve old.engine.geometry (is_bad_by (ram old.engine)) went.log (image_in flash new.engine)
   pub stopped : SurvivesStops old.engine.geometry old.engine.mapping.capacity x.command x.result (image_in flash old.engine) (image_in flash new.engine) (recorded new.engine.nand) went.log
+  pub versions : AddsNoOld old.engine.geometry (image_in flash old.engine) (image_in flash new.engine)
 
 -- WHAT THE CONTRACT OF A TURN SAYS (`Device::turn`). It is refused by a device that is read-only or has no sequence. One that is done has made room,
 -- and then rescued a page from a bad block, or gone on with a collection, or found nothing to do. Where the die is honest, it has

@@ -1,4 +1,5 @@
 ghost use Rattle.command_queue.specs.Turns.{TurnsInARowLaw, QuietTurnLaw, QuietEventLaw};
+ghost use Rattle.command_queue.specs.Asked.{ToldAskedLaw, AskedJoinLaw, AskedRunLaw, AskedForwardLaw};
 
 use onfi_cycles::Nand;
 
@@ -10,4 +11,16 @@ pub fn turn_run_laws<N: Nand>()
     ensures row { TurnsInARowLaw N.flash N.recorded N.honest N.failed N.erases }
     ensures quiet { QuietTurnLaw N.flash N.recorded N.honest N.failed N.erases }
     ensures event { QuietEventLaw }
+{}
+
+/// Calls of a device one after another, commands that it was told and calls of `migrate_one` in any order:
+/// what `run` was told is such a list, and two of them in a row are one. Where the die is honest and gave
+/// every outcome, their answers are one run of the array, their logs are one legal log, and a stop at any
+/// moment of a call leaves either array. And where it has room for records of version 2, no newest page is
+/// of version 1 once `migrate_one` has answered `false` and a later flush was done. (This project.)
+pub fn asked_laws<N: Nand>()
+    ensures told { ToldAskedLaw N.flash N.recorded N.honest N.calm N.failed N.erases }
+    ensures join { AskedJoinLaw N.flash N.recorded N.honest N.calm N.failed N.erases }
+    ensures run { AskedRunLaw N.flash N.recorded N.honest N.calm N.failed N.erases }
+    ensures forward { AskedForwardLaw N.flash N.recorded N.honest N.calm N.failed N.erases }
 {}

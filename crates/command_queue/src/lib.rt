@@ -6,5 +6,5 @@ mod laws;
 mod queue;
 
 pub use command::{Call, Command};
-pub use laws::turn_run_laws;
-pub use queue::{run, run_accepted, tell};
+pub use laws::{asked_laws, turn_run_laws};
+pub use queue::{migrate, run, run_accepted, tell};

@@ -12,6 +12,7 @@ ghost use Rattle.command_queue.specs.Exchanges.{exchanges_of, AreKnown};
 ghost use Rattle.command_queue.specs.Commands.{KeepsBytes, HaveKept};
 ghost use Rattle.command_queue.specs.Exchanges.{Stops, StaysStopped};
 ghost use Rattle.command_queue.specs.Tells.{Happened, Tells, TakesIfTurn};
+ghost use Rattle.command_queue.specs.Asked.{MigratesOne};
 ghost use Rattle.command_queue.specs.Told.{WasTold, ToldFrom, Until, RunsFrom};
 
 use crate::command::{Call, Command};
@@ -62,6 +63,19 @@ pub fn tell<N: Nand>(
         Command::Flush => device.flush(),
         Command::Turn => device.turn(),
     }
+}
+
+/// Brings one page of version 1 forward, as `Device::migrate_one` does, and says of it what a list of
+/// calls needs.
+///
+/// # Errors
+///
+/// Those of `Device::migrate_one`. (This project.)
+pub fn migrate<N: Nand>(device: &mut Device<N>) -> Result<bool, DeviceFault>
+    requires device { IsDevice N.flash device.old }
+    ensures migrates { MigratesOne N.flash N.recorded N.honest N.calm N.failed device.old result device.new }
+{
+    device.migrate_one()
 }
 
 /// Tells the device a list of commands, one after another, and puts its answer to each. A read

@@ -9,6 +9,7 @@ use Rattle.page_layout.specs.Page.{Image}
 use Rattle.page_layout.specs.Flash.{Flash}
 use Rattle.page_layout.specs.Recording.{Recording}
 use Rattle.page_layout.specs.Array.{array_of}
+use Rattle.page_layout.specs.Version.{AddsNoOld}
 use Rattle.page_layout.specs.Counter.{HasRisen}
 use Rattle.bad_blocks.specs.Table.{good_count}
 use Rattle.allocation.specs.State.{free_count}
@@ -133,6 +134,16 @@ changed_or g n bytes command its before after new q good (Err (call.Engine engin
 changed_or g n bytes command its before after new q good (Err (call.Engine engine_fault.Bus)) h ne = absurd (ne refl)
 changed_or g n bytes command its before after new q good (Err call.OutOfMemory) h ne = inl h.array
 
+-- whatever it is answered, no newest page of version 1 is added
+changed_versions : (g : Geometry) (n : ℕ) (bytes : List ℕ) (before after : Image) (new q : Ram) (good : ℕ) (answer : Result (Unit {0}) CallFault) → MatchResult answer (λ _. HoldsSector g n bytes before new after) (CallRefused g before new after)
+    → answer_of q good answer ≢ Err BusFault → AddsNoOld g before after
+changed_versions g n bytes before after new q good (Ok done) h ne = h.versions
+changed_versions g n bytes before after new q good (Err (call.Engine engine_fault.ReadOnly)) h ne = h.versions
+changed_versions g n bytes before after new q good (Err (call.Engine engine_fault.SequenceSpent)) h ne = h.versions
+changed_versions g n bytes before after new q good (Err (call.Engine engine_fault.Damaged)) h ne = absurd h
+changed_versions g n bytes before after new q good (Err (call.Engine engine_fault.Bus)) h ne = absurd (ne refl)
+changed_versions g n bytes before after new q good (Err call.OutOfMemory) h ne = h.versions
+
 no_flush_is : (command : Command) → is_flush command ≡ false → (P : Type 0) → is_flush command ≡ true → P
 no_flush_is command off P its = (let no : ⊥ = cc in absurd no)
 
@@ -194,6 +205,7 @@ module _ {N : Type 0} (flash : N → Flash) (recorded : N → Option Recording) 
         record {
           step = takes _ _ (step_of old.engine.geometry new.engine.geometry n bytes (image_in flash old.engine) (image_in flash new.engine) (ram old.engine) (ram new.engine) old.read_only new.read_only good_then may.within may.writable device'.read_only ends.geometry answer ends.tells (truth is_honest known) ne);
           well = after;
+          versions = changed_versions old.engine.geometry n bytes (image_in flash old.engine) (image_in flash new.engine) (ram new.engine) (ram new.engine) good_then answer (truth is_honest known) ne;
           mountable = λ most. mountable_after flash old.engine new new.engine refl ends.geometry ends.limits device'.engine.memory after most;
         }
 
@@ -332,6 +344,7 @@ module _ {N : Type 0} (flash : N → Flash) (recorded : N → Option Recording) 
     means = λ is_honest well ne. record {
       step = takes _ _ (step_refusal (ram old.engine) old.read_only n old.engine.geometry (array_of old.engine.geometry (image_in flash old.engine)) bytes fault refl not well.going);
       well = well;
+      versions = λ two key row at. at;
       mountable = λ most. restart_law (ram old.engine) _ device.engine.memory well.truth most;
     };
     stale = λ is_honest well unpinned is e. absurd (never_memory (ram old.engine) old.read_only n fault not e);

@@ -5,6 +5,8 @@ use Rattle.page_layout.specs.declared.geometry.Geometry.{Geometry}
 use Rattle.page_layout.specs.Page.{Image}
 use Rattle.page_layout.specs.Flash.{Flash, Operation}
 use Rattle.page_layout.specs.Recording.{Recording}
+use Rattle.page_layout.specs.Geometry.{table_pages}
+use Rattle.page_layout.specs.Array.{HasOneArray}
 use Rattle.bad_blocks.specs.Table.{good_count, wear_at, most_wear}
 use Rattle.promises.specs.Log.{bad_of, passed_erases_of}
 use Rattle.promises.specs.Step.{Command}
@@ -24,10 +26,11 @@ use Rattle.ftl_device.specs.declared.fault.DeviceFault.TheVariants.{OutOfRange, 
 use Rattle.ftl_device.specs.Calls.{stop_of, PinIsTrue, KeepsArray, CallRefused, CallTells, standing_after, answer_of}
 use Rattle.ftl_device.specs.Counts.{is_bad_by, IsShown, IsLeft}
 use Rattle.ftl_device.specs.Shortage.{CallShort, FlushShort}
-use Rattle.ftl_device.specs.Flush.{IsFlushed, MayNotFlush, ShowsBad, first_of, IsFlushedOut}
+use Rattle.ftl_device.specs.Flush.{IsFlushed, HasNewTables, MayNotFlush, ShowsBad, first_of, IsFlushedOut}
 use Rattle.ftl_device.proofs.CallLemmas.{well_ram, pin_at}
 use Rattle.ftl_device.proofs.CountLemmas.{short_law, bad_now_law}
 use Rattle.ftl_device.proofs.ShownLemmas.{shown_after}
+use Rattle.ftl_device.proofs.RenewedLemmas.{tables_new}
 use Rattle.ftl_device.proofs.FlushLemmas.{fresh_law, anywhere_law, shown_bad_law, shown_wear_law}
 
 pub flush_well : (answer : Result (Unit {0}) CallFault) (result : Result (Unit {0}) DeviceFault) (good : ℕ) (g : Geometry) (before after : Image) (r q : Ram) → r.fault ≡ standing_after answer → result ≡ answer_of q good answer → result ≢ Err BusFault → MatchResult answer (λ _. KeepsArray g before r after) (CallRefused g before r after) → (stop_of r.fault ≡ None) × IsTrue None r after × PinIsTrue r.fault r after
@@ -87,11 +90,12 @@ shows_bad old r s t same before safe truth f w b lt =
 
 -- all of it, by the log that led there
 pub flushed_out : (answer : Result (Unit {0}) CallFault) (old r : Ram) (s t : Flash) {told told' : Option Recording} → r.geometry ≡ old.geometry → IsRam old → IsRam r → IsTrue None old s.image → MatchResult answer (λ _. KeepsArray old.geometry s.image r t.image) (CallRefused old.geometry s.image r t.image) → OnOk answer (IsFlushed r t.image)
-    → (w : Went old s told r t told') → OnOk answer (IsFlushedOut (first_of old) w.log t.image)
-flushed_out (Ok done) old r s t same before safe known h f w = record {
+    → OnOk answer (HasNewTables (table_pages old.geometry) old.geometry t.image) → (w : Went old s told r t told') → OnOk answer (IsFlushedOut (first_of old) w.log t.image)
+flushed_out (Ok done) old r s t same before safe known h f new w = record {
   anywhere = goes_anywhere old.geometry r t.image same safe h.truth.truth f;
   fresh = is_fresh old.geometry r t.image same h.truth.truth f;
   bad = shows_bad old r s t same before safe h.truth.truth f w;
   wear = shows_wear old r s t same known safe h.truth.truth f w;
+  renewed = λ two. tables_new old.geometry t.image (subst (λ g. HasOneArray g t.image) same h.truth.truth.one) new two;
 }
-flushed_out (Err fault) old r s t same before safe known h f w = tt
+flushed_out (Err fault) old r s t same before safe known h f new w = tt

@@ -1,11 +1,14 @@
 -- What the steps of a flush keep, one after another.
 use Rattle.std.proofs.Common.{MatchResult}
-use Rattle.std.proofs.Common.{◌≡◌, inl, inr, ℕ, ◌+◌, ◌*◌, ◌/◌, ◌<◌, ◌≤◌, None, refl, sym, ap, subst, ◌∙◌, arith, Result, Err, Ok, OnOk}
+use Rattle.std.proofs.Common.{◌≡◌, inl, inr, ℕ, ◌+◌, ◌*◌, ◌/◌, ◌<◌, ◌≤◌, false, None, refl, sym, ap, subst, ◌∙◌, arith, Result, Err, Ok, OnOk}
 use Rattle.std.proofs.lemmas.Bool.{cases_eq}
 use Rattle.page_layout.specs.declared.geometry.Geometry.{Geometry}
 use Rattle.page_layout.specs.Page.{Image}
 use Rattle.page_layout.specs.Geometry.{entries, translation_pages, table_pages}
 use Rattle.page_layout.specs.Array.{array_of}
+use Rattle.page_layout.specs.declared.record.Key.TheVariants.{Table}
+use Rattle.page_layout.specs.Sound.{version_for}
+use Rattle.page_layout.specs.Version.{is_old}
 use Rattle.bad_blocks.specs.Table.{good_count}
 use Rattle.budget.specs.Counts.{Counts, Fits}
 use Rattle.budget.specs.Spending.{Spending}
@@ -30,17 +33,18 @@ use Rattle.ftl_device.specs.declared.fault.CallFault.TheVariants.{Engine}
 use Rattle.collection.specs.Left.{LeavesPin}
 use Rattle.ftl_device.specs.Calls.{Knows, KeepsArray, CallRefused}
 use Rattle.ftl_device.proofs.PinLemmas.{keeps_beside, refused_beside}
-use Rattle.ftl_device.specs.Flush.{IsClean, KeepsClean, KeepsTables, AddsPages, FailsAmong, RunsOut, SpellsAll, WritesTables, IsFlushed}
+use Rattle.ftl_device.proofs.RenewedLemmas.{adds_then, still_new}
+use Rattle.ftl_device.specs.Flush.{IsClean, KeepsClean, KeepsTables, HasNewTables, AddsPages, FailsAmong, RunsOut, SpellsAll, WritesTables, IsFlushed}
 
 pub keeps_same : (r : Ram) (image : Image) → Knows r image → KeepsArray r.geometry image r image
-keeps_same r image w = record { truth = w; array = refl }
+keeps_same r image w = record { truth = w; array = refl; versions = λ two key row at. at }
 
 pub keeps_then : (g : Geometry) (b c : Ram) (x y z : Image) → b.geometry ≡ g → KeepsArray g x b y → KeepsArray b.geometry y c z → KeepsArray g x c z
-keeps_then g b c x y z same k l = record { truth = l.truth; array = (let P : Geometry → Type 0 = λ h. array_of h z ≡ array_of h y in subst P same l.array ∙ k.array) }
+keeps_then g b c x y z same k l = record { truth = l.truth; array = (let P : Geometry → Type 0 = λ h. array_of h z ≡ array_of h y in subst P same l.array ∙ k.array); versions = adds_then g b.geometry x y z same k.versions l.versions }
 
 pub keeps_refused : (g : Geometry) (b c : Ram) (x y z : Image) (fault : WriteFault) → b.geometry ≡ g → KeepsArray g x b y → CallRefused b.geometry y c z (Engine fault) → CallRefused g x c z (Engine fault)
-keeps_refused g b c x y z ReadOnly same k l = record { truth = l.truth; array = (let P : Geometry → Type 0 = λ h. array_of h z ≡ array_of h y in subst P same l.array ∙ k.array) }
-keeps_refused g b c x y z SequenceSpent same k l = record { truth = l.truth; array = (let P : Geometry → Type 0 = λ h. array_of h z ≡ array_of h y in subst P same l.array ∙ k.array); few = l.few }
+keeps_refused g b c x y z ReadOnly same k l = record { truth = l.truth; array = (let P : Geometry → Type 0 = λ h. array_of h z ≡ array_of h y in subst P same l.array ∙ k.array); versions = adds_then g b.geometry x y z same k.versions l.versions }
+keeps_refused g b c x y z SequenceSpent same k l = record { truth = l.truth; array = (let P : Geometry → Type 0 = λ h. array_of h z ≡ array_of h y in subst P same l.array ∙ k.array); versions = adds_then g b.geometry x y z same k.versions l.versions; few = l.few }
 keeps_refused g b c x y z Damaged same k l = l
 keeps_refused g b c x y z Bus same k l = tt
 
@@ -74,7 +78,7 @@ pages_more k a b c same x h = record {
 }
 
 pub tables_none : (r : Ram) (image : Image) → Knows r image → KeepsTables 0 r image r image
-tables_none r image w = record { keeps = keeps_same r image w; tables = λ as_many u lt. absurd (omega arith) }
+tables_none r image w = record { keeps = keeps_same r image w; tables = λ as_many u lt. absurd (omega arith); renewed = λ two u lt. absurd (omega arith) }
 
 pub tables_more : (k : ℕ) (a b c : Ram) (x y z : Image) → b.geometry ≡ a.geometry → IsRam b → IsRam c → LeavesPin b c → KeepsTable a.blocks b.blocks → KeepsTable b.blocks c.blocks → KeepsTables k a x b y → IsTabled k b y c z → KeepsTables (k + 1) a x c z
 tables_more k a b c x y z same s s' beside before after h t = record {
@@ -89,6 +93,12 @@ tables_more k a b c x y z same s s' beside before after h t = record {
             let was : SpellsTable b.geometry b.blocks.table y u = subst (λ g. SpellsTable g b.blocks.table y u) (sym same) (h.tables first u (omega arith)) in
             let is : SpellsTable b.geometry b.blocks.table z u = t.others u b.blocks.table other was in
             subst (λ r. SpellsTable a.geometry r z u) (sym rows) (subst (λ g. SpellsTable g b.blocks.table z u) same is)
+      ];
+  renewed = λ two u lt.
+      let here : version_for b.geometry ≡ 2 = ap version_for same ∙ two in
+      elim (cases_eq u k) [
+        | inl last ↦ subst (λ v. is_old z (Table v) ≡ false) (sym last) (t.renewed here)
+        | inr other ↦ still_new b.geometry y z (Table u) here t.same.leaves.versions (h.renewed two u (omega arith))
       ];
 }
 
@@ -120,10 +130,11 @@ pub record HasRounds (good : ℕ) (old new : Ram) : Type 0 where
   pub few : rounds + good ≤ good_count old.blocks.table + 1
   pub account : Spending old.geometry.pages (counts_of old.blocks) (counts_of new.blocks) 0 (rounds * table_pages old.geometry)
 
--- where that many blocks are good, the newest table pages spell the table
+-- the newest table pages are new, and where that many blocks are good they spell the table
 pub record SpellsWhere (good : ℕ) (g : Geometry) (before : Image) (new : Ram) (after : Image) : Type 0 where
   pub keeps : KeepsArray g before new after
   pub tables : good_count new.blocks.table ≡ good → (u : ℕ) → u < table_pages g → SpellsTable g new.blocks.table after u
+  pub renewed : HasNewTables (table_pages g) g after
 
 pub first_round : (good : ℕ) (a b : Ram) → IsRam a → good ≡ good_count a.blocks.table → AddsPages (table_pages a.geometry) a b → HasRounds good a b
 first_round good a b s is x =
@@ -150,16 +161,17 @@ last_round good a b h ge =
     record { rounds = h.rounds; few = omega (arith, h.few); account = h.account; openings = omega (arith, h.few) }
 
 pub spells_first : (good : ℕ) (a b : Ram) (x y : Image) → good ≡ good_count a.blocks.table → KeepsTables (table_pages a.geometry) a x b y → SpellsWhere good a.geometry x b y
-spells_first good a b x y is h = record { keeps = h.keeps; tables = λ as_many. h.tables (as_many ∙ is) }
+spells_first good a b x y is h = record { keeps = h.keeps; tables = λ as_many. h.tables (as_many ∙ is); renewed = h.renewed }
 
 pub spells_next : (now : ℕ) (g : Geometry) (b c : Ram) (x y z : Image) → b.geometry ≡ g → now ≡ good_count b.blocks.table → KeepsArray g x b y → KeepsTables (table_pages b.geometry) b y c z → SpellsWhere now g x c z
 spells_next now g b c x y z same is k h = record {
   keeps = keeps_then g b c x y z same k h.keeps;
   tables = λ as_many. subst (λ j. (u : ℕ) → u < table_pages j → SpellsTable j c.blocks.table z u) same (h.tables (as_many ∙ is));
+  renewed = subst (λ j. HasNewTables (table_pages j) j z) same h.renewed;
 }
 
 pub spells_last : (good : ℕ) (g : Geometry) (x : Image) (b : Ram) (y : Image) → SpellsWhere good g x b y → good ≤ good_count b.blocks.table → good_count b.blocks.table ≤ good → SpellsAll g x b y
-spells_last good g x b y h le ge = record { keeps = h.keeps; tables = h.tables (omega arith) }
+spells_last good g x b y h le ge = record { keeps = h.keeps; tables = h.tables (omega arith); renewed = h.renewed }
 
 -- ---- no block is left
 

@@ -27,5 +27,6 @@ pub mod EndLemmas
 pub mod LeaveLemmas
 pub mod ChangeLemmas
 pub mod MigrateLemmas
+pub mod RenewedLemmas
 pub mod UpkeepLemmas
 pub mod StoppedLemmas

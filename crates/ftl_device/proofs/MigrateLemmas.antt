@@ -6,10 +6,8 @@ use Rattle.page_layout.specs.declared.record.Key.{Key}
 use Rattle.page_layout.specs.Page.{Image}
 use Rattle.page_layout.specs.Sound.{version_for}
 use Rattle.page_layout.specs.Newest.{newest}
-use Rattle.page_layout.specs.Live.{IsKeyOf}
 use Rattle.page_layout.specs.Array.{marks, HasOneArray}
 use Rattle.page_layout.specs.Version.{is_old, HasOldAt}
-use Rattle.page_layout.proofs.NewestLemmas.{newest-record}
 use Rattle.page_layout.proofs.VersionLemmas.{old_at, old_from, fewer_old}
 use Rattle.collection.specs.State.{Ram}
 use Rattle.collection.specs.Collect.{IsRearranged}
@@ -35,6 +33,7 @@ use Rattle.ftl_device.specs.Changes.{Leaves, Ends}
 use Rattle.ftl_device.proofs.FlushLoops.{keeps_same, limits_then}
 use Rattle.ftl_device.proofs.StoppedLemmas.{KeepsOn, stops_on}
 use Rattle.ftl_device.specs.Migrate.{Renews, Migrates}
+use Rattle.ftl_device.proofs.RenewedLemmas.{key_within}
 
 pub renews_by : (a b c : Ram) (x y z : Image) (row : ℕ) → b.geometry ≡ a.geometry → IsRearranged a x b y → IsRenewedAt row b y c z → Renews row a.geometry x z
 renews_by a b c x y z row same room one = record {
@@ -52,11 +51,6 @@ none_old g before after none key no_table = elim (cases_Bool (is_old after key))
 
 one_row : (image : Image) (key : Key) (a b : ℕ) → newest (marks image) key ≡ Some a → newest (marks image) key ≡ Some b → a ≡ b
 one_row image key a b x y = (let e : Some a ≡ Some b = sym x ∙ y in cc)
-
-key_within : (g : Geometry) (image : Image) (key : Key) (row : ℕ) → HasOneArray g image → newest (marks image) key ≡ Some row → IsKeyOf g key
-key_within g image key row one is =
-    let found = newest-record (marks image) key row is in
-    subst (IsKeyOf g) found.2 (one.in_range row found.0 found.1)
 
 pub one_fewer : (g : Geometry) (before after : Image) (row : ℕ) → HasOneArray g before → HasDue row before → Renews row g before after → Migrates true g before after
 one_fewer g before after row one due renews two =

@@ -50,11 +50,11 @@ module _ (a b : Ram) (x y : Image) (s : IsRam a) (t : IsRam b) (l : LeavesPin a 
   few_beside truth leaves = few_more b (few_law 0 a b x y s t k.truth truth k.calm l leaves k.few)
 
   pub keeps_beside : IsSame a x b y → KeepsArray a.geometry x b y
-  keeps_beside same = record { truth = knows_beside same.truth same.leaves; array = same.array }
+  keeps_beside same = record { truth = knows_beside same.truth same.leaves; array = same.array; versions = same.leaves.versions }
 
   pub refused_beside : (fault : WriteFault) → Refused a x b y fault → CallRefused a.geometry x b y (EngineFault fault)
-  refused_beside ReadOnly r = record { truth = r.truth; array = r.array }
-  refused_beside SequenceSpent r = record { truth = r.truth; array = r.array; few = few_beside r.truth r.leaves }
+  refused_beside ReadOnly r = record { truth = r.truth; array = r.array; versions = r.leaves.versions }
+  refused_beside SequenceSpent r = record { truth = r.truth; array = r.array; versions = r.leaves.versions; few = few_beside r.truth r.leaves }
   refused_beside Damaged r = r
   refused_beside Bus r = tt
 

@@ -75,7 +75,7 @@ module _ (c d : Ram) (fault : Option WriteFault) (is : d ≡ record c { fault = 
       → MatchResult result (λ row. IsFound n row g x d u.image) (λ f. CallRefused g x d u.image (EngineFault f))
   found_after (Ok row) n g x t u keeps same row_is =
       let unread : u ≡ t = same (λ e. (let no : ⊥ = cc in no)) in
-      subst (λ (s : Flash). IsFound n row g x d s.image) (sym unread) (record { keeps = record { truth = knows_found t.image keeps.truth; array = keeps.array }; row_is = row_is })
+      subst (λ (s : Flash). IsFound n row g x d s.image) (sym unread) (record { keeps = record { truth = knows_found t.image keeps.truth; array = keeps.array; versions = keeps.versions }; row_is = row_is })
   found_after (Err ReadOnly) n g x t u keeps same of_bus = (let no : ⊥ = cc in absurd no)
   found_after (Err SequenceSpent) n g x t u keeps same of_bus = (let no : ⊥ = cc in absurd no)
   found_after (Err Damaged) n g x t u keeps same of_bus = (let no : ⊥ = cc in absurd no)
@@ -113,4 +113,4 @@ module _ {N : Type 0} (e f : Engine N) (n : ℕ) (row : Option ℕ) (is : f ≡ 
   keeps_loaded flash g before s t kept truth =
       let same : image_in flash f ≡ image_in flash e = ap (λ (x : Engine N). image_in flash x) is in
       let knows : Knows (ram f) (image_in flash e) = knows_beside (ram e) (ram f) _ _ s t beside_now kept.truth truth (leaves_same (ram e) (image_in flash e) (image_in flash e) refl) in
-      subst (λ i. KeepsArray g before (ram f) i) (sym same) (record { truth = knows; array = kept.array })
+      subst (λ i. KeepsArray g before (ram f) i) (sym same) (record { truth = knows; array = kept.array; versions = kept.versions })

@@ -10,6 +10,7 @@ use Rattle.std.proofs.lemmas.Map.{lookup-none}
 use Rattle.std.proofs.lemmas.Map.Keys.{IsDistinct-head, IsDistinct-tail}
 use Rattle.std.proofs.lemmas.List.{length-map}
 use Rattle.std.proofs.lemmas.Option.{slice_get-map}
+use Rattle.ftl_device.proofs.RenewedLemmas.{adds_then}
 use Rattle.page_layout.specs.declared.geometry.Geometry.{Geometry}
 use Rattle.page_layout.specs.declared.record.Kind.{Kind}
 use Rattle.page_layout.specs.Page.{Image}
@@ -153,4 +154,5 @@ written_ready g n kind body mid new before between after same s t beside kept wr
   truth = knows_beside mid new between after s t beside kept.truth written.truth written.leaves;
   array = ap (λ h. array_of h after) (sym same) ∙ (written.array
       ∙ (ap (λ h. slice_set (array_of h between) n (content_of_kind h kind body)) same ∙ ap (λ xs. slice_set xs n (content_of_kind g kind body)) kept.array));
+  versions = adds_then g mid.geometry before between after same kept.versions written.leaves.versions;
 }

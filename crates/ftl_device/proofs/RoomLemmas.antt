@@ -102,11 +102,11 @@ ok_any (Err fault) p = tt
 -- ---- the array stays
 
 pub keeps_room : (a b : Ram) (x y : Image) → IsRearranged a x b y → Knows b y → KeepsArray a.geometry x b y
-keeps_room a b x y r k = record { truth = k; array = r.array }
+keeps_room a b x y r k = record { truth = k; array = r.array; versions = r.versions }
 
 pub refused_room : (a b : Ram) (x y : Image) (fault : WriteFault) → RoomRefused a x b y fault → (fault ≢ Bus → PinIsFew 0 b) → CallRefused a.geometry x b y (EngineFault fault)
-refused_room a b x y ReadOnly r few = record { truth = r.truth; array = r.array }
-refused_room a b x y SequenceSpent r few = record { truth = r.truth; array = r.array; few = few_more b (few (λ e. (let no : ⊥ = cc in no))) }
+refused_room a b x y ReadOnly r few = record { truth = r.truth; array = r.array; versions = r.versions }
+refused_room a b x y SequenceSpent r few = record { truth = r.truth; array = r.array; versions = r.versions; few = few_more b (few (λ e. (let no : ⊥ = cc in no))) }
 refused_room a b x y Damaged r few = r
 refused_room a b x y Bus r few = tt
 

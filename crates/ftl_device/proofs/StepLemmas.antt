@@ -8,6 +8,7 @@ use Rattle.page_layout.specs.Flash.{Flash}
 use Rattle.page_layout.specs.Recording.{Recording}
 use Rattle.page_layout.specs.Geometry.{vmax}
 use Rattle.page_layout.specs.Array.{marks, array_of}
+use Rattle.page_layout.specs.Version.{AddsNoOld}
 use Rattle.bad_blocks.specs.Table.{is_good_at, good_count}
 use Rattle.budget.specs.declared.stream.Stream.TheVariants.{Meta}
 use Rattle.allocation.specs.State.{State, is_closed, is_open, pointer_at, live_at, free_count}
@@ -144,7 +145,7 @@ step_less p a b x y step n m at h e s = by step refl
 
 module _ (p : Pinned) (a b : Ram) (x y : Image) (s : IsRam a) (t : IsRam b) (same : b.geometry ≡ a.geometry) (k : Knows a x) (at : a.pin.block ≡ Some p) where
   pub step_keeps : (step : Step) → IsCalm b → StepsOn false p a x b y step → KeepsArray a.geometry x b y
-  step_keeps step calm on = record { truth = record { truth = on.same.truth; calm = calm; passed = on.passed; few = on.few (k.few p at) }; array = on.same.array }
+  step_keeps step calm on = record { truth = record { truth = on.same.truth; calm = calm; passed = on.passed; few = on.few (k.few p at) }; array = on.same.array; versions = on.same.leaves.versions }
 
   pub step_bad : IsTrue None b y → Rattle.collection.specs.Results.Leaves a x y → KeepsBad a b
   step_bad truth leaves = λ j within bad. shut_fewer a b x y j s t same k.truth truth leaves within (bad_shut a.blocks j bad)
@@ -160,8 +161,8 @@ module _ (p : Pinned) (a b : Ram) (x y : Image) (s : IsRam a) (t : IsRam b) (sam
       record { within = (let lt = few.within in rw same lt); small = omega (arith, fewer, few.small, v); moved = omega (arith, fewer, few.moved, v, m) }
 
   pub step_refused : (fault : WriteFault) → b.pin.block ≡ a.pin.block → b.mapping ≡ a.mapping → Refused a x b y fault → CallRefused a.geometry x b y (EngineFault fault)
-  step_refused ReadOnly pin mapping r = record { truth = r.truth; array = r.array }
-  step_refused SequenceSpent pin mapping r = record { truth = r.truth; array = r.array; few = few_refused pin mapping r.truth r.leaves }
+  step_refused ReadOnly pin mapping r = record { truth = r.truth; array = r.array; versions = r.leaves.versions }
+  step_refused SequenceSpent pin mapping r = record { truth = r.truth; array = r.array; versions = r.leaves.versions; few = few_refused pin mapping r.truth r.leaves }
   step_refused Damaged pin mapping r = r
   step_refused Bus pin mapping r = tt
 
@@ -255,7 +256,11 @@ module _ {N : Type 0} (flash : N → Flash) (e f : Engine N) (block : ℕ) (is :
         honest_pinned = ap (λ (z : Engine N). honest z.nand) is
 
         keeps_pinned : Knows (ram f) (image_in flash f) → KeepsArray e.geometry (image_in flash e) (ram f) (image_in flash f)
-        keeps_pinned k = record { truth = k; array = ap (λ (z : Engine N). array_of e.geometry (image_in flash z)) is }
+        keeps_pinned k = record {
+          truth = k;
+          array = ap (λ (z : Engine N). array_of e.geometry (image_in flash z)) is;
+          versions = subst (λ (z : Engine N). AddsNoOld e.geometry (image_in flash e) (image_in flash z)) (sym is) (λ two key row at. at);
+        }
 
         limits_pinned : HasLimitsOf e.mapping f.mapping
         limits_pinned = subst (λ (z : Engine N). HasLimitsOf e.mapping z.mapping) (sym is) (record { geometry = refl; capacity = refl })
@@ -270,7 +275,7 @@ collects_none flash recorded honest calm erases failed e safe going calm_now = r
   counts = inr (omega arith);
   risen = λ before r. r;
   bad = λ known w k within bad. omega arith;
-  truth = λ known w. record { truth = w; array = refl };
+  truth = λ known w. record { truth = w; array = refl; versions = λ two key row at. at };
 }
 
 -- no block is worth it, or so many are free
@@ -372,8 +377,8 @@ module _ (b c : Ram) (y z : Image) (s : IsRam b) (t : IsRam c) (goes : Goes b c)
       record { within = (let lt = few.within in rw goes.geometry lt); small = omega (arith, fewer, few.small, v); moved = omega (arith, fewer, few.moved, v, more) }
 
   pub rescue_refused : (fault : WriteFault) → Refused b y c z fault → CallRefused b.geometry y c z (EngineFault fault)
-  rescue_refused ReadOnly r = record { truth = r.truth; array = r.array }
-  rescue_refused SequenceSpent r = record { truth = r.truth; array = r.array; few = few_rescued r.truth r.leaves }
+  rescue_refused ReadOnly r = record { truth = r.truth; array = r.array; versions = r.leaves.versions }
+  rescue_refused SequenceSpent r = record { truth = r.truth; array = r.array; versions = r.leaves.versions; few = few_rescued r.truth r.leaves }
   rescue_refused Damaged r = r
   rescue_refused Bus r = tt
 

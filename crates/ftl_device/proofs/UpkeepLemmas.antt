@@ -8,6 +8,7 @@ use Rattle.page_layout.specs.Page.{Image}
 use Rattle.page_layout.specs.Flash.{Flash}
 use Rattle.page_layout.specs.Recording.{Recording}
 use Rattle.page_layout.specs.Array.{array_of}
+use Rattle.page_layout.specs.Version.{AddsNoOld}
 use Rattle.bad_blocks.specs.Table.{good_count}
 use Rattle.allocation.specs.State.{free_count}
 use Rattle.promises.specs.Step.{State, Command, Reply, QuietStep, ArrayStep}
@@ -65,6 +66,15 @@ kept_array g before after new q good (Err (call.Engine engine_fault.Damaged)) h 
 kept_array g before after new q good (Err (call.Engine engine_fault.Bus)) h ne = absurd (ne refl)
 kept_array g before after new q good (Err call.OutOfMemory) h ne = h.array
 
+-- and adds no newest page of version 1
+kept_versions : (g : Geometry) (before after : Image) (new q : Ram) (good : ℕ) (answer : Result (Unit {0}) CallFault) → MatchResult answer (λ _. KeepsArray g before new after) (CallRefused g before new after) → answer_of q good answer ≢ Err BusFault → AddsNoOld g before after
+kept_versions g before after new q good (Ok done) h ne = h.versions
+kept_versions g before after new q good (Err (call.Engine engine_fault.ReadOnly)) h ne = h.versions
+kept_versions g before after new q good (Err (call.Engine engine_fault.SequenceSpent)) h ne = h.versions
+kept_versions g before after new q good (Err (call.Engine engine_fault.Damaged)) h ne = absurd h
+kept_versions g before after new q good (Err (call.Engine engine_fault.Bus)) h ne = absurd (ne refl)
+kept_versions g before after new q good (Err call.OutOfMemory) h ne = h.versions
+
 -- an answer that is `Ok` was one of the engine's
 done_only : (P : Type 0) (answer : Result (Unit {0}) CallFault) (good : ℕ) (r : Ram) → OnOk answer P → answer_of r good answer ≡ Ok tt → P
 done_only P (Ok done) good r h e = h
@@ -118,6 +128,7 @@ module _ {N : Type 0} (flash : N → Flash) (recorded : N → Option Recording) 
           record {
             step = takes _ _ (quiet_step old.engine.geometry new.engine.geometry (image_in flash old.engine) (image_in flash new.engine) (ram old.engine) (ram new.engine) old.read_only new.read_only good_then may.writable device'.read_only k.ends.geometry answer k.ends.tells (k.truth is_honest known) k.no_memory ne);
             well = after;
+            versions = kept_versions old.engine.geometry (image_in flash old.engine) (image_in flash new.engine) (ram new.engine) (ram new.engine) good_then answer (k.truth is_honest known) ne;
             mountable = λ most. mountable_after flash old.engine new new.engine refl k.ends.geometry k.ends.limits device'.engine.memory after most;
           }
 
@@ -222,6 +233,7 @@ module _ {N : Type 0} (flash : N → Flash) (recorded : N → Option Recording) 
     means = λ is_honest well ne. record {
       step = takes _ _ (quiet_refusal (ram old.engine) old.read_only (state_in flash old) fault refl not well.going);
       well = well;
+      versions = λ two key row at. at;
       mountable = λ most. restart_law (ram old.engine) _ device.engine.memory well.truth most;
     };
   }

@@ -8,6 +8,7 @@ use Rattle.page_layout.specs.Page.{Image}
 use Rattle.page_layout.specs.Counter.{HasRisen}
 use Rattle.page_layout.specs.Geometry.{need}
 use Rattle.page_layout.specs.Array.{array_of}
+use Rattle.page_layout.specs.Version.{AddsNoOld}
 use Rattle.page_layout.specs.Flash.{Flash}
 use Rattle.bad_blocks.specs.Table.{good_count, is_good_at}
 use Rattle.allocation.specs.State.{free_count, live_at}
@@ -182,20 +183,23 @@ Tells old new (Err engine_fault.SequenceSpent) = new.next ≡ 2 ^ 64 - 1
 Tells old new (Err engine_fault.Damaged) = Unit {0}
 Tells old new (Err engine_fault.Bus) = Unit {0}
 
--- the array is as it was, and what is known of the image is so
+-- the array is as it was, what is known of the image is so and, where the die has version 2, no newest page of version 1 is added
 pub record KeepsArray (g : Geometry) (before : Image) (new : Ram) (after : Image) : Type 0 where
   pub truth : Knows new after
   pub array : array_of g after ≡ array_of g before
+  pub versions : AddsNoOld g before after
 
 -- the same where a fault stands: of a pinned block nothing is known
 pub record KeepsSectors (g : Geometry) (before : Image) (new : Ram) (after : Image) : Type 0 where
   pub truth : IsTrue None new after
   pub array : array_of g after ≡ array_of g before
+  pub versions : AddsNoOld g before after
 
 -- or that few pages of it are left, but for a sector that a rescue has moved
 pub record KeepsFew (g : Geometry) (before : Image) (new : Ram) (after : Image) : Type 0 where
   pub truth : IsTrue None new after
   pub array : array_of g after ≡ array_of g before
+  pub versions : AddsNoOld g before after
   pub few : PinIsFew 1 new
 
 -- and the row is that of the sector's newest page
@@ -226,10 +230,11 @@ CallRefused g before new after (Engine engine_fault.Damaged) = ⊥
 CallRefused g before new after (Engine engine_fault.Bus) = Unit {0}
 CallRefused g before new after call.OutOfMemory = KeepsArray g before new after
 
--- sector n holds these bytes, and all others what they held
+-- sector n holds these bytes, all others what they held, and no newest page of version 1 is added
 pub record HoldsSector (g : Geometry) (n : ℕ) (bytes : List ℕ) (before : Image) (new : Ram) (after : Image) : Type 0 where
   pub truth : Knows new after
   pub array : array_of g after ≡ slice_set (array_of g before) n bytes
+  pub versions : AddsNoOld g before after
 
 -- ---- the device around it
 

@@ -7,6 +7,7 @@ use Rattle.page_layout.specs.Flash.{Flash}
 use Rattle.page_layout.specs.Recording.{Recording}
 use Rattle.page_layout.specs.Geometry.{need}
 use Rattle.page_layout.specs.Page.{Page}
+use Rattle.page_layout.specs.Version.{AddsNoOld}
 use Rattle.bad_blocks.specs.Table.{good_count}
 use Rattle.budget.specs.declared.stream.Stream.TheVariants.{Data}
 use Rattle.mapping_cache.specs.Mapping.{HasLimitsOf, slot_of}
@@ -168,10 +169,11 @@ pub record Logs {N : Type 0} (flash : N → Flash) (recorded : N → Option Reco
   pub flushed : IsWell flash old → is_flush command ≡ true → result ≡ Ok tt → IsFlushedOut (first_of (ram old.engine)) went.log (image_in flash new.engine)
   pub stopped : IsWell flash old → SurvivesStops old.engine.geometry old.engine.mapping.capacity command result (image_in flash old.engine) (image_in flash new.engine) (recorded new.engine.nand) went.log
 
--- what is true of the image after it
+-- what is true of the image after it: where the die has version 2, no newest page of version 1 is added
 pub record Means {N : Type 0} (flash : N → Flash) (command : Command) (old : Device N) (result : Result (Unit {0}) DeviceFault) (new : Device N) : Type 0 where
   pub step : ArrayStep old.engine.geometry (state_in flash old) command (reply_of result) (state_in flash new)
   pub well : IsWell flash new
+  pub versions : AddsNoOld old.engine.geometry (image_in flash old.engine) (image_in flash new.engine)
   pub mountable : old.engine.mapping.capacity + old.engine.geometry.pages ≤ 65536
       → IsMountable old.engine.geometry (old.engine.mapping.capacity + old.engine.geometry.pages) (image_in flash new.engine)
 

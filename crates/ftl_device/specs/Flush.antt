@@ -1,9 +1,12 @@
 -- What an image is worth once a device was flushed.
 use Rattle.std.specs.Prelude.{◌≡◌, ◌⊎◌, ◌↔◌, ℕ, ◌+◌, ◌-◌, ◌*◌, ◌/◌, ◌^◌, ◌<◌, ◌≤◌, min, Bool, true, false, List, [], Some, None}
 use Rattle.page_layout.specs.declared.geometry.Geometry.{Geometry}
+use Rattle.page_layout.specs.declared.record.Key.TheVariants.{Table}
 use Rattle.page_layout.specs.Page.{Image}
 use Rattle.page_layout.specs.Flash.{Operation}
 use Rattle.page_layout.specs.Geometry.{entries, translation_pages, table_pages}
+use Rattle.page_layout.specs.Sound.{version_for}
+use Rattle.page_layout.specs.Version.{is_old}
 use Rattle.bad_blocks.specs.Table.{wear_at, good_count, most_wear}
 use Rattle.budget.specs.Counts.{Counts}
 use Rattle.budget.specs.Spending.{Spending}
@@ -44,15 +47,21 @@ pub record KeepsClean (g : Geometry) (old new : MappingState) : Type 0 where
 pub record AddsPages (count : ℕ) (old new : Ram) : Type 0 where
   pub account : (first : Counts) (pages : ℕ) → Spending old.geometry.pages first (counts_of old.blocks) 0 pages → Spending old.geometry.pages first (counts_of new.blocks) 0 (pages + count)
 
--- the array is as it was, and where no block has failed the newest of the first so many table pages spell the table
+-- where the die has version 2, none of the first so many table pages has a newest page of version 1
+abbrev pub HasNewTables : ℕ → Geometry → Image → Type 0
+HasNewTables count g image = version_for g ≡ 2 → (u : ℕ) → u < count → is_old image (Table u) ≡ false
+
+-- the array is as it was, the newest of the first so many table pages are new, and where no block has failed they spell the table
 pub record KeepsTables (count : ℕ) (old : Ram) (before : Image) (new : Ram) (after : Image) : Type 0 where
   pub keeps : KeepsArray old.geometry before new after
   pub tables : good_count new.blocks.table ≡ good_count old.blocks.table → (u : ℕ) → u < count → SpellsTable old.geometry new.blocks.table after u
+  pub renewed : HasNewTables count old.geometry after
 
--- the array is as it was, and each newest table page spells the table
+-- the array is as it was, and each newest table page is new and spells the table
 pub record SpellsAll (g : Geometry) (before : Image) (new : Ram) (after : Image) : Type 0 where
   pub keeps : KeepsArray g before new after
   pub tables : (u : ℕ) → u < table_pages g → SpellsTable g new.blocks.table after u
+  pub renewed : HasNewTables (table_pages g) g after
 
 -- some of so many pages were programmed, and the next one found no block
 pub record FailsAmong (most : ℕ) (old new : Ram) : Type 0 where
@@ -122,12 +131,14 @@ abbrev pub first_of : Ram → First
 first_of r = record { geometry = r.geometry; capacity = r.mapping.capacity; bad = is_bad_by r; wear = wear_at r.blocks.table; next = r.next }
 
 -- WHAT A FLUSH IS WORTH that is done, where `log` leads up to its end: the image has a certificate at every capacity, no entry is stale, and it
--- shows just the blocks as bad that were so before the log or failed in it, and erase counts that went up by the erases that passed.
+-- shows just the blocks as bad that were so before the log or failed in it, and erase counts that went up by the erases that passed; and where the
+-- die has version 2 no newest table page is of version 1.
 pub record IsFlushedOut (first : First) (log : List Operation) (image : Image) : Type 0 where
   pub anywhere : (capacity : ℕ) → 1 ≤ capacity → capacity ≤ 65536 → IsMountable first.geometry capacity image
   pub fresh : stale_sectors first.geometry image ≡ []
   pub bad : (b : ℕ) → b < first.geometry.blocks → ShowsBad first.geometry image b ↔ (bad_of first.geometry.pages first.bad log b ≡ true)
   pub wear : (b : ℕ) → b < first.geometry.blocks → erase_count first.geometry image b ≡ min (first.wear b + passed_erases_of log b) most_wear
+  pub renewed : version_for first.geometry ≡ 2 → (u : ℕ) → is_old image (Table u) ≡ false
 
 -- ---- laws, of a memory that is true of the image and flushed
 

@@ -9,3 +9,4 @@ pub mod Turn
 pub mod Changes
 pub mod Stopped
 pub mod Migrate
+pub mod Renewed

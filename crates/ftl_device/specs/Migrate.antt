@@ -7,6 +7,7 @@ use Rattle.page_layout.specs.Sound.{version_for}
 use Rattle.page_layout.specs.Version.{is_old, old_pages, AddsNoOld}
 use Rattle.collection.specs.Renew.{is_table, HasNoneDue}
 use Rattle.ftl_device.specs.declared.fault.DeviceFault.{DeviceFault}
+use Rattle.ftl_device.specs.Renewed.{HasOldTablesOnly}
 
 -- how the call ended, whatever it found
 abbrev pub ended : Result Bool DeviceFault → Result (Unit {0}) DeviceFault
@@ -20,5 +21,5 @@ pub record Renews (row : ℕ) (g : Geometry) (before after : Image) : Type 0 whe
 
 -- No newest page is of version 1, but table pages. With `true` there was one, and fewer newest pages are of version 1 than before.
 abbrev pub Migrates : Bool → Geometry → Image → Image → Type 0
-Migrates false g before after = (key : Key) → is_table key ≡ false → is_old after key ≡ false
+Migrates false g before after = HasOldTablesOnly after
 Migrates true g before after = version_for g ≡ 2 → old_pages g after < old_pages g before

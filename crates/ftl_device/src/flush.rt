@@ -7,8 +7,9 @@ ghost use Rattle.allocation.specs.Counts.{counts_of};
 ghost use Rattle.collection.specs.Safe.{IsSafe, ram, image_in};
 ghost use Rattle.collection.specs.Left.{IsCalm, LeavesPin};
 ghost use Rattle.collection.specs.Results.{KeepsTable};
-ghost use Rattle.ftl_device.specs.Calls.{Knows, KeepsArray, CallRefused};
-ghost use Rattle.ftl_device.specs.Flush.{IsClean, KeepsClean, SpellsAll, KeepsTables, AddsPages, FailsAmong, RunsOut, IsFlushed, WritesTables, MayFlush};
+ghost use Rattle.ftl_device.specs.Calls.{IsWell, Knows, KeepsArray, CallRefused};
+ghost use Rattle.ftl_device.specs.Renewed.{Finishes};
+ghost use Rattle.ftl_device.specs.Flush.{IsClean, KeepsClean, HasNewTables, SpellsAll, KeepsTables, AddsPages, FailsAmong, RunsOut, IsFlushed, WritesTables, MayFlush};
 ghost use Rattle.ftl_device.specs.Flush.{MayNotFlush};
 ghost use Rattle.ftl_device.specs.Shortage.{HasFunds, FlushCounts, FlushShort};
 ghost use Rattle.mapping_cache.specs.Mapping.{HasLimitsOf};
@@ -136,6 +137,8 @@ pub(crate) fn flush_ready<N: Nand>(engine: &mut Engine<N>) -> Result<(), CallFau
         (CallRefused engine.old.geometry (image_in N.flash engine.old) (ram engine.new) (image_in N.flash engine.new)) }
     ensures flushed { N.honest engine.old.nand ≡ true → Knows (ram engine.old) (image_in N.flash engine.old) →
         OnOk result (IsFlushed (ram engine.new) (image_in N.flash engine.new)) }
+    ensures renewed { N.honest engine.old.nand ≡ true → Knows (ram engine.old) (image_in N.flash engine.old) →
+        OnOk result (HasNewTables (table_pages engine.old.geometry) engine.old.geometry (image_in N.flash engine.new)) }
 {
     flush_translations(engine)?;
     make_room(engine, true)?;
@@ -162,7 +165,9 @@ impl<N: Nand> Device<N> {
 
     /// Writes to the die what is known in memory alone: each translation page that lacks a row, and
     /// then the table of blocks. Done, the die may be mounted at every capacity, no entry is stale,
-    /// and it shows the bad blocks and the erase counts that are known.
+    /// and it shows the bad blocks and the erase counts that are known. Where the die has room for version
+    /// 2, all newest table pages are then of it: so where no other newest page was of version 1, as after
+    /// `migrate_one` answered `false`, none is.
     ///
     /// The table pages are written again, all of them, as long as a program fails meanwhile. The
     /// sectors that are cached stay, and their order. Where the power goes inside it, each sector holds
@@ -187,6 +192,8 @@ impl<N: Nand> Device<N> {
         ensures geometry { self.new.engine.geometry ≡ self.old.engine.geometry }
         ensures upkeeps { Upkeeps N.flash N.recorded N.honest N.calm N.failed Flush self.old result self.new }
         ensures pins { LeavesUnpinned self.old result self.new }
+        ensures renewed { N.honest self.old.engine.nand ≡ true → IsWell N.flash self.old →
+            OnOk result (Finishes self.old.engine.geometry (image_in N.flash self.old.engine) (image_in N.flash self.new.engine)) }
         ensures keys { keys_of self.new.engine.mapping.cached ≡ keys_of self.old.engine.mapping.cached }
     {
         self.may_flush()?;

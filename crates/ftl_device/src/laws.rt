@@ -2,6 +2,7 @@ ghost use Rattle.ftl_device.specs.Begin.{BeginLaw, FreeLaw, GoodLaw, AccountsLaw
 ghost use Rattle.ftl_device.specs.Calls.{StaleLaw, RestartLaw, LeftBelowLaw, TurnsLaw};
 ghost use Rattle.ftl_device.specs.Counts.{FreeNowLaw, GoodNowLaw, BadNowLaw, ShortLaw};
 ghost use Rattle.ftl_device.specs.Shortage.{LeavesFiveLaw, TablesLeaveLaw};
+ghost use Rattle.ftl_device.specs.Renewed.{NoneOldLaw, StaysNewLaw, BroughtForwardLaw};
 ghost use Rattle.ftl_device.specs.Stopped.{QuietStopLaw, RefusedStopLaw, MountsStopLaw, AnsweredStaysLaw};
 ghost use Rattle.ftl_device.specs.Flush.{FreshLaw, AnywhereLaw, ShownBadLaw, ShownWearLaw};
 
@@ -70,4 +71,13 @@ pub fn stopped_laws()
     ensures refused { RefusedStopLaw }
     ensures mounts { MountsStopLaw }
     ensures stays { AnsweredStaysLaw }
+{}
+
+/// After `migrate_one` answered `false` no newest page is of version 1, but table pages; and after a later
+/// flush that was done none is, nor after any call that comes then, whatever calls came in between. None
+/// is old just where the count of such pages is 0. (This project.)
+pub fn renewed_laws()
+    ensures none { NoneOldLaw }
+    ensures stays { StaysNewLaw }
+    ensures forward { BroughtForwardLaw }
 {}

@@ -1,6 +1,8 @@
-use Rattle.std.proofs.Common.{◌∙◌, Ok, refl, ap}
+use Rattle.std.proofs.Common.{◌∙◌, Ok, refl, ap, subst}
 use Rattle.std.proofs.lemmas.Result.{err_from_is_err_and}
-use Rattle.collection.specs.Safe.{ram}
+use Rattle.page_layout.specs.Geometry.{table_pages}
+use Rattle.collection.specs.Safe.{ram, image_in}
+use Rattle.ftl_device.specs.Flush.{HasNewTables}
 use Rattle.ftl_device.proofs.FlushLoops.{limits_then, keeps_then, keeps_refused, clean_then, flushed_by}
 use Rattle.ftl_device.proofs.RoomLemmas.{keeps_room, refused_room, room_pins}
 use Rattle.ftl_device.proofs.SpentLemmas.{flush_first, flush_room, flush_done, flush_stuck, flush_tables}
@@ -17,6 +19,13 @@ returns-clause-flushed g c = λ honest w.
     flushed_by c.args.engine.now.geometry c.make_room.new.engine.geometry c.make_room.new.engine.mapping (ram c.write_tables.new.engine) _ _ (c.write_tables.ensures.leaves.geometry ∙ same) same
     (clean_then c.args.engine.now.geometry c.flush_translations.new.engine.geometry c.flush_translations.new.engine.mapping c.make_room.new.engine.mapping c.flush_translations.ensures.leaves.geometry c.in_ok-flush_translations.ensures.clean (c.in_ok-make_room.ensures.cleans refl))
     c.write_tables.ensures.mapping spells
+
+pub returns-clause-renewed : goal.returns-clause-renewed
+returns-clause-renewed g c = λ honest w.
+    let first = c.in_ok-flush_translations.ensures.truth honest w in
+    let still = c.flush_translations.ensures.leaves.honest_is ∙ honest in
+    let spells = c.in_ok-write_tables.ensures.truth (c.make_room.ensures.leaves.honest_is ∙ still) (c.in_ok-make_room.ensures.pinned still first.truth) in
+    subst (λ h. HasNewTables (table_pages h) h (image_in g.N.PageSource.flash c.write_tables.new.engine)) (c.make_room.ensures.leaves.geometry ∙ c.flush_translations.ensures.leaves.geometry) spells.renewed
 
 pub returns-in_err-flush_translations-clause-count : goal.returns-in_err-flush_translations-clause-count
 returns-in_err-flush_translations-clause-count g c =

@@ -1,7 +1,7 @@
 use Rattle.std.proofs.Common.{◌∙◌, Ok, Err, refl, arith}
 use Rattle.std.proofs.lemmas.Result.{err_from_is_err_and}
 use Rattle.collection.specs.Safe.{ram}
-use Rattle.ftl_device.proofs.FlushLoops.{limits_then, keeps_same, keeps_then, clean_more}
+use Rattle.ftl_device.proofs.FlushLoops.{limits_then, keeps_same, keeps_then, keeps_refused, clean_more}
 use Rattle.ftl_device.proofs.SpentLemmas.{funded_here, counts_then}
 use Rattle.ftl_device.proofs.LeaveLemmas.{leaves_same, leaves_then}
 use Rattle.ftl_device.proofs.flush.flush_translations.Goals as goal
@@ -44,3 +44,10 @@ pub returns-in_err-flush_translation-clause-leaves : goal.returns-in_err-flush_t
 returns-in_err-flush_translation-clause-leaves g c =
     let p = err_from_is_err_and c.from_residual.result c.from_residual.ensures.1 in
     rw (p.1, p.2) (leaves_then g.N.PageSource.flash g.N.PageSource.recorded g.N.PageSource.honest g.N.PageSource.calm g.N.PageSource.failed c.args.engine.now c.translations.engine c.flush_translation.new.engine _ _ (λ honest k. c.translations.invariant.truth honest k) c.translations.invariant.limits c.translations.invariant.leaves c.in_err-flush_translation.ensures.leaves)
+
+pub returns-in_err-flush_translation-clause-truth : goal.returns-in_err-flush_translation-clause-truth
+returns-in_err-flush_translation-clause-truth g c =
+    let p = err_from_is_err_and c.from_residual.result c.from_residual.ensures.1 in
+    rw (p.1, p.2) (λ honest w.
+    let before = c.translations.invariant.truth honest w in
+    keeps_refused c.args.engine.now.geometry (ram c.translations.engine) (ram c.flush_translation.new.engine) _ _ _ _ c.translations.invariant.leaves.geometry before (c.in_err-flush_translation.ensures.truth (c.translations.invariant.leaves.honest_is ∙ honest) before.truth))

@@ -2,7 +2,7 @@ use Rattle.std.proofs.Common.{◌∙◌, arith}
 use Rattle.std.proofs.lemmas.Result.{err_from_is_err_and}
 use Rattle.collection.specs.Safe.{ram}
 use Rattle.collection.proofs.Beside.{beside_then}
-use Rattle.ftl_device.proofs.FlushLoops.{first_fails, later_fails, first_round, next_round, last_round, spells_first, spells_next}
+use Rattle.ftl_device.proofs.FlushLoops.{first_fails, later_fails, first_round, next_round, last_round, spells_first, spells_next, spells_last, keeps_refused}
 use Rattle.ftl_device.proofs.LeaveLemmas.{leaves_then, limits_same}
 use Rattle.ftl_device.proofs.flush.write_tables.Goals as goal
 
@@ -50,3 +50,13 @@ returns-in_err-write_tables_once-2-clause-leaves g c =
 
 pub returns-in_err-write_tables_once-2-clause-beside : goal.returns-in_err-write_tables_once-2-clause-beside
 returns-in_err-write_tables_once-2-clause-beside g c = beside_then _ _ _ c.rounds.invariant.beside c.write_tables_once-in-rounds.ensures.beside
+
+pub returns-in_err-write_tables_once-2-clause-truth : goal.returns-in_err-write_tables_once-2-clause-truth
+returns-in_err-write_tables_once-2-clause-truth g c =
+    let p = err_from_is_err_and c.from_residual-in_err-write_tables_once-2.result c.from_residual-in_err-write_tables_once-2.ensures.1 in
+    rw (p.1, p.2) (λ honest w.
+    let before = (c.rounds.invariant.truth honest w).keeps in
+    keeps_refused c.args.engine.now.geometry (ram c.rounds.engine) (ram c.write_tables_once-in-rounds.new.engine) _ _ _ _ c.rounds.invariant.leaves.geometry before (c.in_err-write_tables_once-2.ensures.truth (c.rounds.invariant.leaves.honest_is ∙ honest) before.truth))
+
+pub returns-clause-truth : goal.returns-clause-truth
+returns-clause-truth g c = λ honest w. spells_last c.rounds.good c.args.engine.now.geometry _ (ram c.rounds.engine) _ (c.rounds.invariant.truth honest w) (omega (arith, c.good.ensures, c.rounds-test.false)) c.rounds.invariant.fewer

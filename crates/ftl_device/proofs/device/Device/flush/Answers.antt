@@ -7,6 +7,7 @@ use Rattle.ftl_device.proofs.ShownLemmas.{flush_left_after}
 use Rattle.ftl_device.proofs.SpentLemmas.{funded_begun}
 use Rattle.ftl_device.proofs.UpkeepLemmas.{upkept_by, not_upkept, flush_pins}
 use Rattle.ftl_device.proofs.ChangeLemmas.{unpinned_some}
+use Rattle.ftl_device.proofs.RenewedLemmas.{flush_finishes}
 use Rattle.ftl_device.proofs.device.Device.flush.Goals as goal
 
 pub returns-in_err-may_flush-clause-upkeeps : goal.returns-in_err-may_flush-clause-upkeeps
@@ -22,7 +23,7 @@ returns-clause-upkeeps g c = upkept_by g.N.PageSource.flash g.N.PageSource.recor
       truth = c.flush_ready-answer.ensures.truth;
       lacks = λ honest w. flush_lacks c.flush_ready-answer.result (ram c.args.self.now.engine) (ram c.flush_ready-answer.new.engine) (c.flush_ready-answer.ensures.count (honest, w, funded_begun (ram c.args.self.now.engine) c.args.self.now.read_only c.requires.device.read_only c.in_ok-may_flush.ensures.may.writable));
       left = λ honest w log ro flag on. flush_left_after g.N.PageSource.flash g.N.PageSource.recorded step.Flush c.args.self.now.engine c.flush_ready-answer.new.engine c.flush_ready-answer.new.engine log c.args.self.now.read_only ro c.flush_ready-answer.result _ _ refl refl c.requires.device.engine.memory c.flush_ready-answer.ensures.ends.safe.memory c.flush_ready-answer.ensures.ends.geometry flag on refl (c.flush_ready-answer.ensures.count (honest, w, funded_begun (ram c.args.self.now.engine) c.args.self.now.read_only c.requires.device.read_only c.in_ok-may_flush.ensures.may.writable));
-      worth = λ honest w log its. flushed_out c.flush_ready-answer.result (ram c.args.self.now.engine) (ram c.flush_ready-answer.new.engine) (g.N.PageSource.flash c.args.self.now.engine.nand) (g.N.PageSource.flash c.flush_ready-answer.new.engine.nand) c.flush_ready-answer.ensures.ends.geometry c.requires.device.engine.memory c.flush_ready-answer.ensures.ends.safe.memory w.truth (c.flush_ready-answer.ensures.truth honest w) (c.flush_ready-answer.ensures.flushed honest w) log;
+      worth = λ honest w log its. flushed_out c.flush_ready-answer.result (ram c.args.self.now.engine) (ram c.flush_ready-answer.new.engine) (g.N.PageSource.flash c.args.self.now.engine.nand) (g.N.PageSource.flash c.flush_ready-answer.new.engine.nand) c.flush_ready-answer.ensures.ends.geometry c.requires.device.engine.memory c.flush_ready-answer.ensures.ends.safe.memory w.truth (c.flush_ready-answer.ensures.truth honest w) (c.flush_ready-answer.ensures.flushed honest w) (c.flush_ready-answer.ensures.renewed honest w) log;
     })
 
 pub returns-in_err-may_flush-clause-pins : goal.returns-in_err-may_flush-clause-pins
@@ -30,3 +31,6 @@ returns-in_err-may_flush-clause-pins g c = λ none some. absurd (unpinned_some c
 
 pub returns-clause-pins : goal.returns-clause-pins
 returns-clause-pins g c = λ none some. flush_pins c.flush_ready-answer.result c.args.self.now.engine c.flush_ready-answer.new.engine c.finish.new.self.engine c.finish.result c.good-good.result c.flush_ready-answer.ensures.memory c.finish.ensures.engine c.finish.ensures.answer c.flush_ready-answer.ensures.pins none some
+
+pub returns-clause-renewed : goal.returns-clause-renewed
+returns-clause-renewed g c = flush_finishes g.N.PageSource.flash g.N.PageSource.recorded g.N.PageSource.honest g.N.PageSource.calm g.N.PageSource.failed c.args.self.now c.finish.new.self c.finish.result (returns-clause-upkeeps g c)
