@@ -28,4 +28,5 @@ pub mod LeaveLemmas
 pub mod ChangeLemmas
 pub mod MigrateLemmas
 pub mod UpkeepLemmas
+pub mod CursorLemmas
 pub mod StoppedLemmas

@@ -185,6 +185,7 @@ impl<N: Nand> Device<N> {
         requires device { IsDevice N.flash self.old }
         ensures device { IsDevice N.flash self.new }
         ensures geometry { self.new.engine.geometry ≡ self.old.engine.geometry }
+        ensures cursor { self.new.cursor ≡ self.old.cursor }
         ensures upkeeps { Upkeeps N.flash N.recorded N.honest N.calm N.failed Flush self.old result self.new }
         ensures pins { LeavesUnpinned self.old result self.new }
         ensures keys { keys_of self.new.engine.mapping.cached ≡ keys_of self.old.engine.mapping.cached }
