@@ -29,4 +29,5 @@ pub mod ChangeLemmas
 pub mod MigrateLemmas
 pub mod RenewedLemmas
 pub mod UpkeepLemmas
+pub mod CursorLemmas
 pub mod StoppedLemmas

@@ -140,7 +140,7 @@ pin_mapped (Some SequenceSpent) a b x is moved k = few_mapped 1 a b is moved k
 pin_mapped (Some Damaged) a b x is moved k = tt
 pin_mapped (Some Bus) a b x is moved k = tt
 
-pub device_mapped : {N : Type 0} (flash : N → Flash) (d : Device N) (e : Engine N) → IsDevice flash d → IsSafe flash e → e ≡ record d.engine { mapping = e.mapping } → e.mapping.moved ≡ d.engine.mapping.moved → IsDevice flash (record { engine = e; read_only = d.read_only })
+pub device_mapped : {N : Type 0} (flash : N → Flash) (d : Device N) (e : Engine N) → IsDevice flash d → IsSafe flash e → e ≡ record d.engine { mapping = e.mapping } → e.mapping.moved ≡ d.engine.mapping.moved → IsDevice flash (record d { engine = e })
 device_mapped {N} flash d e device safe is moved =
     let fault : e.fault ≡ d.engine.fault = ap (λ (z : Engine N). z.fault) is in
     record {

@@ -28,12 +28,15 @@ pub struct Device<N: Nand> {
     pub engine: Engine<N>,
     /// Whether it refuses to change a sector.
     pub read_only: bool,
+    /// The row from which `migrate_one` looks on.
+    pub cursor: u32,
 }
 
 impl<N: Nand> Device<N> {
     /// A device over a die whose image a checker accepted. Nothing is asked of the die. The stale
     /// sectors are cached as dirty, by rising number, and the cache has the capacity that was
-    /// accepted. It begins read-only just where fewer than five blocks are free.
+    /// accepted. It begins read-only just where fewer than five blocks are free. `migrate_one` looks from
+    /// row 0 on.
     ///
     /// The geometry of the accepted certificate is the die's. Where the die is honest and the
     /// certificate was accepted for its image, the device holds the image's array.
@@ -50,6 +53,7 @@ impl<N: Nand> Device<N> {
         requires same_geometry { sizes_of (N.flash nand).geometry ≡ accepted.claim.sizes }
         ensures device { IfOk result (IsDevice N.flash) }
         ensures nand { IfOk result (λ d. d.engine.nand ≡ nand) }
+        ensures cursor { IfOk result (λ d. d.cursor ≡ 0) }
         ensures begun { IfOk result (λ d. ram d.engine ≡ begun_ram (N.flash nand).geometry accepted.entry.claim accepted.entry.stale) }
         ensures good { IfOk result (λ d. good_count (state d.engine.blocks).table ≡ good_blocks accepted.entry.claim) }
         // The truth of it, for a die that keeps its promises.
@@ -74,7 +78,11 @@ impl<N: Nand> Device<N> {
         let read_only = blocks.free() < LEAST_FREE;
         let next = certificate.next_sequence();
         match Engine::new(alloc, nand, &geometry, blocks, directory, mapping, next) {
-            Ok(engine) => Ok(Device { engine, read_only }),
+            Ok(engine) => Ok(Device {
+                engine,
+                read_only,
+                cursor: 0,
+            }),
             Err((nand, _)) => Err(StartFault::OutOfMemory { nand, accepted }),
         }
     }

@@ -190,6 +190,7 @@ impl<N: Nand> Device<N> {
         requires device { IsDevice N.flash self.old }
         ensures device { IsDevice N.flash self.new }
         ensures geometry { self.new.engine.geometry ≡ self.old.engine.geometry }
+        ensures cursor { self.new.cursor ≡ self.old.cursor }
         ensures upkeeps { Upkeeps N.flash N.recorded N.honest N.calm N.failed Flush self.old result self.new }
         ensures pins { LeavesUnpinned self.old result self.new }
         ensures renewed { N.honest self.old.engine.nand ≡ true → IsWell N.flash self.old →

@@ -4,6 +4,7 @@ ghost use Rattle.ftl_device.specs.Counts.{FreeNowLaw, GoodNowLaw, BadNowLaw, Sho
 ghost use Rattle.ftl_device.specs.Shortage.{LeavesFiveLaw, TablesLeaveLaw};
 ghost use Rattle.ftl_device.specs.Renewed.{NoneOldLaw, StaysNewLaw, BroughtForwardLaw};
 ghost use Rattle.ftl_device.specs.Stopped.{QuietStopLaw, RefusedStopLaw, MountsStopLaw, AnsweredStaysLaw};
+ghost use Rattle.ftl_device.specs.Migrate.{OneFoundLaw, GoesOnLaw};
 ghost use Rattle.ftl_device.specs.Flush.{FreshLaw, AnywhereLaw, ShownBadLaw, ShownWearLaw};
 
 use onfi_cycles::Nand;
@@ -60,6 +61,14 @@ pub fn flushed_laws()
 pub fn shortage_laws()
     ensures five { LeavesFiveLaw }
     ensures tables { TablesLeaveLaw }
+{}
+
+/// A look for pages of version 1 has one answer: what it finds is said of one row alone, or of none. And it
+/// goes on: while such a page stands in a row from the cursor on, the first of these rows is the one that is
+/// found. (This project.)
+pub fn migrate_laws()
+    ensures one { OneFoundLaw }
+    ensures goes_on { GoesOnLaw }
 {}
 
 /// What a stop inside a call leaves: a read, a flush and a turn change no sector, nor does a command

@@ -1,18 +1,18 @@
 //! Pages of version 1 are brought forward, one a call.
-ghost use Rattle.std.specs.Prelude.{◌≡◌, ◌≢◌, ◌<◌, ◌≤◌, true, false, Ok, Err, None, IfOk, OnOk, MatchResult};
+ghost use Rattle.std.specs.Prelude.{◌≡◌, ◌≢◌, ◌<◌, ◌≤◌, true, false, Ok, Err, None, is_some, IfOk, IfErr, OnOk, MatchResult};
 ghost use Rattle.std.specs.Option.{ForSome};
 ghost use Rattle.promises.specs.Step.{Turn};
 ghost use Rattle.page_layout.specs.Geometry.{row_count};
 ghost use Rattle.page_layout.specs.OnlyReads.{OnlyReads};
 ghost use Rattle.collection.specs.Safe.{IsSafe, ram, image_in};
 ghost use Rattle.collection.specs.Left.{IsCalm};
-ghost use Rattle.collection.specs.Renew.{FindsDue};
+ghost use Rattle.collection.specs.Looks.{IsReadFault};
 ghost use Rattle.allocation.specs.State.{free_count};
 ghost use Rattle.ftl_device.specs.Device.{IsDevice};
 ghost use Rattle.ftl_device.specs.Calls.{IsWell, Knows, KeepsArray, CallRefused};
 ghost use Rattle.ftl_device.specs.Changes.{Leaves, Ends, Upkeeps};
 ghost use Rattle.ftl_device.specs.Shortage.{HasFunds, CallShort};
-ghost use Rattle.ftl_device.specs.Migrate.{ended, Renews, Migrates};
+ghost use Rattle.ftl_device.specs.Migrate.{ended, Renews, Migrates, FindsFrom, HasMovedOn};
 
 use crate::device::Device;
 use crate::fault::{CallFault, DeviceFault};
@@ -45,8 +45,36 @@ fn renew_ready<N: Nand>(engine: &mut Engine<N>, row: u32) -> Result<(), CallFaul
     Ok(())
 }
 
-// Looks for a page that has to be renewed, and renews it. Tells whether there was one.
-fn migrate_ready<N: Nand>(engine: &mut Engine<N>, found: &mut bool) -> Result<(), CallFault>
+// The next row, from a cursor on, whose page has to be renewed; where none is left there, the first one of
+// all. The die is only read.
+fn next_from<N: Nand>(engine: &mut Engine<N>, cursor: u32) -> Result<Option<u32>, WriteFault>
+    requires safe { IsSafe N.flash engine.old }
+    requires going { engine.old.fault ≡ None }
+    ensures leaves { Leaves N.flash N.recorded N.honest N.calm N.failed engine.old result engine.new }
+    ensures only_reads { OnlyReads N.flash N.honest N.calm N.programs N.erases N.failed engine.old.nand engine.new.nand }
+    ensures still { ram engine.new ≡ record (ram engine.old) { fault = engine.new.fault } }
+    ensures same { N.honest engine.old.nand ≡ true → OnOk result (N.flash engine.new.nand ≡ N.flash engine.old.nand) }
+    ensures faults { IfErr result IsReadFault }
+    ensures row { IfOk result (λ found. ForSome found (λ row. row < row_count engine.old.geometry)) }
+    ensures truth { N.honest engine.old.nand ≡ true → Knows (ram engine.old) (image_in N.flash engine.old) →
+        MatchResult result
+        (FindsFrom cursor (image_in N.flash engine.old))
+        (λ fault. fault ≡ WriteFault.Bus) }
+{
+    let ahead = engine.next_old(cursor)?;
+    if ahead.is_some() || cursor == 0 {
+        return Ok(ahead);
+    }
+    engine.next_old(0)
+}
+
+// Looks on from a cursor for a page that has to be renewed, and renews it. Tells its row, if there was
+// one.
+fn migrate_ready<N: Nand>(
+    engine: &mut Engine<N>,
+    cursor: u32,
+    found: &mut Option<u32>,
+) -> Result<(), CallFault>
     requires safe { IsSafe N.flash engine.old }
     requires going { engine.old.fault ≡ None }
     requires calm { IsCalm (ram engine.old) }
@@ -58,27 +86,32 @@ fn migrate_ready<N: Nand>(engine: &mut Engine<N>, found: &mut bool) -> Result<()
         MatchResult result
         (λ _. KeepsArray engine.old.geometry (image_in N.flash engine.old) (ram engine.new) (image_in N.flash engine.new))
         (CallRefused engine.old.geometry (image_in N.flash engine.old) (ram engine.new) (image_in N.flash engine.new)) }
-    ensures rests { OnOk result (found.new ≡ false →
+    ensures rests { OnOk result (found.new ≡ None →
         OnlyReads N.flash N.honest N.calm N.programs N.erases N.failed engine.old.nand engine.new.nand) }
     ensures migrates { N.honest engine.old.nand ≡ true → Knows (ram engine.old) (image_in N.flash engine.old) →
-        OnOk result (Migrates found.new engine.old.geometry (image_in N.flash engine.old) (image_in N.flash engine.new)) }
+        OnOk result (Migrates (is_some found.new) engine.old.geometry (image_in N.flash engine.old) (image_in N.flash engine.new)) }
+    ensures row { OnOk result (ForSome found.new (λ row. row < row_count engine.old.geometry)) }
+    ensures next { N.honest engine.old.nand ≡ true → Knows (ram engine.old) (image_in N.flash engine.old) →
+        OnOk result (FindsFrom cursor (image_in N.flash engine.old) found.new) }
 {
-    let next = engine.next_old(0)?;
+    let next = next_from(engine, cursor)?;
     let Some(row) = next else {
-        *found = false;
+        *found = None;
         return Ok(());
     };
-    *found = true;
+    *found = Some(row);
     renew_ready(engine, row)
 }
 
 impl<N: Nand> Device<N> {
-    /// Brings one page of version 1 forward, where the die has room for records of version 2. Of the
-    /// newest pages of sectors and translation pages that are of version 1 the one of lowest row is
-    /// looked for. Room is made as by `write`. Then, where that page still is the newest, it is copied
-    /// as a rescue copies one, in version 2; where its sector is then moved and not cached, its
-    /// translation page is written back. The answer is whether there was such a page. With none nothing
-    /// is programmed or erased. Table pages are left to the next flush, which writes all of them anew.
+    /// Brings one page of version 1 forward, where the die has room for records of version 2. It looks for
+    /// newest pages of sectors and translation pages that are of version 1, from a cursor on: a start sets
+    /// it to row 0. Where none is left from there to the last row, it looks once more, from row 0 on. Room
+    /// is made as by `write` for the first page found. Then, where that page still is the newest, it is
+    /// copied as a rescue copies one, in version 2; where its sector is then moved and not cached, its
+    /// translation page is written back. The answer is whether there was such a page; the cursor then is
+    /// the row after it, and else stays. With none nothing is programmed or erased. Table pages are left
+    /// to the next flush, which writes all of them anew.
     ///
     /// Where the die is honest and has room for version 2, each `true` leaves fewer newest pages of
     /// version 1, and `false` leaves none but table pages. Where the spare areas have fewer than 40
@@ -86,7 +119,7 @@ impl<N: Nand> Device<N> {
     ///
     /// # Errors
     ///
-    /// Those of `turn`, as there. (This project.)
+    /// Those of `turn`, as there; the cursor stays. (This project.)
     pub fn migrate_one(&mut self) -> Result<bool, DeviceFault>
         requires device { IsDevice N.flash self.old }
         ensures device { IsDevice N.flash self.new }
@@ -97,15 +130,22 @@ impl<N: Nand> Device<N> {
             OnlyReads N.flash N.honest N.calm N.programs N.erases N.failed self.old.engine.nand self.new.engine.nand) }
         ensures migrates { N.honest self.old.engine.nand ≡ true → IsWell N.flash self.old → 40 ≤ self.old.engine.geometry.spare_bytes →
             IfOk result (λ found. Migrates found self.old.engine.geometry (image_in N.flash self.old.engine) (image_in N.flash self.new.engine)) }
+        ensures stays { result ≢ Ok true → self.new.cursor ≡ self.old.cursor }
+        ensures moves_on { N.honest self.old.engine.nand ≡ true → IsWell N.flash self.old → result ≡ Ok true →
+            HasMovedOn self.old.cursor (image_in N.flash self.old.engine) self.new.cursor }
     {
         self.may_flush()?;
         if self.engine.geometry.spare_bytes() < SPARE_FOR_VERSION_2 {
             return Ok(false);
         }
         let good = self.engine.blocks.good();
-        let mut found = false;
-        let answer = migrate_ready(&mut self.engine, &mut found);
+        let mut found = None;
+        let answer = migrate_ready(&mut self.engine, self.cursor, &mut found);
         self.finish(good, answer)?;
-        Ok(found)
+        let Some(row) = found else {
+            return Ok(false);
+        };
+        self.cursor = row + 1;
+        Ok(true)
     }
 }

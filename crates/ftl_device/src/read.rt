@@ -99,6 +99,7 @@ impl<N: Nand> Device<N> {
         ensures refused { OnErr result (out.new ≡ out.old) }
         ensures limits { HasLimitsOf self.old.engine.mapping self.new.engine.mapping }
         ensures read_only { self.new.read_only ≡ self.old.read_only }
+        ensures cursor { self.new.cursor ≡ self.old.cursor }
         ensures only_reads { OnlyReads N.flash N.honest N.calm N.programs N.erases N.failed self.old.engine.nand self.new.engine.nand }
         ensures reads { N.reads self.new.engine.nand ≤ N.reads self.old.engine.nand + 2 }
         ensures hit { IsSome (known self.old.engine.mapping sector) → N.reads self.new.engine.nand ≤ N.reads self.old.engine.nand + 1 }

@@ -121,6 +121,7 @@ impl<N: Nand> Device<N> {
         requires device { IsDevice N.flash self.old }
         ensures device { IsDevice N.flash self.new }
         ensures geometry { self.new.engine.geometry ≡ self.old.engine.geometry }
+        ensures cursor { self.new.cursor ≡ self.old.cursor }
         ensures upkeeps { Upkeeps N.flash N.recorded N.honest N.calm N.failed Turn self.old result self.new }
         ensures turned { OnOk result (HasTurned (ram self.old.engine) (ram self.new.engine)) }
         ensures rests { HasNoneAiling (ram self.old.engine).blocks → self.old.engine.pinned ≡ None → 12 ≤ free_count (ram self.old.engine).blocks →

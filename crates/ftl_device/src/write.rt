@@ -75,6 +75,7 @@ impl<N: Nand> Device<N> {
         requires calm { self.old.engine.fault ≡ None → IsCalm (ram self.old.engine) }
         requires spent { answer ≡ Err (CallFault.Engine WriteFault.SequenceSpent) → self.old.engine.next ≡ 2 ^ 64 - 1 }
         ensures engine { self.new.engine ≡ self.old.engine }
+        ensures cursor { self.new.cursor ≡ self.old.cursor }
         ensures device { IsDevice N.flash self.new }
         ensures answer { result ≡ answer_of (ram self.new.engine) good answer }
     {
@@ -139,6 +140,7 @@ impl<N: Nand> Device<N> {
         requires body { length body.now ≡ self.old.engine.geometry.data_bytes }
         ensures device { IsDevice N.flash self.new }
         ensures geometry { self.new.engine.geometry ≡ self.old.engine.geometry }
+        ensures cursor { self.new.cursor ≡ self.old.cursor }
         ensures changes { Changes N.flash N.recorded N.honest N.calm N.failed sector (Write sector body.now) self.old result self.new }
     {
         self.may_change(sector)?;
@@ -160,6 +162,7 @@ impl<N: Nand> Device<N> {
         requires device { IsDevice N.flash self.old }
         ensures device { IsDevice N.flash self.new }
         ensures geometry { self.new.engine.geometry ≡ self.old.engine.geometry }
+        ensures cursor { self.new.cursor ≡ self.old.cursor }
         ensures changes { Changes N.flash N.recorded N.honest N.calm N.failed sector (Trim sector) self.old result self.new }
     {
         self.may_change(sector)?;

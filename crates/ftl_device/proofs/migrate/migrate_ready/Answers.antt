@@ -1,51 +1,50 @@
-use Rattle.std.proofs.Common.{◌∙◌, ap, sym, subst, inr, arith, Ok, OnOk}
+use Rattle.std.proofs.Common.{◌∙◌, ◌≤◌, ap, sym, subst, inr, arith, OnOk}
 use Rattle.collection.specs.Safe.{ram, image_in}
-use Rattle.collection.specs.Renew.{FindsDue}
+use Rattle.collection.specs.Renew.{HasNoneDue}
 use Rattle.collection.proofs.Looks.{none_from}
+use Rattle.allocation.specs.State.{free_count}
 use Rattle.ftl_device.specs.Calls.{Knows}
 use Rattle.ftl_device.specs.Shortage.{HasFunds, CallShort}
-use Rattle.ftl_device.specs.Migrate.{Migrates}
-use Rattle.ftl_device.proofs.LeaveLemmas.{leaves_by}
-use Rattle.ftl_device.proofs.MigrateLemmas.{over, look_tells, ends_after, none_old, one_fewer, still_ok}
+use Rattle.ftl_device.specs.Migrate.{Renews, FindsFrom}
+use Rattle.ftl_device.proofs.CursorLemmas.{due_from}
+use Rattle.ftl_device.proofs.MigrateLemmas.{over, ends_after, none_old, ok_fewer, still_ok}
 use Rattle.ftl_device.proofs.migrate.migrate_ready.Goals as goal
 
 pub returns-in_default-clause-count : goal.returns-in_default-clause-count
 returns-in_default-clause-count g c = λ known five.
-    inr (let e = ap (λ r. Rattle.allocation.specs.State.free_count r.blocks) c.next_old.ensures.still in omega (arith, e, five))
+    inr (let e = ap (λ r. free_count r.blocks) c.next_from.ensures.still in omega (arith, e, five))
 
 pub returns-in_default-clause-migrates : goal.returns-in_default-clause-migrates
 returns-in_default-clause-migrates g c = λ honest w.
-    let found = c.in_ok-next.ensures.truth honest c.requires.going w.truth in
-    let none = subst (FindsDue 0 (image_in g.N.PageSource.flash c.args.engine.now)) (none_from c.in_ok-next.next c.in_default.not-Some) found in
-    none_old c.args.engine.now.geometry (image_in g.N.PageSource.flash c.args.engine.now) (image_in g.N.PageSource.flash c.next_old.new.self)
-    (λ row. subst (Rattle.collection.specs.Renew.HasNoneDue row) (ap (λ f. f.image) (sym (c.in_ok-next.ensures.same honest))) (none row (omega arith)))
+    let found = c.in_ok-next.ensures.truth honest w in
+    let none = subst (FindsFrom c.args.cursor (image_in g.N.PageSource.flash c.args.engine.now)) (none_from c.in_ok-next.next c.in_default.not-Some) found in
+    none_old c.args.engine.now.geometry (image_in g.N.PageSource.flash c.args.engine.now) (image_in g.N.PageSource.flash c.next_from.new.engine)
+    (λ row. subst (HasNoneDue row) (ap (λ f. f.image) (sym (c.in_ok-next.ensures.same honest))) (none row (omega arith)))
 
 pub returns-clause-ends : goal.returns-clause-ends
 returns-clause-ends g c =
     let old = c.args.engine.now in
-    let mid = c.next_old.new.self in
-    let stands = c.in_ok-next.ensures.stands in
-    let same = still_ok (ram old) (ram mid) c.next_old.ensures.still stands.fault in
+    let mid = c.next_from.new.engine in
+    let same = still_ok (ram old) (ram mid) c.next_from.ensures.still (c.in_ok-next.ensures.leaves.fault ∙ sym c.requires.going) in
     ends_after g.N.PageSource.flash g.N.PageSource.recorded g.N.PageSource.honest g.N.PageSource.calm g.N.PageSource.failed old mid c.renew_ready.new.engine _ c.renew_ready.result same c.in_ok-next.ensures.same
-    (leaves_by g.N.PageSource.flash g.N.PageSource.recorded g.N.PageSource.honest g.N.PageSource.calm g.N.PageSource.failed old mid _ c.requires.going stands (ap (λ r. r.geometry) c.next_old.ensures.still)
-    (look_tells (Ok c.in_ok-next.next) (ram old) (ram mid) (ap (λ r. r.blocks) c.next_old.ensures.still) tt) (λ honest k ne. c.in_ok-next.ensures.stops honest c.requires.going k.truth ne)) c.renew_ready.ensures.ends
+    c.in_ok-next.ensures.leaves c.renew_ready.ensures.ends
 
 pub returns-clause-count : goal.returns-clause-count
 returns-clause-count g c = λ known five.
     let old = c.args.engine.now in
-    let mid = c.next_old.new.self in
-    let same = still_ok (ram old) (ram mid) c.next_old.ensures.still c.in_ok-next.ensures.stands.fault in
+    let mid = c.next_from.new.engine in
+    let same = still_ok (ram old) (ram mid) c.next_from.ensures.still (c.in_ok-next.ensures.leaves.fault ∙ sym c.requires.going) in
     let still = ap (λ f. f.image) (c.in_ok-next.ensures.same known.0) in
-    over (λ r i. HasFunds (g.N.PageSource.honest mid.nand) r i → Rattle.std.specs.Prelude.◌≤◌ 5 (Rattle.allocation.specs.State.free_count r.blocks) → CallShort r (ram c.renew_ready.new.engine) c.renew_ready.result) (ram old) (ram mid) _ _ same still
-    c.renew_ready.ensures.count (c.in_ok-next.ensures.stands.honest_is ∙ known.0, known.1, known.2) five
+    over (λ r i. HasFunds (g.N.PageSource.honest mid.nand) r i → 5 ≤ free_count r.blocks → CallShort r (ram c.renew_ready.new.engine) c.renew_ready.result) (ram old) (ram mid) _ _ same still
+    c.renew_ready.ensures.count (c.in_ok-next.ensures.leaves.honest_is ∙ known.0, known.1, known.2) five
 
 pub returns-clause-migrates : goal.returns-clause-migrates
 returns-clause-migrates g c = λ honest w.
     let old = c.args.engine.now in
-    let mid = c.next_old.new.self in
-    let same = still_ok (ram old) (ram mid) c.next_old.ensures.still c.in_ok-next.ensures.stands.fault in
+    let mid = c.next_from.new.engine in
+    let same = still_ok (ram old) (ram mid) c.next_from.ensures.still (c.in_ok-next.ensures.leaves.fault ∙ sym c.requires.going) in
     let still = ap (λ f. f.image) (c.in_ok-next.ensures.same honest) in
-    let due = (subst (FindsDue 0 (image_in g.N.PageSource.flash old)) c.in-Some.is (c.in_ok-next.ensures.truth honest c.requires.going w.truth)).due in
-    let renews = over (λ r i. Knows r i → OnOk c.renew_ready.result (Rattle.ftl_device.specs.Migrate.Renews c.in-Some.row r.geometry i (image_in g.N.PageSource.flash c.renew_ready.new.engine))) (ram old) (ram mid) _ _ same still
-    (c.renew_ready.ensures.renews (c.in_ok-next.ensures.stands.honest_is ∙ honest)) w in
-    Rattle.ftl_device.proofs.MigrateLemmas.ok_fewer c.renew_ready.result old.geometry _ _ c.in-Some.row w.truth.one due renews
+    let found = subst (FindsFrom c.args.cursor (image_in g.N.PageSource.flash old)) c.in-Some.is (c.in_ok-next.ensures.truth honest w) in
+    let renews = over (λ r i. Knows r i → OnOk c.renew_ready.result (Renews c.in-Some.row r.geometry i (image_in g.N.PageSource.flash c.renew_ready.new.engine))) (ram old) (ram mid) _ _ same still
+    (c.renew_ready.ensures.renews (c.in_ok-next.ensures.leaves.honest_is ∙ honest)) w in
+    ok_fewer c.renew_ready.result old.geometry _ _ c.in-Some.row w.truth.one (due_from c.args.cursor c.in-Some.row _ found) renews

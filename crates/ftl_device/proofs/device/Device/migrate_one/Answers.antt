@@ -1,12 +1,13 @@
-use Rattle.std.proofs.Common.{inr, refl, Ok, Err}
+use Rattle.std.proofs.Common.{inr, refl, Ok, Err, ◌+◌}
 use Rattle.std.proofs.lemmas.Result.{err_from_is_err_and}
 use Rattle.promises.specs.Step as step
 use Rattle.collection.specs.Safe.{ram, image_in}
 use Rattle.ftl_device.proofs.FlushLoops.{keeps_same}
 use Rattle.ftl_device.proofs.LeaveLemmas.{leaves_same, leaves_ends}
 use Rattle.ftl_device.proofs.ShownLemmas.{left_after}
-use Rattle.ftl_device.proofs.SpentLemmas.{funded_begun, five_free}
+use Rattle.ftl_device.proofs.SpentLemmas.{five_free}
 use Rattle.ftl_device.proofs.UpkeepLemmas.{upkept_by, not_upkept}
+use Rattle.ftl_device.proofs.CursorLemmas.{device_at, kept_ready}
 use Rattle.ftl_device.proofs.device.Device.migrate_one.Goals as goal
 
 pub returns-in_err-may_flush-clause-upkeeps : goal.returns-in_err-may_flush-clause-upkeeps
@@ -36,22 +37,23 @@ pub returns-in_err-finish-clause-upkeeps : goal.returns-in_err-finish-clause-upk
 returns-in_err-finish-clause-upkeeps g c =
     let p = err_from_is_err_and c.from_residual-in_err-finish.result c.from_residual-in_err-finish.ensures.1 in
     rw (p.1, p.2) (upkept_by g.N.PageSource.flash g.N.PageSource.recorded g.N.PageSource.honest g.N.PageSource.calm g.N.PageSource.failed step.Turn c.args.self.now c.finish.new.self c.requires.device c.finish.ensures.device c.in_ok-may_flush.ensures.may (λ reply s h. h)
-    c.migrate_ready-answer.new.engine c.good-good.result c.migrate_ready-answer.result (Err _) c.finish.ensures.engine c.good-good.ensures c.in_err-finish.ensures.answer (record {
-      ends = c.migrate_ready-answer.ensures.ends;
-      no_memory = c.migrate_ready-answer.ensures.memory;
-      truth = c.migrate_ready-answer.ensures.truth;
-      lacks = λ honest w. λ fault is. c.migrate_ready-answer.ensures.count (honest, w, funded_begun (ram c.args.self.now.engine) c.args.self.now.read_only c.requires.device.read_only c.in_ok-may_flush.ensures.may.writable) (five_free (ram c.args.self.now.engine) c.args.self.now.read_only c.requires.device.read_only c.in_ok-may_flush.ensures.may.writable);
-      left = λ honest w log ro flag on. left_after g.N.PageSource.flash g.N.PageSource.recorded step.Turn c.args.self.now.engine c.migrate_ready-answer.new.engine c.migrate_ready-answer.new.engine log c.args.self.now.read_only ro c.migrate_ready-answer.result _ _ refl refl c.requires.device.engine.memory c.migrate_ready-answer.ensures.ends.safe.memory c.migrate_ready-answer.ensures.ends.geometry flag on (c.migrate_ready-answer.ensures.count (honest, w, funded_begun (ram c.args.self.now.engine) c.args.self.now.read_only c.requires.device.read_only c.in_ok-may_flush.ensures.may.writable) (five_free (ram c.args.self.now.engine) c.args.self.now.read_only c.requires.device.read_only c.in_ok-may_flush.ensures.may.writable));
-      worth = λ honest w log its. (let no : ⊥ = cc in absurd no);
-    }))
+    c.migrate_ready-answer.new.engine c.good-good.result c.migrate_ready-answer.result (Err _) c.finish.ensures.engine c.good-good.ensures c.in_err-finish.ensures.answer
+    (kept_ready g.N.PageSource.flash g.N.PageSource.recorded g.N.PageSource.honest g.N.PageSource.calm g.N.PageSource.failed c.args.self.now c.migrate_ready-answer.new.engine c.migrate_ready-answer.result c.requires.device c.in_ok-may_flush.ensures.may
+    c.migrate_ready-answer.ensures.ends c.migrate_ready-answer.ensures.memory c.migrate_ready-answer.ensures.truth c.migrate_ready-answer.ensures.count))
+
+pub returns-in_default-clause-upkeeps : goal.returns-in_default-clause-upkeeps
+returns-in_default-clause-upkeeps g c = upkept_by g.N.PageSource.flash g.N.PageSource.recorded g.N.PageSource.honest g.N.PageSource.calm g.N.PageSource.failed step.Turn c.args.self.now c.finish.new.self c.requires.device c.finish.ensures.device c.in_ok-may_flush.ensures.may (λ reply s h. h)
+    c.migrate_ready-answer.new.engine c.good-good.result c.migrate_ready-answer.result (Ok tt) c.finish.ensures.engine c.good-good.ensures c.in_ok-finish.ensures.answer
+    (kept_ready g.N.PageSource.flash g.N.PageSource.recorded g.N.PageSource.honest g.N.PageSource.calm g.N.PageSource.failed c.args.self.now c.migrate_ready-answer.new.engine c.migrate_ready-answer.result c.requires.device c.in_ok-may_flush.ensures.may
+    c.migrate_ready-answer.ensures.ends c.migrate_ready-answer.ensures.memory c.migrate_ready-answer.ensures.truth c.migrate_ready-answer.ensures.count)
+
+-- ---- and the cursor moves on
+
+pub returns-clause-device : goal.returns-clause-device
+returns-clause-device g c = device_at g.N.PageSource.flash c.finish.new.self (c.in-Some.row + 1) c.finish.ensures.device
 
 pub returns-clause-upkeeps : goal.returns-clause-upkeeps
-returns-clause-upkeeps g c = upkept_by g.N.PageSource.flash g.N.PageSource.recorded g.N.PageSource.honest g.N.PageSource.calm g.N.PageSource.failed step.Turn c.args.self.now c.finish.new.self c.requires.device c.finish.ensures.device c.in_ok-may_flush.ensures.may (λ reply s h. h)
-    c.migrate_ready-answer.new.engine c.good-good.result c.migrate_ready-answer.result (Ok tt) c.finish.ensures.engine c.good-good.ensures c.in_ok-finish.ensures.answer (record {
-      ends = c.migrate_ready-answer.ensures.ends;
-      no_memory = c.migrate_ready-answer.ensures.memory;
-      truth = c.migrate_ready-answer.ensures.truth;
-      lacks = λ honest w. λ fault is. c.migrate_ready-answer.ensures.count (honest, w, funded_begun (ram c.args.self.now.engine) c.args.self.now.read_only c.requires.device.read_only c.in_ok-may_flush.ensures.may.writable) (five_free (ram c.args.self.now.engine) c.args.self.now.read_only c.requires.device.read_only c.in_ok-may_flush.ensures.may.writable);
-      left = λ honest w log ro flag on. left_after g.N.PageSource.flash g.N.PageSource.recorded step.Turn c.args.self.now.engine c.migrate_ready-answer.new.engine c.migrate_ready-answer.new.engine log c.args.self.now.read_only ro c.migrate_ready-answer.result _ _ refl refl c.requires.device.engine.memory c.migrate_ready-answer.ensures.ends.safe.memory c.migrate_ready-answer.ensures.ends.geometry flag on (c.migrate_ready-answer.ensures.count (honest, w, funded_begun (ram c.args.self.now.engine) c.args.self.now.read_only c.requires.device.read_only c.in_ok-may_flush.ensures.may.writable) (five_free (ram c.args.self.now.engine) c.args.self.now.read_only c.requires.device.read_only c.in_ok-may_flush.ensures.may.writable));
-      worth = λ honest w log its. (let no : ⊥ = cc in absurd no);
-    })
+returns-clause-upkeeps g c = upkept_by g.N.PageSource.flash g.N.PageSource.recorded g.N.PageSource.honest g.N.PageSource.calm g.N.PageSource.failed step.Turn c.args.self.now (record c.finish.new.self { cursor = c.in-Some.row + 1 }) c.requires.device (device_at g.N.PageSource.flash c.finish.new.self (c.in-Some.row + 1) c.finish.ensures.device) c.in_ok-may_flush.ensures.may (λ reply s h. h)
+    c.migrate_ready-answer.new.engine c.good-good.result c.migrate_ready-answer.result (Ok tt) c.finish.ensures.engine c.good-good.ensures c.in_ok-finish.ensures.answer
+    (kept_ready g.N.PageSource.flash g.N.PageSource.recorded g.N.PageSource.honest g.N.PageSource.calm g.N.PageSource.failed c.args.self.now c.migrate_ready-answer.new.engine c.migrate_ready-answer.result c.requires.device c.in_ok-may_flush.ensures.may
+    c.migrate_ready-answer.ensures.ends c.migrate_ready-answer.ensures.memory c.migrate_ready-answer.ensures.truth c.migrate_ready-answer.ensures.count)
