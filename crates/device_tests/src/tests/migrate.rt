@@ -2,8 +2,9 @@
 ghost use Rattle.std.specs.Prelude.{◌≡◌, IfOk};
 ghost use Rattle.ftl_device.specs.Device.{IsDevice};
 
-use device_bench::bench::{driver_on, given_up, started};
+use device_bench::bench::{driver_on, given_up, recorded, started, unwired, wired};
 use device_bench::hold::hold_same;
+use device_bench::recorder::Cycle;
 use ftl_device::{Device, DeviceFault};
 use nand_die::Die;
 use onfi_cycles::{Driver, Nand};
@@ -17,14 +18,20 @@ use test_images::{Layout, Old, TABLE_0, TABLE_1, Written, laid_out};
 // A page: its row, the kind, the number and the sequence of its record, and its version.
 type Row = (u32, Kind, u32, u64, u8);
 
-// A die of this layout with these pages, how many calls migrate one, and the pages that it has after a flush.
+// A die of this layout with these pages, the capacity of the cache, how many calls migrate one, how many page reads all of
+// them ask for, and the pages that the die has after a flush.
 struct Case {
     name: &'static str,
     layout: Layout,
     pages: &'static [Written],
+    capacity: u32,
     migrated: u32,
+    reads: usize,
     rows: &'static [Row],
 }
+
+// Every page is read twice: as the cursor comes by, and by the call that finds none.
+const LOOKS: usize = 2 * 256;
 
 const WRITTEN: [Written; 4] = [
     TABLE_0,
@@ -33,11 +40,25 @@ const WRITTEN: [Written; 4] = [
     (9, Kind::Trim, 7, 4, 0, 0),
 ];
 
+// The last block of the die is full.
+const LAST_BLOCK: [Written; 10] = [
+    TABLE_0,
+    TABLE_1,
+    (248, Kind::Sector, 0, 3, 0, 0x10),
+    (249, Kind::Sector, 1, 4, 0, 0x11),
+    (250, Kind::Sector, 2, 5, 0, 0x12),
+    (251, Kind::Sector, 3, 6, 0, 0x13),
+    (252, Kind::Sector, 4, 7, 0, 0x14),
+    (253, Kind::Sector, 5, 8, 0, 0x15),
+    (254, Kind::Sector, 6, 9, 0, 0x16),
+    (255, Kind::Sector, 7, 10, 0, 0x17),
+];
+
 const OLD_TABLE_0: Row = (0, Kind::Table, 0, 1, 1);
 
 const OLD_TABLE_1: Row = (1, Kind::Table, 1, 2, 1);
 
-const CASES: [Case; 3] = [
+const CASES: [Case; 4] = [
     Case {
         name: "all pages are of version 1",
         layout: Layout {
@@ -45,7 +66,9 @@ const CASES: [Case; 3] = [
             old: Old::All,
         },
         pages: &WRITTEN,
+        capacity: 4,
         migrated: 2,
+        reads: LOOKS + 2,
         rows: &[
             OLD_TABLE_0,
             OLD_TABLE_1,
@@ -65,7 +88,9 @@ const CASES: [Case; 3] = [
             old: Old::Odd,
         },
         pages: &WRITTEN,
+        capacity: 4,
         migrated: 1,
+        reads: LOOKS + 1,
         rows: &[
             (0, Kind::Table, 0, 1, 2),
             OLD_TABLE_1,
@@ -78,13 +103,49 @@ const CASES: [Case; 3] = [
         ],
     },
     Case {
+        name: "those of the last block are",
+        layout: Layout {
+            spare_bytes: 40,
+            old: Old::All,
+        },
+        pages: &LAST_BLOCK,
+        capacity: 8,
+        migrated: 8,
+        reads: LOOKS + 8,
+        rows: &[
+            OLD_TABLE_0,
+            OLD_TABLE_1,
+            (2, Kind::Translation, 0, 19, 2),
+            (3, Kind::Table, 0, 20, 2),
+            (4, Kind::Table, 1, 21, 2),
+            (8, Kind::Sector, 0, 11, 2),
+            (9, Kind::Sector, 1, 12, 2),
+            (10, Kind::Sector, 2, 13, 2),
+            (11, Kind::Sector, 3, 14, 2),
+            (12, Kind::Sector, 4, 15, 2),
+            (13, Kind::Sector, 5, 16, 2),
+            (14, Kind::Sector, 6, 17, 2),
+            (15, Kind::Sector, 7, 18, 2),
+            (248, Kind::Sector, 0, 3, 1),
+            (249, Kind::Sector, 1, 4, 1),
+            (250, Kind::Sector, 2, 5, 1),
+            (251, Kind::Sector, 3, 6, 1),
+            (252, Kind::Sector, 4, 7, 1),
+            (253, Kind::Sector, 5, 8, 1),
+            (254, Kind::Sector, 6, 9, 1),
+            (255, Kind::Sector, 7, 10, 1),
+        ],
+    },
+    Case {
         name: "there is no room for version 2",
         layout: Layout {
             spare_bytes: 32,
             old: Old::All,
         },
         pages: &WRITTEN,
+        capacity: 4,
         migrated: 0,
+        reads: 0,
         rows: &[
             OLD_TABLE_0,
             OLD_TABLE_1,
@@ -103,7 +164,7 @@ fn loaded(alloc: Global, geometry: Geometry, image: &[u8]) -> Result<Driver<Die>
     driver_on(Die::from_image(alloc, geometry, image, &[])?, geometry)
 }
 
-// How many calls migrate one, and then a flush.
+// How many calls migrate one.
 fn migrate_all<N: Nand>(device: &mut Device<N>) -> Result<u32, DeviceFault>
     requires { IsDevice N.flash device.old }
     ensures { IsDevice N.flash device.new }
@@ -115,6 +176,15 @@ fn migrate_all<N: Nand>(device: &mut Device<N>) -> Result<u32, DeviceFault>
         }
         migrated = migrated.saturating_add(1);
     }
+    Ok(migrated)
+}
+
+// The same, and then a flush.
+fn migrate_and_flush<N: Nand>(device: &mut Device<N>) -> Result<u32, DeviceFault>
+    requires { IsDevice N.flash device.old }
+    ensures { IsDevice N.flash device.new }
+{
+    let migrated = migrate_all(device)?;
     device.flush()?;
     Ok(migrated)
 }
@@ -154,21 +224,45 @@ fn hold_image(geometry: &Geometry, bytes: &[u8], case: &Case) -> Result<(), Fail
     Ok(())
 }
 
-fn hold_case(alloc: Global, case: &Case) -> Result<(), Fail> {
-    let geometry = Geometry::new(64, case.layout.spare_bytes, 8, 32, 32)?;
-    let image = laid_out(alloc, &geometry, case.layout, case.pages)?;
-    let driver = loaded(alloc, geometry, &image)?;
-    let mut device = started(alloc, driver, &geometry, 4)?;
-    let migrated = migrate_all(&mut device)?;
+fn hold_case(alloc: Global, case: &Case, geometry: Geometry, image: &[u8]) -> Result<(), Fail> {
+    let driver = loaded(alloc, geometry, image)?;
+    let mut device = started(alloc, driver, &geometry, case.capacity)?;
+    let migrated = migrate_and_flush(&mut device)?;
     hold_same(case.name, "migrated", &migrated, &case.migrated)?;
     let (driver, geometry) = given_up(device);
     hold_image(&geometry, &image_of(alloc, &geometry, driver)?, case)
 }
 
+// How many pages were read.
+fn reads_of(cycles: &[Cycle]) -> usize {
+    cycles
+        .iter()
+        .filter(|cycle| **cycle == Cycle::Command(0x30))
+        .count()
+}
+
+// So many pages are read as the die is brought forward.
+fn hold_reads(alloc: Global, case: &Case, geometry: Geometry, image: &[u8]) -> Result<(), Fail> {
+    let die = Die::from_image(alloc, geometry, image, &[])?;
+    let driver = wired(alloc, die, geometry)?;
+    let mut device = recorded(alloc, driver, &geometry, case.capacity, None)?;
+    migrate_all(&mut device)?;
+    let (driver, _) = given_up(device);
+    let (_, seen) = unwired(driver);
+    hold_same(case.name, "page reads", &reads_of(&seen), &case.reads)
+}
+
+fn hold_rows(alloc: Global, case: &Case) -> Result<(), Fail> {
+    let geometry = Geometry::new(64, case.layout.spare_bytes, 8, 32, 32)?;
+    let image = laid_out(alloc, &geometry, case.layout, case.pages)?;
+    hold_case(alloc, case, geometry, &image)?;
+    hold_reads(alloc, case, geometry, &image)
+}
+
 #[test]
 fn migrate_rows(rt: HostRuntime) -> Result<(), Fail> {
     for case in &CASES {
-        hold_case(rt.alloc(), case)?;
+        hold_rows(rt.alloc(), case)?;
     }
     Ok(())
 }
