@@ -1,8 +1,9 @@
 #!/usr/bin/env bash
-# Runs the scripts of four hundred commands whole: each program and erase fails in turn, alone and with the one or two after it; one
-# call of the bus fails, each in turn; and the die stops at each program and erase. The gate tries some of each, evenly apart. The tests
-# are proved, built and run in a copy, in which the distances are 1. Takes what earlier checks kept of the libraries (out/rlib), and
-# proves the rest first. It prints the tests.
+# Runs the scripts of commands whole: each program and erase fails in turn, alone and with the one or two after it; the die stops at
+# each program and erase, in five ways, with pages of version 1, of version 2, and of version 1 that are brought forward; and one call
+# of the bus fails, each in turn. The gate tries some of each, evenly apart. The tests are proved, built and run in a copy, in which the
+# distances are 1; each may take a quarter of an hour. Takes what earlier checks kept of the libraries (out/rlib) and of these crates,
+# and proves the rest first. It prints the tests.
 #
 #     bench/fault_scripts.sh [fault_tests] [hostile_tests]       these crates of tests (default: both)
 set -eu
@@ -14,6 +15,10 @@ cd "$top"
 git init -q "$folder"
 tar cf - --exclude='crates/*/out/incremental' crates crates.txt HANDLES | tar xf - -C "$folder"
 
+for name in "$@"; do
+    if [ -d "crates/$name/out/incremental" ]; then cp -a "crates/$name/out/incremental" "$folder/crates/$name/out/"; fi
+done
+
 # Puts a distance of 1 in the place of that of a constant.
 tighten() {
     grep -q "^const $2: \w* = [0-9]*;" "$1"
@@ -22,8 +27,9 @@ tighten() {
 
 cd "$folder/crates"
 tighten fault_tests/src/tests/fault_scripts.rt EACH
+tighten fault_tests/src/tests/stops.rt STOPS_APART
 tighten hostile_tests/src/tests/scripts.rt CALLS_APART
 tighten hostile_tests/src/tests/scripts.rt CHANGES_APART
 for name in "$@"; do
-    (cd "$name" && rt test 2>&1 | grep '^\(test\|rt:\) ')
+    (cd "$name" && RT_SECONDS=900 rt test 2>&1 | grep '^\(test\|rt:\) ')
 done

@@ -16,6 +16,7 @@ use std::test::Fail;
 pub type State = (u32, u8, u16, u16, u32);
 
 /// What a die says that is mounted anew.
+#[derive(Drop)]
 pub struct Mounted {
     /// The capacity that it is mounted for.
     pub capacity: u32,

@@ -9,7 +9,8 @@ use std::test::Fail;
 /// What a device answers.
 pub type Answer = Result<(), DeviceFault>;
 
-/// A write of a sector with 64 bytes of one, a read that gives such, a trim, a flush, or a turn.
+/// A write of a sector with 64 bytes of one, a read that gives such, a trim, a flush, a turn, or a page of version 1 that is brought
+/// forward, if there is one.
 #[derive(Clone, Copy, Debug)]
 pub enum Call {
     Write(u32, u8),
@@ -17,6 +18,7 @@ pub enum Call {
     Trim(u32),
     Flush,
     Turn,
+    Migrate,
 }
 
 impl Call {
@@ -24,7 +26,7 @@ impl Call {
     pub fn sector(self) -> u32 {
         match self {
             Call::Write(sector, _) | Call::Read(sector, _) | Call::Trim(sector) => sector,
-            Call::Flush | Call::Turn => 0,
+            Call::Flush | Call::Turn | Call::Migrate => 0,
         }
     }
 
@@ -32,7 +34,7 @@ impl Call {
     pub fn byte(self) -> u8 {
         match self {
             Call::Write(_, byte) | Call::Read(_, byte) => byte,
-            Call::Trim(_) | Call::Flush | Call::Turn => 0,
+            Call::Trim(_) | Call::Flush | Call::Turn | Call::Migrate => 0,
         }
     }
 }
@@ -113,6 +115,15 @@ fn turn<N: Nand>(device: &mut Device<N>) -> Answer
     device.turn()
 }
 
+// Brings a page of version 1 forward, if there is one.
+fn migrate<N: Nand>(device: &mut Device<N>) -> Answer
+    requires { IsDevice N.flash device.old }
+    ensures { IsDevice N.flash device.new }
+{
+    device.migrate_one()?;
+    Ok(())
+}
+
 /// Makes a call, and gives the answer.
 ///
 /// # Errors
@@ -128,6 +139,7 @@ pub fn make<N: Nand>(device: &mut Device<N>, name: &str, call: Call) -> Result<A
         Call::Trim(sector) => Ok(trim(device, sector)),
         Call::Flush => Ok(flush(device)),
         Call::Turn => Ok(turn(device)),
+        Call::Migrate => Ok(migrate(device)),
     }
 }
 

@@ -1,5 +1,10 @@
 // The devices of these tests are those of `device_bench`.
+mod collecting;
+mod courses;
 mod fault_scripts;
 mod faults;
+mod listed;
 mod pairs;
 mod script;
+mod stop_rows;
+mod stops;

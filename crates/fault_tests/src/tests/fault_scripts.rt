@@ -16,7 +16,7 @@ use std::test::Fail;
 const EACH: u16 = 7;
 
 // Call i.
-fn nth_call(i: u32) -> Call {
+pub fn nth_call(i: u32) -> Call {
     match (i % 16, i % 8) {
         (15, _) => Call::Flush,
         (14, _) => Call::Turn,

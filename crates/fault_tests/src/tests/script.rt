@@ -19,7 +19,7 @@ const MOST: u32 = 48;
 
 // The list of sectors, each as the byte that its 64 bytes are, the state of the generator that the
 // commands come from, and the writes and trims that were done.
-#[derive(Drop)]
+#[derive(Clone, Copy)]
 pub struct Script {
     sectors: [u8; MOST as usize],
     state: u64,
@@ -37,12 +37,12 @@ impl Script {
     }
 
     // The byte of a sector.
-    fn byte(&self, sector: u32) -> u8 {
+    pub fn byte(&self, sector: u32) -> u8 {
         self.sectors[(sector % MOST) as usize]
     }
 
     // A call was done.
-    fn note(&mut self, call: Call) {
+    pub fn note(&mut self, call: Call) {
         if let Call::Write(..) | Call::Trim(_) = call {
             self.sectors[(call.sector() % MOST) as usize] = call.byte();
             self.done = self.done.saturating_add(1);

@@ -1,0 +1,259 @@
+// What devices are asked on dies that stop, and what is left by them.
+ghost use Rattle.std.specs.Prelude.{◌≡◌, IfOk};
+ghost use Rattle.ftl_device.specs.Device.{IsDevice};
+
+use super::collecting::{CLOSING, collected};
+use super::fault_scripts::nth_call;
+use super::script::Script;
+use device_bench::bench::{driver_on, formatted_die, given_up, started};
+use device_bench::calls::{Answer, Call, make};
+use device_bench::dies::image_of;
+use ftl_device::{Device, DeviceFault};
+use nand_die::{Die, Stop};
+use onfi_cycles::{Driver, Nand};
+use page_layout::geometry::Geometry;
+use page_layout::record::{read_record, write_record_v1};
+use std::alloc::Global;
+use std::test::Fail;
+
+/// What a die has at first, and the calls of its device.
+#[derive(Clone, Copy, PartialEq)]
+pub enum Calls {
+    /// A formatted die, and the calls of the scripts of failures.
+    Plain,
+    /// The die after 128 of these calls, with all its pages in version 1. Every fourth call brings a page of version 1 forward.
+    Migrating,
+    /// A formatted die, and the calls before a collection of block 1, which comes after them.
+    Collecting,
+}
+
+impl Calls {
+    /// Call i, from 0 on.
+    pub fn nth(self, i: u32) -> Call {
+        match self {
+            Calls::Migrating if i % 4 == 1 => Call::Migrate,
+            Calls::Collecting if i < 8 => CLOSING[i as usize],
+            _ => nth_call(i),
+        }
+    }
+}
+
+/// A die, and what its device is asked.
+#[derive(Clone, Copy)]
+pub struct Course {
+    pub name: &'static str,
+    /// The bytes of a spare area.
+    pub spare: u32,
+    pub calls: Calls,
+    /// So many calls are made. Those after them are made once the die was started again.
+    pub count: u32,
+}
+
+/// Where a course begins: the geometry and the image of its die, and the sectors that this holds.
+#[derive(Drop)]
+pub struct Start {
+    pub geometry: Geometry,
+    image: Vec<u8>,
+    script: Script,
+}
+
+/// What is left by a device that stopped: the list of what it did, the call at which it stopped, and the image of its die.
+#[derive(Drop)]
+pub struct Left {
+    pub script: Script,
+    pub stopped: Call,
+    pub image: Vec<u8>,
+}
+
+// A list of what a device did, and the call at which it stopped, if it did.
+#[derive(Clone, Copy)]
+struct Went {
+    script: Script,
+    stopped: Option<Call>,
+}
+
+// What a device did that goes on from this list.
+fn going_on(script: Script) -> Went {
+    Went {
+        script,
+        stopped: None,
+    }
+}
+
+// Lists a call, if it was done. Whether it was, and the device goes on.
+fn goes_on(script: &mut Script, call: Call, answer: Answer) -> Result<bool, Fail> {
+    match answer {
+        Ok(()) => {
+            script.note(call);
+            Ok(true)
+        }
+        Err(DeviceFault::BusFault) => Ok(false),
+        Err(_) => Err(Fail::new(format_args!("{call:?} is refused"))),
+    }
+}
+
+fn give<N: Nand>(device: &mut Device<N>, script: &mut Script, call: Call) -> Result<bool, Fail>
+    requires { IsDevice N.flash device.old }
+    ensures { IsDevice N.flash device.new }
+{
+    let answer = make(device, "given", call)?;
+    goes_on(script, call, answer)
+}
+
+// Makes the first calls, up to the one at which the device stops, if it does.
+fn give_until_stop<N: Nand>(
+    device: &mut Device<N>,
+    calls: Calls,
+    count: u32,
+    went: &mut Went,
+) -> Result<(), Fail>
+    requires { IsDevice N.flash device.old }
+    ensures { IsDevice N.flash device.new }
+{
+    for i in 0..count {
+        let call = calls.nth(i);
+        if !give(device, &mut went.script, call)? {
+            went.stopped = Some(call);
+            return Ok(());
+        }
+    }
+    Ok(())
+}
+
+// The die and its geometry after the collection at the end of a course. It leaves the sectors as a turn does.
+fn after_collection<N: Nand + Drop>(
+    device: Device<N>,
+    went: &mut Went,
+) -> Result<(N, Geometry), Fail>
+    requires { IsDevice N.flash device }
+    ensures { IfOk result (λ pair. (N.flash pair.0).geometry ≡ pair.1) }
+{
+    let mut stopped = false;
+    let pair = collected(device, &mut stopped)?;
+    if stopped {
+        went.stopped = Some(Call::Turn);
+    }
+    Ok(pair)
+}
+
+// The die and its geometry after a course, or where the device stopped in it.
+fn after<N: Nand + Drop>(
+    mut device: Device<N>,
+    course: &Course,
+    went: &mut Went,
+) -> Result<(N, Geometry), Fail>
+    requires { IsDevice N.flash device }
+    ensures { IfOk result (λ pair. (N.flash pair.0).geometry ≡ pair.1) }
+{
+    give_until_stop(&mut device, course.calls, course.count, went)?;
+    if course.calls == Calls::Collecting && went.stopped.is_none() {
+        return after_collection(device, went);
+    }
+    Ok(given_up(device))
+}
+
+// A die at the start of a course that stops at this program or erase.
+fn stopping(alloc: Global, start: &Start, nth: u64, stop: Stop) -> Result<Driver<Die>, Fail>
+    ensures { IfOk result (λ driver. driver.geometry ≡ start.now.geometry) }
+{
+    let mut die = Die::from_image(alloc, start.geometry, &start.image, &[])?;
+    die.set_stop(nth, stop)?;
+    driver_on(die, start.geometry)
+}
+
+/// What is left by the device of a course, with a cache of four, whose die stops at this program or erase, or none where the course
+/// ends before.
+///
+/// # Errors
+///
+/// A call is refused, or a growth was.
+pub fn left_by(
+    alloc: Global,
+    course: &Course,
+    start: &Start,
+    nth: u64,
+    stop: Stop,
+) -> Result<Option<Left>, Fail> {
+    let mut went = going_on(start.script);
+    let driver = stopping(alloc, start, nth, stop)?;
+    let device = started(alloc, driver, &start.geometry, 4)?;
+    let (driver, geometry) = after(device, course, &mut went)?;
+    let Some(stopped) = went.stopped else {
+        return Ok(None);
+    };
+    let image = image_of(alloc, &geometry, driver)?;
+    Ok(Some(Left {
+        script: went.script,
+        stopped,
+        image,
+    }))
+}
+
+// Writes the spare area of a sound page anew, in version 1. Whether the page is sound.
+fn age_spare(geometry: &Geometry, body: &[u8], spare: &mut [u8]) -> bool {
+    if geometry.data_bytes() != body.len() || geometry.spare_bytes() != spare.len() {
+        return false;
+    }
+    match read_record(geometry, body, spare) {
+        Some(record) => {
+            write_record_v1(geometry, &record, body, spare);
+            true
+        }
+        None => false,
+    }
+}
+
+// The same of a page.
+fn age_page(geometry: &Geometry, page: &mut [u8]) -> bool {
+    if page.len() < geometry.data_bytes() {
+        return false;
+    }
+    let (body, spare) = page.split_at_mut(geometry.data_bytes());
+    age_spare(geometry, body, spare)
+}
+
+// Writes all sound pages of an image anew, in version 1. How many there are.
+fn age(geometry: &Geometry, image: &mut [u8]) -> u32 {
+    let mut aged = 0u32;
+    for page in image.chunks_exact_mut(geometry.data_bytes() + geometry.spare_bytes()) {
+        if age_page(geometry, page) {
+            aged = aged.saturating_add(1);
+        }
+    }
+    aged
+}
+
+// The image of a formatted die after so many calls of the scripts of failures.
+fn image_after(
+    alloc: Global,
+    geometry: Geometry,
+    count: u32,
+    went: &mut Went,
+) -> Result<Vec<u8>, Fail> {
+    let driver = formatted_die(alloc, geometry, &[], 0)?;
+    let mut device = started(alloc, driver, &geometry, 4)?;
+    give_until_stop(&mut device, Calls::Plain, count, went)?;
+    let (driver, geometry) = given_up(device);
+    image_of(alloc, &geometry, driver)
+}
+
+/// Where a course begins.
+///
+/// # Errors
+///
+/// A call is refused, or a growth was, or few pages are in version 1.
+pub fn start_of(alloc: Global, course: &Course) -> Result<Start, Fail> {
+    let geometry = Geometry::new(64, course.spare, 8, 32, 32)?;
+    let mut went = going_on(Script::new());
+    let is_old = course.calls == Calls::Migrating;
+    let count = if is_old { 128 } else { 0 };
+    let mut image = image_after(alloc, geometry, count, &mut went)?;
+    if is_old && age(&geometry, &mut image) < 128 {
+        return Err("few pages are in version 1")?;
+    }
+    Ok(Start {
+        geometry,
+        image,
+        script: went.script,
+    })
+}
