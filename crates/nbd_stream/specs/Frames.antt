@@ -1,0 +1,168 @@
+-- A transmission as bytes: whole requests and a rest, and replies. (The NBD protocol; its numbers have their most significant byte first.)
+use Rattle.std.specs.Prelude.{◌≡◌, ◌<◌, ◌≤◌, ◌⊎◌, ◌^◌, ◌==◌, ◌&&◌, ℕ, Bool, true, false, List, [], ◌∷◌, ◌++◌, length, take}
+use Rattle.std.specs.Prelude.{slice_index, Option, Result, Ok, Err, if◌then◌else◌}
+use Rattle.std.specs.List.{flat_map, AllByRecursion}
+use Rattle.std.specs.Int.{to_be_bytes, w16, w32, w64}
+use Rattle.std.specs.Io.KnownBytes.{Consumes, IsAtEnd}
+use Rattle.request_stream.specs.declared.reply.ServeFault.{ServeFault}
+use Rattle.request_stream.specs.declared.reply.ServeFault.TheVariants as fault
+use Rattle.nbd_stream.specs.declared.reply.RequestError.{RequestError}
+use Rattle.nbd_stream.specs.declared.reply.RequestError.TheVariants.{NotPermitted, InputOutput, Invalid, NoSpace}
+use Rattle.nbd_stream.specs.declared.request.Header.{Header}
+use Rattle.nbd_stream.specs.declared.request.End.{End}
+use Rattle.nbd_stream.specs.declared.request.End.TheVariants.{Boundary, Unfinished, BadFrame, Disconnected}
+use Rattle.nbd_stream.specs.declared.request.Next.{Next}
+use Rattle.nbd_stream.specs.declared.request.Next.TheVariants as next
+
+-- ---- requests
+
+-- a request: its flags, the number of its command, the cookie that its reply carries, the range of bytes that it speaks of, and the
+-- bytes that follow
+pub record Request : Type 0 where
+  pub flags : ℕ
+  pub code : ℕ
+  pub cookie : ℕ
+  pub offset : ℕ
+  pub count : ℕ
+  pub body : List ℕ
+
+-- the magic 25609513h, and the numbers
+abbrev pub header_bytes : Request → List ℕ
+header_bytes r = 37 ∷ 96 ∷ 149 ∷ 19 ∷ (to_be_bytes w16 r.flags ++ (to_be_bytes w16 r.code ++ (to_be_bytes w64 r.cookie ++ (to_be_bytes w64 r.offset ++ to_be_bytes w32 r.count))))
+
+abbrev pub request_bytes : Request → List ℕ
+request_bytes r = header_bytes r ++ r.body
+
+-- how many bytes follow the header: after a write's as many as it counts
+abbrev pub body_length : (code count : ℕ) → ℕ
+body_length code count = if code == 1 then count else 0
+
+-- the numbers have two, two, eight, eight and four bytes, and the command is not the one that ends a transmission
+pub record IsHeader (r : Request) : Type 0 where
+  pub flags : r.flags < 2 ^ 16
+  pub code : r.code < 2 ^ 16
+  pub cookie : r.cookie < 2 ^ 64
+  pub offset : r.offset < 2 ^ 64
+  pub count : r.count < 2 ^ 32
+  pub goes_on : (r.code == 2) ≡ false
+
+-- and the body is as long as the header says
+pub record IsRequest (r : Request) : Type 0 where
+  pub header : IsHeader r
+  pub body : length r.body ≡ body_length r.code r.count
+
+-- ---- what comes after the last whole request
+
+-- whether 28 bytes begin with the magic
+abbrev pub is_header : List ℕ → Bool
+is_header bytes = slice_index bytes 0 == 37 && slice_index bytes 1 == 96 && slice_index bytes 2 == 149 && slice_index bytes 3 == 19
+
+-- whether their command is the one that ends the transmission
+abbrev pub is_end : List ℕ → Bool
+is_end bytes = slice_index bytes 6 == 0 && slice_index bytes 7 == 2
+
+-- the beginning of a request: a part of its header, or its header and a part of its body
+abbrev pub IsBeginning : List ℕ → Type 0
+IsBeginning bytes = (length bytes < 28)
+    ⊎ ((r : Request) × IsHeader r × (length r.body < body_length r.code r.count) × (bytes ≡ request_bytes r))
+
+-- nothing; less than a whole request; or 28 bytes with another magic, or with the command that ends the transmission, and more
+abbrev pub IsRest : End → List ℕ → Type 0
+IsRest Boundary bytes = bytes ≡ []
+IsRest Unfinished bytes = (0 < length bytes) × IsBeginning bytes
+IsRest BadFrame bytes = (28 ≤ length bytes) × (is_header (take 28 bytes) ≡ false)
+IsRest Disconnected bytes = (28 ≤ length bytes) × (is_header (take 28 bytes) ≡ true) × (is_end (take 28 bytes) ≡ true)
+
+-- THE TRANSMISSION: the bytes are these requests one after another, and then this rest
+pub record Splits (stream : List ℕ) (requests : List Request) (end : End) (rest : List ℕ) : Type 0 where
+  pub whole : stream ≡ flat_map request_bytes requests ++ rest
+  pub each : AllByRecursion IsRequest requests
+  pub ends : IsRest end rest
+
+-- ---- requests as they are read
+
+-- the request of this header, with this body
+abbrev pub request_at : Header → List ℕ → Request
+request_at h body = record { flags = h.flags; code = h.code; cookie = h.cookie; offset = h.offset; count = h.count; body = body }
+
+-- 28 bytes are this header, whose numbers have as many bytes as they take
+pub record Spells (bytes : List ℕ) (h : Header) : Type 0 where
+  pub whole : bytes ≡ header_bytes (request_at h [])
+  pub flags : h.flags < 2 ^ 16
+  pub code : h.code < 2 ^ 16
+  pub cookie : h.cookie < 2 ^ 64
+  pub offset : h.offset < 2 ^ 64
+  pub count : h.count < 2 ^ 32
+
+-- so many bytes were read, and where the buffer has room for them they stand at its front; or the reader ended or failed before
+abbrev pub ReadsBody : ℕ → (unread left : Option (List ℕ)) → List ℕ → Result Bool ServeFault → Type 0
+ReadsBody count unread left buffer (Ok true) = (body : List ℕ) × (length body ≡ count) × Consumes unread left body × (count ≤ length buffer → body ≡ take count buffer)
+ReadsBody count unread left buffer (Ok false) = (part : List ℕ) × (length part < count) × Consumes unread left part × IsAtEnd left
+ReadsBody count unread left buffer (Err e) = (e ≡ fault.Read) × (part : List ℕ) × (length part < count) × Consumes unread left part
+
+-- What was read after the last whole request, and why no more was: the reader has ended, after nothing or after a beginning of a
+-- request, or 28 bytes have another magic or end the transmission.
+abbrev pub Rests : End → List ℕ → Option (List ℕ) → Type 0
+Rests Boundary tail left = (tail ≡ []) × IsAtEnd left
+Rests Unfinished tail left = IsRest Unfinished tail × IsAtEnd left
+Rests BadFrame tail left = (length tail ≡ 28) × (is_header tail ≡ false)
+Rests Disconnected tail left = (length tail ≡ 28) × (is_header tail ≡ true) × (is_end tail ≡ true)
+
+-- THE NEXT REQUEST, or the end, was read and nothing after it; where a read failed, a beginning of it. Where the buffer has room for
+-- the request's body, it stands at the front.
+abbrev pub ReadsRequest : (unread left : Option (List ℕ)) → List ℕ → Result Next ServeFault → Type 0
+ReadsRequest unread left buffer (Ok (next.Whole h)) =
+    (body : List ℕ) × IsRequest (request_at h body) × Consumes unread left (request_bytes (request_at h body)) × (length body ≤ length buffer → body ≡ take (length body) buffer)
+ReadsRequest unread left buffer (Ok (next.Ended end)) = (tail : List ℕ) × Rests end tail left × Consumes unread left tail
+ReadsRequest unread left buffer (Err e) = (e ≡ fault.Read) × (tail : List ℕ) × IsBeginning tail × Consumes unread left tail
+
+-- the same, once the header was read
+abbrev pub ReadsRest : Header → (unread left : Option (List ℕ)) → List ℕ → Result Next ServeFault → Type 0
+ReadsRest header unread left buffer (Ok (next.Whole h)) =
+    (h ≡ header) × ((header.code == 2) ≡ false) × ReadsBody (body_length header.code header.count) unread left buffer (Ok true)
+ReadsRest header unread left buffer (Ok (next.Ended end)) =
+    ((end ≡ Disconnected) × (header.code ≡ 2) × Consumes unread left [])
+    ⊎ ((end ≡ Unfinished) × ((header.code == 2) ≡ false) × ReadsBody (body_length header.code header.count) unread left buffer (Ok false))
+ReadsRest header unread left buffer (Err e) = ((header.code == 2) ≡ false) × ReadsBody (body_length header.code header.count) unread left buffer (Err e)
+
+-- ---- replies
+
+-- the protocol's number of an error: 1 EPERM, 5 EIO, 22 EINVAL, 28 ENOSPC
+abbrev pub error_code : RequestError → ℕ
+error_code NotPermitted = 1
+error_code InputOutput = 5
+error_code Invalid = 22
+error_code NoSpace = 28
+
+-- 0 where there is none
+abbrev pub error_number_of : {T : Type 0} → Result T RequestError → ℕ
+error_number_of (Ok done) = 0
+error_number_of (Err e) = error_code e
+
+-- the magic 67446698h, an error's number or 0, the cookie
+abbrev pub reply_header_bytes : (error cookie : ℕ) → List ℕ
+reply_header_bytes error cookie = 103 ∷ 68 ∷ 102 ∷ 152 ∷ (to_be_bytes w32 error ++ to_be_bytes w64 cookie)
+
+-- a reply: the bytes that were asked for follow where there is no error
+abbrev pub reply_bytes : {T : Type 0} → ℕ → Result T RequestError → List ℕ → List ℕ
+reply_bytes cookie (Ok done) bytes = reply_header_bytes 0 cookie ++ bytes
+reply_bytes cookie (Err e) bytes = reply_header_bytes (error_code e) cookie
+
+-- ---- laws
+
+abbrev pub IsBytes : List ℕ → Type 0
+IsBytes bytes = (i : ℕ) → slice_index bytes i < 256
+
+-- a transmission splits in just one way
+abbrev pub OneWayLaw : Type 0
+OneWayLaw = (stream : List ℕ) (fs gs : List Request) (d e : End) (t u : List ℕ) → Splits stream fs d t → Splits stream gs e u → (fs ≡ gs) × (d ≡ e) × (t ≡ u)
+
+-- and in some way
+pub record SplitsSomehow (stream : List ℕ) : Type 0 where
+  pub requests : List Request
+  pub end : End
+  pub rest : List ℕ
+  pub splits : Splits stream requests end rest
+
+abbrev pub SomeWayLaw : Type 0
+SomeWayLaw = (stream : List ℕ) → IsBytes stream → SplitsSomehow stream

@@ -1,0 +1,4 @@
+pub mod Frames
+pub mod Options
+pub mod Negotiation
+pub mod Tasks

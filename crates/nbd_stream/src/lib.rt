@@ -1,0 +1,20 @@
+//! The protocol of network block devices over any reader and writer, as the server's side speaks it: fixed newstyle negotiation,
+//! and then requests with simple replies. The protocol is that of the document "The NBD protocol" of the Network Block Device project.
+#![tactic(auto)]
+
+mod answer;
+mod body;
+mod export;
+pub mod laws;
+mod negotiation;
+mod option;
+mod reply;
+mod request;
+mod task;
+
+pub use export::Export;
+pub use negotiation::{Negotiated, answer_options};
+pub use option::{NextOption, OptionHeader, read_option};
+pub use reply::{RequestError, send_reply};
+pub use request::{End, Header, Next, read_request};
+pub use task::{Command, Task, admit};
