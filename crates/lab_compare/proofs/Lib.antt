@@ -1,0 +1,2 @@
+pub mod LostLemmas
+pub mod ComparingLemmas
