@@ -2,11 +2,10 @@
 use Rattle.std.specs.Prelude.{◌≡◌, ◌⊎◌, ℕ, ◌+◌, ◌<◌, ◌≤◌, Bool, true, false, Option, None, Some, Result, Ok, Err}
 use Rattle.std.specs.Option.{ForSome}
 use Rattle.page_layout.specs.declared.geometry.Geometry.{Geometry}
-use Rattle.page_layout.specs.declared.record.Key.{Key}
 use Rattle.page_layout.specs.Page.{Image}
 use Rattle.page_layout.specs.Sound.{version_for}
-use Rattle.page_layout.specs.Version.{is_old, old_pages, AddsNoOld}
-use Rattle.collection.specs.Renew.{is_table, HasNoneDue, HasDue, FindsDue, IsNextDue}
+use Rattle.page_layout.specs.Version.{old_pages, AddsNoOld}
+use Rattle.collection.specs.Renew.{HasNoneDue, HasDue, FindsDue, IsNextDue}
 use Rattle.ftl_device.specs.declared.fault.DeviceFault.{DeviceFault}
 use Rattle.ftl_device.specs.Renewed.{HasOldTablesOnly}
 
