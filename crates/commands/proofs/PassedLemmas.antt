@@ -1,8 +1,8 @@
 -- A die in memory on which no fault is set fails nothing that is due, whatever blocks of it are bad: a block that failed would be bad, and would have been
 -- asked for something.
-use Rattle.std.proofs.Common.{◌≡◌, inl, inr, ◌<◌, ◌+◌, ◌-◌, ◌/◌, ◌%◌, ◌==◌, ◌&&◌, ◌||◌, ℕ, zero, suc, Bool, true, false, not, List, [], ◌∷◌, refl, sym, ap, subst, ◌∙◌, length, get_or, map, slice_set, is_some, if◌then◌else◌, arith}
-use Rattle.std.specs.List.{list_all, list_any, range_with_len}
-use Rattle.std.proofs.lemmas.Bool.{and_parts, cases_Bool, cases_eq, cases_lt, eqb-true, ne_eqb, not-true}
+use Rattle.std.proofs.Common.{◌≡◌, inl, inr, ◌<◌, ◌+◌, ◌-◌, ◌/◌, ◌%◌, ◌==◌, ◌&&◌, ◌||◌, ℕ, zero, suc, Bool, true, false, not, List, [], ◌∷◌, refl, sym, ap, subst, ◌∙◌, length, get_or, map, slice_set, if◌then◌else◌, arith}
+use Rattle.std.specs.List.{list_all, range_with_len}
+use Rattle.std.proofs.lemmas.Bool.{and_parts, cases_eq, cases_lt, eqb-true, ne_eqb, not-true}
 use Rattle.std.proofs.lemmas.List.{get_or_past}
 use Rattle.std.proofs.lemmas.List.FromFn.{get_or-map-range_with_len}
 use Rattle.page_layout.specs.declared.geometry.Geometry.{Geometry}
@@ -18,7 +18,7 @@ use Rattle.promises.specs.Legal.{account_at, Account, accounts_of, accounted, no
 use Rattle.promises.proofs.AccountLemmas.{account_of, length-accounts_of, accounted-same, accounted-other, due_good}
 use Rattle.onfi_cycles.specs.Cycles.{Cycle, Command, Address, DataIn, DataOut, Due, Moves, Resets, Programs, Erases, Refuses}
 use Rattle.nand_die.specs.declared.fault.Fault.{Fault}
-use Rattle.nand_die.specs.ChipValue.{ChipValue, answered, fault_next, program_passes, erase_passes, program_left, erase_left}
+use Rattle.nand_die.specs.ChipValue.{ChipValue, answered, program_passes, erase_passes, program_left, erase_left}
 use Rattle.nand_die.specs.DieValue.{DieValue, after_command, after_cycle, after_quiet, before_reset, chip_of, die_of, done_as, due_now, failed_as, is_calm, stops}
 use Rattle.nand_die.specs.Stopping.{is_change, left_by_stop}
 use Rattle.nand_die.specs.Made.{first_turn, is_named, loaded_flash, next_in}

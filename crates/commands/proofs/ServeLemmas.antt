@@ -70,7 +70,7 @@ die_served nand given g capacity c u v b w result how after back most s le none 
         begun = s.begun;
         holds = holds;
         passed = λ before loaded. passed_in g before c (flash_behind nand) (flash_behind s.last.engine.nand) holds.headline.ro holds.headline.pinned holds.headline.run.events (accepted_device (flash_behind nand) c) refl holds.headline.run.run holds.headline.legal loaded
-        (subst (λ (f : Flash). has_spared f ≡ true) there spared);
+            (subst (λ (f : Flash). has_spared f ≡ true) there spared);
         pages = ap (λ k. raw_image k after) (sym sized) ∙ (pages ∙ ap (λ (f : Flash). f.image) there);
         bytes = bytes ∙ ap (λ (f : Flash). raw_bytes f.image) there;
       };
