@@ -141,6 +141,34 @@ def hold_script():
     print(f"{stages} stages of the script, as the model says")
 
 
+def four_hundred(device):
+    """The calls of the scripts of failures and stops. How many of them change a sector."""
+    sectors, changing = [0] * 32, 0
+    for i in range(400):
+        if i % 16 == 15:
+            device.flush()
+        elif i % 16 == 14:
+            device.turn()
+        else:
+            n, byte = (i * 5 % 32, 0) if i % 8 == 3 else (i * 11 % 32, i % 251)
+            assert (device.trim(n) if i % 8 == 3 else device.write(n, byte)) == "Done"
+            changing += sectors[n] != byte
+            sectors[n] = byte
+    return changing
+
+
+def hold_stops():
+    """The programs and erases at which dies stop in `stops.rt`, and by how many a sector changes."""
+    device, _ = formatted(FIRST, 4)
+    before = device.die.changes
+    changing = four_hundred(device)
+    found = [device.die.changes - before, changing]
+    text = (TESTS / "stops.rt").read_text()
+    wanted = [numbers(its) for its in re.findall(r"const SHORT: .*?stops: (.*?changing: \d+)", text, re.S)]
+    assert wanted == [found], (wanted, found)
+    print(f"{found[0]} programs and erases of the four hundred calls, {found[1]} of which change a sector")
+
+
 def sixty(failing, left):
     """Sixty calls on the least geometry, all of them done."""
     device, _ = formatted(LEAST, 1, failing=failing, page_left=left)
@@ -181,3 +209,4 @@ if __name__ == "__main__":
     hold_runs()
     hold_pairs()
     hold_script()
+    hold_stops()

@@ -1,9 +1,9 @@
 #!/usr/bin/env bash
-# Runs the scripts of commands whole: each program and erase fails in turn, alone and with the one or two after it; the die stops at
-# each program and erase, in five ways, with pages of version 1, of version 2, and of version 1 that are brought forward; and one call
-# of the bus fails, each in turn. The gate tries some of each, evenly apart. The tests are proved, built and run in a copy, in which the
-# distances are 1; each may take a quarter of an hour. Takes what earlier checks kept of the libraries (out/rlib) and of these crates,
-# and proves the rest first. It prints the tests.
+# Runs the scripts of four hundred commands whole: each program and erase fails in turn, alone and with the one or two after it; one
+# call of the bus fails, each in turn; and the die stops at each program and erase. The gate tries some of each, evenly apart. (Those of
+# `stops` in fault_tests it tries whole.) The tests are proved, built and run in a copy, in which the distances are 1; each may take a
+# quarter of an hour. Takes what earlier checks kept of the libraries (out/rlib) and of these crates, and proves the rest first. It
+# prints the tests.
 #
 #     bench/fault_scripts.sh [fault_tests] [hostile_tests]       these crates of tests (default: both)
 set -eu
@@ -27,7 +27,6 @@ tighten() {
 
 cd "$folder/crates"
 tighten fault_tests/src/tests/fault_scripts.rt EACH
-tighten fault_tests/src/tests/stops.rt STOPS_APART
 tighten hostile_tests/src/tests/scripts.rt CALLS_APART
 tighten hostile_tests/src/tests/scripts.rt CHANGES_APART
 for name in "$@"; do
