@@ -1,11 +1,11 @@
 -- What one page more makes of what is held, and what is told of it in the end.
-use Rattle.std.proofs.Common.{◌≡◌, ◌≢◌, inl, inr, ℕ, ◌+◌, ◌<◌, Bool, true, false, List, length, get_or, map, set, take, replicate, Option, Some, None, refl, sym, ap, ◌∙◌, subst, arith}
+use Rattle.std.proofs.Common.{◌≡◌, ◌≢◌, inl, inr, ℕ, ◌+◌, ◌<◌, Bool, false, List, length, get_or, map, set, take, replicate, Option, Some, None, refl, sym, ap, ◌∙◌, subst, arith}
 use Rattle.std.specs.Prelude.{slice_get, count_by, nat_lt, not, ◌&&◌}
 use Rattle.std.specs.List.{range_with_len}
 use Rattle.std.specs.Int.{w64, from_le_bytes}
 use Rattle.std.proofs.Math.Seq.{take-length}
 use Rattle.std.proofs.lemmas.Bool.{cases_eq, cases_order}
-use Rattle.std.proofs.lemmas.List.{same_lists, get_or-set_same, get_or-set_other, get_or-replicate, get_or_default, length-set, length-replicate}
+use Rattle.std.proofs.lemmas.List.{same_lists, get_or-set_same, get_or-set_other, get_or-replicate, get_or_default, length-set}
 use Rattle.std.proofs.lemmas.List.FromFn.{length-map-range_with_len, get_or-map-range_with_len}
 use Rattle.page_layout.specs.declared.geometry.Geometry.{Geometry}
 use Rattle.page_layout.specs.declared.record.Record.{Record}
@@ -31,7 +31,7 @@ use Rattle.lab_compare.specs.declared.trace.Trace.{Trace}
 use Rattle.lab_compare.specs.declared.trace.Trace.TheVariants.{Never, Once, Tied}
 use Rattle.lab_compare.specs.Lost.{is_there, is_lost_by, said_row, is_lost, lost_of}
 use Rattle.lab_compare.specs.Trace.{Tells, lost_in}
-use Rattle.lab_compare.specs.Comparing.{Stands, Shows}
+use Rattle.lab_compare.specs.Comparing.{Shows}
 
 -- ---- a page that is of no sector
 

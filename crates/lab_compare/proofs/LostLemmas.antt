@@ -1,6 +1,6 @@
 -- Which sectors have lost a page, and that none has of a die that goes on as it should.
 use Rattle.std.proofs.Common.{◌≡◌, ◌≢◌, ◌⊎◌, ◌↔◌, inl, inr, ℕ, ◌+◌, ◌<◌, ◌≤◌, le_refl, Bool, true, false, List, [], ◌∷◌, length, get_or, Option, Some, None, refl, sym, ap, subst, ◌∙◌, arith}
-use Rattle.std.specs.Prelude.{slice_get, nat_lt, ◌==◌, ◌&&◌, not, IsSome, is_some}
+use Rattle.std.specs.Prelude.{slice_get, nat_lt, ◌&&◌, not, IsSome, is_some}
 use Rattle.std.proofs.lemmas.Bool.{cases_eq, cases_lt}
 use Rattle.std.proofs.lemmas.Bool.Decides.{nat_tests}
 use Rattle.std.proofs.lemmas.Option.{slice_get-get_or, slice_get_within, same_Some}
@@ -9,14 +9,14 @@ use Rattle.page_layout.specs.declared.record.Record.{Record}
 use Rattle.page_layout.specs.declared.record.Key.TheVariants.{Sector}
 use Rattle.page_layout.specs.declared.newest.Latest.{Latest}
 use Rattle.page_layout.specs.declared.newest.Latest.TheVariants.{Never, Once, Tied}
-use Rattle.page_layout.specs.Page.{Page, Image}
+use Rattle.page_layout.specs.Page.{Image}
 use Rattle.page_layout.specs.Key.{key_of}
-use Rattle.page_layout.specs.Greatest.{IsGreatest, best}
+use Rattle.page_layout.specs.Greatest.{best}
 use Rattle.page_layout.specs.Newest.{IsNewest, latest_below, newest, sequence_at}
 use Rattle.page_layout.specs.OneArray.{AreBelow}
 use Rattle.page_layout.specs.Array.{marks, HasOneArray}
 use Rattle.page_layout.specs.Change.{Keeps, Writes, ProgramMeans}
-use Rattle.page_layout.specs.Flash.{Flash, Operation, Program, Erase, Steps}
+use Rattle.page_layout.specs.Flash.{Flash, Operation, Program, Erase}
 use Rattle.page_layout.proofs.KeyLemmas.{cases_key}
 use Rattle.page_layout.proofs.GreatestLemmas.{Says, SaysNever, SaysOnce, SaysTied, best_says, greatest_unique}
 use Rattle.page_layout.proofs.NewestLemmas.{IsOf, newest-is, newest-record, newest_some, sequence_at-is, sequence_at-key, sequence_at_past}
@@ -25,7 +25,7 @@ use Rattle.page_layout.proofs.StepLemmas.{below_more}
 use Rattle.page_layout.proofs.FlashLemmas.{geometry-Steps, program_means, erase_keeps}
 use Rattle.certificate.specs.Claim.{Claim}
 use Rattle.image_check.specs.Agrees.{Agrees}
-use Rattle.lab_compare.specs.Lost.{IsWhereSaid, IsSince, IsDueNext, GoesOn, is_there, is_lost_by, said_row, is_lost, LostLaw, NoneLostLaw}
+use Rattle.lab_compare.specs.Lost.{IsWhereSaid, IsSince, GoesOn, is_there, is_lost_by, said_row, is_lost, LostLaw, NoneLostLaw}
 
 -- ---- the criterion
 
@@ -104,22 +104,34 @@ since_once ms n next row s said h since =
 
 lost_by : (ms : List (Option Record)) (n next : ℕ) (said : Option ℕ) (l : Latest) → Says (sequence_at ms (Sector n)) (length ms) l → (is_lost_by said next l ≡ false) ↔ (IsWhereSaid ms n said ⊎ IsSince ms n next)
 lost_by ms n next None Never h = (λ _. inl (never_all ms n h), λ _. refl)
-lost_by ms n next (Some r) Never h = (λ e. absurd (true_false e), λ k. elim k [
-  | inl top ↦ absurd (let top : IsNewest ms (Sector n) r = top in none_is (never_all ms n h r) top.here)
-  | inr since ↦ absurd (none_is (never_all ms n h since.row) since.at)
-])
-lost_by ms n next said (Once row s) h = (λ e. kept_once ms n next row s said (is_there said row) (nat_lt s next) h refl refl e, λ k. elim k [
-  | inl there ↦ said_once ms n next row s said h there
-  | inr since ↦ since_once ms n next row s said h since
-])
-lost_by ms n next None (Tied a b t) h = (λ e. absurd (true_false e), λ k. elim k [
-  | inl none ↦ absurd (none_is (none a) h.at_first)
-  | inr since ↦ absurd (tied_none ms n a b t since.row h since.newest_is)
-])
-lost_by ms n next (Some r) (Tied a b t) h = (λ e. absurd (true_false e), λ k. elim k [
-  | inl top ↦ absurd (tied_none ms n a b t r h top)
-  | inr since ↦ absurd (tied_none ms n a b t since.row h since.newest_is)
-])
+lost_by ms n next (Some r) Never h = (
+  λ e. absurd (true_false e),
+  λ k. elim k [
+    | inl top ↦ absurd (let top : IsNewest ms (Sector n) r = top in none_is (never_all ms n h r) top.here)
+    | inr since ↦ absurd (none_is (never_all ms n h since.row) since.at)
+  ],
+)
+lost_by ms n next said (Once row s) h = (
+  λ e. kept_once ms n next row s said (is_there said row) (nat_lt s next) h refl refl e,
+  λ k. elim k [
+    | inl there ↦ said_once ms n next row s said h there
+    | inr since ↦ since_once ms n next row s said h since
+  ],
+)
+lost_by ms n next None (Tied a b t) h = (
+  λ e. absurd (true_false e),
+  λ k. elim k [
+    | inl none ↦ absurd (none_is (none a) h.at_first)
+    | inr since ↦ absurd (tied_none ms n a b t since.row h since.newest_is)
+  ],
+)
+lost_by ms n next (Some r) (Tied a b t) h = (
+  λ e. absurd (true_false e),
+  λ k. elim k [
+    | inl top ↦ absurd (tied_none ms n a b t r h top)
+    | inr since ↦ absurd (tied_none ms n a b t since.row h since.newest_is)
+  ],
+)
 
 latest_says : (image : Image) (n : ℕ) → Says (sequence_at (marks image) (Sector n)) (length (marks image)) (latest_below (marks image) (Sector n) (length image))
 unfolding latest_below

@@ -1,8 +1,8 @@
 -- What a dump comes to beside a certificate.
-use Rattle.std.specs.Prelude.{◌≡◌, ◌≢◌, ℕ, Bool, List, length}
+use Rattle.std.specs.Prelude.{◌≡◌, ℕ, List, length}
 use Rattle.page_layout.specs.declared.geometry.Geometry.{Geometry}
 use Rattle.page_layout.specs.Raw.{raw_image}
-use Rattle.certificate.specs.Claim.{Claim, sizes_of}
+use Rattle.certificate.specs.Claim.{Claim}
 use Rattle.lab_scan.specs.Scan.{image_bytes}
 use Rattle.lab_scan.specs.declared.pages.ScanFault.{ScanFault}
 use Rattle.lab_scan.specs.declared.pages.ScanFault.TheVariants as scan

@@ -1,4 +1,4 @@
-use Rattle.std.proofs.Common.{◌≡◌, ℕ, List, length, get_or, replicate, sym, subst, ◌∙◌, rules, arith}
+use Rattle.std.proofs.Common.{◌≡◌, List, length, replicate, sym, subst, ◌∙◌, rules}
 use Rattle.page_layout.specs.Geometry.{row_count}
 use Rattle.page_layout.specs.Page.{Image}
 use Rattle.page_layout.specs.Raw.{raw_image}

@@ -1,4 +1,4 @@
-use Rattle.std.proofs.Common.{◌≡◌, ◌∙◌, None, sym, ap, get_or, arith}
+use Rattle.std.proofs.Common.{◌≡◌, ◌∙◌, sym, ap, get_or}
 use Rattle.std.proofs.lemmas.List.{get_or_default}
 use Rattle.lab_compare.specs.declared.trace.Trace.TheVariants.{Never}
 use Rattle.lab_compare.specs.Lost.{said_row}
