@@ -1,7 +1,7 @@
 -- A NEGOTIATION: what was read and written.
-use Rattle.std.specs.Prelude.{◌≡◌, ◌⊎◌, ℕ, Bool, List, Option, Some, None, Result, Ok, Err}
+use Rattle.std.specs.Prelude.{◌≡◌, ◌<◌, ◌⊎◌, ℕ, nat_le, Bool, List, [], ◌∷◌, length, Option, Some, None, Result, Ok, Err}
 use Rattle.std.specs.List.{flat_map, AllByRecursion}
-use Rattle.std.specs.Io.KnownBytes.{Appends, Consumes}
+use Rattle.std.specs.Io.KnownBytes.{Appends, Consumes, IsAtEnd}
 use Rattle.request_stream.specs.Frames.{AppendsFront}
 use Rattle.request_stream.specs.declared.reply.ServeFault.{ServeFault}
 use Rattle.request_stream.specs.declared.reply.ServeFault.TheVariants as fault
@@ -10,9 +10,12 @@ use Rattle.nbd_stream.specs.declared.export.Export.{Export}
 use Rattle.nbd_stream.specs.declared.answer.Step.{Step}
 use Rattle.nbd_stream.specs.declared.answer.Step.TheVariants.{More, Transmit, Close}
 use Rattle.nbd_stream.specs.declared.request.End.{End}
-use Rattle.nbd_stream.specs.declared.request.End.TheVariants.{Disconnected}
+use Rattle.nbd_stream.specs.declared.request.End.TheVariants.{Unfinished, BadFrame, Disconnected}
 use Rattle.nbd_stream.specs.declared.negotiation.Negotiated.{Negotiated}
 use Rattle.nbd_stream.specs.declared.negotiation.Negotiated.TheVariants.{Transmission, Ended}
+use Rattle.nbd_stream.specs.declared.negotiation.ClientFlags.{ClientFlags}
+use Rattle.nbd_stream.specs.declared.negotiation.ClientFlags.TheVariants.{NoZeroes}
+use Rattle.nbd_stream.specs.declared.negotiation.ClientFlags.TheVariants as client
 
 -- an option was read, which this step follows, and its answer was written as this says
 pub record HasAnswered (e : Export) (no_zeroes : Bool) (limit : ℕ) (unread left : Option (List ℕ)) (writes : List ℕ → Type 0) (step : Step) : Type 0 where
@@ -59,3 +62,38 @@ AnswersOptions e no_zeroes limit unread left before after (Ok negotiated) =
     (options : List Asked) × (unread' before' : Option (List ℕ)) × HaveAnswered e no_zeroes limit unread unread' before before' options × AnswersNext e no_zeroes limit unread' left before' after (Ok (Some negotiated))
 AnswersOptions e no_zeroes limit unread left before after (Err e') =
     (options : List Asked) × (unread' before' : Option (List ℕ)) × HaveAnswered e no_zeroes limit unread unread' before before' options × AnswersNext e no_zeroes limit unread' left before' after (Err e')
+
+-- ---- before the options
+
+-- "NBDMAGIC", "IHAVEOPT", and the flags NBD_FLAG_FIXED_NEWSTYLE 1 and NBD_FLAG_NO_ZEROES 2
+abbrev pub greeting : List ℕ
+greeting = 78 ∷ 66 ∷ 68 ∷ 77 ∷ 65 ∷ 71 ∷ 73 ∷ 67 ∷ 73 ∷ 72 ∷ 65 ∷ 86 ∷ 69 ∷ 79 ∷ 80 ∷ 84 ∷ 0 ∷ 3 ∷ []
+
+-- the client's flags, of which there are these two
+abbrev pub flag_bytes : ℕ → List ℕ
+flag_bytes flags = 0 ∷ 0 ∷ 0 ∷ flags ∷ []
+
+-- the client's flags were read, or the reader ended or failed before, or they are others than these two
+abbrev pub ReadsFlags : (unread left : Option (List ℕ)) → Result ClientFlags ServeFault → Type 0
+ReadsFlags unread left (Ok (NoZeroes no_zeroes)) = (flags : ℕ) × (flags < 4) × (no_zeroes ≡ nat_le 2 flags) × Consumes unread left (flag_bytes flags)
+ReadsFlags unread left (Ok (client.Ended end)) =
+    (tail : List ℕ) × Consumes unread left tail
+    × (((end ≡ Unfinished) × (length tail < 4) × IsAtEnd left) ⊎ ((end ≡ BadFrame) × (length tail ≡ 4) × ((flags : ℕ) → flags < 4 → tail ≡ flag_bytes flags → ⊥)))
+ReadsFlags unread left (Err e) = (e ≡ fault.Read) × (tail : List ℕ) × (length tail < 4) × Consumes unread left tail
+
+-- no flags were read, and so the negotiation ended
+abbrev pub EndsBefore : (unread left : Option (List ℕ)) → Result Negotiated ServeFault → Type 0
+EndsBefore unread left (Ok Transmission) = ⊥
+EndsBefore unread left (Ok (Ended end)) = ReadsFlags unread left (Ok (client.Ended end))
+EndsBefore unread left (Err e) = ReadsFlags unread left (Err e)
+
+-- the client's flags were read, and then its options were answered
+abbrev pub AfterFlags : Export → (limit : ℕ) → (unread left before after : Option (List ℕ)) → Result Negotiated ServeFault → Type 0
+AfterFlags e limit unread left before after result =
+    (no_zeroes : Bool) × (unread' : Option (List ℕ)) × ReadsFlags unread unread' (Ok (NoZeroes no_zeroes)) × AnswersOptions e no_zeroes limit unread' left before after result
+
+-- THE NEGOTIATION: a greeting, the client's flags, and its options; or the greeting was not written, and nothing was read
+abbrev pub Negotiates : Export → (limit : ℕ) → (unread left before after : Option (List ℕ)) → Result Negotiated ServeFault → Type 0
+Negotiates e limit unread left before after result =
+    ((result ≡ Err fault.Write) × (left ≡ unread) × AppendsFront before after greeting)
+    ⊎ ((greeted : Option (List ℕ)) × Appends before greeted greeting × (AfterFlags e limit unread left greeted after result ⊎ ((after ≡ greeted) × EndsBefore unread left result)))

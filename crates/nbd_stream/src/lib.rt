@@ -13,7 +13,7 @@ mod request;
 mod task;
 
 pub use export::Export;
-pub use negotiation::{Negotiated, answer_options};
+pub use negotiation::{Negotiated, negotiate};
 pub use option::{NextOption, OptionHeader, read_option};
 pub use reply::{RequestError, send_reply};
 pub use request::{End, Header, Next, read_request};

@@ -1,12 +1,13 @@
 //! The negotiation: a greeting, and answers to options until one of them begins the transmission.
 ghost use Rattle.std.specs.Prelude.{length};
-ghost use Rattle.nbd_stream.specs.Negotiation.{AnswersNext, AnswersOptions};
+ghost use Rattle.nbd_stream.specs.Negotiation.{AnswersNext, AnswersOptions, Negotiates, ReadsFlags};
 
 use crate::answer::{Step, answer_to, send_answer, step_after};
 use crate::export::Export;
 use crate::option::{NextOption, read_option};
+use crate::reply::send_parts;
 use crate::request::End;
-use request_stream::ServeFault;
+use request_stream::{ServeFault, fill};
 use std::io::{Read, Write};
 
 /// How a negotiation ended. (This project's.)
@@ -17,6 +18,17 @@ pub enum Negotiated {
     /// The client went, or was refused without a word.
     Ended(End),
 }
+
+// What a client's flags said, or why there are none. (This project's.)
+#[derive(Clone, Copy)]
+enum ClientFlags {
+    // Whether it wants no zeros after an export.
+    NoZeroes(bool),
+    Ended(End),
+}
+
+// `NBDMAGIC`, `IHAVEOPT`, and the flags: fixed newstyle, and no zeros after an export if the client wants none.
+const GREETING: [u8; 18] = *b"NBDMAGICIHAVEOPT\x00\x03";
 
 // Answers the next option, and tells how the negotiation ended, if it did.
 fn answer_next<R: Read, W: Write>(
@@ -41,17 +53,8 @@ fn answer_next<R: Read, W: Write>(
     }
 }
 
-/// Answers options until one ends the negotiation: the client has chosen the export, or it goes. Data of an option that is longer
-/// than the buffer is read past. The greeting and the client's flags, which come before, are the caller's.
-///
-/// # Errors
-///
-/// - `Read` where a read failed or was interrupted, or 2^64 - 1 options were answered: what was written answers the options that were
-///   read whole.
-/// - `Write` where a write failed, was interrupted or took nothing: a beginning of the answers is out.
-///
-/// (The NBD protocol, "Fixed newstyle negotiation".)
-pub fn answer_options<R: Read, W: Write>(
+// Answers options until one ends the negotiation.
+fn answer_options<R: Read, W: Write>(
     reader: &mut R,
     writer: &mut W,
     export: &Export,
@@ -67,4 +70,49 @@ pub fn answer_options<R: Read, W: Write>(
         }
     }
     Err(ServeFault::Read)
+}
+
+// The client's flags: fixed newstyle, which each client of today has, and whether it wants no zeros after an export.
+fn read_flags<R: Read>(reader: &mut R) -> Result<ClientFlags, ServeFault>
+    ensures { ReadsFlags (R.remaining reader.old) (R.remaining reader.new) result }
+{
+    let mut flags = [0; 4];
+    let filled = fill(reader, &mut flags);
+    if filled.failed {
+        return Err(ServeFault::Read);
+    }
+    if filled.count < 4 {
+        return Ok(ClientFlags::Ended(End::Unfinished));
+    }
+    match flags {
+        [0, 0, 0, flag] if flag < 4 => Ok(ClientFlags::NoZeroes(flag >= 2)),
+        _ => Ok(ClientFlags::Ended(End::BadFrame)),
+    }
+}
+
+/// Greets a client, reads its flags, and answers its options until it has chosen the export, or goes. Data of an option that is longer
+/// than the buffer is read past.
+///
+/// # Errors
+///
+/// - `Read` where a read failed or was interrupted, or 2^64 - 1 options were answered: what was written is the greeting, and the
+///   answers to the options that were read whole.
+/// - `Write` where a write failed, was interrupted or took nothing: a beginning of the greeting and the answers is out.
+///
+/// (The NBD protocol, "Fixed newstyle negotiation".)
+pub fn negotiate<R: Read, W: Write>(
+    reader: &mut R,
+    writer: &mut W,
+    export: &Export,
+    body: &mut [u8],
+) -> Result<Negotiated, ServeFault>
+    ensures { Negotiates export.now (length body.new) (R.remaining reader.old) (R.remaining reader.new) (W.contents writer.old) (W.contents writer.new) result }
+{
+    send_parts(writer, &[&GREETING])?;
+    match read_flags(reader)? {
+        ClientFlags::Ended(end) => Ok(Negotiated::Ended(end)),
+        ClientFlags::NoZeroes(no_zeroes) => {
+            answer_options(reader, writer, export, no_zeroes, body)
+        }
+    }
 }
