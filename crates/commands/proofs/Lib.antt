@@ -9,3 +9,5 @@ pub mod BadLemmas
 pub mod SaidLemmas
 pub mod LogLemmas
 pub mod SteadyLemmas
+pub mod MigrateLemmas
+pub mod MigrateEnds
