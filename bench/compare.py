@@ -3,19 +3,20 @@
 
     [PROGRAM=..] bench/compare.py [COMMANDS] [CASES] [SEED]
 
-COMMANDS is a list like `sector,show,format,mount,check`. Every output, refusal, exit status and written file is compared."""
+COMMANDS is a list like `sector,show,format,mount,check,migrate`. Every output, refusal, exit status and written file is compared."""
 
 import random
 import struct
 import subprocess
 import sys
 import tempfile
+from collections import Counter
 from pathlib import Path
 
 import reference as ref
 from program import PROGRAM
 
-GEOMETRIES = [(64, 32, 8, 32, 32), (64, 32, 8, 24, 32), (64, 40, 4, 12, 1), (64, 39, 4, 40, 50), (128, 64, 8, 32, 70)]
+GEOMETRIES = [(64, 32, 8, 32, 32), (64, 32, 8, 24, 32), (64, 40, 4, 12, 1), (64, 39, 4, 40, 50), (128, 64, 8, 32, 70), (64, 40, 8, 32, 32)]
 
 
 def run(words, folder):
@@ -119,6 +120,11 @@ def spoiled_certificate(rng, g, raw):
 class Comparison:
     def __init__(self, folder, rng):
         self.folder, self.rng, self.compared = Path(folder), rng, 0
+        self.ran = Counter()
+
+    def count(self, how):
+        """Of the migrations that ran: how they ended."""
+        self.ran[how] += 1
 
     def same(self, want, words, files=()):
         got = run(words, self.folder)
@@ -160,20 +166,39 @@ class Comparison:
         stored = made[0] if made else b"before"
         self.same(want, ["mount", g.words(), str(capacity), "image.bin", "cert.bin"], [("cert.bin", stored)])
 
-    def check(self, g, image):
-        capacity = self.rng.choice([g.sectors, 4])
+    def certificate(self, g, image, capacity):
         try:
-            raw = ref.certificate_bytes(g, capacity, ref.Shown(image))
+            return ref.certificate_bytes(g, capacity, ref.Shown(image))
         except (ref.Unformatted, ref.Damaged, struct.error, ValueError):
             blank = ref.Image(g, b"\xff" * (g.rows * g.page))
             ref.format_image(blank)
-            raw = ref.certificate_bytes(g, capacity, ref.Shown(blank))
+            return ref.certificate_bytes(g, capacity, ref.Shown(blank))
+
+    def check(self, g, image):
+        capacity = self.rng.choice([g.sectors, 4])
+        raw = self.certificate(g, image, capacity)
         for spoil_it in (False, True, True):
             cert = spoiled_certificate(self.rng, g, raw) if spoil_it else raw
             (self.folder / "cert.bin").write_bytes(cert)
             asked = capacity if self.rng.random() < 0.95 else capacity + 1
             want = expected(lambda: ref.check(image, asked, ref.Certificate(cert)))
             self.same(want, ["check", g.words(), str(asked), "image.bin", "cert.bin"])
+
+    def migrate(self, g, image):
+        capacity = self.rng.choice([g.sectors, g.sectors, 4])
+        raw = self.certificate(g, image, capacity)
+        cert = spoiled_certificate(self.rng, g, raw) if self.rng.random() < 0.1 else raw
+        (self.folder / "cert.bin").write_bytes(cert)
+        stored = b"before"
+        (self.folder / "out.bin").write_bytes(stored)
+        try:
+            stored, line, refused = ref.migrate(image, capacity, ref.Certificate(cert))
+            want = (0, line.encode(), b"") if refused is None else (1, b"", refused.line.encode())
+            self.count("migrated" if refused is None else refused.line.split()[3])
+        except ref.Refused as early:
+            want = (1, b"", early.line.encode())
+        words = ["migrate", g.words(), str(capacity), "image.bin", "cert.bin", "out.bin"]
+        self.same(want, words, [("out.bin", stored)])
 
 
 def main():
@@ -193,7 +218,8 @@ def main():
         (comparison.folder / "image.bin").write_bytes(image.raw())
         for command in commands:
             getattr(comparison, command)(g, image)
-    print(f"{comparison.compared} answers compared, all the same")
+    ran = "".join(f", {how} {times}" for how, times in sorted(comparison.ran.items()))
+    print(f"{comparison.compared} answers compared, all the same{ran}")
 
 
 if __name__ == "__main__":

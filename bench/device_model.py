@@ -1,8 +1,9 @@
 """A plain model of the device: what is programmed and erased, in which row and with which sequence.
 
 Written from the rules of docs/ alone. It keeps no bytes: a page is its key, its sequence, the erase
-count of its block when it was programmed, and what it tells (a byte of a sector, a list of rows, a list
-of blocks). `bench/device_expected.py` prints from it what the tests of devices expect.
+count of its block when it was programmed, the version of its record, and what it tells (what a sector
+holds, a list of rows, a list of blocks). `bench/device_expected.py` prints from it what the tests of
+devices expect, and `bench/reference.py` has from it what `migrate` stores.
 """
 
 from collections import OrderedDict
@@ -10,10 +11,15 @@ from collections import OrderedDict
 SECTOR, TRIM, TRANSLATION, TABLE = 1, 2, 3, 4
 DATA, META = 0, 1
 RESERVE, TURN_RESERVE, FLOOR, MOST_WEAR = 9, 12, 5, 16777215
+NO_SEQUENCE = 2**64 - 1
 TORN = "torn"
 
 
 class ReadOnly(Exception):
+    pass
+
+
+class SequenceSpent(Exception):
     pass
 
 
@@ -29,11 +35,13 @@ class Geometry:
         self.U = -(-blocks // self.E)
         self.vmax = max(pages - 1 - self.T, (pages - 1) // 2)
         self.need = (sectors + self.T + self.U) // (self.vmax + 1) + 11
+        self.version = 2 if spare >= 40 else 1
 
 
 class Page:
-    def __init__(self, kind, number, sequence, wear, body):
+    def __init__(self, kind, number, sequence, wear, body, version=None):
         self.kind, self.number, self.sequence, self.wear, self.body = kind, number, sequence, wear, body
+        self.version = version
 
     def key(self):
         return (SECTOR if self.kind == TRIM else self.kind, self.number)
@@ -222,6 +230,8 @@ class Device:
     def put(self, stream, kind, number, body):
         g = self.g
         while True:
+            if self.next == NO_SEQUENCE:
+                raise SequenceSpent()
             if self.open[stream] is None:
                 blocks = [b for b in range(g.B) if self.cls[b] == 0 and self.pointer[b] == 0]
                 if not blocks:
@@ -229,7 +239,7 @@ class Device:
                 self.open[stream] = min(blocks, key=lambda b: (self.wear[b], b))
             block = self.open[stream]
             row = block * g.P + self.pointer[block]
-            page = Page(kind, number, self.next, self.wear[block], body)
+            page = Page(kind, number, self.next, self.wear[block], body, g.version)
             self.next += 1
             passed = self.die.program(row, page)
             if passed:
@@ -255,6 +265,7 @@ class Device:
         for n, row in self.moved.items():
             if n // g.E == t:
                 body[n % g.E] = row
+        body = [row if t * g.E + i < g.L else None for i, row in enumerate(body)]
         self.put(META, TRANSLATION, t, body)
         for n, entry in self.cache.items():
             if n // g.E == t:
@@ -330,12 +341,16 @@ class Device:
     def call(self, body):
         if self.read_only:
             return ("ReadOnly", self.good(), self.g.need, 0)
+        if self.next == NO_SEQUENCE:
+            return ("SequenceSpent",)
         good = self.good()
         try:
             body()
             answer = "Done"
         except ReadOnly:
             answer = ("ReadOnly", self.good(), self.g.need, good - self.good())
+        except SequenceSpent:
+            answer = ("SequenceSpent",)
         self.read_only = self.free() < FLOOR
         return answer
 
@@ -400,6 +415,23 @@ class Device:
         self.copy(row, False)
         if page.kind < 3 and page.number in self.moved:
             self.write_back(page.number // self.g.E)
+
+    def is_due(self, row):
+        """Whether it is a newest page of version 1, and no table page."""
+        page = self.die.rows[row]
+        return page not in (None, TORN) and page.kind != TABLE and page.version == 1 and self.newest[page.key()] == row
+
+    def migrate_one(self):
+        """What a call answers, and whether it found a page."""
+        due = sorted(row for row in self.newest.values() if self.is_due(row))
+        if self.g.version == 1 or not due:
+            return self.call(lambda: None), False
+
+        def body():
+            self.make_room(False)
+            if self.is_due(due[0]):
+                self.rescue(due[0])
+        return self.call(body), True
 
     def turn(self):
         def body():

@@ -5,6 +5,8 @@ It shares no code with the crates. `compare.py` holds the program against it. Wr
 import hashlib
 import struct
 
+import device_model as model
+
 NONE = 0xFFFFFFFF
 MOST_WEAR = 16777215
 MOST_CAPACITY = 65536
@@ -394,3 +396,91 @@ def check(image, capacity, certificate):
         raise Refused("check", 11, "NextSequence")
     refuse_stale(shown, capacity, "check")
     return "accepted\n"
+
+
+# ---- migrate
+
+
+def body_of(image, row):
+    """What the model has of a page: its bytes, or the rows or blocks that it tells."""
+    kind, data = image.records[row].kind, image.data[row]
+    words = struct.unpack(f"<{image.g.entries}I", data)
+    if kind == model.TRANSLATION:
+        return [None if word == NONE else word for word in words]
+    if kind == model.TABLE:
+        before = image.records[row].number * image.g.entries
+        return [(0, 0)] * before + [(word & 255, word >> 8) for word in words]
+    return data
+
+
+def die_of(image):
+    """The die as the model has it, with the blocks as bad that the image shows as bad."""
+    g = image.g
+    die = model.Die(model.Geometry(g.data, g.spare, g.pages, g.blocks, g.sectors))
+    for row, x in enumerate(image.records):
+        if x is not None:
+            version = version_of(image.data[row], image.spare[row])
+            die.rows[row] = model.Page(x.kind, x.number, x.sequence, x.wear, body_of(image, row), version)
+        elif not image.erased[row]:
+            die.rows[row] = model.TORN
+    for b in range(g.blocks):
+        die.next[b] = max([p + 1 for p in range(g.pages) if not image.erased[b * g.pages + p]], default=0)
+    die.bad = {b for b, c in enumerate(model.Mounted(die).cls) if c > 3}
+    return die
+
+
+def data_of(g, page):
+    """The data area of a page that the model programmed."""
+    if page.kind == model.TRANSLATION:
+        return rows_as_words(page.body)
+    if page.kind == model.TABLE:
+        blocks = range(page.number * g.entries, (page.number + 1) * g.entries)
+        words = [page.body[b][0] + 256 * page.body[b][1] if b < g.blocks else NONE for b in blocks]
+        return struct.pack(f"<{g.entries}I", *words)
+    return page.body
+
+
+def raw_after(image, before, die):
+    """The bytes of the die after the model's run: of the pages that it did not program those that were there."""
+    after = Image(image.g, image.raw())
+    for row, page in enumerate(die.rows):
+        if page is None:
+            after.data[row], after.spare[row] = b"\xff" * image.g.data, b"\xff" * image.g.spare
+        elif page is not before[row]:
+            after.put(row, Record(page.kind, page.number, page.sequence, page.wear), data_of(image.g, page))
+    return after.raw()
+
+
+def hold_migrated(image, raw, is_done):
+    """What has to hold of the image after it, whatever the model did: the array stays; once all was done every newest page has version 2, and no
+    entry is stale."""
+    g, after = image.g, Image(image.g, raw)
+    assert all(sector(image, n) == sector(after, n) for n in range(g.sectors))
+    shown = Shown(after)
+    if is_done:
+        newest = [row for row in shown.directory + shown.sectors if row is not None]
+        assert all(version_of(after.data[row], after.spare[row]) == 2 for row in newest) and not shown.stale
+
+
+def migrate(image, capacity, certificate):
+    """The image's bytes after it and the line that the program prints; or after a refusal by the device those bytes and that refusal."""
+    check(image, capacity, certificate)
+    if image.g.spare < 40:
+        raise Refused("migrate", 8, "SpareSize")
+    die = die_of(image)
+    before = list(die.rows)
+    device = model.Device(die, capacity)
+    count = 0
+    answer, found = device.migrate_one()
+    while answer == "Done" and found:
+        count += 1
+        answer, found = device.migrate_one()
+    if answer == "Done":
+        answer = device.flush()
+    raw = raw_after(image, before, die)
+    hold_migrated(image, raw, answer == "Done")
+    if answer == "Done":
+        return raw, f"migrated {count}\n", None
+    if answer[0] == "SequenceSpent":
+        return raw, "", Refused("migrate", 3, "SequenceSpent")
+    return raw, "", Refused("migrate", 2, "ReadOnly", "good", answer[1], "need", answer[2], "failed", answer[3])

@@ -76,7 +76,7 @@ module _ {N : Type 0} (flash : N → Flash) (recorded : N → Option Recording) 
     (truth : honest checked ≡ true → IsAcceptedFor (flash checked) a → IsTrue None (ram d.engine) (image_in flash d.engine))
     (free : honest checked ≡ true → IsAcceptedFor (flash checked) a → d.read_only ≡ is_scarce (free_in (flash checked).geometry a.claim (flash checked).image))
     (accounts : honest checked ≡ true → IsAcceptedFor (flash checked) a → IsAccounted (accounts_of (flash checked).geometry (flash checked).image (is_bad_in a.claim)) (state d.engine.blocks)) where
-  geometry_is : d.engine.geometry ≡ g
+  pub geometry_is : d.engine.geometry ≡ g
   geometry_is = ap (λ (r : Ram). r.geometry) begun ∙ (sized' ∙ sized)
 
   accepted : honest nand ≡ true → IsAcceptedFor (flash checked) a
@@ -85,8 +85,14 @@ module _ {N : Type 0} (flash : N → Flash) (recorded : N → Option Recording) 
   known_truth : honest nand ≡ true → IsTrue None (ram d.engine) (image_in flash d.engine)
   known_truth h = truth (honest_is ∙ h) (accepted h)
 
-  well : honest nand ≡ true → IsWell flash d
+  pub well : honest nand ≡ true → IsWell flash d
   well h = started_well flash d (flash checked).geometry a.claim a.stale begun (known_truth h)
+
+  -- it is read-only just where fewer than five blocks are free in the image
+  pub closed_as : honest nand ≡ true → d.read_only ≡ is_scarce (free_in g c (flash nand).image)
+  closed_as h =
+      free (honest_is ∙ h) (accepted h) ∙ (ap (λ (f : Flash). is_scarce (free_in f.geometry a.claim f.image)) (same h)
+      ∙ (ap (λ k. is_scarce (free_in k a.claim (flash nand).image)) sized ∙ ap (λ k. is_scarce (free_in g k (flash nand).image)) claim_is))
 
   one_array : honest nand ≡ true → HasOneArray g (flash nand).image
   one_array h =
@@ -122,7 +128,7 @@ module _ {N : Type 0} (flash : N → Flash) (recorded : N → Option Recording) 
     has_failed x f known bus tells = record { tells = tells; rose = fault_rose flash recorded honest failed erases e f x tells (runs_to.0.going (ap (λ (r : Ram). stop_of r.fault) begun) known) bus }
 
   -- the device as it was started
-  is_begun : IsBegun flash honest failed nand g c d
+  pub is_begun : IsBegun flash honest failed nand g c d
   is_begun = record {
     device = device;
     stale = a.stale;

@@ -28,10 +28,10 @@ use Rattle.clap.specs.declared.error.kind.ErrorKind.TheVariants.{InvalidSubcomma
 use Rattle.clap.proofs.OnLiterals.{clap_on_literals}
 use Rattle.command_words.specs.declared.words.Order.{Order}
 use Rattle.command_words.specs.declared.words.Order.TheVariants as order
-use Rattle.command_words.specs.declared.words.Places.{Places}
-use Rattle.command_words.specs.Words.{AreFound, CommandName, Sector, Show, Format, Check, Mount, Serve, Size, Three, Four, Five, HasAll, IsNamed}
-use Rattle.command_words.specs.Words.{IsOrder, certificate_words, file_words, grammar, image_words, is_option, name_of, order_words, places}
-use Rattle.command_words.specs.Words.{serve_by, serve_words, size_of, texts, words_wanted}
+use Rattle.command_words.specs.Words.{CommandName, Sector, Show, Format, Check, Mount, Serve, Migrate, Size, Three, Four, Five, HasAll, IsNamed}
+use Rattle.command_words.specs.Words.{IsOrder, grammar, is_option, name_of, order_words, places}
+use Rattle.command_words.specs.Words.{size_of, texts, words_wanted}
+use Rattle.command_words.proofs.MatchLemmas.{Spells}
 
 -- the grammar is one of which `clap` tells what it makes of all words
 pub simple_grammar : is_simple_and_free grammar ≡ true
@@ -446,6 +446,7 @@ known Format = record { stops = refl; passes = refl; ends = λ rest. refl; enter
 known Check = record { stops = refl; passes = refl; ends = λ rest. refl; enters = λ rest. refl }
 known Mount = record { stops = refl; passes = refl; ends = λ rest. refl; enters = λ rest. refl }
 known Serve = record { stops = refl; passes = refl; ends = λ rest. refl; enters = λ rest. refl }
+known Migrate = record { stops = refl; passes = refl; ends = λ rest. refl; enters = λ rest. refl }
 
 or_nothing : (kinds : Kinds) → or_else kinds [] ≡ kinds
 or_nothing [] = refl
@@ -482,32 +483,34 @@ is_name : (word : Text) (command : CommandName) → bytes_eq (name_of command) w
 is_name word command same = record { command = command; is = sym ((bytes_eq-Decides (name_of command) word).0 same) }
 
 name_or_strange : (word : Text) → IsName word ⊎ IsStrange word
-name_or_strange word = go (same Sector) (same Show) (same Format) (same Check) (same Mount) (same Serve) refl refl refl refl refl refl
+name_or_strange word = go (same Sector) (same Show) (same Format) (same Check) (same Mount) (same Serve) (same Migrate) refl refl refl refl refl refl refl
   where
     same : CommandName → Bool
     same command = bytes_eq (name_of command) word
 
     strange : bytes_eq (name_of Sector) word ≡ false → bytes_eq (name_of Show) word ≡ false → bytes_eq (name_of Format) word ≡ false → bytes_eq (name_of Check) word ≡ false
-        → bytes_eq (name_of Mount) word ≡ false → bytes_eq (name_of Serve) word ≡ false → IsStrange word
-    strange a b c d e f Sector = a
-    strange a b c d e f Show = b
-    strange a b c d e f Format = c
-    strange a b c d e f Check = d
-    strange a b c d e f Mount = e
-    strange a b c d e f Serve = f
+        → bytes_eq (name_of Mount) word ≡ false → bytes_eq (name_of Serve) word ≡ false → bytes_eq (name_of Migrate) word ≡ false → IsStrange word
+    strange a b c d e f g Sector = a
+    strange a b c d e f g Show = b
+    strange a b c d e f g Format = c
+    strange a b c d e f g Check = d
+    strange a b c d e f g Mount = e
+    strange a b c d e f g Serve = f
+    strange a b c d e f g Migrate = g
 
-    go : (a b c d e f : Bool) → bytes_eq (name_of Sector) word ≡ a → bytes_eq (name_of Show) word ≡ b → bytes_eq (name_of Format) word ≡ c → bytes_eq (name_of Check) word ≡ d
-        → bytes_eq (name_of Mount) word ≡ e → bytes_eq (name_of Serve) word ≡ f → IsName word ⊎ IsStrange word
-    go true b c d e f is1 is2 is3 is4 is5 is6 = inl (is_name word Sector is1)
-    go false true c d e f is1 is2 is3 is4 is5 is6 = inl (is_name word Show is2)
-    go false false true d e f is1 is2 is3 is4 is5 is6 = inl (is_name word Format is3)
-    go false false false true e f is1 is2 is3 is4 is5 is6 = inl (is_name word Check is4)
-    go false false false false true f is1 is2 is3 is4 is5 is6 = inl (is_name word Mount is5)
-    go false false false false false true is1 is2 is3 is4 is5 is6 = inl (is_name word Serve is6)
-    go false false false false false false is1 is2 is3 is4 is5 is6 = inr (strange is1 is2 is3 is4 is5 is6)
+    go : (a b c d e f g : Bool) → bytes_eq (name_of Sector) word ≡ a → bytes_eq (name_of Show) word ≡ b → bytes_eq (name_of Format) word ≡ c → bytes_eq (name_of Check) word ≡ d
+        → bytes_eq (name_of Mount) word ≡ e → bytes_eq (name_of Serve) word ≡ f → bytes_eq (name_of Migrate) word ≡ g → IsName word ⊎ IsStrange word
+    go true b c d e f g is1 is2 is3 is4 is5 is6 is7 = inl (is_name word Sector is1)
+    go false true c d e f g is1 is2 is3 is4 is5 is6 is7 = inl (is_name word Show is2)
+    go false false true d e f g is1 is2 is3 is4 is5 is6 is7 = inl (is_name word Format is3)
+    go false false false true e f g is1 is2 is3 is4 is5 is6 is7 = inl (is_name word Check is4)
+    go false false false false true f g is1 is2 is3 is4 is5 is6 is7 = inl (is_name word Mount is5)
+    go false false false false false true g is1 is2 is3 is4 is5 is6 is7 = inl (is_name word Serve is6)
+    go false false false false false false true is1 is2 is3 is4 is5 is6 is7 = inl (is_name word Migrate is7)
+    go false false false false false false false is1 is2 is3 is4 is5 is6 is7 = inr (strange is1 is2 is3 is4 is5 is6 is7)
 
 unnamed : (word : Text) → IsStrange word → subcommand_met names idle word ≡ None
-unnamed word is = rw (is Sector) (rw (is Show) (rw (is Format) (rw (is Check) (rw (is Mount) (rw (is Serve) refl)))))
+unnamed word is = rw (is Sector) (rw (is Show) (rw (is Format) (rw (is Check) (rw (is Mount) (rw (is Serve) (rw (is Migrate) refl))))))
 
 stray : step_fault top 1 nothing_held value ≡ UnknownArgument ∷ InvalidSubcommand ∷ []
 unfolding clap_on_literals
@@ -587,133 +590,6 @@ pub name_named : (name : Text) (has : List Row → Type 0) (o : Option (Text × 
 name_named name has None found e h = absurd h
 name_named name has (Some p) found e h = let same : found ≡ p.0 = cc in same ∙ h.0
 
--- ---- from the matches to the order
-
--- what `order_named` tells of a name and the words
-pub record IsOrderNamed (name : Text) (words : Places) (found : Option Order) : Type 0 where
-  pub sector : name ≡ codes "sector" → found ≡ Some (order.Sector (image_words words))
-  pub show : name ≡ codes "show" → found ≡ Some (order.Show (image_words words))
-  pub format : name ≡ codes "format" → found ≡ Some (order.Format (file_words words))
-  pub check : name ≡ codes "check" → found ≡ option_map (λ given. order.Check given) (certificate_words words)
-  pub mount : name ≡ codes "mount" → found ≡ option_map (λ given. order.Mount given) (certificate_words words)
-  pub serve : name ≡ codes "serve" → found ≡ option_map (λ given. order.Serve given) (serve_words words)
-
-abbrev Spells : Text → List Text → Option Order → Type 0
-Spells name words found = IsSomeAnd found (λ order. order_words order ≡ name ∷ words)
-
--- the words of three places, and of four
-three_are : (rows : List Row) (found : Places) (words : List Text) → AreFound rows found → HasAll (places Three) words rows → words ≡ found.first.now ∷ found.second.now ∷ found.third.now ∷ []
-three_are rows found [] are has = absurd has
-three_are rows found (a ∷ []) are has = absurd has.1
-three_are rows found (a ∷ b ∷ []) are has = absurd has.1.1
-three_are rows found (a ∷ b ∷ c ∷ []) are has =
-    let first : Some a ≡ Some found.first.now = sym has.0 ∙ are.first in
-    let second : Some b ≡ Some found.second.now = sym has.1.0 ∙ are.second in
-    let third : Some c ≡ Some found.third.now = sym has.1.1.0 ∙ are.third in
-    cc
-three_are rows found (a ∷ b ∷ c ∷ d ∷ more) are has = absurd has.1.1.1
-
-four_are : (rows : List Row) (found : Places) (words : List Text) → AreFound rows found → HasAll (places Four) words rows
-    → IsSomeAnd found.fourth (λ fourth. words ≡ found.first.now ∷ found.second.now ∷ found.third.now ∷ fourth.now ∷ [])
-four_are rows found [] are has = absurd has
-four_are rows found (a ∷ []) are has = absurd has.1
-four_are rows found (a ∷ b ∷ []) are has = absurd has.1.1
-four_are rows found (a ∷ b ∷ c ∷ []) are has = absurd has.1.1.1
-four_are rows found (a ∷ b ∷ c ∷ d ∷ []) are has = go found.fourth (sym has.1.1.1.0 ∙ are.fourth)
-  where
-    go : (fourth : Option (Bor Text)) → Some d ≡ option_map (λ word. word.now) fourth → IsSomeAnd fourth (λ word. a ∷ b ∷ c ∷ d ∷ [] ≡ found.first.now ∷ found.second.now ∷ found.third.now ∷ word.now ∷ [])
-    go None e = absurd (let no : Some d ≡ None = e in cc)
-    go (Some word) e =
-        let first : Some a ≡ Some found.first.now = sym has.0 ∙ are.first in
-        let second : Some b ≡ Some found.second.now = sym has.1.0 ∙ are.second in
-        let third : Some c ≡ Some found.third.now = sym has.1.1.0 ∙ are.third in
-        let fourth : Some d ≡ Some word.now = e in
-        cc
-four_are rows found (a ∷ b ∷ c ∷ d ∷ x ∷ more) are has = absurd has.1.1.1.1
-
--- and of five
-record AreFive (found : Places) (words : List Text) : Type 0 where
-  pub last : Bor Text
-  pub but_last : Bor Text
-  pub fourth : found.fourth ≡ Some but_last
-  pub fifth : found.fifth ≡ Some last
-  pub are : words ≡ found.first.now ∷ found.second.now ∷ found.third.now ∷ but_last.now ∷ last.now ∷ []
-
-five_are : (rows : List Row) (found : Places) (words : List Text) → AreFound rows found → HasAll (places Five) words rows → AreFive found words
-five_are rows found [] are has = absurd has
-five_are rows found (a ∷ []) are has = absurd has.1
-five_are rows found (a ∷ b ∷ []) are has = absurd has.1.1
-five_are rows found (a ∷ b ∷ c ∷ []) are has = absurd has.1.1.1
-five_are rows found (a ∷ b ∷ c ∷ d ∷ []) are has = absurd has.1.1.1.1
-five_are rows found (a ∷ b ∷ c ∷ d ∷ e ∷ []) are has = go found.fourth found.fifth refl refl (sym has.1.1.1.0 ∙ are.fourth) (sym has.1.1.1.1.0 ∙ are.fifth)
-  where
-    go : (p q : Option (Bor Text)) → found.fourth ≡ p → found.fifth ≡ q → Some d ≡ option_map (λ word. word.now) p → Some e ≡ option_map (λ word. word.now) q → AreFive found (a ∷ b ∷ c ∷ d ∷ e ∷ [])
-    go None q is1 is2 h k = absurd (let no : Some d ≡ None = h in cc)
-    go (Some p) None is1 is2 h k = absurd (let no : Some e ≡ None = k in cc)
-    go (Some p) (Some q) is1 is2 h k =
-        let first : Some a ≡ Some found.first.now = sym has.0 ∙ are.first in
-        let second : Some b ≡ Some found.second.now = sym has.1.0 ∙ are.second in
-        let third : Some c ≡ Some found.third.now = sym has.1.1.0 ∙ are.third in
-        let fourth : Some d ≡ Some p.now = h in
-        let fifth : Some e ≡ Some q.now = k in
-        record { last = q; but_last = p; fourth = is1; fifth = is2; are = (cc) }
-five_are rows found (a ∷ b ∷ c ∷ d ∷ e ∷ x ∷ more) are has = absurd has.1.1.1.1.1
-
-spells_three : (name : Text) (words : List Text) (found : Option Order) (asked : Order) → found ≡ Some asked → order_words asked ≡ name ∷ words → Spells name words found
-spells_three name words found asked some is = let P : Option Order → Type 0 = λ o. Spells name words o in subst P (sym some) is
-
-pub named_spells : (command : CommandName) (words : List Text) (rows : List Row) (found : Places) (asked : Option Order) → AreFound rows found → HasAll (places (size_of command)) words rows
-    → IsOrderNamed (name_of command) found asked → Spells (name_of command) words asked
-named_spells Sector words rows found asked are has is =
-    spells_three (codes "sector") words asked (order.Sector (image_words found)) (is.sector refl) (ap (λ ws. codes "sector" ∷ ws) (sym (three_are rows found words are has)))
-named_spells Show words rows found asked are has is =
-    spells_three (codes "show") words asked (order.Show (image_words found)) (is.show refl) (ap (λ ws. codes "show" ∷ ws) (sym (three_are rows found words are has)))
-named_spells Format words rows found asked are has is =
-    spells_three (codes "format") words asked (order.Format (file_words found)) (is.format refl) (ap (λ ws. codes "format" ∷ ws) (sym (three_are rows found words are has)))
-named_spells Check words rows found asked are has is = go found.fourth (is.check refl) (four_are rows found words are has)
-  where
-    go : (fourth : Option (Bor Text)) → asked ≡ option_map (λ given. order.Check given) (certificate_words (record found { fourth = fourth }))
-        → IsSomeAnd fourth (λ word. words ≡ found.first.now ∷ found.second.now ∷ found.third.now ∷ word.now ∷ []) → Spells (codes "check") words asked
-    go None e h = absurd h
-    go (Some word) e h = spells_three (codes "check") words asked _ e (ap (λ ws. codes "check" ∷ ws) (sym h))
-named_spells Mount words rows found asked are has is = go found.fourth (is.mount refl) (four_are rows found words are has)
-  where
-    go : (fourth : Option (Bor Text)) → asked ≡ option_map (λ given. order.Mount given) (certificate_words (record found { fourth = fourth }))
-        → IsSomeAnd fourth (λ word. words ≡ found.first.now ∷ found.second.now ∷ found.third.now ∷ word.now ∷ []) → Spells (codes "mount") words asked
-    go None e h = absurd h
-    go (Some word) e h = spells_three (codes "mount") words asked _ e (ap (λ ws. codes "mount" ∷ ws) (sym h))
-named_spells Serve words rows found asked are has is =
-    let five = five_are rows found words are has in
-    let asks : asked ≡ option_map (λ given. order.Serve given) (serve_by found (Some five.but_last) (Some five.last)) = is.serve refl ∙ (ap (λ o. option_map (λ given. order.Serve given) (serve_by found o found.fifth)) five.fourth ∙ ap (λ o. option_map (λ given. order.Serve given) (serve_by found (Some five.but_last) o)) five.fifth) in
-    spells_three (codes "serve") words asked _ asks (ap (λ ws. codes "serve" ∷ ws) (sym five.are))
-
--- a command's words are not missing
-abbrev IsMissing : List Row → Type 0
-IsMissing rows = (first_of (codes "first") rows ≡ None) ⊎ (first_of (codes "second") rows ≡ None) ⊎ (first_of (codes "third") rows ≡ None)
-
-has_three : (size : Size) (words : List Text) (rows : List Row) → HasAll (places size) words rows
-    → (a : Text) × (b : Text) × (c : Text) × (first_of (codes "first") rows ≡ Some a) × (first_of (codes "second") rows ≡ Some b) × (first_of (codes "third") rows ≡ Some c)
-has_three Three [] rows has = absurd has
-has_three Three (a ∷ []) rows has = absurd has.1
-has_three Three (a ∷ b ∷ []) rows has = absurd has.1.1
-has_three Three (a ∷ b ∷ c ∷ more) rows has = (a, b, c, has.0, has.1.0, has.1.1.0)
-has_three Four [] rows has = absurd has
-has_three Four (a ∷ []) rows has = absurd has.1
-has_three Four (a ∷ b ∷ []) rows has = absurd has.1.1
-has_three Four (a ∷ b ∷ c ∷ more) rows has = (a, b, c, has.0, has.1.0, has.1.1.0)
-has_three Five [] rows has = absurd has
-has_three Five (a ∷ []) rows has = absurd has.1
-has_three Five (a ∷ b ∷ []) rows has = absurd has.1.1
-has_three Five (a ∷ b ∷ c ∷ more) rows has = (a, b, c, has.0, has.1.0, has.1.1.0)
-
-some_none : (o : Option Text) (a : Text) → o ≡ Some a → o ≡ None → ⊥
-some_none o a some none = let no : Some a ≡ None = sym some ∙ none in cc
-
-pub none_missing : (size : Size) (words : List Text) (rows : List Row) → HasAll (places size) words rows → IsMissing rows → ⊥
-none_missing size words rows has (inl missing) = let h = has_three size words rows has in some_none _ h.0 h.3 missing
-none_missing size words rows has (inr (inl missing)) = let h = has_three size words rows has in some_none _ h.1 h.4 missing
-none_missing size words rows has (inr (inr missing)) = let h = has_three size words rows has in some_none _ h.2 h.5 missing
-
 -- ---- from the words to the order
 
 texts_plain : (words : List (Bor Text)) → list_any (λ w. is_option w.now) words ≡ list_any is_option (texts words)
@@ -732,6 +608,7 @@ order_taken words (order.Format s) is = taken words is.program Format (s.geometr
 order_taken words (order.Check s) is = taken words is.program Check (s.geometry.now ∷ s.capacity.now ∷ s.image.now ∷ s.certificate.now ∷ []) is.spelled is.plain refl
 order_taken words (order.Mount s) is = taken words is.program Mount (s.geometry.now ∷ s.capacity.now ∷ s.image.now ∷ s.certificate.now ∷ []) is.spelled is.plain refl
 order_taken words (order.Serve s) is = taken words is.program Serve (s.geometry.now ∷ s.capacity.now ∷ s.image.now ∷ s.certificate.now ∷ s.output.now ∷ []) is.spelled is.plain refl
+order_taken words (order.Migrate s) is = taken words is.program Migrate (s.geometry.now ∷ s.capacity.now ∷ s.image.now ∷ s.certificate.now ∷ s.output.now ∷ []) is.spelled is.plain refl
 
 -- what `order_of` tells of the matches
 abbrev pub Orders : Option (Text × List Row) → Option Order → Type 0

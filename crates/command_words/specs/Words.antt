@@ -30,6 +30,7 @@ order_words (order.Format words) = codes "format" ∷ words.geometry.now ∷ wor
 order_words (order.Check words) = codes "check" ∷ words.geometry.now ∷ words.capacity.now ∷ words.image.now ∷ words.certificate.now ∷ []
 order_words (order.Mount words) = codes "mount" ∷ words.geometry.now ∷ words.capacity.now ∷ words.image.now ∷ words.certificate.now ∷ []
 order_words (order.Serve words) = codes "serve" ∷ words.geometry.now ∷ words.capacity.now ∷ words.image.now ∷ words.certificate.now ∷ words.output.now ∷ []
+order_words (order.Migrate words) = codes "migrate" ∷ words.geometry.now ∷ words.capacity.now ∷ words.image.now ∷ words.certificate.now ∷ words.output.now ∷ []
 
 -- the program's name and the order's words, none of which begins with `-`
 pub record IsOrder (words : List (List ℕ)) (order : Order) : Type 0 where
@@ -47,6 +48,7 @@ pub data CommandName : Type 0 where
   Check : CommandName
   Mount : CommandName
   Serve : CommandName
+  Migrate : CommandName
 
 abbrev pub name_of : CommandName → List ℕ
 name_of Sector = codes "sector"
@@ -55,6 +57,7 @@ name_of Format = codes "format"
 name_of Check = codes "check"
 name_of Mount = codes "mount"
 name_of Serve = codes "serve"
+name_of Migrate = codes "migrate"
 
 -- how many words a command wants
 pub data Size : Type 0 where
@@ -69,6 +72,7 @@ size_of Format = Three
 size_of Check = Four
 size_of Mount = Four
 size_of Serve = Five
+size_of Migrate = Five
 
 -- the names of their places
 abbrev pub places : Size → List (List ℕ)
@@ -145,4 +149,4 @@ abbrev pub file_grammar : App
 file_grammar = with_command (with_command (with_command (with_command (with_command (no_help (new_app (codes "nandctl"))) Sector) Show) Format) Check) Mount
 
 abbrev pub grammar : App
-grammar = with_command file_grammar Serve
+grammar = with_command (with_command file_grammar Serve) Migrate

@@ -36,7 +36,7 @@ pub struct CertificateWords<'a> {
     pub certificate: &'a str,
 }
 
-/// The words of `serve GEOM C IMAGE CERT OUT`.
+/// The words of `serve GEOM C IMAGE CERT OUT` and of `migrate GEOM C IMAGE CERT OUT`.
 #[derive(Clone, Copy)]
 pub struct ServeWords<'a> {
     pub geometry: &'a str,
@@ -61,6 +61,8 @@ pub enum Order<'a> {
     Mount(CertificateWords<'a>),
     /// Serves requests over a raw image.
     Serve(ServeWords<'a>),
+    /// Brings the pages of version 1 of a raw image forward.
+    Migrate(ServeWords<'a>),
 }
 
 /// Why the words give no order.
@@ -166,11 +168,12 @@ fn file_grammar<'a>(alloc: Global) -> Result<Command<'a>, AllocError>
     with_four(alloc, program, "mount")
 }
 
-// The commands that the program has: these, and the server.
+// The commands that the program has: these, the server, and the migration.
 fn grammar<'a>(alloc: Global) -> Result<Command<'a>, AllocError>
     ensures { IfOk result (λ command. app_of command ≡ Rattle.command_words.specs.Words.grammar) }
 {
-    with_five(alloc, file_grammar(alloc)?, "serve")
+    let program = with_five(alloc, file_grammar(alloc)?, "serve")?;
+    with_five(alloc, program, "migrate")
 }
 
 fn is_option(word: &str) -> bool
@@ -267,6 +270,7 @@ fn order_named<'a>(name: &str, words: &Places<'a>) -> Option<Order<'a>>
     ensures check { name.now ≡ codes "check" → result ≡ option_map (λ given. Order.Check given) (certificate_words words.now) }
     ensures mount { name.now ≡ codes "mount" → result ≡ option_map (λ given. Order.Mount given) (certificate_words words.now) }
     ensures serve { name.now ≡ codes "serve" → result ≡ option_map (λ given. Order.Serve given) (serve_words words.now) }
+    ensures migrate { name.now ≡ codes "migrate" → result ≡ option_map (λ given. Order.Migrate given) (serve_words words.now) }
 {
     match name {
         "sector" => Some(Order::Sector(words.of_image())),
@@ -275,6 +279,7 @@ fn order_named<'a>(name: &str, words: &Places<'a>) -> Option<Order<'a>>
         "check" => Some(Order::Check(words.of_certificate()?)),
         "mount" => Some(Order::Mount(words.of_certificate()?)),
         "serve" => Some(Order::Serve(words.of_serve()?)),
+        "migrate" => Some(Order::Migrate(words.of_serve()?)),
         _ => None,
     }
 }

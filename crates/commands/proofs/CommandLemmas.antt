@@ -13,6 +13,7 @@ use Rattle.command_words.specs.declared.words.ServeWords.{ServeWords}
 use Rattle.commands.specs.Check.{IsCheckFault}
 use Rattle.commands.specs.Mount.{DoesMount}
 use Rattle.commands.specs.Serve.{DoesServe, IsUnstarted}
+use Rattle.commands.specs.Migrate.{DoesMigrate, IsClaimUnmigrated, IsUnbegun}
 use Rattle.commands.specs.Commands.{Does, Obeys}
 use Rattle.commands.specs.Files.{Gives, Left, Leaves}
 use Rattle.commands.specs.Inputs.{IsUnread}
@@ -75,6 +76,24 @@ serve_is_command gives words unread left before after (inl none) = unstarted non
     unstarted (inr (inr (inr (inr unserved)))) = unserved.unserved
 serve_is_command gives words unread left before after (inr ran) = ran.ends
 
+migrate_is_command : (gives : Gives) (words : ServeWords) (before after : Left) → DoesMigrate gives words before after (Err fault.NoSuchCommand) → ⊥
+migrate_is_command gives words before after (inl none) = unbegun none.1
+  where
+    unmade : (has : IsClaimUnmigrated gives words fault.NoSuchCommand) → ⊥
+    unmade has = elim has.unmigrated [
+      | inl no_die ↦ no_die
+      | inr no_device ↦ no_device.1
+    ]
+
+    unbegun : IsUnbegun gives words fault.NoSuchCommand → ⊥
+    unbegun (inl unasked) = unasked
+    unbegun (inr (inl unopened)) = unopened.unread
+    unbegun (inr (inr (inl lacks))) = lacks.unread
+    unbegun (inr (inr (inr (inl malformed)))) = malformed.broken
+    unbegun (inr (inr (inr (inr unmigrated)))) = unmade unmigrated
+migrate_is_command gives words before after (inr (inl (image, came, has, short, keeps))) = short
+migrate_is_command gives words before after (inr (inr (image, count, has, stored, unprinted))) = unprinted
+
 -- what the order of the words came to, the words came to
 pub order_obeys : (gives : Gives) (tells : Bool) (words : List (List ℕ)) (unread left : Option (List ℕ)) (before after : Left) (result : Result (Unit {0}) CommandFault) (asked : Order)
     → IsOrder words asked → Does gives tells asked unread left before after result → Obeys gives tells words unread left before after result
@@ -85,10 +104,12 @@ order_obeys gives tells words unread left before after (Err fault.NoSuchCommand)
 order_obeys gives tells words unread left before after (Err fault.NoSuchCommand) (order.Check w) is does = absurd (check_is_command gives tells w before.out after.out does.0.1)
 order_obeys gives tells words unread left before after (Err fault.NoSuchCommand) (order.Mount w) is does = absurd (mount_is_command gives w before after does)
 order_obeys gives tells words unread left before after (Err fault.NoSuchCommand) (order.Serve w) is does = absurd (serve_is_command gives w unread left before after does)
+order_obeys gives tells words unread left before after (Err fault.NoSuchCommand) (order.Migrate w) is does = absurd (migrate_is_command gives w before after does)
 order_obeys gives tells words unread left before after (Err fault.OutOfMemory) (order.Sector w) is does = inl (does.1, does.0.0)
 order_obeys gives tells words unread left before after (Err fault.OutOfMemory) (order.Show w) is does = inl (does.1, does.0.0)
 order_obeys gives tells words unread left before after (Err fault.OutOfMemory) (order.Format w) is does = inl does.0
 order_obeys gives tells words unread left before after (Err fault.OutOfMemory) (order.Check w) is does = inl (does.1, does.0.0)
 order_obeys gives tells words unread left before after (Err fault.OutOfMemory) (order.Mount w) is does = inl (mount_leaves gives w before after does)
 order_obeys gives tells words unread left before after (Err fault.OutOfMemory) (order.Serve w) is does = inr (order.Serve w, is, does)
+order_obeys gives tells words unread left before after (Err fault.OutOfMemory) (order.Migrate w) is does = inr (order.Migrate w, is, does)
 order_obeys gives tells words unread left before after (Err _) asked is does = (asked, is, does)

@@ -10,3 +10,5 @@ pub mod SaidLemmas
 pub mod LogLemmas
 pub mod PassedLemmas
 pub mod SteadyLemmas
+pub mod MigrateLemmas
+pub mod MigrateEnds

@@ -29,7 +29,7 @@ use Rattle.commands.specs.declared.text.CommandFault.{CommandFault}
 use Rattle.commands.specs.declared.text.CommandFault.TheVariants as fault
 use Rattle.commands.specs.Check.{IsWhole}
 use Rattle.commands.specs.Files.{Gives, Left, Leaves}
-use Rattle.commands.specs.Serve.{Driver, flash_behind, recorded_of, is_honest, is_calm_as, failures_of, erases_of, bad_in, stop_in, DoesServe, Ends, HasClaim, HasRun, HasServed, IsUnserved, IsUnservedDie, IsUnstarted, ServesDie}
+use Rattle.commands.specs.Serve.{Driver, flash_behind, recorded_of, is_honest, is_calm_as, failures_of, erases_of, bad_in, stop_in, DoesServe, Ends, HasClaim, HasRun, HasServed, IsUnserved, IsUnservedDie, IsUnstarted, ServesDie, IsUnmade}
 use Rattle.commands.specs.Steady.{has_spared}
 use Rattle.commands.proofs.BadLemmas.{named_bad}
 use Rattle.commands.proofs.PassedLemmas.{none_failed}
@@ -91,6 +91,12 @@ pub stops : (gives : Gives) (words : ServeWords) (unread left : Option (List ℕ
 stops gives words unread left before after result stop is leaves keeps because =
     let P : Result (Unit {0}) CommandFault → Type 0 = λ r. DoesServe gives words unread left before after r in
     subst P (sym is) (inl (record { leaves = leaves; unread_is = keeps; because = because }))
+
+-- an image of which no die was made
+pub undied : (g : Geometry) (capacity : ℕ) (bytes : List ℕ) (c : Claim) (stop : CommandFault) → IsUnmade g bytes stop → IsUnserved g capacity bytes c stop
+undied g capacity bytes c fault.WrongLength unmade = unmade
+undied g capacity bytes c (fault.Die broken) unmade = unmade
+undied g capacity bytes c _ unmade = absurd unmade
 
 -- a die of a whole image that was not served
 pub unserved : (g : Geometry) (capacity : ℕ) (bytes : List ℕ) (c : Claim) (s : Flash) (stop : CommandFault) → IsWhole g bytes → s ≡ loaded_flash g bytes (bad_in g c)

@@ -13,6 +13,7 @@ use Rattle.commands.specs.Check.{DoesCheck}
 use Rattle.commands.specs.Mount.{DoesMount}
 use Rattle.commands.specs.Format.{DoesFormat}
 use Rattle.commands.specs.Serve.{DoesServe}
+use Rattle.commands.specs.Migrate.{DoesMigrate}
 use Rattle.commands.specs.Text.{IsTold}
 
 -- what an order came to, with what standard input had before and after: `serve` alone reads it
@@ -23,6 +24,7 @@ Does gives tells (order.Format words) unread left before after result = DoesForm
 Does gives tells (order.Check words) unread left before after result = DoesCheck gives tells words before.out after.out result × (after.stores ≡ before.stores)
 Does gives tells (order.Mount words) unread left before after result = DoesMount gives words before after result
 Does gives tells (order.Serve words) unread left before after result = DoesServe gives words unread left before after result
+Does gives tells (order.Migrate words) unread left before after result = DoesMigrate gives words before after result
 
 -- the words are an order, and it came to this
 abbrev pub DoesOrder : Gives → Bool → List (List ℕ) → Option (List ℕ) → Option (List ℕ) → Left → Left → Result (Unit {0}) CommandFault → Type 0

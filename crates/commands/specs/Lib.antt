@@ -10,4 +10,5 @@ pub mod Check
 pub mod Mount
 pub mod Commands
 pub mod Serve
+pub mod Migrate
 pub mod Steady

@@ -30,6 +30,7 @@ use Rattle.command_words.specs.declared.words.ServeWords.{ServeWords}
 use Rattle.commands.specs.declared.text.CommandFault.{CommandFault}
 use Rattle.commands.specs.declared.text.CommandFault.TheVariants as fault
 use Rattle.commands.specs.declared.steady.SteadyDie.{SteadyDie}
+use Rattle.commands.specs.Steady.{is_flawless}
 use Rattle.commands.specs.declared.text.ServeStop.{ServeStop}
 use Rattle.commands.specs.declared.text.ServeStop.TheVariants as stop
 use Rattle.commands.specs.Check.{HasFiles, HasNoCertificate, IsSpelled, IsUnasked, IsUnopened, IsWhole, LacksCertificate}
@@ -61,6 +62,9 @@ is_calm_as d = is_flawless d.bus.die
 
 abbrev pub failures_of : Driver → ℕ
 failures_of d = d.failures
+
+abbrev pub programs_of : Driver → ℕ
+programs_of d = d.programs
 
 abbrev pub erases_of : Driver → ℕ
 erases_of d = d.erases
@@ -97,6 +101,12 @@ stop_at ends.BadFrame = Some stop.BadFrame
 abbrev pub stop_in : Result Served ServeFault → Option ServeStop
 stop_in (Ok served) = stop_at served.end
 stop_in (Err stopped) = Some (stop.Fault stopped)
+
+-- why no die was made of the image
+abbrev pub IsUnmade : Geometry → List ℕ → CommandFault → Type 0
+IsUnmade g bytes fault.WrongLength = ¬ IsWhole g bytes
+IsUnmade g bytes (fault.Die broken) = IsWhole g bytes × (broken ≡ die.OutOfMemory)
+IsUnmade g bytes _ = ⊥
 
 -- why the die was not served: nothing was read and nothing written
 abbrev pub IsUnserved : Geometry → ℕ → List ℕ → Claim → CommandFault → Type 0

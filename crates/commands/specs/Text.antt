@@ -16,11 +16,13 @@ use Rattle.mount.specs.declared.format_fault.FormatFault.TheVariants as format
 use Rattle.nand_die.specs.declared.fault.DieFault.{DieFault}
 use Rattle.nand_die.specs.declared.fault.DieFault.TheVariants as die
 use Rattle.request_stream.specs.declared.reply.ServeFault.TheVariants as server
+use Rattle.ftl_device.specs.declared.fault.DeviceFault.{DeviceFault}
+use Rattle.ftl_device.specs.declared.fault.DeviceFault.TheVariants as device
 use Rattle.commands.specs.declared.text.ServeStop.{ServeStop}
 use Rattle.commands.specs.declared.text.ServeStop.TheVariants as stop
 use Rattle.commands.specs.declared.text.CommandFault.{CommandFault}
 use Rattle.commands.specs.declared.text.CommandFault.TheVariants.{NoSuchCommand, BadNumber, Geometry, Capacity, WrongLength, RowRange, OutOfMemory}
-use Rattle.commands.specs.declared.text.CommandFault.TheVariants.{Sector, Die, Format, Certificate, Check, Mount, Start, Serve, ServeUnstored, Read}
+use Rattle.commands.specs.declared.text.CommandFault.TheVariants.{Sector, Die, Format, Certificate, Check, Mount, Start, Serve, ServeUnstored, SpareSize, Migrate, MigrateUnstored, Read}
 use Rattle.commands.specs.declared.text.CommandFault.TheVariants.{Write}
 
 -- the number and the name of a limit that is broken
@@ -82,6 +84,20 @@ refusal_words refusal.Source = codes "15 Source"
 refusal_words refusal.OutOfMemory = codes "16 OutOfMemory"
 refusal_words refusal.WrongLength = codes "17 WrongLength"
 
+-- the number and the name of a device's refusal, or of the one with counts its beginning
+abbrev pub device_start : DeviceFault → List ℕ
+device_start device.OutOfRange = codes "1 OutOfRange"
+device_start (device.ReadOnly good wanted failed) = codes "2 ReadOnly good "
+device_start device.SequenceSpent = codes "3 SequenceSpent"
+device_start device.OutOfMemory = codes "4 OutOfMemory"
+device_start device.Damaged = codes "5 Damaged"
+device_start device.BusFault = codes "6 BusFault"
+
+-- the same, and its counts
+abbrev pub device_words : DeviceFault → List ℕ
+device_words (device.ReadOnly good wanted failed) = device_start (device.ReadOnly good wanted failed) ++ (decimal good ++ (codes " need " ++ (decimal wanted ++ (codes " failed " ++ decimal failed))))
+device_words refused = device_start refused
+
 -- the line of what stopped a server
 abbrev pub stop_words : ServeStop → List ℕ
 stop_words stop.BadFrame = codes "refused serve 7 BadFrame"
@@ -113,6 +129,9 @@ line_of (Mount refused) = codes "refused mount " ++ refusal_words refused
 line_of Start = codes "refused start 1 OutOfMemory"
 line_of (Serve stopped) = stop_words stopped
 line_of (ServeUnstored stopped path) = stop_words stopped ++ (10 ∷ (codes "fault write " ++ path.now))
+line_of SpareSize = codes "refused migrate 8 SpareSize"
+line_of (Migrate refused) = codes "refused migrate " ++ device_words refused
+line_of (MigrateUnstored refused path) = codes "refused migrate " ++ (device_words refused ++ (10 ∷ (codes "fault write " ++ path.now)))
 line_of (Read path) = codes "fault read " ++ path.now
 line_of (Write path) = codes "fault write " ++ path.now
 
@@ -134,6 +153,9 @@ status_of (Mount refused) = 1
 status_of Start = 1
 status_of (Serve stopped) = stop_status stopped
 status_of (ServeUnstored stopped path) = 3
+status_of SpareSize = 1
+status_of (Migrate refused) = 1
+status_of (MigrateUnstored refused path) = 3
 status_of (Read path) = 3
 status_of (Write path) = 3
 

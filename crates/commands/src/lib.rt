@@ -8,6 +8,8 @@ mod files;
 mod format;
 mod inputs;
 mod lines;
+mod migrate;
+mod migrate_all;
 mod mount_image;
 mod outputs;
 mod program;

@@ -6,6 +6,7 @@ ghost use Rattle.command_words.specs.Words.{texts};
 use crate::check::check_command;
 use crate::files::FileStore;
 use crate::format::format_command;
+use crate::migrate::migrate_command;
 use crate::mount_image::mount_command;
 use crate::sector::sector_command;
 use crate::serve::serve_command;
@@ -33,6 +34,7 @@ fn carry_out<'a, F: FileStore, R: Read, W: Write>(
         Order::Check(words) => check_command(alloc, words, files, out),
         Order::Mount(words) => mount_command(alloc, words, files, out),
         Order::Serve(words) => serve_command(alloc, words, files, input, out),
+        Order::Migrate(words) => migrate_command(alloc, words, files, out),
     }
 }
 

@@ -4,8 +4,9 @@ ghost use Rattle.request_stream.specs.Frames.{Sends};
 ghost use Rattle.commands.specs.Said.{said_bytes};
 ghost use Rattle.commands.specs.Text.{certificate_words, die_words, format_words, geometry_words, refusal_words, sector_words};
 
-use crate::lines::send_line;
+use crate::lines::{send_device, send_line};
 use certificate::CertFault;
+use ftl_device::DeviceFault;
 use image_check::{Refusal, SectorFault};
 use itoa::Buffer;
 use mount::FormatFault;
@@ -14,13 +15,16 @@ use page_layout::geometry::GeometryFault;
 use request_stream::ServeFault;
 use std::io::Write;
 
-/// What is said of a fault: a text, or two, or one with a number behind it, or two each with a number.
+/// What is said of a fault: a text, or two, or one with a number behind it, or two each with a number; or a device's refusal,
+/// alone or with a line behind it that the file of a path could not be written.
 #[derive(Clone, Copy)]
 pub enum Said<'a> {
     Text(&'a str),
     Texts(&'a str, &'a str),
     One(&'a str, u32),
     Two(&'a str, u32, &'a str, u32),
+    Device(DeviceFault),
+    DeviceUnstored(DeviceFault, &'a str),
 }
 
 pub fn of_geometry<'a>(fault: GeometryFault) -> Said<'a>
@@ -139,5 +143,9 @@ pub fn send_said<'a, W: Write>(out: &mut W, area: &'a str, said: Said<'a>) -> Re
             other,
             more.format(second),
         ),
+        Said::Device(refused) => send_device(out, area, refused, "", ""),
+        Said::DeviceUnstored(refused, path) => {
+            send_device(out, area, refused, "\nfault write ", path)
+        }
     }
 }

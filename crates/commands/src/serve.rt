@@ -9,7 +9,7 @@ ghost use Rattle.ftl_device.specs.Begin.{is_bad_in};
 ghost use Rattle.commands.specs.Check.{IsWhole};
 ghost use Rattle.commands.specs.Files.{left};
 ghost use Rattle.commands.specs.Steady.{is_steady};
-ghost use Rattle.commands.specs.Serve.{bad_in, stop_in, Ends, HasServed, IsUnserved, IsUnservedDie, DoesServe};
+ghost use Rattle.commands.specs.Serve.{bad_in, stop_in, Ends, HasServed, IsUnmade, IsUnservedDie, DoesServe};
 
 use crate::check::certificate_in;
 use crate::files::{FileFault, FileStore};
@@ -53,7 +53,7 @@ fn bad_blocks(alloc: Global, certificate: &Certificate, blocks: u32) -> Result<V
 }
 
 // A die in memory that holds the image, with the certificate's bad blocks.
-fn die_of<'a>(
+pub(crate) fn die_of<'a>(
     alloc: Global,
     asked: &CacheAsked,
     bytes: &[u8],
@@ -63,7 +63,7 @@ fn die_of<'a>(
     ensures made { IfOk result (λ die. die ≡ before_reset (loaded_flash asked.now.geometry bytes.now (bad_in asked.now.geometry certificate.now))) }
     ensures steady { IfOk result (λ die. is_steady die ≡ true) }
     ensures whole { OnOk result (IsWhole asked.now.geometry bytes.now) }
-    ensures fault { IfErr result (IsUnserved asked.now.geometry asked.now.capacity bytes.now certificate.now) }
+    ensures fault { IfErr result (IsUnmade asked.now.geometry bytes.now) }
 {
     if ImageSlice::new(&asked.geometry, bytes).is_err() {
         return Err(CommandFault::WrongLength);

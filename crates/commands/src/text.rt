@@ -5,6 +5,7 @@ ghost use Rattle.commands.specs.Text.{IsTold, line_of, stop_words};
 
 use crate::said::{self, Said, send_said};
 use certificate::CertFault;
+use ftl_device::DeviceFault;
 use image_check::{Refusal, SectorFault};
 use mount::FormatFault;
 use nand_die::DieFault;
@@ -66,6 +67,12 @@ pub enum CommandFault<'a> {
     Serve(ServeStop),
     /// The server was stopped, and then the file of this path could not be written.
     ServeUnstored(ServeStop, &'a str),
+    /// The spare areas have no room for records of version 2.
+    SpareSize,
+    /// The device refused to bring its pages forward.
+    Migrate(DeviceFault),
+    /// It did, and then the file of this path could not be written.
+    MigrateUnstored(DeviceFault, &'a str),
     /// The file of this path could not be read.
     Read(&'a str),
     /// The file of this path, or standard output where it is `-`, could not be written.
@@ -95,11 +102,14 @@ impl CommandFault<'_> {
             | CommandFault::Check(_)
             | CommandFault::Mount(_)
             | CommandFault::Start
+            | CommandFault::SpareSize
+            | CommandFault::Migrate(_)
             | CommandFault::Serve(
                 ServeStop::BadFrame | ServeStop::Fault(ServeFault::OutOfMemory),
             ) => REFUSED,
             CommandFault::Serve(ServeStop::Fault(ServeFault::Read | ServeFault::Write))
             | CommandFault::ServeUnstored(..)
+            | CommandFault::MigrateUnstored(..)
             | CommandFault::Read(_)
             | CommandFault::Write(_) => IO,
         }
@@ -140,6 +150,11 @@ fn line<'a>(fault: &CommandFault<'a>) -> (&'a str, Said<'a>)
         CommandFault::Serve(stop) => ("", Said::Text(stop_text(stop))),
         CommandFault::ServeUnstored(stop, path) => {
             (stop_text(stop), Said::Texts("\nfault write ", path))
+        }
+        CommandFault::SpareSize => ("refused migrate ", Said::Text("8 SpareSize")),
+        CommandFault::Migrate(refused) => ("refused migrate ", Said::Device(refused)),
+        CommandFault::MigrateUnstored(refused, path) => {
+            ("refused migrate ", Said::DeviceUnstored(refused, path))
         }
         CommandFault::Read(path) => ("fault read ", Said::Text(path)),
         CommandFault::Write(path) => ("fault write ", Said::Text(path)),

@@ -1,4 +1,4 @@
-use Rattle.std.proofs.Common.{◌≡◌, ◌⊎◌, inl, inr, true, [], ap, sym, subst, ◌∙◌, rules}
+use Rattle.std.proofs.Common.{◌≡◌, inl, inr, true, [], ap, subst, ◌∙◌, rules}
 use Rattle.clap.specs.Words.{HasKind, app_of, fault_of, is_simple, is_simple_and_free, subcommand_of, subcommand_rows_of}
 use Rattle.command_words.specs.Words.{grammar, texts}
 use Rattle.command_words.proofs.WordLemmas.{simple_grammar, plain_grammar}

@@ -1,7 +1,8 @@
 use Rattle.std.proofs.Common.{◌≡◌, ◌∙◌, refl, List, ℕ, Some, sym, subst, option_map}
 use Rattle.clap.specs.Words.{found_of, rows_of, subcommand_rows_of}
 use Rattle.command_words.specs.Words.{HasAll, name_of, places, size_of}
-use Rattle.command_words.proofs.WordLemmas.{IsOrderNamed, name_named, named_spells, none_missing, rows_name, rows_named}
+use Rattle.command_words.proofs.MatchLemmas.{IsOrderNamed, named_spells, none_missing}
+use Rattle.command_words.proofs.WordLemmas.{name_named, rows_name, rows_named}
 use Rattle.command_words.proofs.words.order_of.Goals as goal
 
 pub returns-in_err-words : goal.returns-in_err-words
@@ -24,6 +25,7 @@ returns c command given named =
       check = c.order_named.ensures.check;
       mount = c.order_named.ensures.mount;
       serve = c.order_named.ensures.serve;
+      migrate = c.order_named.ensures.migrate;
     } in
     let P : List ℕ → Type 0 = λ name. IsOrderNamed name c.in_ok-words.words c.order_named.result in
     named_spells command given rows c.in_ok-words.words c.order_named.result c.in_ok-words.ensures.some

@@ -6,10 +6,10 @@ use Rattle.nand_die.specs.Made.{loaded_flash}
 use Rattle.commands.specs.declared.steady.SteadyDie.{SteadyDie}
 use Rattle.commands.specs.Check.{IsNoCertificate, IsSpelled, IsWhole}
 use Rattle.commands.specs.Files.{Stored, left}
-use Rattle.commands.specs.Serve.{Ends, HasClaim, HasServed, IsUnserved, bad_in}
+use Rattle.commands.specs.Serve.{Ends, HasClaim, HasServed, IsUnmade, bad_in}
 use Rattle.commands.proofs.CheckLemmas.{unread_before}
 use Rattle.commands.proofs.FormatLemmas.{kept_whole}
-use Rattle.commands.proofs.ServeLemmas.{served_does, stops, unserved}
+use Rattle.commands.proofs.ServeLemmas.{served_does, stops, undied, unserved}
 use Rattle.commands.proofs.serve.serve_command.Goals as goal
 
 pub returns-in_err-asked : goal.returns-in_err-asked
@@ -64,7 +64,7 @@ returns-in_err-die g c =
     let claim = c.in_ok-certificate.certificate in
     let stop = c.in_err-die.field-0.0 in
     let Q : List ℕ → Type 0 = λ w. IsSpelled claim w in
-    let P : List ℕ → Type 0 = λ b. IsUnserved asked.geometry asked.capacity b claim stop in
+    let P : List ℕ → Type 0 = λ b. IsUnmade asked.geometry b stop in
     let has : HasClaim gives c.args.words asked.geometry asked.capacity bytes claim = record {
       written = written;
       files = record { asked = c.in_ok-asked.ensures.ok; image = record { bytes = c.in_ok-bytes.ensures.ok; told = λ _. refl }; certificate = c.in_ok-bytes.ensures.same c.args.words.certificate.now (Ok written) c.in_ok-written.ensures.ok };
@@ -77,7 +77,7 @@ returns-in_err-die g c =
       bytes = bytes;
       claim = claim;
       has = has;
-      unserved = subst P c.deref-2.ensures.value c.in_err-die.ensures.fault;
+      unserved = undied asked.geometry asked.capacity bytes claim stop (subst P c.deref-2.ensures.value c.in_err-die.ensures.fault);
     })))))
 
 pub returns-in_err-stop : goal.returns-in_err-stop

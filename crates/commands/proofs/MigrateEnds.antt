@@ -1,0 +1,138 @@
+-- From what the steps of `migrate` came to, to what the command came to.
+use Rattle.std.proofs.Common.{◌≡◌, ◌≢◌, inl, inr, ℕ, ◌+◌, ◌≤◌, List, None, Result, Ok, Err, OnOk, IfErr, refl, sym, ap, subst, ◌∙◌}
+use Rattle.std.specs.Io.KnownBytes.{Appends, Keeps}
+use Rattle.page_layout.specs.declared.geometry.Geometry.{Geometry}
+use Rattle.page_layout.specs.Array.{array_of}
+use Rattle.page_layout.specs.Flash.{Flash}
+use Rattle.page_layout.specs.OnlyReads.{OnlyReads}
+use Rattle.page_layout.specs.Page.{Image, IsImage}
+use Rattle.page_layout.specs.Raw.{raw_image, raw_bytes}
+use Rattle.certificate.specs.Claim.{Claim}
+use Rattle.promises.specs.Legal.{accounts_of}
+use Rattle.image_check.specs.Accepted.{Acceptance, IsAcceptance}
+use Rattle.image_check.specs.Mountable.{IsMountable}
+use Rattle.allocation.specs.View.{state}
+use Rattle.collection.specs.State.{Ram}
+use Rattle.collection.specs.Log.{IsAccounted}
+use Rattle.collection.specs.Safe.{image_in, ram}
+use Rattle.collection.specs.Truth.{IsTrue}
+use Rattle.ftl_device.specs.Begin.{begun_ram, free_in, is_bad_in, is_scarce}
+use Rattle.ftl_device.specs.Device.{IsDevice, IsAcceptedFor}
+use Rattle.ftl_device.specs.declared.device.Device.{Device}
+use Rattle.ftl_device.specs.declared.fault.DeviceFault.{DeviceFault}
+use Rattle.ftl_device.specs.declared.fault.DeviceFault.TheVariants.{BusFault}
+use Rattle.page_layout.specs.Counter.{HasRisen}
+use Rattle.command_words.specs.declared.words.ServeWords.{ServeWords}
+use Rattle.commands.specs.declared.text.CommandFault.{CommandFault}
+use Rattle.commands.specs.Check.{AsksForCapacity, IsSpelled}
+use Rattle.commands.specs.Files.{Gives, Left, Leaves, with_store, written}
+use Rattle.commands.specs.Lines.{IsUnprinted}
+use Rattle.commands.specs.Serve.{Driver, HasClaim, checked_words, erases_of, failures_of, flash_behind, is_calm_as, is_honest, programs_of, recorded_of}
+use Rattle.commands.specs.Migrate.{DoesMigrate, EndsShort, HasMigrated, IsSettled, IsUnbegun, KeepsAll, MigratesDie, RenewsThenFlushes, StartsOver, migrated_line}
+use Rattle.ftl_device.proofs.CallLemmas.{mountable_kept}
+use Rattle.block_server.proofs.Checking.{closed_as, geometry_is, is_begun, well}
+use Rattle.commands.proofs.FormatLemmas.{not_risen}
+
+-- a step before a device was started ended it
+pub stops : (gives : Gives) (words : ServeWords) (before after : Left) (result : Result (Unit {0}) CommandFault) (stop : CommandFault)
+    → result ≡ Err stop → Leaves before after → IsUnbegun gives words stop → DoesMigrate gives words before after result
+stops gives words before after result stop is leaves because =
+    let P : Result (Unit {0}) CommandFault → Type 0 = λ r. DoesMigrate gives words before after r in
+    subst P (sym is) (inl (leaves, because))
+
+-- the device's refusal or the store's did
+pub falls_short : (gives : Gives) (words : ServeWords) (before after : Left) (result : Result (Unit {0}) CommandFault) (stop : CommandFault) (image : List ℕ) (came : Result ℕ DeviceFault)
+    → result ≡ Err stop → HasMigrated gives words image came → EndsShort words.output.now image came before.stores after.stores stop → Keeps before.out after.out → DoesMigrate gives words before after result
+falls_short gives words before after result stop image came is has short keeps =
+    let P : Result (Unit {0}) CommandFault → Type 0 = λ r. DoesMigrate gives words before after r in
+    subst P (sym is) (inr (inl (image, came, has, short, keeps)))
+
+-- the printing, after all that came before it
+pub prints : (gives : Gives) (words : ServeWords) (before after : Left) (result : Result (Unit {0}) CommandFault) (image : List ℕ) (count : ℕ) (came : Result ℕ DeviceFault) → came ≡ Ok count
+    → HasMigrated gives words image came → after.stores ≡ with_store before.stores (written words.output.now image)
+    → OnOk result (Appends before.out after.out (migrated_line count)) → IfErr result (IsUnprinted (migrated_line count) before.out after.out) → DoesMigrate gives words before after result
+prints gives words before after result image count came is has stored ok failed = go result ok failed
+  where
+    done : HasMigrated gives words image (Ok count)
+    done = subst (λ (r : Result ℕ DeviceFault). HasMigrated gives words image r) is has
+
+    go : (r : Result (Unit {0}) CommandFault) → OnOk r (Appends before.out after.out (migrated_line count)) → IfErr r (IsUnprinted (migrated_line count) before.out after.out) → DoesMigrate gives words before after r
+    go (Ok _) told told_not = (image, count, done, stored, told)
+    go (Err stop) told told_not = inr (inr (image, count, done, stored, told_not))
+
+-- both files were read, and these are the certificate's bytes
+pub has_claim : (gives : Gives) (words : ServeWords) (g : Geometry) (capacity : ℕ) (bytes spelled read : List ℕ) (c : Claim) → AsksForCapacity (checked_words words) g capacity
+    → gives words.image.now (Ok bytes) → gives words.certificate.now (Ok spelled) → read ≡ spelled → IsSpelled c read → HasClaim gives words g capacity bytes c
+has_claim gives words g capacity bytes spelled read c asked image certificate same is = record {
+  written = spelled;
+  files = record { asked = asked; image = record { bytes = image; told = λ _. refl }; certificate = certificate };
+  spelled = subst (λ (w : List ℕ). IsSpelled c w) same is;
+}
+
+-- ---- a die in memory
+
+-- the checker's answer and the start's, together
+pub starts_over : (nand checked : Driver) (g : Geometry) (capacity : ℕ) (c : Claim) (a : Acceptance) (d : Device Driver) → 40 ≤ g.spare_bytes
+    → (flash_behind nand).geometry ≡ g → OnlyReads flash_behind is_honest is_calm_as programs_of erases_of failures_of nand checked
+    → flash_behind checked ≡ flash_behind nand → IsImage g (flash_behind nand).image → a.claim ≡ c → IsAcceptance g capacity (flash_behind nand).image c a
+    → IsDevice flash_behind d → d.engine.nand ≡ checked → ram d.engine ≡ begun_ram (flash_behind checked).geometry a.claim a.stale
+    → (IsAcceptedFor (flash_behind checked) a → IsTrue None (ram d.engine) (image_in flash_behind d.engine))
+    → (IsAcceptedFor (flash_behind checked) a → d.read_only ≡ is_scarce (free_in (flash_behind checked).geometry a.claim (flash_behind checked).image))
+    → (IsAcceptedFor (flash_behind checked) a → IsAccounted (accounts_of (flash_behind checked).geometry (flash_behind checked).image (is_bad_in a.claim)) (state d.engine.blocks))
+    → StartsOver g capacity c nand d
+starts_over nand checked g capacity c a d roomy sized reads same whole claim_is acceptance device nand_is begun truth free accounts = record {
+  agrees = acceptance.agrees;
+  roomy = roomy;
+  begun = is_begun flash_behind recorded_of is_honest failures_of erases_of nand checked checked g capacity c a d sized reads.geometry_is reads.honest_is reads.failed_is
+      (λ _. same) (λ _. whole) claim_is (λ _. acceptance) device nand_is begun (λ _. truth) (λ _. free) (λ _. accounts);
+  sized = geometry_is flash_behind recorded_of is_honest failures_of erases_of nand checked checked g capacity c a d sized reads.geometry_is reads.honest_is reads.failed_is
+      (λ _. same) (λ _. whole) claim_is (λ _. acceptance) device nand_is begun (λ _. truth) (λ _. free) (λ _. accounts);
+  well = well flash_behind recorded_of is_honest failures_of erases_of nand checked checked g capacity c a d sized reads.geometry_is reads.honest_is reads.failed_is
+      (λ _. same) (λ _. whole) claim_is (λ _. acceptance) device nand_is begun (λ _. truth) (λ _. free) (λ _. accounts) refl;
+  free = closed_as flash_behind recorded_of is_honest failures_of erases_of nand checked checked g capacity c a d sized reads.geometry_is reads.honest_is reads.failed_is
+      (λ _. same) (λ _. whole) claim_is (λ _. acceptance) device nand_is begun (λ _. truth) (λ _. free) (λ _. accounts) refl;
+}
+
+-- it answers each call, so the array stays
+never_bus : (came : Result ℕ DeviceFault) (was now most : ℕ) → (came ≡ Err BusFault → HasRisen was now) → now ≤ most → most ≡ 0 → came ≢ Err BusFault
+never_bus came was now most rose le none is = not_risen was now most (rose is) le none
+
+-- the image has a certificate at the capacity that the device began with
+mounts_on : (g : Geometry) (capacity : ℕ) (c : Claim) (nand : Driver) (first last : Device Driver) → StartsOver g capacity c nand first → IsDevice flash_behind last
+    → last.engine.geometry ≡ g → KeepsAll flash_behind first last → capacity + g.pages ≤ 65536 → IsMountable g (capacity + g.pages) (flash_behind last.engine.nand).image
+mounts_on g capacity c nand first last starts device sized kept =
+    let held : last.engine.mapping.capacity ≡ capacity =
+    kept.capacity ∙ (ap (λ (r : Ram). r.mapping.capacity) starts.begun.begun ∙ starts.agrees.asked.capacity_same) in
+    let P : Geometry → ℕ → Type 0 = λ k n. n + k.pages ≤ 65536 → IsMountable k (n + k.pages) (flash_behind last.engine.nand).image in
+    let here : P last.engine.geometry last.engine.mapping.capacity =
+    mountable_kept flash_behind last.engine last.engine refl device.engine.memory kept.well.truth in
+    subst (λ k. P k capacity) sized (subst (λ n. P last.engine.geometry n) held here)
+
+pub die_migrated : (g : Geometry) (capacity : ℕ) (c : Claim) (nand given : Driver) (first last : Device Driver) (came : Result ℕ DeviceFault) (after : List ℕ) (back : Flash) (most : ℕ)
+    → StartsOver g capacity c nand first
+    → RenewsThenFlushes flash_behind recorded_of is_honest is_calm_as programs_of erases_of failures_of first came last
+    → (came ≢ Err BusFault → KeepsAll flash_behind first last) → (came ≡ Err BusFault → HasRisen (failures_of first.engine.nand) (failures_of last.engine.nand))
+    → OnOk came (IsSettled g (image_in flash_behind last.engine)) → IsDevice flash_behind last
+    → last.engine.geometry ≡ g → given ≡ last.engine.nand → failures_of given ≤ most → most ≡ 0 → back ≡ flash_behind given
+    → raw_image back.geometry after ≡ back.image → after ≡ raw_bytes back.image → MigratesDie g capacity c (flash_behind nand) after came
+die_migrated g capacity c nand given first last came after back most starts comes keeps rose settled device sized' given_is few none known pages bytes =
+    let le : failures_of last.engine.nand ≤ most = subst (λ n. failures_of n ≤ most) given_is few in
+    let there : back ≡ flash_behind last.engine.nand = known ∙ ap flash_behind given_is in
+    let sized : back.geometry ≡ g = ap (λ (f : Flash). f.geometry) there ∙ (device.engine.geometry ∙ sized') in
+    let kept : KeepsAll flash_behind first last = keeps (never_bus came _ _ most rose le none) in
+    let image_is : raw_image g after ≡ (flash_behind last.engine.nand).image = ap (λ k. raw_image k after) (sym sized) ∙ (pages ∙ ap (λ (f : Flash). f.image) there) in
+    let same : flash_behind first.engine.nand ≡ flash_behind nand = starts.begun.same refl in
+    record {
+      nand = nand;
+      first = first;
+      last = last;
+      held = refl;
+      starts = starts;
+      comes = comes;
+      pages = image_is;
+      bytes = bytes ∙ ap (λ (f : Flash). raw_bytes f.image) there;
+      array = ap (array_of g) image_is ∙ (ap (λ k. array_of k (flash_behind last.engine.nand).image) (sym sized') ∙ (kept.array
+          ∙ (ap (λ k. array_of k (flash_behind first.engine.nand).image) starts.sized ∙ ap (λ (f : Flash). array_of g f.image) same)));
+      mountable = subst (λ (i : Image). capacity + g.pages ≤ 65536 → IsMountable g (capacity + g.pages) i) (sym image_is) (mounts_on g capacity c nand first last starts device sized' kept);
+      settled = subst (λ (i : Image). OnOk came (IsSettled g i)) (sym image_is) settled;
+    }

@@ -1,0 +1,196 @@
+-- Calls of `migrate_one` one after another: the array stays, and each leaves fewer pages of version 1.
+use Rattle.std.proofs.Common.{◌≡◌, ◌≢◌, inr, ℕ, suc, ◌+◌, ◌<◌, ◌≤◌, Bool, true, false, Option, Result, Ok, Err, refl, sym, ap, subst, ◌∙◌, arith}
+use Rattle.std.specs.Prelude.{OnOk, IfOk, nat_le, if◌then◌else◌}
+use Rattle.page_layout.specs.Counter.{HasRisen}
+use Rattle.page_layout.specs.Flash.{Flash}
+use Rattle.page_layout.specs.OnlyReads.{OnlyReads}
+use Rattle.page_layout.specs.Recording.{Recording}
+use Rattle.page_layout.specs.declared.geometry.Geometry.{Geometry}
+use Rattle.page_layout.specs.Sound.{version_for}
+use Rattle.page_layout.specs.Geometry.{key_count}
+use Rattle.page_layout.specs.Live.{keys}
+use Rattle.page_layout.specs.Page.{Image}
+use Rattle.page_layout.specs.Version.{is_old, old_pages}
+use Rattle.page_layout.proofs.LiveLemmas.{length-keys}
+use Rattle.std.proofs.lemmas.List.Sums.{count_by-le-length}
+use Rattle.std.proofs.lemmas.Bool.Decides.{nat_tests}
+use Rattle.promises.specs.Step as step
+use Rattle.promises.specs.Step.{State, Reply, Command, QuietStep, Flush, Turn}
+use Rattle.collection.specs.Safe.{image_in}
+use Rattle.collection.proofs.Costs.{risen_over}
+use Rattle.ftl_device.specs.declared.device.Device.{Device}
+use Rattle.ftl_device.specs.Device.{IsDevice}
+use Rattle.ftl_device.specs.declared.fault.DeviceFault.{DeviceFault}
+use Rattle.ftl_device.specs.declared.fault.DeviceFault.TheVariants.{BusFault}
+use Rattle.ftl_device.specs.Calls.{IsWell, reply_of, state_in}
+use Rattle.ftl_device.specs.Changes.{Upkeeps}
+use Rattle.ftl_device.specs.Migrate.{ended, Migrates}
+use Rattle.commands.specs.Migrate.{Calls, Renews, RenewsAll, RenewsThenFlushes, HasOldTablesOnly, IsSettled, KeepsAll}
+
+-- ---- how many calls there are
+
+-- there is a newest page for each key at most
+pub few_old : (g : Geometry) (image : Image) → old_pages g image ≤ key_count g
+unfolding old_pages
+few_old g image = omega (arith, count_by-le-length (is_old image) (keys g), length-keys g)
+
+pub has_room : (g : Geometry) → 40 ≤ g.spare_bytes → version_for g ≡ 2
+has_room g roomy = ap (λ b. if b then 2 else 1) (let large : nat_le 40 g.spare_bytes ≡ true = grind (arith, nat_tests) in large)
+
+-- ---- one call
+
+quiet_array : (old new : State) (reply : Reply) → QuietStep old reply new → new.array ≡ old.array
+quiet_array old new step.Done is = is.array_is
+quiet_array old new step.ReadOnly is = is.array_is
+quiet_array old new step.SequenceSpent is = is.array_is
+quiet_array old new _ is = absurd is
+
+abbrev refused_as : DeviceFault → Result (Unit {0}) DeviceFault
+refused_as fault = Err fault
+
+module _ {N : Type 0} (flash : N → Flash) (recorded : N → Option Recording) (honest calm : N → Bool) (programs erases failed : N → ℕ) where
+  -- a turn's promise and a flush's
+  pub turn_keeps : (old new : Device N) (result : Result (Unit {0}) DeviceFault) → honest old.engine.nand ≡ true → IsWell flash old → result ≢ Err BusFault
+      → Upkeeps flash recorded honest calm failed Turn old result new → KeepsAll flash old new
+  turn_keeps old new result still well ne its =
+      let means = its.means still well ne in
+      record { well = means.well; array = quiet_array (state_in flash old) (state_in flash new) (reply_of result) means.step; capacity = its.stays.limits.capacity }
+
+  pub flush_keeps : (old new : Device N) (result : Result (Unit {0}) DeviceFault) → honest old.engine.nand ≡ true → IsWell flash old → result ≢ Err BusFault
+      → Upkeeps flash recorded honest calm failed Flush old result new → KeepsAll flash old new
+  flush_keeps old new result still well ne its =
+      let means = its.means still well ne in
+      record { well = means.well; array = quiet_array (state_in flash old) (state_in flash new) (reply_of result) means.step; capacity = its.stays.limits.capacity }
+
+  pub keeps_then : (old mid new : Device N) → KeepsAll flash old mid → KeepsAll flash mid new → KeepsAll flash old new
+  keeps_then old mid new first next = record { well = next.well; array = next.array ∙ first.array; capacity = next.capacity ∙ first.capacity }
+
+  -- it counts a fault of the bus
+  pub rose_by : {command : Command} (old mid new : Device N) (result : Result (Unit {0}) DeviceFault) → failed old.engine.nand ≤ failed mid.engine.nand → IsWell flash mid
+      → Upkeeps flash recorded honest calm failed command mid result new → result ≡ Err BusFault → HasRisen (failed old.engine.nand) (failed new.engine.nand)
+  rose_by old mid new result le well its is =
+      risen_over (failed old.engine.nand) (failed mid.engine.nand) (failed new.engine.nand) le (its.refuses.rose well.going is)
+
+  -- ---- one after another
+
+  -- after so many calls that answered true
+  pub record IsGoing (g : Geometry) (old : Device N) (count : ℕ) (new : Device N) : Type 0 where
+    pub device : IsDevice flash new
+    pub sized : new.engine.geometry ≡ g
+    pub still : honest new.engine.nand ≡ true
+    pub le : failed old.engine.nand ≤ failed new.engine.nand
+    pub renews : Renews flash recorded honest calm programs erases failed count old new
+    pub keeps : KeepsAll flash old new
+    pub left : count + old_pages g (image_in flash new.engine) ≤ key_count g
+
+  pub begins : (g : Geometry) (old : Device N) → IsDevice flash old → old.engine.geometry ≡ g → honest old.engine.nand ≡ true → IsWell flash old → IsGoing g old 0 old
+  begins g old device sized still well = record {
+    device = device;
+    sized = sized;
+    still = still;
+    le = omega arith;
+    renews = refl;
+    keeps = record { well = well; array = refl; capacity = refl };
+    left = omega (arith, few_old g (image_in flash old.engine));
+  }
+
+  -- what a call promises, after them
+  pub calls_as : (g : Geometry) (old mid new : Device N) (count : ℕ) (result : Result Bool DeviceFault) → 40 ≤ g.spare_bytes → IsGoing g old count mid
+      → Upkeeps flash recorded honest calm failed Turn mid (ended result) new
+      → (honest mid.engine.nand ≡ true → IsWell flash mid → 40 ≤ mid.engine.geometry.spare_bytes
+      → IfOk result (λ found. Migrates found mid.engine.geometry (image_in flash mid.engine) (image_in flash new.engine)))
+      → IfOk result (λ found. found ≡ false → OnlyReads flash honest calm programs erases failed mid.engine.nand new.engine.nand)
+      → Calls flash recorded honest calm programs erases failed mid result new
+  calls_as g old mid new count result roomy going upkeeps migrates rests = record {
+    upkeeps = upkeeps;
+    migrates = migrates going.still going.keeps.well (subst (λ (k : Geometry). 40 ≤ k.spare_bytes) (sym going.sized) roomy);
+    rests = rests;
+  }
+
+  -- the next that answered true
+  pub goes_on : (g : Geometry) (old mid new : Device N) (count : ℕ) → 40 ≤ g.spare_bytes → IsGoing g old count mid → Calls flash recorded honest calm programs erases failed mid (Ok true) new
+      → IsDevice flash new → new.engine.geometry ≡ mid.engine.geometry → IsGoing g old (count + 1) new
+  goes_on g old mid new count roomy going its device sized =
+      let fewer : old_pages g (image_in flash new.engine) < old_pages g (image_in flash mid.engine) =
+      subst (λ (k : Geometry). version_for k ≡ 2 → old_pages k (image_in flash new.engine) < old_pages k (image_in flash mid.engine)) going.sized its.migrates (has_room g roomy) in
+      let one_more : suc count ≡ count + 1 = omega arith in
+      record {
+        device = device;
+        sized = sized ∙ going.sized;
+        still = its.upkeeps.stays.honest_is ∙ going.still;
+        le = omega (arith, going.le, its.upkeeps.stays.failed_is);
+        renews = subst (λ n. Renews flash recorded honest calm programs erases failed n old new) one_more (mid, going.renews, its);
+        keeps = keeps_then old mid new going.keeps (turn_keeps mid new (Ok tt) going.still going.keeps.well (λ is. (let never : ⊥ = cc in never)) its.upkeeps);
+        left = omega (arith, going.left, fewer);
+      }
+
+  -- the one that answered false, or that was refused
+  pub record HasEnded (g : Geometry) (old : Device N) (result : Result ℕ DeviceFault) (new : Device N) : Type 0 where
+    pub still : honest new.engine.nand ≡ true
+    pub le : failed old.engine.nand ≤ failed new.engine.nand
+    pub renews : RenewsAll flash recorded honest calm programs erases failed old result new
+    pub keeps : result ≢ Err BusFault → KeepsAll flash old new
+    pub rose : result ≡ Err BusFault → HasRisen (failed old.engine.nand) (failed new.engine.nand)
+    pub none : OnOk result (HasOldTablesOnly (image_in flash new.engine))
+
+  pub ends_done : (g : Geometry) (old mid new : Device N) (count : ℕ) → IsGoing g old count mid → Calls flash recorded honest calm programs erases failed mid (Ok false) new → HasEnded g old (Ok count) new
+  ends_done g old mid new count going its = record {
+    still = its.upkeeps.stays.honest_is ∙ going.still;
+    le = omega (arith, going.le, its.upkeeps.stays.failed_is);
+    renews = (mid, going.renews, its);
+    keeps = λ _. keeps_then old mid new going.keeps (turn_keeps mid new (Ok tt) going.still going.keeps.well (λ is. (let never : ⊥ = cc in never)) its.upkeeps);
+    rose = λ is. absurd (let never : ⊥ = cc in never);
+    none = its.migrates;
+  }
+
+  err_ne : (fault : DeviceFault) → fault ≢ BusFault → refused_as fault ≢ refused_as BusFault
+  err_ne fault ne is = ne (let same : fault ≡ BusFault = cc in same)
+
+  pub ends_refused : (g : Geometry) (old mid new : Device N) (count : ℕ) (fault : DeviceFault) → IsGoing g old count mid → Calls flash recorded honest calm programs erases failed mid (Err fault) new → HasEnded g old (Err fault) new
+  ends_refused g old mid new count fault going its = record {
+    still = its.upkeeps.stays.honest_is ∙ going.still;
+    le = omega (arith, going.le, its.upkeeps.stays.failed_is);
+    renews = (count, mid, going.renews, its);
+    keeps = λ ne. keeps_then old mid new going.keeps (turn_keeps mid new (Err fault) going.still going.keeps.well (err_ne fault (λ is. ne (ap Err is))) its.upkeeps);
+    rose = λ is. rose_by old mid new (Err fault) going.le going.keeps.well its.upkeeps (let same : fault ≡ BusFault = cc in ap Err same);
+    none = tt;
+  }
+
+  -- and then the flush, which was done or refused
+  pub record HasFlushed (g : Geometry) (old : Device N) (result : Result ℕ DeviceFault) (new : Device N) : Type 0 where
+    pub le : failed old.engine.nand ≤ failed new.engine.nand
+    pub renews : RenewsThenFlushes flash recorded honest calm programs erases failed old result new
+    pub keeps : result ≢ Err BusFault → KeepsAll flash old new
+    pub rose : result ≡ Err BusFault → HasRisen (failed old.engine.nand) (failed new.engine.nand)
+    pub settled : OnOk result (IsSettled g (image_in flash new.engine))
+
+  -- what a flush is worth that was done
+  settles : (g : Geometry) (mid new : Device N) → honest mid.engine.nand ≡ true → IsWell flash mid → mid.engine.geometry ≡ g
+      → Upkeeps flash recorded honest calm failed Flush mid (Ok tt) new → IsSettled g (image_in flash new.engine)
+  settles g mid new still well sized its =
+      let worth = (its.logs still (λ is. (let never : ⊥ = cc in never))).flushed well refl refl in
+      subst (λ (k : Geometry). IsSettled k (image_in flash new.engine)) sized (record { anywhere = worth.anywhere; fresh = worth.fresh })
+
+  pub flush_done : (g : Geometry) (old mid new : Device N) (count : ℕ) → HasEnded g old (Ok count) mid → mid.engine.geometry ≡ g
+      → Upkeeps flash recorded honest calm failed Flush mid (Ok tt) new → HasFlushed g old (Ok count) new
+  flush_done g old mid new count ended sized its =
+      let kept : KeepsAll flash old mid = ended.keeps (λ is. (let never : ⊥ = cc in never)) in
+      record {
+        le = omega (arith, ended.le, its.stays.failed_is);
+        renews = (mid, ended.renews, its);
+        keeps = λ _. keeps_then old mid new kept (flush_keeps mid new (Ok tt) ended.still kept.well (λ is. (let never : ⊥ = cc in never)) its);
+        rose = λ is. absurd (let never : ⊥ = cc in never);
+        settled = settles g mid new ended.still kept.well sized its;
+      }
+
+  pub flush_refused : (g : Geometry) (old mid new : Device N) (count : ℕ) (fault : DeviceFault) → HasEnded g old (Ok count) mid
+      → Upkeeps flash recorded honest calm failed Flush mid (Err fault) new → HasFlushed g old (Err fault) new
+  flush_refused g old mid new count fault ended its =
+      let kept : KeepsAll flash old mid = ended.keeps (λ is. (let never : ⊥ = cc in never)) in
+      record {
+        le = omega (arith, ended.le, its.stays.failed_is);
+        renews = inr (count, mid, ended.renews, its);
+        keeps = λ ne. keeps_then old mid new kept (flush_keeps mid new (Err fault) ended.still kept.well (err_ne fault (λ is. ne (ap Err is))) its);
+        rose = λ is. rose_by old mid new (Err fault) ended.le kept.well its (let same : fault ≡ BusFault = cc in ap Err same);
+        settled = tt;
+      }

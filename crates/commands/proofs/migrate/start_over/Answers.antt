@@ -1,0 +1,22 @@
+use Rattle.std.proofs.Common.{◌≤◌, arith, refl}
+use Rattle.image_check.specs.declared.refusal.Refusal.TheVariants.{Source}
+use Rattle.block_server.proofs.Checking.{not_refused, refusal_is}
+use Rattle.commands.proofs.MigrateEnds.{starts_over}
+use Rattle.commands.proofs.ServeLemmas.{read_through}
+use Rattle.commands.proofs.migrate.start_over.Goals as goal
+
+pub returns-in-Err-clause-fault : goal.returns-in-Err-clause-fault
+returns-in-Err-clause-fault c =
+    let its = c.in-Err.ensures in
+    read_through c.args.asked.now.geometry c.args.asked.now.capacity _ c.args.certificate.now c.in-Err.refusal _ _ _
+    (its.err refl) (λ is. its.rose (refusal_is c.in-Err.refusal is)) (c.into_bus.ensures.counted refl) refl
+
+pub returns-in-Ok-start-clause-ok : goal.returns-in-Ok-start-clause-ok
+returns-in-Ok-start-clause-ok c =
+    let g = c.args.asked.now.geometry in
+    let its = c.in-Ok.ensures in
+    let begun = c.in-Ok-start.ensures in
+    let roomy : 40 ≤ g.spare_bytes = omega (arith, c.spare_bytes.ensures, c.if-spare_bytes-lt-SPARE_FOR_VERSION_2.false) in
+    starts_over c.args.driver c.check.new.source g c.args.asked.now.capacity c.args.certificate.now c.in-Ok.accepted c.in-Ok-start.device roomy
+    c.requires.same its.only_reads (its.same (not_refused c.in-Ok.accepted Source) refl) (its.whole refl) its.accepted.0 (its.ok refl)
+    begun.device begun.nand begun.begun (begun.truth refl) (begun.free refl) (begun.accounts refl)

@@ -1,0 +1,187 @@
+-- What the command `migrate` comes to.
+use Rattle.std.specs.Prelude.{◌≡◌, ◌⊎◌, ℕ, zero, suc, ◌+◌, ◌<◌, ◌≤◌, Bool, true, false, List, [], ◌∷◌, ◌++◌, codes, Option, Result, Ok, Err, IfOk, OnOk}
+use Rattle.std.specs.Io.KnownBytes.{Appends, Keeps}
+use Rattle.std.specs.Fmt.{decimal}
+use Rattle.page_layout.specs.declared.geometry.Geometry.{Geometry}
+use Rattle.page_layout.specs.declared.record.Key.{Key}
+use Rattle.page_layout.specs.Array.{array_of}
+use Rattle.page_layout.specs.Flash.{Flash}
+use Rattle.page_layout.specs.OnlyReads.{OnlyReads}
+use Rattle.page_layout.specs.Recording.{Recording}
+use Rattle.page_layout.specs.Raw.{raw_image, raw_bytes}
+use Rattle.page_layout.specs.Version.{is_old}
+use Rattle.page_layout.specs.Page.{Image}
+use Rattle.certificate.specs.Claim.{Claim}
+use Rattle.nand_die.specs.Made.{loaded_flash}
+use Rattle.image_check.specs.declared.refusal.Refusal.TheVariants as refusals
+use Rattle.image_check.specs.Agrees.{Agrees}
+use Rattle.image_check.specs.Mountable.{IsMountable}
+use Rattle.image_check.specs.Refused.{IsFirstWrong}
+use Rattle.image_check.specs.Stale.{stale_sectors}
+use Rattle.promises.specs.Step.{Flush, Turn}
+use Rattle.collection.specs.Renew.{is_table}
+use Rattle.collection.specs.Safe.{image_in}
+use Rattle.ftl_device.specs.declared.device.Device.{Device}
+use Rattle.ftl_device.specs.declared.fault.DeviceFault.{DeviceFault}
+use Rattle.ftl_device.specs.Begin.{free_in, is_scarce}
+use Rattle.ftl_device.specs.Calls.{IsWell, array_in}
+use Rattle.ftl_device.specs.Changes.{Upkeeps}
+use Rattle.ftl_device.specs.Migrate.{ended, Migrates}
+use Rattle.block_server.specs.Checked.{IsBegun}
+use Rattle.command_words.specs.declared.words.ServeWords.{ServeWords}
+use Rattle.commands.specs.declared.text.CommandFault.{CommandFault}
+use Rattle.commands.specs.declared.text.CommandFault.TheVariants as fault
+use Rattle.commands.specs.Check.{HasNoCertificate, IsUnasked, IsUnopened, IsWhole, LacksCertificate}
+use Rattle.commands.specs.Files.{Gives, Left, Leaves, Stored, with_store, written, unwritten}
+use Rattle.commands.specs.Lines.{IsUnprinted}
+use Rattle.commands.specs.Serve.{Driver, HasClaim, IsUnmade, bad_in, checked_words}
+use Rattle.commands.specs.Serve.{erases_of, failures_of, flash_behind, is_calm_as, is_honest, programs_of, recorded_of}
+
+-- ---- one call after another, of a device on an honest die whose pages have room for version 2
+
+-- WHAT ONE CALL PROMISES: all that a turn promises of the array; where it answered true there are fewer newest pages of version 1 than before, and where it
+-- answered false none but table pages, and nothing was programmed or erased
+pub record Calls {N : Type 0} (flash : N → Flash) (recorded : N → Option Recording) (honest calm : N → Bool) (programs erases failed : N → ℕ)
+    (old : Device N) (result : Result Bool DeviceFault) (new : Device N) : Type 0 where
+  pub upkeeps : Upkeeps flash recorded honest calm failed Turn old (ended result) new
+  pub migrates : IfOk result (λ found. Migrates found old.engine.geometry (image_in flash old.engine) (image_in flash new.engine))
+  pub rests : IfOk result (λ found. found ≡ false → OnlyReads flash honest calm programs erases failed old.engine.nand new.engine.nand)
+
+-- so many calls, each of which answered true
+abbrev pub Renews : {N : Type 0} → (N → Flash) → (N → Option Recording) → (honest calm : N → Bool) → (programs erases failed : N → ℕ)
+    → ℕ → Device N → Device N → Type 0
+Renews flash recorded honest calm programs erases failed zero old new = new ≡ old
+Renews {N} flash recorded honest calm programs erases failed (suc count) old new =
+    (mid : Device N) × Renews flash recorded honest calm programs erases failed count old mid
+    × Calls flash recorded honest calm programs erases failed mid (Ok true) new
+
+-- ALL CALLS: so many answered true and the next one false, or after so many one was refused
+abbrev pub RenewsAll : {N : Type 0} → (N → Flash) → (N → Option Recording) → (honest calm : N → Bool) → (programs erases failed : N → ℕ)
+    → Device N → Result ℕ DeviceFault → Device N → Type 0
+RenewsAll {N} flash recorded honest calm programs erases failed old (Ok count) new =
+    (mid : Device N) × Renews flash recorded honest calm programs erases failed count old mid
+    × Calls flash recorded honest calm programs erases failed mid (Ok false) new
+RenewsAll {N} flash recorded honest calm programs erases failed old (Err refused) new =
+    (count : ℕ) × (mid : Device N) × Renews flash recorded honest calm programs erases failed count old mid
+    × Calls flash recorded honest calm programs erases failed mid (Err refused) new
+
+-- and then, where none was refused, a flush
+abbrev pub RenewsThenFlushes : {N : Type 0} → (N → Flash) → (N → Option Recording) → (honest calm : N → Bool) → (programs erases failed : N → ℕ)
+    → Device N → Result ℕ DeviceFault → Device N → Type 0
+RenewsThenFlushes {N} flash recorded honest calm programs erases failed old (Ok count) new =
+    (mid : Device N) × RenewsAll flash recorded honest calm programs erases failed old (Ok count) mid
+    × Upkeeps flash recorded honest calm failed Flush mid (Ok tt) new
+RenewsThenFlushes {N} flash recorded honest calm programs erases failed old (Err refused) new =
+    RenewsAll flash recorded honest calm programs erases failed old (Err refused) new
+    ⊎ ((count : ℕ) × (mid : Device N) × RenewsAll flash recorded honest calm programs erases failed old (Ok count) mid
+    × Upkeeps flash recorded honest calm failed Flush mid (Err refused) new)
+
+-- no newest page is of version 1, but table pages
+abbrev pub HasOldTablesOnly : Image → Type 0
+HasOldTablesOnly image = (key : Key) → is_table key ≡ false → is_old image key ≡ false
+
+-- WHAT STAYS, whether or not a call was refused: the array, and the capacity of the cache. The memory is true of the image.
+pub record KeepsAll {N : Type 0} (flash : N → Flash) (old new : Device N) : Type 0 where
+  pub well : IsWell flash new
+  pub array : array_in flash new ≡ array_in flash old
+  pub capacity : new.engine.mapping.capacity ≡ old.engine.mapping.capacity
+
+-- WHAT AN IMAGE IS WORTH after all calls and the flush: it has a certificate at every capacity, and no entry is stale
+pub record IsSettled (g : Geometry) (image : Image) : Type 0 where
+  pub anywhere : (capacity : ℕ) → 1 ≤ capacity → capacity ≤ 65536 → IsMountable g capacity image
+  pub fresh : stale_sectors g image ≡ []
+
+-- ---- an image in place
+
+-- The certificate was accepted for a die in memory whose pages have room for version 2, and a device was started over it: its memory is true of the image,
+-- and it is read-only just where fewer than five blocks are free.
+pub record StartsOver (g : Geometry) (capacity : ℕ) (c : Claim) (nand : Driver) (first : Device Driver) : Type 0 where
+  pub agrees : Agrees g capacity (flash_behind nand).image c
+  pub roomy : 40 ≤ g.spare_bytes
+  pub begun : IsBegun flash_behind is_honest failures_of nand g c first
+  pub sized : first.engine.geometry ≡ g
+  pub well : IsWell flash_behind first
+  pub free : first.read_only ≡ is_scarce (free_in g c (flash_behind nand).image)
+
+-- THE PAGES OF A DIE IN MEMORY WERE BROUGHT FORWARD by the calls of a device that was started over it, and `after` is the image that it holds then. Its
+-- array is that of the image before. It mounts for as many stale sectors as the cache holds and a block has pages, and for any cache where no call was
+-- refused.
+pub record MigratesDie (g : Geometry) (capacity : ℕ) (c : Claim) (s : Flash) (after : List ℕ) (came : Result ℕ DeviceFault) : Type 0 where
+  pub nand : Driver
+  pub first : Device Driver
+  pub last : Device Driver
+  pub held : flash_behind nand ≡ s
+  pub starts : StartsOver g capacity c nand first
+  pub comes : RenewsThenFlushes flash_behind recorded_of is_honest is_calm_as programs_of erases_of failures_of first came last
+  pub pages : raw_image g after ≡ (flash_behind last.engine.nand).image
+  pub bytes : after ≡ raw_bytes (flash_behind last.engine.nand).image
+  pub array : array_of g (raw_image g after) ≡ array_of g s.image
+  pub mountable : capacity + g.pages ≤ 65536 → IsMountable g (capacity + g.pages) (raw_image g after)
+  pub settled : OnOk came (IsSettled g (raw_image g after))
+
+-- why a die in memory was not: it answers each read
+abbrev pub IsUnmigratedDie : Geometry → ℕ → Claim → Flash → CommandFault → Type 0
+IsUnmigratedDie g capacity c s (fault.Check refusal) = (refusal ≡ refusals.OutOfMemory) ⊎ IsFirstWrong g capacity s.image c refusal
+IsUnmigratedDie g capacity c s fault.SpareSize = Agrees g capacity s.image c × (g.spare_bytes < 40)
+IsUnmigratedDie g capacity c s fault.Start = Agrees g capacity s.image c × (40 ≤ g.spare_bytes)
+IsUnmigratedDie g capacity c s _ = ⊥
+
+-- ---- the command
+
+-- both files were read, but of the image no die was made, or none that was accepted and started
+pub record IsClaimUnmigrated (gives : Gives) (words : ServeWords) (stopped : CommandFault) : Type 0 where
+  pub geometry : Geometry
+  pub capacity : ℕ
+  pub bytes : List ℕ
+  pub claim : Claim
+  pub has : HasClaim gives words geometry capacity bytes claim
+  pub unmigrated : IsUnmade geometry bytes stopped
+      ⊎ (IsWhole geometry bytes × IsUnmigratedDie geometry capacity claim (loaded_flash geometry bytes (bad_in geometry claim)) stopped)
+
+-- Why the command ended before a device was started. Each case says that none before it in the order held.
+abbrev pub IsUnbegun : Gives → ServeWords → CommandFault → Type 0
+IsUnbegun gives words stopped =
+    IsUnasked (checked_words words) stopped
+    ⊎ IsUnopened gives (checked_words words) stopped
+    ⊎ LacksCertificate gives true (checked_words words) stopped
+    ⊎ HasNoCertificate gives true (checked_words words) stopped
+    ⊎ IsClaimUnmigrated gives words stopped
+
+-- it ran: this is the image then
+pub record HasMigrated (gives : Gives) (words : ServeWords) (image : List ℕ) (came : Result ℕ DeviceFault) : Type 0 where
+  pub geometry : Geometry
+  pub capacity : ℕ
+  pub bytes : List ℕ
+  pub claim : Claim
+  pub has : HasClaim gives words geometry capacity bytes claim
+  pub migrates : MigratesDie geometry capacity claim (loaded_flash geometry bytes (bad_in geometry claim)) image came
+
+-- no call was refused: so many answered true
+abbrev pub IsDone : Result ℕ DeviceFault → Type 0
+IsDone came = (count : ℕ) × (came ≡ Ok count)
+
+-- How it ended after the run: the device's refusal is told, and the image was stored all the same; or it could not be stored, and that is told, after
+-- the refusal where there is one.
+abbrev pub EndsShort : List ℕ → List ℕ → Result ℕ DeviceFault → Option (List Stored) → Option (List Stored) → CommandFault → Type 0
+EndsShort path image came before after (fault.Migrate refused) = (came ≡ Err refused) × (after ≡ with_store before (written path image))
+EndsShort path image came before after (fault.MigrateUnstored refused text) = (came ≡ Err refused) × (text.now ≡ path)
+    × ((after ≡ with_store before (unwritten path image)) ⊎ (after ≡ before))
+EndsShort path image came before after (fault.Write text) = IsDone came × (text.now ≡ path) × (after ≡ with_store before (unwritten path image))
+EndsShort path image came before after fault.OutOfMemory = IsDone came × (after ≡ before)
+EndsShort path image came before after _ = ⊥
+
+-- the line
+abbrev pub migrated_line : ℕ → List ℕ
+migrated_line count = codes "migrated " ++ (decimal count ++ (10 ∷ []))
+
+-- What the command came to, with the stores and the bytes of standard output before and after. Where no device was started nothing is
+-- stored and nothing printed. The line is printed once the image is stored.
+abbrev pub DoesMigrate : Gives → ServeWords → Left → Left → Result (Unit {0}) CommandFault → Type 0
+DoesMigrate gives words before after (Ok done) = (image : List ℕ) × (count : ℕ) × HasMigrated gives words image (Ok count)
+    × (after.stores ≡ with_store before.stores (written words.output.now image)) × Appends before.out after.out (migrated_line count)
+DoesMigrate gives words before after (Err stop) =
+    (Leaves before after × IsUnbegun gives words stop)
+    ⊎ ((image : List ℕ) × (came : Result ℕ DeviceFault) × HasMigrated gives words image came × EndsShort words.output.now image came before.stores after.stores stop
+    × Keeps before.out after.out)
+    ⊎ ((image : List ℕ) × (count : ℕ) × HasMigrated gives words image (Ok count) × (after.stores ≡ with_store before.stores (written words.output.now image))
+    × IsUnprinted (migrated_line count) before.out after.out stop)
