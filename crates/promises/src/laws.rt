@@ -6,7 +6,7 @@ ghost use Rattle.promises.specs.Log.{SumsLaw, SinceLaw, FailedLaw, GoodLaw, Free
 ghost use Rattle.promises.specs.Legal.{EmptyLaw, JoinLaw, AccountsLaw, OneMoreLaw, NoBadBlockLaw, NotTwiceLaw, OnErasedLaw, InOrderLaw};
 ghost use Rattle.promises.specs.Legal.{FirstPageLaw, AfterEraseLaw, NextPageLaw};
 ghost use Rattle.promises.specs.Run.{OneMoreEventLaw, RunJoinLaw, LastLaw, OneLogLaw, AnswersLaw, EachLaw, LogsLaw};
-ghost use Rattle.promises.specs.Stream.{OneWayLaw, SomeWayLaw, RepliesJoinLaw, OpLaw, CutShortLaw, CutShortOutLaw, BadHeaderLaw, ElevenLaw};
+ghost use Rattle.promises.specs.Stream.{OneWayLaw, SomeWayLaw, RepliesJoinLaw, BadHeaderLastLaw, OpLaw, CutShortLaw, CutShortOutLaw, BadHeaderLaw, ElevenLaw};
 ghost use Rattle.promises.specs.Stream.{FiveLaw, FiveCommandsLaw, FiveOutLaw, RefusalsLaw};
 ghost use Rattle.promises.specs.Stop.{NoOperationLaw, TornInOneLaw, BetweenLaw, StopsJoinLaw, ImageLaw};
 ghost use Rattle.promises.specs.Stop.{StoppedProgramLaw, StoppedEraseLaw};
@@ -103,11 +103,12 @@ pub fn run_laws()
     ensures logs { LogsLaw }
 {}
 
-/// The request stream: it splits in just one way, and in some way. (This project.)
+/// The request stream: it splits in just one way, and in some way; and the answer to a bad header comes last. (This project.)
 pub fn stream_laws()
     ensures one_way { OneWayLaw }
     ensures some_way { SomeWayLaw }
     ensures replies_join { RepliesJoinLaw }
+    ensures last { BadHeaderLastLaw }
     ensures op { OpLaw }
 {}
 
