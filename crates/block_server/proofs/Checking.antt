@@ -67,9 +67,9 @@ record RunsLegally {N : Type 0} (flash : N → Flash) (recorded : N → Option R
   pub each : HappensEach flash recorded honest failed erases d run.events xs e
 
 -- Of a die as it was handed in, as the checker left it, and as the device gives it back.
-module _ {N : Type 0} (flash : N → Flash) (recorded : N → Option Recording) (honest : N → Bool) (failed erases : N → ℕ) (nand checked given : N) (g : Geometry) (capacity : ℕ) (c : Claim) (a : Acceptance) (d : Device N)
+module _ {N : Type 0} (flash : N → Flash) (recorded : N → Option Recording) (honest calm : N → Bool) (failed erases : N → ℕ) (nand checked given : N) (g : Geometry) (capacity : ℕ) (c : Claim) (a : Acceptance) (d : Device N)
     (sized : (flash nand).geometry ≡ g) (sized' : (flash checked).geometry ≡ (flash nand).geometry)
-    (honest_is : honest checked ≡ honest nand) (failed_is : failed nand ≤ failed checked)
+    (honest_is : honest checked ≡ honest nand) (calm_is : calm checked ≡ calm nand) (failed_is : failed nand ≤ failed checked)
     (same : honest nand ≡ true → flash checked ≡ flash nand) (whole : honest nand ≡ true → IsImage g (flash nand).image)
     (claim_is : a.claim ≡ c) (acceptance : honest nand ≡ true → IsAcceptance g capacity (flash nand).image c a)
     (device : IsDevice flash d) (nand_is : d.engine.nand ≡ checked) (begun : ram d.engine ≡ begun_ram (flash checked).geometry a.claim a.stale)
@@ -147,8 +147,8 @@ module _ {N : Type 0} (flash : N → Flash) (recorded : N → Option Recording) 
     holds_until xs until =
         until_so (λ f. f) (RunsTo flash recorded honest failed erases d) (HoldsTo flash recorded honest failed erases nand g capacity c d) (Tells flash recorded honest failed erases) (HasFailed flash recorded honest failed erases) xs e holds_to (λ before mid x known runs_to bus tells. has_failed before mid runs_to x e known bus tells) until
 
-    pub is_served : (u v b w : Option (List ℕ)) (result : Result Served ServeFault) → Session flash recorded honest failed erases d e u v b w result → IsServed flash recorded honest failed erases nand g capacity c u v b w result given
-    is_served u v b w result session =
+    pub is_served : (u v b w : Option (List ℕ)) (result : Result Served ServeFault) → calm e.engine.nand ≡ calm d.engine.nand → Session flash recorded honest failed erases d e u v b w result → IsServed flash recorded honest calm failed erases nand g capacity c u v b w result given
+    is_served u v b w result still session =
         let calls = session.told.calls in
         record {
           requests = session.requests;
@@ -158,6 +158,7 @@ module _ {N : Type 0} (flash : N → Flash) (recorded : N → Option Recording) 
           stays = calls.stays;
           back = record {
             honest_is = ap honest given_is ∙ (calls.honest_is ∙ (ap honest nand_is ∙ honest_is));
+            calm_is = ap calm given_is ∙ (still ∙ (ap calm nand_is ∙ calm_is));
             sized = ap (λ n. (flash n).geometry) given_is ∙ (calls.device.engine.geometry ∙ (calls.sized ∙ geometry_is));
             failed_is = omega (arith, failed_is, ap failed nand_is, calls.failed_is, ap failed given_is);
           };

@@ -69,22 +69,23 @@ pub record IsBegun {N : Type 0} (flash : N → Flash) (honest : N → Bool) (fai
   pub honest_is : honest first.engine.nand ≡ honest nand
   pub failed_is : failed nand ≤ failed first.engine.nand
 
--- the die that is handed back: as honest as it was, of its geometry, and its count of failures no lower
-pub record IsHandedBack {N : Type 0} (flash : N → Flash) (honest : N → Bool) (failed : N → ℕ) (nand : N) (g : Geometry) (given : N) : Type 0 where
+-- the die that is handed back: as honest and as calm as it was, of its geometry, and its count of failures no lower
+pub record IsHandedBack {N : Type 0} (flash : N → Flash) (honest calm : N → Bool) (failed : N → ℕ) (nand : N) (g : Geometry) (given : N) : Type 0 where
   pub honest_is : honest given ≡ honest nand
+  pub calm_is : calm given ≡ calm nand
   pub sized : (flash given).geometry ≡ g
   pub failed_is : failed nand ≤ failed given
 
 -- Requests were served: what was read and written, and what the device answered, that `start` began over the die. It was told one after another, and
 -- each call did what it promises. Where the die is honest, the headline holds of the exchanges before the first fault of the bus: of all of them where there
 -- is none. From it on each is answered that fault.
-pub record IsServed {N : Type 0} (flash : N → Flash) (recorded : N → Option Recording) (honest : N → Bool) (failed erases : N → ℕ) (nand : N) (g : Geometry) (capacity : ℕ) (c : Claim) (unread left before after : Option (List ℕ)) (result : Result Served ServeFault) (given : N) : Type 0 where
+pub record IsServed {N : Type 0} (flash : N → Flash) (recorded : N → Option Recording) (honest calm : N → Bool) (failed erases : N → ℕ) (nand : N) (g : Geometry) (capacity : ℕ) (c : Claim) (unread left before after : Option (List ℕ)) (result : Result Served ServeFault) (given : N) : Type 0 where
   pub requests : List Request
   pub exchanges : List Exchange
   pub commands : commands_in exchanges ≡ map command_of requests
   pub stream : Serves g.data_bytes unread left before after requests (replies_in exchanges) result
   pub stays : StaysStopped exchanges
-  pub back : IsHandedBack flash honest failed nand g given
+  pub back : IsHandedBack flash honest calm failed nand g given
   pub rose : AreKnown exchanges ⊎ HasRisen (failed nand) (failed given)
   pub first : Device N
   pub last : Device N
@@ -99,20 +100,20 @@ pub record IsUntouched (unread left before after : Option (List ℕ)) : Type 0 w
   pub written : Keeps before after
 
 -- the checker refused the certificate, and the die's pages are as they were
-pub record IsUnaccepted {N : Type 0} (flash : N → Flash) (honest : N → Bool) (failed : N → ℕ) (nand : N) (g : Geometry) (capacity : ℕ) (c : Claim) (why : Refusal) (given : N) : Type 0 where
+pub record IsUnaccepted {N : Type 0} (flash : N → Flash) (honest calm : N → Bool) (failed : N → ℕ) (nand : N) (g : Geometry) (capacity : ℕ) (c : Claim) (why : Refusal) (given : N) : Type 0 where
   pub refused : honest nand ≡ true → IsRefusal g capacity (flash nand).image c why
   pub same : why ≢ refusal.Source → honest nand ≡ true → flash given ≡ flash nand
   pub rose : why ≡ refusal.Source → HasRisen (failed nand) (failed given)
-  pub back : IsHandedBack flash honest failed nand g given
+  pub back : IsHandedBack flash honest calm failed nand g given
 
 -- no memory was left to start a device, and the die's pages are as they were
-pub record IsUnstarted {N : Type 0} (flash : N → Flash) (honest : N → Bool) (failed : N → ℕ) (nand : N) (g : Geometry) (capacity : ℕ) (c : Claim) (given : N) : Type 0 where
+pub record IsUnstarted {N : Type 0} (flash : N → Flash) (honest calm : N → Bool) (failed : N → ℕ) (nand : N) (g : Geometry) (capacity : ℕ) (c : Claim) (given : N) : Type 0 where
   pub same : honest nand ≡ true → flash given ≡ flash nand
   pub agrees : honest nand ≡ true → Agrees g capacity (flash nand).image c
-  pub back : IsHandedBack flash honest failed nand g given
+  pub back : IsHandedBack flash honest calm failed nand g given
 
 -- why requests were not served to their end
-abbrev pub Fails : {N : Type 0} → (N → Flash) → (N → Option Recording) → (N → Bool) → (failed erases : N → ℕ) → N → Geometry → ℕ → Claim → (unread left before after : Option (List ℕ)) → RunFault N → Type 0
-Fails flash recorded honest failed erases nand g capacity c unread left before after (Refused why given) = IsUntouched unread left before after × IsUnaccepted flash honest failed nand g capacity c why given
-Fails flash recorded honest failed erases nand g capacity c unread left before after (Start given) = IsUntouched unread left before after × IsUnstarted flash honest failed nand g capacity c given
-Fails flash recorded honest failed erases nand g capacity c unread left before after (Serve stop given) = IsServed flash recorded honest failed erases nand g capacity c unread left before after (Err stop) given
+abbrev pub Fails : {N : Type 0} → (N → Flash) → (N → Option Recording) → (honest calm : N → Bool) → (failed erases : N → ℕ) → N → Geometry → ℕ → Claim → (unread left before after : Option (List ℕ)) → RunFault N → Type 0
+Fails flash recorded honest calm failed erases nand g capacity c unread left before after (Refused why given) = IsUntouched unread left before after × IsUnaccepted flash honest calm failed nand g capacity c why given
+Fails flash recorded honest calm failed erases nand g capacity c unread left before after (Start given) = IsUntouched unread left before after × IsUnstarted flash honest calm failed nand g capacity c given
+Fails flash recorded honest calm failed erases nand g capacity c unread left before after (Serve stop given) = IsServed flash recorded honest calm failed erases nand g capacity c unread left before after (Err stop) given

@@ -64,7 +64,8 @@ fn answer<N: Nand, W: Write>(
     requires device { IsDevice N.flash device.old }
     requires body { length body.now ≡ device.old.engine.geometry.data_bytes }
     requires bytes { length bytes.old ≡ device.old.engine.geometry.data_bytes }
-    ensures { Answers N.flash N.recorded N.honest N.failed N.erases device.old device.new (request_at header body.now)
+    ensures calm { N.calm device.new.engine.nand ≡ N.calm device.old.engine.nand }
+    ensures answers { Answers N.flash N.recorded N.honest N.failed N.erases device.old device.new (request_at header body.now)
         (W.contents writer.old) (W.contents writer.new) result }
 {
     let done = tell(device, command_for(header, body), bytes);
@@ -93,7 +94,8 @@ pub(crate) fn serve_next<N: Nand, R: Read, W: Write>(
     requires device { IsDevice N.flash device.old }
     requires body { length body.old ≡ device.old.engine.geometry.data_bytes }
     requires bytes { length bytes.old ≡ device.old.engine.geometry.data_bytes }
-    ensures { ServesNext N.flash N.recorded N.honest N.failed N.erases device.old device.new (R.remaining reader.old) (R.remaining reader.new)
+    ensures calm { N.calm device.new.engine.nand ≡ N.calm device.old.engine.nand }
+    ensures serves { ServesNext N.flash N.recorded N.honest N.failed N.erases device.old device.new (R.remaining reader.old) (R.remaining reader.new)
         (W.contents writer.old) (W.contents writer.new) result }
 {
     match read_request(reader, body)? {

@@ -41,7 +41,8 @@ pub enum RunFault<N> {
 /// `OutOfMemory`. Bad are the blocks that the certificate gives as bad, and those that have failed since.
 ///
 /// The device was told one request after another, and each call did what `tell` says of it, from a device
-/// to the next, whatever the die does.
+/// to the next, whatever the die does. Of a reader and a writer that tell their bytes, what was read is those
+/// requests and what was written their replies, as `serve` says.
 ///
 /// The bold words are said where the die is honest, of the calls before the first fault of the bus: of all
 /// of them where no reply is `BusFault`. That reply comes only where the die's count of faults rose in the
@@ -54,7 +55,8 @@ pub enum RunFault<N> {
 /// - `Start` where a growth was refused: likewise.
 /// - `Serve` with the server's fault. What was served until then is as said above.
 ///
-/// The die comes back in each case, as honest as it was, of its geometry, and with no fewer faults counted.
+/// The die comes back in each case, as honest and as calm as it was, of its geometry, and with no fewer
+/// faults counted.
 ///
 /// (This project's.)
 pub fn serve_checked<N: Nand, R: Read, W: Write>(
@@ -67,9 +69,9 @@ pub fn serve_checked<N: Nand, R: Read, W: Write>(
     writer: &mut W,
 ) -> Result<(Served, N), RunFault<N>>
     requires same_geometry { (N.flash nand).geometry ≡ geometry.now }
-    ensures served { IfOk result (λ done. IsServed N.flash N.recorded N.honest N.failed N.erases nand geometry.now capacity certificate.now
+    ensures served { IfOk result (λ done. IsServed N.flash N.recorded N.honest N.calm N.failed N.erases nand geometry.now capacity certificate.now
         (R.remaining reader.old) (R.remaining reader.new) (W.contents writer.old) (W.contents writer.new) (Ok done.0) done.1) }
-    ensures fault { IfErr result (Fails N.flash N.recorded N.honest N.failed N.erases nand geometry.now capacity certificate.now
+    ensures fault { IfErr result (Fails N.flash N.recorded N.honest N.calm N.failed N.erases nand geometry.now capacity certificate.now
         (R.remaining reader.old) (R.remaining reader.new) (W.contents writer.old) (W.contents writer.new)) }
 {
     let accepted = match check(alloc, &mut nand, geometry, capacity, certificate) {

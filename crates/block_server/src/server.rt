@@ -31,6 +31,7 @@ fn serve_with<N: Nand, R: Read, W: Write>(
     requires device { IsDevice N.flash device.old }
     requires body { length body.old ≡ device.old.engine.geometry.data_bytes }
     requires bytes { length bytes.old ≡ device.old.engine.geometry.data_bytes }
+    ensures calm { N.calm device.new.engine.nand ≡ N.calm device.old.engine.nand }
     ensures session { Session N.flash N.recorded N.honest N.failed N.erases device.old device.new (R.remaining reader.old) (R.remaining reader.new)
         (W.contents writer.old) (W.contents writer.new) result }
     ensures never { result ≢ Err ServeFault.OutOfMemory }
@@ -78,6 +79,7 @@ pub fn serve<N: Nand, R: Read, W: Write>(
     device: &mut Device<N>,
 ) -> Result<Served, ServeFault>
     requires device { IsDevice N.flash device.old }
+    ensures calm { N.calm device.new.engine.nand ≡ N.calm device.old.engine.nand }
     ensures session { Session N.flash N.recorded N.honest N.failed N.erases device.old device.new (R.remaining reader.old) (R.remaining reader.new)
         (W.contents writer.old) (W.contents writer.new) result }
     ensures unread { result ≡ Err ServeFault.OutOfMemory → reader.new ≡ reader.old }

@@ -17,7 +17,7 @@ use Rattle.collection.specs.declared.engine.turns.Step.TheVariants as steps
 use Rattle.collection.specs.State.{Ram}
 use Rattle.collection.specs.Safe.{IsRam}
 use Rattle.collection.specs.Truth.{IsTrue}
-use Rattle.collection.specs.Collect.{LeadTo, HasErased, HasCollected, HasAiling}
+use Rattle.collection.specs.Collect.{LeadTo, HasErased, HasCollected}
 use Rattle.collection.specs.Left.{HasStepped, pinned_to}
 use Rattle.collection.specs.Room.{Collects}
 use Rattle.collection.specs.Log.{Follows}
@@ -104,13 +104,13 @@ still_turned a b t same free good =
     let onward : b.next ≡ t.mid.next = omega (arith, room.0, on.0, same) in
     elim (room.1 so_far) [
       | inl still ↦ elim (on.1 onward) [
-          | inl rests ↦ (rests.0 ∙ still, subst HasNothingToDo still rests.1)
-          | inr erased ↦ absurd (omega (arith, erased, free, good, ap free_in still, ap good_in still))
-        ]
+        | inl rests ↦ (rests.0 ∙ still, subst HasNothingToDo still rests.1)
+        | inr erased ↦ absurd (omega (arith, erased, free, good, ap free_in still, ap good_in still))
+      ]
       | inr erased ↦ elim (on.1 onward) [
-          | inl rests ↦ absurd (omega (arith, erased, free, good, ap free_in rests.0, ap good_in rests.0))
-          | inr more ↦ absurd (omega (arith, erased, more, free, good))
-        ]
+        | inl rests ↦ absurd (omega (arith, erased, free, good, ap free_in rests.0, ap good_in rests.0))
+        | inr more ↦ absurd (omega (arith, erased, more, free, good))
+      ]
     ]
 
 -- ---- by the image and the log

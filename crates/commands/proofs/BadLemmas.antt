@@ -1,6 +1,8 @@
 -- The blocks that a certificate gives as bad, as a die is made of them.
-use Rattle.std.proofs.Common.{◌≡◌, ◌<◌, ◌≤◌, ℕ, List, get_or, length, take, min, Some, inl, inr, refl, sym, ap, ◌∙◌, arith}
-use Rattle.std.specs.Prelude.{not, nat_lt, nat_le, slice_get}
+use Rattle.std.proofs.Common.{◌≡◌, ◌<◌, ◌≤◌, ◌==◌, ◌||◌, ℕ, Bool, true, false, List, [], ◌∷◌, get_or, length, take, min, Some, inl, inr, refl, sym, ap, subst, ◌∙◌, arith, if◌then◌else◌}
+use Rattle.std.specs.Prelude.{not, nat_lt, nat_le, slice_get, filter}
+use Rattle.std.specs.List.{range_with_len}
+use Rattle.std.proofs.lemmas.Bool.{cases_Bool, eqb-true}
 use Rattle.std.proofs.lemmas.Bool.Decides.{nat_tests}
 use Rattle.std.proofs.lemmas.List.{get_or-take, get_or_default, length-take}
 use Rattle.std.proofs.lemmas.Option.{slice_get_within, get_or_from_slice_get}
@@ -11,7 +13,7 @@ use Rattle.image_check.specs.Rising.{IsRisingBelow}
 use Rattle.image_check.proofs.OnceLemmas.{filter_rising}
 use Rattle.nand_die.specs.declared.fault.DieFault.{DieFault}
 use Rattle.nand_die.specs.declared.fault.DieFault.TheVariants as die
-use Rattle.nand_die.specs.Made.{AreNames, RefusesImage}
+use Rattle.nand_die.specs.Made.{AreNames, RefusesImage, is_named}
 use Rattle.ftl_device.specs.Begin.{is_bad_in, no_block}
 use Rattle.commands.specs.declared.text.CommandFault.TheVariants as fault
 use Rattle.commands.specs.Check.{IsWhole}
@@ -50,3 +52,18 @@ unmade g capacity bytes c die.WrongLength whole refused = absurd (refused whole)
 unmade g capacity bytes c (die.BadMark block) whole refused = absurd (bad_names g c refused.1.at block refused.1.misnamed)
 unmade g capacity bytes c die.OutOfMemory whole refused = (whole, refl)
 unmade g capacity bytes c die.SoundFaultPage whole refused = absurd refused
+
+-- a block that is named so is bad by the certificate
+named_kept : (p : ℕ → Bool) (x b : ℕ) (rest : List ℕ) (kept : Bool) → p x ≡ kept → (is_named rest b ≡ true → p b ≡ true) → is_named (if kept then x ∷ rest else rest) b ≡ true → p b ≡ true
+named_kept p x b rest false is onward h = onward h
+named_kept p x b rest true is onward h = elim (cases_Bool (x == b)) [
+  | inl same ↦ subst (λ k. p k ≡ true) (eqb-true x b same) is
+  | inr other ↦ onward (subst (λ (r : Bool). (r || is_named rest b) ≡ true) other h)
+]
+
+named_filter : (p : ℕ → Bool) (xs : List ℕ) (b : ℕ) → is_named (filter p xs) b ≡ true → p b ≡ true
+named_filter p [] b h = (let no : ⊥ = cc in absurd no)
+named_filter p (x ∷ xs) b h = named_kept p x b (filter p xs) (p x) refl (named_filter p xs b) h
+
+pub named_bad : (g : Geometry) (c : Claim) (b : ℕ) → is_named (bad_in g c) b ≡ true → is_bad_in c b ≡ true
+named_bad g c b h = named_filter (is_bad_in c) (range_with_len 0 (min g.blocks c.sizes.blocks)) b h

@@ -8,4 +8,5 @@ pub mod ServeLemmas
 pub mod BadLemmas
 pub mod SaidLemmas
 pub mod LogLemmas
+pub mod PassedLemmas
 pub mod SteadyLemmas

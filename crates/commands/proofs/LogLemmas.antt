@@ -19,35 +19,35 @@ use Rattle.commands.specs.Steady.{is_flawless}
 use Rattle.commands.proofs.SteadyLemmas.{flawless_open}
 
 -- a block in which something is due has an account
-within : (accounts : List Account) (b : ℕ) → (account_at accounts b).barred ≡ false → b < length accounts
+pub within : (accounts : List Account) (b : ℕ) → (account_at accounts b).barred ≡ false → b < length accounts
 within accounts b good = elim (cases_lt b (length accounts)) [
   | inl lt ↦ lt
   | inr ge ↦ let past : true ≡ false = ap (λ (a : Account). a.barred) (sym (get_or_past accounts b no_account ge)) ∙ good in absurd (cc)
 ]
 
 -- what the accounts leave open the die does, from the same page on
-abbrev Agree : Flash → List Account → Type 0
+abbrev pub Agree : Flash → List Account → Type 0
 Agree s accounts = (b : ℕ) → (account_at accounts b).barred ≡ false → ((turn_at s b).barred ≡ false) × ((turn_at s b).next ≡ (account_at accounts b).next)
 
 -- the geometry stays
-stays : (old new : Flash) (op : Operation) → Steps old op new → new.geometry ≡ old.geometry
+pub stays : (old new : Flash) (op : Operation) → Steps old op new → new.geometry ≡ old.geometry
 unfolding after
 stays old new (Program row page passed left) steps = ap (λ (f : Flash). f.geometry) steps.left
 stays old new (Erase block passed left) steps = ap (λ (f : Flash). f.geometry) steps.left
 
 -- a program that the accounts have due is due, and so is an erase
-due_program : (s : Flash) (accounts : List Account) (row : ℕ) (page left : Page) (passed : Bool) → Agree s accounts → IsDue s.geometry.pages accounts (Program row page passed left) → may_program s row ≡ true
+pub due_program : (s : Flash) (accounts : List Account) (row : ℕ) (page left : Page) (passed : Bool) → Agree s accounts → IsDue s.geometry.pages accounts (Program row page passed left) → may_program s row ≡ true
 due_program s accounts row page left passed agree due =
     let turn = agree (row / s.geometry.pages) due.good in
     let open_is : not (turn_at s (row / s.geometry.pages)).barred ≡ true = ap not turn.0 in
     let next_is : ((turn_at s (row / s.geometry.pages)).next == row % s.geometry.pages) ≡ true = eq-eqb _ _ (turn.1 ∙ due.next) in
     λ i. (open_is i) && (next_is i)
 
-due_erase : (s : Flash) (accounts : List Account) (block : ℕ) (passed : Bool) (left : List Page) → Agree s accounts → IsDue s.geometry.pages accounts (Erase block passed left) → may_erase s block ≡ true
+pub due_erase : (s : Flash) (accounts : List Account) (block : ℕ) (passed : Bool) (left : List Page) → Agree s accounts → IsDue s.geometry.pages accounts (Erase block passed left) → may_erase s block ≡ true
 due_erase s accounts block passed left agree due = ap not (agree block due.good).0
 
 -- after an operation that was due and passed they agree again
-agrees : (old new : Flash) (op : Operation) (accounts : List Account) (next : ℕ) (due passed : Bool) → MovesTurn old new (block_of old.geometry.pages op) next due passed → due ≡ true → passed ≡ true
+pub agrees : (old new : Flash) (op : Operation) (accounts : List Account) (next : ℕ) (due passed : Bool) → MovesTurn old new (block_of old.geometry.pages op) next due passed → due ≡ true → passed ≡ true
     → Agree old accounts → IsDue old.geometry.pages accounts op → (noted (account_at accounts (block_of old.geometry.pages op)) op).next ≡ next → Agree new (accounted old.geometry.pages accounts op)
 agrees old new op accounts next due passed moved is_due is_passed agree asked next_is b good =
     let pages = old.geometry.pages in
@@ -79,7 +79,7 @@ barred_after old new op b next due passed moved refused barred =
       | inr ne ↦ ap (λ (t : TurnState). t.barred) (moved.others b ne) ∙ barred
     ]
 
-barred_step : (old new : Flash) (op : Operation) (b : ℕ) → Steps old op new → (turn_at old b).barred ≡ true → (turn_at new b).barred ≡ true
+pub barred_step : (old new : Flash) (op : Operation) (b : ℕ) → Steps old op new → (turn_at old b).barred ≡ true → (turn_at new b).barred ≡ true
 barred_step old new (Program row page passed left) b steps barred =
     let at = row / old.geometry.pages in
     barred_after old new (Program row page passed left) b _ _ passed (program_turn old new row page passed left steps) (λ h. ap (λ k. not k && ((turn_at old at).next == row % old.geometry.pages)) h) barred

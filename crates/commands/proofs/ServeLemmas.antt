@@ -1,13 +1,19 @@
 -- From what serving a die in memory came to, to what became of its image, and to what the command came to.
-use Rattle.std.proofs.Common.{◌≡◌, ◌⊎◌, inl, inr, ℕ, ◌≤◌, List, Option, Result, Ok, Err, refl, sym, ap, subst, ◌∙◌}
+use Rattle.std.proofs.Common.{◌≡◌, ◌⊎◌, inl, inr, ℕ, ◌≤◌, Bool, true, List, Option, Result, Ok, Err, refl, sym, ap, subst, ◌∙◌}
 use Rattle.std.specs.Io.KnownBytes.{Keeps}
 use Rattle.page_layout.specs.declared.geometry.Geometry.{Geometry}
 use Rattle.page_layout.specs.Counter.{HasRisen}
-use Rattle.page_layout.specs.Flash.{Flash}
+use Rattle.page_layout.specs.Flash.{Flash, Leads}
 use Rattle.page_layout.specs.Page.{Image}
 use Rattle.page_layout.specs.Raw.{raw_image, raw_bytes}
 use Rattle.certificate.specs.Claim.{Claim}
+use Rattle.promises.specs.Legal.{IsLegal}
+use Rattle.promises.specs.Run.{DeviceView, Event, Run, log_of}
+use Rattle.promises.proofs.RunLemmas.{one_log}
+use Rattle.mount.specs.Log.{failures}
 use Rattle.request_stream.specs.declared.reply.ServeFault.{ServeFault}
+use Rattle.ftl_device.specs.Begin.{is_bad_in}
+use Rattle.command_queue.specs.Run.{accepted_device}
 use Rattle.command_queue.specs.Exchanges.{Exchange, AreKnown}
 use Rattle.block_server.specs.declared.server.Served.{Served}
 use Rattle.command_queue.proofs.ToldLemmas.{until_known}
@@ -23,7 +29,10 @@ use Rattle.commands.specs.declared.text.CommandFault.{CommandFault}
 use Rattle.commands.specs.declared.text.CommandFault.TheVariants as fault
 use Rattle.commands.specs.Check.{IsWhole}
 use Rattle.commands.specs.Files.{Gives, Left, Leaves}
-use Rattle.commands.specs.Serve.{Driver, flash_behind, recorded_of, is_honest, failures_of, erases_of, bad_in, stop_in, DoesServe, Ends, HasClaim, HasRun, HasServed, IsUnserved, IsUnservedDie, IsUnstarted, ServesDie}
+use Rattle.commands.specs.Serve.{Driver, flash_behind, recorded_of, is_honest, is_calm_as, failures_of, erases_of, bad_in, stop_in, DoesServe, Ends, HasClaim, HasRun, HasServed, IsUnserved, IsUnservedDie, IsUnstarted, ServesDie}
+use Rattle.commands.specs.Steady.{has_spared}
+use Rattle.commands.proofs.BadLemmas.{named_bad}
+use Rattle.commands.proofs.PassedLemmas.{none_failed}
 use Rattle.commands.proofs.FormatLemmas.{not_risen}
 
 -- a count that stays at none did not rise
@@ -31,12 +40,21 @@ all_known : (xs : List Exchange) (was now most : ℕ) → AreKnown xs ⊎ HasRis
 all_known xs was now most (inl known) le none = known
 all_known xs was now most (inr risen) le none = absurd (not_risen was now most risen le none)
 
+-- no operation of a run failed, of a die that was loaded with the certificate's bad blocks and has failed none
+passed_in : (g : Geometry) (before : List ℕ) (c : Claim) (s t : Flash) (ro pinned : Bool) (events : List Event) (first : DeviceView) → first.flash ≡ s → Run first events (record { flash = t; ro = ro; pinned = pinned })
+    → IsLegal g s.image (is_bad_in c) (log_of events) → s ≡ loaded_flash g before (bad_in g c) → has_spared t ≡ true → failures (log_of events) ≡ 0
+passed_in g before c s t ro pinned events first begins run legal loaded spared =
+    let leads : Leads first.flash (log_of events) t = one_log first (record { flash = t; ro = ro; pinned = pinned }) events run in
+    none_failed g before (bad_in g c) (is_bad_in c) t (log_of events) (named_bad g c) spared
+    (subst (λ (f : Flash). IsLegal g f.image (is_bad_in c) (log_of events)) loaded legal) (subst (λ (f : Flash). Leads f (log_of events) t) (begins ∙ loaded) leads)
+
 pub die_served : (nand given : Driver) (g : Geometry) (capacity : ℕ) (c : Claim) (u v b w : Option (List ℕ)) (result : Result Served ServeFault) (how : Option ServeStop) (after : List ℕ) (back : Flash) (most : ℕ)
-    → IsServed flash_behind recorded_of is_honest failures_of erases_of nand g capacity c u v b w result given → failures_of given ≤ most → most ≡ 0 → back ≡ flash_behind given → back.geometry ≡ g
+    → IsServed flash_behind recorded_of is_honest is_calm_as failures_of erases_of nand g capacity c u v b w result given → failures_of given ≤ most → most ≡ 0 → back ≡ flash_behind given → back.geometry ≡ g → has_spared back ≡ true
     → how ≡ stop_in result → raw_image back.geometry after ≡ back.image → after ≡ raw_bytes back.image → HasServed g capacity c (flash_behind nand) after u v b w how
-die_served nand given g capacity c u v b w result how after back most s le none same sized how_is pages bytes =
+die_served nand given g capacity c u v b w result how after back most s le none same sized spared how_is pages bytes =
     let known : AreKnown s.exchanges = all_known s.exchanges (failures_of nand) (failures_of given) most s.rose le none in
     let there : back ≡ flash_behind s.last.engine.nand = same ∙ ap flash_behind s.given_is in
+    let holds = until_known (HoldsTo flash_behind recorded_of is_honest failures_of erases_of nand g capacity c s.first) (HasFailed flash_behind recorded_of is_honest failures_of erases_of) s.exchanges s.last s.headline known refl in
     record {
       came = result;
       how_is = how_is;
@@ -50,7 +68,9 @@ die_served nand given g capacity c u v b w result how after back most s le none 
         nand = nand;
         held = refl;
         begun = s.begun;
-        holds = until_known (HoldsTo flash_behind recorded_of is_honest failures_of erases_of nand g capacity c s.first) (HasFailed flash_behind recorded_of is_honest failures_of erases_of) s.exchanges s.last s.headline known refl;
+        holds = holds;
+        passed = λ before loaded. passed_in g before c (flash_behind nand) (flash_behind s.last.engine.nand) holds.headline.ro holds.headline.pinned holds.headline.run.events (accepted_device (flash_behind nand) c) refl holds.headline.run.run holds.headline.legal loaded
+        (subst (λ (f : Flash). has_spared f ≡ true) there spared);
         pages = ap (λ k. raw_image k after) (sym sized) ∙ (pages ∙ ap (λ (f : Flash). f.image) there);
         bytes = bytes ∙ ap (λ (f : Flash). raw_bytes f.image) there;
       };

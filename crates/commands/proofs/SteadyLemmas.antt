@@ -29,7 +29,7 @@ same_any (t ∷ turns) zero turn same = ap (λ b. b || list_any (λ u. u.barred)
 same_any (t ∷ turns) (suc block) turn same = ap (λ b. t.barred || b) (same_any turns block turn same)
 
 -- an operation that passes wherever it may bars nothing
-bars_none : (was may passed : Bool) → passed ≡ may → (was || (may && not passed)) ≡ was
+pub bars_none : (was may passed : Bool) → passed ≡ may → (was || (may && not passed)) ≡ was
 bars_none true may passed e = refl
 bars_none false true passed e = ap not e
 bars_none false false passed e = refl
@@ -48,7 +48,7 @@ with_faults (f ∷ faults) turns turns' same =
     ap (λ b. b && not (list_any (λ t. t.barred) turns')) some ∙ sym (ap (λ b. b && not (list_any (λ t. t.barred) turns)) some)
 
 -- with no fault set what may be done passes
-passes : (c : ChipValue) (may : Bool) → c.faults ≡ [] → (may && not (is_some (fault_next c))) ≡ may
+pub passes : (c : ChipValue) (may : Bool) → c.faults ≡ [] → (may && not (is_some (fault_next c))) ≡ may
 passes c may none = ap (λ faults. may && not (is_some (fault_at faults (c.asked + 1)))) none ∙ and_true may
 
 program_bars : (c : ChipValue) (row : ℕ) (page : Page) → c.faults ≡ []
@@ -78,7 +78,7 @@ answered_same (Refuses fault) c = refl
 
 -- ---- the cycle
 
-not_stopped : (d : DieValue) → is_calm d ≡ true → d.stopped ≡ false
+pub not_stopped : (d : DieValue) → is_calm d ≡ true → d.stopped ≡ false
 not_stopped d calm = not-true d.stopped (first_true (not d.stopped) ((d.left == 0) && (d.failures == 0)) calm)
 
 quiet_same : (d : DieValue) (cycle : Cycle) → is_calm d ≡ true → is_flawless (after_quiet cycle d) ≡ is_flawless d

@@ -10,9 +10,11 @@ use Rattle.certificate.specs.Claim.{Claim}
 use Rattle.onfi_cycles.specs.Driver.{DriverState, flash_by}
 use Rattle.nand_die.specs.declared.fault.DieFault.TheVariants as die
 use Rattle.nand_die.specs.Made.{loaded_flash}
+use Rattle.promises.specs.Run.{log_of}
 use Rattle.promises.specs.Stream.{Request, command_of}
 use Rattle.promises.specs.declared.stream.End.{End}
 use Rattle.promises.specs.declared.stream.End.TheVariants as ends
+use Rattle.mount.specs.Log.{failures}
 use Rattle.image_check.specs.declared.refusal.Refusal.TheVariants as refusals
 use Rattle.image_check.specs.Refused.{IsFirstWrong}
 use Rattle.image_check.specs.Agrees.{Agrees}
@@ -31,6 +33,7 @@ use Rattle.commands.specs.declared.steady.SteadyDie.{SteadyDie}
 use Rattle.commands.specs.declared.text.ServeStop.{ServeStop}
 use Rattle.commands.specs.declared.text.ServeStop.TheVariants as stop
 use Rattle.commands.specs.Check.{HasFiles, HasNoCertificate, IsSpelled, IsUnasked, IsUnopened, IsWhole, LacksCertificate}
+use Rattle.commands.specs.Steady.{is_flawless}
 use Rattle.commands.specs.Files.{Gives, Left, Leaves, Stored, with_store, written, unwritten}
 
 -- ---- an image in place
@@ -53,6 +56,9 @@ recorded_of d = None
 abbrev pub is_honest : Driver → Bool
 is_honest d = true
 
+abbrev pub is_calm_as : Driver → Bool
+is_calm_as d = is_flawless d.bus.die
+
 abbrev pub failures_of : Driver → ℕ
 failures_of d = d.failures
 
@@ -60,7 +66,8 @@ abbrev pub erases_of : Driver → ℕ
 erases_of d = d.erases
 
 -- Requests were served over a die in memory: what was read and written, the calls of the device that `start` began over it, and the image that it
--- holds then. The headline holds, since a die in memory is honest and answers all that it is asked; its events are those calls.
+-- holds then. The headline holds, since a die in memory is honest and answers all that it is asked; its events are those calls. And of a die that was
+-- loaded with the certificate's bad blocks no program and no erase failed: so no further block is bad.
 pub record ServesDie (g : Geometry) (capacity : ℕ) (c : Claim) (s : Flash) (after : List ℕ)
     (unread left out out' : Option (List ℕ)) (result : Result Served ServeFault) : Type 0 where
   pub requests : List Request
@@ -73,6 +80,7 @@ pub record ServesDie (g : Geometry) (capacity : ℕ) (c : Claim) (s : Flash) (af
   pub held : flash_behind nand ≡ s
   pub begun : IsBegun flash_behind is_honest failures_of nand g c first
   pub holds : Holds flash_behind recorded_of is_honest failures_of erases_of g capacity c s first exchanges last
+  pub passed : (before : List ℕ) → s ≡ loaded_flash g before (bad_in g c) → failures (log_of holds.headline.run.events) ≡ 0
   pub pages : raw_image g after ≡ (flash_behind last.engine.nand).image
   pub bytes : after ≡ raw_bytes (flash_behind last.engine.nand).image
 

@@ -2,11 +2,10 @@
 ghost use Rattle.std.specs.Prelude.{◌≡◌, true, OnOk, IfOk, IfErr};
 ghost use Rattle.std.specs.Io.KnownBytes.{Appends};
 ghost use Rattle.onfi_cycles.specs.Driver.{seen};
-ghost use Rattle.nand_die.specs.DieValue.{is_calm};
 ghost use Rattle.commands.specs.Format.{DoesFormat, IsFormattedImage, IsUnformatted, good_line};
 ghost use Rattle.commands.specs.Files.{left};
 ghost use Rattle.commands.specs.Lines.{IsUnprinted};
-ghost use Rattle.commands.specs.Steady.{is_flawless};
+ghost use Rattle.commands.specs.Steady.{is_flawless, is_steady};
 
 use crate::files::FileStore;
 use crate::inputs::{geometry_of, load, numbers_at};
@@ -23,10 +22,10 @@ use page_layout::geometry::Geometry;
 use std::alloc::Global;
 use std::io::Write;
 
-// A die in memory, on which no stop is set, behind a driver. It always takes Reset.
+// A die in memory, on which no stop and no fault is set, behind a driver. It always takes Reset.
 pub(crate) fn driver_of(die: Die, geometry: Geometry) -> Driver<SteadyDie>
     requires geometry { die.state.flash.geometry ≡ geometry }
-    requires steady { is_calm die ≡ true }
+    requires steady { is_steady die ≡ true }
     ensures geometry { result.geometry ≡ geometry }
     ensures flash { seen result.geometry result.bus.die.state.flash ≡ die.state.flash }
     ensures flawless { is_flawless result.bus.die ≡ is_flawless die }

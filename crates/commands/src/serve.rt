@@ -1,5 +1,5 @@
 //! The command `serve GEOM C IMAGE CERT OUT`.
-ghost use Rattle.std.specs.Prelude.{◌≡◌, ◌<◌, length, filter, min, Ok, IfOk, IfErr, OnOk, OnErr};
+ghost use Rattle.std.specs.Prelude.{◌≡◌, ◌<◌, length, filter, min, true, Ok, IfOk, IfErr, OnOk, OnErr};
 ghost use Rattle.std.specs.List.{range_with_len};
 ghost use Rattle.std.specs.Io.KnownBytes.{Keeps};
 ghost use Rattle.onfi_cycles.specs.Driver.{flash_by};
@@ -8,6 +8,7 @@ ghost use Rattle.nand_die.specs.Made.{loaded_flash};
 ghost use Rattle.ftl_device.specs.Begin.{is_bad_in};
 ghost use Rattle.commands.specs.Check.{IsWhole};
 ghost use Rattle.commands.specs.Files.{left};
+ghost use Rattle.commands.specs.Steady.{is_steady};
 ghost use Rattle.commands.specs.Serve.{bad_in, stop_in, Ends, HasServed, IsUnserved, IsUnservedDie, DoesServe};
 
 use crate::check::certificate_in;
@@ -60,6 +61,7 @@ fn die_of<'a>(
 ) -> Result<Die, CommandFault<'a>>
     requires { length certificate.now.blocks ≡ certificate.now.sizes.blocks }
     ensures made { IfOk result (λ die. die ≡ before_reset (loaded_flash asked.now.geometry bytes.now (bad_in asked.now.geometry certificate.now))) }
+    ensures steady { IfOk result (λ die. is_steady die ≡ true) }
     ensures whole { OnOk result (IsWhole asked.now.geometry bytes.now) }
     ensures fault { IfErr result (IsUnserved asked.now.geometry asked.now.capacity bytes.now certificate.now) }
 {

@@ -1,16 +1,15 @@
 //! A die in memory that is not to stop.
 ghost use Rattle.std.specs.Prelude.{◌≡◌, true};
-ghost use Rattle.nand_die.specs.DieValue.{is_calm};
-ghost use Rattle.commands.specs.Steady.{is_flawless};
+ghost use Rattle.commands.specs.Steady.{is_flawless, is_steady};
 
 use nand_die::Die;
 use onfi_cycles::{Bus, BusFault};
 
-/// A die in memory on which no stop is set, as a bus: its device never fails.
+/// A die in memory on which no stop and no fault is set, as a bus: its device never fails, and no operation that is due does.
 #[derive(Drop)]
 pub(crate) struct SteadyDie {
     pub(crate) die: Die,
-    ghost steady: { is_calm die ≡ true },
+    ghost steady: { is_steady die ≡ true },
 }
 
 impl Bus for SteadyDie {

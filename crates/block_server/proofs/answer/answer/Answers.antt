@@ -12,8 +12,8 @@ use Rattle.block_server.proofs.answer.answer.Goals as goal
 pub tell-done-requires-clause-room : goal.tell-done-requires-clause-room
 tell-done-requires-clause-room g c = room_of c.args.device.now.engine.geometry c.args.body.now c.args.bytes.now c.command_for.result c.command_for.ensures.body c.requires.body c.requires.bytes
 
-pub returns : goal.returns
-returns g c =
+pub returns-clause-answers : goal.returns-clause-answers
+returns-clause-answers g c =
     let its = c.tell-done.ensures in
     let old = c.args.device.now in
     let new = c.tell-done.new.device in

@@ -8,3 +8,4 @@ invariant-loop-replies g l =
     (length l.body ≡ l.initial.device.engine.geometry.data_bytes) × (length l.bytes ≡ l.initial.device.engine.geometry.data_bytes)
     × IsServing g.N.PageSource.flash g.N.PageSource.recorded g.N.PageSource.honest g.N.PageSource.failed g.N.PageSource.erases l.initial.device l.device (g.R.Read.remaining l.initial.reader) (g.R.Read.remaining l.reader)
     (Appends (g.W.Write.contents l.initial.writer) (g.W.Write.contents l.writer)) l.replies
+    × (g.N.PageSource.calm l.device.engine.nand ≡ g.N.PageSource.calm l.initial.device.engine.nand)

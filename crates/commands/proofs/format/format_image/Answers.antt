@@ -1,9 +1,10 @@
-use Rattle.std.proofs.Common.{◌≡◌, true, Err, ap, refl, ◌∙◌}
+use Rattle.std.proofs.Common.{◌≡◌, true, [], Err, ap, refl, ◌∙◌}
 use Rattle.onfi_cycles.specs.Driver.{seen}
 use Rattle.nand_die.specs.DieValue.{DieValue}
 use Rattle.commands.specs.Steady.{is_flawless}
 use Rattle.commands.specs.declared.steady.SteadyDie.{SteadyDie}
 use Rattle.commands.proofs.FormatLemmas.{formatted_image, not_risen, unformatted}
+use Rattle.commands.proofs.PassedLemmas.{loaded_steady}
 use Rattle.commands.proofs.SteadyLemmas.{loaded_flawless}
 use Rattle.commands.proofs.format.format_image.Goals as goal
 
@@ -31,3 +32,6 @@ returns-clause-fault c =
     unformatted g c.args.image.now c.in-Err-answer.fault (seen first.geometry first.bus.die.state.flash) (seen last.geometry last.bus.die.state.flash) c.into_bus-die.result.die
     c.in-Ok.ensures.whole its (c.in-Err-answer.ensures.formats refl) (c.into_bus-die.ensures.flash refl) flawless
     (λ bus. not_risen first.failures last.failures 0 (c.in-Err-answer.ensures.bus (ap Err bus)) (c.into_bus-die.ensures.counted refl) refl)
+
+pub driver_of-driver-requires-clause-steady : goal.driver_of-driver-requires-clause-steady
+driver_of-driver-requires-clause-steady c = loaded_steady c.args.geometry c.args.image.now [] c.in-Ok.die c.in-Ok.ensures.made

@@ -6,6 +6,7 @@ use Rattle.ftl_device.specs.Begin.{is_bad_in}
 use Rattle.commands.specs.Check.{IsWhole}
 use Rattle.commands.specs.Serve.{bad_in}
 use Rattle.commands.proofs.BadLemmas.{unmade}
+use Rattle.commands.proofs.PassedLemmas.{loaded_steady}
 use Rattle.commands.proofs.serve.die_of.Goals as goal
 
 pub returns-clause-fault : goal.returns-clause-fault
@@ -16,3 +17,6 @@ returns-clause-fault c =
     let named : c.deref.result.now ≡ bad_in g claim = c.deref.ensures.value ∙ (c.in-Ok.ensures ∙ ap (λ n. filter (is_bad_in claim) (range_with_len 0 (min n claim.sizes.blocks))) c.blocks-2.ensures) in
     let whole : IsWhole g bytes = search rules in
     unmade g c.args.asked.now.capacity bytes claim c.in-Err.fault whole (subst (λ (bad : List ℕ). RefusesImage g bytes bad c.in-Err.fault) named c.in-Err.ensures.err)
+
+pub returns-in-Ok-from_image-clause-steady : goal.returns-in-Ok-from_image-clause-steady
+returns-in-Ok-from_image-clause-steady c = loaded_steady c.args.asked.now.geometry c.args.bytes.now _ c.in-Ok-from_image.die c.in-Ok-from_image.ensures.made

@@ -17,10 +17,13 @@ pub returns-in_default-clause-collects : goal.returns-in_default-clause-collects
 returns-in_default-clause-collects g c = collects_none g.N.PageSource.flash g.N.PageSource.recorded g.N.PageSource.honest g.N.PageSource.calm g.N.PageSource.erases g.N.PageSource.failed c.args.engine.now c.requires.safe c.requires.going c.requires.calm
 
 pub returns-in_default-clause-gone_on : goal.returns-in_default-clause-gone_on
-returns-in_default-clause-gone_on g c = inl (refl, record {
-  unpinned = none_pinned c.args.engine.now.pinned c.is_some.result c.is_some.ensures c.if-is_some.false;
-  made = c.in_default.ensures;
-})
+returns-in_default-clause-gone_on g c = inl (
+  refl,
+  record {
+    unpinned = none_pinned c.args.engine.now.pinned c.is_some.result c.is_some.ensures c.if-is_some.false;
+    made = c.in_default.ensures;
+  },
+)
 
 -- ---- one goes on
 
