@@ -1,8 +1,9 @@
 -- Runs of a device.
 use Rattle.std.proofs.Common.{◌≡◌, [], ◌∷◌, ◌++◌, refl, sym, ◌∙◌, ap, subst, suc, append_assoc}
-use Rattle.promises.specs.Step.{ArrayRun}
+use Rattle.promises.specs.Step.{State, ArrayRun}
 use Rattle.promises.specs.Run.{DeviceView, state_of, Run, commands_of, replies_of, log_of, OneMoreEventLaw, RunJoinLaw, LastLaw, OneLogLaw}
-use Rattle.promises.specs.Run.{AnswersLaw, EachLaw, LogsLaw}
+use Rattle.promises.specs.Run.{AnswersLaw, StaysReadOnlyLaw, EachLaw, LogsLaw}
+use Rattle.promises.proofs.StepLemmas.{read_only}
 use Rattle.page_layout.proofs.FlashLemmas.{Leads-append, geometry-Leads}
 
 pub run_join : RunJoinLaw
@@ -25,6 +26,12 @@ answers old new [] h = ap state_of h
 answers old new (e ∷ events) h =
     let same : e.left.flash.geometry ≡ old.flash.geometry = geometry-Leads old.flash e.left.flash e.piece h.0.leads in
     (state_of e.left, h.0.step, subst (λ g. ArrayRun g (state_of e.left) (commands_of events) (replies_of events) (state_of new)) same (answers e.left new events h.1))
+
+pub stays_read_only : StaysReadOnlyLaw
+stays_read_only old new [] h ro = ap (λ (d : DeviceView). d.ro) h ∙ ro
+stays_read_only old new (e ∷ events) h ro =
+    let same : state_of e.left ≡ state_of old = read_only old.flash.geometry (state_of old) (state_of e.left) e.command e.reply ro h.0.step in
+    stays_read_only e.left new events h.1 (ap (λ (s : State). s.ro) same ∙ ro)
 
 pub each : EachLaw
 each [] = (refl, refl)

@@ -1,5 +1,5 @@
 -- Runs of a device: commands, replies, the die after each, and its log cut in as many pieces.
-use Rattle.std.specs.Prelude.{◌≡◌, Bool, List, [], ◌∷◌, ◌++◌, length, map, Option}
+use Rattle.std.specs.Prelude.{◌≡◌, Bool, true, List, [], ◌∷◌, ◌++◌, length, map, Option}
 use Rattle.std.specs.List.{flat_map}
 use Rattle.page_layout.specs.Page.{Image}
 use Rattle.page_layout.specs.Array.{array_of}
@@ -74,6 +74,10 @@ OneLogLaw = (old new : DeviceView) (events : List Event) → Run old events new 
 -- its replies answer its commands, from the array of the first image to that of the last
 abbrev pub AnswersLaw : Type 0
 AnswersLaw = (old new : DeviceView) (events : List Event) → Run old events new → ArrayRun old.flash.geometry (state_of old) (commands_of events) (replies_of events) (state_of new)
+
+-- a device that is read-only stays so
+abbrev pub StaysReadOnlyLaw : Type 0
+StaysReadOnlyLaw = (old new : DeviceView) (events : List Event) → Run old events new → old.ro ≡ true → new.ro ≡ true
 
 -- as many replies and images as commands
 abbrev pub EachLaw : Type 0

@@ -143,6 +143,10 @@ SomeWayLaw = (data_bytes : ℕ) (stream : List ℕ) → IsBytes stream → Split
 abbrev pub RepliesJoinLaw : Type 0
 RepliesJoinLaw = (fs gs : List Request) (rs qs : List Reply) → length rs ≡ length fs → replies_bytes (fs ++ gs) (rs ++ qs) ≡ replies_bytes fs rs ++ replies_bytes gs qs
 
+-- the answer to a bad header comes after all replies
+abbrev pub BadHeaderLastLaw : Type 0
+BadHeaderLastLaw = (fs : List Request) (rs : List Reply) → out_bytes fs rs BadFrame ≡ replies_bytes fs rs ++ (100 ∷ 102 ∷ 0 ∷ 7 ∷ replicate 4 0)
+
 -- an op is found again from its code, and no other code has one
 abbrev pub OpLaw : Type 0
 OpLaw = (op : Op) (code : ℕ) → (op_from code ≡ Some op) ↔ (code ≡ op_code op)

@@ -5,8 +5,8 @@ ghost use Rattle.promises.specs.Step.{MayAnswerLaw, PastLaw, AfterReadOnlyLaw, R
 ghost use Rattle.promises.specs.Log.{SumsLaw, SinceLaw, FailedLaw, GoodLaw, FreeLaw, FreeCountLaw, FewGoodLaw, ThreeFailedLaw, FewLeftLaw, FailedProgramLaw, ReadOnlyBeforeLaw, TwoFailedLaw};
 ghost use Rattle.promises.specs.Legal.{EmptyLaw, JoinLaw, AccountsLaw, OneMoreLaw, NoBadBlockLaw, NotTwiceLaw, OnErasedLaw, InOrderLaw};
 ghost use Rattle.promises.specs.Legal.{FirstPageLaw, AfterEraseLaw, NextPageLaw};
-ghost use Rattle.promises.specs.Run.{OneMoreEventLaw, RunJoinLaw, LastLaw, OneLogLaw, AnswersLaw, EachLaw, LogsLaw};
-ghost use Rattle.promises.specs.Stream.{OneWayLaw, SomeWayLaw, RepliesJoinLaw, OpLaw, CutShortLaw, CutShortOutLaw, BadHeaderLaw, ElevenLaw};
+ghost use Rattle.promises.specs.Run.{OneMoreEventLaw, RunJoinLaw, LastLaw, OneLogLaw, AnswersLaw, StaysReadOnlyLaw, EachLaw, LogsLaw};
+ghost use Rattle.promises.specs.Stream.{OneWayLaw, SomeWayLaw, RepliesJoinLaw, BadHeaderLastLaw, OpLaw, CutShortLaw, CutShortOutLaw, BadHeaderLaw, ElevenLaw};
 ghost use Rattle.promises.specs.Stream.{FiveLaw, FiveCommandsLaw, FiveOutLaw, RefusalsLaw};
 ghost use Rattle.promises.specs.Stop.{NoOperationLaw, TornInOneLaw, BetweenLaw, StopsJoinLaw, ImageLaw};
 ghost use Rattle.promises.specs.Stop.{StoppedProgramLaw, StoppedEraseLaw};
@@ -92,22 +92,25 @@ pub fn next_page_laws()
     ensures next { NextPageLaw }
 {}
 
-/// Runs: one more event, two in a row, the last device, the one log, and the answers as a run of the array. (This project.)
+/// Runs: one more event, two in a row, the last device, the one log, the answers as a run of the array, and that a device that is read-only
+/// stays so. (This project.)
 pub fn run_laws()
     ensures one_more { OneMoreEventLaw }
     ensures join { RunJoinLaw }
     ensures last { LastLaw }
     ensures one_log { OneLogLaw }
     ensures answers { AnswersLaw }
+    ensures read_only { StaysReadOnlyLaw }
     ensures each { EachLaw }
     ensures logs { LogsLaw }
 {}
 
-/// The request stream: it splits in just one way, and in some way. (This project.)
+/// The request stream: it splits in just one way, and in some way; and the answer to a bad header comes last. (This project.)
 pub fn stream_laws()
     ensures one_way { OneWayLaw }
     ensures some_way { SomeWayLaw }
     ensures replies_join { RepliesJoinLaw }
+    ensures last { BadHeaderLastLaw }
     ensures op { OpLaw }
 {}
 
