@@ -3,6 +3,7 @@ mod check_rows;
 mod files;
 mod format_rows;
 mod images;
+mod migrate_rows;
 mod mount_rows;
 mod runs;
 mod sector_rows;

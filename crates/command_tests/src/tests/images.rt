@@ -26,6 +26,21 @@ fn image_in(alloc: Global, layout: Layout, pages: &[Written]) -> Result<Vec<u8>,
     Ok(laid_out(alloc, &geometry, layout, pages)?)
 }
 
+// The same, in which other bytes stand at these places.
+fn image_with(
+    rt: &impl Abort,
+    alloc: Global,
+    layout: Layout,
+    pages: &[Written],
+    pieces: &[(usize, &[u8])],
+) -> Result<Vec<u8>, Fail> {
+    let mut bytes = image_in(alloc, layout, pages)?;
+    for (at, piece) in pieces {
+        set_bytes(rt, &mut bytes, *at, piece);
+    }
+    Ok(bytes)
+}
+
 // The image of a formatted die without marks, with these pages besides its two table pages.
 fn formatted(alloc: Global, pages: &[Written]) -> Result<Vec<u8>, Fail> {
     let mut all = Vec::from_slice(alloc, &[TABLE_0, TABLE_1])?;
@@ -42,6 +57,13 @@ fn erased(alloc: Global, length: usize) -> Result<Vec<u8>, AllocError> {
 fn set_byte(rt: &impl Abort, bytes: &mut Vec<u8>, at: usize, value: u8) {
     assert!(rt; at < bytes.len());
     bytes[at] = value;
+}
+
+// Sets some bytes of an image.
+fn set_bytes(rt: &impl Abort, bytes: &mut Vec<u8>, at: usize, piece: &[u8]) {
+    assert!(rt; at <= bytes.len());
+    assert!(rt; piece.len() <= bytes.len() - at);
+    bytes[at..at + piece.len()].copy_from_slice(piece);
 }
 
 // An image of erased pages, but for spare byte 0 of these rows, which is 00h.
@@ -109,6 +131,8 @@ pub enum Made {
     Image(&'static [Written]),
     /// The same of a die of another layout.
     LaidOut(Layout, &'static [Written]),
+    /// Such an image in which other bytes stand at these places.
+    LaidOutBut(Layout, &'static [Written], &'static [(usize, &'static [u8])]),
     /// Such an image in which the byte at this place is another.
     ImageBut(&'static [Written], usize, u8),
     /// The image of a formatted die without marks, with these pages besides its two table pages.
@@ -127,6 +151,9 @@ pub fn bytes_of(rt: &impl Abort, alloc: Global, bytes: &Made) -> Result<Vec<u8>,
         Made::Marked(rows) => marked(rt, alloc, rows)?,
         Made::Image(pages) => image(alloc, pages)?,
         Made::LaidOut(layout, pages) => image_in(alloc, *layout, pages)?,
+        Made::LaidOutBut(layout, pages, pieces) => {
+            image_with(rt, alloc, *layout, pages, pieces)?
+        }
         Made::ImageBut(pages, at, value) => image_but(rt, alloc, pages, *at, *value)?,
         Made::Formatted(pages) => formatted(alloc, pages)?,
         Made::Certificate(claimed) => cut(rt, alloc, claimed, 472)?,
