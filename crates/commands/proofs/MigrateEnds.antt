@@ -83,13 +83,13 @@ pub starts_over : (nand checked : Driver) (g : Geometry) (capacity : ℕ) (c : C
 starts_over nand checked g capacity c a d roomy sized reads same whole claim_is acceptance device nand_is begun truth free accounts = record {
   agrees = acceptance.agrees;
   roomy = roomy;
-  begun = is_begun flash_behind recorded_of is_honest failures_of erases_of nand checked checked g capacity c a d sized reads.geometry_is reads.honest_is reads.failed_is
+  begun = is_begun flash_behind recorded_of is_honest is_calm_as failures_of erases_of nand checked checked g capacity c a d sized reads.geometry_is reads.honest_is reads.calm_is reads.failed_is
       (λ _. same) (λ _. whole) claim_is (λ _. acceptance) device nand_is begun (λ _. truth) (λ _. free) (λ _. accounts);
-  sized = geometry_is flash_behind recorded_of is_honest failures_of erases_of nand checked checked g capacity c a d sized reads.geometry_is reads.honest_is reads.failed_is
+  sized = geometry_is flash_behind recorded_of is_honest is_calm_as failures_of erases_of nand checked checked g capacity c a d sized reads.geometry_is reads.honest_is reads.calm_is reads.failed_is
       (λ _. same) (λ _. whole) claim_is (λ _. acceptance) device nand_is begun (λ _. truth) (λ _. free) (λ _. accounts);
-  well = well flash_behind recorded_of is_honest failures_of erases_of nand checked checked g capacity c a d sized reads.geometry_is reads.honest_is reads.failed_is
+  well = well flash_behind recorded_of is_honest is_calm_as failures_of erases_of nand checked checked g capacity c a d sized reads.geometry_is reads.honest_is reads.calm_is reads.failed_is
       (λ _. same) (λ _. whole) claim_is (λ _. acceptance) device nand_is begun (λ _. truth) (λ _. free) (λ _. accounts) refl;
-  free = closed_as flash_behind recorded_of is_honest failures_of erases_of nand checked checked g capacity c a d sized reads.geometry_is reads.honest_is reads.failed_is
+  free = closed_as flash_behind recorded_of is_honest is_calm_as failures_of erases_of nand checked checked g capacity c a d sized reads.geometry_is reads.honest_is reads.calm_is reads.failed_is
       (λ _. same) (λ _. whole) claim_is (λ _. acceptance) device nand_is begun (λ _. truth) (λ _. free) (λ _. accounts) refl;
 }
 
