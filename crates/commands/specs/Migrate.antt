@@ -3,13 +3,11 @@ use Rattle.std.specs.Prelude.{◌≡◌, ◌⊎◌, ℕ, zero, suc, ◌+◌, ◌
 use Rattle.std.specs.Io.KnownBytes.{Appends, Keeps}
 use Rattle.std.specs.Fmt.{decimal}
 use Rattle.page_layout.specs.declared.geometry.Geometry.{Geometry}
-use Rattle.page_layout.specs.declared.record.Key.{Key}
 use Rattle.page_layout.specs.Array.{array_of}
 use Rattle.page_layout.specs.Flash.{Flash}
 use Rattle.page_layout.specs.OnlyReads.{OnlyReads}
 use Rattle.page_layout.specs.Recording.{Recording}
 use Rattle.page_layout.specs.Raw.{raw_image, raw_bytes}
-use Rattle.page_layout.specs.Version.{is_old}
 use Rattle.page_layout.specs.Page.{Image}
 use Rattle.certificate.specs.Claim.{Claim}
 use Rattle.nand_die.specs.Made.{loaded_flash}
@@ -19,7 +17,6 @@ use Rattle.image_check.specs.Mountable.{IsMountable}
 use Rattle.image_check.specs.Refused.{IsFirstWrong}
 use Rattle.image_check.specs.Stale.{stale_sectors}
 use Rattle.promises.specs.Step.{Flush, Turn}
-use Rattle.collection.specs.Renew.{is_table}
 use Rattle.collection.specs.Safe.{image_in}
 use Rattle.ftl_device.specs.declared.device.Device.{Device}
 use Rattle.ftl_device.specs.declared.fault.DeviceFault.{DeviceFault}
@@ -27,6 +24,7 @@ use Rattle.ftl_device.specs.Begin.{free_in, is_scarce}
 use Rattle.ftl_device.specs.Calls.{IsWell, array_in}
 use Rattle.ftl_device.specs.Changes.{Upkeeps}
 use Rattle.ftl_device.specs.Migrate.{ended, Migrates}
+use Rattle.ftl_device.specs.Renewed.{HasNoneOld}
 use Rattle.block_server.specs.Checked.{IsBegun}
 use Rattle.command_words.specs.declared.words.ServeWords.{ServeWords}
 use Rattle.commands.specs.declared.text.CommandFault.{CommandFault}
@@ -76,20 +74,17 @@ RenewsThenFlushes {N} flash recorded honest calm programs erases failed old (Err
     ⊎ ((count : ℕ) × (mid : Device N) × RenewsAll flash recorded honest calm programs erases failed old (Ok count) mid
     × Upkeeps flash recorded honest calm failed Flush mid (Err refused) new)
 
--- no newest page is of version 1, but table pages
-abbrev pub HasOldTablesOnly : Image → Type 0
-HasOldTablesOnly image = (key : Key) → is_table key ≡ false → is_old image key ≡ false
-
 -- WHAT STAYS, whether or not a call was refused: the array, and the capacity of the cache. The memory is true of the image.
 pub record KeepsAll {N : Type 0} (flash : N → Flash) (old new : Device N) : Type 0 where
   pub well : IsWell flash new
   pub array : array_in flash new ≡ array_in flash old
   pub capacity : new.engine.mapping.capacity ≡ old.engine.mapping.capacity
 
--- WHAT AN IMAGE IS WORTH after all calls and the flush: it has a certificate at every capacity, and no entry is stale
+-- WHAT AN IMAGE IS WORTH after all calls and the flush: it has a certificate at every capacity, no entry is stale, and no newest page is of version 1
 pub record IsSettled (g : Geometry) (image : Image) : Type 0 where
   pub anywhere : (capacity : ℕ) → 1 ≤ capacity → capacity ≤ 65536 → IsMountable g capacity image
   pub fresh : stale_sectors g image ≡ []
+  pub none : HasNoneOld image
 
 -- ---- an image in place
 
