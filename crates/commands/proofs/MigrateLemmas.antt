@@ -24,7 +24,7 @@ use Rattle.ftl_device.specs.declared.fault.DeviceFault.{DeviceFault}
 use Rattle.ftl_device.specs.declared.fault.DeviceFault.TheVariants.{BusFault}
 use Rattle.ftl_device.specs.Calls.{IsWell, reply_of, state_in}
 use Rattle.ftl_device.specs.Changes.{Upkeeps}
-use Rattle.ftl_device.specs.Migrate.{ended, Migrates}
+use Rattle.ftl_device.specs.Migrate.{ended, HasMovedOn, Migrates}
 use Rattle.ftl_device.specs.Renewed.{Finishes, HasOldTablesOnly}
 use Rattle.commands.specs.Migrate.{Calls, Renews, RenewsAll, RenewsThenFlushes, IsSettled, KeepsAll}
 
@@ -101,11 +101,15 @@ module _ {N : Type 0} (flash : N → Flash) (recorded : N → Option Recording) 
       → (honest mid.engine.nand ≡ true → IsWell flash mid → 40 ≤ mid.engine.geometry.spare_bytes
       → IfOk result (λ found. Migrates found mid.engine.geometry (image_in flash mid.engine) (image_in flash new.engine)))
       → IfOk result (λ found. found ≡ false → OnlyReads flash honest calm programs erases failed mid.engine.nand new.engine.nand)
+      → (result ≢ Ok true → new.cursor ≡ mid.cursor)
+      → (honest mid.engine.nand ≡ true → IsWell flash mid → result ≡ Ok true → HasMovedOn mid.cursor (image_in flash mid.engine) new.cursor)
       → Calls flash recorded honest calm programs erases failed mid result new
-  calls_as g old mid new count result roomy going upkeeps migrates rests = record {
+  calls_as g old mid new count result roomy going upkeeps migrates rests stays moves_on = record {
     upkeeps = upkeeps;
     migrates = migrates going.still going.keeps.well (subst (λ (k : Geometry). 40 ≤ k.spare_bytes) (sym going.sized) roomy);
     rests = rests;
+    stays = stays;
+    moves_on = moves_on going.still going.keeps.well;
   }
 
   -- the next that answered true

@@ -1,5 +1,5 @@
 -- What the command `migrate` comes to.
-use Rattle.std.specs.Prelude.{◌≡◌, ◌⊎◌, ℕ, zero, suc, ◌+◌, ◌<◌, ◌≤◌, Bool, true, false, List, [], ◌∷◌, ◌++◌, codes, Option, Result, Ok, Err, IfOk, OnOk}
+use Rattle.std.specs.Prelude.{◌≡◌, ◌≢◌, ◌⊎◌, ℕ, zero, suc, ◌+◌, ◌<◌, ◌≤◌, Bool, true, false, List, [], ◌∷◌, ◌++◌, codes, Option, Result, Ok, Err, IfOk, OnOk}
 use Rattle.std.specs.Io.KnownBytes.{Appends, Keeps}
 use Rattle.std.specs.Fmt.{decimal}
 use Rattle.page_layout.specs.declared.geometry.Geometry.{Geometry}
@@ -23,7 +23,7 @@ use Rattle.ftl_device.specs.declared.fault.DeviceFault.{DeviceFault}
 use Rattle.ftl_device.specs.Begin.{free_in, is_scarce}
 use Rattle.ftl_device.specs.Calls.{IsWell, array_in}
 use Rattle.ftl_device.specs.Changes.{Upkeeps}
-use Rattle.ftl_device.specs.Migrate.{ended, Migrates}
+use Rattle.ftl_device.specs.Migrate.{ended, HasMovedOn, Migrates}
 use Rattle.ftl_device.specs.Renewed.{HasNoneOld}
 use Rattle.block_server.specs.Checked.{IsBegun}
 use Rattle.command_words.specs.declared.words.ServeWords.{ServeWords}
@@ -38,12 +38,14 @@ use Rattle.commands.specs.Serve.{erases_of, failures_of, flash_behind, is_calm_a
 -- ---- one call after another, of a device on an honest die whose pages have room for version 2
 
 -- WHAT ONE CALL PROMISES: all that a turn promises of the array; where it answered true there are fewer newest pages of version 1 than before, and where it
--- answered false none but table pages, and nothing was programmed or erased
+-- answered false none but table pages, and nothing was programmed or erased. The cursor moves past the row that was found, and so two calls are not one.
 pub record Calls {N : Type 0} (flash : N → Flash) (recorded : N → Option Recording) (honest calm : N → Bool) (programs erases failed : N → ℕ)
     (old : Device N) (result : Result Bool DeviceFault) (new : Device N) : Type 0 where
   pub upkeeps : Upkeeps flash recorded honest calm failed Turn old (ended result) new
   pub migrates : IfOk result (λ found. Migrates found old.engine.geometry (image_in flash old.engine) (image_in flash new.engine))
   pub rests : IfOk result (λ found. found ≡ false → OnlyReads flash honest calm programs erases failed old.engine.nand new.engine.nand)
+  pub stays : result ≢ Ok true → new.cursor ≡ old.cursor
+  pub moves_on : result ≡ Ok true → HasMovedOn old.cursor (image_in flash old.engine) new.cursor
 
 -- so many calls, each of which answered true
 abbrev pub Renews : {N : Type 0} → (N → Flash) → (N → Option Recording) → (honest calm : N → Bool) → (programs erases failed : N → ℕ)
