@@ -24,8 +24,9 @@ use Rattle.ftl_device.specs.declared.fault.DeviceFault.{DeviceFault}
 use Rattle.ftl_device.specs.declared.fault.DeviceFault.TheVariants.{BusFault}
 use Rattle.ftl_device.specs.Calls.{IsWell, reply_of, state_in}
 use Rattle.ftl_device.specs.Changes.{Upkeeps}
-use Rattle.ftl_device.specs.Migrate.{ended, Migrates}
-use Rattle.commands.specs.Migrate.{Calls, Renews, RenewsAll, RenewsThenFlushes, HasOldTablesOnly, IsSettled, KeepsAll}
+use Rattle.ftl_device.specs.Migrate.{ended, HasMovedOn, Migrates}
+use Rattle.ftl_device.specs.Renewed.{Finishes, HasOldTablesOnly}
+use Rattle.commands.specs.Migrate.{Calls, Renews, RenewsAll, RenewsThenFlushes, IsSettled, KeepsAll}
 
 -- ---- how many calls there are
 
@@ -100,11 +101,15 @@ module _ {N : Type 0} (flash : N → Flash) (recorded : N → Option Recording) 
       → (honest mid.engine.nand ≡ true → IsWell flash mid → 40 ≤ mid.engine.geometry.spare_bytes
       → IfOk result (λ found. Migrates found mid.engine.geometry (image_in flash mid.engine) (image_in flash new.engine)))
       → IfOk result (λ found. found ≡ false → OnlyReads flash honest calm programs erases failed mid.engine.nand new.engine.nand)
+      → (result ≢ Ok true → new.cursor ≡ mid.cursor)
+      → (honest mid.engine.nand ≡ true → IsWell flash mid → result ≡ Ok true → HasMovedOn mid.cursor (image_in flash mid.engine) new.cursor)
       → Calls flash recorded honest calm programs erases failed mid result new
-  calls_as g old mid new count result roomy going upkeeps migrates rests = record {
+  calls_as g old mid new count result roomy going upkeeps migrates rests stays moves_on = record {
     upkeeps = upkeeps;
     migrates = migrates going.still going.keeps.well (subst (λ (k : Geometry). 40 ≤ k.spare_bytes) (sym going.sized) roomy);
     rests = rests;
+    stays = stays;
+    moves_on = moves_on going.still going.keeps.well;
   }
 
   -- the next that answered true
@@ -166,21 +171,28 @@ module _ {N : Type 0} (flash : N → Flash) (recorded : N → Option Recording) 
 
   -- what a flush is worth that was done
   settles : (g : Geometry) (mid new : Device N) → honest mid.engine.nand ≡ true → IsWell flash mid → mid.engine.geometry ≡ g
-      → Upkeeps flash recorded honest calm failed Flush mid (Ok tt) new → IsSettled g (image_in flash new.engine)
-  settles g mid new still well sized its =
+      → Upkeeps flash recorded honest calm failed Flush mid (Ok tt) new → 40 ≤ g.spare_bytes → HasOldTablesOnly (image_in flash mid.engine)
+      → Finishes mid.engine.geometry (image_in flash mid.engine) (image_in flash new.engine) → IsSettled g (image_in flash new.engine)
+  settles g mid new still well sized its roomy tables finishes =
       let worth = (its.logs still (λ is. (let never : ⊥ = cc in never))).flushed well refl refl in
-      subst (λ (k : Geometry). IsSettled k (image_in flash new.engine)) sized (record { anywhere = worth.anywhere; fresh = worth.fresh })
+      subst (λ (k : Geometry). IsSettled k (image_in flash new.engine)) sized (record {
+        anywhere = worth.anywhere;
+        fresh = worth.fresh;
+        none = finishes (subst (λ (k : Geometry). version_for k ≡ 2) (sym sized) (has_room g roomy)) tables;
+      })
 
-  pub flush_done : (g : Geometry) (old mid new : Device N) (count : ℕ) → HasEnded g old (Ok count) mid → mid.engine.geometry ≡ g
-      → Upkeeps flash recorded honest calm failed Flush mid (Ok tt) new → HasFlushed g old (Ok count) new
-  flush_done g old mid new count ended sized its =
+  pub flush_done : (g : Geometry) (old mid new : Device N) (count : ℕ) → HasEnded g old (Ok count) mid → mid.engine.geometry ≡ g → 40 ≤ g.spare_bytes
+      → Upkeeps flash recorded honest calm failed Flush mid (Ok tt) new
+      → (honest mid.engine.nand ≡ true → IsWell flash mid → Finishes mid.engine.geometry (image_in flash mid.engine) (image_in flash new.engine))
+      → HasFlushed g old (Ok count) new
+  flush_done g old mid new count ended sized roomy its finishes =
       let kept : KeepsAll flash old mid = ended.keeps (λ is. (let never : ⊥ = cc in never)) in
       record {
         le = omega (arith, ended.le, its.stays.failed_is);
         renews = (mid, ended.renews, its);
         keeps = λ _. keeps_then old mid new kept (flush_keeps mid new (Ok tt) ended.still kept.well (λ is. (let never : ⊥ = cc in never)) its);
         rose = λ is. absurd (let never : ⊥ = cc in never);
-        settled = settles g mid new ended.still kept.well sized its;
+        settled = settles g mid new ended.still kept.well sized its roomy ended.none (finishes ended.still kept.well);
       }
 
   pub flush_refused : (g : Geometry) (old mid new : Device N) (count : ℕ) (fault : DeviceFault) → HasEnded g old (Ok count) mid

@@ -1,15 +1,13 @@
 -- What the command `migrate` comes to.
-use Rattle.std.specs.Prelude.{◌≡◌, ◌⊎◌, ℕ, zero, suc, ◌+◌, ◌<◌, ◌≤◌, Bool, true, false, List, [], ◌∷◌, ◌++◌, codes, Option, Result, Ok, Err, IfOk, OnOk}
+use Rattle.std.specs.Prelude.{◌≡◌, ◌≢◌, ◌⊎◌, ℕ, zero, suc, ◌+◌, ◌<◌, ◌≤◌, Bool, true, false, List, [], ◌∷◌, ◌++◌, codes, Option, Result, Ok, Err, IfOk, OnOk}
 use Rattle.std.specs.Io.KnownBytes.{Appends, Keeps}
 use Rattle.std.specs.Fmt.{decimal}
 use Rattle.page_layout.specs.declared.geometry.Geometry.{Geometry}
-use Rattle.page_layout.specs.declared.record.Key.{Key}
 use Rattle.page_layout.specs.Array.{array_of}
 use Rattle.page_layout.specs.Flash.{Flash}
 use Rattle.page_layout.specs.OnlyReads.{OnlyReads}
 use Rattle.page_layout.specs.Recording.{Recording}
 use Rattle.page_layout.specs.Raw.{raw_image, raw_bytes}
-use Rattle.page_layout.specs.Version.{is_old}
 use Rattle.page_layout.specs.Page.{Image}
 use Rattle.certificate.specs.Claim.{Claim}
 use Rattle.nand_die.specs.Made.{loaded_flash}
@@ -19,14 +17,14 @@ use Rattle.image_check.specs.Mountable.{IsMountable}
 use Rattle.image_check.specs.Refused.{IsFirstWrong}
 use Rattle.image_check.specs.Stale.{stale_sectors}
 use Rattle.promises.specs.Step.{Flush, Turn}
-use Rattle.collection.specs.Renew.{is_table}
 use Rattle.collection.specs.Safe.{image_in}
 use Rattle.ftl_device.specs.declared.device.Device.{Device}
 use Rattle.ftl_device.specs.declared.fault.DeviceFault.{DeviceFault}
 use Rattle.ftl_device.specs.Begin.{free_in, is_scarce}
 use Rattle.ftl_device.specs.Calls.{IsWell, array_in}
 use Rattle.ftl_device.specs.Changes.{Upkeeps}
-use Rattle.ftl_device.specs.Migrate.{ended, Migrates}
+use Rattle.ftl_device.specs.Migrate.{ended, HasMovedOn, Migrates}
+use Rattle.ftl_device.specs.Renewed.{HasNoneOld}
 use Rattle.block_server.specs.Checked.{IsBegun}
 use Rattle.command_words.specs.declared.words.ServeWords.{ServeWords}
 use Rattle.commands.specs.declared.text.CommandFault.{CommandFault}
@@ -40,12 +38,14 @@ use Rattle.commands.specs.Serve.{erases_of, failures_of, flash_behind, is_calm_a
 -- ---- one call after another, of a device on an honest die whose pages have room for version 2
 
 -- WHAT ONE CALL PROMISES: all that a turn promises of the array; where it answered true there are fewer newest pages of version 1 than before, and where it
--- answered false none but table pages, and nothing was programmed or erased
+-- answered false none but table pages, and nothing was programmed or erased. The cursor moves past the row that was found, and so two calls are not one.
 pub record Calls {N : Type 0} (flash : N → Flash) (recorded : N → Option Recording) (honest calm : N → Bool) (programs erases failed : N → ℕ)
     (old : Device N) (result : Result Bool DeviceFault) (new : Device N) : Type 0 where
   pub upkeeps : Upkeeps flash recorded honest calm failed Turn old (ended result) new
   pub migrates : IfOk result (λ found. Migrates found old.engine.geometry (image_in flash old.engine) (image_in flash new.engine))
   pub rests : IfOk result (λ found. found ≡ false → OnlyReads flash honest calm programs erases failed old.engine.nand new.engine.nand)
+  pub stays : result ≢ Ok true → new.cursor ≡ old.cursor
+  pub moves_on : result ≡ Ok true → HasMovedOn old.cursor (image_in flash old.engine) new.cursor
 
 -- so many calls, each of which answered true
 abbrev pub Renews : {N : Type 0} → (N → Flash) → (N → Option Recording) → (honest calm : N → Bool) → (programs erases failed : N → ℕ)
@@ -76,20 +76,17 @@ RenewsThenFlushes {N} flash recorded honest calm programs erases failed old (Err
     ⊎ ((count : ℕ) × (mid : Device N) × RenewsAll flash recorded honest calm programs erases failed old (Ok count) mid
     × Upkeeps flash recorded honest calm failed Flush mid (Err refused) new)
 
--- no newest page is of version 1, but table pages
-abbrev pub HasOldTablesOnly : Image → Type 0
-HasOldTablesOnly image = (key : Key) → is_table key ≡ false → is_old image key ≡ false
-
 -- WHAT STAYS, whether or not a call was refused: the array, and the capacity of the cache. The memory is true of the image.
 pub record KeepsAll {N : Type 0} (flash : N → Flash) (old new : Device N) : Type 0 where
   pub well : IsWell flash new
   pub array : array_in flash new ≡ array_in flash old
   pub capacity : new.engine.mapping.capacity ≡ old.engine.mapping.capacity
 
--- WHAT AN IMAGE IS WORTH after all calls and the flush: it has a certificate at every capacity, and no entry is stale
+-- WHAT AN IMAGE IS WORTH after all calls and the flush: it has a certificate at every capacity, no entry is stale, and no newest page is of version 1
 pub record IsSettled (g : Geometry) (image : Image) : Type 0 where
   pub anywhere : (capacity : ℕ) → 1 ≤ capacity → capacity ≤ 65536 → IsMountable g capacity image
   pub fresh : stale_sectors g image ≡ []
+  pub none : HasNoneOld image
 
 -- ---- an image in place
 

@@ -4,7 +4,8 @@ ghost use Rattle.page_layout.specs.Counter.{HasRisen};
 ghost use Rattle.collection.specs.Safe.{image_in};
 ghost use Rattle.ftl_device.specs.Calls.{IsWell};
 ghost use Rattle.ftl_device.specs.Device.{IsDevice};
-ghost use Rattle.commands.specs.Migrate.{HasOldTablesOnly, IsSettled, KeepsAll, RenewsAll, RenewsThenFlushes};
+ghost use Rattle.ftl_device.specs.Renewed.{HasOldTablesOnly};
+ghost use Rattle.commands.specs.Migrate.{IsSettled, KeepsAll, RenewsAll, RenewsThenFlushes};
 
 use ftl_device::{Device, DeviceFault};
 use onfi_cycles::Nand;

@@ -43,7 +43,7 @@ returns-clause-keeps g c =
     let all = c.in_ok-count.ensures in
     let ended : HasEnded n.flash n.recorded n.honest n.calm n.programs n.erases n.failed c.args.geometry.now c.args.device.now (Ok c.in_ok-count.count) c.renew_all.new.device =
     record { still = all.honest; le = all.failed; renews = all.renews; keeps = all.keeps; rose = all.rose; none = all.none } in
-    (flush_done n.flash n.recorded n.honest n.calm n.programs n.erases n.failed c.args.geometry.now c.args.device.now c.renew_all.new.device c.flush.new.self c.in_ok-count.count ended all.geometry c.in_ok-flush.ensures.upkeeps).keeps
+    (flush_done n.flash n.recorded n.honest n.calm n.programs n.erases n.failed c.args.geometry.now c.args.device.now c.renew_all.new.device c.flush.new.self c.in_ok-count.count ended all.geometry c.requires.roomy c.in_ok-flush.ensures.upkeeps c.in_ok-flush.ensures.renewed).keeps
 
 pub returns-clause-settled : goal.returns-clause-settled
 returns-clause-settled g c =
@@ -52,4 +52,4 @@ returns-clause-settled g c =
     let ended : HasEnded n.flash n.recorded n.honest n.calm n.programs n.erases n.failed c.args.geometry.now c.args.device.now (Ok c.in_ok-count.count) c.renew_all.new.device =
     record { still = all.honest; le = all.failed; renews = all.renews; keeps = all.keeps; rose = all.rose; none = all.none } in
     (flush_done n.flash n.recorded n.honest n.calm n.programs n.erases n.failed c.args.geometry.now c.args.device.now c.renew_all.new.device c.flush.new.self
-    c.in_ok-count.count ended all.geometry c.in_ok-flush.ensures.upkeeps).settled
+    c.in_ok-count.count ended all.geometry c.requires.roomy c.in_ok-flush.ensures.upkeeps c.in_ok-flush.ensures.renewed).settled
