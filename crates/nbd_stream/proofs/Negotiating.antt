@@ -1,5 +1,5 @@
 -- How a negotiation goes on, and how it ends.
-use Rattle.std.proofs.Common.{◌≡◌, ◌≤◌, ℕ, Bool, List, [], ◌∷◌, ◌++◌, Option, Some, None, Result, Ok, Err, length, refl, sym, ap, ◌∙◌, subst, inl, inr, lit<}
+use Rattle.std.proofs.Common.{◌≡◌, ℕ, Bool, List, [], ◌∷◌, ◌++◌, Option, Some, None, Ok, Err, refl, sym, ap, ◌∙◌, subst, inl, inr, lit<}
 use Rattle.std.proofs.Common.{append_assoc, append-nil}
 use Rattle.std.specs.List.{flat_map, AllByRecursion}
 use Rattle.std.specs.Io.KnownBytes.{Appends, Consumes}
@@ -10,14 +10,14 @@ use Rattle.request_stream.specs.declared.reply.ServeFault.TheVariants as fault
 use Rattle.nbd_stream.specs.declared.export.Export.{Export}
 use Rattle.nbd_stream.specs.declared.answer.Answer.{Answer}
 use Rattle.nbd_stream.specs.declared.answer.Step.{Step}
-use Rattle.nbd_stream.specs.declared.answer.Step.TheVariants.{More, Transmit, Close}
+use Rattle.nbd_stream.specs.declared.answer.Step.TheVariants.{More}
 use Rattle.nbd_stream.specs.declared.option.OptionHeader.{OptionHeader}
 use Rattle.nbd_stream.specs.declared.option.NextOption.TheVariants as next
 use Rattle.nbd_stream.specs.declared.request.End.{End}
 use Rattle.nbd_stream.specs.declared.negotiation.Negotiated.{Negotiated}
-use Rattle.nbd_stream.specs.declared.negotiation.Negotiated.TheVariants.{Transmission, Ended}
-use Rattle.nbd_stream.specs.Options.{Asked, IsData, IsOption, IsOptionBeginning, ReadsOption, answer_bytes, answer_of, asked, option_bytes, reply_to, step_after, step_of}
-use Rattle.nbd_stream.specs.Negotiation.{AnswersNext, AnswersOptions, HasAnswered, HasNone, HaveAnswered}
+use Rattle.nbd_stream.specs.declared.negotiation.Negotiated.TheVariants.{Ended}
+use Rattle.nbd_stream.specs.Options.{Asked, IsData, IsOption, ReadsOption, answer_bytes, answer_of, asked, option_bytes, reply_to, step_after, step_of}
+use Rattle.nbd_stream.specs.Negotiation.{AnswersNext, AnswersOptions, HasAnswered, HaveAnswered}
 
 -- ---- one option
 

@@ -1,10 +1,10 @@
 -- 28 bytes that spell a header.
-use Rattle.std.proofs.Common.{◌≡◌, ◌<◌, ◌+◌, ◌*◌, ◌^◌, ℕ, List, [], ◌∷◌, ◌++◌, length, get_or, zero, suc, refl, sym, ap, ◌∙◌, arith}
+use Rattle.std.proofs.Common.{◌≡◌, ◌<◌, ℕ, List, [], ◌∷◌, ◌++◌, length, get_or, zero, suc, refl, sym, ap, ◌∙◌, arith}
 use Rattle.std.specs.Prelude.{slice_index, slice_range}
-use Rattle.std.specs.Int.{to_be_bytes, from_be_bytes, w16, w32, w64}
+use Rattle.std.specs.Int.{to_be_bytes, w16, w32, w64}
 use Rattle.std.proofs.lemmas.Nat.{be_bytes_2, be_bytes_4, be_bytes_8}
 use Rattle.byteorder.specs.Endian.{big_number}
-use Rattle.nbd_stream.specs.Frames.{Spells, header_bytes, request_at}
+use Rattle.nbd_stream.specs.Frames.{Spells}
 use Rattle.nbd_stream.specs.declared.request.Header.{Header}
 
 -- cells below 256

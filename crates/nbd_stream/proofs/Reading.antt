@@ -1,10 +1,10 @@
 -- A header that was read, and then its body.
-use Rattle.std.proofs.Common.{◌≡◌, ◌<◌, ◌≤◌, ◌==◌, ℕ, true, false, List, [], ◌++◌, Option, Result, Ok, Err, length, take, refl, sym, subst, ap, ◌∙◌, arith, inl, inr}
+use Rattle.std.proofs.Common.{◌≡◌, ◌<◌, ◌≤◌, ◌==◌, ℕ, true, false, List, [], ◌++◌, Option, Result, Ok, Err, length, take, sym, subst, ap, ◌∙◌, arith, inl, inr}
 use Rattle.std.proofs.Common.{length-append, append-nil}
 use Rattle.std.specs.Io.KnownBytes.{Consumes}
 use Rattle.std.proofs.KnownBytes.{Consumes-trans}
 use Rattle.request_stream.specs.declared.reply.ServeFault.{ServeFault}
-use Rattle.nbd_stream.specs.Frames.{Request, IsHeader, IsRequest, Spells, Rests, ReadsRest, ReadsRequest, request_at, request_bytes, header_bytes, body_length, is_header, is_end}
+use Rattle.nbd_stream.specs.Frames.{IsHeader, IsRequest, Spells, Rests, ReadsRest, ReadsRequest, request_at, request_bytes, header_bytes, is_header, is_end}
 use Rattle.nbd_stream.specs.declared.request.Header.{Header}
 use Rattle.nbd_stream.specs.declared.request.End.{End}
 use Rattle.nbd_stream.specs.declared.request.End.TheVariants.{Unfinished, Disconnected}

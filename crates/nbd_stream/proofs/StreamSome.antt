@@ -5,7 +5,7 @@ use Rattle.std.proofs.Common.{true, false, slice_index}
 use Rattle.std.proofs.lemmas.Bool.{cases_lt}
 use Rattle.std.proofs.lemmas.Bool.Decides.{eqb_tells}
 use Rattle.std.specs.List.{flat_map}
-use Rattle.nbd_stream.specs.Frames.{Request, IsHeader, IsRequest, Spells, is_header, is_end, header_bytes, request_bytes, request_at, body_length, IsRest, IsBytes, SplitsSomehow, SomeWayLaw}
+use Rattle.nbd_stream.specs.Frames.{Request, IsRequest, Spells, is_header, is_end, header_bytes, request_bytes, request_at, body_length, IsRest, IsBytes, SplitsSomehow, SomeWayLaw}
 use Rattle.nbd_stream.specs.declared.request.Header.{Header}
 use Rattle.nbd_stream.specs.declared.request.End.{End}
 use Rattle.nbd_stream.specs.declared.request.End.TheVariants.{Boundary, Unfinished, BadFrame, Disconnected}

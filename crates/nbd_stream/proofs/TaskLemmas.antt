@@ -1,5 +1,5 @@
 -- What is asked of a disk is for it.
-use Rattle.std.proofs.Common.{◌≡◌, ◌<◌, ◌≤◌, ◌+◌, ◌==◌, ◌&&◌, nat_lt, nat_le, ℕ, Bool, true, false, Option, Some, None, Result, Ok, Err, refl, sym, subst, rules}
+use Rattle.std.proofs.Common.{◌≡◌, ◌<◌, ◌≤◌, ◌+◌, ◌==◌, ◌&&◌, nat_lt, nat_le, ℕ, Bool, true, false, Option, Some, None, Result, Ok, Err, refl, subst, rules}
 use Rattle.std.specs.Prelude.{if◌then◌else◌}
 use Rattle.nbd_stream.specs.declared.export.Export.{Export}
 use Rattle.nbd_stream.specs.declared.reply.RequestError.{RequestError}
@@ -9,7 +9,7 @@ use Rattle.nbd_stream.specs.declared.task.Command.{Command}
 use Rattle.nbd_stream.specs.declared.task.Command.TheVariants as command
 use Rattle.nbd_stream.specs.declared.task.Task.{Task}
 use Rattle.nbd_stream.specs.declared.task.Task.TheVariants.{Read, Write, Flush, Trim, WriteZeroes}
-use Rattle.nbd_stream.specs.Tasks.{command_from, is_within, is_durable, change_of, admitted_by, admitted, HasRange, IsFor, AdmittedLaw}
+use Rattle.nbd_stream.specs.Tasks.{command_from, is_within, is_durable, change_of, admitted_by, HasRange, IsFor, AdmittedLaw}
 
 err_if : (b : Bool) (err : RequestError) (r : Result Task RequestError) (t : Task) → (if b then Err err else r) ≡ Ok t → (b ≡ false) × (r ≡ Ok t)
 err_if true err r t e = (let no : ⊥ = cc in absurd no)

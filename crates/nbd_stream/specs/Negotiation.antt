@@ -9,7 +9,6 @@ use Rattle.nbd_stream.specs.Options.{Asked, IsOption, IsOptionBeginning, OptionR
 use Rattle.nbd_stream.specs.declared.export.Export.{Export}
 use Rattle.nbd_stream.specs.declared.answer.Step.{Step}
 use Rattle.nbd_stream.specs.declared.answer.Step.TheVariants.{More, Transmit, Close}
-use Rattle.nbd_stream.specs.declared.request.End.{End}
 use Rattle.nbd_stream.specs.declared.request.End.TheVariants.{Unfinished, BadFrame, Disconnected}
 use Rattle.nbd_stream.specs.declared.negotiation.Negotiated.{Negotiated}
 use Rattle.nbd_stream.specs.declared.negotiation.Negotiated.TheVariants.{Transmission, Ended}

@@ -1,5 +1,5 @@
 -- What a request asks of a disk, or the error that it has before the disk is asked. (The NBD protocol, "Request types" and "Error values".)
-use Rattle.std.specs.Prelude.{◌≡◌, ◌<◌, ◌≤◌, ◌+◌, ◌%◌, ◌==◌, ◌&&◌, ℕ, nat_lt, nat_le, Bool, true, false, Option, Some, None, Result, Ok, Err, if◌then◌else◌}
+use Rattle.std.specs.Prelude.{◌≡◌, ◌<◌, ◌≤◌, ◌+◌, ◌%◌, ◌==◌, ◌&&◌, ℕ, nat_lt, nat_le, Bool, false, Option, Some, None, Result, Ok, Err, if◌then◌else◌}
 use Rattle.nbd_stream.specs.declared.export.Export.{Export}
 use Rattle.nbd_stream.specs.declared.reply.RequestError.{RequestError}
 use Rattle.nbd_stream.specs.declared.reply.RequestError.TheVariants.{NotPermitted, Invalid, NoSpace}

@@ -1,7 +1,7 @@
 use Rattle.std.proofs.Common.{rules, ◌≡◌, Ok, Err, Bool, ℕ, Result, subst, sym}
 use Rattle.ftl_device.specs.declared.fault.DeviceFault.{DeviceFault}
 use Rattle.commands.specs.Migrate.{Calls, RenewsAll}
-use Rattle.commands.proofs.MigrateLemmas.{HasEnded, begins, calls_as, ends_done, ends_refused, goes_on}
+use Rattle.commands.proofs.MigrateLemmas.{begins, calls_as, ends_done, ends_refused, goes_on}
 use Rattle.commands.proofs.migrate_all.renew_all.Goals as goal
 
 pub calls-init : goal.calls-init

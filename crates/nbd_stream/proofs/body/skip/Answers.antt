@@ -1,6 +1,6 @@
-use Rattle.std.proofs.Common.{◌-◌, drop, length-drop, ◌≡◌, ◌<◌, ◌≤◌, ◌+◌, ℕ, List, [], ◌++◌, length, take, Option, refl, arith, length-append, length-take-le}
+use Rattle.std.proofs.Common.{drop, length-drop, ◌≡◌, ◌<◌, ◌≤◌, ◌+◌, ℕ, List, ◌++◌, length, take, Option, refl, arith, length-append, length-take-le}
 use Rattle.std.specs.Io.KnownBytes.{Consumes}
-use Rattle.std.proofs.KnownBytes.{Consumes-trans, Consumes-nil}
+use Rattle.std.proofs.KnownBytes.{Consumes-trans}
 use Rattle.nbd_stream.proofs.body.skip.Goals as goal
 
 -- what was read past before, and the first n of a piece

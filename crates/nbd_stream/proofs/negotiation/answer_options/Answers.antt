@@ -1,4 +1,4 @@
-use Rattle.std.proofs.Common.{◌≡◌, ◌∙◌, length, refl, sym, subst, rules, Some, None, Ok, Err}
+use Rattle.std.proofs.Common.{◌≡◌, length, refl, sym, subst, rules, Some, None, Ok, Err}
 use Rattle.std.proofs.lemmas.Result.{err_from_is_err_and}
 use Rattle.request_stream.specs.declared.reply.ServeFault.TheVariants as fault
 use Rattle.nbd_stream.specs.Negotiation.{AnswersNext, AnswersOptions}

@@ -1,4 +1,4 @@
-use Rattle.std.proofs.Common.{◌≡◌, Err, refl, ap, inl, inr}
+use Rattle.std.proofs.Common.{Err, refl, ap, inl, inr}
 use Rattle.std.proofs.lemmas.Result.{err_from_is_err_and}
 use Rattle.request_stream.specs.declared.reply.ServeFault.{ServeFault}
 use Rattle.nbd_stream.proofs.negotiation.negotiate.Goals as goal

@@ -1,4 +1,4 @@
-use Rattle.std.proofs.Common.{rules, ◌≡◌, ℕ, slice_index}
+use Rattle.std.proofs.Common.{rules}
 use Rattle.nbd_stream.proofs.OptionReading.{Magic, option_spelled}
 use Rattle.nbd_stream.proofs.option.OptionHeader.parse.Goals as goal
 

@@ -1,4 +1,4 @@
-use Rattle.std.proofs.Common.{rules, ◌≡◌, ℕ, slice_index}
+use Rattle.std.proofs.Common.{rules, ◌≡◌, slice_index}
 use Rattle.nbd_stream.proofs.Parsing.{spelled}
 use Rattle.nbd_stream.proofs.request.Header.parse.Goals as goal
 
