@@ -3,28 +3,46 @@
 #![tactic(auto)]
 
 use page_layout::geometry::Geometry;
-use page_layout::record::{Kind, Record, write_record, write_record_v1};
+use page_layout::record::{write_record, write_record_v1};
+pub use page_layout::record::{Kind, Record};
 use std::alloc::{AllocError, Global};
 
-/// A page that was written: its row; the kind, the number, the sequence and the erase count of its record; and the byte that
-/// fills its data area.
-pub type Written = (u32, Kind, u32, u64, u32, u8);
+/// A page that was written.
+#[derive(Clone, Copy, Debug)]
+pub struct Written {
+    /// Its row.
+    pub row: u32,
+    /// Its record.
+    pub record: Record,
+    /// The byte that fills its data area.
+    pub fill: u8,
+}
+
+/// A page that was written, as `page!(8, Sector 5, sequence 3, fill 0x11)`: its row, the kind and the number of its record, its
+/// sequence, the byte that fills its data area. An erase count that is not 0 stands before the last, as `wear 7`.
+#[macro_export]
+macro_rules! page {
+    ($row:expr, $kind:ident $number:expr, sequence $sequence:expr, fill $fill:expr) => {
+        $crate::page!($row, $kind $number, sequence $sequence, wear 0, fill $fill)
+    };
+    ($row:expr, $kind:ident $number:expr, sequence $sequence:expr, wear $wear:expr, fill $fill:expr) => {
+        $crate::Written {
+            row: $row,
+            record: $crate::Record {
+                kind: $crate::Kind::$kind,
+                number: $number,
+                sequence: $sequence,
+                wear: $wear,
+            },
+            fill: $fill,
+        }
+    };
+}
 
 /// The two table pages of a formatted die without marks.
-pub const TABLE_0: Written = (0, Kind::Table, 0, 1, 0, 0);
+pub const TABLE_0: Written = page!(0, Table 0, sequence 1, fill 0);
 
-pub const TABLE_1: Written = (1, Kind::Table, 1, 2, 0, 0);
-
-// The record of a page.
-fn record_of(page: &Written) -> Record {
-    let (_, kind, number, sequence, wear, _) = *page;
-    Record {
-        kind,
-        number,
-        sequence,
-        wear,
-    }
-}
+pub const TABLE_1: Written = page!(1, Table 1, sequence 2, fill 0);
 
 /// Which pages of a die are of version 1 although there is room for version 2.
 #[derive(Clone, Copy, Debug)]
@@ -95,9 +113,9 @@ fn push_page(
     old: bool,
     bytes: &mut Vec<u8>,
 ) -> Result<(), AllocError> {
-    let body = [page.5; 64];
+    let body = [page.fill; 64];
     let mut spare = vec![in alloc; 0u8; geometry.spare_bytes()]?;
-    write_spare(geometry, &record_of(page), old, &body, &mut spare);
+    write_spare(geometry, &page.record, old, &body, &mut spare);
     bytes.extend_from_slice(&body)?;
     bytes.extend_from_slice(&spare)
 }
@@ -111,7 +129,7 @@ fn push_row(
     row: u32,
     bytes: &mut Vec<u8>,
 ) -> Result<(), AllocError> {
-    match pages.iter().find(|page| page.0 == row) {
+    match pages.iter().find(|page| page.row == row) {
         Some(page) => push_page(alloc, geometry, page, is_old(old, row), bytes),
         None => bytes.resize(bytes.len() + 64 + geometry.spare_bytes(), 0xFF),
     }

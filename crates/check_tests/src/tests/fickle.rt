@@ -1,11 +1,10 @@
 //! The plain scan of a source that puts out other pages when it is read again.
 use image_check::sector;
 use page_layout::geometry::Geometry;
-use page_layout::record::Kind;
 use page_layout::source::{ImageSlice, PageSource, SourceFault};
 use std::process::Abort;
 use std::test::Fail;
-use test_images::{TABLE_0, Written, image_of};
+use test_images::{TABLE_0, Written, image_of, page};
 
 // The pages of one image, and after so many reads those of another. The reads are counted.
 #[derive(Drop)]
@@ -56,16 +55,16 @@ impl PageSource for Fickle<'_> {
 }
 
 // Sector 5 as it is found.
-const FOUND: [Written; 2] = [TABLE_0, (8, Kind::Sector, 5, 3, 0, 0x11)];
+const FOUND: [Written; 2] = [TABLE_0, page!(8, Sector 5, sequence 3, fill 0x11)];
 
 // The page that stands there when it is read again, and what sector 5 then reads as.
 type Case = (&'static [Written], u8);
 
 const CASES: [Case; 5] = [
     (&FOUND, 0x11),
-    (&[TABLE_0, (8, Kind::Sector, 5, 9, 0, 0x22)], 0x22),
-    (&[TABLE_0, (8, Kind::Sector, 6, 3, 0, 0x33)], 0),
-    (&[TABLE_0, (8, Kind::Trim, 5, 3, 0, 0x44)], 0),
+    (&[TABLE_0, page!(8, Sector 5, sequence 9, fill 0x22)], 0x22),
+    (&[TABLE_0, page!(8, Sector 6, sequence 3, fill 0x33)], 0),
+    (&[TABLE_0, page!(8, Trim 5, sequence 3, fill 0x44)], 0),
     (&[], 0),
 ];
 

@@ -2,7 +2,6 @@
 use certificate::{Certificate, read_certificate};
 use image_check::{Accepted, Refusal, check, check_stream};
 use page_layout::geometry::Geometry;
-use page_layout::record::Kind;
 use page_layout::source::ImageSlice;
 use std::alloc::Global;
 use std::process::Abort;
@@ -10,7 +9,7 @@ use std::test::Fail;
 pub(super) use test_images::image_of;
 use test_images::{
     Claim, FORMATTED, LAYOUTS, Layout, META, Said, TABLE_0, TABLE_1, Written, certificate_bytes,
-    laid_out,
+    laid_out, page,
 };
 
 // The pages of a die that is else erased, the capacity that a certificate of it is checked for, and the answer: the stale
@@ -29,18 +28,18 @@ const MISLED: [Option<u8>; 4] = [Some(8), None, Some(0), Some(1)];
 const THREE: [Written; 5] = [
     TABLE_0,
     TABLE_1,
-    (8, Kind::Sector, 0, 3, 0, 1),
-    (9, Kind::Sector, 1, 4, 0, 1),
-    (10, Kind::Sector, 2, 5, 0, 1),
+    page!(8, Sector 0, sequence 3, fill 1),
+    page!(9, Sector 1, sequence 4, fill 1),
+    page!(10, Sector 2, sequence 5, fill 1),
 ];
 
 // A block whose first page is erased and whose second is sound was programmed out of order.
-const GAP: [Written; 3] = [TABLE_0, TABLE_1, (41, Kind::Sector, 5, 3, 0, 1)];
+const GAP: [Written; 3] = [TABLE_0, TABLE_1, page!(41, Sector 5, sequence 3, fill 1)];
 
-const ONE: [Written; 3] = [TABLE_0, TABLE_1, (8, Kind::Sector, 5, 3, 0, 1)];
+const ONE: [Written; 3] = [TABLE_0, TABLE_1, page!(8, Sector 5, sequence 3, fill 1)];
 
 // A table page whose record is sound, and whose bytes no table has.
-const DAMAGED: Written = (0, Kind::Table, 0, 1, 0, 3);
+const DAMAGED: Written = page!(0, Table 0, sequence 1, fill 3);
 
 const FREE_BUT_LIVE: Said = (2, 0, 0, 1, 0);
 
@@ -122,8 +121,8 @@ const CASES: [Case; 26] = [
         pages: &[
             TABLE_0,
             TABLE_1,
-            (8, Kind::Sector, 5, 3, 0, 1),
-            (9, Kind::Sector, 5, 4, 0, 2),
+            page!(8, Sector 5, sequence 3, fill 1),
+            page!(9, Sector 5, sequence 4, fill 2),
         ],
         asked: 4,
         claim: Claim {
@@ -136,7 +135,7 @@ const CASES: [Case; 26] = [
     },
     Case {
         name: "another sector's page",
-        pages: &[TABLE_0, TABLE_1, (8, Kind::Sector, 6, 3, 0, 1)],
+        pages: &[TABLE_0, TABLE_1, page!(8, Sector 6, sequence 3, fill 1)],
         asked: 4,
         claim: Claim {
             next: 5,
@@ -151,10 +150,10 @@ const CASES: [Case; 26] = [
         pages: &[
             TABLE_0,
             TABLE_1,
-            (8, Kind::Sector, 1, 9, 0, 1),
-            (16, Kind::Translation, 0, 9, 0, 0xFF),
-            (24, Kind::Sector, 2, 10, 0, 1),
-            (25, Kind::Sector, 3, 10, 0, 1),
+            page!(8, Sector 1, sequence 9, fill 1),
+            page!(16, Translation 0, sequence 9, fill 0xFF),
+            page!(24, Sector 2, sequence 10, fill 1),
+            page!(25, Sector 3, sequence 10, fill 1),
         ],
         asked: 4,
         claim: Claim {
@@ -168,7 +167,7 @@ const CASES: [Case; 26] = [
     },
     Case {
         name: "a sector past the last",
-        pages: &[TABLE_0, TABLE_1, (8, Kind::Sector, 32, 3, 0, 1)],
+        pages: &[TABLE_0, TABLE_1, page!(8, Sector 32, sequence 3, fill 1)],
         asked: 4,
         claim: Claim {
             next: 12,
@@ -213,7 +212,7 @@ const CASES: [Case; 26] = [
     // From here on each breaks two parts that stand side by side in the order. The first is named.
     Case {
         name: "the capacity before a number",
-        pages: &[TABLE_0, TABLE_1, (8, Kind::Sector, 32, 2, 0, 1)],
+        pages: &[TABLE_0, TABLE_1, page!(8, Sector 32, sequence 2, fill 1)],
         asked: 5,
         claim: Claim {
             next: 12,
@@ -224,7 +223,7 @@ const CASES: [Case; 26] = [
     },
     Case {
         name: "a number before a sequence",
-        pages: &[TABLE_0, TABLE_1, (8, Kind::Sector, 32, 2, 0, 1)],
+        pages: &[TABLE_0, TABLE_1, page!(8, Sector 32, sequence 2, fill 1)],
         asked: 4,
         claim: Claim {
             next: 12,
@@ -235,7 +234,7 @@ const CASES: [Case; 26] = [
     },
     Case {
         name: "a sequence before a table page",
-        pages: &[TABLE_0, (8, Kind::Sector, 1, 1, 0, 1)],
+        pages: &[TABLE_0, page!(8, Sector 1, sequence 1, fill 1)],
         asked: 4,
         claim: Claim {
             next: 12,
@@ -354,8 +353,8 @@ const CASES: [Case; 26] = [
         pages: &[
             TABLE_0,
             TABLE_1,
-            (8, Kind::Sector, 0, 3, 0, 1),
-            (9, Kind::Sector, 1, 4, 0, 1),
+            page!(8, Sector 0, sequence 3, fill 1),
+            page!(9, Sector 1, sequence 4, fill 1),
         ],
         asked: 1,
         claim: Claim {

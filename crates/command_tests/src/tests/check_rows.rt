@@ -1,9 +1,8 @@
 //! What `check` answers, and where several faults hold the first of them.
 use super::images::{Claimed, Made};
 use super::runs::{Case, Step, expect_cases};
-use page_layout::record::Kind;
 use std::test::Fail;
-use test_images::{META, Written};
+use test_images::{META, Written, page};
 
 const CHECK: &str = "nandctl check 64,32,8,32,32 4 image.bin cert.bin";
 
@@ -19,23 +18,26 @@ const ASKED: [Step; 2] = [
 ];
 
 const SHARED: [Written; 2] = [
-    (8, Kind::Sector, 1, 9, 0, 1),
-    (16, Kind::Translation, 0, 9, 0, 0xFF),
+    page!(8, Sector 1, sequence 9, fill 1),
+    page!(16, Translation 0, sequence 9, fill 0xFF),
 ];
 
-const TWICE: [Written; 2] = [(8, Kind::Sector, 5, 3, 0, 1), (9, Kind::Sector, 5, 4, 0, 2)];
+const TWICE: [Written; 2] = [
+    page!(8, Sector 5, sequence 3, fill 1),
+    page!(9, Sector 5, sequence 4, fill 2),
+];
 
 const THREE: [Written; 3] = [
-    (8, Kind::Sector, 0, 3, 0, 1),
-    (9, Kind::Sector, 1, 4, 0, 1),
-    (10, Kind::Sector, 2, 5, 0, 1),
+    page!(8, Sector 0, sequence 3, fill 1),
+    page!(9, Sector 1, sequence 4, fill 1),
+    page!(10, Sector 2, sequence 5, fill 1),
 ];
 
 const THREE_ROWS: [(u32, u32); 3] = [(0, 8), (1, 9), (2, 10)];
 
-const GAP: [Written; 1] = [(41, Kind::Sector, 5, 3, 0, 1)];
+const GAP: [Written; 1] = [page!(41, Sector 5, sequence 3, fill 1)];
 
-const PAST: [Written; 1] = [(8, Kind::Sector, 32, 3, 0, 1)];
+const PAST: [Written; 1] = [page!(8, Sector 32, sequence 3, fill 1)];
 
 // The answers, and each refusal that names places, by its fields in their order.
 const ANSWERED: [Case; 13] = [

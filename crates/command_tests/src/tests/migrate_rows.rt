@@ -1,9 +1,8 @@
 //! What `migrate` prints and stores.
 use super::images::Made;
 use super::runs::{Case, Step, expect_cases};
-use page_layout::record::Kind;
 use std::test::Fail;
-use test_images::{Layout, META, Old, TABLE_0, TABLE_1, Written};
+use test_images::{Layout, META, Old, TABLE_0, TABLE_1, Written, page};
 
 const OLD: Layout = Layout {
     spare_bytes: 40,
@@ -13,8 +12,8 @@ const OLD: Layout = Layout {
 const PAGES: [Written; 4] = [
     TABLE_0,
     TABLE_1,
-    (8, Kind::Sector, 5, 3, 0, 0x11),
-    (9, Kind::Trim, 7, 4, 0, 0x00),
+    page!(8, Sector 5, sequence 3, fill 0x11),
+    page!(9, Trim 7, sequence 4, fill 0x00),
 ];
 
 // Translation page 0 in row 2, with the rows 10 and 11 of the sectors 5 and 7, and the table pages in the rows 3 and 4: sequences 7, 8 and 9.
@@ -40,24 +39,24 @@ const MOUNT: Step = Step::Run(
 // each page, so it is not worth collecting, and five blocks are free: one page is copied, and then the device is read-only.
 const SCARCE: [Written; 19] = [
     TABLE_0,
-    (1, Kind::Table, 1, 2, 0, 0x02),
-    (57, Kind::Sector, 0, 3, 0, 0x11),
-    (65, Kind::Sector, 0, 4, 0, 0x11),
-    (73, Kind::Sector, 0, 5, 0, 0x11),
-    (81, Kind::Sector, 0, 6, 0, 0x11),
-    (89, Kind::Sector, 0, 7, 0, 0x11),
-    (97, Kind::Sector, 0, 8, 0, 0x11),
-    (105, Kind::Sector, 0, 9, 0, 0x11),
-    (113, Kind::Sector, 0, 10, 0, 0x11),
-    (121, Kind::Sector, 0, 11, 0, 0x11),
-    (8, Kind::Sector, 0, 12, 0, 0x11),
-    (9, Kind::Sector, 1, 13, 0, 0x11),
-    (10, Kind::Sector, 2, 14, 0, 0x11),
-    (11, Kind::Sector, 3, 15, 0, 0x11),
-    (12, Kind::Sector, 4, 16, 0, 0x11),
-    (13, Kind::Sector, 5, 17, 0, 0x11),
-    (14, Kind::Sector, 6, 18, 0, 0x11),
-    (15, Kind::Sector, 7, 19, 0, 0x11),
+    page!(1, Table 1, sequence 2, fill 0x02),
+    page!(57, Sector 0, sequence 3, fill 0x11),
+    page!(65, Sector 0, sequence 4, fill 0x11),
+    page!(73, Sector 0, sequence 5, fill 0x11),
+    page!(81, Sector 0, sequence 6, fill 0x11),
+    page!(89, Sector 0, sequence 7, fill 0x11),
+    page!(97, Sector 0, sequence 8, fill 0x11),
+    page!(105, Sector 0, sequence 9, fill 0x11),
+    page!(113, Sector 0, sequence 10, fill 0x11),
+    page!(121, Sector 0, sequence 11, fill 0x11),
+    page!(8, Sector 0, sequence 12, fill 0x11),
+    page!(9, Sector 1, sequence 13, fill 0x11),
+    page!(10, Sector 2, sequence 14, fill 0x11),
+    page!(11, Sector 3, sequence 15, fill 0x11),
+    page!(12, Sector 4, sequence 16, fill 0x11),
+    page!(13, Sector 5, sequence 17, fill 0x11),
+    page!(14, Sector 6, sequence 18, fill 0x11),
+    page!(15, Sector 7, sequence 19, fill 0x11),
 ];
 
 // Sector 0 in row 16: sequence 20.

@@ -1,9 +1,8 @@
 //! What `mount` stores and prints, and where several faults hold the first of them.
 use super::images::Made;
 use super::runs::{Case, Step, expect_cases};
-use page_layout::record::Kind;
 use std::test::Fail;
-use test_images::{META, Written};
+use test_images::{META, Written, page};
 
 const MOUNT: &str = "nandctl mount 64,32,8,32,32 4 image.bin cert.bin";
 
@@ -12,19 +11,22 @@ const OLD: Made = Made::Bytes(b"before");
 
 const CERT: (&str, Made) = ("cert.bin", OLD);
 
-const TWICE: [Written; 2] = [(8, Kind::Sector, 5, 3, 0, 1), (9, Kind::Sector, 5, 4, 0, 2)];
+const TWICE: [Written; 2] = [
+    page!(8, Sector 5, sequence 3, fill 1),
+    page!(9, Sector 5, sequence 4, fill 2),
+];
 
 const TRIMMED: [Written; 3] = [
-    (8, Kind::Sector, 0, 3, 0, 1),
-    (9, Kind::Sector, 1, 4, 0, 1),
-    (10, Kind::Trim, 2, 5, 0, 0),
+    page!(8, Sector 0, sequence 3, fill 1),
+    page!(9, Sector 1, sequence 4, fill 1),
+    page!(10, Trim 2, sequence 5, fill 0),
 ];
 
 const TRIMMED_ROWS: [(u32, u32); 3] = [(0, 8), (1, 9), (2, 10)];
 
-const GAP: [Written; 1] = [(41, Kind::Sector, 5, 3, 0, 1)];
+const GAP: [Written; 1] = [page!(41, Sector 5, sequence 3, fill 1)];
 
-const LAST: [Written; 1] = [(8, Kind::Sector, 5, u64::MAX - 1, 0, 1)];
+const LAST: [Written; 1] = [page!(8, Sector 5, sequence u64::MAX - 1, fill 1)];
 
 // The certificate is stored, its numbers are printed, and `check` accepts it.
 const MOUNTED: [Case; 5] = [
@@ -129,23 +131,23 @@ fn certificates_are_stored(rt: HostRuntime) -> Result<(), Fail> {
 }
 
 const SHARED: [Written; 2] = [
-    (8, Kind::Sector, 1, 9, 0, 1),
-    (16, Kind::Translation, 0, 9, 0, 0xFF),
+    page!(8, Sector 1, sequence 9, fill 1),
+    page!(16, Translation 0, sequence 9, fill 0xFF),
 ];
 
 const THREE: [Written; 3] = [
-    (8, Kind::Sector, 0, 3, 0, 1),
-    (9, Kind::Sector, 1, 4, 0, 1),
-    (10, Kind::Sector, 2, 5, 0, 1),
+    page!(8, Sector 0, sequence 3, fill 1),
+    page!(9, Sector 1, sequence 4, fill 1),
+    page!(10, Sector 2, sequence 5, fill 1),
 ];
 
-const PAST: [Written; 1] = [(8, Kind::Sector, 32, 3, 0, 1)];
+const PAST: [Written; 1] = [page!(8, Sector 32, sequence 3, fill 1)];
 
-const SPENT: [Written; 1] = [(8, Kind::Sector, 5, u64::MAX, 0, 1)];
+const SPENT: [Written; 1] = [page!(8, Sector 5, sequence u64::MAX, fill 1)];
 
-const DAMAGED: [Written; 1] = [(2, Kind::Table, 1, 3, 0, 3)];
+const DAMAGED: [Written; 1] = [page!(2, Table 1, sequence 3, fill 3)];
 
-const HALF: [Written; 1] = [(0, Kind::Table, 0, 1, 0, 0)];
+const HALF: [Written; 1] = [page!(0, Table 0, sequence 1, fill 0)];
 
 // The numbers by their words, the geometry, the capacity, the file, and its length. `image.bin` is a byte too short.
 const FIRST: [Step; 8] = [

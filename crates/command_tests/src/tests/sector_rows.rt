@@ -1,9 +1,8 @@
 //! What `sector` prints: the plain recovery of a sector, and where several faults hold the first of them.
 use super::images::{IMAGE_BYTES, Made};
 use super::runs::{Case, Step, expect_cases};
-use page_layout::record::Kind;
 use std::test::Fail;
-use test_images::Written;
+use test_images::{Written, page};
 
 const SECTOR: &str = "nandctl sector 64,32,8,32,32 image.bin 5";
 
@@ -16,18 +15,18 @@ pub const ZEROS: &str =
 
 // Sector 5, the newest page first, trimmed, and with a tie.
 const NEWEST: [Written; 2] = [
-    (8, Kind::Sector, 5, 9, 0, 0x11),
-    (16, Kind::Sector, 5, 4, 0, 0x22),
+    page!(8, Sector 5, sequence 9, fill 0x11),
+    page!(16, Sector 5, sequence 4, fill 0x22),
 ];
 
 const TRIMMED: [Written; 2] = [
-    (8, Kind::Sector, 5, 3, 0, 0x11),
-    (9, Kind::Trim, 5, 4, 0, 0x00),
+    page!(8, Sector 5, sequence 3, fill 0x11),
+    page!(9, Trim 5, sequence 4, fill 0x00),
 ];
 
 const TIED: [Written; 2] = [
-    (8, Kind::Sector, 5, 9, 0, 0x11),
-    (16, Kind::Sector, 5, 9, 0, 0x22),
+    page!(8, Sector 5, sequence 9, fill 0x11),
+    page!(16, Sector 5, sequence 9, fill 0x22),
 ];
 
 const ERASED: [Step; 4] = [

@@ -1,15 +1,14 @@
 //! What `show` prints of a page.
 use super::images::{IMAGE_BYTES, Made};
 use super::runs::{Case, Step, expect_cases};
-use page_layout::record::Kind;
 use std::test::Fail;
-use test_images::{Layout, Old, Written};
+use test_images::{Layout, Old, Written, page};
 
 const KINDS: [Written; 4] = [
-    (0, Kind::Sector, 5, 3, 0, 0x11),
-    (1, Kind::Trim, 5, 3, 7, 0x11),
-    (2, Kind::Translation, 5, 3, 4294967295, 0x11),
-    (3, Kind::Table, 5, 3, 1, 0x11),
+    page!(0, Sector 5, sequence 3, fill 0x11),
+    page!(1, Trim 5, sequence 3, wear 7, fill 0x11),
+    page!(2, Translation 5, sequence 3, wear 4294967295, fill 0x11),
+    page!(3, Table 5, sequence 3, wear 1, fill 0x11),
 ];
 
 // The last page is neither erased nor sound.

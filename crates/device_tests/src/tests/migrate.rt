@@ -13,7 +13,7 @@ use page_layout::record::{Kind, read_record, record_version};
 use page_layout::source::ImageSlice;
 use std::alloc::Global;
 use std::test::Fail;
-use test_images::{Layout, Old, TABLE_0, TABLE_1, Written, laid_out};
+use test_images::{Layout, Old, TABLE_0, TABLE_1, Written, laid_out, page};
 
 // A page: its row, the kind, the number and the sequence of its record, and its version.
 type Row = (u32, Kind, u32, u64, u8);
@@ -36,22 +36,22 @@ const LOOKS: usize = 2 * 256;
 const WRITTEN: [Written; 4] = [
     TABLE_0,
     TABLE_1,
-    (8, Kind::Sector, 5, 3, 0, 0x11),
-    (9, Kind::Trim, 7, 4, 0, 0),
+    page!(8, Sector 5, sequence 3, fill 0x11),
+    page!(9, Trim 7, sequence 4, fill 0),
 ];
 
 // The last block of the die is full.
 const LAST_BLOCK: [Written; 10] = [
     TABLE_0,
     TABLE_1,
-    (248, Kind::Sector, 0, 3, 0, 0x10),
-    (249, Kind::Sector, 1, 4, 0, 0x11),
-    (250, Kind::Sector, 2, 5, 0, 0x12),
-    (251, Kind::Sector, 3, 6, 0, 0x13),
-    (252, Kind::Sector, 4, 7, 0, 0x14),
-    (253, Kind::Sector, 5, 8, 0, 0x15),
-    (254, Kind::Sector, 6, 9, 0, 0x16),
-    (255, Kind::Sector, 7, 10, 0, 0x17),
+    page!(248, Sector 0, sequence 3, fill 0x10),
+    page!(249, Sector 1, sequence 4, fill 0x11),
+    page!(250, Sector 2, sequence 5, fill 0x12),
+    page!(251, Sector 3, sequence 6, fill 0x13),
+    page!(252, Sector 4, sequence 7, fill 0x14),
+    page!(253, Sector 5, sequence 8, fill 0x15),
+    page!(254, Sector 6, sequence 9, fill 0x16),
+    page!(255, Sector 7, sequence 10, fill 0x17),
 ];
 
 const OLD_TABLE_0: Row = (0, Kind::Table, 0, 1, 1);

@@ -3,12 +3,11 @@ use super::said::{Said, hold_said, mounted, mounted_counted, stale_count};
 use image_check::Refusal;
 use mount::Mounted;
 use page_layout::geometry::Geometry;
-use page_layout::record::Kind;
 use page_layout::source::{ImageSlice, PageSource, SourceFault};
 use std::alloc::Global;
 use std::process::Abort;
 use std::test::Fail;
-use test_images::{LAYOUTS, Layout, TABLE_0, TABLE_1, Written, image_of, laid_out};
+use test_images::{LAYOUTS, Layout, TABLE_0, TABLE_1, Written, image_of, laid_out, page};
 
 // What the certificate says that mounting answers, and how many sectors a check of it finds stale.
 type Accepted = (&'static [Said], usize);
@@ -22,17 +21,17 @@ struct Case {
 }
 
 // A table page whose record is sound, and whose bytes no table has.
-const DAMAGED: Written = (0, Kind::Table, 0, 1, 0, 3);
+const DAMAGED: Written = page!(0, Table 0, sequence 1, fill 3);
 
-const LAST: Written = (8, Kind::Sector, 5, u64::MAX, 0, 1);
+const LAST: Written = page!(8, Sector 5, sequence u64::MAX, fill 1);
 
 // Three sectors were written and no translation page.
 const THREE: [Written; 5] = [
     TABLE_0,
     TABLE_1,
-    (8, Kind::Sector, 0, 3, 0, 1),
-    (9, Kind::Sector, 1, 4, 0, 1),
-    (10, Kind::Sector, 2, 5, 0, 1),
+    page!(8, Sector 0, sequence 3, fill 1),
+    page!(9, Sector 1, sequence 4, fill 1),
+    page!(10, Sector 2, sequence 5, fill 1),
 ];
 
 const CASES: [Case; 15] = [
@@ -64,8 +63,8 @@ const CASES: [Case; 15] = [
         pages: &[
             TABLE_0,
             TABLE_1,
-            (8, Kind::Sector, 1, 9, 0, 1),
-            (16, Kind::Translation, 0, 9, 0, 0xFF),
+            page!(8, Sector 1, sequence 9, fill 1),
+            page!(16, Translation 0, sequence 9, fill 0xFF),
         ],
         capacity: 4,
         answer: Err(Refusal::SequenceRepeated {
@@ -76,7 +75,7 @@ const CASES: [Case; 15] = [
     // A table page that has sound pages and no newest one.
     Case {
         name: "a table page's only pages tie",
-        pages: &[TABLE_0, TABLE_1, (8, Kind::Table, 1, 2, 0, 0)],
+        pages: &[TABLE_0, TABLE_1, page!(8, Table 1, sequence 2, fill 0)],
         capacity: 4,
         answer: Err(Refusal::SequenceRepeated {
             first: 1,
@@ -86,7 +85,7 @@ const CASES: [Case; 15] = [
     // A block whose first page is erased and whose second is sound was programmed out of order. Its newest page counts.
     Case {
         name: "a gap makes a block grown bad",
-        pages: &[TABLE_0, TABLE_1, (41, Kind::Sector, 5, 3, 0, 1)],
+        pages: &[TABLE_0, TABLE_1, page!(41, Sector 5, sequence 3, fill 1)],
         capacity: 4,
         answer: Ok((
             &[
@@ -105,13 +104,13 @@ const CASES: [Case; 15] = [
     },
     Case {
         name: "a sector past the last",
-        pages: &[TABLE_0, TABLE_1, (8, Kind::Sector, 32, 3, 0, 1)],
+        pages: &[TABLE_0, TABLE_1, page!(8, Sector 32, sequence 3, fill 1)],
         capacity: 4,
         answer: Err(Refusal::NumberRange { row: 8 }),
     },
     Case {
         name: "a damaged table page",
-        pages: &[TABLE_0, (1, Kind::Table, 1, 2, 0, 3)],
+        pages: &[TABLE_0, page!(1, Table 1, sequence 2, fill 3)],
         capacity: 4,
         answer: Err(Refusal::TableDamaged { page: 1 }),
     },
@@ -123,20 +122,24 @@ const CASES: [Case; 15] = [
     },
     Case {
         name: "the greatest but one leaves the greatest",
-        pages: &[TABLE_0, TABLE_1, (8, Kind::Sector, 5, u64::MAX - 1, 0, 1)],
+        pages: &[
+            TABLE_0,
+            TABLE_1,
+            page!(8, Sector 5, sequence u64::MAX - 1, fill 1),
+        ],
         capacity: 4,
         answer: Ok((&[Said::NextSequence(u64::MAX)], 1)),
     },
     // From here on each image breaks two parts that stand side by side in the order. The first is answered.
     Case {
         name: "a number before a sequence",
-        pages: &[TABLE_0, TABLE_1, (8, Kind::Sector, 32, 1, 0, 1)],
+        pages: &[TABLE_0, TABLE_1, page!(8, Sector 32, sequence 1, fill 1)],
         capacity: 4,
         answer: Err(Refusal::NumberRange { row: 8 }),
     },
     Case {
         name: "a sequence before a missing table page",
-        pages: &[TABLE_0, (8, Kind::Sector, 1, 1, 0, 1)],
+        pages: &[TABLE_0, page!(8, Sector 1, sequence 1, fill 1)],
         capacity: 4,
         answer: Err(Refusal::SequenceRepeated {
             first: 0,
@@ -157,7 +160,12 @@ const CASES: [Case; 15] = [
     },
     Case {
         name: "the next sequence before the stale sectors",
-        pages: &[TABLE_0, TABLE_1, LAST, (9, Kind::Sector, 6, 3, 0, 1)],
+        pages: &[
+            TABLE_0,
+            TABLE_1,
+            LAST,
+            page!(9, Sector 6, sequence 3, fill 1),
+        ],
         capacity: 1,
         answer: Err(Refusal::NextSequence),
     },
@@ -233,7 +241,11 @@ impl<'a> PageSource for FailingAt<'a> {
     }
 }
 
-const NEWEST: [Written; 3] = [TABLE_0, TABLE_1, (2, Kind::Translation, 0, 3, 0, 0xFF)];
+const NEWEST: [Written; 3] = [
+    TABLE_0,
+    TABLE_1,
+    page!(2, Translation 0, sequence 3, fill 0xFF),
+];
 
 // The number of the page read that fails, and what mounting answers: the first page, the last, and the newest translation
 // page, which is read again.
