@@ -1,0 +1,3 @@
+pub mod SampleLemmas
+pub mod ToldLemmas
+pub mod FitLemmas
