@@ -1,5 +1,5 @@
 -- What all pages tell of the blocks and the sectors.
-use Rattle.std.specs.Prelude.{ℕ, zero, suc, ◌+◌, ◌*◌, ◌/◌, ◌==◌, max, not, List, length, count_by}
+use Rattle.std.specs.Prelude.{ℕ, zero, suc, ◌+◌, ◌*◌, ◌/◌, ◌==◌, ◌||◌, if◌then◌else◌, max, not, List, length, count_by}
 use Rattle.std.specs.List.{range_with_len}
 use Rattle.page_layout.specs.declared.record.Kind.{Kind}
 use Rattle.page_layout.specs.declared.record.Kind.TheVariants as kind
@@ -65,3 +65,10 @@ raised t look body = record {
   blocks = max t.blocks (blocks_by look body);
   sectors = max t.sectors (sectors_by look (length body / 4));
 }
+
+-- the most that a page can tell whose spare bytes name a kind by this code, and this number
+abbrev pub most_by : ℕ → ℕ → ℕ → Told
+most_by code n entries =
+    if code == 4 then record { blocks = (n + 1) * entries; sectors = 0 } else (
+    if code == 3 then record { blocks = 0; sectors = n * entries + 1 } else (
+    if (code == 1) || (code == 2) then record { blocks = 0; sectors = n + 1 } else record { blocks = 0; sectors = 0 }))

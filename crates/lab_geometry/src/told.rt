@@ -1,12 +1,14 @@
 //! What all pages tell of the blocks and the sectors.
 ghost use Rattle.std.specs.Prelude.{◌≡◌, ◌+◌, ◌*◌, ◌/◌, ◌<◌, ◌≤◌, ◌^◌, List, ℕ, length, take, IfOk, Some};
 ghost use Rattle.page_layout.specs.Geometry.{page_bytes, row_count};
-ghost use Rattle.page_layout.specs.Limits.{IsDataSize};
-ghost use Rattle.lab_geometry.specs.Told.{words_used, blocks_by, sectors_by, raised, told_of};
+ghost use Rattle.lab_scan.specs.Look.{look_of};
+ghost use Rattle.lab_geometry.specs.Pages.{page_in};
+ghost use Rattle.lab_geometry.specs.Told.{words_used, blocks_by, sectors_by, most_by, raised, told_of};
 
 use crate::dump::{Dump, DumpFault};
-use crate::pages::look_at_row;
-use lab_scan::Look;
+use crate::pages::read_row;
+use byteorder::{ByteOrder, LittleEndian};
+use lab_scan::{Look, look_at};
 use page_layout::geometry::Geometry;
 use page_layout::record::{Kind, Record};
 use page_layout::word::read_word;
@@ -70,6 +72,21 @@ fn sectors_by(look: Look, entries: u32) -> u64
     }
 }
 
+// The most that a page can tell whose spare bytes name a kind by this code, and this number.
+fn most_by(code: u8, number: u32, entries: u32) -> Told
+    requires { entries ≤ 1024 }
+    ensures { result ≡ most_by code number entries }
+{
+    let (number, entries) = (u64::from(number), u64::from(entries));
+    let (blocks, sectors) = match code {
+        4 => ((number + 1) * entries, 0),
+        3 => (0, number * entries + 1),
+        1 | 2 => (0, number + 1),
+        _ => (0, 0),
+    };
+    Told { blocks, sectors }
+}
+
 impl Told {
     // What is told with one page more.
     fn raised(self, look: Look, body: &[u8]) -> Told
@@ -81,6 +98,23 @@ impl Told {
             blocks: self.blocks.max(blocks_by(look, body)),
             sectors: self.sectors.max(sectors_by(look, entries)),
         }
+    }
+
+    // The same by the bytes of the page. A page is not hashed that could not tell more if it were sound.
+    fn noted(self, geometry: &Geometry, page: &[u8]) -> Told
+        requires { length page.now ≡ page_bytes geometry.now }
+        ensures { result ≡ raised self (look_of (page_in geometry.now.data_bytes page.now)) (take geometry.now.data_bytes page.now) }
+    {
+        let (body, spare) = page.split_at(geometry.data_bytes());
+        let most = most_by(
+            spare[3],
+            LittleEndian::read_u32(&spare[4..8]),
+            geometry.entries(),
+        );
+        if most.blocks <= self.blocks && most.sectors <= self.sectors {
+            return self;
+        }
+        self.raised(look_at(geometry, body, spare), body)
     }
 }
 
@@ -99,8 +133,8 @@ pub(crate) fn read_told<D: Dump>(
         sectors: 0,
     };
     for row in 0..geometry.rows() {
-        let look = look_at_row(dump, geometry, row, page)?;
-        told = told.raised(look, &page[..geometry.data_bytes()]);
+        read_row(dump, row, page)?;
+        told = told.noted(geometry, page);
     }
     Ok(told)
 }

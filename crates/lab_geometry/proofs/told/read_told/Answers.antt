@@ -1,6 +1,7 @@
 use Rattle.std.proofs.Common.{◌≡◌, ◌+◌, ℕ, sym, ap, ◌∙◌, arith, rules, length, take, length-take-le}
-use Rattle.page_layout.specs.Geometry.{row_count}
 use Rattle.lab_scan.specs.Look.{look_of}
+use Rattle.lab_geometry.specs.Pages.{page_in, page_at}
+use Rattle.lab_geometry.proofs.SampleLemmas.{page_is}
 use Rattle.lab_geometry.proofs.ToldLemmas.{told_none, told_more}
 use Rattle.lab_geometry.proofs.told.read_told.Goals as goal
 
@@ -18,11 +19,11 @@ loop-row-preserved g c =
     let d = geo.data_bytes in
     let s = geo.spare_bytes in
     let row = c.loop-row.row in
+    let bytes = c.read_row.new.page in
     record {
       whole = search rules;
-      same = c.look_at_row.ensures.same ∙ inv.same;
+      same = c.read_row.ensures.same ∙ inv.same;
       told = λ all told.
-          let there = c.in_ok-look.ensures.read all (inv.same ∙ told) in
-          told_more d s row all _ c.loop-row.told _ c.in_ok-look.look (inv.told all told) (c.in_ok-look.ensures.look ∙ ap look_of there) (ap (λ k. take k c.look_at_row.new.page) c.data_bytes.ensures ∙ ap (λ p. p.body) there)
-          (length-take-le c.data_bytes.result c.look_at_row.new.page (omega arith) ∙ c.data_bytes.ensures) c.raised-told.ensures;
+          let there : page_in d bytes ≡ page_at d s all row = page_is d s _ row all bytes (omega arith) (c.in_ok-read_row.ensures.read all (inv.same ∙ told)) in
+          told_more d s row all (take d bytes) c.loop-row.told _ (look_of (page_in d bytes)) (inv.told all told) (ap look_of there) (ap (λ p. p.body) there) (length-take-le d bytes (omega arith)) c.noted-told.ensures;
     }
