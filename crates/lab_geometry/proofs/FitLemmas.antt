@@ -1,11 +1,11 @@
 -- Geometries are added to those that fit.
-use Rattle.std.proofs.Common.{◌≡◌, ℕ, zero, suc, ◌+◌, ◌-◌, ◌*◌, ◌/◌, ◌<◌, ◌≤◌, List, [], ◌∷◌, ◌++◌, length, length-append, append-nil, append_assoc, take, get_or, refl, sym, ap, ◌∙◌, subst, arith, Bool, true, false, All}
-use Rattle.std.specs.Prelude.{max, min, nat_lt, ◌&&◌, if◌then◌else◌}
+use Rattle.std.proofs.Common.{◌≡◌, ℕ, zero, suc, ◌+◌, ◌-◌, ◌<◌, ◌≤◌, List, [], ◌∷◌, ◌++◌, length, length-append, append-nil, take, get_or, refl, sym, ap, ◌∙◌, subst, arith, Bool, true, false, All}
+use Rattle.std.specs.Prelude.{nat_lt, ◌&&◌, if◌then◌else◌}
 use Rattle.std.specs.List.{flat_map, range_with_len}
 use Rattle.std.proofs.lemmas.List.{flat_map_more, take_more}
 use Rattle.std.proofs.lemmas.List.Elements.{All-push, All-nil}
 use Rattle.page_layout.specs.declared.geometry.Geometry.{Geometry}
-use Rattle.page_layout.specs.Limits.{IsWithinLimits, IsSectorCount}
+use Rattle.page_layout.specs.Limits.{IsSectorCount}
 use Rattle.lab_geometry.specs.declared.fit.Fit.{Fit}
 use Rattle.lab_geometry.specs.declared.sample.Sample.{Sample}
 use Rattle.lab_geometry.specs.declared.told.Told.{Told}
@@ -18,7 +18,7 @@ use Rattle.lab_geometry.proofs.SampleLemmas.{range_last}
 
 -- ---- possible geometries
 
-within : (told : ℕ) → IsSectorCount (sectors_from told)
+pub within : (told : ℕ) → IsSectorCount (sectors_from told)
 within told = record { least = omega arith; most = omega arith }
 
 pub possible_fit : (g : Geometry) (sample : Sample) (told : Told) (f : Fit) → f ≡ fit_of g.data_bytes g.spare_bytes g.pages g.blocks sample told → 0 < sample.sound → sample.sound + sample.unsound ≤ sample.looked → IsPossible f
@@ -69,7 +69,7 @@ positive : (n : ℕ) → ¬ (n ≡ 0) → nat_lt 0 n ≡ true
 positive zero h = absurd (h refl)
 positive (suc n) h = grind arith
 
-area_when : (all : List ℕ) (d s : ℕ) (shaped sounds : Bool) → has_shape (length all) d s ≡ shaped → nat_lt 0 (sample_of d s (rows_of (length all) d s) all).sound ≡ sounds
+pub area_when : (all : List ℕ) (d s : ℕ) (shaped sounds : Bool) → has_shape (length all) d s ≡ shaped → nat_lt 0 (sample_of d s (rows_of (length all) d s) all).sound ≡ sounds
     → area_fits all d s ≡ (if shaped && sounds then flat_map (shape_fits (length all) d s (sample_of d s (rows_of (length all) d s) all) (told_of d s (rows_of (length all) d s) all)) page_counts else [])
 unfolding area_fits
 area_when all d s shaped sounds a b =

@@ -1,3 +1,6 @@
 pub mod SampleLemmas
 pub mod ToldLemmas
+pub mod ShapeLemmas
 pub mod FitLemmas
+pub mod LawLemmas
+pub mod MemberLemmas

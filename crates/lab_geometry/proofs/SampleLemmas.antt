@@ -1,10 +1,9 @@
 -- What the pages are that are looked at, one page more.
-use Rattle.std.proofs.Common.{◌≡◌, ℕ, zero, suc, ◌+◌, ◌*◌, ◌<◌, ◌≤◌, List, [], ◌∷◌, ◌++◌, length, refl, sym, ap, ◌∙◌, subst, arith, cond, count_by, Bool, true, false, slice_range}
+use Rattle.std.proofs.Common.{◌≡◌, ℕ, zero, suc, ◌+◌, ◌*◌, ◌≤◌, List, [], ◌∷◌, ◌++◌, refl, ap, ◌∙◌, arith, cond, count_by, Bool, slice_range}
 use Rattle.std.specs.List.{range_with_len}
 use Rattle.std.proofs.lemmas.List.Sums.{sum_by_push}
 use Rattle.lab_scan.specs.declared.look.Look.{Look}
 use Rattle.lab_scan.specs.declared.look.Look.TheVariants.{Sound, Erased, Unsound}
-use Rattle.lab_scan.specs.Look.{look_of}
 use Rattle.lab_geometry.specs.declared.sample.Sample.{Sample}
 use Rattle.lab_geometry.specs.Pages.{page_in, page_at}
 use Rattle.lab_geometry.specs.Sample.{looked_count, looked_row, is_sound, is_unsound, look_at, looked_by, sample_of, noted}

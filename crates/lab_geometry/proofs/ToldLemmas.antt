@@ -1,5 +1,5 @@
 -- What pages tell, one page more.
-use Rattle.std.proofs.Common.{◌≡◌, ℕ, zero, suc, ◌+◌, ◌*◌, ◌/◌, ◌<◌, ◌≤◌, List, [], ◌∷◌, ◌++◌, length, take, refl, sym, ap, ◌∙◌, subst, arith, cond, count_by, Bool, true, false, Option, Some, None, inl, inr, slice_index, slice_range, le_trans}
+use Rattle.std.proofs.Common.{◌≡◌, ℕ, suc, ◌+◌, ◌*◌, ◌/◌, ◌≤◌, List, length, refl, sym, ap, ◌∙◌, subst, arith, count_by, Bool, true, false, Option, Some, None, inl, inr, slice_index, slice_range, le_trans}
 use Rattle.std.specs.Prelude.{◌==◌, max, not}
 use Rattle.std.specs.List.{range_with_len}
 use Rattle.page_layout.specs.Word.{word_at, no_row}
@@ -15,7 +15,7 @@ use Rattle.page_layout.proofs.RecordLemmas.{is_sound}
 use Rattle.lab_scan.specs.Look.{look_by, look_of}
 use Rattle.lab_scan.specs.declared.look.Look.{Look}
 use Rattle.lab_geometry.specs.declared.told.Told.{Told}
-use Rattle.lab_geometry.specs.Pages.{page_in, page_at}
+use Rattle.lab_geometry.specs.Pages.{page_at}
 use Rattle.lab_geometry.specs.Sample.{look_at}
 use Rattle.lab_geometry.specs.Told.{words_used, blocks_of, sectors_of, blocks_by, sectors_by, blocks_at, sectors_at, greatest, told_of, raised, most_by}
 use Rattle.lab_geometry.proofs.SampleLemmas.{one, count_last}
@@ -94,6 +94,7 @@ told_same t p entries n code size code_is n_is blocks sectors = by_record (recor
     nothing : (b : Bool) → t ≡ raised t (look_by None b) p.body
     nothing true = told_kept 0 0 t (omega arith) (omega arith)
     nothing false = told_kept 0 0 t (omega arith) (omega arith)
+
     by_record : (o : Option Record) → record_of p ≡ o → t ≡ raised t (look_by o (is_erased_page p)) p.body
     by_record None e = nothing (is_erased_page p)
     by_record (Some r) e =

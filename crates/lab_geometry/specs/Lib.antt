@@ -8,3 +8,5 @@ pub mod Told
 pub mod Shape
 -- the geometries that fit
 pub mod Fits
+-- what the definitions come to
+pub mod Laws

@@ -1,5 +1,5 @@
 -- What the pages are that are looked at.
-use Rattle.std.specs.Prelude.{ℕ, ◌+◌, ◌*◌, ◌/◌, ◌%◌, min, max, Bool, true, false, if◌then◌else◌, List, count_by}
+use Rattle.std.specs.Prelude.{ℕ, ◌+◌, ◌*◌, ◌/◌, ◌%◌, min, max, Bool, true, false, List, count_by}
 use Rattle.std.specs.List.{range_with_len}
 use Rattle.lab_scan.specs.declared.look.Look.{Look}
 use Rattle.lab_scan.specs.declared.look.Look.TheVariants.{Sound, Erased, Unsound}

@@ -5,6 +5,7 @@
 mod dump;
 mod find;
 mod fit;
+mod laws;
 mod pages;
 mod sample;
 mod shape;
@@ -13,5 +14,6 @@ mod told;
 pub use dump::{Dump, DumpFault};
 pub use find::{FindFault, find_geometries};
 pub use fit::{Fit, TableSays};
+pub use laws::{fit_laws, looked_laws, told_laws};
 pub use sample::Sample;
 pub use told::Told;

@@ -9,11 +9,7 @@ use lab_scan::{Look, look_at};
 use page_layout::geometry::Geometry;
 
 // Reads the page of a row.
-pub(crate) fn read_row<D: Dump>(
-    dump: &mut D,
-    row: u32,
-    page: &mut [u8],
-) -> Result<(), DumpFault>
+pub(crate) fn read_row<D: Dump>(dump: &mut D, row: u32, page: &mut [u8]) -> Result<(), DumpFault>
     requires { length page.old < 2 ^ 32 }
     ensures read { OnOk result ((all : List ℕ) → D.bytes dump.old ≡ Some all → page.new ≡ slice_range all (row * length page.new) (row * length page.new + length page.new)) }
     ensures same { D.bytes dump.new ≡ D.bytes dump.old }

@@ -46,11 +46,13 @@ fn blocks_by(look: Look, body: &[u8]) -> u64
     requires { length body.now ≤ 4096 }
     ensures { result ≡ blocks_by look body.now }
 {
-    let Look::Sound(Record {
-        kind: Kind::Table,
-        number,
-        ..
-    }) = look
+    let Look::Sound(
+        Record {
+            kind: Kind::Table,
+            number,
+            ..
+        },
+    ) = look
     else {
         return 0;
     };

@@ -1,4 +1,4 @@
-use Rattle.std.proofs.Common.{◌≡◌, ◌+◌, ◌*◌, ◌++◌, ℕ, ◌∙◌, ap, sym, take, get_or, arith, rules, length}
+use Rattle.std.proofs.Common.{◌≡◌, ◌+◌, ◌*◌, ◌++◌, ◌∙◌, ap, take, get_or, arith}
 use Rattle.std.specs.List.{flat_map}
 use Rattle.lab_geometry.specs.Shape.{data_sizes}
 use Rattle.lab_geometry.specs.Fits.{data_fits, fits_of}

@@ -1,4 +1,4 @@
-use Rattle.std.proofs.Common.{◌≡◌, ◌∙◌, ap, sym, arith, rules, length}
+use Rattle.std.proofs.Common.{◌∙◌}
 use Rattle.lab_geometry.proofs.FitLemmas.{IsAsOf, area_none, area_unsound, area_is}
 use Rattle.lab_geometry.proofs.find.add_areas.Goals as goal
 

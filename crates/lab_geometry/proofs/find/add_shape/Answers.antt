@@ -1,4 +1,3 @@
-use Rattle.std.proofs.Common.{arith, rules}
 use Rattle.lab_geometry.proofs.FitLemmas.{adds_one, possible_fit}
 use Rattle.lab_geometry.proofs.find.add_shape.Goals as goal
 

@@ -1,4 +1,4 @@
-use Rattle.std.proofs.Common.{◌≡◌, ◌+◌, ◌∙◌, ap, get_or, sym, arith, rules, length}
+use Rattle.std.proofs.Common.{◌+◌, ap, get_or, arith}
 use Rattle.lab_geometry.proofs.FitLemmas.{adds_then, more_at}
 use Rattle.lab_geometry.specs.Shape.{page_counts}
 use Rattle.lab_geometry.specs.Fits.{shape_fits}

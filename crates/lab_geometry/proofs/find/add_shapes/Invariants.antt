@@ -1,4 +1,4 @@
-use Rattle.std.proofs.Common.{◌≡◌, ◌++◌, List, ℕ, All, take}
+use Rattle.std.proofs.Common.{◌≡◌, ◌++◌, All, take}
 use Rattle.std.specs.List.{flat_map}
 use Rattle.page_layout.specs.Limits.{IsPageCount}
 use Rattle.lab_geometry.specs.Shape.{page_counts}

@@ -1,5 +1,5 @@
 use Rattle.lab_geometry.proofs.SampleLemmas.{page_is}
-use Rattle.std.proofs.Common.{rules, arith}
+use Rattle.std.proofs.Common.{arith}
 use Rattle.lab_geometry.proofs.pages.look_at_row.Goals as goal
 
 pub returns-clause-read : goal.returns-clause-read

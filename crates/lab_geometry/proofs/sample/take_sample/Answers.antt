@@ -1,5 +1,5 @@
-use Rattle.std.proofs.Common.{◌≡◌, ◌+◌, ℕ, sym, ap, ◌∙◌, arith, rules, length}
-use Rattle.page_layout.specs.Geometry.{page_bytes, row_count}
+use Rattle.std.proofs.Common.{ap, ◌∙◌, arith, rules}
+use Rattle.page_layout.specs.Geometry.{row_count}
 use Rattle.lab_scan.specs.Look.{look_of}
 use Rattle.lab_geometry.specs.Sample.{looked_count, looked_row, look_at}
 use Rattle.lab_geometry.proofs.SampleLemmas.{sample_more, sample_none, sample_all, noted_few, noted_looked}

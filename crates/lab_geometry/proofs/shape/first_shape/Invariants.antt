@@ -1,4 +1,4 @@
-use Rattle.std.proofs.Common.{◌≡◌, List, ℕ, All, take, false}
+use Rattle.std.proofs.Common.{◌≡◌, All, take, false}
 use Rattle.std.specs.List.{list_any}
 use Rattle.page_layout.specs.Limits.{IsPageCount}
 use Rattle.lab_geometry.specs.Shape.{page_counts, is_shape}

@@ -1,4 +1,4 @@
-use Rattle.std.proofs.Common.{◌≡◌, ◌+◌, ℕ, sym, ap, ◌∙◌, arith, rules, length, take, length-take-le}
+use Rattle.std.proofs.Common.{◌≡◌, ap, ◌∙◌, arith, rules, take, length-take-le}
 use Rattle.lab_scan.specs.Look.{look_of}
 use Rattle.lab_geometry.specs.Pages.{page_in, page_at}
 use Rattle.lab_geometry.proofs.SampleLemmas.{page_is}

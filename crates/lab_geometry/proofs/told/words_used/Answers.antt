@@ -1,8 +1,7 @@
-use Rattle.std.proofs.Common.{◌≡◌, ℕ, ◌+◌, ◌*◌, ◌/◌, ◌≤◌, sym, ap, ◌∙◌, arith, rules, true, false, length}
-use Rattle.std.specs.Prelude.{◌==◌}
+use Rattle.std.proofs.Common.{◌*◌, sym, ◌∙◌, arith, true, false}
 use Rattle.std.proofs.lemmas.Bool.{eq-eqb, ne_eqb}
 use Rattle.page_layout.specs.Word.{word_at, no_row}
-use Rattle.lab_geometry.proofs.ToldLemmas.{used_below, used_more, used_all}
+use Rattle.lab_geometry.proofs.ToldLemmas.{used_more, used_all}
 use Rattle.lab_geometry.proofs.told.words_used.Goals.{then-read_word, else-read_word}
 use Rattle.lab_geometry.proofs.told.words_used.Goals as goal
 

@@ -1,4 +1,4 @@
-use Rattle.std.proofs.Common.{◌≡◌, ◌+◌, ◌/◌, ◌≤◌, ℕ, List, sym, ap, ◌∙◌, subst, arith, rules, length, take, drop, slice_index, slice_range, length-take-le}
+use Rattle.std.proofs.Common.{◌≡◌, ◌/◌, ◌≤◌, ℕ, List, sym, ap, ◌∙◌, subst, arith, length, take, drop, slice_index, slice_range, length-take-le}
 use Rattle.byteorder.specs.Endian.{little_number}
 use Rattle.lab_geometry.specs.declared.told.Told.{Told}
 use Rattle.lab_geometry.specs.Pages.{page_in}
