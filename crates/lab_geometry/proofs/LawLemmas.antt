@@ -1,12 +1,12 @@
 -- Which pages are looked at, and what the pages tell.
-use Rattle.std.proofs.Common.{◌≡◌, ◌≢◌, ◌⊎◌, ℕ, zero, suc, ◌+◌, ◌-◌, ◌*◌, ◌/◌, ◌%◌, ◌<◌, ◌≤◌, List, length, take, drop, refl, sym, ap, ◌∙◌, subst, arith, inl, inr}
+use Rattle.std.proofs.Common.{◌≡◌, ◌≢◌, ◌⊎◌, ℕ, zero, suc, ◌+◌, ◌-◌, ◌*◌, ◌/◌, ◌%◌, ◌<◌, ◌≤◌, List, length, take, drop, refl, sym, ap, ◌∙◌, subst, arith, inl, inr, length-take-le}
 use Rattle.std.proofs.Common.{true, false, slice_range, Some, le_refl}
-use Rattle.std.specs.Prelude.{◌==◌, max, min}
+use Rattle.std.specs.Prelude.{◌==◌, max, min, nat_lt}
 use Rattle.std.specs.Int.{div_ceil}
 use Rattle.std.proofs.Math.Nat.{mul-div-le, mul-div_cancel_left}
 use Rattle.std.proofs.lemmas.Nat.{div-add-mod', mod_below, row_fits, le-div}
-use Rattle.std.proofs.lemmas.Bool.{cases_lt, cases_eq, ne_eqb, cond_below, cond_above, ltb-true}
-use Rattle.std.proofs.lemmas.List.{take-take, drop-take, drop-drop}
+use Rattle.std.proofs.lemmas.Bool.{eqb-true, cases_lt, cases_eq, ne_eqb, cond_below, cond_above, ltb-true}
+use Rattle.std.proofs.lemmas.List.{length-drop, take-take, drop-take, drop-drop}
 use Rattle.std.proofs.lemmas.Grind.{div_ceil_times}
 use Rattle.page_layout.specs.declared.geometry.Geometry.{Geometry}
 use Rattle.page_layout.specs.declared.record.Record.{Record}
@@ -16,15 +16,16 @@ use Rattle.page_layout.specs.Geometry.{row_count}
 use Rattle.page_layout.specs.Page.{page}
 use Rattle.page_layout.specs.Key.{key_of, key_from}
 use Rattle.page_layout.specs.Live.{IsKeyOf}
-use Rattle.page_layout.specs.Word.{word_at, no_row}
+use Rattle.page_layout.specs.Word.{word_at}
 use Rattle.page_layout.proofs.RawLemmas.{raw_page}
-use Rattle.bad_blocks.specs.TablePage.{IsWellFormed}
+use Rattle.bad_blocks.specs.TablePage.{IsWellFormed, padding}
 use Rattle.lab_scan.specs.declared.look.Look.{Look}
 use Rattle.lab_scan.specs.declared.look.Look.TheVariants.{Sound, Erased, Unsound}
 use Rattle.lab_geometry.specs.Pages.{page_at}
 use Rattle.lab_geometry.specs.Sample.{look_at}
-use Rattle.lab_geometry.specs.Told.{sectors_of, sectors_by, sectors_at, greatest, told_of}
-use Rattle.lab_geometry.specs.Laws.{PageLaw, LookedLaw, LookedRiseLaw, LookedAllLaw, GreatestLaw, LowerLaw, TableLaw}
+use Rattle.lab_geometry.specs.Told.{blocks_of, sectors_of, blocks_by, sectors_by, blocks_at, sectors_at, greatest, told_of}
+use Rattle.lab_geometry.specs.declared.told.Told.{Told}
+use Rattle.lab_geometry.specs.Laws.{IsWithin, WithinLaw, PageLaw, LookedLaw, LookedRiseLaw, LookedAllLaw, GreatestLaw, LowerLaw, TableLaw}
 use Rattle.lab_geometry.proofs.ToldLemmas.{used_below, used_more, used_all}
 
 -- ---- the page of a row
@@ -125,6 +126,34 @@ some_greatest f (suc n) = elim (cases_lt (greatest f n) (f n)) [
 pub greatest_law : GreatestLaw
 greatest_law f rows = (no_greater f rows, some_greatest f rows)
 
+-- ---- room for each sound page
+
+body_size : (d s rows row : ℕ) (all : List ℕ) → rows * (d + s) ≤ length all → row < rows → length (page_at d s all row).body ≡ d
+unfolding page_at
+body_size d s rows row all whole l =
+    let n : ℕ = d + s in
+    let at : ℕ = row * n in
+    let fits : at + n ≤ rows * n = row_fits row n rows n l (le_refl n) in
+    let size : at + n - at ≡ n = omega arith in
+    let rest : at + n - at ≤ length (drop at all) = omega (arith, length-drop at all) in
+    let page_size : length (slice_range all at (at + n)) ≡ at + n - at = length-take-le (at + n - at) (drop at all) rest in
+    length-take-le d (slice_range all at (at + n)) (omega arith)
+
+kind_within : (k : Kind) (n entries : ℕ) (body : List ℕ) (t : Told) → length body / 4 ≡ entries → blocks_of k n body ≤ t.blocks → sectors_of k n entries ≤ t.sectors → IsWithin (key_from k n) entries t
+kind_within kind.Sector n entries body t size blocks sectors = omega arith
+kind_within kind.Trim n entries body t size blocks sectors = omega arith
+kind_within kind.Translation n entries body t size blocks sectors = omega arith
+kind_within kind.Table n entries body t size blocks sectors = let place : n * (length body / 4) ≡ n * entries = ap (λ k. n * k) size in omega arith
+
+pub within_law : WithinLaw
+unfolding told_of
+within_law d s rows all row r whole l e =
+    let blocks = no_greater (blocks_at d s all) rows row l in
+    let sectors = no_greater (sectors_at d s all) rows row l in
+    kind_within r.kind r.number (d / 4) (page_at d s all row).body (told_of d s rows all) (ap (λ n. n / 4) (body_size d s rows row all whole l))
+    (subst (λ look. blocks_by look (page_at d s all row).body ≤ greatest (blocks_at d s all) rows) e blocks)
+    (subst (λ look. sectors_by look (d / 4) ≤ greatest (sectors_at d s all) rows) e sectors)
+
 -- ---- a lower bound of the sectors
 
 entry_in : (t sectors entries : ℕ) → 0 < entries → t < div_ceil sectors entries → t * entries + 1 ≤ sectors
@@ -169,12 +198,12 @@ used_there entries blocks u body formed within (suc n) l =
     let next : n + 1 ≡ suc n = omega arith in
     elim (cases_lt (u * entries + n) blocks) [
       | inl inside ↦
-          let low : word_at body (4 * n) % 256 < 3 = ltb-true (word_at body (4 * n) % 256) 3 (cond_below (u * entries + n) blocks _ _ inside ∙ right) in
-          let other : word_at body (4 * n) ≢ no_row = λ e. absurd (let rest : word_at body (4 * n) % 256 ≡ 255 = ap (λ w. w % 256) e in omega arith) in
-          subst (λ m. min m (blocks - u * entries) ≡ used_below body m) next (sym (least_more n (blocks - u * entries) (omega arith)) ∙ used_more body n _ false before (ne_eqb (word_at body (4 * n)) no_row other))
+          let low : nat_lt (word_at body (4 * n) % 256) 3 ≡ true = cond_below (u * entries + n) blocks _ _ inside ∙ right in
+          subst (λ m. min m (blocks - u * entries) ≡ used_below body m) next (sym (least_more n (blocks - u * entries) (omega arith)) ∙ used_more body n _ true before low)
       | inr outside ↦
-          let filled : (word_at body (4 * n) == no_row) ≡ true = cond_above (u * entries + n) blocks _ _ _ outside refl ∙ right in
-          subst (λ m. min m (blocks - u * entries) ≡ used_below body m) next (sym (least_same n (blocks - u * entries) (omega arith)) ∙ (omega arith ∙ used_more body n _ true before filled))
+          let filled : word_at body (4 * n) ≡ padding = eqb-true (word_at body (4 * n)) padding (cond_above (u * entries + n) blocks _ _ _ outside refl ∙ right) in
+          let high : nat_lt (word_at body (4 * n) % 256) 3 ≡ false = ap (λ w. nat_lt (w % 256) 3) filled in
+          subst (λ m. min m (blocks - u * entries) ≡ used_below body m) next (sym (least_same n (blocks - u * entries) (omega arith)) ∙ (omega arith ∙ used_more body n _ false before high))
     ]
 
 pub table_law : TableLaw

@@ -4,3 +4,4 @@ pub mod ShapeLemmas
 pub mod FitLemmas
 pub mod LawLemmas
 pub mod MemberLemmas
+pub mod OnceLemmas

@@ -1,8 +1,8 @@
 -- What pages tell, one page more.
-use Rattle.std.proofs.Common.{◌≡◌, ℕ, suc, ◌+◌, ◌*◌, ◌/◌, ◌≤◌, List, length, refl, sym, ap, ◌∙◌, subst, arith, count_by, Bool, true, false, Option, Some, None, inl, inr, slice_index, slice_range, le_trans}
-use Rattle.std.specs.Prelude.{◌==◌, max, not}
+use Rattle.std.proofs.Common.{◌≡◌, ℕ, suc, ◌+◌, ◌*◌, ◌/◌, ◌%◌, ◌≤◌, List, length, refl, sym, ap, ◌∙◌, subst, arith, count_by, Bool, true, false, Option, Some, None, inl, inr, slice_index, slice_range, le_trans}
+use Rattle.std.specs.Prelude.{max, nat_lt}
 use Rattle.std.specs.List.{range_with_len}
-use Rattle.page_layout.specs.Word.{word_at, no_row}
+use Rattle.page_layout.specs.Word.{word_at}
 use Rattle.std.proofs.lemmas.List.Sums.{count_by-le-length}
 use Rattle.std.proofs.lemmas.List.FromFn.{length-range_with_len}
 use Rattle.byteorder.specs.Endian.{little_number}
@@ -22,12 +22,12 @@ use Rattle.lab_geometry.proofs.SampleLemmas.{one, count_last}
 
 -- ---- words
 
--- how many of the first words are not FFFFFFFFh
+-- how many of the first words may be of blocks
 abbrev pub used_below : List ℕ → ℕ → ℕ
-used_below body n = count_by (λ i. not (word_at body (4 * i) == no_row)) (range_with_len 0 n)
+used_below body n = count_by (λ i. nat_lt (word_at body (4 * i) % 256) 3) (range_with_len 0 n)
 
-pub used_more : (body : List ℕ) (n used : ℕ) (b : Bool) → used ≡ used_below body n → (word_at body (4 * n) == no_row) ≡ b → used + one (not b) ≡ used_below body (n + 1)
-used_more body n used b old is = ap (λ k. k + one (not b)) old ∙ (ap (λ t. used_below body n + one (not t)) (sym is) ∙ sym (count_last (λ i. not (word_at body (4 * i) == no_row)) n))
+pub used_more : (body : List ℕ) (n used : ℕ) (b : Bool) → used ≡ used_below body n → nat_lt (word_at body (4 * n) % 256) 3 ≡ b → used + one b ≡ used_below body (n + 1)
+used_more body n used b old is = ap (λ k. k + one b) old ∙ (ap (λ t. used_below body n + one t) (sym is) ∙ sym (count_last (λ i. nat_lt (word_at body (4 * i) % 256) 3) n))
 
 pub used_all : (body : List ℕ) (n used : ℕ) → n ≡ length body / 4 → used ≡ used_below body n → used ≡ words_used body
 unfolding words_used
@@ -57,7 +57,7 @@ told_more d s row all body t new look old is there size e =
 
 words_few : (body : List ℕ) → words_used body ≤ length body / 4
 unfolding words_used
-words_few body = omega (arith, count_by-le-length (λ i. not (word_at body (4 * i) == no_row)) (range_with_len 0 (length body / 4)), length-range_with_len 0 (length body / 4))
+words_few body = omega (arith, count_by-le-length (λ i. nat_lt (word_at body (4 * i) % 256) 3) (range_with_len 0 (length body / 4)), length-range_with_len 0 (length body / 4))
 
 blocks_most : (k : Kind) (n entries : ℕ) (body : List ℕ) → entries ≡ length body / 4 → blocks_of k n body ≤ (most_by (code_of k) n entries).blocks
 blocks_most kind.Sector n entries body e = omega arith

@@ -1,5 +1,5 @@
 -- The geometries that fit a dump, and their order.
-use Rattle.std.specs.Prelude.{ℕ, ◌+◌, ◌/◌, ◌<◌, ◌≤◌, ◌==◌, ◌&&◌, nat_lt, min, max, if◌then◌else◌, List, [], ◌∷◌, All, length}
+use Rattle.std.specs.Prelude.{ℕ, ◌+◌, ◌/◌, ◌<◌, ◌≤◌, ◌==◌, ◌&&◌, nat_lt, min, max, if◌then◌else◌, List, [], ◌∷◌, All, length, ◌*◌}
 use Rattle.std.specs.List.{flat_map, range_with_len}
 use Rattle.std.specs.declared.cmp.Ordering.{Ordering}
 use Rattle.std.specs.Ordering.{nat_cmp, ordering_then}
@@ -28,13 +28,14 @@ abbrev pub fit_of : ℕ → ℕ → ℕ → ℕ → Sample → Told → Fit
 fit_of data_bytes spare_bytes pages blocks sample told = record {
   sound = record { 0 = sample.sound };
   table = table_says blocks told.blocks;
-  unsound = sample.unsound;
+  unsound_bytes = sample.unsound * (data_bytes + spare_bytes);
   data_bytes = data_bytes;
   spare_bytes = spare_bytes;
   pages = pages;
   blocks = blocks;
   sectors = sectors_from told.sectors;
   looked = sample.looked;
+  unsound = sample.unsound;
   blocks_told = told.blocks;
   sectors_told = told.sectors;
 }
@@ -70,14 +71,14 @@ place Agrees = 0
 place Silent = 1
 place Differs = 2
 
--- Which of two comes first: the one with more sound pages, then the one that the table agrees to, then the one with fewer unsound pages, then
--- the one with the smaller numbers.
+-- Which of two comes first: the one with more sound pages, then the one that the table agrees to, then the one with fewer bytes in
+-- unsound pages, then the one with the smaller numbers.
 abbrev pub rank : Fit → Fit → Ordering
 rank x y =
-    ordering_then (nat_cmp y.sound.0 x.sound.0) (ordering_then (nat_cmp (place x.table) (place y.table)) (ordering_then (nat_cmp x.unsound y.unsound)
+    ordering_then (nat_cmp y.sound.0 x.sound.0) (ordering_then (nat_cmp (place x.table) (place y.table)) (ordering_then (nat_cmp x.unsound_bytes y.unsound_bytes)
     (ordering_then (nat_cmp x.data_bytes y.data_bytes) (ordering_then (nat_cmp x.spare_bytes y.spare_bytes) (ordering_then (nat_cmp x.pages y.pages)
     (ordering_then (nat_cmp x.blocks y.blocks) (ordering_then (nat_cmp x.sectors y.sectors) (ordering_then (nat_cmp x.looked y.looked)
-    (ordering_then (nat_cmp x.blocks_told y.blocks_told) (nat_cmp x.sectors_told y.sectors_told))))))))))
+    (ordering_then (nat_cmp x.unsound y.unsound) (ordering_then (nat_cmp x.blocks_told y.blocks_told) (nat_cmp x.sectors_told y.sectors_told)))))))))))
 
 -- ---- whatever the dump gives
 

@@ -1,8 +1,10 @@
 -- What the definitions come to, each law as one statement. A public function with an empty body has it as its contract.
-use Rattle.std.specs.Prelude.{◌≡◌, ◌↔◌, ◌⊎◌, ℕ, ◌+◌, ◌*◌, ◌<◌, ◌≤◌, min, true, List, length, slice_get, Some}
+use Rattle.std.specs.Prelude.{◌≡◌, ◌↔◌, ◌⊎◌, ℕ, ◌+◌, ◌*◌, ◌<◌, ◌≤◌, min, true, List, length, slice_get, Some, ◌/◌, ◌==◌, ◌&&◌, Bool, count_by}
 use Rattle.std.specs.List.{Contains}
 use Rattle.page_layout.specs.declared.geometry.Geometry.{Geometry}
 use Rattle.page_layout.specs.declared.record.Record.{Record}
+use Rattle.page_layout.specs.declared.record.Key.{Key}
+use Rattle.page_layout.specs.declared.record.Key.TheVariants.{Sector, Translation, Table}
 use Rattle.page_layout.specs.declared.record.Kind.TheVariants as kind
 use Rattle.page_layout.specs.Geometry.{row_count, page_bytes}
 use Rattle.page_layout.specs.Limits.{IsWithinLimits}
@@ -12,6 +14,7 @@ use Rattle.page_layout.specs.Raw.{raw_image}
 use Rattle.bad_blocks.specs.TablePage.{IsWellFormed}
 use Rattle.lab_scan.specs.declared.look.Look.TheVariants.{Sound}
 use Rattle.lab_geometry.specs.declared.fit.Fit.{Fit}
+use Rattle.lab_geometry.specs.declared.told.Told.{Told}
 use Rattle.lab_geometry.specs.Pages.{page_at}
 use Rattle.lab_geometry.specs.Sample.{looked_count, looked_row, look_at, is_sound, sample_of}
 use Rattle.lab_geometry.specs.Told.{blocks_of, greatest, told_of}
@@ -30,6 +33,14 @@ pub record IsFit (all : List ℕ) (f : Fit) : Type 0 where
 -- those that fit are just these: none whose every page that was looked at is unsound
 abbrev pub FitLaw : Type 0
 FitLaw = (all : List ℕ) (f : Fit) → Contains (fits_of all) f ↔ IsFit all f
+
+-- whether the areas have these sizes, and a block so many pages
+abbrev pub has_numbers : ℕ → ℕ → ℕ → Fit → Bool
+has_numbers data_bytes spare_bytes pages f = (f.data_bytes == data_bytes) && (f.spare_bytes == spare_bytes) && (f.pages == pages)
+
+-- of those with such areas and so many pages in a block there is one at most: none is told twice
+abbrev pub OnceLaw : Type 0
+OnceLaw = (all : List ℕ) (data_bytes spare_bytes pages : ℕ) → count_by (has_numbers data_bytes spare_bytes pages) (fits_of all) ≤ 1
 
 -- the numbers are those of this geometry, but for the sectors
 pub record IsShapedAs (g : Geometry) (f : Fit) : Type 0 where
@@ -66,6 +77,18 @@ LookedAllLaw = (rows place : ℕ) → rows ≤ 4096 → looked_row rows place �
 -- no row has a greater number than the greatest, and one has it unless it is 0
 abbrev pub GreatestLaw : Type 0
 GreatestLaw = (f : ℕ → ℕ) (rows : ℕ) → ((row : ℕ) → row < rows → f row ≤ greatest f rows) × ((greatest f rows ≡ 0) ⊎ ((row : ℕ) × (row < rows) × (f row ≡ greatest f rows)))
+
+-- What is told has room for what this is a page of, where a page has so many entries: for its sector, for the first sector of its translation
+-- page, or for the blocks before its table page.
+abbrev pub IsWithin : Key → ℕ → Told → Type 0
+IsWithin (Sector n) entries t = n < t.sectors
+IsWithin (Translation n) entries t = n * entries < t.sectors
+IsWithin (Table u) entries t = u * entries ≤ t.blocks
+
+-- what so many rows tell has room for each sound page of them
+abbrev pub WithinLaw : Type 0
+WithinLaw = (data_bytes spare_bytes rows : ℕ) (all : List ℕ) (row : ℕ) (r : Record) → rows * (data_bytes + spare_bytes) ≤ length all → row < rows
+    → look_at data_bytes spare_bytes all row ≡ Sound r → IsWithin (key_of r) (data_bytes / 4) (told_of data_bytes spare_bytes rows all)
 
 -- a die has at least the sectors that are told, where each sound page is of a sector or a translation page that it has
 abbrev pub LowerLaw : Type 0

@@ -1,18 +1,19 @@
 -- What all pages tell of the blocks and the sectors.
-use Rattle.std.specs.Prelude.{ℕ, zero, suc, ◌+◌, ◌*◌, ◌/◌, ◌==◌, ◌||◌, if◌then◌else◌, max, not, List, length, count_by}
+use Rattle.std.specs.Prelude.{ℕ, zero, suc, ◌+◌, ◌*◌, ◌/◌, ◌%◌, ◌==◌, nat_lt, ◌||◌, if◌then◌else◌, max, List, length, count_by}
 use Rattle.std.specs.List.{range_with_len}
 use Rattle.page_layout.specs.declared.record.Kind.{Kind}
 use Rattle.page_layout.specs.declared.record.Kind.TheVariants as kind
-use Rattle.page_layout.specs.Word.{word_at, no_row}
+use Rattle.page_layout.specs.Word.{word_at}
 use Rattle.lab_scan.specs.declared.look.Look.{Look}
 use Rattle.lab_scan.specs.declared.look.Look.TheVariants.{Sound, Erased, Unsound}
 use Rattle.lab_geometry.specs.declared.told.Told.{Told}
 use Rattle.lab_geometry.specs.Pages.{page_at}
 use Rattle.lab_geometry.specs.Sample.{look_at}
 
--- how many words of a data area are not FFFFFFFFh: of a table page these are of blocks, the others of none
+-- How many words of a data area may be of blocks: their low byte is a class, 0 to 2. Words past the last block are FFFFFFFFh.
+-- Law: of a well formed table page these are just the words of its blocks (`TableLaw`).
 unfoldable pub words_used : List ℕ → ℕ
-words_used body = count_by (λ i. not (word_at body (4 * i) == no_row)) (range_with_len 0 (length body / 4))
+words_used body = count_by (λ i. nat_lt (word_at body (4 * i) % 256) 3) (range_with_len 0 (length body / 4))
 
 -- how many blocks a die has at least that has a page of this kind, number and data area: a table page has words of blocks
 abbrev pub blocks_of : Kind → ℕ → List ℕ → ℕ

@@ -163,7 +163,17 @@ fn add_all<D: Dump>(
     Ok(())
 }
 
-/// The geometries that fit a dump, best first.
+/// The geometries that fit a dump, best first, each with what the dump says for it. Looked at are, for each data area and each spare area
+/// that a die may have and whose sum divides the dump's bytes, the pages of at most 4096 rows. Where one of them is sound all pages are
+/// read, for what they tell of the blocks and the sectors, and each number of pages in a block that gives whole blocks is one geometry. Its
+/// sectors are the fewest that the pages tell of. A dump that none fits gives an empty list.
+///
+/// It holds one page, of at most 4352 bytes, and at most 11025 geometries, whatever the dump's size.
+///
+/// # Errors
+///
+/// Each when it happens: `Source` where the dump's size cannot be known or a read of it fails, `OutOfMemory` where a growth was refused.
+/// (This project's rules.)
 pub fn find_geometries<D: Dump>(alloc: Global, dump: &mut D) -> Result<Vec<Fit>, FindFault>
     ensures found { IfOk result (λ fits. (all : List ℕ) → D.bytes dump.old ≡ Some all → IsPermutation (fits_of all) fits.items) }
     ensures ranked { IfOk result (λ fits. IsSorted rank fits.items) }

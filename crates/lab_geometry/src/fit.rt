@@ -19,15 +19,15 @@ pub enum TableSays {
 }
 
 /// A geometry that fits a dump, with what the dump says for it. The best comes first: by the fields in their order, so the one with the most
-/// sound pages, then the one that the table of blocks agrees to, then the one with the fewest unsound pages.
+/// sound pages, then the one that the table of blocks agrees to, then the one with the fewest bytes in unsound pages.
 #[derive(Clone, Copy, Debug, PartialEq, Eq, PartialOrd, Ord)]
 pub struct Fit {
     /// The sound pages of those that were looked at.
     pub sound: Reverse<u32>,
     /// What the table of blocks says of the number of blocks.
     pub table: TableSays,
-    /// The pages that were looked at and are neither sound nor erased.
-    pub unsound: u32,
+    /// The bytes of the pages that were looked at and are neither sound nor erased.
+    pub unsound_bytes: u64,
     /// The bytes of a page's data area.
     pub data_bytes: u32,
     /// The bytes of a page's spare area.
@@ -40,6 +40,8 @@ pub struct Fit {
     pub sectors: u32,
     /// How many pages were looked at.
     pub looked: u32,
+    /// How many of these are neither sound nor erased.
+    pub unsound: u32,
     /// The blocks that the table of blocks has words for, or 0 where there is no sound table page.
     pub blocks_told: u64,
     /// The sectors that the pages tell of, which may be none, or more than a die may have.
@@ -70,16 +72,19 @@ fn sectors_from(told: u64) -> u32
 pub(crate) fn fit_of(geometry: &Geometry, sample: Sample, told: Told) -> Fit
     ensures { result ≡ fit_of geometry.now.data_bytes geometry.now.spare_bytes geometry.now.pages geometry.now.blocks sample told }
 {
+    let data_bytes = geometry.data_bytes() as u32;
+    let spare_bytes = geometry.spare_bytes() as u32;
     Fit {
         sound: Reverse(sample.sound),
         table: table_says(geometry.blocks(), told.blocks),
-        unsound: sample.unsound,
-        data_bytes: geometry.data_bytes() as u32,
-        spare_bytes: geometry.spare_bytes() as u32,
+        unsound_bytes: u64::from(sample.unsound) * u64::from(data_bytes + spare_bytes),
+        data_bytes,
+        spare_bytes,
         pages: geometry.pages(),
         blocks: geometry.blocks(),
         sectors: sectors_from(told.sectors),
         looked: sample.looked,
+        unsound: sample.unsound,
         blocks_told: told.blocks,
         sectors_told: told.sectors,
     }

@@ -13,8 +13,8 @@ use page_layout::geometry::Geometry;
 use page_layout::record::{Kind, Record};
 use page_layout::word::read_word;
 
-// The word of no block.
-const NO_WORD: u32 = 0xffff_ffff;
+// The classes of blocks are below this.
+const CLASSES: u32 = 3;
 
 /// What all sound pages of a dump tell together.
 #[derive(Clone, Copy, Debug, PartialEq, Eq)]
@@ -25,7 +25,7 @@ pub struct Told {
     pub sectors: u64,
 }
 
-// How many words of a data area are not FFFFFFFFh.
+// How many words of a data area may be of blocks: their low byte is a class.
 fn words_used(body: &[u8]) -> u32
     requires { length body.now ≤ 4096 }
     ensures is { result ≡ words_used body.now }
@@ -34,7 +34,7 @@ fn words_used(body: &[u8]) -> u32
     let entries = body.len() as u32 / 4;
     let mut used = 0;
     for i in 0..entries {
-        if read_word(body, i) != NO_WORD {
+        if read_word(body, i) % 256 < CLASSES {
             used += 1;
         }
     }

@@ -34,10 +34,10 @@ same_place Differs Differs = refl
 
 -- the same of the whole order
 same_rank : (x y : Fit) → fit.ghosts.cmp x y ≡ rank x y
-same_rank x y = ap (λ o. ordering_then (nat_cmp y.sound.0 x.sound.0) (ordering_then o (ordering_then (nat_cmp x.unsound y.unsound)
+same_rank x y = ap (λ o. ordering_then (nat_cmp y.sound.0 x.sound.0) (ordering_then o (ordering_then (nat_cmp x.unsound_bytes y.unsound_bytes)
     (ordering_then (nat_cmp x.data_bytes y.data_bytes) (ordering_then (nat_cmp x.spare_bytes y.spare_bytes) (ordering_then (nat_cmp x.pages y.pages)
     (ordering_then (nat_cmp x.blocks y.blocks) (ordering_then (nat_cmp x.sectors y.sectors) (ordering_then (nat_cmp x.looked y.looked)
-    (ordering_then (nat_cmp x.blocks_told y.blocks_told) (nat_cmp x.sectors_told y.sectors_told))))))))))) (same_place x.table y.table)
+    (ordering_then (nat_cmp x.unsound y.unsound) (ordering_then (nat_cmp x.blocks_told y.blocks_told) (nat_cmp x.sectors_told y.sectors_told)))))))))))) (same_place x.table y.table)
 
 pub returns-clause-ranked : goal.returns-clause-ranked
 returns-clause-ranked g c = λ k d zero within.

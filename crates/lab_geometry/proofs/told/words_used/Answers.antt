@@ -1,8 +1,8 @@
-use Rattle.std.proofs.Common.{◌*◌, sym, ◌∙◌, arith, true, false}
-use Rattle.std.proofs.lemmas.Bool.{eq-eqb, ne_eqb}
-use Rattle.page_layout.specs.Word.{word_at, no_row}
+use Rattle.std.proofs.Common.{◌≡◌, ℕ, ◌+◌, ◌*◌, ◌/◌, ◌%◌, ◌<◌, ◌≤◌, sym, ap, ◌∙◌, subst, arith, rules, true, false, length}
+use Rattle.std.proofs.lemmas.Bool.{lt-ltb, le-ltb}
+use Rattle.page_layout.specs.Word.{word_at}
 use Rattle.lab_geometry.proofs.ToldLemmas.{used_more, used_all}
-use Rattle.lab_geometry.proofs.told.words_used.Goals.{then-read_word, else-read_word}
+use Rattle.lab_geometry.proofs.told.words_used.Goals.{then-read_word-lt-CLASSES, else-read_word-lt-CLASSES}
 use Rattle.lab_geometry.proofs.told.words_used.Goals as goal
 
 pub loop-i-preserved : goal.loop-i-preserved
@@ -10,13 +10,16 @@ loop-i-preserved c =
     let inv = c.loop-i.invariant in
     let body = c.args.body.now in
     let i = c.loop-i.i in
-    elim c.if-read_word.branch [
-      | then-read_word w ↦
-          let more = used_more body i c.loop-i.used false inv.used (ne_eqb (word_at body (4 * i)) no_row (λ e. w.if-read_word.true (c.read_word.ensures ∙ e))) in
-          record { few = (let few = inv.few in rw w.used-is (omega arith)); used = w.used-is ∙ more }
-      | else-read_word w ↦
-          let more = used_more body i c.loop-i.used true inv.used (eq-eqb (word_at body (4 * i)) no_row (sym c.read_word.ensures ∙ w.if-read_word.false)) in
-          record { few = (let few = inv.few in rw w.used-is (omega arith)); used = w.used-is ∙ (omega arith ∙ more) }
+    let class : ℕ = word_at body (4 * i) % 256 in
+    elim c.if-read_word-lt-CLASSES.branch [
+      | then-read_word-lt-CLASSES w ↦
+          let few = inv.few in
+          let low : class < 3 = subst (λ (n : ℕ). n % 256 < 3) c.read_word.ensures w.if-read_word-lt-CLASSES.true in
+          record { few = rw w.used-is (omega arith); used = w.used-is ∙ used_more body i c.loop-i.used true inv.used (lt-ltb class 3 low) }
+      | else-read_word-lt-CLASSES w ↦
+          let few = inv.few in
+          let high : 3 ≤ class = subst (λ (n : ℕ). 3 ≤ n % 256) c.read_word.ensures w.if-read_word-lt-CLASSES.false in
+          record { few = rw w.used-is (omega arith); used = w.used-is ∙ (omega arith ∙ used_more body i c.loop-i.used false inv.used (le-ltb class 3 high)) }
     ]
 
 pub returns-clause-is : goal.returns-clause-is
