@@ -1,11 +1,11 @@
 -- Which pages are looked at, and what the pages tell.
-use Rattle.std.proofs.Common.{◌≡◌, ◌≢◌, ◌⊎◌, ℕ, zero, suc, ◌+◌, ◌-◌, ◌*◌, ◌/◌, ◌%◌, ◌<◌, ◌≤◌, List, length, take, drop, refl, sym, ap, ◌∙◌, subst, arith, inl, inr, length-take-le}
+use Rattle.std.proofs.Common.{◌≡◌, ◌⊎◌, ℕ, zero, suc, ◌+◌, ◌-◌, ◌*◌, ◌/◌, ◌%◌, ◌<◌, ◌≤◌, List, length, take, drop, refl, sym, ap, ◌∙◌, subst, arith, inl, inr, length-take-le}
 use Rattle.std.proofs.Common.{true, false, slice_range, Some, le_refl}
-use Rattle.std.specs.Prelude.{◌==◌, max, min, nat_lt}
+use Rattle.std.specs.Prelude.{max, min, nat_lt}
 use Rattle.std.specs.Int.{div_ceil}
 use Rattle.std.proofs.Math.Nat.{mul-div-le, mul-div_cancel_left}
 use Rattle.std.proofs.lemmas.Nat.{div-add-mod', mod_below, row_fits, le-div}
-use Rattle.std.proofs.lemmas.Bool.{eqb-true, cases_lt, cases_eq, ne_eqb, cond_below, cond_above, ltb-true}
+use Rattle.std.proofs.lemmas.Bool.{eqb-true, cases_lt, cases_eq, cond_below, cond_above}
 use Rattle.std.proofs.lemmas.List.{length-drop, take-take, drop-take, drop-drop}
 use Rattle.std.proofs.lemmas.Grind.{div_ceil_times}
 use Rattle.page_layout.specs.declared.geometry.Geometry.{Geometry}
