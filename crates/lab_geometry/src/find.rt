@@ -1,5 +1,5 @@
 //! All geometries that fit a dump.
-ghost use Rattle.std.specs.Prelude.{◌≡◌, ◌++◌, ◌+◌, ◌<◌, ◌≤◌, List, ℕ, All, length, IfOk, OnOk, Some, IsPermutation};
+ghost use Rattle.std.specs.Prelude.{◌≡◌, ◌++◌, ◌+◌, ◌<◌, ◌≤◌, List, ℕ, All, length, IfOk, OnOk, Some, IsPermutation, Err, true};
 ghost use Rattle.std.specs.List.{flat_map};
 ghost use Rattle.std.specs.List.Sorted.{IsSorted};
 ghost use Rattle.page_layout.specs.Limits.{IsDataSize, IsSpareSize, IsPageCount};
@@ -110,6 +110,7 @@ fn add_areas<D: Dump>(
     requires room { 4352 ≤ length page.old }
     ensures added { OnOk result ((all : List ℕ) → D.bytes dump.old ≡ Some all → size ≡ length all → fits.new.items ≡ fits.old.items ++ area_fits all data_bytes spare_bytes) }
     ensures any { OnOk result (Adds 7 fits.old.items fits.new.items) }
+    ensures source { result ≡ Err FindFault.Source → D.failed dump.new ≡ true }
     ensures same { D.bytes dump.new ≡ D.bytes dump.old }
 {
     let Some(geometry) = first_shape(size, data_bytes, spare_bytes) else {
@@ -137,6 +138,7 @@ fn add_data<D: Dump>(
     requires room { 4352 ≤ length page.old }
     ensures added { OnOk result ((all : List ℕ) → D.bytes dump.old ≡ Some all → size ≡ length all → fits.new.items ≡ fits.old.items ++ data_fits all data_bytes) }
     ensures any { OnOk result (Adds 1575 fits.old.items fits.new.items) }
+    ensures source { result ≡ Err FindFault.Source → D.failed dump.new ≡ true }
     ensures same { D.bytes dump.new ≡ D.bytes dump.old }
 {
     for spare_bytes in 32..257 {
@@ -155,6 +157,7 @@ fn add_all<D: Dump>(
     requires { 4352 ≤ length page.old }
     ensures added { OnOk result ((all : List ℕ) → D.bytes dump.old ≡ Some all → size ≡ length all → fits.new.items ≡ fits.old.items ++ fits_of all) }
     ensures any { OnOk result (Adds 11025 fits.old.items fits.new.items) }
+    ensures source { result ≡ Err FindFault.Source → D.failed dump.new ≡ true }
     ensures same { D.bytes dump.new ≡ D.bytes dump.old }
 {
     for data_bytes in data_sizes() {
@@ -179,6 +182,7 @@ pub fn find_geometries<D: Dump>(alloc: Global, dump: &mut D) -> Result<Vec<Fit>,
     ensures ranked { IfOk result (λ fits. IsSorted rank fits.items) }
     ensures possible { IfOk result (λ fits. All IsPossible fits.items) }
     ensures few { IfOk result (λ fits. length fits.items ≤ 11025) }
+    ensures source { result ≡ Err FindFault.Source → D.failed dump.new ≡ true }
     ensures same { D.bytes dump.new ≡ D.bytes dump.old }
 {
     let size = dump.size()?;

@@ -1,5 +1,5 @@
 //! What the pages of some rows are, spread over the dump.
-ghost use Rattle.std.specs.Prelude.{◌≡◌, ◌+◌, ◌*◌, ◌<◌, ◌≤◌, List, ℕ, length, IfOk, Some};
+ghost use Rattle.std.specs.Prelude.{◌≡◌, ◌+◌, ◌*◌, ◌<◌, ◌≤◌, List, ℕ, length, IfOk, Some, OnErr, true};
 ghost use Rattle.page_layout.specs.Geometry.{page_bytes, row_count};
 ghost use Rattle.lab_geometry.specs.Sample.{looked_count, looked_row, noted, sample_of};
 
@@ -72,6 +72,7 @@ pub(crate) fn take_sample<D: Dump>(
     requires { length page.old ≡ page_bytes geometry.now }
     ensures sample { IfOk result (λ sample. (all : List ℕ) → D.bytes dump.old ≡ Some all → sample ≡ sample_of geometry.now.data_bytes geometry.now.spare_bytes (row_count geometry.now) all) }
     ensures few { IfOk result (λ sample. sample.sound + sample.unsound ≤ sample.looked) }
+    ensures failed { OnErr result (D.failed dump.new ≡ true) }
     ensures same { D.bytes dump.new ≡ D.bytes dump.old }
 {
     let rows = geometry.rows();

@@ -1,5 +1,5 @@
 //! What all pages tell of the blocks and the sectors.
-ghost use Rattle.std.specs.Prelude.{◌≡◌, ◌+◌, ◌*◌, ◌/◌, ◌<◌, ◌≤◌, ◌^◌, List, ℕ, length, take, IfOk, Some};
+ghost use Rattle.std.specs.Prelude.{◌≡◌, ◌+◌, ◌*◌, ◌/◌, ◌<◌, ◌≤◌, ◌^◌, List, ℕ, length, take, IfOk, Some, OnErr, true};
 ghost use Rattle.page_layout.specs.Geometry.{page_bytes, row_count};
 ghost use Rattle.lab_scan.specs.Look.{look_of};
 ghost use Rattle.lab_geometry.specs.Pages.{page_in};
@@ -128,6 +128,7 @@ pub(crate) fn read_told<D: Dump>(
 ) -> Result<Told, DumpFault>
     requires { length page.old ≡ page_bytes geometry.now }
     ensures told { IfOk result (λ told. (all : List ℕ) → D.bytes dump.old ≡ Some all → told ≡ told_of geometry.now.data_bytes geometry.now.spare_bytes (row_count geometry.now) all) }
+    ensures failed { OnErr result (D.failed dump.new ≡ true) }
     ensures same { D.bytes dump.new ≡ D.bytes dump.old }
 {
     let mut told = Told {
