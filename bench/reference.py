@@ -484,3 +484,56 @@ def migrate(image, capacity, certificate):
     if answer[0] == "SequenceSpent":
         return raw, "", Refused("migrate", 3, "SequenceSpent")
     return raw, "", Refused("migrate", 2, "ReadOnly", "good", answer[1], "need", answer[2], "failed", answer[3])
+
+
+def looked_rows(rows):
+    """Of so many rows the first sixteen of each of 256 equal parts, or all where they are at most 4096."""
+    if rows <= 4096:
+        return list(range(rows))
+    part = rows // 256
+    return [first * part + i for first in range(256) for i in range(16)]
+
+
+def shapes_of(size, data, spare):
+    """The geometries with such areas, and one sector, of a dump of so many bytes."""
+    rows, rest = divmod(size, data + spare)
+    found = []
+    for pages in (2**k for k in range(2, 9)):
+        try:
+            if rest == 0 and rows % pages == 0:
+                found.append(Geometry(data, spare, pages, rows // pages, 1))
+        except Refused:
+            pass
+    return found
+
+
+def least_of(record, body, entries):
+    """The blocks and the sectors that a die has at least that has this page: words of blocks begin with a class, 0 to 2."""
+    if record.kind == 4:
+        return record.number * entries + sum(body[i] < 3 for i in range(0, len(body), 4)), 0
+    return 0, record.number * entries + 1 if record.kind == 3 else record.number + 1
+
+
+def geometries(raw):
+    """The geometries that fit a dump, best first: data, spare, pages, blocks, sectors, and what is said for each."""
+    found = []
+    for data, spare in ((2**k, spare) for k in range(6, 13) for spare in range(32, 257)):
+        page, shapes = data + spare, shapes_of(len(raw), data, spare)
+        if not shapes:
+            continue
+        rows, entries = len(raw) // page, data // 4
+        pages = {row: raw[row * page : (row + 1) * page] for row in looked_rows(rows)}
+        sound = sum(record_of(p[:data], p[data:]) is not None for p in pages.values())
+        if sound == 0:
+            continue
+        unsound = sum(p != b"\xff" * page for p in pages.values()) - sound
+        bodies = [raw[row * page : row * page + data] for row in range(rows)]
+        records = [record_of(body, raw[row * page + data : (row + 1) * page]) for row, body in enumerate(bodies)]
+        least = [least_of(record, body, entries) for record, body in zip(records, bodies) if record]
+        blocks, sectors = max(b for b, _ in least), max(s for _, s in least)
+        for g in shapes:
+            table = "silent" if blocks == 0 else "agrees" if blocks == g.blocks else "differs"
+            order = (-sound, ["agrees", "silent", "differs"].index(table), unsound * page, data, spare, g.pages)
+            numbers = data, spare, g.pages, g.blocks, min(max(sectors, 1), 1048576)
+            found.append((order, numbers, len(pages), sound, unsound, table, blocks, sectors))
+    return [fit[1:] for fit in sorted(found)]

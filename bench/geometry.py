@@ -1,0 +1,116 @@
+#!/usr/bin/env python3
+"""Holds the geometries that fit a dump, as `lab_geometry` finds them, against the independent reference, on dumps of pseudorandom making;
+with `--time`, times them on a dump of 264 MiB beside `sha256sum`.
+
+    [FIND=..] bench/geometry.py [CASES] [SEED]
+    [FIND=..] bench/geometry.py --time
+
+FIND is a program built of bench/geometry_program.txt over `lab_geometry` (a crate of its own, with `rt run`). It prints a line for each
+geometry, best first. It is counted in how many dumps the dump's own geometry comes first."""
+
+import os
+import random
+import subprocess
+import sys
+import tempfile
+from pathlib import Path
+
+import compare
+import measure
+import reference as ref
+
+FIND = str(Path(os.environ["FIND"]).resolve())
+# Others than those of compare.py: of sizes that many areas divide.
+MORE = [(64, 128, 8, 48, 40), (64, 64, 16, 64, 300), (128, 32, 16, 20, 100), (256, 64, 8, 30, 90), (512, 128, 16, 36, 200)]
+
+
+def lines_of(raw):
+    lines = []
+    for numbers, looked, sound, unsound, table, blocks, sectors in ref.geometries(raw):
+        shape = ",".join(map(str, numbers))
+        lines.append(f"{shape} looked {looked} sound {sound} unsound {unsound} table {table} blocks {blocks} sectors {sectors}\n")
+    return lines
+
+
+def dump_for(rng):
+    g = ref.Geometry(*rng.choice(compare.GEOMETRIES + MORE))
+    image = ref.Image(g, b"\xff" * (g.rows * g.page))
+    if rng.random() < 0.8:
+        compare.tables_of(rng, image)
+    if rng.random() < 0.8:
+        compare.fill(rng, image)
+    for _ in range(rng.choice([0, 0, 10, g.rows // 4])):
+        row = rng.randrange(g.rows)
+        compare.spoil(image, row, rng.randbytes(g.data), image.spare[row])
+    return g, image
+
+
+def has_table(image):
+    """Whether each table page has a sound page, and each such page is well formed."""
+    g = image.g
+    rows = [row for row, record in enumerate(image.records) if record is not None and record.kind == 4]
+    words = [(image.records[row].number * g.entries + i, image.data[row][4 * i : 4 * i + 4]) for row in rows for i in range(g.entries)]
+    formed = all(word[0] < 3 if block < g.blocks else word == b"\xff" * 4 for block, word in words)
+    return formed and {image.records[row].number for row in rows} == set(range(g.tables))
+
+
+def case(rng, folder):
+    """Whether the dump's own geometry comes first, and whether it has a whole table of blocks; none where no page is sound."""
+    g, image = dump_for(rng)
+    raw = image.raw()
+    if rng.random() < 0.1:
+        raw = raw[: rng.randrange(len(raw))]
+    (folder / "dump.bin").write_bytes(raw)
+    done = subprocess.run([FIND, "dump.bin"], cwd=folder, capture_output=True, check=True)
+    want = lines_of(raw)
+    assert done.stdout.decode() == "".join(want), (g.words(), done.stdout.decode(), want)
+    if len(raw) != g.rows * g.page or all(record is None for record in image.records):
+        return None
+    first = want[0].split(" ")[0].split(",")[:4]
+    return first == [str(g.data), str(g.spare), str(g.pages), str(g.blocks)], has_table(image)
+
+
+def large_dump(path, g):
+    """A table, and then three pages of four a sector's, one in eight of them with a bad seal."""
+    rng = random.Random(1)
+    with open(path, "wb") as out:
+        for row in range(g.rows):
+            body = rng.randbytes(g.data)
+            made = ref.Record(1, rng.randrange(g.sectors), row + 1, 1)
+            if row < g.tables:
+                words = [0 if row * g.entries + i < g.blocks else ref.NONE for i in range(g.entries)]
+                body = b"".join(word.to_bytes(4, "little") for word in words)
+                made = ref.Record(4, row, row + 1, 0)
+            spare = ref.spare_of(g, made, body)
+            if row >= g.pages and row // g.pages % 4 == 3:
+                body, spare = b"\xff" * g.data, b"\xff" * g.spare
+            elif row >= g.pages and row % 8 == 0:
+                spare = spare[:30] + bytes([spare[30] ^ 1]) + spare[31:]
+            out.write(body + spare)
+
+
+def times(folder):
+    g = ref.Geometry(2048, 64, 64, 2048, 100000)
+    path = folder / "dump.bin"
+    large_dump(path, g)
+    print(f"dump: {g.words()}, {path.stat().st_size} bytes")
+    for words in [["sha256sum", str(path)], [FIND, str(path)]]:
+        seconds, memory = measure.least(3, words)
+        print(f"{Path(words[0]).name:15} {seconds:7.3f} s {memory:8} KiB")
+    print(subprocess.run([FIND, str(path)], capture_output=True, check=True).stdout.decode(), end="")
+
+
+def main():
+    with tempfile.TemporaryDirectory() as name:
+        folder = Path(name)
+        if sys.argv[1:] == ["--time"]:
+            return times(folder)
+        cases, seed = (int(x) for x in (sys.argv[1:] + ["100", "1"][len(sys.argv) - 1 :])[:2])
+        told = [answer for i in range(cases) if (answer := case(random.Random(f"geometry {seed}.{i}"), folder))]
+        whole = [first for first, has_whole in told if has_whole]
+        print(f"{cases} dumps as the reference. The own geometry is first in {sum(first for first, _ in told)} of {len(told)} with a sound page,")
+        print(f"and in {sum(whole)} of {len(whole)} with a whole table of blocks")
+
+
+if __name__ == "__main__":
+    main()
