@@ -5,7 +5,9 @@
 mod disk;
 mod session;
 
+use disk::{MemoryDisk, zeros};
 use nbd_stream::{End, Export};
+use session::serve_memory;
 use std::process::ExitCode;
 
 // Bytes of the disk, and the most that one request reads or writes.
@@ -14,10 +16,10 @@ const SIZE: usize = 1_048_576;
 const MOST: u32 = 65_536;
 
 fn main(rt: HostRuntime) -> ExitCode {
-    let Ok(mut disk) = vec![in rt.alloc(); 0u8; SIZE] else {
+    let Ok(bytes) = zeros(rt.alloc(), SIZE) else {
         return ExitCode::FAILURE;
     };
-    let Ok(mut buffer) = vec![in rt.alloc(); 0u8; MOST as usize] else {
+    let Ok(mut buffer) = zeros(rt.alloc(), MOST as usize) else {
         return ExitCode::FAILURE;
     };
     let export = Export {
@@ -26,11 +28,11 @@ fn main(rt: HostRuntime) -> ExitCode {
         preferred: 4096,
         maximum: MOST,
     };
-    match session::serve(
+    match serve_memory(
         &mut rt.stdin(),
         &mut rt.stdout(),
+        &mut MemoryDisk::new(bytes),
         &export,
-        &mut disk,
         &mut buffer,
     ) {
         Ok(End::Boundary | End::Disconnected) => ExitCode::SUCCESS,

@@ -5,3 +5,7 @@ pub mod StreamSome
 pub mod OptionReading
 pub mod Negotiating
 pub mod TaskLemmas
+pub mod Asked
+pub mod DiskLemmas
+pub mod RunLemmas
+pub mod Serving

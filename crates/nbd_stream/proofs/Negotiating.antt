@@ -57,11 +57,11 @@ module _ (e : Export) (no_zeroes : Bool) (limit : ℕ) (u v b : Option (List ℕ
 
 -- ---- many
 
-all_more : {X : Type 0} (P : X → Type 0) (xs : List X) (x : X) → AllByRecursion P xs → P x → AllByRecursion P (xs ++ x ∷ [])
+pub all_more : {X : Type 0} (P : X → Type 0) (xs : List X) (x : X) → AllByRecursion P xs → P x → AllByRecursion P (xs ++ x ∷ [])
 all_more P [] x all one = (one, tt)
 all_more P (y ∷ xs) x all one = (all.0, all_more P xs x all.1 one)
 
-map_more : {X : Type 0} (f : X → List ℕ) (xs : List X) (x : X) → flat_map f (xs ++ x ∷ []) ≡ flat_map f xs ++ f x
+pub map_more : {X : Type 0} (f : X → List ℕ) (xs : List X) (x : X) → flat_map f (xs ++ x ∷ []) ≡ flat_map f xs ++ f x
 map_more f [] x = append-nil (f x)
 map_more f (y ∷ xs) x = ap (λ (l : List ℕ). f y ++ l) (map_more f xs x) ∙ sym (append_assoc (f y) (flat_map f xs) (f x))
 

@@ -11,24 +11,24 @@ use Rattle.nbd_stream.specs.declared.task.Task.{Task}
 use Rattle.nbd_stream.specs.declared.task.Task.TheVariants.{Read, Write, Flush, Trim, WriteZeroes}
 use Rattle.nbd_stream.specs.Tasks.{command_from, is_within, is_durable, change_of, admitted_by, HasRange, IsFor, AdmittedLaw}
 
-err_if : (b : Bool) (err : RequestError) (r : Result Task RequestError) (t : Task) → (if b then Err err else r) ≡ Ok t → (b ≡ false) × (r ≡ Ok t)
+pub err_if : (b : Bool) (err : RequestError) (r : Result Task RequestError) (t : Task) → (if b then Err err else r) ≡ Ok t → (b ≡ false) × (r ≡ Ok t)
 err_if true err r t e = (let no : ⊥ = cc in absurd no)
 err_if false err r t e = (refl, e)
 
-ok_if : (b : Bool) (x : Task) (err : RequestError) (t : Task) → (if b then Ok x else Err err) ≡ Ok t → (b ≡ true) × (x ≡ t)
+pub ok_if : (b : Bool) (x : Task) (err : RequestError) (t : Task) → (if b then Ok x else Err err) ≡ Ok t → (b ≡ true) × (x ≡ t)
 ok_if true x err t e = (refl, cc)
 ok_if false x err t e = (let no : ⊥ = cc in absurd no)
 
 both : (a b : Bool) → (a && b) ≡ true → (a ≡ true) × (b ≡ true)
 both a b e = search rules
 
-below : (m n : ℕ) → nat_lt m n ≡ true → m < n
+pub below : (m n : ℕ) → nat_lt m n ≡ true → m < n
 below m n e = search rules
 
-at_most : (m n : ℕ) → nat_le m n ≡ true → m ≤ n
+pub at_most : (m n : ℕ) → nat_le m n ≡ true → m ≤ n
 at_most m n e = search rules
 
-not_below : (m n : ℕ) → nat_lt m n ≡ false → n ≤ m
+pub not_below : (m n : ℕ) → nat_lt m n ≡ false → n ≤ m
 not_below m n e = search rules
 
 range_of : (e : Export) (h : Header) → is_within e h ≡ true → HasRange e h.offset h.count
@@ -37,13 +37,13 @@ range_of e h is =
     record { some = below 0 h.count parts.0; inside = at_most (h.offset + h.count) e.size parts.1 }
 
 -- a change that is asked
-record Changes (e : Export) (h : Header) (most : ℕ) (asked task : Task) : Type 0 where
-  same : asked ≡ task
-  writable : e.read_only ≡ false
-  range : HasRange e h.offset h.count
-  few : h.count ≤ most
+pub record Changes (e : Export) (h : Header) (most : ℕ) (asked task : Task) : Type 0 where
+  pub same : asked ≡ task
+  pub writable : e.read_only ≡ false
+  pub range : HasRange e h.offset h.count
+  pub few : h.count ≤ most
 
-change_sound : (e : Export) (h : Header) (most : ℕ) (past : RequestError) (asked task : Task) → change_of e h most past asked ≡ Ok task → Changes e h most asked task
+pub change_sound : (e : Export) (h : Header) (most : ℕ) (past : RequestError) (asked task : Task) → change_of e h most past asked ≡ Ok task → Changes e h most asked task
 change_sound e h most past asked task is =
     let a = err_if e.read_only NotPermitted _ task is in
     let b = err_if (h.count == 0) Invalid _ task a.1 in

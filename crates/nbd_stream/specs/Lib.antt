@@ -2,3 +2,8 @@ pub mod Frames
 pub mod Options
 pub mod Negotiation
 pub mod Tasks
+-- what a disk is asked, and what it answers
+pub mod Disk
+pub mod Exchanges
+pub mod Runs
+pub mod Transmission

@@ -1,5 +1,6 @@
 //! What a reader would ask of the definitions first. Each function does nothing: its contract is the law.
 ghost use Rattle.nbd_stream.specs.Frames.{OneWayLaw, SomeWayLaw};
+ghost use Rattle.nbd_stream.specs.Runs.{ByteLaw, DoneLaw, KeptLaw, LastsLaw, NothingLostLaw, ReadBackLaw, SetLaw};
 ghost use Rattle.nbd_stream.specs.Tasks.{AdmittedLaw};
 
 /// Every list of bytes is, in just one way, whole requests and a rest. (This project's.)
@@ -12,4 +13,17 @@ pub fn stream_laws()
 /// read-only. (This project's.)
 pub fn task_laws()
     ensures { AdmittedLaw }
+{}
+
+/// What a disk's answers come to. A task that is done leaves each byte of its range as it sets it, and each other as it was: a read gives what
+/// was written, and zeros where a trim or zeroes were. What a flush or a durable change made last is as it was then if the power goes later,
+/// whatever fails between, but for what later requests set. Where no task fails, the answers are those of the array. (This project's.)
+pub fn disk_laws()
+    ensures byte { ByteLaw }
+    ensures read_back { ReadBackLaw }
+    ensures set { SetLaw }
+    ensures lasts { LastsLaw }
+    ensures kept { KeptLaw }
+    ensures nothing_lost { NothingLostLaw }
+    ensures done { DoneLaw }
 {}

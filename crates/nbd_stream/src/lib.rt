@@ -4,17 +4,23 @@
 
 mod answer;
 mod body;
+mod disk;
 mod export;
+mod fault;
 pub mod laws;
 mod negotiation;
 mod option;
 mod reply;
 mod request;
 mod task;
+mod transmission;
 
+pub use disk::Disk;
 pub use export::Export;
+pub use fault::DiskFault;
 pub use negotiation::{Negotiated, negotiate};
 pub use option::{NextOption, OptionHeader, read_option};
 pub use reply::{RequestError, send_reply};
 pub use request::{End, Header, Next, read_request};
 pub use task::{Command, Task, admit};
+pub use transmission::{serve, transmit};

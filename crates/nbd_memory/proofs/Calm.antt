@@ -1,0 +1,25 @@
+-- A session of a disk that holds what it is given and does what it is asked.
+use Rattle.std.proofs.Common.{◌≡◌, inl, inr, ℕ, Bool, true, List, Option, Result, ap, subst}
+use Rattle.request_stream.specs.declared.reply.ServeFault.{ServeFault}
+use Rattle.nbd_stream.specs.declared.export.Export.{Export}
+use Rattle.nbd_stream.specs.declared.request.End.{End}
+use Rattle.nbd_stream.specs.Disk.{Contents}
+use Rattle.nbd_stream.specs.Exchanges.{Exchange, requests_in}
+use Rattle.nbd_stream.specs.Transmission.{Carries, Serves}
+use Rattle.nbd_stream.proofs.RunLemmas.{done_law}
+use Rattle.nbd_memory.specs.Memory.{ServesBytes}
+
+pub of_calm : {D : Type 0} (contents : D → Contents) (honest calm : D → Bool) (e : Export) (limit : ℕ) (old new : D) (u v b a : Option (List ℕ)) (result : Result End ServeFault)
+    → Serves contents honest calm e limit old new u v b a result → honest old ≡ true → calm old ≡ true → ServesBytes e limit (contents old).bytes (contents new).bytes u v b a result
+of_calm contents honest calm e limit old new u v b a result (inl (same, negotiated)) holds does = inl (ap (λ d. (contents d).bytes) same, negotiated)
+of_calm contents honest calm e limit old new u v b a result (inr begun) holds does =
+    let its = begun.transmits in
+    let law = done_law e (contents old) (contents new) its.exchanges (its.run holds) (its.done does) in
+    inr (record {
+      unread' = begun.unread';
+      before' = begun.before';
+      negotiated = begun.negotiated;
+      requests = requests_in its.exchanges;
+      stream = subst (λ (xs : List Exchange). Carries begun.unread' v begun.before' a xs result) law.0 its.stream;
+      left_is = law.1;
+    })

@@ -1,0 +1,27 @@
+use Rattle.std.proofs.Common.{◌≡◌, ℕ, length, refl, sym, subst, rules, inl, inr, Ok}
+use Rattle.std.proofs.lemmas.Result.{err_from_is_err_and}
+use Rattle.nbd_stream.specs.declared.negotiation.Negotiated.TheVariants.{Transmission}
+use Rattle.nbd_stream.specs.Negotiation.{Negotiates}
+use Rattle.nbd_stream.proofs.transmission.serve.Goals as goal
+
+pub returns-in_err-end : goal.returns-in_err-end
+returns-in_err-end g c =
+    let p = err_from_is_err_and c.from_residual.result c.from_residual.ensures.1 in
+    rw (p.1, p.2) (inl (refl, c.in_err-end.ensures))
+
+pub returns-in-Ended : goal.returns-in-Ended
+returns-in-Ended g c =
+    let ended = rw c.in-Ended.is at c.in_ok-end.ensures in
+    inl (refl, ended)
+
+pub returns-in-Transmission : goal.returns-in-Transmission
+returns-in-Transmission g c =
+    let begun = rw c.in-Transmission.is at c.in_ok-end.ensures in
+    let long : length c.transmit.new.buffer ≡ length c.negotiate.new.body = search rules in
+    inr (record {
+      unread' = g.R.Read.remaining c.negotiate.new.reader;
+      before' = g.W.Write.contents c.negotiate.new.writer;
+      negotiated =
+          subst (λ (k : ℕ). Negotiates c.args.export.now k (g.R.Read.remaining c.args.reader.now) (g.R.Read.remaining c.negotiate.new.reader) (g.W.Write.contents c.args.writer.now) (g.W.Write.contents c.negotiate.new.writer) (Ok Transmission)) (sym long) begun;
+      transmits = c.transmit.ensures;
+    })

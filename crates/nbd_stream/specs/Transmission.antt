@@ -1,0 +1,113 @@
+-- A TRANSMISSION: what was read, what the disk was asked and answered, and what was written.
+use Rattle.std.specs.Prelude.{◌≡◌, ◌⊎◌, ℕ, Bool, true, List, [], ◌++◌, length, Option, Some, None, IfSome, Result, Ok, Err}
+use Rattle.std.specs.List.{flat_map, AllByRecursion}
+use Rattle.std.specs.Io.KnownBytes.{Appends, Consumes}
+use Rattle.request_stream.specs.Frames.{AppendsFront, Sends}
+use Rattle.request_stream.specs.declared.reply.ServeFault.{ServeFault}
+use Rattle.request_stream.specs.declared.reply.ServeFault.TheVariants as fault
+use Rattle.nbd_stream.specs.declared.export.Export.{Export}
+use Rattle.nbd_stream.specs.declared.request.End.{End}
+use Rattle.nbd_stream.specs.declared.negotiation.Negotiated.{Negotiated}
+use Rattle.nbd_stream.specs.declared.negotiation.Negotiated.TheVariants.{Transmission, Ended}
+use Rattle.nbd_stream.specs.Frames.{Request, IsRequest, IsBeginning, Rests, Splits, request_bytes}
+use Rattle.nbd_stream.specs.Negotiation.{Negotiates}
+use Rattle.nbd_stream.specs.Disk.{Contents}
+use Rattle.nbd_stream.specs.Exchanges.{Exchange, Tells, ToldEach, reply_in, requests_in}
+use Rattle.nbd_stream.specs.Runs.{Runs, AreDone}
+
+-- ---- the streams
+
+-- these requests were read, and then these bytes
+pub record Reads (unread left : Option (List ℕ)) (requests : List Request) (tail : List ℕ) : Type 0 where
+  pub each : AllByRecursion IsRequest requests
+  pub bytes : Consumes unread left (flat_map request_bytes requests ++ tail)
+
+-- the known bytes that a reader has left
+abbrev pub left_of : Option (List ℕ) → List ℕ
+left_of None = []
+left_of (Some bytes) = bytes
+
+-- WHAT WAS READ AND WRITTEN, by the result. Where the stream ended, its bytes are the requests and the rest that `end` names, and what was
+-- written is their replies, one each, in order. After `Read` what was written answers the requests that were read whole. After `Write` it is a
+-- beginning of the replies.
+abbrev pub Carries : (unread left before after : Option (List ℕ)) → List Exchange → Result End ServeFault → Type 0
+Carries unread left before after xs (Ok end) =
+    (tail : List ℕ) × Reads unread left (requests_in xs) tail × Rests end tail left
+    × Appends before after (flat_map reply_in xs)
+    × IfSome unread (λ input. Splits input (requests_in xs) end (tail ++ left_of left))
+Carries unread left before after xs (Err fault.Read) =
+    (tail : List ℕ) × Reads unread left (requests_in xs) tail × IsBeginning tail × Appends before after (flat_map reply_in xs)
+Carries unread left before after xs (Err fault.Write) = Reads unread left (requests_in xs) [] × AppendsFront before after (flat_map reply_in xs)
+Carries unread left before after xs (Err fault.OutOfMemory) = ⊥
+
+-- THE TRANSMISSION: each request was read, asked of the disk, and answered. Of a disk that holds what it is given the answers are a run of its
+-- array, and one that is calm did all that it was asked.
+pub record Transmits {D : Type 0} (contents : D → Contents) (honest calm : D → Bool) (e : Export) (old new : D)
+    (unread left before after : Option (List ℕ)) (result : Result End ServeFault) : Type 0 where
+  pub exchanges : List Exchange
+  pub each : ToldEach contents honest calm e old exchanges new
+  pub sized : length (contents new).bytes ≡ length (contents old).bytes
+  pub honest_is : honest new ≡ honest old
+  pub calm_is : calm new ≡ calm old
+  pub run : honest old ≡ true → Runs e (contents old) exchanges (contents new)
+  pub done : calm old ≡ true → AreDone e exchanges
+  pub stream : Carries unread left before after exchanges result
+
+-- ---- one request
+
+-- the disk was asked a request, and the reply was written, or a beginning of it
+pub record Replies {D : Type 0} (contents : D → Contents) (honest calm : D → Bool) (e : Export) (old : D) (r : Request) (new : D)
+    (before after : Option (List ℕ)) (result : Result (Unit {0}) ServeFault) : Type 0 where
+  pub exchange : Exchange
+  pub request_is : exchange.request ≡ r
+  pub tells : Tells contents honest calm e old exchange new
+  pub sends : Sends before after (reply_in exchange) result
+
+-- a request was read, the disk was asked it, and its reply was written as this says
+pub record HasServed {D : Type 0} (contents : D → Contents) (honest calm : D → Bool) (e : Export) (old new : D)
+    (unread left : Option (List ℕ)) (writes : List ℕ → Type 0) : Type 0 where
+  pub exchange : Exchange
+  pub whole : IsRequest exchange.request
+  pub read : Consumes unread left (request_bytes exchange.request)
+  pub tells : Tells contents honest calm e old exchange new
+  pub written : writes (reply_in exchange)
+
+-- no request was read whole, the disk is as it was, and nothing was written
+pub record HasEnded {D : Type 0} (old new : D) (unread left before after : Option (List ℕ)) (P : List ℕ → Type 0) : Type 0 where
+  pub tail : List ℕ
+  pub is : P tail
+  pub read : Consumes unread left tail
+  pub same : new ≡ old
+  pub kept : after ≡ before
+
+abbrev pub ServesNext : {D : Type 0} → (D → Contents) → (honest calm : D → Bool) → Export → (old new : D)
+    → (unread left before after : Option (List ℕ)) → Result (Option End) ServeFault → Type 0
+ServesNext contents honest calm e old new unread left before after (Ok None) = HasServed contents honest calm e old new unread left (Appends before after)
+ServesNext contents honest calm e old new unread left before after (Ok (Some end)) =
+    HasEnded old new unread left before after (λ tail. Rests end tail left)
+ServesNext contents honest calm e old new unread left before after (Err fault.Read) = HasEnded old new unread left before after IsBeginning
+ServesNext contents honest calm e old new unread left before after (Err fault.Write) =
+    HasServed contents honest calm e old new unread left (AppendsFront before after)
+ServesNext contents honest calm e old new unread left before after (Err fault.OutOfMemory) = ⊥
+
+-- ---- a whole session
+
+-- a negotiation that came to no transmission
+abbrev pub negotiated_as : Result End ServeFault → Result Negotiated ServeFault
+negotiated_as (Ok end) = Ok (Ended end)
+negotiated_as (Err e) = Err e
+
+-- A NEGOTIATION AND A TRANSMISSION: of the bytes between, so many were read and written by the one
+pub record Begins {D : Type 0} (contents : D → Contents) (honest calm : D → Bool) (e : Export) (limit : ℕ) (old new : D)
+    (unread left before after : Option (List ℕ)) (result : Result End ServeFault) : Type 0 where
+  pub unread' : Option (List ℕ)
+  pub before' : Option (List ℕ)
+  pub negotiated : Negotiates e limit unread unread' before before' (Ok Transmission)
+  pub transmits : Transmits contents honest calm e old new unread' left before' after result
+
+-- A SESSION: a negotiation that came to no transmission, and the disk is as it was; or one that did, and the transmission
+abbrev pub Serves : {D : Type 0} → (D → Contents) → (honest calm : D → Bool) → Export → (limit : ℕ) → (old new : D)
+    → (unread left before after : Option (List ℕ)) → Result End ServeFault → Type 0
+Serves contents honest calm e limit old new unread left before after result =
+    ((new ≡ old) × Negotiates e limit unread left before after (negotiated_as result))
+    ⊎ Begins contents honest calm e limit old new unread left before after result

@@ -1,0 +1,60 @@
+//! What a server asks of a disk.
+use crate::fault::DiskFault;
+use crate::task::Task;
+
+/// A disk of bytes that are read and set by ranges, in the order in which it is asked.
+///
+/// Each method is one `Performs`: what a range holds is what was last set there, and what a change that failed leaves of a byte is
+/// what was there or what was to be. A change may be kept back; one that is `durable`, and each before a flush, is so no longer when the
+/// call is answered.
+///
+/// That is said where the disk is `honest`: it holds what it is given. What a file or another machine holds no contract can name, so a disk over one
+/// is not, and to whoever starts it, that word is the premise.
+pub trait Disk {
+    ghost use Rattle.std.specs.Prelude.{◌≡◌, ◌≤◌, ◌+◌, ℕ, Bool, List, [], length, replicate};
+    ghost use Rattle.nbd_stream.specs.Disk.{Contents, Performs, answer_from};
+
+    /// The bytes that it stands for, and those that it will stand for if the power goes now.
+    ghost contents: { Self → Contents };
+
+    /// Whether it holds what it is given.
+    ghost honest: { Self → Bool };
+
+    /// Whether it does whatever it is asked, without an error.
+    ghost calm: { Self → Bool };
+
+    /// Gives the bytes from an offset on, as many as the buffer has room for.
+    ///
+    /// # Errors
+    ///
+    /// `Failed` where the disk failed: the bytes are as they were.
+    fn read(&mut self, offset: u64, buffer: &mut [u8]) -> Result<(), DiskFault>
+        requires { offset + length buffer.old ≤ length (contents self.old).bytes }
+        ensures { Performs contents honest calm (Task.Read offset (length buffer.old)) [] self.old (answer_from result buffer.new) self.new };
+
+    /// Sets the bytes from an offset on.
+    ///
+    /// # Errors
+    ///
+    /// `ReadOnly` where no change is taken, `Failed` where the disk failed: each byte of the range is as it was or as it was to be.
+    fn write(&mut self, offset: u64, bytes: &[u8], durable: bool) -> Result<(), DiskFault>
+        requires { offset + length bytes.now ≤ length (contents self.old).bytes }
+        ensures { Performs contents honest calm (Task.Write offset (length bytes.now) durable) bytes.now self.old (answer_from result []) self.new };
+
+    /// Sets so many bytes to zeros, from an offset on.
+    ///
+    /// # Errors
+    ///
+    /// As `write`.
+    fn clear(&mut self, offset: u64, count: u32, durable: bool) -> Result<(), DiskFault>
+        requires { offset + count ≤ length (contents self.old).bytes }
+        ensures { Performs contents honest calm (Task.Trim offset count durable) [] self.old (answer_from result []) self.new };
+
+    /// Makes all bytes last.
+    ///
+    /// # Errors
+    ///
+    /// `Failed` where the disk failed: the bytes are as they were, and may not all last.
+    fn flush(&mut self) -> Result<(), DiskFault>
+        ensures { Performs contents honest calm Task.Flush [] self.old (answer_from result []) self.new };
+}

@@ -1,0 +1,165 @@
+//! Requests are asked of a disk and answered, one after another.
+ghost use Rattle.std.specs.Prelude.{◌≡◌, ◌≤◌, ◌+◌, ℕ, List, length, take};
+ghost use Rattle.nbd_stream.specs.Disk.{IsInside, Performs, answer_from, count_given, count_taken};
+ghost use Rattle.nbd_stream.specs.Frames.{IsRequest, request_at};
+ghost use Rattle.nbd_stream.specs.Transmission.{Replies, Serves, ServesNext, Transmits};
+
+use crate::disk::Disk;
+use crate::export::Export;
+use crate::fault::{DiskFault, error_for};
+use crate::negotiation::{Negotiated, negotiate};
+use crate::reply::send_reply;
+use crate::request::{End, Header, Next, read_request};
+use crate::task::{Task, admit};
+use request_stream::ServeFault;
+use std::io::{Read, Write};
+
+// Has the disk do a task. The buffer has at its front the bytes of a write, and takes there those of a read.
+fn perform<D: Disk>(disk: &mut D, task: Task, buffer: &mut [u8]) -> Result<(), DiskFault>
+    requires inside { IsInside (length (D.contents disk.old).bytes) task }
+    requires room { count_taken task + count_given task ≤ length buffer.old }
+    ensures { Performs D.contents D.honest D.calm task (take (count_taken task) buffer.old) disk.old
+        (answer_from result (take (count_given task) buffer.new)) disk.new }
+{
+    match task {
+        Task::Read { offset, count } => disk.read(offset, &mut buffer[..count as usize]),
+        Task::Write {
+            offset,
+            count,
+            durable,
+        } => disk.write(offset, &buffer[..count as usize], durable),
+        Task::Flush => disk.flush(),
+        Task::Trim {
+            offset,
+            count,
+            durable,
+        }
+        | Task::WriteZeroes {
+            offset,
+            count,
+            durable,
+        } => disk.clear(offset, count, durable),
+    }
+}
+
+// The bytes that a task gave, at the front of the buffer.
+fn given_bytes(task: Task, buffer: &[u8]) -> &[u8]
+    requires { count_given task ≤ length buffer.now }
+    ensures { result.now ≡ take (count_given task) buffer.now }
+{
+    match task {
+        Task::Read { count, .. } => &buffer[..count as usize],
+        Task::Write { .. } | Task::Flush | Task::Trim { .. } | Task::WriteZeroes { .. } => &[],
+    }
+}
+
+// Asks the disk what a request asks, and writes the reply. The bytes of a write stand at the front of the buffer.
+fn answer<W: Write, D: Disk>(
+    writer: &mut W,
+    disk: &mut D,
+    export: &Export,
+    header: &Header,
+    buffer: &mut [u8],
+) -> Result<(), ServeFault>
+    requires size { length (D.contents disk.old).bytes ≡ export.now.size }
+    requires room { export.now.maximum ≤ length buffer.old }
+    ensures { (body : List ℕ) → IsRequest (request_at header.now body) →
+        (length body ≤ length buffer.old → body ≡ take (length body) buffer.old) →
+        Replies D.contents D.honest D.calm export.now disk.old (request_at header.now body) disk.new
+        (W.contents writer.old) (W.contents writer.new) result }
+{
+    let task = match admit(export, header) {
+        Ok(task) => task,
+        Err(error) => return send_reply(writer, header.cookie, Err(error), &[]),
+    };
+    match perform(disk, task, buffer) {
+        Ok(()) => send_reply(writer, header.cookie, Ok(()), given_bytes(task, buffer)),
+        Err(fault) => send_reply(writer, header.cookie, Err(error_for(fault)), &[]),
+    }
+}
+
+// Answers the next request, or tells why there is none.
+fn serve_next<R: Read, W: Write, D: Disk>(
+    reader: &mut R,
+    writer: &mut W,
+    disk: &mut D,
+    export: &Export,
+    buffer: &mut [u8],
+) -> Result<Option<End>, ServeFault>
+    requires size { length (D.contents disk.old).bytes ≡ export.now.size }
+    requires room { export.now.maximum ≤ length buffer.old }
+    ensures { ServesNext D.contents D.honest D.calm export.now disk.old disk.new (R.remaining reader.old) (R.remaining reader.new)
+        (W.contents writer.old) (W.contents writer.new) result }
+{
+    match read_request(reader, buffer)? {
+        Next::Ended(end) => Ok(Some(end)),
+        Next::Whole(header) => {
+            answer(writer, disk, export, &header, buffer)?;
+            Ok(None)
+        }
+    }
+}
+
+/// Answers requests one after another, until the client goes, the reader ends, a header is bad, or something fails. It reads no further
+/// than the request at hand, and has the writer hand on each reply before it reads the next request. The buffer has room for the
+/// greatest count that the export tells, and takes what was read: no memory is asked for.
+///
+/// **Each request that was read is answered by one reply, in order, with its cookie. One that asks nothing of a disk as `admit` says is
+/// answered the error that stands there, and the disk is as it was. Each other one is asked of the disk. Where the disk holds what it is
+/// given, the answers are those of an array of bytes: a read that is done gives the bytes of its range, a write that is done stands
+/// in the array, trims and zeroes that are done are zeros there, and a byte that a flush or a durable change made last stays, whatever
+/// fails later, until a request sets it.** `laws::disk_laws` says these of any run.
+///
+/// What was read is these requests and what stands after the last of them, and what was written their replies, of a reader and a
+/// writer that tell their bytes, in whatever pieces these come.
+///
+/// # Errors
+///
+/// - `Read` where a read failed or was interrupted, or 2^64 - 1 requests were answered: what was written answers the requests that
+///   were read whole.
+/// - `Write` where a write failed, was interrupted or took nothing: what was written is a beginning of the replies.
+///
+/// (The NBD protocol, "Transmission".)
+pub fn transmit<R: Read, W: Write, D: Disk>(
+    reader: &mut R,
+    writer: &mut W,
+    disk: &mut D,
+    export: &Export,
+    buffer: &mut [u8],
+) -> Result<End, ServeFault>
+    requires size { length (D.contents disk.old).bytes ≡ export.now.size }
+    requires room { export.now.maximum ≤ length buffer.old }
+    ensures { Transmits D.contents D.honest D.calm export.now disk.old disk.new (R.remaining reader.old) (R.remaining reader.new)
+        (W.contents writer.old) (W.contents writer.new) result }
+{
+    for _ in 0..u64::MAX {
+        match serve_next(reader, writer, disk, export, buffer)? {
+            None => {}
+            Some(end) => return Ok(end),
+        }
+    }
+    Err(ServeFault::Read)
+}
+
+/// Serves a disk to one client: the negotiation, and where the client chooses the export, the transmission.
+///
+/// # Errors
+///
+/// As `negotiate`, and the disk is as it was; or as `transmit`. (The NBD protocol.)
+pub fn serve<R: Read, W: Write, D: Disk>(
+    reader: &mut R,
+    writer: &mut W,
+    disk: &mut D,
+    export: &Export,
+    buffer: &mut [u8],
+) -> Result<End, ServeFault>
+    requires size { length (D.contents disk.old).bytes ≡ export.now.size }
+    requires room { export.now.maximum ≤ length buffer.old }
+    ensures { Serves D.contents D.honest D.calm export.now (length buffer.new) disk.old disk.new (R.remaining reader.old) (R.remaining reader.new)
+        (W.contents writer.old) (W.contents writer.new) result }
+{
+    match negotiate(reader, writer, export, buffer)? {
+        Negotiated::Ended(end) => Ok(end),
+        Negotiated::Transmission => transmit(reader, writer, disk, export, buffer),
+    }
+}

@@ -1,0 +1,6 @@
+// Byte lists in pieces of several lengths.
+mod negotiations;
+mod pieces;
+mod replies;
+mod requests;
+mod transmissions;

@@ -1,0 +1,192 @@
+// Replies, and what a request asks.
+use nbd_stream::{Export, Header, RequestError, Task, admit, send_reply};
+use std::process::Abort;
+use std::test::Fail;
+
+const COOKIE: u64 = 0x0102_0304_0506_0708;
+
+// How a request went, and its reply, where two bytes were read.
+const REPLIES: &[(Result<(), RequestError>, &[u8])] = &[
+    (
+        Ok(()),
+        b"\x67\x44\x66\x98\x00\x00\x00\x00\x01\x02\x03\x04\x05\x06\x07\x08ab",
+    ),
+    (
+        Err(RequestError::NotPermitted),
+        b"\x67\x44\x66\x98\x00\x00\x00\x01\x01\x02\x03\x04\x05\x06\x07\x08",
+    ),
+    (
+        Err(RequestError::InputOutput),
+        b"\x67\x44\x66\x98\x00\x00\x00\x05\x01\x02\x03\x04\x05\x06\x07\x08",
+    ),
+    (
+        Err(RequestError::Invalid),
+        b"\x67\x44\x66\x98\x00\x00\x00\x16\x01\x02\x03\x04\x05\x06\x07\x08",
+    ),
+    (
+        Err(RequestError::NoSpace),
+        b"\x67\x44\x66\x98\x00\x00\x00\x1c\x01\x02\x03\x04\x05\x06\x07\x08",
+    ),
+];
+
+#[test]
+fn replies_by_hand(rt: HostRuntime) -> Result<(), Fail> {
+    for (done, bytes) in REPLIES {
+        let mut out = Vec::new(rt.alloc());
+        let sent = send_reply(&mut out, COOKIE, *done, b"ab");
+        assert!(rt; sent.is_ok());
+        assert!(rt; out.as_slice() == *bytes);
+    }
+    Ok(())
+}
+
+const DISK: Export = Export {
+    size: 1000,
+    read_only: false,
+    preferred: 64,
+    maximum: 100,
+};
+
+// A request's command, flags, offset and count, and what it asks of the disk, and of one that is read-only.
+struct Row {
+    asked: (u16, u16, u64, u32),
+    answer: Result<Task, RequestError>,
+    read_only: Result<Task, RequestError>,
+}
+
+const INVALID: Result<Task, RequestError> = Err(RequestError::Invalid);
+
+const REFUSED: Result<Task, RequestError> = Err(RequestError::NotPermitted);
+
+const ROWS: &[Row] = &[
+    Row {
+        asked: (0, 0, 900, 100),
+        answer: Ok(Task::Read {
+            offset: 900,
+            count: 100,
+        }),
+        read_only: Ok(Task::Read {
+            offset: 900,
+            count: 100,
+        }),
+    },
+    Row {
+        asked: (0, 0, 901, 100),
+        answer: INVALID,
+        read_only: INVALID,
+    },
+    Row {
+        asked: (0, 0, 0, 101),
+        answer: INVALID,
+        read_only: INVALID,
+    },
+    Row {
+        asked: (0, 0, 0, 0),
+        answer: INVALID,
+        read_only: INVALID,
+    },
+    Row {
+        asked: (0, 4, 0, 1),
+        answer: INVALID,
+        read_only: INVALID,
+    },
+    Row {
+        asked: (1, 1, 999, 1),
+        answer: Ok(Task::Write {
+            offset: 999,
+            count: 1,
+            durable: true,
+        }),
+        read_only: REFUSED,
+    },
+    Row {
+        asked: (1, 0, u64::MAX, 100),
+        answer: Err(RequestError::NoSpace),
+        read_only: REFUSED,
+    },
+    Row {
+        asked: (1, 2, 0, 1),
+        answer: INVALID,
+        read_only: INVALID,
+    },
+    Row {
+        asked: (3, 0, 0, 0),
+        answer: Ok(Task::Flush),
+        read_only: Ok(Task::Flush),
+    },
+    Row {
+        asked: (3, 0, 1, 0),
+        answer: INVALID,
+        read_only: INVALID,
+    },
+    Row {
+        asked: (4, 0, 0, 1000),
+        answer: Ok(Task::Trim {
+            offset: 0,
+            count: 1000,
+            durable: false,
+        }),
+        read_only: REFUSED,
+    },
+    Row {
+        asked: (4, 0, 1, 1000),
+        answer: INVALID,
+        read_only: REFUSED,
+    },
+    Row {
+        asked: (6, 3, 0, 1000),
+        answer: Ok(Task::WriteZeroes {
+            offset: 0,
+            count: 1000,
+            durable: true,
+        }),
+        read_only: REFUSED,
+    },
+    Row {
+        asked: (6, 2, 1, 1000),
+        answer: Err(RequestError::NoSpace),
+        read_only: REFUSED,
+    },
+    Row {
+        asked: (6, 4, 0, 1),
+        answer: INVALID,
+        read_only: INVALID,
+    },
+    Row {
+        asked: (5, 0, 0, 1),
+        answer: INVALID,
+        read_only: INVALID,
+    },
+];
+
+// Holds a row.
+fn hold_row(rt: &impl Abort, row: &Row) {
+    let (code, flags, offset, count) = row.asked;
+    let header = Header {
+        flags,
+        code,
+        cookie: COOKIE,
+        offset,
+        count,
+    };
+    let read_only = Export {
+        read_only: true,
+        ..DISK
+    };
+    assert!(rt;
+        admit(&DISK, &header) == row.answer,
+        "{code} {flags} {offset} {count}"
+    );
+    assert!(rt;
+        admit(&read_only, &header) == row.read_only,
+        "{code} {flags} {offset} {count}"
+    );
+}
+
+#[test]
+fn requests_of_a_disk(rt: HostRuntime) -> Result<(), Fail> {
+    for row in ROWS {
+        hold_row(&rt, row);
+    }
+    Ok(())
+}

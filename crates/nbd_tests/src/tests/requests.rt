@@ -1,0 +1,139 @@
+// Streams of requests, with room for eight bytes of a write.
+use super::pieces::Pieces;
+use nbd_stream::{End, Header, Next, read_request};
+use request_stream::ServeFault;
+use std::process::Abort;
+use std::test::Fail;
+
+// A stream, and what its next request is.
+struct Row {
+    name: &'static str,
+    input: &'static [u8],
+    // The read that fails, from 1; 0 for none.
+    failing_read: usize,
+    answer: Result<Next, ServeFault>,
+    // The front of the buffer after it.
+    body: &'static [u8],
+    // The bytes that were not read.
+    left: usize,
+}
+
+const READ: Header = Header {
+    flags: 0,
+    code: 0,
+    cookie: 0x0102_0304_0506_0708,
+    offset: 0x1000,
+    count: 0x200,
+};
+
+const WRITE: Header = Header {
+    flags: 1,
+    code: 1,
+    cookie: 7,
+    offset: 0xffff_ffff_ffff_fffe,
+    count: 3,
+};
+
+const QUIET: Row = Row {
+    name: "",
+    input: b"",
+    failing_read: 0,
+    answer: Ok(Next::Ended(End::Boundary)),
+    body: b"",
+    left: 0,
+};
+
+const ROWS: &[Row] = &[
+    Row {
+        name: "nothing",
+        ..QUIET
+    },
+    Row {
+        name: "a read, and a byte after it",
+        input: b"\x25\x60\x95\x13\x00\x00\x00\x00\x01\x02\x03\x04\x05\x06\x07\x08\x00\x00\x00\x00\x00\x00\x10\x00\x00\x00\x02\x00\x99",
+        answer: Ok(Next::Whole(READ)),
+        left: 1,
+        ..QUIET
+    },
+    Row {
+        name: "a write that lasts, past every end, with its three bytes",
+        input: b"\x25\x60\x95\x13\x00\x01\x00\x01\x00\x00\x00\x00\x00\x00\x00\x07\xff\xff\xff\xff\xff\xff\xff\xfe\x00\x00\x00\x03abc\x25",
+        answer: Ok(Next::Whole(WRITE)),
+        body: b"abc",
+        left: 1,
+        ..QUIET
+    },
+    Row {
+        name: "a write of more than there is room for is read past",
+        input: b"\x25\x60\x95\x13\x00\x01\x00\x01\x00\x00\x00\x00\x00\x00\x00\x07\xff\xff\xff\xff\xff\xff\xff\xfe\x00\x00\x00\x09abcdefghi\x25\x60",
+        answer: Ok(Next::Whole(Header { count: 9, ..WRITE })),
+        left: 2,
+        ..QUIET
+    },
+    Row {
+        name: "a write of four gigabytes of which one byte comes",
+        input: b"\x25\x60\x95\x13\x00\x01\x00\x01\x00\x00\x00\x00\x00\x00\x00\x07\xff\xff\xff\xff\xff\xff\xff\xfe\xff\xff\xff\xffa",
+        answer: Ok(Next::Ended(End::Unfinished)),
+        ..QUIET
+    },
+    Row {
+        name: "an unknown command is a request, with no bytes after it",
+        input: b"\x25\x60\x95\x13\xff\xff\xff\xff\x00\x00\x00\x00\x00\x00\x00\x07\xff\xff\xff\xff\xff\xff\xff\xfe\x00\x00\x00\x03abc",
+        answer: Ok(Next::Whole(Header {
+            flags: 0xffff,
+            code: 0xffff,
+            ..WRITE
+        })),
+        left: 3,
+        ..QUIET
+    },
+    Row {
+        name: "a client that goes, whatever its numbers",
+        input: b"\x25\x60\x95\x13\x00\x01\x00\x02\x00\x00\x00\x00\x00\x00\x00\x07\xff\xff\xff\xff\xff\xff\xff\xfe\x00\x00\x00\x03abc",
+        answer: Ok(Next::Ended(End::Disconnected)),
+        left: 3,
+        ..QUIET
+    },
+    Row {
+        name: "another magic",
+        input: b"\x25\x60\x95\x14\x00\x01\x00\x02\x00\x00\x00\x00\x00\x00\x00\x07\xff\xff\xff\xff\xff\xff\xff\xfe\x00\x00\x00\x03abc",
+        answer: Ok(Next::Ended(End::BadFrame)),
+        left: 3,
+        ..QUIET
+    },
+    Row {
+        name: "27 bytes",
+        input: b"\x25\x60\x95\x14\x00\x01\x00\x02\x00\x00\x00\x00\x00\x00\x00\x07\xff\xff\xff\xff\xff\xff\xff\xfe\x00\x00\x00",
+        answer: Ok(Next::Ended(End::Unfinished)),
+        ..QUIET
+    },
+    Row {
+        name: "a read that fails",
+        input: b"\x25\x60\x95\x13\x00\x00\x00\x00\x01\x02\x03\x04\x05\x06\x07\x08\x00\x00\x00\x00\x00\x00\x10\x00\x00\x00\x02\x00",
+        failing_read: 1,
+        answer: Err(ServeFault::Read),
+        left: 28,
+        ..QUIET
+    },
+];
+
+// Holds a row, its input in pieces of this length.
+fn hold_row(rt: &impl Abort, row: &Row, piece: usize) {
+    let name = row.name;
+    let mut body = [0; 8];
+    let mut reader = Pieces::new(row.input, piece, row.failing_read);
+    let answer = read_request(&mut reader, &mut body);
+    assert!(rt; answer == row.answer, "{name}");
+    assert!(rt; body.starts_with(row.body), "{name}");
+    assert!(rt; reader.left.len() == row.left, "{name}");
+}
+
+#[test]
+fn requests_by_hand(rt: HostRuntime) -> Result<(), Fail> {
+    for row in ROWS {
+        for piece in [1, 5, 64] {
+            hold_row(&rt, row, piece);
+        }
+    }
+    Ok(())
+}
