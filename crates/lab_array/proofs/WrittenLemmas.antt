@@ -42,7 +42,7 @@ array_read g image ps size few read = (array_is g image ps).1 (record {
   each = λ n within. (sector_is g image n (get_or ps n [])).0 (read n within ∙ sym (sector_below g image (row_count g) n size));
 })
 
-pub if_both : {X : Type 0} (o : Option X) (P Q R : X → Type 0) → IfSome o P → IfSome o Q → ((x : X) → P x → Q x → R x) → IfSome o R
+if_both : {X : Type 0} (o : Option X) (P Q R : X → Type 0) → IfSome o P → IfSome o Q → ((x : X) → P x → Q x → R x) → IfSome o R
 if_both None P Q R p q both = tt
 if_both (Some x) P Q R p q both = both x p q
 

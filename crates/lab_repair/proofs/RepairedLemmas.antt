@@ -8,7 +8,7 @@ use Rattle.page_layout.specs.Page.{Page, Image, page}
 use Rattle.page_layout.specs.Raw.{raw_image, bytes_of_page}
 use Rattle.page_layout.proofs.RawLemmas.{length-raw_image}
 use Rattle.lab_scan.specs.Scan.{IsTaken}
-use Rattle.lab_array.proofs.WrittenLemmas.{if_both}
+use Rattle.lab_scan.proofs.ScanLemmas.{if_both}
 use Rattle.lab_repair.specs.declared.repairing.Mend.{Mend}
 use Rattle.lab_scan.specs.PageBytes.{page_of}
 use Rattle.lab_scan.proofs.PageLemmas.{bytes_again}

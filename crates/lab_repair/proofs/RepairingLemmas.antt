@@ -12,7 +12,7 @@ use Rattle.std.proofs.lemmas.Option.{same_Some}
 use Rattle.page_layout.specs.declared.geometry.Geometry.{Geometry}
 use Rattle.page_layout.specs.Geometry.{row_count, page_bytes}
 use Rattle.page_layout.specs.Page.{Page, Image}
-use Rattle.lab_array.proofs.WritingLemmas.{if_more}
+use Rattle.lab_scan.proofs.ScanLemmas.{if_more}
 use Rattle.lab_repair.specs.declared.repairing.Mend.{Mend}
 use Rattle.lab_repair.specs.Mend.{mend_of}
 use Rattle.lab_repair.specs.Repairing.{mend_in, noted, mends_below, piece_of, AreMendedBelow, Shows, named_bit, IsOwn, AreOwn, AreListed, Stands}

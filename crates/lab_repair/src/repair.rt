@@ -4,8 +4,7 @@ ghost use Rattle.page_layout.specs.Geometry.{row_count};
 ghost use Rattle.lab_repair.specs.Repaired.{IsOwnRepair, IsRepaired, IsUnrepaired};
 
 use crate::repairing::{Mend, Repairing};
-use lab_array::Target;
-use lab_scan::{ScanFault, scan};
+use lab_scan::{PageTarget, ScanFault, scan};
 use page_layout::geometry::Geometry;
 use std::alloc::{AllocError, Global};
 use std::io::Read;
@@ -78,7 +77,7 @@ pub struct Repaired<T> {
 /// `Target` where a write failed.
 ///
 /// (This project's rules.)
-pub fn repair_dump<R: Read, T: Target + Drop>(
+pub fn repair_dump<R: Read, T: PageTarget + Drop>(
     alloc: Global,
     reader: &mut R,
     geometry: &Geometry,

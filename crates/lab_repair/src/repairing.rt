@@ -6,8 +6,7 @@ ghost use Rattle.lab_repair.specs.Mend.{mend_of};
 ghost use Rattle.lab_repair.specs.Repairing.{IsOwn, noted, piece_of, Shows, Stands};
 
 use crate::mending::write_mended;
-use lab_array::Target;
-use lab_scan::{Stopped, Taker};
+use lab_scan::{PageTarget, Stopped, Taker};
 use page_layout::geometry::Geometry;
 use std::alloc::AllocError;
 
@@ -44,7 +43,7 @@ fn list_mend(mends: &mut Vec<Mend>, row: u32, bit: Option<u32>) -> Result<(), Al
     }
 }
 
-impl<T: Target> Repairing<T> {
+impl<T: PageTarget> Repairing<T> {
     // Lists the row if this bit was turned of its page, and writes the page.
     fn write(&mut self, geometry: &Geometry, row: u32, bit: Option<u32>) -> Result<(), Stopped>
         requires row_in { row < row_count geometry.now }
@@ -68,7 +67,7 @@ impl<T: Target> Repairing<T> {
     }
 }
 
-impl<T: Target> Taker for Repairing<T> {
+impl<T: PageTarget> Taker for Repairing<T> {
     ghost use Rattle.std.specs.Prelude.{◌≡◌, ◌<◌, ◌+◌, ℕ, length, slice_get, OnOk, Some};
     ghost use Rattle.page_layout.specs.Geometry.{row_count};
     ghost use Rattle.page_layout.specs.Page.{Image, page};
