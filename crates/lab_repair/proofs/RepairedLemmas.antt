@@ -1,22 +1,24 @@
 -- What the pieces and the list are once all pages were taken.
-use Rattle.std.proofs.Common.{◌≡◌, ℕ, ◌<◌, List, [], length, get_or, map, Option, Some, None, refl, sym, ap, ◌∙◌, arith}
+use Rattle.std.proofs.Common.{◌≡◌, ℕ, ◌<◌, List, [], length, get_or, map, Option, Some, None, refl, sym, ap, ◌∙◌, subst, arith}
+use Rattle.std.specs.Prelude.{IsSome}
 use Rattle.std.proofs.lemmas.List.{same_lists, get_or-map, get_or_default, length-map}
 use Rattle.std.proofs.lemmas.Option.{slice_get-get_or}
 use Rattle.page_layout.specs.declared.geometry.Geometry.{Geometry}
 use Rattle.page_layout.specs.Geometry.{row_count, page_bytes}
 use Rattle.page_layout.specs.Page.{Page, Image, page}
 use Rattle.page_layout.specs.Raw.{raw_image, bytes_of_page}
+use Rattle.page_layout.specs.Sound.{record_of}
 use Rattle.page_layout.proofs.RawLemmas.{length-raw_image}
 use Rattle.lab_scan.specs.Scan.{IsTaken}
 use Rattle.lab_scan.proofs.ScanLemmas.{if_both}
 use Rattle.lab_repair.specs.declared.repairing.Mend.{Mend}
-use Rattle.lab_scan.specs.PageBytes.{page_of}
+use Rattle.lab_scan.specs.PageBytes.{page_of, bit_count}
 use Rattle.lab_scan.proofs.PageLemmas.{bytes_again}
 use Rattle.lab_repair.specs.Bits.{turned}
 use Rattle.lab_repair.specs.Mend.{mend_of, mended, turned_if}
-use Rattle.lab_repair.specs.Repairing.{mends_below, piece_of, AreMendedBelow, IsOwn, AreOwn, Shows, Stands}
+use Rattle.lab_repair.specs.Repairing.{mends_below, piece_of, AreMendedBelow, IsOwn, AreOwn, OwnLaw, Shows, Stands}
 use Rattle.lab_repair.specs.Repaired.{IsRepaired}
-use Rattle.lab_repair.proofs.BitLemmas.{turned_twice}
+use Rattle.lab_repair.proofs.BitLemmas.{count_page, count_turned, turned_twice}
 use Rattle.lab_repair.proofs.MendLemmas.{mend_law, mended_by}
 
 -- ---- one page
@@ -40,6 +42,14 @@ mended_own g was now bit named after size = record {
 
 pub mended_piece : (g : Geometry) (was now : List ℕ) → page_of g.data_bytes now ≡ mended (page_of g.data_bytes was) → now ≡ piece_of (page_of g.data_bytes was)
 mended_piece g was now after = sym (bytes_again g.data_bytes now) ∙ ap bytes_of_page after
+
+-- a named row's page, whatever it was
+pub own_law : OwnLaw
+own_law g piece k h =
+    let q : Page = page_of g.data_bytes piece in
+    let mend = (mend_law (turned q k) k).0 h.bit_is in
+    let within : k < bit_count q = subst (λ n. k < n) (count_turned q k) mend.within in
+    (subst (λ (p : Page). IsSome (record_of p)) (turned_twice q k within) mend.sound, subst (λ n. k < n) (count_page g.data_bytes piece) within)
 
 -- ---- all of them
 

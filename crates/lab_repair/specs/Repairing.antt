@@ -1,12 +1,13 @@
 -- What is written and listed while the pages are taken.
-use Rattle.std.specs.Prelude.{◌≡◌, ℕ, ◌<◌, ◌==◌, if◌then◌else◌, All, List, [], ◌∷◌, ◌++◌, length, get_or, slice_get, Option, Some, None, option_map, IfSome}
+use Rattle.std.specs.Prelude.{◌≡◌, ℕ, ◌<◌, ◌==◌, if◌then◌else◌, All, List, [], ◌∷◌, ◌++◌, length, get_or, slice_get, Option, Some, None, option_map, IfSome, IsSome}
 use Rattle.std.specs.List.{range_with_len, filter_map, AllPairs}
 use Rattle.page_layout.specs.declared.geometry.Geometry.{Geometry}
 use Rattle.page_layout.specs.Geometry.{row_count, page_bytes}
 use Rattle.page_layout.specs.Page.{Page, Image}
 use Rattle.page_layout.specs.Raw.{bytes_of_page}
+use Rattle.page_layout.specs.Sound.{record_of}
 use Rattle.lab_repair.specs.declared.repairing.Mend.{Mend}
-use Rattle.lab_scan.specs.PageBytes.{page_of}
+use Rattle.lab_scan.specs.PageBytes.{page_of, bits_of}
 use Rattle.lab_repair.specs.Mend.{mend_of, mended, turned_if}
 
 -- ---- of an image
@@ -65,3 +66,9 @@ pub record Stands (g : Geometry) (rows : ℕ) (mends : List Mend) (scratch : Lis
   pub scratch_size : length scratch ≡ page_bytes g
   pub listed : AreListed rows mends
   pub own : IfSome pieces (AreOwn g rows mends)
+
+-- ---- law
+
+-- Whatever the reader gave, the page of a row that the list names is sound, and the bit is one of its bits.
+abbrev pub OwnLaw : Type 0
+OwnLaw = (g : Geometry) (piece : List ℕ) (k : ℕ) → IsOwn g (Some k) piece → IsSome (record_of (page_of g.data_bytes piece)) × (k < bits_of piece)

@@ -1,6 +1,7 @@
 //! What the definitions come to.
 ghost use Rattle.lab_repair.specs.Bits.{TurnedLaw};
 ghost use Rattle.lab_repair.specs.Mend.{AgainLaw, KeptLaw, MendLaw, MendedLaw};
+ghost use Rattle.lab_repair.specs.Repairing.{OwnLaw};
 
 /// A page with a bit turned differs in that bit and in no other.
 pub fn turned_law()
@@ -25,4 +26,9 @@ pub fn kept_law()
 /// A mended page is mended no further.
 pub fn again_law()
     ensures { AgainLaw }
+{}
+
+/// Whatever the reader gave, the page of a row that the list names is sound.
+pub fn own_law()
+    ensures { OwnLaw }
 {}

@@ -7,6 +7,6 @@ mod mending;
 mod repair;
 mod repairing;
 
-pub use laws::{again_law, kept_law, mend_law, mended_law, turned_law};
+pub use laws::{again_law, kept_law, mend_law, mended_law, own_law, turned_law};
 pub use repair::{RepairFault, Repaired, repair_dump};
 pub use repairing::{Mend, Repairing};
