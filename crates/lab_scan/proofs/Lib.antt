@@ -1,1 +1,2 @@
+pub mod PageLemmas
 pub mod ScanLemmas

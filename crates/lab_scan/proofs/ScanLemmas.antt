@@ -24,6 +24,14 @@ pub if_all : {X : Type 0} (o : Option X) (P : X → Type 0) → ((x : X) → P x
 if_all None P h = tt
 if_all (Some x) P h = h x
 
+pub if_more : {X : Type 0} (o : Option X) (P Q : X → Type 0) → IfSome o P → ((x : X) → P x → Q x) → IfSome o Q
+if_more None P Q h more = tt
+if_more (Some x) P Q h more = more x h
+
+pub if_both : {X : Type 0} (o : Option X) (P Q R : X → Type 0) → IfSome o P → IfSome o Q → ((x : X) → P x → Q x → R x) → IfSome o R
+if_both None P Q R p q both = tt
+if_both (Some x) P Q R p q both = both x p q
+
 pub err_map : {X Y : Type 0} (P Q : Y → Type 0) (r : Result X Y) → ((y : Y) → P y → Q y) → IfErr r P → IfErr r Q
 err_map P Q (Ok a) more h = tt
 err_map P Q (Err x) more h = more x h

@@ -3,7 +3,11 @@
 #![tactic(auto)]
 
 mod look;
+mod page_bytes;
 mod pages;
+mod target;
 
 pub use look::{Look, look_at, look_with};
-pub use pages::{ScanFault, Stopped, Taker, scan};
+pub use page_bytes::{is_broken, is_sound, join_page};
+pub use pages::{Cut, ScanFault, Stopped, Taker, expect_end, fill, scan};
+pub use target::{PageFault, PageTarget};

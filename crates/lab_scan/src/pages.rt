@@ -72,12 +72,12 @@ pub trait Taker {
         ensures shows { OnOk result ((image : Image) → shows self.old geometry.now row image → slice_get image row ≡ Some (page body.now spare.now) → shows self.new geometry.now (row + 1) image) };
 }
 
-// Why a buffer was not filled.
+/// Why a buffer was not filled.
 #[derive(Clone, Copy, Debug, PartialEq, Eq)]
-pub(crate) enum Cut {
-    // the reader's bytes ended
+pub enum Cut {
+    /// The reader's bytes ended.
     Ended,
-    // a read failed, or was interrupted
+    /// A read failed, or was interrupted.
     Failed,
 }
 
@@ -94,8 +94,13 @@ impl From<Cut> for ScanFault {
     }
 }
 
-// Fills the buffer from the reader, and reads no further.
-fn fill<R: Read>(reader: &mut R, buffer: &mut [u8]) -> Result<(), Cut>
+/// Fills the buffer from the reader, and reads no further.
+///
+/// # Errors
+///
+/// `Ended` where the reader's bytes ended before the buffer was full, `Failed` where a read failed or was interrupted. The buffer then holds
+/// anything, and the reader gave fewer bytes than the buffer has. (This project's rules.)
+pub fn fill<R: Read>(reader: &mut R, buffer: &mut [u8]) -> Result<(), Cut>
     ensures whole { OnOk result (Consumes (R.remaining reader.old) (R.remaining reader.new) buffer.new) }
     ensures cut { IfErr result (IsCut (length buffer.new) (R.remaining reader.old) (R.remaining reader.new)) }
 {
@@ -142,9 +147,13 @@ fn take_pages<R: Read, T: Taker>(
     Ok(())
 }
 
-// No byte is left. One is asked for at most.
+/// Sees that no byte is left. One is asked for at most.
+///
+/// # Errors
+///
+/// `WrongLength` where a byte is left, `Source` where a read failed or was interrupted. (This project's rules.)
 #[tactic(auto, using(crate::proofs::ScanLemmas::end_of_cut, crate::proofs::ScanLemmas::one_more))]
-fn expect_end<R: Read>(reader: &mut R) -> Result<(), ScanFault>
+pub fn expect_end<R: Read>(reader: &mut R) -> Result<(), ScanFault>
     ensures ok { OnOk result (IsAtEnd (R.remaining reader.old)) }
     ensures err { IfErr result (λ fault. (fault ≡ faults.Source) ⊎ ((fault ≡ faults.WrongLength) × HasMore (R.remaining reader.old))) }
 {

@@ -1,0 +1,4 @@
+pub mod BitLemmas
+pub mod MendLemmas
+pub mod RepairingLemmas
+pub mod RepairedLemmas

@@ -1,0 +1,164 @@
+-- What one page more makes of the list and of the pieces.
+use Rattle.std.proofs.Common.{◌≡◌, ◌≢◌, inl, inr, ℕ, ◌+◌, ◌<◌, true, false, cond, eqb, List, [], ◌∷◌, ◌++◌, length, get_or, set, Option, Some, None, IfSome, refl, sym, ap, ◌∙◌, subst, arith, append-nil}
+use Rattle.std.specs.Prelude.{All, slice_get, option_map}
+use Rattle.std.specs.List.{range_with_len, filter_map, cons_option}
+use Rattle.std.proofs.lemmas.Bool.{cases_eq, cases_Bool}
+use Rattle.std.proofs.lemmas.Bool.Decides.{nat_tests}
+use Rattle.std.proofs.lemmas.List.{get_or-set_same, get_or-set_other, length-set, map-id}
+use Rattle.std.proofs.lemmas.List.Elements.{All-nil, All-push, All-weaker, All-head, All-tail}
+use Rattle.std.proofs.lemmas.List.Quantifiers.{all_pairs_push}
+use Rattle.std.proofs.lemmas.List.FromFn.{map-range_with_len_more}
+use Rattle.std.proofs.lemmas.Option.{same_Some}
+use Rattle.page_layout.specs.declared.geometry.Geometry.{Geometry}
+use Rattle.page_layout.specs.Geometry.{row_count, page_bytes}
+use Rattle.page_layout.specs.Page.{Page, Image}
+use Rattle.lab_scan.proofs.ScanLemmas.{if_more}
+use Rattle.lab_repair.specs.declared.repairing.Mend.{Mend}
+use Rattle.lab_repair.specs.Mend.{mend_of}
+use Rattle.lab_repair.specs.Repairing.{mend_in, noted, mends_below, piece_of, AreMendedBelow, Shows, named_bit, IsOwn, AreOwn, AreListed, Stands}
+
+-- ---- the list of an image
+
+cons_append : (o : Option Mend) (xs ys : List Mend) → cons_option o (xs ++ ys) ≡ cons_option o xs ++ ys
+cons_append None xs ys = refl
+cons_append (Some m) xs ys = refl
+
+filter_push : (h : ℕ → Option Mend) (xs : List ℕ) (y : ℕ) → filter_map h (xs ++ y ∷ []) ≡ filter_map h xs ++ cons_option (h y) []
+filter_push h [] y = refl
+filter_push h (x ∷ xs) y = ap (cons_option (h x)) (filter_push h xs y) ∙ cons_append (h x) (filter_map h xs) (cons_option (h y) [])
+
+range_more : (n : ℕ) → range_with_len 0 (n + 1) ≡ range_with_len 0 n ++ n ∷ []
+range_more n =
+    sym (map-id (range_with_len 0 (n + 1)))
+    ∙ (map-range_with_len_more (λ (k : ℕ). k) 0 n n (omega arith) ∙ ap (λ xs. xs ++ n ∷ []) (map-id (range_with_len 0 n)))
+
+noted_is : (ms : List Mend) (row : ℕ) (o : Option ℕ) → ms ++ cons_option (option_map (λ k. record { row = row; bit = k }) o) [] ≡ noted ms row o
+noted_is ms row None = append-nil ms
+noted_is ms row (Some k) = refl
+
+pub mends_more : (image : Image) (row : ℕ) (p : Page) → slice_get image row ≡ Some p → mends_below image (row + 1) ≡ noted (mends_below image row) row (mend_of p)
+unfolding mends_below
+mends_more image row p at =
+    let h : ℕ → Option Mend = λ r. mend_in r (slice_get image r) in
+    ap (filter_map h) (range_more row)
+    ∙ (filter_push h (range_with_len 0 row) row
+    ∙ (ap (λ q. filter_map h (range_with_len 0 row) ++ cons_option (mend_in row q) []) at ∙ noted_is (filter_map h (range_with_len 0 row)) row (mend_of p)))
+
+pub mends_none : (image : Image) → mends_below image 0 ≡ []
+unfolding mends_below
+mends_none image = refl
+
+-- ---- the bit that a list names of a row
+
+differ_eqb : (a b : ℕ) → a ≢ b → eqb a b ≡ false
+differ_eqb a b ne = grind (arith, nat_tests)
+
+same_eqb : (a : ℕ) → eqb a a ≡ true
+same_eqb a = grind (arith, nat_tests)
+
+pub named_none : (ms : List Mend) (row : ℕ) → All (λ m. m.row < row) ms → named_bit ms row ≡ None
+named_none [] row h = refl
+named_none (m ∷ ms) row h =
+    let less : m.row < row = All-head (λ (x : Mend). x.row < row) m ms h in
+    let other : eqb m.row row ≡ false = differ_eqb m.row row (λ e. (omega arith)) in
+    ap (λ b. cond b (Some m.bit) (named_bit ms row)) other ∙ named_none ms row (All-tail (λ (x : Mend). x.row < row) m ms h)
+
+named_push_same : (ms : List Mend) (row k : ℕ) → named_bit ms row ≡ None → named_bit (ms ++ record { row = row; bit = k } ∷ []) row ≡ Some k
+named_push_same [] row k e = ap (λ b. cond b (Some k) None) (same_eqb row)
+named_push_same (m ∷ ms) row k e = elim (cases_Bool (eqb m.row row)) [
+  | inl is ↦ absurd (let said : Some m.bit ≡ None = sym (ap (λ b. cond b (Some m.bit) (named_bit ms row)) is) ∙ e in cc)
+  | inr is ↦
+      ap (λ b. cond b (Some m.bit) (named_bit (ms ++ record { row = row; bit = k } ∷ []) row)) is
+      ∙ named_push_same ms row k (sym (ap (λ b. cond b (Some m.bit) (named_bit ms row)) is) ∙ e)
+]
+
+named_push_other : (ms : List Mend) (row k j : ℕ) → row ≢ j → named_bit (ms ++ record { row = row; bit = k } ∷ []) j ≡ named_bit ms j
+named_push_other [] row k j ne = ap (λ b. cond b (Some k) None) (differ_eqb row j ne)
+named_push_other (m ∷ ms) row k j ne = ap (cond (eqb m.row j) (Some m.bit)) (named_push_other ms row k j ne)
+
+pub named_same : (ms : List Mend) (row : ℕ) (o : Option ℕ) → All (λ m. m.row < row) ms → named_bit (noted ms row o) row ≡ o
+named_same ms row None h = named_none ms row h
+named_same ms row (Some k) h = named_push_same ms row k (named_none ms row h)
+
+pub named_other : (ms : List Mend) (row j : ℕ) (o : Option ℕ) → row ≢ j → named_bit (noted ms row o) j ≡ named_bit ms j
+named_other ms row j None ne = refl
+named_other ms row j (Some k) ne = named_push_other ms row k j ne
+
+-- ---- one row more
+
+wider : (row : ℕ) (ms : List Mend) → All (λ m. m.row < row) ms → All (λ m. m.row < row + 1) ms
+wider row ms h = All-weaker (λ (m : Mend). m.row < row) (λ (m : Mend). m.row < row + 1) (λ m l. (omega arith)) ms h
+
+pub listed_noted : (ms : List Mend) (row : ℕ) (o : Option ℕ) → AreListed row ms → AreListed (row + 1) (noted ms row o)
+listed_noted ms row None h = record { within = wider row ms h.within; rising = h.rising }
+listed_noted ms row (Some k) h =
+    let m : Mend = record { row = row; bit = k } in
+    record {
+      within = All-push (λ (x : Mend). x.row < row + 1) ms m (wider row ms h.within) (omega arith);
+      rising = all_pairs_push (λ (a b : Mend). a.row < b.row) ms m h.rising h.within;
+    }
+
+pub own_noted : (g : Geometry) (row : ℕ) (ms : List Mend) (o : Option ℕ) (piece : List ℕ) (ps : List (List ℕ)) → row < row_count g → AreListed row ms → IsOwn g o piece → AreOwn g row ms ps → AreOwn g (row + 1) (noted ms row o) (set ps row piece)
+own_noted g row ms o piece ps within listed own h = record {
+  size = length-set ps row piece ∙ h.size;
+  each = λ j l. elim (cases_eq row j) [
+    | inl same ↦
+        subst (λ x. IsOwn g (named_bit (noted ms row o) x) (get_or (set ps row piece) x [])) same
+        (subst (λ x. IsOwn g x (get_or (set ps row piece) row [])) (sym (named_same ms row o listed.within))
+        (subst (λ x. IsOwn g o x) (sym (get_or-set_same ps row piece [] (let size = h.size in omega arith))) own))
+    | inr ne ↦
+        subst (λ x. IsOwn g x (get_or (set ps row piece) j [])) (sym (named_other ms row j o ne))
+        (subst (λ x. IsOwn g (named_bit ms j) x) (sym (get_or-set_other ps row j piece [] (λ e. ne (sym e)))) (h.each j (omega arith)))
+  ];
+}
+
+pub mended_more : (image : Image) (row : ℕ) (p : Page) (ps : List (List ℕ)) → slice_get image row ≡ Some p → row < length ps → AreMendedBelow image row ps → AreMendedBelow image (row + 1) (set ps row (piece_of p))
+mended_more image row p ps at inside h j q l is = elim (cases_eq row j) [
+  | inl same ↦
+      let page : p ≡ q = same_Some p q (sym at ∙ (ap (slice_get image) same ∙ is)) in
+      ap (λ x. get_or (set ps row (piece_of p)) x []) (sym same) ∙ (get_or-set_same ps row (piece_of p) [] inside ∙ ap piece_of page)
+  | inr ne ↦ get_or-set_other ps row j (piece_of p) [] (λ e. ne (sym e)) ∙ h j q (omega arith) is
+]
+
+if_set : (pieces : Option (List (List ℕ))) (P Q : List (List ℕ) → Type 0) (row : ℕ) (piece : List ℕ) → IfSome pieces P → ((ps : List (List ℕ)) → P ps → Q (set ps row piece)) → IfSome (option_map (λ ps. set ps row piece) pieces) Q
+if_set None P Q row piece h more = tt
+if_set (Some ps) P Q row piece h more = more ps h
+
+pub stands_more : (g : Geometry) (row : ℕ) (ms : List Mend) (o : Option ℕ) (scratch : List ℕ) (pieces : Option (List (List ℕ))) → row < row_count g → Stands g row ms scratch pieces → IsOwn g o scratch
+    → Stands g (row + 1) (noted ms row o) scratch (option_map (λ ps. set ps row scratch) pieces)
+stands_more g row ms o scratch pieces within h own = record {
+  scratch_size = h.scratch_size;
+  listed = listed_noted ms row o h.listed;
+  own = if_set pieces (AreOwn g row ms) (AreOwn g (row + 1) (noted ms row o)) row scratch h.own (λ ps each. own_noted g row ms o scratch ps within h.listed own each);
+}
+
+both_set : (pieces : Option (List (List ℕ))) (P Q R : List (List ℕ) → Type 0) (row : ℕ) (piece : List ℕ) → IfSome pieces P → IfSome pieces Q → ((ps : List (List ℕ)) → P ps → Q ps → R (set ps row piece)) → IfSome (option_map (λ ps. set ps row piece) pieces) R
+both_set None P Q R row piece p q more = tt
+both_set (Some ps) P Q R row piece p q more = more ps p q
+
+pub shows_more : (g : Geometry) (row : ℕ) (image : Image) (p : Page) (ms : List Mend) (scratch : List ℕ) (pieces : Option (List (List ℕ))) → row < row_count g → Stands g row ms scratch pieces → Shows row image ms pieces
+    → slice_get image row ≡ Some p → scratch ≡ piece_of p → Shows (row + 1) image (noted ms row (mend_of p)) (option_map (λ ps. set ps row scratch) pieces)
+shows_more g row image p ms scratch pieces within stands h at is = record {
+  mends_are = ap (λ xs. noted xs row (mend_of p)) h.mends_are ∙ sym (mends_more image row p at);
+  pieces_are = both_set pieces (AreOwn g row ms) (AreMendedBelow image row) (AreMendedBelow image (row + 1)) row scratch stands.own h.pieces_are
+      (λ ps own each. subst (λ x. AreMendedBelow image (row + 1) (set ps row x)) (sym is) (mended_more image row p ps at (let size = own.size in omega arith) each));
+}
+
+-- ---- before the first page
+
+pub stands_first : (g : Geometry) (scratch : List ℕ) (pieces : Option (List (List ℕ))) → length scratch ≡ page_bytes g → IfSome pieces (λ ps. length ps ≡ row_count g) → Stands g 0 [] scratch pieces
+stands_first g scratch pieces size whole = record {
+  scratch_size = size;
+  listed = record { within = All-nil (λ (m : Mend). m.row < 0); rising = λ i j d l k. absurd (omega arith) };
+  own = if_more pieces (λ ps. length ps ≡ row_count g) (AreOwn g 0 []) whole (λ ps all. record { size = all; each = λ row l. absurd (omega arith) });
+}
+
+pub shows_first : (image : Image) (pieces : Option (List (List ℕ))) → Shows 0 image [] pieces
+shows_first image pieces = record {
+  mends_are = sym (mends_none image);
+  pieces_are = all pieces;
+}
+  where
+    all : (o : Option (List (List ℕ))) → IfSome o (AreMendedBelow image 0)
+    all None = tt
+    all (Some ps) = λ row p l is. absurd (omega arith)
