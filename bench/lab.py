@@ -143,6 +143,110 @@ def survey_case(rng, folder):
     assert [p.name for p in folder.iterdir()] == ["dump.bin"]
 
 
+def erase(rng, image, block, passed):
+    """An erase of a block; one that fails leaves each page as it was, or no sound one."""
+    g = image.g
+    for row in range(block * g.pages, block * g.pages + g.pages):
+        if passed:
+            compare.spoil(image, row, b"\xff" * g.data, b"\xff" * g.spare)
+        elif rng.random() < 0.5:
+            compare.spoil(image, row, rng.randbytes(g.data), rng.randbytes(g.spare))
+
+
+def go_on(rng, image, sequence):
+    """What a device may do: programs with the next sequences, and erases of blocks with no newest page, each passed or failed."""
+    g = image.g
+    for _ in range(rng.choice([0, 5, 40])):
+        keys = {x.key() for x in image.records if x is not None}
+        live = {image.newest(*key) // g.pages for key in keys}
+        dead = [b for b in range(g.blocks) if b not in live]
+        free = [r for r in range(g.rows) if image.erased[r]]
+        if dead and (not free or rng.random() < 0.3):
+            erase(rng, image, rng.choice(dead), rng.random() < 0.8)
+        elif free and sequence < 2**64:
+            row = rng.choice(free)
+            made = compare.record(rng, g, sequence)
+            made.number %= {"sector": g.sectors, "translation": g.translation, "table": g.tables}[made.key()[0]]
+            if rng.random() < 0.9:
+                image.put(row, made, compare.data_for(rng, g, made.kind))
+            else:
+                compare.spoil(image, row, rng.randbytes(g.data), rng.randbytes(g.spare))
+            sequence += rng.choice([1, 1, 1, 3])
+
+
+def lose(rng, image):
+    """Some pages are lost, and now and then one of an older sequence comes up."""
+    g = image.g
+    for _ in range(rng.choice([1, 1, 3, 10])):
+        sound = [r for r, x in enumerate(image.records) if x is not None]
+        if sound:
+            row = rng.choice(sound)
+            compare.spoil(image, row, image.data[row], rng.choice([b"\xff" * g.spare, rng.randbytes(g.spare)]))
+    if sound and rng.random() < 0.3:
+        made = image.records[rng.choice(sound)]
+        if made is not None:
+            image.put(rng.randrange(g.rows), made, compare.data_for(rng, g, made.kind))
+
+
+def lost_of(image, certificate):
+    """The sectors that have lost a page since the certificate was made."""
+    lost = []
+    for n in range(image.g.sectors):
+        rows = image.of_key("sector", n)
+        row = None if key_state(image, "sector", n) == "tied" else image.newest("sector", n)
+        said = certificate.sectors[n]
+        is_there = row == said if row is not None else said is None and not rows
+        is_since = row is not None and image.records[row].sequence >= certificate.next
+        if not is_there and not is_since:
+            lost.append(n)
+    return lost
+
+
+def mountable(rng):
+    """An image that mounts, and its certificate."""
+    while True:
+        g = ref.Geometry(*rng.choice(compare.GEOMETRIES))
+        image = ref.Image(g, b"\xff" * (g.rows * g.page))
+        compare.tables_of(rng, image)
+        compare.fill(rng, image)
+        try:
+            return g, image, ref.mount(image, 65536)[0]
+        except ref.Refused:
+            pass
+
+
+def compare_case(rng, folder):
+    g, image, raw = mountable(rng)
+    certificate = ref.Certificate(raw)
+    go_on(rng, image, certificate.next)
+    assert lost_of(image, certificate) == [], g.words()
+    if rng.random() < 0.7:
+        lose(rng, image)
+    if rng.random() < 0.2:
+        raw = compare.spoiled_certificate(rng, g, raw)
+    asked = other_shape(rng, g) if rng.random() < 0.1 else g
+    dump = image.raw()
+    if rng.random() < 0.1:
+        dump = rng.choice([dump[: rng.randrange(len(dump))], dump + b"\0"])
+    (folder / "dump.bin").write_bytes(dump)
+    (folder / "die.cert").write_bytes(raw)
+    answer = run(["compare", asked.words(), "die.cert", "dump.bin"], folder)
+    try:
+        certificate = ref.Certificate(raw)
+        if certificate.g.words() != asked.words():
+            want = (1, "", "refused compare 1 GeometryDiffers\n")
+        elif len(dump) != g.rows * g.page:
+            want = (1, "", "refused image 1 WrongLength\n")
+        else:
+            told = "".join(f"lost sector {n}\n" for n in lost_of(image, certificate))
+            want = (0, told + age_line(image), "")
+    except ref.Refused as refused:
+        want = (1, "", refused.line)
+    assert answer == want, (asked.words(), answer, want)
+    (folder / "die.cert").unlink()
+    assert [p.name for p in folder.iterdir()] == ["dump.bin"]
+
+
 def dump_for(rng):
     g = ref.Geometry(*rng.choice(compare.GEOMETRIES))
     image = ref.Image(g, b"\xff" * (g.rows * g.page))
@@ -203,6 +307,12 @@ def refusals(folder):
         (["survey", "64,32,8,32,32", "none.bin"], (3, "", "fault read none.bin\n")),
         (["survey", "64,32,8,32,32"], (2, "", "usage: no such command\n")),
         (["survey", "64,32,8,32,32", "dump.bin", "--force"], (2, "", "usage: no such command\n")),
+        (["compare", "64,32,8,32", "die.cert", "dump.bin"], (2, "", "usage: bad number 64,32,8,32\n")),
+        (["compare", "63,32,8,32,32", "die.cert", "dump.bin"], (1, "", "refused geometry 1 DataSize\n")),
+        (["compare", "64,32,8,32,32", "none.cert", "dump.bin"], (3, "", "fault read none.cert\n")),
+        (["compare", "64,32,8,32,32", "dump.bin", "dump.bin"], (1, "", "refused certificate 2 Short\n")),
+        (["compare", "64,32,8,32,32", "die.cert"], (2, "", "usage: no such command\n")),
+        (["array", "64,32,8,32,32", "dump.bin", "out.bin", "--force", "--force"], (2, "", "usage: no such command\n")),
         (["arrays"], (2, "", "usage: no such command\n")),
         ([], (2, "", "usage: no such command\n")),
         (["--version"], (0, "nandlab 0.1.0\n", "")),
@@ -258,7 +368,8 @@ def main():
         for i in range(cases):
             case(random.Random(f"{seed}.{i}"), folder)
             survey_case(random.Random(f"survey {seed}.{i}"), folder)
-        print(f"array and survey of {cases} dumps each agree with the reference, and the refusals")
+            compare_case(random.Random(f"compare {seed}.{i}"), folder)
+        print(f"array, survey and compare of {cases} dumps each agree with the reference, and the refusals")
 
 
 if __name__ == "__main__":

@@ -8,7 +8,6 @@ use Rattle.std.proofs.lemmas.List.Sums.{count_by_more_yes, count_by_more_no}
 use Rattle.std.proofs.lemmas.Option.{slice_get-get_or, slice_get_within, same_Some}
 use Rattle.page_layout.specs.declared.geometry.Geometry.{Geometry}
 use Rattle.page_layout.specs.declared.record.Record.{Record}
-use Rattle.page_layout.specs.declared.record.Kind.{Kind}
 use Rattle.page_layout.specs.declared.record.Kind.TheVariants as kind
 use Rattle.page_layout.specs.declared.record.Key.TheVariants as key
 use Rattle.page_layout.specs.declared.newest.Latest.{Latest}
@@ -22,7 +21,6 @@ use Rattle.page_layout.specs.Array.{marks, zeros, content, content_of_kind, cont
 use Rattle.page_layout.specs.Block.{is_broken}
 use Rattle.page_layout.proofs.NewestLemmas.{sequence_at-none, sequence_at-other, sequence_at-key}
 use Rattle.page_layout.proofs.ArrayLemmas.{mark-page, content-record, latest_none}
-use Rattle.image_check.specs.Sector.{MayRead}
 use Rattle.image_check.proofs.SurveyLemmas.{latest_more, latest_other}
 use Rattle.lab_scan.specs.declared.look.Look.TheVariants as look
 use Rattle.lab_scan.specs.Look.{look_by, look_of}
@@ -31,7 +29,7 @@ use Rattle.lab_array.specs.declared.held.Held.TheVariants.{Never}
 use Rattle.lab_array.specs.declared.held.Change.{Change}
 use Rattle.lab_array.specs.declared.held.Change.TheVariants.{Stays, Newest, Tie}
 use Rattle.lab_array.specs.Held.{Tells, Moves, pieces_after}
-use Rattle.lab_array.specs.Writing.{content_below, unsound_below, AreOwn, ReadBelow, Stands, Shows}
+use Rattle.lab_array.specs.Writing.{content_below, unsound_below, AreSized, HoldsSector, ReadBelow, Stands, Shows}
 
 -- ---- what a page is
 
@@ -121,32 +119,18 @@ nothing_noted g row image held unsound more pieces h none count = record {
 
 -- ---- a page of a sector
 
--- the bytes of a sound page's sector
-pub may_read : (g : Geometry) (n : ℕ) (body spare : List ℕ) (r : Record) → record_of (page body spare) ≡ Some r → key_of r ≡ key.Sector n → MayRead g n (content_of_kind g r.kind body)
-may_read g n body spare r says same = by_kind r.kind refl same
-  where
-    by_kind : (k : Kind) → r.kind ≡ k → key_from k r.number ≡ key.Sector n → MayRead g n (content_of_kind g k body)
-    by_kind kind.Sector e at = inr (record { spare = spare; its = r; says = says; kind_is = e; number_is = (let whole : key.Sector r.number ≡ key.Sector n = at in cc) })
-    by_kind kind.Trim e at = inl refl
-    by_kind kind.Translation e at = inl refl
-    by_kind kind.Table e at = inl refl
+pub sized_after : (g : Geometry) (change : Change) (n : ℕ) (bytes : List ℕ) (pieces : Option (List (List ℕ))) → IfSome pieces (AreSized g) → IfSome (pieces_after change n bytes (zeros g) pieces) (AreSized g)
+sized_after g Stays n bytes pieces sized = sized
+sized_after g Newest n bytes None sized = tt
+sized_after g Newest n bytes (Some ps) sized = length-set ps n bytes ∙ sized
+sized_after g Tie n bytes None sized = tt
+sized_after g Tie n bytes (Some ps) sized = length-set ps n (zeros g) ∙ sized
 
-own_set : (g : Geometry) (ps : List (List ℕ)) (n : ℕ) (bytes : List ℕ) → n < g.sectors → AreOwn g ps → MayRead g n bytes → AreOwn g (set ps n bytes)
-own_set g ps n bytes in_range own may = record {
-  size = length-set ps n bytes ∙ own.size;
-  each = λ m within. elim (cases_eq m n) [
-    | inl same ↦ subst (λ k. MayRead g k (get_or (set ps n bytes) k [])) (sym same)
-        (subst (λ xs. MayRead g n xs) (sym (get_or-set_same ps n bytes [] (let size = own.size in omega arith))) may)
-    | inr ne ↦ subst (λ xs. MayRead g m xs) (sym (get_or-set_other ps n m bytes [] ne)) (own.each m within)
-  ];
-}
-
-pub own_after : (g : Geometry) (change : Change) (n : ℕ) (bytes : List ℕ) (pieces : Option (List (List ℕ))) → n < g.sectors → IfSome pieces (AreOwn g) → MayRead g n bytes → IfSome (pieces_after change n bytes (zeros g) pieces) (AreOwn g)
-own_after g Stays n bytes pieces in_range own may = own
-own_after g Newest n bytes None in_range own may = tt
-own_after g Newest n bytes (Some ps) in_range own may = own_set g ps n bytes in_range own may
-own_after g Tie n bytes None in_range own may = tt
-own_after g Tie n bytes (Some ps) in_range own may = own_set g ps n (zeros g) in_range own (inl refl)
+-- a page of a sector that is no trim holds it
+pub holds : (n : ℕ) (body spare : List ℕ) (r : Record) → record_of (page body spare) ≡ Some r → key_of r ≡ key.Sector n → r.kind ≡ kind.Sector → HoldsSector n body spare
+holds n body spare r says same is =
+    let at : key.Sector r.number ≡ key.Sector n = sym (ap (λ k. key_from k r.number) is) ∙ same in
+    record { its = r; says = says; kind_is = is; number_is = cc }
 
 -- what the sector reads as after the page and before it, where the page has these bytes
 abbrev pub Becomes : Geometry → Change → List ℕ → List ℕ → List ℕ → Type 0
@@ -166,28 +150,28 @@ read_set g image row n ps bytes inside read others here m within = elim (cases_e
   | inr ne ↦ get_or-set_other ps n m bytes [] ne ∙ (read m within ∙ sym (others m within ne))
 ]
 
-read_after : (g : Geometry) (image : Image) (row : ℕ) (change : Change) (n : ℕ) (bytes : List ℕ) (pieces : Option (List (List ℕ))) → n < g.sectors → IfSome pieces (AreOwn g) → IfSome pieces (ReadBelow g image row)
+read_after : (g : Geometry) (image : Image) (row : ℕ) (change : Change) (n : ℕ) (bytes : List ℕ) (pieces : Option (List (List ℕ))) → n < g.sectors → IfSome pieces (AreSized g) → IfSome pieces (ReadBelow g image row)
     → ((m : ℕ) → m < g.sectors → m ≢ n → content_below g image (row + 1) m ≡ content_below g image row m) → Becomes g change bytes (content_below g image row n) (content_below g image (row + 1) n)
     → IfSome (pieces_after change n bytes (zeros g) pieces) (ReadBelow g image (row + 1))
-read_after g image row Stays n bytes pieces in_range own read others here = if_more pieces (ReadBelow g image row) (ReadBelow g image (row + 1)) read (λ ps reads m within. elim (cases_eq m n) [
+read_after g image row Stays n bytes pieces in_range sized read others here = if_more pieces (ReadBelow g image row) (ReadBelow g image (row + 1)) read (λ ps reads m within. elim (cases_eq m n) [
   | inl same ↦ reads m within ∙ (ap (content_below g image row) same ∙ (sym here ∙ ap (content_below g image (row + 1)) (sym same)))
   | inr ne ↦ reads m within ∙ sym (others m within ne)
 ])
-read_after g image row Newest n bytes None in_range own read others here = tt
-read_after g image row Newest n bytes (Some ps) in_range own read others here = read_set g image row n ps bytes (let size = own.size in omega arith) read others here
-read_after g image row Tie n bytes None in_range own read others here = tt
-read_after g image row Tie n bytes (Some ps) in_range own read others here = read_set g image row n ps (zeros g) (let size = own.size in omega arith) read others here
+read_after g image row Newest n bytes None in_range sized read others here = tt
+read_after g image row Newest n bytes (Some ps) in_range sized read others here = read_set g image row n ps bytes (omega (arith, sized)) read others here
+read_after g image row Tie n bytes None in_range sized read others here = tt
+read_after g image row Tie n bytes (Some ps) in_range sized read others here = read_set g image row n ps (zeros g) (omega (arith, sized)) read others here
 
 pub sector_same : (m n : ℕ) → key.Sector n ≡ key.Sector m → m ≡ n
 sector_same m n e = cc
 
 -- a sound page of sector n, with what is held of it then and what that does to its place
 pub sector_noted : (g : Geometry) (row : ℕ) (image : Image) (held : List Held) (unsound : ℕ) (pieces : Option (List (List ℕ))) (p : Page) (r : Record) (n : ℕ) (kept new : Held) (change : Change)
-    → Shows g row image held unsound pieces → IfSome pieces (AreOwn g) → length held ≡ g.sectors → n < g.sectors → slice_get image row ≡ Some p → record_of p ≡ Some r → key_of r ≡ key.Sector n → kept ≡ get_or held n kept
+    → Shows g row image held unsound pieces → IfSome pieces (AreSized g) → length held ≡ g.sectors → n < g.sectors → slice_get image row ≡ Some p → record_of p ≡ Some r → key_of r ≡ key.Sector n → kept ≡ get_or held n kept
     → ((l : Latest) (at : ℕ) → Tells kept l → Tells new (step l at (Some r.sequence)))
     → ((l : Latest) (at : ℕ) → Tells kept l → Moves change at (place_of l) (place_of (step l at (Some r.sequence))))
     → Shows g (row + 1) image (set held n new) unsound (pieces_after change n (content_of_kind g r.kind p.body) (zeros g) pieces)
-sector_noted g row image held unsound pieces p r n kept new change h own size in_range is says same stood tells moves =
+sector_noted g row image held unsound pieces p r n kept new change h sized size in_range is says same stood tells moves =
     let mark : get_or (marks image) row None ≡ Some r = mark-page image row p is ∙ says in
     let old : Latest = latest_below (marks image) (key.Sector n) row in
     let inside : n < length held = omega arith in
@@ -205,7 +189,7 @@ sector_noted g row image held unsound pieces p r n kept new change h own size in
         | inr ne ↦ still_tells image m row (get_or (set held n new) m Never) (none m ne) (subst (λ x. Tells x (latest_below (marks image) (key.Sector m) row)) (sym (get_or-set_other held n m new Never ne)) (h.held_of m within))
       ];
       unsound_is = h.unsound_is ∙ sym (unsound_same image row p is (sound_whole p r says));
-      pieces_are = read_after g image row change n (content_of_kind g r.kind p.body) pieces in_range own h.pieces_are (λ m within ne. still_reads g image m row (none m ne))
+      pieces_are = read_after g image row change n (content_of_kind g r.kind p.body) pieces in_range sized h.pieces_are (λ m within ne. still_reads g image m row (none m ne))
           (becomes g image row change (content_of_kind g r.kind p.body) (place_of old) (place_of (latest_below (marks image) (key.Sector n) (row + 1))) moved here);
     }
 
@@ -224,8 +208,5 @@ stands_first g pieces blank = record {
   size = length-replicate g.sectors Never;
   blank_is = refl;
   few = omega arith;
-  own = if_more pieces (λ ps. ps ≡ replicate g.sectors (zeros g)) (AreOwn g) blank (λ ps e. record {
-    size = ap length e ∙ length-replicate g.sectors (zeros g);
-    each = λ n within. inl (ap (λ xs. get_or xs n []) e ∙ get_or-replicate g.sectors n (zeros g) [] within);
-  });
+  sized = if_more pieces (λ ps. ps ≡ replicate g.sectors (zeros g)) (AreSized g) blank (λ ps e. ap length e ∙ length-replicate g.sectors (zeros g));
 }

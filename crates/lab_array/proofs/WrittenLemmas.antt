@@ -26,7 +26,7 @@ use Rattle.lab_array.specs.declared.held.Held.TheVariants as held
 use Rattle.lab_array.specs.declared.held.State.{State}
 use Rattle.lab_array.specs.declared.held.State.TheVariants as state
 use Rattle.lab_array.specs.Held.{Tells, state_in, state_by}
-use Rattle.lab_array.specs.Writing.{content_below, unsound_below, AreOwn, ReadBelow, Stands, Shows}
+use Rattle.lab_array.specs.Writing.{content_below, unsound_below, AreSized, ReadBelow, Stands, Shows}
 use Rattle.lab_array.specs.Written.{state_of, states_of, unsound_of, IsWritten, TiedLaw}
 
 -- ---- the pieces
@@ -85,7 +85,7 @@ written g hs blank unsound rows pieces bytes all stands taken =
     let shown : Shows g (row_count g) image hs unsound pieces = subst (λ k. Shows g k image hs unsound pieces) all taken.shown in
     record {
       whole = taken.whole;
-      array = if_both pieces (AreOwn g) (ReadBelow g image (row_count g)) (λ ps. ps ≡ array_of g image) stands.own shown.pieces_are (λ ps own read. array_read g image ps size own.size read);
+      array = if_both pieces (AreSized g) (ReadBelow g image (row_count g)) (λ ps. ps ≡ array_of g image) stands.sized shown.pieces_are (λ ps sized read. array_read g image ps size sized read);
       states = states_told g image hs size stands.size shown.held_of;
       unsound_is = shown.unsound_is ∙ unsound_all image (row_count g) size;
     }

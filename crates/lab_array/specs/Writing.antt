@@ -2,6 +2,7 @@
 use Rattle.std.specs.Prelude.{◌≡◌, ℕ, ◌<◌, ◌≤◌, List, [], length, get_or, take, count_by, Option, Some, IfSome}
 use Rattle.page_layout.specs.declared.geometry.Geometry.{Geometry}
 use Rattle.page_layout.specs.declared.record.Record.{Record}
+use Rattle.page_layout.specs.declared.record.Kind.TheVariants as kind
 use Rattle.page_layout.specs.declared.record.Key.TheVariants.{Sector}
 use Rattle.page_layout.specs.Page.{Image, page}
 use Rattle.page_layout.specs.Sound.{record_of}
@@ -9,7 +10,6 @@ use Rattle.page_layout.specs.Greatest.{place_of}
 use Rattle.page_layout.specs.Newest.{latest_below}
 use Rattle.page_layout.specs.Array.{marks, zeros, content_at}
 use Rattle.page_layout.specs.Block.{is_broken}
-use Rattle.image_check.specs.Sector.{MayRead}
 use Rattle.lab_array.specs.declared.held.Held.{Held}
 use Rattle.lab_array.specs.declared.held.Held.TheVariants.{Never}
 use Rattle.lab_array.specs.Held.{Tells}
@@ -22,22 +22,23 @@ content_below g image rows n = content_at g image (place_of (latest_below (marks
 abbrev pub unsound_below : Image → ℕ → ℕ
 unsound_below image rows = count_by is_broken (take rows image)
 
--- a piece for each sector: zeros, or the data area of a sound page of that sector
-pub record AreOwn (g : Geometry) (pieces : List (List ℕ)) : Type 0 where
-  pub size : length pieces ≡ g.sectors
-  pub each : (n : ℕ) → n < g.sectors → MayRead g n (get_or pieces n [])
+-- a piece for each sector
+abbrev pub AreSized : Geometry → List (List ℕ) → Type 0
+AreSized g pieces = length pieces ≡ g.sectors
 
--- these bytes are the data area of a page that is sound with this record
-pub record IsBodyOf (r : Record) (body : List ℕ) : Type 0 where
-  pub spare : List ℕ
-  pub says : record_of (page body spare) ≡ Some r
+-- the page of this data area and this spare area is sound, and holds sector n
+pub record HoldsSector (n : ℕ) (body spare : List ℕ) : Type 0 where
+  pub its : Record
+  pub says : record_of (page body spare) ≡ Some its
+  pub kind_is : its.kind ≡ kind.Sector
+  pub number_is : its.number ≡ n
 
 -- whatever the pages were
 pub record Stands (g : Geometry) (rows : ℕ) (held : List Held) (blank : List ℕ) (unsound : ℕ) (pieces : Option (List (List ℕ))) : Type 0 where
   pub size : length held ≡ g.sectors
   pub blank_is : blank ≡ zeros g
   pub few : unsound ≤ rows
-  pub own : IfSome pieces (AreOwn g)
+  pub sized : IfSome pieces (AreSized g)
 
 -- each piece is what the first rows say of its sector
 abbrev pub ReadBelow : Geometry → Image → ℕ → List (List ℕ) → Type 0

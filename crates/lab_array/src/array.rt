@@ -2,7 +2,6 @@
 ghost use Rattle.std.specs.Prelude.{◌≡◌, length, replicate, OnErr, IfOk, IfErr, IfSome, Err, map};
 ghost use Rattle.page_layout.specs.Array.{zeros};
 ghost use Rattle.lab_array.specs.Held.{state_in};
-ghost use Rattle.lab_array.specs.Writing.{AreOwn};
 ghost use Rattle.lab_array.specs.Written.{IsWritten, IsUnwritten, TiedLaw};
 
 use crate::held::{Held, State};
@@ -76,8 +75,8 @@ pub fn tied_law()
 /// is a trim, the sector has none, or two of its pages share its greatest sequence. The target has a piece of zeros for each sector at
 /// first. The newest page of a sector is its sound page of greatest sequence, over all blocks, bad ones included.
 ///
-/// For a reader that tells its bytes, and a target that tells its pieces, these are the array of the image that the bytes are. Of any
-/// reader each piece is zeros, or the data area of a page that is sound and holds that sector.
+/// For a reader that tells its bytes, and a target that tells its pieces, these are the array of the image that the bytes are. Whatever the
+/// reader does, the target is handed zeros alone, or a page that is sound and holds that sector.
 ///
 /// # Errors
 ///
@@ -93,7 +92,6 @@ pub fn write_array<R: Read, T: Target + Drop>(
 ) -> Result<Written<T>, ArrayFault>
     requires { IfSome (T.pieces target) (λ ps. ps ≡ replicate geometry.now.sectors (zeros geometry.now)) }
     ensures ok { IfOk result (λ written. IfSome (R.remaining reader.old) (IsWritten geometry.now (T.pieces written.target) written.held.items written.unsound)) }
-    ensures own { IfOk result (λ written. IfSome (T.pieces written.target) (AreOwn geometry.now)) }
     ensures sized { IfOk result (λ written. length written.held.items ≡ geometry.now.sectors) }
     ensures err { IfErr result (λ fault. IfSome (R.remaining reader.old) (IsUnwritten geometry.now fault)) }
     ensures memory { result ≡ Err ArrayFault.OutOfMemory → reader.new ≡ reader.old }

@@ -1,11 +1,12 @@
 //! What takes the pages and writes the sectors.
 ghost use Rattle.std.specs.Prelude.{◌≡◌, ◌<◌, ◌≤◌, ◌+◌, ℕ, List, OnOk, length, slice_get, Some};
 ghost use Rattle.page_layout.specs.Geometry.{row_count};
-ghost use Rattle.page_layout.specs.Page.{Page, Image};
+ghost use Rattle.page_layout.specs.Page.{Page, Image, page};
 ghost use Rattle.page_layout.specs.Array.{content_of_kind, zeros};
 ghost use Rattle.page_layout.specs.Sound.{record_of};
 ghost use Rattle.lab_array.specs.Held.{pieces_after};
-ghost use Rattle.lab_array.specs.Writing.{IsBodyOf, Stands, Shows};
+ghost use Rattle.page_layout.specs.declared.record.Kind.TheVariants as kinds;
+ghost use Rattle.lab_array.specs.Writing.{HoldsSector, Stands, Shows};
 
 use crate::held::{Change, Held};
 use crate::target::{Target, TargetFault};
@@ -24,23 +25,24 @@ pub struct Writing<T> {
     pub(crate) target: T,
 }
 
-// Writes what a sector's page does to its bytes.
+// Writes what a sector's page, of this data area and this spare area, does to its bytes.
 fn put_change<T: Target>(
     target: &mut T,
     geometry: &Geometry,
     sector: u32,
     kind: Kind,
     change: Change,
-    body: &[u8],
+    areas: (&[u8], &[u8]),
     blank: &[u8],
 ) -> Result<(), TargetFault>
-    requires { blank.now ≡ zeros geometry.now }
-    ensures { OnOk result (T.pieces target.new ≡ pieces_after change sector (content_of_kind geometry.now kind body.now) (zeros geometry.now) (T.pieces target.old)) }
+    requires blank { blank.now ≡ zeros geometry.now }
+    requires sound { kind ≡ kinds.Sector → HoldsSector sector areas.0.now areas.1.now }
+    ensures { OnOk result (T.pieces target.new ≡ pieces_after change sector (content_of_kind geometry.now kind areas.entry.0.now) (zeros geometry.now) (T.pieces target.old)) }
 {
     match change {
         Change::Stays => Ok(()),
-        Change::Newest if kind == Kind::Sector => target.put(sector, body),
-        Change::Newest | Change::Tie => target.put(sector, blank),
+        Change::Newest if kind == Kind::Sector => target.put(sector, areas.0, areas.1),
+        Change::Newest | Change::Tie => target.blank(sector, blank),
     }
 }
 
@@ -52,9 +54,10 @@ impl<T: Target> Writing<T> {
         row: u32,
         found: &Record,
         body: &[u8],
+        spare: &[u8],
     ) -> Result<(), Stopped>
         requires row_in { row < row_count geometry.now }
-        requires looked { IsBodyOf found.now body.now }
+        requires looked { record_of (page body.now spare.now) ≡ Some found.now }
         requires stands { Stands geometry.now row self.old.held.items self.old.zeros.items self.old.unsound (T.pieces self.old.target) }
         ensures stands { OnOk result (Stands geometry.now (row + 1) self.new.held.items self.new.zeros.items self.new.unsound (T.pieces self.new.target)) }
         ensures shows { OnOk result ((image : Image) (p : Page) → Shows geometry.now row image self.old.held.items self.old.unsound (T.pieces self.old.target) → slice_get image row ≡ Some p → body.now ≡ p.body → record_of p ≡ Some found.now
@@ -74,7 +77,7 @@ impl<T: Target> Writing<T> {
             sector,
             found.kind,
             change,
-            body,
+            (body, spare),
             &self.zeros,
         ) {
             Ok(()) => Ok(()),
@@ -106,7 +109,7 @@ impl<T: Target> Taker for Writing<T> {
                 self.unsound += 1;
                 Ok(())
             }
-            Look::Sound(found) => self.take_sound(geometry, row, &found, body),
+            Look::Sound(found) => self.take_sound(geometry, row, &found, body, spare),
         }
     }
 }

@@ -1,2 +1,7 @@
 pub mod ReportLemmas
 pub mod LineLemmas
+pub mod TextLemmas
+pub mod UndoneLemmas
+pub mod ArrayLemmas
+pub mod SurveyLemmas
+pub mod CompareLemmas

@@ -5,4 +5,5 @@ pub mod Undone
 pub mod Array
 pub mod Lines
 pub mod Survey
+pub mod Compare
 pub mod Program

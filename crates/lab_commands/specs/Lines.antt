@@ -12,7 +12,7 @@ use Rattle.lab_commands.specs.declared.lines.Label.TheVariants as label
 use Rattle.lab_commands.specs.declared.lines.Sort.{Sort}
 use Rattle.lab_commands.specs.declared.lines.Sort.TheVariants as sort
 use Rattle.lab_commands.specs.declared.lines.Line.{Line}
-use Rattle.lab_commands.specs.declared.lines.Line.TheVariants.{Pages, NumberRange, Repeated, NotFormatted, TableDamaged, LastSequence, Tied, Missing, Block, PlainBlock}
+use Rattle.lab_commands.specs.declared.lines.Line.TheVariants.{Pages, NumberRange, Repeated, NotFormatted, TableDamaged, LastSequence, Tied, Missing, Block, PlainBlock, Lost}
 use Rattle.lab_commands.specs.Report.{age_line}
 
 -- ---- words
@@ -49,6 +49,7 @@ line_words (Block block s unsound) =
     codes "block " ++ (decimal block ++ (codes " class " ++ (class_words s.class ++ (codes " pointer " ++ (decimal s.pointer ++ (codes " live " ++ (
     decimal s.live ++ (codes " wear " ++ (decimal s.wear ++ (codes " unsound " ++ decimal unsound))))))))))
 line_words (PlainBlock block unsound) = codes "block " ++ (decimal block ++ (codes " unsound " ++ decimal unsound))
+line_words (Lost sector) = codes "lost sector " ++ decimal sector
 
 -- ---- which lines there are
 

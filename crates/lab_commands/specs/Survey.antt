@@ -1,24 +1,45 @@
 -- What the command `survey` comes to.
-use Rattle.std.specs.Prelude.{ℕ, Bool, List, Option, IfSome}
+use Rattle.std.specs.Prelude.{◌≡◌, ◌⊎◌, ℕ, List, Option, IfSome}
 use Rattle.std.specs.Io.KnownBytes.{Appends}
 use Rattle.page_layout.specs.declared.geometry.Geometry.{Geometry}
 use Rattle.lab_survey.specs.declared.survey.DieSurvey.{DieSurvey}
 use Rattle.lab_survey.specs.Surveyed.{IsSurveyOf}
 use Rattle.lab_words.specs.declared.words.SurveyWords.{SurveyWords}
-use Rattle.lab_commands.specs.Files.{IsOpened}
+use Rattle.lab_commands.specs.declared.text.LabFault.{LabFault}
+use Rattle.lab_commands.specs.Files.{Answers, IsOpened, Kept}
 use Rattle.lab_commands.specs.Lines.{survey_text}
-use Rattle.lab_commands.specs.Undone.{IsGeometryAt}
+use Rattle.lab_commands.specs.Undone.{IsGeometryAt, IsNoGeometry, IsUnprinted, IsUnread, IsUntaken, LeavesAll}
 
 -- a survey of a dump that reads so: where its bytes are known it is of the image that they are
-pub record IsSeen (gives : List ℕ → Type 0) (tells : Bool) (g : Geometry) (survey : DieSurvey) : Type 0 where
+pub record IsSeen (a : Answers) (path : List ℕ) (g : Geometry) (survey : DieSurvey) : Type 0 where
   pub known : Option (List ℕ)
-  pub opened : IsOpened gives tells known
+  pub opened : IsOpened a path known
   pub seen : IfSome known (IsSurveyOf g survey)
 
+-- the words name a geometry, and this is the survey
+pub record HasSurvey (a : Answers) (words : SurveyWords) (g : Geometry) (survey : DieSurvey) : Type 0 where
+  pub geometry_is : IsGeometryAt words.geometry.now g
+  pub seen : IsSeen a words.dump.now g survey
+
 -- the survey was printed
-pub record ToldSurvey (gives : List ℕ → List ℕ → Type 0) (tells : Bool) (words : SurveyWords) (out printed : Option (List ℕ)) : Type 0 where
+pub record ToldSurvey (a : Answers) (words : SurveyWords) (out printed : Option (List ℕ)) : Type 0 where
   pub g : Geometry
   pub survey : DieSurvey
-  pub geometry_is : IsGeometryAt words.geometry.now g
-  pub seen : IsSeen (gives words.dump.now) tells g survey
+  pub has : HasSurvey a words g survey
   pub told : Appends out printed (survey_text g survey)
+
+-- why there is no survey: the dump was not opened, or not taken as a whole
+abbrev pub IsUnsurveyed : Answers → Geometry → List ℕ → LabFault → Type 0
+IsUnsurveyed a g path told = IsUnread a path told ⊎ IsUntaken a g path told
+
+-- The first of this order: the geometry; the dump.
+abbrev pub IsUnseen : Answers → SurveyWords → LabFault → Type 0
+IsUnseen a words told =
+    IsNoGeometry words.geometry.now told
+    ⊎ ((g : Geometry) × IsGeometryAt words.geometry.now g × IsUnsurveyed a g words.dump.now told)
+
+-- nothing was printed, for one of these reasons, or standard output failed
+abbrev pub IsSurveyFault : Answers → SurveyWords → Option (List Kept) → Option (List Kept) → Option (List ℕ) → Option (List ℕ) → LabFault → Type 0
+IsSurveyFault a words before after out printed told =
+    (LeavesAll before after out printed × IsUnseen a words told)
+    ⊎ ((after ≡ before) × ((g : Geometry) × (survey : DieSurvey) × HasSurvey a words g survey) × IsUnprinted told)

@@ -1,10 +1,13 @@
 -- What the program says of a command that ended before it was done.
 use Rattle.std.specs.Prelude.{◌≡◌, ◌⊎◌, ℕ, List, [], ◌∷◌, ◌++◌, codes, Option}
 use Rattle.std.specs.Io.KnownBytes.{Appends}
+use Rattle.request_stream.specs.Frames.{AppendsFront}
 use Rattle.page_layout.specs.declared.geometry.GeometryFault.{GeometryFault}
 use Rattle.page_layout.specs.declared.geometry.GeometryFault.TheVariants as geometry
+use Rattle.certificate.specs.declared.fault.CertFault.{CertFault}
+use Rattle.certificate.specs.declared.fault.CertFault.TheVariants as certificate
 use Rattle.lab_commands.specs.declared.text.LabFault.{LabFault}
-use Rattle.lab_commands.specs.declared.text.LabFault.TheVariants.{NoSuchCommand, BadNumber, Geometry, IsDump, Exists, WrongLength, OutOfMemory, Read, Write}
+use Rattle.lab_commands.specs.declared.text.LabFault.TheVariants.{NoSuchCommand, BadNumber, Geometry, IsDump, Exists, WrongLength, OutOfMemory, Certificate, GeometryDiffers, Read, Write}
 
 -- the number and the name of a limit that is broken
 abbrev pub limit_words : GeometryFault → List ℕ
@@ -13,6 +16,16 @@ limit_words geometry.SpareSize = codes "2 SpareSize"
 limit_words geometry.PagesPerBlock = codes "3 PagesPerBlock"
 limit_words geometry.Blocks = codes "4 Blocks"
 limit_words geometry.Sectors = codes "5 Sectors"
+
+-- the number and the name of why bytes are no certificate
+abbrev pub certificate_words : CertFault → List ℕ
+certificate_words certificate.Magic = codes "1 Magic"
+certificate_words certificate.Short = codes "2 Short"
+certificate_words certificate.Long = codes "3 Long"
+certificate_words certificate.Limit = codes "4 Limit"
+certificate_words certificate.RowRange = codes "5 RowRange"
+certificate_words certificate.ClassRange = codes "6 ClassRange"
+certificate_words certificate.OutOfMemory = codes "7 OutOfMemory"
 
 -- the line, without its line feed
 abbrev pub line_of : LabFault → List ℕ
@@ -23,6 +36,8 @@ line_of IsDump = codes "refused out 1 IsDump"
 line_of Exists = codes "refused out 2 Exists"
 line_of WrongLength = codes "refused image 1 WrongLength"
 line_of OutOfMemory = codes "refused image 3 OutOfMemory"
+line_of (Certificate broken) = codes "refused certificate " ++ certificate_words broken
+line_of GeometryDiffers = codes "refused compare 1 GeometryDiffers"
 line_of (Read path) = codes "fault read " ++ path.now
 line_of (Write path) = codes "fault write " ++ path.now
 
@@ -35,9 +50,18 @@ status_of IsDump = 1
 status_of Exists = 1
 status_of WrongLength = 1
 status_of OutOfMemory = 1
+status_of (Certificate broken) = 1
+status_of GeometryDiffers = 1
 status_of (Read path) = 3
 status_of (Write path) = 3
 
--- The fault's line was written, and the status is the fault's. Where it could not be written the status is 3.
+-- the line as it is written
+abbrev pub told_line : LabFault → List ℕ
+told_line fault = line_of fault ++ (10 ∷ [])
+
+-- The fault's line was written, and the status is the fault's. Or it could not be written: the status is 3, and a beginning of the line
+-- stands there, or nothing.
 abbrev pub IsTold : LabFault → Option (List ℕ) → Option (List ℕ) → ℕ → Type 0
-IsTold fault before after status = ((status ≡ status_of fault) × Appends before after (line_of fault ++ (10 ∷ []))) ⊎ (status ≡ 3)
+IsTold fault before after status =
+    ((status ≡ status_of fault) × Appends before after (told_line fault))
+    ⊎ ((status ≡ 3) × AppendsFront before after (told_line fault))

@@ -1,11 +1,10 @@
 //! The command `array GEOM DUMP OUT`.
-ghost use Rattle.std.specs.Prelude.{◌≡◌, OnOk, OnErr, IfOk, IfErr};
-ghost use Rattle.lab_commands.specs.Array.{IsAllowed, IsMade, WroteArray};
-ghost use Rattle.lab_commands.specs.Files.{with_kept};
-ghost use Rattle.lab_commands.specs.Undone.{IsUndone};
+ghost use Rattle.std.specs.Prelude.{◌≡◌, OnOk, IfOk, IfErr};
+ghost use Rattle.lab_commands.specs.Files.{AnswersNoMore};
+ghost use Rattle.lab_commands.specs.Array.{IsAllowed, IsArrayFault, IsMade, IsNotAllowed, IsUnmade, WroteArray, told_as};
 
-use crate::files::{FileFault, LabFiles};
-use crate::opening::{geometry_at, open_dump, read_fault, write_fault};
+use crate::files::LabFiles;
+use crate::opening::{create_beside, geometry_at, has_file, is_dump, keep, open_file};
 use crate::report::print_report;
 use crate::text::LabFault;
 use lab_array::{ArrayFault, Written, write_array};
@@ -14,8 +13,10 @@ use page_layout::geometry::Geometry;
 use std::alloc::Global;
 use std::io::Write;
 
-// Why no array was made.
-fn array_fault<'a>(fault: ArrayFault, words: &ArrayWords<'a>) -> LabFault<'a> {
+// How a fault of the array is told.
+fn told_as<'a>(fault: ArrayFault, words: &ArrayWords<'a>) -> LabFault<'a>
+    ensures { result ≡ told_as fault words.now }
+{
     match fault {
         ArrayFault::WrongLength => LabFault::WrongLength,
         ArrayFault::Source => LabFault::Read(words.dump),
@@ -26,19 +27,20 @@ fn array_fault<'a>(fault: ArrayFault, words: &ArrayWords<'a>) -> LabFault<'a> {
 
 // Whether OUT may be written: there is no such file, or it is not the dump and may be replaced.
 fn allow<'a, F: LabFiles>(files: &mut F, words: &ArrayWords<'a>) -> Result<(), LabFault<'a>>
-    ensures ok { OnOk result (IsAllowed (F.says_file files.old) (F.says_same files.old) words.now) }
+    ensures ok { OnOk result (IsAllowed (F.answers files.old) words.now) }
+    ensures fault { IfErr result (IsNotAllowed (F.answers files.old) words.now) }
     ensures same { files.new ≡ files.old }
 {
-    match files.has(words.out) {
-        Ok(true) => (),
-        Ok(false) => return Ok(()),
-        Err(fault) => return Err(write_fault(fault, words.out)),
+    if !has_file(files, words.out)? {
+        return Ok(());
     }
-    match files.is_same(words.dump, words.out) {
-        Ok(true) => Err(LabFault::IsDump),
-        Ok(false) if words.force => Ok(()),
-        Ok(false) => Err(LabFault::Exists),
-        Err(fault) => Err(read_fault(fault, words.dump)),
+    if is_dump(files, words.dump, words.out)? {
+        return Err(LabFault::IsDump);
+    }
+    if words.force {
+        Ok(())
+    } else {
+        Err(LabFault::Exists)
     }
 }
 
@@ -49,33 +51,18 @@ fn make<'a, F: LabFiles>(
     geometry: &Geometry,
     files: &mut F,
 ) -> Result<Written<F::Target>, LabFault<'a>>
-    ensures made { IfOk result (λ written. IsMade (F.gives files.old words.now.dump.now) (F.tells files.old) geometry.now (F.Target.pieces written.target) written.held.items written.unsound) }
+    ensures made { IfOk result (λ written. IsMade (F.answers files.old) words.now.dump.now geometry.now (F.Target.pieces written.target) written.held.items written.unsound) }
+    ensures fault { IfErr result (IsUnmade (F.answers files.old) words.now geometry.now) }
+    ensures no_more { AnswersNoMore (F.answers files.old) (F.answers files.new) }
     ensures kept { F.kept files.new ≡ F.kept files.old }
 {
-    let mut dump = open_dump(files, words.dump)?;
-    let target = match files.create(words.out, geometry.sectors(), geometry.data_bytes()) {
-        Ok(target) => target,
-        Err(fault) => return Err(write_fault(fault, words.out)),
-    };
+    let mut dump = open_file(files, words.dump)?;
+    let target = create_beside(files, words.out, geometry)?;
     match write_array(alloc, &mut dump, geometry, target) {
         Ok(written) => Ok(written),
         Err(fault) => {
             files.discard(words.out);
-            Err(array_fault(fault, words))
-        }
-    }
-}
-
-// Puts the array in its place.
-fn put<'a, F: LabFiles>(files: &mut F, path: &'a str, target: F::Target) -> Result<(), LabFault<'a>>
-    ensures ok { OnOk result (F.kept files.new ≡ with_kept (F.kept files.old) path.now (F.Target.pieces target)) }
-    ensures err { OnErr result (F.kept files.new ≡ F.kept files.old) }
-{
-    match files.keep(path, target) {
-        Ok(()) => Ok(()),
-        Err(fault) => {
-            files.discard(path);
-            Err(write_fault(fault, path))
+            Err(told_as(fault, words))
         }
     }
 }
@@ -98,13 +85,13 @@ pub(crate) fn array_command<'a, F: LabFiles, W: Write>(
     files: &mut F,
     out: &mut W,
 ) -> Result<(), LabFault<'a>>
-    ensures ok { OnOk result (WroteArray (F.gives files.old) (F.tells files.old) (F.says_file files.old) (F.says_same files.old) words.entry (F.kept files.old) (F.kept files.new) (W.contents out.old) (W.contents out.new)) }
-    ensures err { IfErr result (IsUndone (F.kept files.old) (F.kept files.new) (W.contents out.old) (W.contents out.new)) }
+    ensures ok { OnOk result (WroteArray (F.answers files.old) words.entry (F.kept files.old) (F.kept files.new) (W.contents out.old) (W.contents out.new)) }
+    ensures fault { IfErr result (IsArrayFault (F.answers files.old) words.entry (F.kept files.old) (F.kept files.new) (W.contents out.old) (W.contents out.new)) }
 {
     let geometry = geometry_at(words.geometry)?;
     allow(files, &words)?;
     let written = make(alloc, &words, &geometry, files)?;
-    put(files, words.out, written.target)?;
+    keep(files, words.out, written.target)?;
     match print_report(out, &written.held, written.unsound) {
         Ok(()) => Ok(()),
         Err(_) => Err(LabFault::Write("-")),

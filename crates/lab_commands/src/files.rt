@@ -16,55 +16,54 @@ pub enum FileFault {
 
 /// The files that the words name, by their paths as written: those of the system, or some in memory.
 pub trait LabFiles {
-    ghost use Rattle.std.specs.Prelude.{◌≡◌, Bool, List, ℕ, Option, Result, Ok, IfOk, IfSome, replicate};
-    ghost use Rattle.lab_commands.specs.Files.{IsOpened, Kept, kept_after};
+    ghost use Rattle.std.specs.Prelude.{◌≡◌, List, ℕ, Option, Result, IfOk, IfErr, IfSome, replicate};
+    ghost use Rattle.lab_commands.specs.Files.{Answers, AnswersNoMore, IsOpened, Kept, kept_after};
 
-    /// What reads a dump piece by piece.
+    /// What reads a file piece by piece.
     type Reader: Read + Drop;
 
     /// A file of sectors that is being written.
     type Target: Target + Drop;
 
-    /// The bytes that a reader of a path may tell.
-    ghost gives: { Self → List ℕ → List ℕ → Type 0 };
-
-    /// Whether each reader that it opens tells its bytes: those of the system's files don't, those of files in memory may.
-    ghost tells: { Self → Bool };
-
-    /// What it may answer to whether there is a file of this path.
-    ghost says_file: { Self → List ℕ → Bool → Type 0 };
-
-    /// What it may answer to whether these two paths name one file.
-    ghost says_same: { Self → List ℕ → List ℕ → Bool → Type 0 };
+    /// What it may answer. Of the system's files it may be anything.
+    ghost answers: { Self → Answers };
 
     /// The files that were put in their places so far, in order. Of the system's files it isn't known.
     ghost kept: { Self → Option (List Kept) };
 
     /// Whether there is a file of this path.
     fn has(&mut self, path: &str) -> Result<bool, FileFault>
-        ensures said { IfOk result (says_file self.old path.now) }
+        ensures said { IfOk result ((answers self.old).says_file path.now) }
+        ensures failed { IfErr result ((answers self.old).fails path.now) }
         ensures same { self.new ≡ self.old };
 
     /// Whether two paths name one file, the first of which is there.
     fn is_same(&mut self, first: &str, second: &str) -> Result<bool, FileFault>
-        ensures said { IfOk result (says_same self.old first.now second.now) }
+        ensures said { IfOk result ((answers self.old).says_same first.now second.now) }
+        ensures failed { IfErr result ((answers self.old).fails first.now) }
         ensures same { self.new ≡ self.old };
 
     /// A reader of a file, from its first byte on. No file is changed.
     fn open(&mut self, path: &str) -> Result<Self::Reader, FileFault>
-        ensures bytes { IfOk result (λ reader. IsOpened (gives self.old path.now) (tells self.old) (Self.Reader.remaining reader)) }
+        ensures bytes { IfOk result (λ reader. IsOpened (answers self.old) path.now (Self.Reader.remaining reader)) }
+        ensures failed { IfErr result ((answers self.old).fails path.now) }
+        ensures no_more { AnswersNoMore (answers self.old) (answers self.new) }
         ensures kept { kept self.new ≡ kept self.old };
 
     /// A new file beside that of this path, of so many pieces of so many zeros.
     fn create(&mut self, path: &str, count: u32, size: usize) -> Result<Self::Target, FileFault>
         ensures blank { IfOk result (λ target. IfSome (Self.Target.pieces target) (λ ps. ps ≡ replicate count (replicate size 0))) }
+        ensures failed { IfErr result ((answers self.old).fails path.now) }
+        ensures no_more { AnswersNoMore (answers self.old) (answers self.new) }
         ensures kept { kept self.new ≡ kept self.old };
 
     /// Puts the file that was made beside this path in its place, once all of it is stored. Where that fails what stood there still does.
     fn keep(&mut self, path: &str, target: Self::Target) -> Result<(), FileFault>
-        ensures { kept self.new ≡ kept_after (kept self.old) path.now (Self.Target.pieces target) result };
+        ensures done { kept self.new ≡ kept_after (kept self.old) path.now (Self.Target.pieces target) result }
+        ensures failed { IfErr result ((answers self.old).fails path.now) };
 
     /// Removes the file that was made beside this path.
     fn discard(&mut self, path: &str)
-        ensures { kept self.new ≡ kept self.old };
+        ensures no_more { AnswersNoMore (answers self.old) (answers self.new) }
+        ensures kept { kept self.new ≡ kept self.old };
 }

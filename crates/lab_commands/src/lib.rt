@@ -3,6 +3,7 @@
 #![tactic(auto)]
 
 mod array;
+mod compare;
 mod files;
 mod lines;
 mod opening;

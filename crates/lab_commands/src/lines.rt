@@ -1,10 +1,13 @@
-//! The lines of `survey`.
-ghost use Rattle.std.specs.Prelude.{◌≡◌};
-ghost use Rattle.lab_commands.specs.Lines.{block_line, class_words, key_line, label_words, last_line, outside_line, repeated_line, sort_words, table_line};
+//! The lines of `survey` and `compare`.
+ghost use Rattle.std.specs.Prelude.{◌≡◌, OnOk};
+ghost use Rattle.std.specs.Io.KnownBytes.{Appends};
+ghost use Rattle.lab_commands.specs.Compare.{lost_line};
+ghost use Rattle.lab_commands.specs.Lines.{block_line, class_words, key_line, label_words, last_line, line_text, outside_line, repeated_line, sort_words, table_line};
 
 use certificate::BlockState;
 use lab_array::State;
 use std::fmt;
+use std::io::{self, Write};
 
 /// What a page is of.
 #[derive(Clone, Copy, Debug, PartialEq, Eq)]
@@ -48,6 +51,8 @@ pub(crate) enum Line {
     Block(u32, BlockState, u32),
     /// A block and its unsound pages.
     PlainBlock(u32, u32),
+    /// A sector that has lost a page.
+    Lost(u32),
 }
 
 // What a page is of, in words.
@@ -127,6 +132,7 @@ impl fmt::Display for Line {
                 )
             }
             Line::PlainBlock(block, unsound) => write!(f, "block {block} unsound {unsound}"),
+            Line::Lost(sector) => write!(f, "lost sector {sector}"),
         }
     }
 }
@@ -191,4 +197,26 @@ pub(crate) fn block_line(block: u32, state: Option<BlockState>, unsound: u32) ->
         Some(state) => Line::Block(block, state, unsound),
         None => Line::PlainBlock(block, unsound),
     })
+}
+
+/// The line of a sector that has lost a page.
+pub(crate) fn lost_line(sector: u32, is_lost: bool) -> Option<Line>
+    ensures { result ≡ lost_line sector is_lost }
+{
+    if is_lost {
+        Some(Line::Lost(sector))
+    } else {
+        None
+    }
+}
+
+/// Prints a line, if there is one.
+#[tactic(auto, unfolding(crate::specs::Lines::line_text))]
+pub(crate) fn print_line<W: Write>(out: &mut W, line: Option<Line>) -> io::Result<()>
+    ensures { OnOk result (Appends (W.contents out.old) (W.contents out.new) (line_text line)) }
+{
+    match line {
+        Some(line) => writeln!(out, "{line}"),
+        None => Ok(()),
+    }
 }

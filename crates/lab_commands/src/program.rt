@@ -1,10 +1,10 @@
 //! The program's commands.
 ghost use Rattle.std.specs.Prelude.{OnOk, IfErr};
 ghost use Rattle.lab_words.specs.Words.{texts};
-ghost use Rattle.lab_commands.specs.Program.{Obeyed, Runs};
-ghost use Rattle.lab_commands.specs.Undone.{IsUndone};
+ghost use Rattle.lab_commands.specs.Program.{IsRefused, Obeyed, Runs};
 
 use crate::array::array_command;
+use crate::compare::compare_command;
 use crate::files::LabFiles;
 use crate::survey::survey_command;
 use crate::text::{DONE, LabFault, tell};
@@ -19,12 +19,13 @@ fn obey<'a, F: LabFiles, W: Write>(
     files: &mut F,
     out: &mut W,
 ) -> Result<(), LabFault<'a>>
-    ensures ok { OnOk result (Obeyed (F.gives files.old) (F.tells files.old) (F.says_file files.old) (F.says_same files.old) (texts words.now) (F.kept files.old) (F.kept files.new) (W.contents out.old) (W.contents out.new)) }
-    ensures err { IfErr result (IsUndone (F.kept files.old) (F.kept files.new) (W.contents out.old) (W.contents out.new)) }
+    ensures ok { OnOk result (Obeyed (F.answers files.old) (texts words.now) (F.kept files.old) (F.kept files.new) (W.contents out.old) (W.contents out.new)) }
+    ensures err { IfErr result (IsRefused (F.answers files.old) (texts words.now) (F.kept files.old) (F.kept files.new) (W.contents out.old) (W.contents out.new)) }
 {
     match parse(alloc, words) {
         Ok(Asked::Array(read)) => array_command(alloc, read, files, out),
         Ok(Asked::Survey(read)) => survey_command(alloc, read, files, out),
+        Ok(Asked::Compare(read)) => compare_command(alloc, read, files, out),
         Ok(Asked::Text(text)) => match out.write_all(text.as_bytes()) {
             Ok(()) => Ok(()),
             Err(_) => Err(LabFault::Write("-")),
@@ -45,7 +46,7 @@ pub fn run<F: LabFiles, W: Write, E: Write>(
     out: &mut W,
     err: &mut E,
 ) -> u8
-    ensures { Runs (F.gives files.old) (F.tells files.old) (F.says_file files.old) (F.says_same files.old) (texts words.now) (F.kept files.old) (F.kept files.new) (W.contents out.old) (W.contents out.new) (E.contents err.old) (E.contents err.new) result }
+    ensures { Runs (F.answers files.old) (texts words.now) (F.kept files.old) (F.kept files.new) (W.contents out.old) (W.contents out.new) (E.contents err.old) (E.contents err.new) result }
 {
     match obey(alloc, words, files, out) {
         Ok(()) => DONE,

@@ -1,11 +1,10 @@
 //! The command `survey GEOM DUMP`.
 ghost use Rattle.std.specs.Prelude.{◌≡◌, OnOk, IfOk, IfErr};
 ghost use Rattle.lab_survey.specs.Surveyed.{IsWhole};
-ghost use Rattle.lab_commands.specs.Survey.{IsSeen, ToldSurvey};
-ghost use Rattle.lab_commands.specs.Undone.{IsUndone};
+ghost use Rattle.lab_commands.specs.Survey.{IsSeen, IsSurveyFault, IsUnsurveyed, ToldSurvey};
 
 use crate::files::LabFiles;
-use crate::opening::{geometry_at, open_dump};
+use crate::opening::{geometry_at, open_file};
 use crate::survey_report::print_survey;
 use crate::text::LabFault;
 use lab_survey::{DieSurvey, SurveyFault, survey_dump};
@@ -14,15 +13,6 @@ use page_layout::geometry::Geometry;
 use std::alloc::Global;
 use std::io::Write;
 
-// Why there is no survey.
-fn survey_fault(fault: SurveyFault, dump: &str) -> LabFault<'_> {
-    match fault {
-        SurveyFault::WrongLength => LabFault::WrongLength,
-        SurveyFault::Source => LabFault::Read(dump),
-        SurveyFault::OutOfMemory => LabFault::OutOfMemory,
-    }
-}
-
 // The survey of a dump.
 fn survey_of<'a, F: LabFiles>(
     alloc: Global,
@@ -30,14 +20,17 @@ fn survey_of<'a, F: LabFiles>(
     geometry: &Geometry,
     files: &mut F,
 ) -> Result<DieSurvey, LabFault<'a>>
-    ensures seen { IfOk result (IsSeen (F.gives files.old dump.now) (F.tells files.old) geometry.now) }
+    ensures seen { IfOk result (IsSeen (F.answers files.old) dump.now geometry.now) }
     ensures whole { IfOk result (IsWhole geometry.now) }
+    ensures fault { IfErr result (IsUnsurveyed (F.answers files.old) geometry.now dump.now) }
     ensures kept { F.kept files.new ≡ F.kept files.old }
 {
-    let mut reader = open_dump(files, dump)?;
+    let mut reader = open_file(files, dump)?;
     match survey_dump(alloc, &mut reader, geometry) {
         Ok(survey) => Ok(survey),
-        Err(fault) => Err(survey_fault(fault, dump)),
+        Err(SurveyFault::WrongLength) => Err(LabFault::WrongLength),
+        Err(SurveyFault::Source) => Err(LabFault::Read(dump)),
+        Err(SurveyFault::OutOfMemory) => Err(LabFault::OutOfMemory),
     }
 }
 
@@ -56,9 +49,9 @@ pub(crate) fn survey_command<'a, F: LabFiles, W: Write>(
     files: &mut F,
     out: &mut W,
 ) -> Result<(), LabFault<'a>>
-    ensures ok { OnOk result (ToldSurvey (F.gives files.old) (F.tells files.old) words.entry (W.contents out.old) (W.contents out.new)) }
+    ensures ok { OnOk result (ToldSurvey (F.answers files.old) words.entry (W.contents out.old) (W.contents out.new)) }
     ensures kept { F.kept files.new ≡ F.kept files.old }
-    ensures err { IfErr result (IsUndone (F.kept files.old) (F.kept files.new) (W.contents out.old) (W.contents out.new)) }
+    ensures fault { IfErr result (IsSurveyFault (F.answers files.old) words.entry (F.kept files.old) (F.kept files.new) (W.contents out.old) (W.contents out.new)) }
 {
     let geometry = geometry_at(words.geometry)?;
     let survey = survey_of(alloc, words.dump, &geometry, files)?;

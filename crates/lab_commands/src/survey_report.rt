@@ -2,10 +2,11 @@
 ghost use Rattle.std.specs.Prelude.{◌≡◌, ◌+◌, ◌<◌, ◌≤◌, ◌^◌, false, get_or, length, OnOk, option_map};
 ghost use Rattle.std.specs.Io.KnownBytes.{Appends};
 ghost use Rattle.lab_survey.specs.Surveyed.{IsWhole};
-ghost use Rattle.lab_commands.specs.Lines.{all_keys_text, block_line, blocks_text, key_line, keys_text, line_text, reasons_text, sound_text, state_at, survey_text, table_line, tables_text};
+ghost use Rattle.lab_commands.specs.Lines.{all_keys_text, block_line, blocks_text, key_line, keys_text, reasons_text, sound_text, state_at, survey_text, table_line, tables_text};
 
 use crate::lines::{
-    Label, Line, Sort, block_line, key_line, last_line, outside_line, repeated_line, table_line,
+    Label, Line, Sort, block_line, key_line, last_line, outside_line, print_line, repeated_line,
+    table_line,
 };
 use crate::report::print_age;
 use certificate::BlockState;
@@ -13,17 +14,6 @@ use lab_array::State;
 use lab_survey::DieSurvey;
 use page_layout::geometry::Geometry;
 use std::io::{self, Write};
-
-// A line, if there is one.
-#[tactic(auto, unfolding(crate::specs::Lines::line_text))]
-fn print_line<W: Write>(out: &mut W, line: Option<Line>) -> io::Result<()>
-    ensures { OnOk result (Appends (W.contents out.old) (W.contents out.new) (line_text line)) }
-{
-    match line {
-        Some(line) => writeln!(out, "{line}"),
-        None => Ok(()),
-    }
-}
 
 // The line of a key, of those whose states stand from this place on.
 fn key_at(survey: &DieSurvey, of: Label, from: u32, number: u32) -> Option<Line>

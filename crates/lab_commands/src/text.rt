@@ -1,11 +1,12 @@
 //! What the program says when a command ends before it is done: one line, and the exit status.
-ghost use Rattle.std.specs.Prelude.{◌≡◌, ◌∷◌, [], ◌++◌, IfOk, OnOk, OnErr};
-ghost use Rattle.std.specs.Io.KnownBytes.{Appends};
+ghost use Rattle.std.specs.Prelude.{◌≡◌, ◌∷◌, [], ◌++◌};
+ghost use Rattle.request_stream.specs.Frames.{Sends};
 ghost use Rattle.lab_commands.specs.Text.{IsTold, line_of, status_of};
 
+use certificate::CertFault;
 use page_layout::geometry::GeometryFault;
-use std::fmt;
-use std::io::{self, Write};
+use request_stream::{ServeFault, send};
+use std::io::Write;
 
 /// The exit status of a command that was done.
 pub(crate) const DONE: u8 = 0;
@@ -33,6 +34,10 @@ pub enum LabFault<'a> {
     WrongLength,
     /// A growth was refused.
     OutOfMemory,
+    /// The bytes of the certificate's file are no certificate.
+    Certificate(CertFault),
+    /// The certificate is of another geometry.
+    GeometryDiffers,
     /// The file of this path could not be read.
     Read(&'a str),
     /// The file of this path, or standard output where it is `-`, could not be written.
@@ -53,7 +58,9 @@ impl LabFault<'_> {
             | LabFault::IsDump
             | LabFault::Exists
             | LabFault::WrongLength
-            | LabFault::OutOfMemory => REFUSED,
+            | LabFault::OutOfMemory
+            | LabFault::Certificate(_)
+            | LabFault::GeometryDiffers => REFUSED,
             LabFault::Read(_) | LabFault::Write(_) => IO,
         }
     }
@@ -72,52 +79,57 @@ fn limit(fault: GeometryFault) -> &'static str
     }
 }
 
-/// The line that says the fault, without its line feed.
-impl fmt::Display for LabFault<'_> {
-    ghost use Rattle.std.specs.Prelude.{Some};
-    ghost use Rattle.lab_commands.specs.Text.{line_of};
-
-    ghost output = { λ fault. Some (line_of fault) };
-
-    fn fmt<W: fmt::Write>(&self, f: &mut fmt::Formatter<W>) -> fmt::Result {
-        match self {
-            LabFault::NoSuchCommand => f.write_str("usage: no such command"),
-            LabFault::BadNumber(word) => write!(f, "usage: bad number {word}"),
-            LabFault::Geometry(fault) => {
-                let words = limit(*fault);
-                write!(f, "refused geometry {words}")
-            }
-            LabFault::IsDump => f.write_str("refused out 1 IsDump"),
-            LabFault::Exists => f.write_str("refused out 2 Exists"),
-            LabFault::WrongLength => f.write_str("refused image 1 WrongLength"),
-            LabFault::OutOfMemory => f.write_str("refused image 3 OutOfMemory"),
-            LabFault::Read(path) => write!(f, "fault read {path}"),
-            LabFault::Write(path) => write!(f, "fault write {path}"),
-        }
+// Why bytes are no certificate, by its number and its name.
+fn certificate_text(broken: CertFault) -> &'static str
+    ensures { result.now ≡ Rattle.lab_commands.specs.Text.certificate_words broken }
+{
+    match broken {
+        CertFault::Magic => "1 Magic",
+        CertFault::Short => "2 Short",
+        CertFault::Long => "3 Long",
+        CertFault::Limit => "4 Limit",
+        CertFault::RowRange => "5 RowRange",
+        CertFault::ClassRange => "6 ClassRange",
+        CertFault::OutOfMemory => "7 OutOfMemory",
     }
 }
 
-// Writes the fault's line, with a line feed, and answers its exit status.
-fn write_line<E: Write>(fault: &LabFault<'_>, err: &mut E) -> io::Result<u8>
-    ensures status { IfOk result (λ status. status ≡ status_of fault.now) }
-    ensures line { OnOk result (Appends (E.contents err.old) (E.contents err.new) (line_of fault.now ++ (10 ∷ []))) }
+// The line of a fault, without its line feed: two texts, one behind the other.
+fn line<'a>(fault: &LabFault<'a>) -> (&'a str, &'a str)
+    ensures { result.0.now ++ result.1.now ≡ line_of fault.now }
 {
-    writeln!(err, "{fault}")?;
-    Ok(fault.status())
+    match *fault {
+        LabFault::NoSuchCommand => ("usage: no such command", ""),
+        LabFault::BadNumber(word) => ("usage: bad number ", word),
+        LabFault::Geometry(broken) => ("refused geometry ", limit(broken)),
+        LabFault::IsDump => ("refused out 1 IsDump", ""),
+        LabFault::Exists => ("refused out 2 Exists", ""),
+        LabFault::WrongLength => ("refused image 1 WrongLength", ""),
+        LabFault::OutOfMemory => ("refused image 3 OutOfMemory", ""),
+        LabFault::Certificate(broken) => ("refused certificate ", certificate_text(broken)),
+        LabFault::GeometryDiffers => ("refused compare 1 GeometryDiffers", ""),
+        LabFault::Read(path) => ("fault read ", path),
+        LabFault::Write(path) => ("fault write ", path),
+    }
 }
 
-// The exit status of a line that was written, else the one of output that failed.
-fn status_told(told: io::Result<u8>) -> u8
-    ensures written { IfOk told (λ status. result ≡ status) }
-    ensures unwritten { OnErr told (result ≡ 3) }
+// Writes a line of two texts, and a line feed. `Write` where a write failed, was interrupted or took nothing: a beginning of the line is out.
+fn send_line<E: Write>(err: &mut E, area: &str, text: &str) -> Result<(), ServeFault>
+    ensures { Sends (E.contents err.old) (E.contents err.new) ((area.now ++ text.now) ++ (10 ∷ [])) result }
 {
-    told.unwrap_or(IO)
+    send(err, area.as_bytes())?;
+    send(err, text.as_bytes())?;
+    send(err, b"\n")
 }
 
-/// Writes the fault's line to `err`, with a line feed, and answers its exit status, or 3 where the line could not be written, of which a
-/// part may then stand there. (The lines and the statuses are this project's.)
+/// Writes the fault's line to `err`, with a line feed, and answers its exit status. Where a write failed, was interrupted or took nothing it
+/// answers 3, and a beginning of the line stands there, or nothing. (The lines and the statuses are this project's.)
 pub fn tell<E: Write>(fault: &LabFault<'_>, err: &mut E) -> u8
     ensures { IsTold fault.now (E.contents err.old) (E.contents err.new) result }
 {
-    status_told(write_line(fault, err))
+    let (area, text) = line(fault);
+    match send_line(err, area, text) {
+        Ok(()) => fault.status(),
+        Err(_) => IO,
+    }
 }

@@ -1,8 +1,6 @@
 -- The grammar is one of which `clap` tells what it makes of all words.
-use Rattle.std.proofs.Common.{◌≡◌, ◌⊎◌, inl, inr, ℕ, ◌<◌, true, List, [], Option, Some, None, IfSome, option_map, refl, ap, sym, subst, ◌∙◌, arith}
-use Rattle.std.specs.Prelude.{◌↔◌, IsTrue, nat_lt}
+use Rattle.std.proofs.Common.{◌≡◌, ◌⊎◌, inl, inr, ℕ, true, List, [], Option, Some, None, IfSome, option_map, refl, ap, sym, subst, ◌∙◌}
 use Rattle.std.specs.Borrow.{Bor}
-use Rattle.std.proofs.lemmas.Bool.Decides.{nat_tests}
 use Rattle.clap.specs.declared.parser.matches.Found.{Found}
 use Rattle.clap.specs.declared.parser.matches.ArgMatches.{ArgMatches}
 use Rattle.clap.specs.declared.error.Error.{Error}
@@ -18,7 +16,7 @@ use Rattle.clap.specs.Words.{fault_of, subcommand_of}
 use Rattle.clap.proofs.OnLiterals.{clap_on_literals}
 use Rattle.lab_words.specs.declared.words.Asked.{Asked}
 use Rattle.lab_words.specs.declared.words.Asked.TheVariants as asked
-use Rattle.lab_words.specs.Words.{grammar, IsAsked, IsCommandOf, IsTextFor}
+use Rattle.lab_words.specs.Words.{grammar, IsAsked, IsCommandOf, IsOtherKind, IsTextFor, HasFault}
 
 pub simple_grammar : is_simple_and_free grammar ≡ true
 unfolding clap_on_literals
@@ -38,6 +36,13 @@ if_more (Some x) P Q h more = more x h
 pub word_at : (f : Found) (id : Text) (r : Option (Bor Text)) (s : Bor Text) → option_map (λ t. t.now) r ≡ first_value f id → r ≡ Some s → first_of id (rows_of f) ≡ Some s.now
 word_at f id r s e some = sym (e ∙ first_value-rows f id) ∙ ap (option_map (λ (t : Bor Text). t.now)) some
 
+no_word_at : (f : Found) (id : Text) (r : Option (Bor Text)) → option_map (λ t. t.now) r ≡ first_value f id → r ≡ None → first_of id (rows_of f) ≡ None
+no_word_at f id r e none = sym (e ∙ first_value-rows f id) ∙ ap (option_map (λ (t : Bor Text). t.now)) none
+
+-- a place that has no word is no place of words that have one
+pub lacks : (f : Found) (id w : Text) (r : Option (Bor Text)) → option_map (λ t. t.now) r ≡ first_value f id → r ≡ None → first_of id (rows_of f) ≡ Some w → ⊥
+lacks f id w r e none some = let no : first_of id (rows_of f) ≡ None = no_word_at f id r e none in cc
+
 map_map : {A B C : Type 0} (g : B → C) (f : A → B) (o : Option A) → option_map g (option_map f o) ≡ option_map (λ a. g (f a)) o
 map_map g f None = refl
 map_map g f (Some a) = refl
@@ -50,11 +55,8 @@ rows_name m = map_map (λ (p : Text × List Row). p.0) _ _
 pub asked_by : (found : Asked) (words : List (List ℕ)) → fault_of grammar words ≡ [] → IsCommandOf (subcommand_of grammar words) found → IsAsked words found
 asked_by (asked.Array read) words taken met = (taken, met)
 asked_by (asked.Survey read) words taken met = (taken, met)
+asked_by (asked.Compare read) words taken met = (taken, met)
 asked_by (asked.Text text) words taken met = absurd met.read
-
--- more than none
-pub forced_is : (m n : ℕ) → m ≡ n → IsTrue (nat_lt 0 m) ↔ (0 < n)
-forced_is m n e = (λ t. grind (arith, nat_tests), λ l. grind (arith, nat_tests))
 
 -- the text of help or of the version is what the words ask for
 pub text_asked : (e : Error) (ks : Kinds) → IsTextFor e → HasKind ks e → IsAmong DisplayHelp ks ⊎ IsAmong DisplayVersion ks
@@ -62,3 +64,8 @@ text_asked e ks (inl h) (inl m) = absurd (let clash : DisplayHelp ≡ OutOfMemor
 text_asked e ks (inl h) (inr a) = inl (subst (λ k. IsAmong k ks) h a)
 text_asked e ks (inr h) (inl m) = absurd (let clash : DisplayVersion ≡ OutOfMemory = sym h ∙ m in cc)
 text_asked e ks (inr h) (inr a) = inr (subst (λ k. IsAmong k ks) h a)
+
+-- a fault of another kind is found in the words
+pub fault_found : (e : Error) (words : List (List ℕ)) → IsOtherKind e → HasKind (fault_of grammar words) e → HasFault words
+fault_found e words other (inl memory) = absurd (other.memory memory)
+fault_found e words other (inr among) = record { kind = _; among = among; other = other }

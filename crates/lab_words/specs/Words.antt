@@ -1,12 +1,14 @@
 -- The words of the command line, as `clap` reads them.
-use Rattle.std.specs.Prelude.{◌≡◌, ◌⊎◌, ◌↔◌, ℕ, ◌<◌, true, List, [], codes, Option, Some, map, option_map, IsTrue}
+use Rattle.std.specs.Prelude.{◌≡◌, ◌≢◌, ◌⊎◌, ℕ, zero, suc, Bool, true, false, List, [], codes, Option, Some, None, map, option_map}
 use Rattle.std.specs.Borrow.{Bor}
 use Rattle.clap.specs.declared.builder.action.ArgAction.TheVariants.{Set, Count}
 use Rattle.clap.specs.declared.error.Error.{Error}
-use Rattle.clap.specs.declared.error.kind.ErrorKind.TheVariants.{DisplayHelp, DisplayVersion}
+use Rattle.clap.specs.declared.error.kind.ErrorKind.{ErrorKind}
+use Rattle.clap.specs.declared.error.kind.ErrorKind.TheVariants.{DisplayHelp, DisplayVersion, OutOfMemory}
 use Rattle.clap.specs.Words.{App, Row, Rule, first_of, count_of, fault_of, kind_of, new_app, new_rule, subcommand_of, with_rule, with_subcommand, IsAmong}
 use Rattle.clap.specs.Simple.{on_top}
 use Rattle.lab_words.specs.declared.words.ArrayWords.{ArrayWords}
+use Rattle.lab_words.specs.declared.words.CompareWords.{CompareWords}
 use Rattle.lab_words.specs.declared.words.SurveyWords.{SurveyWords}
 use Rattle.lab_words.specs.declared.words.Asked.{Asked}
 use Rattle.lab_words.specs.declared.words.Asked.TheVariants as asked
@@ -29,27 +31,53 @@ array = with_rule (with_rule (with_rule (with_rule (new_app (codes "array")) (pl
 abbrev pub survey : App
 survey = with_rule (with_rule (new_app (codes "survey")) (place (codes "GEOM"))) (place (codes "DUMP"))
 
+abbrev pub compare : App
+compare = with_rule (with_rule (with_rule (new_app (codes "compare")) (place (codes "GEOM"))) (place (codes "CERT"))) (place (codes "DUMP"))
+
+abbrev pub program : App
+program = on_top (λ s. record s { has_version = true; disable_help_subcommand = true; subcommand_required = true }) (new_app (codes "nandlab"))
+
+abbrev pub with_array : App
+with_array = with_subcommand program array.top
+
+abbrev pub with_survey : App
+with_survey = with_subcommand with_array survey.top
+
+-- the commands that the program has
 abbrev pub grammar : App
-grammar = with_subcommand (with_subcommand (on_top (λ s. record s { has_version = true; disable_help_subcommand = true; subcommand_required = true }) (new_app (codes "nandlab"))) array.top) survey.top
+grammar = with_subcommand with_survey compare.top
 
 -- ---- what the words ask for
+
+-- whether a word that may stand once stood, by how often it did
+abbrev pub once : ℕ → Option Bool
+once zero = Some false
+once (suc zero) = Some true
+once (suc (suc n)) = None
 
 -- the entries of the words of `array` are these
 pub record IsArrayAt (rows : List Row) (read : ArrayWords) : Type 0 where
   pub geometry_is : first_of (codes "GEOM") rows ≡ Some read.geometry.now
   pub dump_is : first_of (codes "DUMP") rows ≡ Some read.dump.now
   pub out_is : first_of (codes "OUT") rows ≡ Some read.out.now
-  pub forced : IsTrue read.force ↔ (0 < count_of (codes "force") rows)
+  pub forced : once (count_of (codes "force") rows) ≡ Some read.force
 
 -- those of the words of `survey` are these
 pub record IsSurveyAt (rows : List Row) (read : SurveyWords) : Type 0 where
   pub geometry_is : first_of (codes "GEOM") rows ≡ Some read.geometry.now
   pub dump_is : first_of (codes "DUMP") rows ≡ Some read.dump.now
 
+-- those of the words of `compare` are these
+pub record IsCompareAt (rows : List Row) (read : CompareWords) : Type 0 where
+  pub geometry_is : first_of (codes "GEOM") rows ≡ Some read.geometry.now
+  pub certificate_is : first_of (codes "CERT") rows ≡ Some read.certificate.now
+  pub dump_is : first_of (codes "DUMP") rows ≡ Some read.dump.now
+
 -- the command of this name with these entries asks for that
 abbrev pub IsAt : List ℕ → List Row → Asked → Type 0
 IsAt name rows (asked.Array read) = (name ≡ codes "array") × IsArrayAt rows read
 IsAt name rows (asked.Survey read) = (name ≡ codes "survey") × IsSurveyAt rows read
+IsAt name rows (asked.Compare read) = (name ≡ codes "compare") × IsCompareAt rows read
 IsAt name rows (asked.Text text) = ⊥
 
 -- the command that was met asks for that
@@ -72,4 +100,30 @@ NamesCommand words found = (fault_of grammar words ≡ []) × IsCommandOf (subco
 abbrev pub IsAsked : List (List ℕ) → Asked → Type 0
 IsAsked words (asked.Array read) = NamesCommand words (asked.Array read)
 IsAsked words (asked.Survey read) = NamesCommand words (asked.Survey read)
+IsAsked words (asked.Compare read) = NamesCommand words (asked.Compare read)
 IsAsked words (asked.Text text) = IsAmong DisplayHelp (fault_of grammar words) ⊎ IsAmong DisplayVersion (fault_of grammar words)
+
+-- ---- what is no command
+
+-- the error is of another kind, and memory didn't run out
+pub record IsOther (k : ErrorKind) : Type 0 where
+  pub help : k ≢ DisplayHelp
+  pub version : k ≢ DisplayVersion
+  pub memory : k ≢ OutOfMemory
+
+abbrev pub IsOtherKind : Error → Type 0
+IsOtherKind e = IsOther (kind_of e)
+
+-- `clap` finds such a fault in the words
+pub record HasFault (words : List (List ℕ)) : Type 0 where
+  pub kind : ErrorKind
+  pub among : IsAmong kind (fault_of grammar words)
+  pub other : IsOther kind
+
+-- it finds none, and they name no command with its words
+pub record NamesNone (words : List (List ℕ)) : Type 0 where
+  pub taken : fault_of grammar words ≡ []
+  pub none : (found : Asked) → ¬ IsCommandOf (subcommand_of grammar words) found
+
+abbrev pub IsNoCommand : List (List ℕ) → Type 0
+IsNoCommand words = HasFault words ⊎ NamesNone words

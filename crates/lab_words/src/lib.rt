@@ -3,4 +3,4 @@
 
 mod words;
 
-pub use words::{ArrayWords, Asked, SurveyWords, WordsFault, parse};
+pub use words::{ArrayWords, Asked, CompareWords, SurveyWords, WordsFault, parse};

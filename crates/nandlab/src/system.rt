@@ -1,10 +1,12 @@
 //! The files of the system.
 use lab_array::{Target, TargetFault};
 use lab_commands::{FileFault, LabFiles};
-use std::alloc::{AllocError, Global};
 use std::fs::{self, File, OpenFile};
-use std::io::{BufReader, Error, ErrorKind, Seek, SeekFrom, Write};
+use std::io::{self, BufReader, Error, ErrorKind, Seek, SeekFrom, Write};
 use std::rt::Files;
+
+// How many names beside a file are tried: a run that was killed may have left some.
+const NAMES: u32 = 100;
 
 // The bytes that a dump's reader asks the system for at once.
 const READ_AHEAD: usize = 262_144;
@@ -13,6 +15,8 @@ const READ_AHEAD: usize = 262_144;
 #[derive(Drop)]
 pub struct SystemFiles<'a, R> {
     rt: &'a R,
+    // the name of the file that was made beside another one
+    made: Option<String>,
 }
 
 /// A file of sectors of the system.
@@ -26,7 +30,7 @@ pub struct SectorFile<F> {
 impl<'a, R: Files + AllocGlobal> SystemFiles<'a, R> {
     /// The files that the program's handle `rt` reaches. Nothing is opened.
     pub fn new(rt: &'a R) -> SystemFiles<'a, R> {
-        SystemFiles { rt }
+        SystemFiles { rt, made: None }
     }
 }
 
@@ -39,19 +43,42 @@ fn fault_of(error: Error) -> FileFault {
     }
 }
 
-// The path of the file that is written beside another one.
-fn beside(alloc: Global, path: &str) -> Result<String, AllocError> {
-    format!(in alloc; "{path}.part")
+// A new file beside a path, under a name that no file has, with that name.
+fn new_beside<R: Files + AllocGlobal>(rt: &R, path: &str) -> io::Result<(R::File, String)> {
+    for number in 0..NAMES {
+        let name = format!(in rt.alloc(); "{path}.part{number}")?;
+        match File::create_new(rt, name.as_str()) {
+            Ok(file) => return Ok((file, name)),
+            Err(error) if error.kind() == ErrorKind::AlreadyExists => {}
+            Err(error) => return Err(error),
+        }
+    }
+    Err(Error::from(ErrorKind::AlreadyExists))
 }
 
-// A new file of so many zeros.
-fn new_file<R: Files>(rt: &R, path: &str, size: u64) -> Result<R::File, FileFault> {
-    let file = File::create_new(rt, path).map_err(fault_of)?;
+// The same, of so many zeros.
+fn new_zeros<R: Files + AllocGlobal>(
+    rt: &R,
+    path: &str,
+    size: u64,
+) -> io::Result<(R::File, String)> {
+    let (file, name) = new_beside(rt, path)?;
     match file.set_len(size) {
-        Ok(()) => Ok(file),
+        Ok(()) => Ok((file, name)),
         Err(error) => {
-            let _ = fs::remove_file(rt, path);
-            Err(fault_of(error))
+            let _ = fs::remove_file(rt, name.as_str());
+            Err(error)
+        }
+    }
+}
+
+impl<F: Seek + Write> SectorFile<F> {
+    // Writes the bytes of a sector.
+    fn write_piece(&mut self, number: u32, bytes: &[u8]) -> Result<(), TargetFault> {
+        let at = u64::from(number) * u64::from(self.size);
+        match self.file.seek(SeekFrom::Start(at)) {
+            Ok(_) => self.file.write_all(bytes).map_err(|_| TargetFault),
+            Err(_) => Err(TargetFault),
         }
     }
 }
@@ -61,29 +88,24 @@ impl<F: Seek + Write> Target for SectorFile<F> {
 
     ghost pieces = { λ _. None };
 
-    fn put(&mut self, number: u32, bytes: &[u8]) -> Result<(), TargetFault> {
-        let at = u64::from(number) * u64::from(self.size);
-        match self.file.seek(SeekFrom::Start(at)) {
-            Ok(_) => self.file.write_all(bytes).map_err(|_| TargetFault),
-            Err(_) => Err(TargetFault),
-        }
+    fn put(&mut self, number: u32, body: &[u8], _spare: &[u8]) -> Result<(), TargetFault> {
+        self.write_piece(number, body)
+    }
+
+    fn blank(&mut self, number: u32, zeros: &[u8]) -> Result<(), TargetFault> {
+        self.write_piece(number, zeros)
     }
 }
 
 impl<R: Files + AllocGlobal> LabFiles for SystemFiles<'_, R> {
-    ghost use Rattle.std.specs.Prelude.{None, false, ◌≡◌};
+    ghost use Rattle.std.specs.Prelude.{None};
+    ghost use Rattle.lab_commands.specs.Files.{unknown};
 
     type Reader = BufReader<R::File>;
 
     type Target = SectorFile<R::File>;
 
-    ghost gives = { λ _ _ _. Unit {0} };
-
-    ghost tells = { λ _. false };
-
-    ghost says_file = { λ _ _ _. Unit {0} };
-
-    ghost says_same = { λ _ _ _ _. Unit {0} };
+    ghost answers = { λ _. unknown };
 
     ghost kept = { λ _. None };
 
@@ -119,24 +141,22 @@ impl<R: Files + AllocGlobal> LabFiles for SystemFiles<'_, R> {
         let Ok(size) = u32::try_from(size) else {
             return Err(FileFault::Failed);
         };
-        let Ok(path) = beside(self.rt.alloc(), path) else {
-            return Err(FileFault::OutOfMemory);
-        };
         let all = u64::from(count) * u64::from(size);
-        let file = new_file(self.rt, path.as_str(), all)?;
+        let (file, name) = new_zeros(self.rt, path, all).map_err(fault_of)?;
+        self.made = Some(name);
         Ok(SectorFile { file, size })
     }
 
     fn keep(&mut self, path: &str, target: SectorFile<R::File>) -> Result<(), FileFault> {
         target.file.sync_all().map_err(fault_of)?;
-        let Ok(made) = beside(self.rt.alloc(), path) else {
-            return Err(FileFault::OutOfMemory);
-        };
-        fs::rename(self.rt, made.as_str(), path).map_err(fault_of)
+        match &self.made {
+            Some(made) => fs::rename(self.rt, made.as_str(), path).map_err(fault_of),
+            None => Err(FileFault::Failed),
+        }
     }
 
-    fn discard(&mut self, path: &str) {
-        if let Ok(made) = beside(self.rt.alloc(), path) {
+    fn discard(&mut self, _path: &str) {
+        if let Some(made) = &self.made {
             let _ = fs::remove_file(self.rt, made.as_str());
         }
     }

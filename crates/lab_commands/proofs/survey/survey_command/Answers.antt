@@ -1,10 +1,33 @@
+use Rattle.std.proofs.Common.{inr, refl}
+use Rattle.lab_commands.specs.Survey.{HasSurvey, IsSurveyFault}
+use Rattle.lab_commands.proofs.SurveyLemmas.{no_geometry, not_seen}
+use Rattle.lab_commands.proofs.UndoneLemmas.{handed_on}
 use Rattle.lab_commands.proofs.survey.survey_command.Goals as goal
+
+pub returns-in_err-geometry-clause-fault : goal.returns-in_err-geometry-clause-fault
+returns-in_err-geometry-clause-fault g c =
+    let a = g.F.LabFiles.answers c.args.files.now in
+    let k = g.F.LabFiles.kept c.args.files.now in
+    let o = g.W.Write.contents c.args.out.now in
+    handed_on (IsSurveyFault a c.args.words k k o o) _ _ c.from_residual.ensures.1 (no_geometry a c.args.words k o _ c.in_err-geometry.ensures.fault)
+
+pub returns-in_err-survey-clause-fault : goal.returns-in_err-survey-clause-fault
+returns-in_err-survey-clause-fault g c =
+    let a = g.F.LabFiles.answers c.args.files.now in
+    let k = g.F.LabFiles.kept c.args.files.now in
+    let o = g.W.Write.contents c.args.out.now in
+    handed_on (IsSurveyFault a c.args.words k (g.F.LabFiles.kept c.survey_of.new.files) o o) _ _ c.from_residual-in_err-survey.ensures.1
+    (not_seen a c.args.words c.in_ok-geometry.geometry k _ o _ c.in_ok-geometry.ensures.ok c.in_err-survey.ensures.kept c.in_err-survey.ensures.fault)
 
 pub returns-in-Ok-clause-ok : goal.returns-in-Ok-clause-ok
 returns-in-Ok-clause-ok g c = record {
   g = c.in_ok-geometry.geometry;
   survey = c.in_ok-survey.survey;
-  geometry_is = c.in_ok-geometry.ensures;
-  seen = c.in_ok-survey.ensures.seen;
+  has = record { geometry_is = c.in_ok-geometry.ensures.ok; seen = c.in_ok-survey.ensures.seen };
   told = c.in-Ok.ensures;
 }
+
+pub returns-clause-fault : goal.returns-clause-fault
+returns-clause-fault g c =
+    let has : HasSurvey (g.F.LabFiles.answers c.args.files.now) c.args.words c.in_ok-geometry.geometry c.in_ok-survey.survey = record { geometry_is = c.in_ok-geometry.ensures.ok; seen = c.in_ok-survey.ensures.seen } in
+    inr (c.in_ok-survey.ensures.kept, (c.in_ok-geometry.geometry, c.in_ok-survey.survey, has), refl)

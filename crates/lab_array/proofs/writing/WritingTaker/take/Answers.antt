@@ -19,7 +19,7 @@ returns-in-Unsound-clause-shows g c = λ image shown at.
     nothing_noted geo c.args.row image _ _ _ _ shown (unmarked_none geo image c.args.row p at seen.unmarked) (ap (λ k. k + 1) shown.unsound_is ∙ sym (unsound_more image c.args.row p at seen.broken_is))
 
 pub take_sound-requires-clause-looked : goal.take_sound-requires-clause-looked
-take_sound-requires-clause-looked g c = record { spare = c.args.spare.now; says = look_sound (page c.args.body.now c.args.spare.now) c.in-Sound.found (sym c.look_at.ensures ∙ c.in-Sound.is) }
+take_sound-requires-clause-looked g c = look_sound (page c.args.body.now c.args.spare.now) c.in-Sound.found (sym c.look_at.ensures ∙ c.in-Sound.is)
 
 pub returns-in-Sound-clause-shows : goal.returns-in-Sound-clause-shows
 returns-in-Sound-clause-shows g c = ok_map _ _ c.take_sound.result (λ h image shown at. h image _ shown at refl (look_sound (page c.args.body.now c.args.spare.now) c.in-Sound.found (sym c.look_at.ensures ∙ c.in-Sound.is))) c.take_sound.ensures.shows

@@ -1,0 +1,91 @@
+-- What the command `compare` comes to where it isn't done.
+use Rattle.std.proofs.Common.{◌≡◌, ◌≢◌, inl, inr, ℕ, ◌^◌, List, [], ◌++◌, take, Option, Some, None, IfSome, option_map, refl, ap, sym, subst, ◌∙◌}
+use Rattle.std.proofs.lemmas.Bool.{cases_eq}
+use Rattle.std.specs.declared.io.traits.Take.{Take}
+use Rattle.std.specs.Io.Take.{take_inner, take_limit, take_remaining}
+use Rattle.page_layout.specs.declared.geometry.Geometry.{Geometry}
+use Rattle.certificate.specs.declared.fault.CertFault.{CertFault}
+use Rattle.certificate.specs.Claim.{Claim, Sizes}
+use Rattle.certificate.specs.Faults.{IsFirstFault}
+use Rattle.certificate.specs.Spelling.{certificate_bytes}
+use Rattle.lab_words.specs.declared.words.CompareWords.{CompareWords}
+use Rattle.lab_commands.specs.declared.text.LabFault.{LabFault}
+use Rattle.lab_commands.specs.declared.text.LabFault.TheVariants as fault
+use Rattle.lab_commands.specs.Files.{Answers, AnswersNoMore, Kept}
+use Rattle.lab_commands.specs.Undone.{IsGeometryAt, IsNoGeometry, IsUnread}
+use Rattle.lab_commands.specs.Compare.{HasNone, IsBroken, IsCertificateAt, IsCompareFault, IsUnheld, looked_at}
+use Rattle.lab_compare.specs.declared.compare.Compared.{Compared}
+use Rattle.lab_commands.specs.Compare.{IsCompared}
+use Rattle.lab_commands.proofs.UndoneLemmas.{left_all, opened_before, opens_before, unread_before, untaken_before}
+
+-- ---- the certificate
+
+same_number : (a b : ℕ) → ¬ (a ≢ b) → a ≡ b
+same_number a b h = elim (cases_eq a b) [
+  | inl same ↦ same
+  | inr ne ↦ absurd (h ne)
+]
+
+abbrev made_of : ℕ → ℕ → ℕ → ℕ → ℕ → Sizes
+made_of d s p k n = record { data_bytes = d; spare_bytes = s; pages = p; blocks = k; sectors = n }
+
+-- five numbers that do not differ are the same
+pub same_sizes : (a b : Sizes) → ¬ (a ≢ b) → a ≡ b
+same_sizes a b h =
+    let body = same_number a.data_bytes b.data_bytes (λ ne. h (λ e. ne (ap (λ (s : Sizes). s.data_bytes) e))) in
+    let spare = same_number a.spare_bytes b.spare_bytes (λ ne. h (λ e. ne (ap (λ (s : Sizes). s.spare_bytes) e))) in
+    let pages = same_number a.pages b.pages (λ ne. h (λ e. ne (ap (λ (s : Sizes). s.pages) e))) in
+    let blocks = same_number a.blocks b.blocks (λ ne. h (λ e. ne (ap (λ (s : Sizes). s.blocks) e))) in
+    let sectors = same_number a.sectors b.sectors (λ ne. h (λ e. ne (ap (λ (s : Sizes). s.sectors) e))) in
+    ap (λ (n : ℕ). made_of n a.spare_bytes a.pages a.blocks a.sectors) body
+    ∙ (ap (λ (n : ℕ). made_of b.data_bytes n a.pages a.blocks a.sectors) spare
+    ∙ (ap (λ (n : ℕ). made_of b.data_bytes b.spare_bytes n a.blocks a.sectors) pages
+    ∙ (ap (λ (n : ℕ). made_of b.data_bytes b.spare_bytes b.pages n a.sectors) blocks
+    ∙ ap (λ (n : ℕ). made_of b.data_bytes b.spare_bytes b.pages b.blocks n) sectors)))
+
+-- what was read of a file, of whose reader so many bytes are taken
+pub read_of : {R : Type 0} (remaining : R → Option (List ℕ)) (t : Take R) (reader : R) (items before bytes : List ℕ) → take_limit t ≡ 2 ^ 26 → take_inner t ≡ reader → before ≡ [] → bytes ≡ items → IfSome (take_remaining remaining t) (λ xs. items ≡ before ++ xs)
+    → IfSome (option_map looked_at (remaining reader)) (λ xs. bytes ≡ xs)
+read_of {R} remaining t reader items before bytes limit inner none same read =
+    let limited = subst (λ (l : ℕ). IfSome (option_map (take l) (remaining (take_inner t))) (λ xs. items ≡ before ++ xs)) limit read in
+    let its = subst (λ (r : R). IfSome (option_map looked_at (remaining r)) (λ xs. items ≡ before ++ xs)) inner limited in
+    let alone = subst (λ (b : List ℕ). IfSome (option_map looked_at (remaining reader)) (λ xs. items ≡ b ++ xs)) none its in
+    subst (λ (i : List ℕ). IfSome (option_map looked_at (remaining reader)) (λ xs. i ≡ xs)) (sym same) alone
+
+-- what spells the bytes that were read
+pub spelled_by : (known : Option (List ℕ)) (c : Claim) (items : List ℕ) → IfSome (option_map looked_at known) (λ xs. items ≡ xs) → certificate_bytes c ≡ items → IfSome known (λ bytes. certificate_bytes c ≡ looked_at bytes)
+spelled_by None c items read is = tt
+spelled_by (Some bytes) c items read is = is ∙ read
+
+-- and their fault
+pub broken_by : (known : Option (List ℕ)) (f : CertFault) (items : List ℕ) → IfSome (option_map looked_at known) (λ xs. items ≡ xs) → IsFirstFault items f → IfSome known (λ bytes. IsBroken bytes (fault.Certificate f))
+broken_by None f items read is = tt
+broken_by (Some bytes) f items read is = subst (λ xs. IsFirstFault xs f) read is
+
+-- the certificate's file was not opened
+pub none_read : (a : Answers) (path : List ℕ) (told : LabFault) → IsUnread a path told → HasNone a path told
+none_read a path fault.OutOfMemory k = inl k
+none_read a path (fault.Read word) k = (k.0, inl k)
+none_read a path _ k = absurd k
+
+pub no_geometry : (a : Answers) (words : CompareWords) (k : Option (List Kept)) (out : Option (List ℕ)) (told : LabFault) → IsNoGeometry words.geometry.now told → IsCompareFault a words k k out out told
+no_geometry a words k out told h = inl (left_all k k out refl, inl h)
+
+pub no_certificate : (a : Answers) (words : CompareWords) (g : Geometry) (k after : Option (List Kept)) (out : Option (List ℕ)) (told : LabFault) → IsGeometryAt words.geometry.now g → after ≡ k → HasNone a words.certificate.now told → IsCompareFault a words k after out out told
+no_certificate a words g k after out told is same h = inl (left_all k after out same, inr (g, is, inl h))
+
+pub not_held : (a : Answers) (words : CompareWords) (g : Geometry) (c : Claim) (k after : Option (List Kept)) (out : Option (List ℕ)) (told : LabFault) → IsGeometryAt words.geometry.now g → IsCertificateAt a words.certificate.now c → after ≡ k → IsUnheld a g c words.dump.now told
+    → IsCompareFault a words k after out out told
+not_held a words g c k after out told is has same h = inl (left_all k after out same, inr (g, is, inr (c, has, h)))
+
+-- ---- the files between
+
+pub compared_before : (a b : Answers) (path : List ℕ) (g : Geometry) (c : Claim) (told : Compared) → AnswersNoMore a b → IsCompared b path g c told → IsCompared a path g c told
+compared_before a b path g c told h k = record { known = k.known; opened = opened_before a b path k.known h k.opened; compared = k.compared }
+
+pub unheld_before : (a b : Answers) (g : Geometry) (c : Claim) (path : List ℕ) (told : LabFault) → AnswersNoMore a b → IsUnheld b g c path told → IsUnheld a g c path told
+unheld_before a b g c path told h k = elim k [
+  | inl unread ↦ inl (unread_before a b path told h unread)
+  | inr (inl untaken) ↦ inr (inl (untaken_before a b g path told h untaken))
+  | inr (inr other) ↦ inr (inr (opens_before a b path h other.0, other.1))
+]

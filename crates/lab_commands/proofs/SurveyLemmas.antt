@@ -1,0 +1,15 @@
+-- What the command `survey` comes to where it isn't done.
+use Rattle.std.proofs.Common.{◌≡◌, inl, inr, ℕ, List, Option, refl}
+use Rattle.page_layout.specs.declared.geometry.Geometry.{Geometry}
+use Rattle.lab_words.specs.declared.words.SurveyWords.{SurveyWords}
+use Rattle.lab_commands.specs.declared.text.LabFault.{LabFault}
+use Rattle.lab_commands.specs.Files.{Answers, Kept}
+use Rattle.lab_commands.specs.Undone.{IsGeometryAt, IsNoGeometry}
+use Rattle.lab_commands.specs.Survey.{IsSurveyFault, IsUnsurveyed}
+use Rattle.lab_commands.proofs.UndoneLemmas.{left_all}
+
+pub no_geometry : (a : Answers) (words : SurveyWords) (k : Option (List Kept)) (out : Option (List ℕ)) (told : LabFault) → IsNoGeometry words.geometry.now told → IsSurveyFault a words k k out out told
+no_geometry a words k out told h = inl (left_all k k out refl, inl h)
+
+pub not_seen : (a : Answers) (words : SurveyWords) (g : Geometry) (k after : Option (List Kept)) (out : Option (List ℕ)) (told : LabFault) → IsGeometryAt words.geometry.now g → after ≡ k → IsUnsurveyed a g words.dump.now told → IsSurveyFault a words k after out out told
+not_seen a words g k after out told is same h = inl (left_all k after out same, inr (g, is, h))

@@ -1,0 +1,60 @@
+-- Why a command ended before it was done.
+use Rattle.std.proofs.Common.{◌≡◌, ℕ, List, Option, Some, None, IfSome, refl, sym, ◌∙◌, subst}
+use Rattle.std.specs.Prelude.{Result, Ok, Err, IfErr}
+use Rattle.std.specs.Result.{IsErrAnd}
+use Rattle.std.proofs.KnownBytes.{Keeps-refl}
+use Rattle.page_layout.specs.declared.geometry.Geometry.{Geometry}
+use Rattle.lab_commands.specs.declared.text.LabFault.{LabFault}
+use Rattle.lab_commands.specs.declared.text.LabFault.TheVariants as fault
+use Rattle.lab_commands.specs.declared.files.FileFault.TheVariants as file
+use Rattle.lab_commands.specs.Files.{Answers, AnswersNoMore, IsOpened, Kept}
+use Rattle.lab_commands.specs.Undone.{IsUnread, IsUntaken, IsUnwritten, LeavesAll, Opens}
+
+pub left_all : (before after : Option (List Kept)) (out : Option (List ℕ)) → after ≡ before → LeavesAll before after out out
+left_all before after out same = record { kept = same; silent = Keeps-refl out }
+
+-- a fault that is handed on
+pub handed_on : {T : Type 0} (P : LabFault → Type 0) (r : Result T LabFault) (told : LabFault) → IsErrAnd r (λ e. e ≡ told) → P told → IfErr r P
+handed_on P (Ok done) told is h = tt
+handed_on P (Err e) told is h = subst P (sym is) h
+
+-- ---- the files between
+
+pub no_more_first : (a : Answers) → AnswersNoMore a a
+no_more_first a = record { gives_same = λ at bytes h. h; tells_same = refl; fails_same = λ at f h. h }
+
+pub no_more_then : (a b d : Answers) → AnswersNoMore a b → AnswersNoMore b d → AnswersNoMore a d
+no_more_then a b d h k = record {
+  gives_same = λ at bytes x. h.gives_same at bytes (k.gives_same at bytes x);
+  tells_same = k.tells_same ∙ h.tells_same;
+  fails_same = λ at f x. h.fails_same at f (k.fails_same at f x);
+}
+
+pub unwritten_before : (a b : Answers) (path : List ℕ) (told : LabFault) → AnswersNoMore a b → IsUnwritten b path told → IsUnwritten a path told
+unwritten_before a b path fault.OutOfMemory h k = h.fails_same path file.OutOfMemory k
+unwritten_before a b path (fault.Write word) h k = (k.0, h.fails_same path file.Failed k.1)
+unwritten_before a b path _ h k = absurd k
+
+pub opened_before : (a b : Answers) (path : List ℕ) (known : Option (List ℕ)) → AnswersNoMore a b → IsOpened b path known → IsOpened a path known
+opened_before a b path known h k = record {
+  given = given known k.given;
+  told = λ tells. k.told (h.tells_same ∙ tells);
+}
+  where
+    given : (o : Option (List ℕ)) → IfSome o (b.gives path) → IfSome o (a.gives path)
+    given None x = tt
+    given (Some bytes) x = h.gives_same path bytes x
+
+pub unread_before : (a b : Answers) (path : List ℕ) (told : LabFault) → AnswersNoMore a b → IsUnread b path told → IsUnread a path told
+unread_before a b path fault.OutOfMemory h k = h.fails_same path file.OutOfMemory k
+unread_before a b path (fault.Read word) h k = (k.0, h.fails_same path file.Failed k.1)
+unread_before a b path _ h k = absurd k
+
+pub opens_before : (a b : Answers) (path : List ℕ) → AnswersNoMore a b → Opens b path → Opens a path
+opens_before a b path h k = record { known = k.known; opened = opened_before a b path k.known h k.opened }
+
+pub untaken_before : (a b : Answers) (g : Geometry) (path : List ℕ) (told : LabFault) → AnswersNoMore a b → IsUntaken b g path told → IsUntaken a g path told
+untaken_before a b g path fault.WrongLength h k = record { known = k.known; opened = opened_before a b path k.known h k.opened; other = k.other }
+untaken_before a b g path fault.OutOfMemory h k = opens_before a b path h k
+untaken_before a b g path (fault.Read word) h k = (k.0, opens_before a b path h k.1)
+untaken_before a b g path _ h k = absurd k

@@ -1,0 +1,110 @@
+-- What the command `compare` comes to.
+use Rattle.std.specs.Prelude.{◌≡◌, ◌≢◌, ◌⊎◌, ℕ, ◌^◌, Bool, true, false, List, ◌++◌, get_or, take, Option, Some, None, IfSome}
+use Rattle.std.specs.Io.KnownBytes.{Appends}
+use Rattle.page_layout.specs.declared.geometry.Geometry.{Geometry}
+use Rattle.certificate.specs.Claim.{Claim, sizes_of}
+use Rattle.certificate.specs.Faults.{IsFirstFault}
+use Rattle.certificate.specs.Spelling.{Fits, certificate_bytes}
+use Rattle.lab_compare.specs.declared.compare.Compared.{Compared}
+use Rattle.lab_compare.specs.Compared.{IsComparedTo}
+use Rattle.lab_words.specs.declared.words.CompareWords.{CompareWords}
+use Rattle.lab_commands.specs.declared.lines.Line.{Line}
+use Rattle.lab_commands.specs.declared.lines.Line.TheVariants.{Lost}
+use Rattle.lab_commands.specs.declared.text.LabFault.{LabFault}
+use Rattle.lab_commands.specs.declared.text.LabFault.TheVariants as fault
+use Rattle.lab_commands.specs.Files.{Answers, IsOpened, Kept}
+use Rattle.lab_commands.specs.Lines.{text_below}
+use Rattle.lab_commands.specs.Report.{age_line}
+use Rattle.lab_commands.specs.Undone.{IsGeometryAt, IsNoGeometry, IsUnprinted, IsUnread, IsUntaken, LeavesAll, Opens}
+
+-- ---- the text
+
+-- a sector that has lost a page
+abbrev pub lost_line : ℕ → Bool → Option Line
+lost_line n true = Some (Lost n)
+lost_line n false = None
+
+-- the first of them
+abbrev pub lost_text : List Bool → ℕ → List ℕ
+lost_text lost count = text_below (λ n. lost_line n (get_or lost n false)) count
+
+abbrev pub compare_text : Geometry → Compared → List ℕ
+compare_text g told = lost_text told.lost.items g.sectors ++ age_line told.unsound
+
+-- ---- the certificate
+
+-- so many bytes of a certificate's file are looked at: no certificate has as many
+abbrev pub looked_at : List ℕ → List ℕ
+looked_at bytes = take (2 ^ 26) bytes
+
+-- the file's bytes, as far as they are known, spell this claim
+pub record IsCertificateAt (a : Answers) (path : List ℕ) (c : Claim) : Type 0 where
+  pub known : Option (List ℕ)
+  pub opened : IsOpened a path known
+  pub fits : Fits c
+  pub spelled : IfSome known (λ bytes. certificate_bytes c ≡ looked_at bytes)
+
+-- this is the first fault of a certificate's bytes
+abbrev pub IsBroken : List ℕ → LabFault → Type 0
+IsBroken bytes (fault.Certificate broken) = IsFirstFault (looked_at bytes) broken
+IsBroken bytes _ = ⊥
+
+-- the file was opened, and its bytes, as far as they are known, have this fault
+pub record OpensBroken (a : Answers) (path : List ℕ) (told : LabFault) : Type 0 where
+  pub known : Option (List ℕ)
+  pub opened : IsOpened a path known
+  pub broken : IfSome known (λ bytes. IsBroken bytes told)
+
+-- Why there is no certificate: its file was not opened, a read of it failed or memory was refused, or its bytes are none.
+abbrev pub HasNone : Answers → List ℕ → LabFault → Type 0
+HasNone a path (fault.Read told) = (told.now ≡ path) × (IsUnread a path (fault.Read told) ⊎ Opens a path)
+HasNone a path (fault.Certificate broken) = OpensBroken a path (fault.Certificate broken)
+HasNone a path fault.OutOfMemory = IsUnread a path fault.OutOfMemory ⊎ Opens a path
+HasNone a path _ = ⊥
+
+-- ---- done
+
+-- what the dump comes to beside this claim: where its bytes are known that is of the image that they are
+pub record IsCompared (a : Answers) (path : List ℕ) (g : Geometry) (c : Claim) (told : Compared) : Type 0 where
+  pub known : Option (List ℕ)
+  pub opened : IsOpened a path known
+  pub compared : IfSome known (IsComparedTo g c told)
+
+-- the words name a geometry and a certificate of it, and this is what the dump comes to
+pub record HasCompared (a : Answers) (words : CompareWords) (g : Geometry) (told : Compared) : Type 0 where
+  pub claim : Claim
+  pub geometry_is : IsGeometryAt words.geometry.now g
+  pub certificate : IsCertificateAt a words.certificate.now claim
+  pub sizes : claim.sizes ≡ sizes_of g
+  pub compared : IsCompared a words.dump.now g claim told
+
+-- and that was printed
+pub record ToldCompared (a : Answers) (words : CompareWords) (out printed : Option (List ℕ)) : Type 0 where
+  pub g : Geometry
+  pub compared : Compared
+  pub has : HasCompared a words g compared
+  pub told : Appends out printed (compare_text g compared)
+
+-- ---- not done
+
+-- the certificate is of another geometry
+abbrev pub IsOther : Claim → Geometry → LabFault → Type 0
+IsOther c g fault.GeometryDiffers = c.sizes ≢ sizes_of g
+IsOther c g _ = ⊥
+
+-- why a dump was not held beside this claim
+abbrev pub IsUnheld : Answers → Geometry → Claim → List ℕ → LabFault → Type 0
+IsUnheld a g c path told = IsUnread a path told ⊎ IsUntaken a g path told ⊎ (Opens a path × IsOther c g told)
+
+-- The first of this order: the geometry; the certificate; the dump.
+abbrev pub IsUncompared : Answers → CompareWords → LabFault → Type 0
+IsUncompared a words told =
+    IsNoGeometry words.geometry.now told
+    ⊎ ((g : Geometry) × IsGeometryAt words.geometry.now g × (HasNone a words.certificate.now told
+    ⊎ ((c : Claim) × IsCertificateAt a words.certificate.now c × IsUnheld a g c words.dump.now told)))
+
+-- nothing was printed, for one of these reasons, or standard output failed
+abbrev pub IsCompareFault : Answers → CompareWords → Option (List Kept) → Option (List Kept) → Option (List ℕ) → Option (List ℕ) → LabFault → Type 0
+IsCompareFault a words before after out printed told =
+    (LeavesAll before after out printed × IsUncompared a words told)
+    ⊎ ((after ≡ before) × ((g : Geometry) × (compared : Compared) × HasCompared a words g compared) × IsUnprinted told)

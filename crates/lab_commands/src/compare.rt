@@ -1,0 +1,122 @@
+//! The command `compare GEOM CERT DUMP`.
+ghost use Rattle.std.specs.Prelude.{◌≡◌, ◌<◌, ◌≤◌, length, OnOk, IfOk, IfErr};
+ghost use Rattle.std.specs.Io.KnownBytes.{Appends};
+ghost use Rattle.certificate.specs.Claim.{sizes_of};
+ghost use Rattle.lab_commands.specs.Files.{AnswersNoMore};
+ghost use Rattle.lab_commands.specs.Compare.{HasNone, IsCertificateAt, IsCompareFault, IsCompared, IsUnheld, ToldCompared, compare_text, lost_text};
+
+use crate::files::LabFiles;
+use crate::lines::{lost_line, print_line};
+use crate::opening::{geometry_at, open_file};
+use crate::report::print_age;
+use crate::text::LabFault;
+use certificate::{Certificate, read_certificate};
+use lab_compare::{CompareFault, Compared, compare_dump};
+use lab_words::CompareWords;
+use page_layout::geometry::Geometry;
+use std::alloc::Global;
+use std::io::{self, Read, Write};
+
+// So many bytes of a certificate's file are looked at: no certificate has as many.
+const MOST_BYTES: u64 = 1 << 26;
+
+// The certificate that stands in a file.
+fn load_certificate<'a, F: LabFiles>(
+    alloc: Global,
+    path: &'a str,
+    files: &mut F,
+) -> Result<Certificate, LabFault<'a>>
+    ensures ok { IfOk result (IsCertificateAt (F.answers files.old) path.now) }
+    ensures fault { IfErr result (HasNone (F.answers files.old) path.now) }
+    ensures no_more { AnswersNoMore (F.answers files.old) (F.answers files.new) }
+    ensures kept { F.kept files.new ≡ F.kept files.old }
+{
+    let reader = open_file(files, path)?;
+    let mut bytes = Vec::new(alloc);
+    match reader.take(MOST_BYTES).read_to_end(&mut bytes) {
+        Ok(_) => (),
+        Err(error) if error.kind() == io::ErrorKind::OutOfMemory => {
+            return Err(LabFault::OutOfMemory);
+        }
+        Err(_) => return Err(LabFault::Read(path)),
+    }
+    match read_certificate(alloc, &bytes) {
+        Ok(certificate) => Ok(certificate),
+        Err(broken) => Err(LabFault::Certificate(broken)),
+    }
+}
+
+// What a dump comes to beside a certificate.
+fn compare_with<'a, F: LabFiles>(
+    alloc: Global,
+    dump: &'a str,
+    geometry: &Geometry,
+    certificate: &Certificate,
+    files: &mut F,
+) -> Result<Compared, LabFault<'a>>
+    ensures ok { IfOk result (IsCompared (F.answers files.old) dump.now geometry.now certificate.now) }
+    ensures sizes { OnOk result (certificate.now.sizes ≡ sizes_of geometry.now) }
+    ensures sized { IfOk result (λ told. length told.lost.items ≡ geometry.now.sectors) }
+    ensures fault { IfErr result (IsUnheld (F.answers files.old) geometry.now certificate.now dump.now) }
+    ensures kept { F.kept files.new ≡ F.kept files.old }
+{
+    let mut reader = open_file(files, dump)?;
+    match compare_dump(alloc, &mut reader, geometry, certificate) {
+        Ok(told) => Ok(told),
+        Err(CompareFault::GeometryDiffers) => Err(LabFault::GeometryDiffers),
+        Err(CompareFault::WrongLength) => Err(LabFault::WrongLength),
+        Err(CompareFault::Source) => Err(LabFault::Read(dump)),
+        Err(CompareFault::OutOfMemory) => Err(LabFault::OutOfMemory),
+    }
+}
+
+// The sectors that have lost a page, of the first so many.
+fn print_lost<W: Write>(out: &mut W, lost: &[bool], count: u32) -> io::Result<()>
+    requires { count ≤ length lost.now }
+    ensures { OnOk result (Appends (W.contents out.old) (W.contents out.new) (lost_text lost.now count)) }
+{
+    for sector in 0..count {
+        print_line(out, lost_line(sector, lost[sector as usize]))?;
+    }
+    Ok(())
+}
+
+// What a dump comes to beside a certificate: the sectors that have lost a page, and the line of the pages that are neither erased nor sound.
+fn print_compared<W: Write>(out: &mut W, geometry: &Geometry, told: &Compared) -> io::Result<()>
+    requires { length told.now.lost.items ≡ geometry.now.sectors }
+    ensures { OnOk result (Appends (W.contents out.old) (W.contents out.new) (compare_text geometry.now told.now)) }
+{
+    print_lost(out, &told.lost, geometry.sectors())?;
+    print_age(out, told.unsound)
+}
+
+/// The command `compare`: prints which sectors of the dump DUMP, of the geometry GEOM, have lost a page since the certificate CERT was made of
+/// its die, and how far the array may be from the last write.
+///
+/// # Errors
+///
+/// The first of this order: `BadNumber` where GEOM writes no numbers, `Geometry` where they are no geometry, `Read` where CERT cannot be
+/// read, or `OutOfMemory` where it was refused memory, `Certificate` where CERT's bytes are no certificate, `Read` where DUMP cannot be opened,
+/// `GeometryDiffers` where CERT is of another geometry; then each when it happens: `OutOfMemory` where a growth was refused, `Read` where a
+/// read of DUMP fails, `WrongLength` where it has not as many bytes as the geometry says. After each of these nothing was printed. `Write` of
+/// `-` where `out` failed.
+///
+/// (This project's.)
+pub(crate) fn compare_command<'a, F: LabFiles, W: Write>(
+    alloc: Global,
+    words: CompareWords<'a>,
+    files: &mut F,
+    out: &mut W,
+) -> Result<(), LabFault<'a>>
+    ensures ok { OnOk result (ToldCompared (F.answers files.old) words.entry (W.contents out.old) (W.contents out.new)) }
+    ensures kept { F.kept files.new ≡ F.kept files.old }
+    ensures fault { IfErr result (IsCompareFault (F.answers files.old) words.entry (F.kept files.old) (F.kept files.new) (W.contents out.old) (W.contents out.new)) }
+{
+    let geometry = geometry_at(words.geometry)?;
+    let certificate = load_certificate(alloc, words.certificate, files)?;
+    let told = compare_with(alloc, words.dump, &geometry, &certificate, files)?;
+    match print_compared(out, &geometry, &told) {
+        Ok(()) => Ok(()),
+        Err(_) => Err(LabFault::Write("-")),
+    }
+}
