@@ -90,7 +90,7 @@ abbrev pub WithinLaw : Type 0
 WithinLaw = (data_bytes spare_bytes rows : ℕ) (all : List ℕ) (row : ℕ) (r : Record) → rows * (data_bytes + spare_bytes) ≤ length all → row < rows
     → look_at data_bytes spare_bytes all row ≡ Sound r → IsWithin (key_of r) (data_bytes / 4) (told_of data_bytes spare_bytes rows all)
 
--- a die has at least the sectors that are told, where each sound page is of a sector or a translation page that it has
+-- a die has at least the sectors that are told, where each sound page is of a sector, a translation page or a table page that it has
 abbrev pub LowerLaw : Type 0
 LowerLaw = (g : Geometry) (all : List ℕ) → ((row : ℕ) (r : Record) → row < row_count g → look_at g.data_bytes g.spare_bytes all row ≡ Sound r → IsKeyOf g (key_of r))
     → (told_of g.data_bytes g.spare_bytes (row_count g) all).sectors ≤ g.sectors
