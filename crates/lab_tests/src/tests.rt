@@ -1,0 +1,41 @@
+//! What the tests have in common: a file of pages in memory.
+mod merge;
+mod repair;
+
+use lab_scan::{PageFault, PageTarget};
+use page_layout::record::Kind;
+use test_images::{TABLE_0, TABLE_1, Written};
+
+// The bytes of a page of the small die: 64 of data and 40 spare ones.
+const PAGE: usize = 104;
+
+// A die with two table pages and two sectors.
+const PAGES: [Written; 4] = [
+    TABLE_0,
+    TABLE_1,
+    (8, Kind::Sector, 3, 5, 0, 0x33),
+    (9, Kind::Sector, 4, 6, 0, 0x44),
+];
+
+// A file of pages in memory, that fails past its end.
+#[derive(Drop)]
+struct Pages {
+    bytes: Vec<u8>,
+}
+
+impl PageTarget for Pages {
+    ghost use Rattle.std.specs.Prelude.{None};
+
+    ghost pieces = { λ _. None };
+
+    fn put(&mut self, row: u32, bytes: &[u8]) -> Result<(), PageFault> {
+        let at = row as usize * PAGE;
+        for i in 0..bytes.len() {
+            match self.bytes.get_mut(at + i) {
+                Some(place) => *place = bytes[i],
+                None => return Err(PageFault),
+            }
+        }
+        Ok(())
+    }
+}
