@@ -10,7 +10,8 @@ use Rattle.nbd_stream.specs.Runs.{bytes_left, exchanges_of}
 use Rattle.nbd_stream.specs.Transmission.{Carries, negotiated_as}
 
 -- after a negotiation these requests were read, and what was written are the answers of the array
-pub record Answers (e : Export) (limit : ℕ) (bytes left_bytes : List ℕ) (unread left before after : Option (List ℕ)) (result : Result End ServeFault) : Type 0 where
+pub record Answers (e : Export) (limit : ℕ) (bytes left_bytes : List ℕ)
+    (unread left before after : Option (List ℕ)) (result : Result End ServeFault) : Type 0 where
   pub unread' : Option (List ℕ)
   pub before' : Option (List ℕ)
   pub negotiated : Negotiates e limit unread unread' before before' (Ok Transmission)
@@ -21,4 +22,5 @@ pub record Answers (e : Export) (limit : ℕ) (bytes left_bytes : List ℕ) (unr
 -- no request was read, and the bytes are as they were; or some were
 abbrev pub ServesBytes : Export → (limit : ℕ) → (bytes left_bytes : List ℕ) → (unread left before after : Option (List ℕ)) → Result End ServeFault → Type 0
 ServesBytes e limit bytes left_bytes unread left before after result =
-    ((left_bytes ≡ bytes) × Negotiates e limit unread left before after (negotiated_as result)) ⊎ Answers e limit bytes left_bytes unread left before after result
+    ((left_bytes ≡ bytes) × Negotiates e limit unread left before after (negotiated_as result))
+    ⊎ Answers e limit bytes left_bytes unread left before after result

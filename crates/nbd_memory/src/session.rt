@@ -1,5 +1,5 @@
 //! A disk of zeros is served to a client.
-ghost use Rattle.std.specs.Prelude.{◌≡◌, ◌≤◌, length, replicate};
+ghost use Rattle.std.specs.Prelude.{◌≡◌, ◌≤◌, length};
 ghost use Rattle.nbd_memory.specs.Memory.{ServesBytes};
 
 use crate::disk::MemoryDisk;
@@ -18,7 +18,8 @@ pub fn serve_memory<R: Read, W: Write>(
 ) -> Result<End, ServeFault>
     requires size { length disk.old.bytes.items ≡ export.now.size }
     requires room { export.now.maximum ≤ length buffer.old }
-    ensures { ServesBytes export.now (length buffer.new) disk.old.bytes.items disk.new.bytes.items (R.remaining reader.old) (R.remaining reader.new) (W.contents writer.old) (W.contents writer.new) result }
+    ensures { ServesBytes export.now (length buffer.new) disk.old.bytes.items disk.new.bytes.items
+        (R.remaining reader.old) (R.remaining reader.new) (W.contents writer.old) (W.contents writer.new) result }
 {
     serve(reader, writer, disk, export, buffer)
 }

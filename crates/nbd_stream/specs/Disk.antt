@@ -107,8 +107,8 @@ abbrev pub IsEither : (old due new : List ℕ) → (place : ℕ) → Type 0
 IsEither old due new place = (slice_index new place ≡ slice_index old place) ⊎ (slice_index new place ≡ slice_index due place)
 
 -- ONE TASK OF A DISK, BY ITS BYTES. Where it is done the bytes are those that the task leaves, and a read gave those of its range; where it
--- failed each byte is as it was or so. If the power goes now, each byte is as it would have been before, as it was, or as the task leaves
--- it; and one that the task makes last is as it is now.
+-- failed, each byte is as it was or as the task was to leave it. If the power goes now, each byte is as it would have been before, as it was,
+-- or as the task leaves it; and after one that is done, a byte that it makes last is as it is now.
 pub record Steps (task : Task) (body : List ℕ) (s : Contents) (answer : Result (List ℕ) RequestError) (t : Contents) : Type 0 where
   pub done : OnOk answer (t.bytes ≡ bytes_after task body s.bytes)
   pub gave : IfOk answer (λ bytes. bytes ≡ bytes_given task s.bytes)

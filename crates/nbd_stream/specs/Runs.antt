@@ -12,7 +12,7 @@ use Rattle.nbd_stream.specs.Exchanges.{Exchange, requests_in, task_of}
 
 -- ---- the run
 
--- ONE ANSWER: the error of a request that is refused, which changes nothing; else a task of the disk, which has as many bytes as before
+-- ONE ANSWER: a request that is refused gets its error, and changes nothing; else the disk did a task, and has as many bytes as before
 abbrev pub AnswersBy : Result Task RequestError → Contents → Exchange → Contents → Type 0
 AnswersBy (Err e) s x t = (x.answer ≡ Err e) × (t ≡ s)
 AnswersBy (Ok task) s x t = (length t.bytes ≡ length s.bytes) × Steps task x.request.body s x.answer t
@@ -114,7 +114,8 @@ KeptLaw = (e : Export) (s t : Contents) (xs : List Exchange) (place : ℕ) → A
 -- it made last is as it was then, or as a later request sets it
 abbrev pub NothingLostLaw : Type 0
 NothingLostLaw = (e : Export) (s m t : Contents) (x : Exchange) (xs : List Exchange) (task : Task) (place : ℕ) → task_of e x.request ≡ Ok task
-    → IsToLast task place → AreFor e s (x ∷ xs) → Answers e s x m → IsOk x.answer → Runs e m xs t → IsOrSet e (slice_index m.bytes place) xs place (slice_index t.durable place)
+    → IsToLast task place → AreFor e s (x ∷ xs) → Answers e s x m → IsOk x.answer → Runs e m xs t
+    → IsOrSet e (slice_index m.bytes place) xs place (slice_index t.durable place)
 
 -- WHAT A CHANGE SETS, where it was answered without an error, stands
 abbrev pub SetLaw : Type 0

@@ -11,7 +11,7 @@ use crate::task::Task;
 /// That is said where the disk is `honest`: it holds what it is given. What a file or another machine holds no contract can name, so a disk over one
 /// is not, and to whoever starts it, that word is the premise.
 pub trait Disk {
-    ghost use Rattle.std.specs.Prelude.{◌≡◌, ◌≤◌, ◌+◌, ℕ, Bool, List, [], length, replicate};
+    ghost use Rattle.std.specs.Prelude.{◌≤◌, ◌+◌, Bool, [], length};
     ghost use Rattle.nbd_stream.specs.Disk.{Contents, Performs, answer_from};
 
     /// The bytes that it stands for, and those that it will stand for if the power goes now.
