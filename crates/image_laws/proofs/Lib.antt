@@ -1,0 +1,2 @@
+mod RefusalLemmas
+mod KeptLemmas

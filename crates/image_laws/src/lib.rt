@@ -1,0 +1,24 @@
+//! Laws on what is said of an image, by the checker, a mount and a format: a refusal says one thing, and what is said to stay does. They
+//! stand in no crate that others rest on, so that a new one has nothing proved again.
+#![tactic(auto)]
+
+ghost use Rattle.image_laws.specs.Refusals.{OnePartLaw, OnePairLaw, OneWordLaw, CertifiedLaw};
+ghost use Rattle.image_laws.specs.Kept.{OtherRowsLaw, OtherPagesLaw, LowestTableLaw};
+
+/// What a refusal says is one: the part of a certificate that fails first, the rows that share a sequence first, and what is wrong first
+/// with a table page. And an image that has a certificate is refused by a mount for want of memory or a failed page read alone. (This
+/// project.)
+pub fn refusal_laws()
+    ensures part { OnePartLaw }
+    ensures pair { OnePairLaw }
+    ensures word { OneWordLaw }
+    ensures certified { CertifiedLaw }
+{}
+
+/// What stays: reading a table page leaves the rows of all other pages' blocks as they were; a format leaves the pages of good blocks
+/// that are no table pages as they were, and each block below the one with the table was marked or has failed. (This project.)
+pub fn kept_laws()
+    ensures rows { OtherRowsLaw }
+    ensures pages { OtherPagesLaw }
+    ensures table { LowestTableLaw }
+{}
