@@ -3,8 +3,7 @@ mod merge;
 mod repair;
 
 use lab_scan::{PageFault, PageTarget};
-use page_layout::record::Kind;
-use test_images::{TABLE_0, TABLE_1, Written};
+use test_images::{TABLE_0, TABLE_1, Written, page};
 
 // The bytes of a page of the small die: 64 of data and 40 spare ones.
 const PAGE: usize = 104;
@@ -13,8 +12,8 @@ const PAGE: usize = 104;
 const PAGES: [Written; 4] = [
     TABLE_0,
     TABLE_1,
-    (8, Kind::Sector, 3, 5, 0, 0x33),
-    (9, Kind::Sector, 4, 6, 0, 0x44),
+    page!(8, Sector 3, sequence 5, fill 0x33),
+    page!(9, Sector 4, sequence 6, fill 0x44),
 ];
 
 // A file of pages in memory, that fails past its end.

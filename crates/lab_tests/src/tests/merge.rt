@@ -2,16 +2,15 @@
 use super::{PAGE, PAGES, Pages};
 use lab_merge::{MergeFault, Tally, merge_dumps};
 use page_layout::geometry::Geometry;
-use page_layout::record::Kind;
 use std::test::Fail;
-use test_images::{TABLE_0, TABLE_1, Written, image_of};
+use test_images::{TABLE_0, TABLE_1, Written, image_of, page};
 
 // The same die with another page in row 8.
 const OTHERS: [Written; 4] = [
     TABLE_0,
     TABLE_1,
-    (8, Kind::Sector, 3, 7, 0, 0x33),
-    (9, Kind::Sector, 4, 6, 0, 0x44),
+    page!(8, Sector 3, sequence 7, fill 0x33),
+    page!(9, Sector 4, sequence 6, fill 0x44),
 ];
 
 // What is put at these bytes of a dump.
