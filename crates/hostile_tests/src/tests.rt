@@ -5,7 +5,6 @@
 // `failing_streams_end`; `command_tests`: `requests_are_served`), programs and erases that fail (`fault_tests`: `fault_scripts`).
 mod buses;
 mod calls;
-mod dies;
 mod images;
 mod list;
 mod noise;

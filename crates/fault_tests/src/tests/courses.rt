@@ -23,15 +23,29 @@ pub enum Calls {
     Plain,
     /// The die after 128 of these calls, with all its pages in version 1. Every fourth call brings a page of version 1 forward.
     Migrating,
+    /// The die after 128 of these calls, with all its pages in version 1: every eighth call writes another sector, and the others the last.
+    /// So each block has a page of a sector that is seldom written.
+    Spread,
     /// A formatted die, and the calls before a collection of block 1, which comes after them.
     Collecting,
 }
 
 impl Calls {
+    // The calls that the die of version 1 has behind it, where it is of that version.
+    fn first(self) -> Option<Calls> {
+        match self {
+            Calls::Migrating => Some(Calls::Plain),
+            Calls::Spread => Some(Calls::Spread),
+            Calls::Plain | Calls::Collecting => None,
+        }
+    }
+
     /// Call i, from 0 on.
     pub fn nth(self, i: u32) -> Call {
         match self {
             Calls::Migrating if i % 4 == 1 => Call::Migrate,
+            Calls::Spread if i % 8 == 0 => Call::Write(i / 8 % 31, (i % 251) as u8),
+            Calls::Spread => Call::Write(31, (i % 251) as u8),
             Calls::Collecting if i < 8 => CLOSING[i as usize],
             _ => nth_call(i),
         }
@@ -53,8 +67,8 @@ pub struct Course {
 #[derive(Drop)]
 pub struct Start {
     pub geometry: Geometry,
-    image: Vec<u8>,
-    script: Script,
+    pub image: Vec<u8>,
+    pub script: Script,
 }
 
 /// What is left by a device that stopped: the list of what it did, the call at which it stopped, and the image of its die.
@@ -223,16 +237,17 @@ fn age(geometry: &Geometry, image: &mut [u8]) -> u32 {
     aged
 }
 
-// The image of a formatted die after so many calls of the scripts of failures.
+// The image of a formatted die after so many of these calls.
 fn image_after(
     alloc: Global,
     geometry: Geometry,
+    calls: Calls,
     count: u32,
     went: &mut Went,
 ) -> Result<Vec<u8>, Fail> {
     let driver = formatted_die(alloc, geometry, &[], 0)?;
     let mut device = started(alloc, driver, &geometry, 4)?;
-    give_until_stop(&mut device, Calls::Plain, count, went)?;
+    give_until_stop(&mut device, calls, count, went)?;
     let (driver, geometry) = given_up(device);
     image_of(alloc, &geometry, driver)
 }
@@ -245,10 +260,16 @@ fn image_after(
 pub fn start_of(alloc: Global, course: &Course) -> Result<Start, Fail> {
     let geometry = Geometry::new(64, course.spare, 8, 32, 32)?;
     let mut went = going_on(Script::new());
-    let is_old = course.calls == Calls::Migrating;
-    let count = if is_old { 128 } else { 0 };
-    let mut image = image_after(alloc, geometry, count, &mut went)?;
-    if is_old && age(&geometry, &mut image) < 128 {
+    let first = course.calls.first();
+    let count = if first.is_some() { 128 } else { 0 };
+    let mut image = image_after(
+        alloc,
+        geometry,
+        first.unwrap_or(Calls::Plain),
+        count,
+        &mut went,
+    )?;
+    if first.is_some() && age(&geometry, &mut image) < 128 {
         return Err("few pages are in version 1")?;
     }
     Ok(Start {

@@ -4,11 +4,11 @@ ghost use Rattle.page_layout.specs.Geometry.{row_count};
 ghost use Rattle.ftl_device.specs.Device.{IsDevice};
 
 use super::calls::{Call, make, write};
-use super::dies::{image_of, loaded};
 use super::list::{List, SECTORS, hold_device, scanned};
 use super::noise::Noise;
 use certificate::Certificate;
 use device_bench::bench::{formatted_die, given_up, mounted, small, started};
+use device_bench::dies::{image_of, loaded};
 use ftl_device::{Device, DeviceFault};
 use image_check::{Refusal, SectorFault, check, check_stream, sector};
 use mount::{format, mount};

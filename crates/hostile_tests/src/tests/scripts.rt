@@ -7,9 +7,9 @@ ghost use Rattle.onfi_cycles.specs.Driver.{flash_by};
 ghost use Rattle.ftl_device.specs.Device.{IsDevice};
 
 use super::calls::{Call, make, read};
-use super::dies::image_of;
 use super::list::{SECTORS, scanned};
 use device_bench::bench::{driver_on, formatted_die, given_up, mounted, small, start_on, started};
+use device_bench::dies::image_of;
 use ftl_device::{Device, DeviceFault};
 use image_check::{Accepted, check};
 use nand_die::{CycleFuse, Die, Stop};

@@ -1,0 +1,378 @@
+// Dies whose pages of version 1 are brought forward: while each program and erase fails in turn, from a pinned block on, and by devices
+// that are started one after the other. All sectors are compared with a plain list after each call. Each page that is brought forward
+// leaves fewer newest pages of version 1; where none is found, only table pages are of it, and after a flush none is.
+ghost use Rattle.std.specs.Prelude.{◌≡◌, IfOk};
+ghost use Rattle.ftl_device.specs.Device.{IsDevice};
+
+use super::courses::{Calls, Course, Start, start_of};
+use super::old::{Old, old_of};
+use super::script::{Script, compare};
+use device_bench::bench::{driver_on, given_up, started};
+use device_bench::calls::{Call, hold_call};
+use device_bench::hold::hold_same;
+use ftl_device::Device;
+use nand_die::{Die, Fault};
+use onfi_cycles::{Bus, Driver, Nand};
+use page_layout::geometry::Geometry;
+use std::alloc::Global;
+use std::test::Fail;
+
+// A course of calls on a die with pages of version 1, after which all of these are brought forward.
+struct Row {
+    course: Course,
+    // Whether every second call is a turn, and the calls end with the one that pins a block.
+    pins: bool,
+    // Whether each device brings one page forward, and the next is started without a flush. Else the first brings all forward, and
+    // flushes.
+    restarts: bool,
+    // So far apart are the programs and erases that fail.
+    apart: u64,
+    // So many pages are brought forward after the calls, at least.
+    least: usize,
+}
+
+const OLD: Course = Course {
+    name: "failures",
+    spare: 40,
+    calls: Calls::Migrating,
+    count: 16,
+};
+
+const FAILURES: Row = Row {
+    course: OLD,
+    pins: false,
+    restarts: false,
+    apart: 1,
+    least: 8,
+};
+
+const PINNED: Row = Row {
+    course: Course {
+        name: "a pinned block",
+        calls: Calls::Spread,
+        count: 200,
+        ..OLD
+    },
+    pins: true,
+    restarts: false,
+    apart: 3,
+    least: 8,
+};
+
+const RESTARTS: Row = Row {
+    course: Course {
+        name: "restarts",
+        ..OLD
+    },
+    pins: false,
+    restarts: true,
+    apart: 5,
+    least: 8,
+};
+
+impl Row {
+    // Call i. Those of `Spread` go on where the die of version 1 has come to.
+    fn nth(&self, i: u32) -> Call {
+        match (self.pins, i % 2) {
+            (true, 1) => Call::Turn,
+            (true, _) => self.course.calls.nth(128 + i / 2),
+            _ => self.course.calls.nth(i),
+        }
+    }
+
+    // So many pages a device brings forward at most.
+    fn most(&self) -> u32 {
+        if self.restarts { 1 } else { 256 }
+    }
+
+    // What a program or erase leaves in its page that fails: every second one as it was, and the others bytes 00h. Where no flush
+    // comes before the next device all leave these, since else it would not know of the failure.
+    fn page_left(&self, nth: u64) -> usize {
+        if self.restarts || nth % 2 == 0 {
+            104
+        } else {
+            0
+        }
+    }
+}
+
+// No newest page is of version 1.
+const NONE: Old = Old {
+    tables: 0,
+    others: 0,
+};
+
+// What the devices on a die came to: the list of what they did, how many pages they brought forward after the calls, and how many
+// newest pages are of version 1.
+#[derive(Clone, Copy)]
+struct Came {
+    script: Script,
+    brought: usize,
+    old: Old,
+}
+
+impl Came {
+    // A device brought so many pages forward, and leaves these of version 1: as many fewer as it brought forward, at least; but for
+    // table pages none where it found no more, and none where it flushed.
+    fn go_on(&mut self, row: &Row, count: u32, old: Old) -> Result<(), Fail> {
+        let brought = count as usize;
+        let is_fewer = old.others.saturating_add(brought) <= self.old.others;
+        let is_left = count < row.most() && old.others > 0 || !row.restarts && old.tables > 0;
+        if !is_fewer || is_left || old.tables > self.old.tables {
+            let name = row.course.name;
+            let before = self.old;
+            return Err(Fail::new(format_args!("{name}: {count} pages: {before:?}, {old:?}")));
+        }
+        self.brought = self.brought.saturating_add(brought);
+        self.old = old;
+        Ok(())
+    }
+}
+
+// Makes a call, which is done. All sectors are compared then.
+fn give<N: Nand>(
+    device: &mut Device<N>,
+    row: &Row,
+    script: &mut Script,
+    call: Call,
+) -> Result<(), Fail>
+    requires { IsDevice N.flash device.old }
+    ensures { IsDevice N.flash device.new }
+{
+    hold_call(device, row.course.name, call, Ok(()))?;
+    script.note(call);
+    compare(device, script)
+}
+
+// Makes the calls of a row. Where they are to pin a block, one is pinned then.
+fn give_first<N: Nand>(device: &mut Device<N>, row: &Row, script: &mut Script) -> Result<(), Fail>
+    requires { IsDevice N.flash device.old }
+    ensures { IsDevice N.flash device.new }
+{
+    for i in 0..row.course.count {
+        if row.pins && device.engine.pinned.is_some() {
+            return Ok(());
+        }
+        give(device, row, script, row.nth(i))?;
+    }
+    if row.pins {
+        return Err("no block is pinned")?;
+    }
+    Ok(())
+}
+
+// Brings so many pages forward, or all that there are. How many these are.
+fn bring<N: Nand>(device: &mut Device<N>, most: u32, script: &Script) -> Result<u32, Fail>
+    requires { IsDevice N.flash device.old }
+    ensures { IsDevice N.flash device.new }
+{
+    for count in 0..most {
+        let found = device.migrate_one()?;
+        compare(device, script)?;
+        if !found {
+            return Ok(count);
+        }
+    }
+    Ok(most)
+}
+
+// A device that brought so many pages forward gives the die up.
+fn handed_on<N: Nand + Drop>(
+    alloc: Global,
+    device: Device<N>,
+    row: &Row,
+    count: u32,
+    came: &mut Came,
+) -> Result<(N, Geometry), Fail>
+    requires { IsDevice N.flash device }
+    ensures { IfOk result (λ pair. (N.flash pair.0).geometry ≡ pair.1) }
+{
+    let (mut nand, geometry) = given_up(device);
+    let old = old_of(alloc, &mut nand, &geometry)?;
+    came.go_on(row, count, old)?;
+    Ok((nand, geometry))
+}
+
+// The first device makes the calls, and brings pages forward.
+fn begun<N: Nand + Drop>(
+    alloc: Global,
+    nand: N,
+    geometry: &Geometry,
+    row: &Row,
+    came: &mut Came,
+) -> Result<(N, Geometry), Fail>
+    requires { (N.flash nand).geometry ≡ geometry.now }
+    ensures { IfOk result (λ pair. (N.flash pair.0).geometry ≡ pair.1) }
+{
+    let mut device = started(alloc, nand, geometry, 4)?;
+    give_first(&mut device, row, &mut came.script)?;
+    let count = bring(&mut device, row.most(), &came.script)?;
+    if !row.restarts {
+        give(&mut device, row, &mut came.script, Call::Flush)?;
+    }
+    handed_on(alloc, device, row, count, came)
+}
+
+// The next device brings pages forward. How many these are.
+fn restarted<N: Nand + Drop>(
+    alloc: Global,
+    nand: N,
+    geometry: &Geometry,
+    row: &Row,
+    came: &mut Came,
+) -> Result<(N, Geometry, u32), Fail>
+    requires { (N.flash nand).geometry ≡ geometry.now }
+    ensures { IfOk result (λ given. (N.flash given.0).geometry ≡ given.1) }
+{
+    let mut device = started(alloc, nand, geometry, 4)?;
+    compare(&mut device, &came.script)?;
+    let count = bring(&mut device, row.most(), &came.script)?;
+    let (nand, geometry) = handed_on(alloc, device, row, count, came)?;
+    Ok((nand, geometry, count))
+}
+
+// Devices bring pages forward, one after the other, until one finds none.
+fn bring_all<N: Nand + Drop>(
+    alloc: Global,
+    mut nand: N,
+    mut geometry: Geometry,
+    row: &Row,
+    came: &mut Came,
+) -> Result<(N, Geometry), Fail>
+    requires { (N.flash nand).geometry ≡ geometry }
+    ensures { IfOk result (λ pair. (N.flash pair.0).geometry ≡ pair.1) }
+{
+    for _ in 0..256 {
+        let (given, now, count) = restarted(alloc, nand, &geometry, row, came)?;
+        nand = given;
+        geometry = now;
+        if count == 0 {
+            return Ok((nand, geometry));
+        }
+    }
+    Err("no end")?
+}
+
+// A device finds none, and flushes. No newest page is of version 1 then.
+fn flushed<N: Nand + Drop>(
+    alloc: Global,
+    nand: N,
+    geometry: &Geometry,
+    row: &Row,
+    came: &mut Came,
+) -> Result<(N, Geometry), Fail>
+    requires { (N.flash nand).geometry ≡ geometry.now }
+    ensures { IfOk result (λ pair. (N.flash pair.0).geometry ≡ pair.1) }
+{
+    let mut device = started(alloc, nand, geometry, 4)?;
+    let count = bring(&mut device, 1, &came.script)?;
+    give(&mut device, row, &mut came.script, Call::Flush)?;
+    let (mut nand, geometry) = given_up(device);
+    let old = old_of(alloc, &mut nand, &geometry)?;
+    hold_same(row.course.name, "after a flush", &(count, old), &(0, NONE))?;
+    Ok((nand, geometry))
+}
+
+// The last device has the sectors of the list. The die, and how many blocks are good.
+fn compared<N: Nand + Drop>(
+    alloc: Global,
+    nand: N,
+    geometry: &Geometry,
+    script: &Script,
+) -> Result<(N, u32), Fail>
+    requires { (N.flash nand).geometry ≡ geometry.now }
+{
+    let mut device = started(alloc, nand, geometry, 1)?;
+    compare(&mut device, script)?;
+    let good = device.engine.blocks.good();
+    Ok((device.into_nand(), good))
+}
+
+// As many pages were brought forward as should be.
+fn hold_brought(row: &Row, came: &Came) -> Result<(), Fail> {
+    let found = came.brought;
+    if found >= row.least {
+        return Ok(());
+    }
+    let name = row.course.name;
+    Err(Fail::new(format_args!("{name}: {found} pages are brought forward")))
+}
+
+// A die goes from device to device until all its pages are of version 2. The die, and how many blocks are good.
+fn brought_forward<N: Nand + Drop>(
+    alloc: Global,
+    mut nand: N,
+    geometry: &Geometry,
+    row: &Row,
+    script: Script,
+) -> Result<(N, u32), Fail>
+    requires { (N.flash nand).geometry ≡ geometry.now }
+{
+    let old = old_of(alloc, &mut nand, geometry)?;
+    let mut came = Came {
+        script,
+        brought: 0,
+        old,
+    };
+    let (nand, geometry) = begun(alloc, nand, geometry, row, &mut came)?;
+    let (nand, geometry) = bring_all(alloc, nand, geometry, row, &mut came)?;
+    hold_brought(row, &came)?;
+    let (nand, geometry) = flushed(alloc, nand, &geometry, row, &mut came)?;
+    compared(alloc, nand, &geometry, &came.script)
+}
+
+// A die on which this program or erase fails.
+fn failing(alloc: Global, row: &Row, start: &Start, nth: u64) -> Result<Driver<Die>, Fail>
+    ensures { IfOk result (λ driver. driver.geometry ≡ start.now.geometry) }
+{
+    let mut die = Die::from_image(alloc, start.geometry, &start.image, &[])?;
+    let mut faults = Vec::new(alloc);
+    faults.push(Fault {
+        nth_change: nth,
+        page_left: vec![in alloc; 0; row.page_left(nth)]?,
+    })?;
+    die.set_faults(faults)?;
+    driver_on(die, start.geometry)
+}
+
+// A row with a die on which this program or erase fails, or none with number 0. How many programs and erases there were.
+fn changes_of(alloc: Global, row: &Row, start: &Start, nth: u64) -> Result<u64, Fail> {
+    let driver = failing(alloc, row, start, nth)?;
+    let (driver, good) = brought_forward(alloc, driver, &start.geometry, row, start.script)?;
+    let die = driver.into_bus();
+    let wanted = if nth == 0 { 32 } else { 31 };
+    hold_same(
+        row.course.name,
+        "abuse and good blocks",
+        &(die.abuse(), good),
+        &(0, wanted),
+    )?;
+    Ok(die.changes())
+}
+
+// A row with no failure, and then with programs and erases that fail, one in each run.
+fn hold_row(alloc: Global, row: &Row) -> Result<(), Fail> {
+    let start = start_of(alloc, &row.course)?;
+    let changes = changes_of(alloc, row, &start, 0)?;
+    for nth in 1..=changes {
+        if nth % row.apart.max(1) == 0 {
+            changes_of(alloc, row, &start, nth)?;
+        }
+    }
+    Ok(())
+}
+
+#[test]
+fn pages_come_forward_past_failures(rt: HostRuntime) -> Result<(), Fail> {
+    hold_row(rt.alloc(), &FAILURES)
+}
+
+#[test]
+fn pages_come_forward_past_a_pinned_block(rt: HostRuntime) -> Result<(), Fail> {
+    hold_row(rt.alloc(), &PINNED)
+}
+
+#[test]
+fn pages_come_forward_past_restarts(rt: HostRuntime) -> Result<(), Fail> {
+    hold_row(rt.alloc(), &RESTARTS)
+}
