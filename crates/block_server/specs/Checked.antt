@@ -45,7 +45,8 @@ pub record Headline (g : Geometry) (capacity : ℕ) (c : Claim) (s t : Flash) (x
   pub legal : IsLegal g s.image (is_bad_in c) (log_of run.events)
 
 -- the headline holds of these exchanges, and its events are the calls that lead from the one device to the other
-pub record Holds {N : Type 0} (flash : N → Flash) (recorded : N → Option Recording) (honest : N → Bool) (failed erases : N → ℕ) (g : Geometry) (capacity : ℕ) (c : Claim) (s : Flash) (old : Device N) (xs : List Exchange) (new : Device N) : Type 0 where
+pub record Holds {N : Type 0} (flash : N → Flash) (recorded : N → Option Recording) (honest : N → Bool) (failed erases : N → ℕ) (g : Geometry)
+    (capacity : ℕ) (c : Claim) (s : Flash) (old : Device N) (xs : List Exchange) (new : Device N) : Type 0 where
   pub headline : Headline g capacity c s (flash new.engine.nand) xs
   pub each : HappensEach flash recorded honest failed erases old headline.run.events xs new
   pub ro_is : headline.ro ≡ new.read_only
@@ -79,7 +80,9 @@ pub record IsHandedBack {N : Type 0} (flash : N → Flash) (honest calm : N → 
 -- Requests were served: what was read and written, and what the device answered, that `start` began over the die. It was told one after another, and
 -- each call did what it promises. Where the die is honest, the headline holds of the exchanges before the first fault of the bus: of all of them where there
 -- is none. From it on each is answered that fault.
-pub record IsServed {N : Type 0} (flash : N → Flash) (recorded : N → Option Recording) (honest calm : N → Bool) (failed erases : N → ℕ) (nand : N) (g : Geometry) (capacity : ℕ) (c : Claim) (unread left before after : Option (List ℕ)) (result : Result Served ServeFault) (given : N) : Type 0 where
+pub record IsServed {N : Type 0} (flash : N → Flash) (recorded : N → Option Recording) (honest calm : N → Bool) (failed erases : N → ℕ) (nand : N)
+    (g : Geometry) (capacity : ℕ) (c : Claim) (unread left before after : Option (List ℕ)) (result : Result Served ServeFault)
+    (given : N) : Type 0 where
   pub requests : List Request
   pub exchanges : List Exchange
   pub commands : commands_in exchanges ≡ map command_of requests
@@ -113,7 +116,8 @@ pub record IsUnstarted {N : Type 0} (flash : N → Flash) (honest calm : N → B
   pub back : IsHandedBack flash honest calm failed nand g given
 
 -- why requests were not served to their end
-abbrev pub Fails : {N : Type 0} → (N → Flash) → (N → Option Recording) → (honest calm : N → Bool) → (failed erases : N → ℕ) → N → Geometry → ℕ → Claim → (unread left before after : Option (List ℕ)) → RunFault N → Type 0
+abbrev pub Fails : {N : Type 0} → (N → Flash) → (N → Option Recording) → (honest calm : N → Bool) → (failed erases : N → ℕ) → N → Geometry → ℕ
+    → Claim → (unread left before after : Option (List ℕ)) → RunFault N → Type 0
 Fails flash recorded honest calm failed erases nand g capacity c unread left before after (Refused why given) = IsUntouched unread left before after × IsUnaccepted flash honest calm failed nand g capacity c why given
 Fails flash recorded honest calm failed erases nand g capacity c unread left before after (Start given) = IsUntouched unread left before after × IsUnstarted flash honest calm failed nand g capacity c given
 Fails flash recorded honest calm failed erases nand g capacity c unread left before after (Serve stop given) = IsServed flash recorded honest calm failed erases nand g capacity c unread left before after (Err stop) given

@@ -50,7 +50,8 @@ Serves size unread left before after requests replies (Err fault.OutOfMemory) = 
 -- ---- the device
 
 -- THE SESSION: each request was told to the device, and it answered
-pub record Session {N : Type 0} (flash : N → Flash) (recorded : N → Option Recording) (honest : N → Bool) (failed erases : N → ℕ) (old new : Device N) (unread left before after : Option (List ℕ)) (result : Result Served ServeFault) : Type 0 where
+pub record Session {N : Type 0} (flash : N → Flash) (recorded : N → Option Recording) (honest : N → Bool) (failed erases : N → ℕ)
+    (old new : Device N) (unread left before after : Option (List ℕ)) (result : Result Served ServeFault) : Type 0 where
   pub requests : List Request
   pub exchanges : List Exchange
   pub commands : commands_in exchanges ≡ map command_of requests
@@ -68,14 +69,16 @@ IsBodyOf body told.Flush = Unit {0}
 IsBodyOf body told.Turn = Unit {0}
 
 -- the device was told what the request asks, and the reply was written, or a beginning of it
-pub record Answers {N : Type 0} (flash : N → Flash) (recorded : N → Option Recording) (honest : N → Bool) (failed erases : N → ℕ) (old new : Device N) (r : Request) (before after : Option (List ℕ)) (result : Result (Unit {0}) ServeFault) : Type 0 where
+pub record Answers {N : Type 0} (flash : N → Flash) (recorded : N → Option Recording) (honest : N → Bool) (failed erases : N → ℕ)
+    (old new : Device N) (r : Request) (before after : Option (List ℕ)) (result : Result (Unit {0}) ServeFault) : Type 0 where
   pub exchange : Exchange
   pub command_is : exchange.command ≡ command_of r
   pub tells : Tells flash recorded honest failed erases old exchange new
   pub sends : Sends before after (reply_bytes r (reply_in exchange)) result
 
 -- a request was read, the device was told it, and its reply was written as this says
-pub record HasServed {N : Type 0} (flash : N → Flash) (recorded : N → Option Recording) (honest : N → Bool) (failed erases : N → ℕ) (old new : Device N) (unread left : Option (List ℕ)) (writes : List ℕ → Type 0) : Type 0 where
+pub record HasServed {N : Type 0} (flash : N → Flash) (recorded : N → Option Recording) (honest : N → Bool) (failed erases : N → ℕ)
+    (old new : Device N) (unread left : Option (List ℕ)) (writes : List ℕ → Type 0) : Type 0 where
   pub request : Request
   pub exchange : Exchange
   pub whole : IsRequest old.engine.geometry.data_bytes request
@@ -92,7 +95,8 @@ pub record HasNone {N : Type 0} (old new : Device N) (unread left before after :
   pub same : new ≡ old
   pub kept : after ≡ before
 
-abbrev pub ServesNext : {N : Type 0} → (N → Flash) → (N → Option Recording) → (N → Bool) → (failed erases : N → ℕ) → (old new : Device N) → (unread left before after : Option (List ℕ)) → Result (Option End) ServeFault → Type 0
+abbrev pub ServesNext : {N : Type 0} → (N → Flash) → (N → Option Recording) → (N → Bool) → (failed erases : N → ℕ) → (old new : Device N)
+    → (unread left before after : Option (List ℕ)) → Result (Option End) ServeFault → Type 0
 ServesNext flash recorded honest failed erases old new unread left before after (Ok None) = HasServed flash recorded honest failed erases old new unread left (Appends before after)
 ServesNext flash recorded honest failed erases old new unread left before after (Ok (Some end)) = HasNone old new unread left before after (λ tail. Rests old.engine.geometry.data_bytes end tail left)
 ServesNext flash recorded honest failed erases old new unread left before after (Err fault.Read) = HasNone old new unread left before after (IsBeginning old.engine.geometry.data_bytes)

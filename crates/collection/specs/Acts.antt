@@ -15,7 +15,8 @@ use Rattle.collection.specs.Log.{Went}
 use Rattle.collection.specs.Results.{fault_after}
 
 -- A CALL THAT LOOKS: memory stays, the die is only read, and an honest one stays as it is, and so does what it tells, unless it gave a fault
-pub record OnlyLooks {A N : Type 0} (flash : N → Flash) (recorded : N → Option Recording) (honest calm : N → Bool) (programs erases failed : N → ℕ) (old new : Engine N) (result : Result A WriteFault) : Type 0 where
+pub record OnlyLooks {A N : Type 0} (flash : N → Flash) (recorded : N → Option Recording) (honest calm : N → Bool) (programs erases failed : N → ℕ)
+    (old new : Engine N) (result : Result A WriteFault) : Type 0 where
   pub safe : IsSafe flash new
   pub memory : ram new ≡ ram old
   pub only_reads : OnlyReads flash honest calm programs erases failed old.nand new.nand

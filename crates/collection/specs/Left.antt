@@ -157,7 +157,9 @@ PinLaw = (r : Ram) (p : Pinned) → p.block < r.geometry.blocks → r.mapping.mo
 
 -- ANOTHER CALL NEVER RAISES IT
 abbrev pub KeptLaw : Type 0
-KeptLaw = (old new : Ram) (before after : Image) (block : ℕ) → IsRam old → IsRam new → IsTrue None old before → IsTrue None new after → block < old.geometry.blocks → is_closed old.blocks block ≡ true → LeavesPin old new → Leaves old before after → left_in false new after block ≤ left_in false old before block
+KeptLaw = (old new : Ram) (before after : Image) (block : ℕ) → IsRam old → IsRam new → IsTrue None old before → IsTrue None new after
+    → block < old.geometry.blocks → is_closed old.blocks block ≡ true → LeavesPin old new → Leaves old before after
+    → left_in false new after block ≤ left_in false old before block
 
 -- memory stays calm in it
 abbrev pub CalmLaw : Type 0
@@ -169,12 +171,17 @@ PassedLaw = (old new : Ram) (before after : Image) → IsCalm old → LeavesPin 
 
 -- and few pages stay few
 abbrev pub FewLaw : Type 0
-FewLaw = (extra : ℕ) (old new : Ram) (before after : Image) → IsRam old → IsRam new → IsTrue None old before → IsTrue None new after → IsCalm old → LeavesPin old new → Leaves old before after → PinIsFew extra old → PinIsFew extra new
+FewLaw = (extra : ℕ) (old new : Ram) (before after : Image) → IsRam old → IsRam new → IsTrue None old before → IsTrue None new after → IsCalm old
+    → LeavesPin old new → Leaves old before after → PinIsFew extra old → PinIsFew extra new
 
 -- EACH PAGE THAT IS COPIED LOWERS IT: where another sector is moved, its newest page was in the block
 abbrev pub CopyLaw : Type 0
-CopyLaw = (flushing : Bool) (old new : Ram) (before after : Image) (block : ℕ) → block < old.geometry.blocks → is_closed old.blocks block ≡ true → new.geometry ≡ old.geometry → Leaves old before after → TouchesNoMore flushing block old before new → live_at new.blocks block + 1 ≡ live_at old.blocks block → left_in flushing new after block + 1 ≤ left_in flushing old before block
+CopyLaw = (flushing : Bool) (old new : Ram) (before after : Image) (block : ℕ) → block < old.geometry.blocks → is_closed old.blocks block ≡ true
+    → new.geometry ≡ old.geometry → Leaves old before after → TouchesNoMore flushing block old before new
+    → live_at new.blocks block + 1 ≡ live_at old.blocks block → left_in flushing new after block + 1 ≤ left_in flushing old before block
 
 -- EACH TRANSLATION PAGE THAT IS WRITTEN LOWERS IT, where no newest page is left then
 abbrev pub WriteLaw : Type 0
-WriteLaw = (flushing : Bool) (old new : Ram) (before after : Image) (block : ℕ) → IsRam new → IsTrue None new after → block < old.geometry.blocks → new.geometry ≡ old.geometry → live_at new.blocks block ≡ 0 → HasWritten flushing old new → left_in flushing new after block + 1 ≤ left_in flushing old before block
+WriteLaw = (flushing : Bool) (old new : Ram) (before after : Image) (block : ℕ) → IsRam new → IsTrue None new after → block < old.geometry.blocks
+    → new.geometry ≡ old.geometry → live_at new.blocks block ≡ 0 → HasWritten flushing old new
+    → left_in flushing new after block + 1 ≤ left_in flushing old before block

@@ -38,4 +38,7 @@ pub record Advances {N : Type 0} (flash : N → Flash) (honest : N → Bool) (re
   -- a copy reads on from the cursor, up to the page that it copies
   pub copied_reads : result ≡ Ok Copied → (page : ℕ) × (new.pinned ≡ Some (record { block = p.block; first = page + 1 })) × (reads new.nand ≤ reads old.nand + 2 * (page + 1 - p.first))
   pub erases_are : IfOk result (λ step. erases new.nand ≡ erases_told step (erases old.nand))
-  pub truth : honest old.nand ≡ true → IsTrue None (ram old) (image_in flash old) → HasPassed (ram old) (image_in flash old) p → MatchResult result (StepsOn flushing p (ram old) (image_in flash old) (ram new) (image_in flash new)) (Refused (ram old) (image_in flash old) (ram new) (image_in flash new))
+  pub truth : honest old.nand ≡ true → IsTrue None (ram old) (image_in flash old) → HasPassed (ram old) (image_in flash old) p
+      → MatchResult result
+          (StepsOn flushing p (ram old) (image_in flash old) (ram new) (image_in flash new))
+          (Refused (ram old) (image_in flash old) (ram new) (image_in flash new))

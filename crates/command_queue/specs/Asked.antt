@@ -53,11 +53,13 @@ HaveFlushed (call ∷ calls) = ((is_flush (command_asked call) ≡ true) × (res
 
 -- WHAT THE CONTRACT OF `Device::migrate_one` SAYS, as a list of calls needs it: all that is said of a turn's array, log and image; with `false` no
 -- newest page is of version 1, but table pages, and with `true` fewer are than before
-pub record MigratesOne {N : Type 0} (flash : N → Flash) (recorded : N → Option Recording) (honest calm : N → Bool) (failed : N → ℕ) (old : Device N) (result : Result Bool DeviceFault) (new : Device N) : Type 0 where
+pub record MigratesOne {N : Type 0} (flash : N → Flash) (recorded : N → Option Recording) (honest calm : N → Bool) (failed : N → ℕ) (old : Device N)
+    (result : Result Bool DeviceFault) (new : Device N) : Type 0 where
   pub device : IsDevice flash new
   pub sized : new.engine.geometry ≡ old.engine.geometry
   pub upkeeps : Upkeeps flash recorded honest calm failed step.Turn old (ended result) new
-  pub migrates : honest old.engine.nand ≡ true → IsWell flash old → 40 ≤ old.engine.geometry.spare_bytes → IfOk result (λ found. Migrates found old.engine.geometry (image_in flash old.engine) (image_in flash new.engine))
+  pub migrates : honest old.engine.nand ≡ true → IsWell flash old → 40 ≤ old.engine.geometry.spare_bytes
+      → IfOk result (λ found. Migrates found old.engine.geometry (image_in flash old.engine) (image_in flash new.engine))
 
 -- EACH CALL DID WHAT IT PROMISES, from a device to the next
 abbrev pub AskedEach : {N : Type 0} → (N → Flash) → (N → Option Recording) → (honest calm : N → Bool) → (failed erases : N → ℕ) → Device N → List Asked → Device N → Type 0
@@ -85,7 +87,8 @@ DoesEach flash recorded old [] new = new ≡ old
 DoesEach {N} flash recorded old (call ∷ calls) new = (mid : Device N) × Does flash recorded old call mid × DoesEach flash recorded mid calls new
 
 -- their logs, one after another
-abbrev pub log_asked : {N : Type 0} → (flash : N → Flash) → (recorded : N → Option Recording) → (old : Device N) → (calls : List Asked) → (new : Device N) → DoesEach flash recorded old calls new → List Operation
+abbrev pub log_asked : {N : Type 0} → (flash : N → Flash) → (recorded : N → Option Recording) → (old : Device N) → (calls : List Asked)
+    → (new : Device N) → DoesEach flash recorded old calls new → List Operation
 log_asked flash recorded old [] new each = []
 log_asked flash recorded old (call ∷ calls) new each = each.1.went.log ++ log_asked flash recorded each.0 calls new each.2
 
@@ -105,7 +108,8 @@ pub record DoesAll {N : Type 0} (flash : N → Flash) (recorded : N → Option R
 
 -- what was told is a list of calls
 abbrev pub ToldAskedLaw : {N : Type 0} → (N → Flash) → (N → Option Recording) → (honest calm : N → Bool) → (failed erases : N → ℕ) → Type 0
-ToldAskedLaw {N} flash recorded honest calm failed erases = (old new : Device N) (xs : List Exchange) → ToldEach flash recorded honest failed erases old xs new → AskedEach flash recorded honest calm failed erases old (map Told xs) new
+ToldAskedLaw {N} flash recorded honest calm failed erases = (old new : Device N) (xs : List Exchange)
+    → ToldEach flash recorded honest failed erases old xs new → AskedEach flash recorded honest calm failed erases old (map Told xs) new
 
 -- AND CALLS AFTER CALLS ARE ONE LIST: so a run, a call of `migrate_one`, and a run
 abbrev pub AskedJoinLaw : {N : Type 0} → (N → Flash) → (N → Option Recording) → (honest calm : N → Bool) → (failed erases : N → ℕ) → Type 0
@@ -115,10 +119,12 @@ AskedJoinLaw {N} flash recorded honest calm failed erases = (old mid new : Devic
 -- ONE RUN, WHATEVER WAS ASKED, of an honest die that gave every outcome
 abbrev pub AskedRunLaw : {N : Type 0} → (N → Flash) → (N → Option Recording) → (honest calm : N → Bool) → (failed erases : N → ℕ) → Type 0
 AskedRunLaw {N} flash recorded honest calm failed erases = (old new : Device N) (calls : List Asked) → honest old.engine.nand ≡ true → IsWell flash old → HaveOutcomes calls
-    → AskedEach flash recorded honest calm failed erases old calls new → (each : DoesEach flash recorded old calls new) × DoesAll flash recorded old calls new (log_asked flash recorded old calls new each)
+    → AskedEach flash recorded honest calm failed erases old calls new
+    → (each : DoesEach flash recorded old calls new) × DoesAll flash recorded old calls new (log_asked flash recorded old calls new each)
 
 -- ALL IS BROUGHT FORWARD, where the die has room for version 2: once `migrate_one` has answered `false`, no newest page is of version 1 after any
 -- calls among which a flush was done
 abbrev pub AskedForwardLaw : {N : Type 0} → (N → Flash) → (N → Option Recording) → (honest calm : N → Bool) → (failed erases : N → ℕ) → Type 0
-AskedForwardLaw {N} flash recorded honest calm failed erases = (old new : Device N) (calls : List Asked) → honest old.engine.nand ≡ true → IsWell flash old → 40 ≤ old.engine.geometry.spare_bytes → HaveOutcomes calls
+AskedForwardLaw {N} flash recorded honest calm failed erases = (old new : Device N) (calls : List Asked) → honest old.engine.nand ≡ true
+    → IsWell flash old → 40 ≤ old.engine.geometry.spare_bytes → HaveOutcomes calls
     → AskedEach flash recorded honest calm failed erases old (Migrated (Ok false) ∷ calls) new → HaveFlushed calls → HasNoneOld (image_in flash new.engine)

@@ -64,7 +64,8 @@ pub record HasRun (first : First) (old new : runs.DeviceView) (xs : List Exchang
   pub fair : AreFair first old [] events xs
 
 -- AN EVENT IS A CALL: it has the log of what one call did, from a device to the next, leaves the die of that device, and tells what that die tells
-pub record IsEventOf {N : Type 0} (flash : N → Flash) (recorded : N → Option Recording) (honest : N → Bool) (failed erases : N → ℕ) (old : Device N) (event : Event) (x : Exchange) (new : Device N) : Type 0 where
+pub record IsEventOf {N : Type 0} (flash : N → Flash) (recorded : N → Option Recording) (honest : N → Bool) (failed erases : N → ℕ) (old : Device N)
+    (event : Event) (x : Exchange) (new : Device N) : Type 0 where
   pub tells : Tells flash recorded honest failed erases old x new
   pub happened : Happened flash recorded old x new
   pub piece : event.piece ≡ happened.went.log
@@ -97,7 +98,8 @@ accepted_device s c = record { flash = s; ro = is_scarce (free_in s.geometry c s
 
 -- It is a run from a device that `start` begins over this die: nothing is pinned. The accounts of the accepted image are those of its memory, and the log
 -- leads them to those of the memory as it ends; so a later run of the same device (`Ran`) goes on with one legal log.
-pub record RanFrom {N : Type 0} (flash : N → Flash) (recorded : N → Option Recording) (honest : N → Bool) (failed erases : N → ℕ) (s : Flash) (c : Claim) (xs : List Exchange) (new : Device N) : Type 0 where
+pub record RanFrom {N : Type 0} (flash : N → Flash) (recorded : N → Option Recording) (honest : N → Bool) (failed erases : N → ℕ) (s : Flash)
+    (c : Claim) (xs : List Exchange) (new : Device N) : Type 0 where
   pub first : Device N
   pub held : flash first.engine.nand ≡ s
   pub begun : ram first.engine ≡ begun_ram s.geometry c (stale_sectors s.geometry s.image)

@@ -42,9 +42,13 @@ pub record Happened {N : Type 0} (flash : N → Flash) (recorded : N → Option 
   pub step : ArrayStep old.engine.geometry (state_in flash old) x.command (reply_in x) (state_in flash new)
   pub went : Went (ram old.engine) (flash old.engine.nand) (recorded old.engine.nand) (ram new.engine) (flash new.engine.nand) (recorded new.engine.nand)
   pub stale : needs_no_memory (is_some old.engine.pinned) old.engine.geometry (image_in flash old.engine) x.command ≡ true → x.result ≢ Err OutOfMemory
-  pub shown : (bad : ℕ → Bool) (next : ℕ) (before : List Operation) → ((b : ℕ) → b < old.engine.geometry.blocks → is_bad_by (ram new.engine) b ≡ bad_of old.engine.geometry.pages bad (before ++ went.log) b) → new.engine.next ≡ next + programs_in (before ++ went.log)
+  pub shown : (bad : ℕ → Bool) (next : ℕ) (before : List Operation)
+      → ((b : ℕ) → b < old.engine.geometry.blocks → is_bad_by (ram new.engine) b ≡ bad_of old.engine.geometry.pages bad (before ++ went.log) b)
+      → new.engine.next ≡ next + programs_in (before ++ went.log)
       → IfErr x.result (IsShown old.engine.geometry bad next before went.log old.read_only (image_in flash new.engine))
-  pub left : (bad : ℕ → Bool) (before : List Operation) → ((b : ℕ) → b < old.engine.geometry.blocks → is_bad_by (ram new.engine) b ≡ bad_of old.engine.geometry.pages bad (before ++ went.log) b) → new.read_only ≡ true
+  pub left : (bad : ℕ → Bool) (before : List Operation)
+      → ((b : ℕ) → b < old.engine.geometry.blocks → is_bad_by (ram new.engine) b ≡ bad_of old.engine.geometry.pages bad (before ++ went.log) b)
+      → new.read_only ≡ true
       → IsLeft x.command old.engine.geometry bad before went.log old.read_only x.result
   pub flushed : is_flush x.command ≡ true → x.result ≡ Ok tt → IsFlushedOut (first_of (ram old.engine)) went.log (image_in flash new.engine)
   pub reads : is_read x.command ≡ true → (went.log ≡ []) × (die_in flash new ≡ die_in flash old)
@@ -65,7 +69,8 @@ pub record TakesTurn {N : Type 0} (flash : N → Flash) (honest : N → Bool) (e
   pub quiet : honest old.engine.nand ≡ true → IsWell flash old → OnOk result (IsQuiet erases old.engine new.engine)
   pub falls : honest old.engine.nand ≡ true → IsWell flash old → HasNoneAiling (ram old.engine).blocks → OnOk result (HasFallen flash erases old.engine new.engine)
   pub rescued : honest old.engine.nand ≡ true → IsWell flash old → OnOk result (HasRescued (ram old.engine) (ram new.engine))
-  pub worked : honest old.engine.nand ≡ true → IsWell flash old → HasAiling (ram old.engine).blocks → OnOk result (HasWorked (ram old.engine) (ram new.engine) (erases old.engine.nand) (erases new.engine.nand))
+  pub worked : honest old.engine.nand ≡ true → IsWell flash old → HasAiling (ram old.engine).blocks
+      → OnOk result (HasWorked (ram old.engine) (ram new.engine) (erases old.engine.nand) (erases new.engine.nand))
 
 -- and where the command is one
 abbrev pub TakesIfTurn : {N : Type 0} → (N → Flash) → (N → Bool) → (N → ℕ) → step.Command → Device N → Result (Unit {0}) DeviceFault → Device N → Type 0

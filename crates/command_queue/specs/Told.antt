@@ -73,10 +73,12 @@ pub record WasTold {N : Type 0} (flash : N → Flash) (recorded : N → Option R
 
 -- the same of a device that `start` began over this die
 abbrev pub RunsFrom : {N : Type 0} → (N → Flash) → (N → Option Recording) → (N → Bool) → (failed erases : N → ℕ) → N → Acceptance → List Exchange → Device N → Type 0
-RunsFrom flash recorded honest failed erases nand accepted xs mid = honest nand ≡ true → IsAcceptedFor (flash nand) accepted → IsWell flash mid × RanFrom flash recorded honest failed erases (flash nand) accepted.claim xs mid
+RunsFrom flash recorded honest failed erases nand accepted xs mid = honest nand ≡ true → IsAcceptedFor (flash nand) accepted
+    → IsWell flash mid × RanFrom flash recorded honest failed erases (flash nand) accepted.claim xs mid
 
 -- `start` began a device over this die, and it was told these, one after another
-pub record ToldFrom {N : Type 0} (flash : N → Flash) (recorded : N → Option Recording) (honest : N → Bool) (failed erases : N → ℕ) (nand : N) (accepted : Acceptance) (xs : List Exchange) (new : Device N) : Type 0 where
+pub record ToldFrom {N : Type 0} (flash : N → Flash) (recorded : N → Option Recording) (honest : N → Bool) (failed erases : N → ℕ) (nand : N)
+    (accepted : Acceptance) (xs : List Exchange) (new : Device N) : Type 0 where
   pub first : Device N
   pub nand_is : first.engine.nand ≡ nand
   pub begun : ram first.engine ≡ begun_ram (flash nand).geometry accepted.claim accepted.stale

@@ -30,7 +30,9 @@ abbrev pub FailNowhere : Geometry → List Event → Type 0
 FailNowhere g events = AllByRecursion (λ (e : Event). FailsNowhere g e.piece) events
 
 -- of these calls one erased a block, or found nothing to do
-abbrev pub OneRests : {N : Type 0} → (flash : N → Flash) → (recorded : N → Option Recording) → (honest : N → Bool) → (failed erases : N → ℕ) → (old : Device N) → (events : List Event) → (xs : List Exchange) → (new : Device N) → HappensEach flash recorded honest failed erases old events xs new → Type 0
+abbrev pub OneRests : {N : Type 0} → (flash : N → Flash) → (recorded : N → Option Recording) → (honest : N → Bool) → (failed erases : N → ℕ)
+    → (old : Device N) → (events : List Event) → (xs : List Exchange) → (new : Device N)
+    → HappensEach flash recorded honest failed erases old events xs new → Type 0
 OneRests flash recorded honest failed erases old [] [] new each = ⊥
 OneRests flash recorded honest failed erases old [] (x ∷ xs) new each = ⊥
 OneRests flash recorded honest failed erases old (event ∷ events) [] new each = ⊥
@@ -42,17 +44,21 @@ OneRests flash recorded honest failed erases old (event ∷ events) (x ∷ xs) n
 -- AMONG AS MANY TURNS IN A ROW as a block has pages, each done and none with a failure, begun while no bad block held a newest page, one erases a
 -- block or finds nothing to do
 abbrev pub TurnsInARowLaw : {N : Type 0} → (N → Flash) → (N → Option Recording) → (N → Bool) → (failed erases : N → ℕ) → Type 0
-TurnsInARowLaw {N} flash recorded honest failed erases = (old new : Device N) (events : List Event) (xs : List Exchange) → IsDevice flash old → honest old.engine.nand ≡ true → IsWell flash old → old.read_only ≡ false → HasNoneAiling (ram old.engine).blocks
-    → length xs ≡ old.engine.geometry.pages → AreTurnsDone xs → FailNowhere old.engine.geometry events → (each : HappensEach flash recorded honest failed erases old events xs new) → OneRests flash recorded honest failed erases old events xs new each
+TurnsInARowLaw {N} flash recorded honest failed erases = (old new : Device N) (events : List Event) (xs : List Exchange) → IsDevice flash old
+    → honest old.engine.nand ≡ true → IsWell flash old → old.read_only ≡ false → HasNoneAiling (ram old.engine).blocks
+    → length xs ≡ old.engine.geometry.pages → AreTurnsDone xs → FailNowhere old.engine.geometry events
+    → (each : HappensEach flash recorded honest failed erases old events xs new) → OneRests flash recorded honest failed erases old events xs new each
 
 -- A TURN THAT IS DONE AND QUIET, that programs nothing and of which the die counts no erase, leaves twelve free blocks by the image, where three more are good
 -- than the geometry asks for
 abbrev pub QuietTurnLaw : {N : Type 0} → (N → Flash) → (N → Option Recording) → (N → Bool) → (failed erases : N → ℕ) → Type 0
-QuietTurnLaw {N} flash recorded honest failed erases = (old new : Device N) (event : Event) (x : Exchange) → honest old.engine.nand ≡ true → IsWell flash old → is_turn x.command ≡ true → x.result ≡ Ok tt → IsEventOf flash recorded honest failed erases old event x new
+QuietTurnLaw {N} flash recorded honest failed erases = (old new : Device N) (event : Event) (x : Exchange) → honest old.engine.nand ≡ true
+    → IsWell flash old → is_turn x.command ≡ true → x.result ≡ Ok tt → IsEventOf flash recorded honest failed erases old event x new
     → (0 < programs_in event.piece) ⊎ HasRisen (erases old.engine.nand) (erases new.engine.nand) ⊎ (need new.engine.geometry + 3 ≤ good_by (ram new.engine) → 12 ≤ free_by (ram new.engine) (image_in flash new.engine))
 
 -- A TURN OF A RUN THAT IS DONE AND PROGRAMS AND ERASES NOTHING leaves twelve free blocks by the image and the log up to it, where three more are good by
 -- that log than the geometry asks for
 abbrev pub QuietEventLaw : Type 0
-QuietEventLaw = (first : First) (old : runs.DeviceView) (before : List Operation) (event : Event) (x : Exchange) → IsFair first old before event x → is_turn x.command ≡ true → x.result ≡ Ok tt → event.piece ≡ []
+QuietEventLaw = (first : First) (old : runs.DeviceView) (before : List Operation) (event : Event) (x : Exchange) → IsFair first old before event x
+    → is_turn x.command ≡ true → x.result ≡ Ok tt → event.piece ≡ []
     → need first.geometry + 3 ≤ good_count first.geometry first.bad before → 12 ≤ free_count first.geometry first.bad before event.left.flash.image

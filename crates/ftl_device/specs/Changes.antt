@@ -40,7 +40,8 @@ use Rattle.ftl_device.specs.Stopped.{SurvivesStops}
 -- ---- inside the device
 
 -- WHAT A CALL OF THE ENGINE LEAVES where no fault stood, whatever it answers: the fault that it answers stands from then on
-pub record Leaves {A N : Type 0} (flash : N → Flash) (recorded : N → Option Recording) (honest calm : N → Bool) (failed : N → ℕ) (old : Engine N) (result : Result A WriteFault) (new : Engine N) : Type 0 where
+pub record Leaves {A N : Type 0} (flash : N → Flash) (recorded : N → Option Recording) (honest calm : N → Bool) (failed : N → ℕ) (old : Engine N)
+    (result : Result A WriteFault) (new : Engine N) : Type 0 where
   pub safe : IsSafe flash new
   pub fault : new.fault ≡ fault_after None result
   pub geometry : new.geometry ≡ old.geometry
@@ -53,7 +54,8 @@ pub record Leaves {A N : Type 0} (flash : N → Flash) (recorded : N → Option 
   pub stops : honest old.nand ≡ true → Knows (ram old) (image_in flash old) → result ≢ Err Bus → StopsSafely flash recorded old new
 
 -- AND WHERE THE CALL MAY WANT MEMORY TOO: how the part of a device's call ends that asks the die
-pub record Ends {N : Type 0} (flash : N → Flash) (recorded : N → Option Recording) (honest calm : N → Bool) (failed : N → ℕ) (old : Engine N) (result : Result (Unit {0}) CallFault) (new : Engine N) : Type 0 where
+pub record Ends {N : Type 0} (flash : N → Flash) (recorded : N → Option Recording) (honest calm : N → Bool) (failed : N → ℕ) (old : Engine N)
+    (result : Result (Unit {0}) CallFault) (new : Engine N) : Type 0 where
   pub safe : IsSafe flash new
   pub fault : new.fault ≡ standing_after result
   pub geometry : new.geometry ≡ old.geometry
@@ -84,7 +86,8 @@ pub record Readies {N : Type 0} (flash : N → Flash) (honest : N → Bool) (n p
   pub pins : PinsNone result old new
 
 -- and of a step of a collection that a turn takes: bad blocks get no page; where the die is honest the array stays
-pub record CollectsOn {N : Type 0} (flash : N → Flash) (recorded : N → Option Recording) (honest calm : N → Bool) (erases failed : N → ℕ) (old : Engine N) (result : Result (Unit {0}) WriteFault) (new : Engine N) : Type 0 where
+pub record CollectsOn {N : Type 0} (flash : N → Flash) (recorded : N → Option Recording) (honest calm : N → Bool) (erases failed : N → ℕ)
+    (old : Engine N) (result : Result (Unit {0}) WriteFault) (new : Engine N) : Type 0 where
   pub leaves : Leaves flash recorded honest calm failed old result new
   pub limits : HasLimitsOf old.mapping new.mapping
   pub calm_memory : new.fault ≡ None → IsCalm (ram new)
@@ -93,7 +96,9 @@ pub record CollectsOn {N : Type 0} (flash : N → Flash) (recorded : N → Optio
   pub risen : OnOk result ((before : ℕ) → HasRisen before (erases old.nand) → HasRisen before (erases new.nand))
   pub bad : honest old.nand ≡ true → Knows (ram old) (image_in flash old) → OnOk result (KeepsBad (ram old) (ram new))
   pub truth : honest old.nand ≡ true → Knows (ram old) (image_in flash old)
-      → MatchResult result (λ done. KeepsArray old.geometry (image_in flash old) (ram new) (image_in flash new)) (λ fault. CallRefused old.geometry (image_in flash old) (ram new) (image_in flash new) (call.Engine fault))
+      → MatchResult result
+          (λ done. KeepsArray old.geometry (image_in flash old) (ram new) (image_in flash new))
+          (λ fault. CallRefused old.geometry (image_in flash old) (ram new) (image_in flash new) (call.Engine fault))
 
 -- THE ROW THAT THE SECTOR HAD WAS LOOKED UP before a page of it was programmed: memory knew it once there was room, or else this page of
 -- entries gives it, a sound translation page
@@ -167,7 +172,8 @@ pub record Logs {N : Type 0} (flash : N → Flash) (recorded : N → Option Reco
   pub shown : IsWell flash old → IfErr result (IsShown old.engine.geometry (is_bad_by (ram old.engine)) old.engine.next [] went.log old.read_only (image_in flash new.engine))
   pub left : IsWell flash old → new.read_only ≡ true → IsLeft command old.engine.geometry (is_bad_by (ram old.engine)) [] went.log old.read_only result
   pub flushed : IsWell flash old → is_flush command ≡ true → result ≡ Ok tt → IsFlushedOut (first_of (ram old.engine)) went.log (image_in flash new.engine)
-  pub stopped : IsWell flash old → SurvivesStops old.engine.geometry old.engine.mapping.capacity command result (image_in flash old.engine) (image_in flash new.engine) (recorded new.engine.nand) went.log
+  pub stopped : IsWell flash old
+      → SurvivesStops old.engine.geometry old.engine.mapping.capacity command result (image_in flash old.engine) (image_in flash new.engine) (recorded new.engine.nand) went.log
 
 -- what is true of the image after it: where the die has version 2, no newest page of version 1 is added
 pub record Means {N : Type 0} (flash : N → Flash) (command : Command) (old : Device N) (result : Result (Unit {0}) DeviceFault) (new : Device N) : Type 0 where
