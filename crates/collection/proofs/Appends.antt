@@ -1,6 +1,7 @@
 -- A page of a cached sector is written.
 use Rattle.std.proofs.Common.{◌≡◌, ℕ, ◌<◌, List, Option, Some, None, IsSome, ap, sym, ◌∙◌, subst}
 use Rattle.mapping_cache.specs.Mapping.{MappingState, slot_of}
+use Rattle.page_layout.specs.declared.geometry.Geometry.{Geometry}
 use Rattle.page_layout.specs.declared.record.Kind.{Kind}
 use Rattle.page_layout.specs.declared.record.Key.{Key}
 use Rattle.page_layout.specs.declared.record.Key.TheVariants.{Sector}
@@ -12,7 +13,7 @@ use Rattle.collection.specs.Pages.{newest_row}
 use Rattle.collection.specs.Maps.{IsPageFor}
 use Rattle.collection.specs.Truth.{IsTrue}
 use Rattle.collection.specs.Safe.{IsOutside}
-use Rattle.collection.specs.Settle.{SetsRow, SetsMapping}
+use Rattle.collection.specs.Settle.{SetsRow, SetsMapping, SetsDirectory, HasSettled}
 use Rattle.collection.specs.Results.{MayPut, IsReplaced, IsWritten}
 use Rattle.collection.proofs.Puts.{leaves_written}
 
@@ -35,3 +36,9 @@ appended r r' image image' kind n row body same lt out p = record {
 -- a cached sector's row is set: no other sector is moved than before
 pub moved_still : (key : Key) (n row : ℕ) (m m' : MappingState) → key ≡ Sector n → IsSome (slot_of m n) → SetsMapping key row m m' → m'.moved ≡ m.moved
 moved_still key n row m m' is some s = (let P : Key → Type 0 = λ k. SetsMapping k row m m' in let here : SetsRow n (Some row) m m' = subst P is s in here.unmoved some)
+
+pub has_settled : (g : Geometry) (n row : ℕ) (old new : Ram) (key : Key) → key ≡ Sector n → SetsMapping key row old.mapping new.mapping → SetsDirectory g key row old.directory new.directory → HasSettled n old new
+has_settled g n row old new key is sets directory = by (subst (λ (k : Key). SetsMapping k row old.mapping new.mapping × SetsDirectory g k row old.directory new.directory) is (sets, directory))
+  where
+    by : SetsMapping (Sector n) row old.mapping new.mapping × SetsDirectory g (Sector n) row old.directory new.directory → HasSettled n old new
+    by both = record { row = row; sets = both.0; directory = both.1 }

@@ -54,6 +54,12 @@ pub record Settles (key : Key) (row : ℕ) (old new : Ram) : Type 0 where
   pub pin : new.pin ≡ old.pin
   pub fault : new.fault ≡ old.fault
 
+-- a row of the sector is set, and the directory is as it was
+pub record HasSettled (n : ℕ) (old new : Ram) : Type 0 where
+  pub row : ℕ
+  pub sets : SetsRow n (Some row) old.mapping new.mapping
+  pub directory : new.directory ≡ old.directory
+
 -- the mapping holds no row for translation page t, and knows no other row than it did
 pub record Cleans (per_page t : ℕ) (old new : MappingState) : Type 0 where
   pub clean : (n : ℕ) → n / per_page ≡ t → pending new n ≡ None

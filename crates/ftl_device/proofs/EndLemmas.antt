@@ -24,6 +24,7 @@ use Rattle.collection.proofs.Logs.{went_then}
 use Rattle.ftl_device.specs.declared.fault.CallFault.{CallFault}
 use Rattle.ftl_device.specs.declared.fault.CallFault.TheVariants as call
 use Rattle.ftl_device.specs.Calls.{Tells, CallTells, IsReady, standing_after, Knows}
+use Rattle.collection.specs.Settle.{HasSettled}
 use Rattle.ftl_device.specs.Read.{IsLookedUp}
 use Rattle.ftl_device.specs.Shortage.{HasFunds}
 use Rattle.ftl_device.specs.Changes.{Ends, Readies, HasLookedUp}
@@ -185,5 +186,5 @@ module _ {N : Type 0} (flash : N → Flash) (honest : N → Bool) (n : ℕ) wher
     }
 
 -- the page buffer that the look-up left is as it was
-pub looked_up_before : {N : Type 0} (old mid new : Engine N) (n : ℕ) → IsReady n (ram old) (ram mid) → IsLookedUp n (ram mid) (page_in mid.scratch) → new.scratch ≡ mid.scratch → HasPut Data (ram mid) (ram new) → HasLookedUp n (ram old) (ram new) (page_in new.scratch)
-looked_up_before old mid new n ready looked same page = record { mid = ram mid; ready = ready; looked_up = subst (λ b. IsLookedUp n (ram mid) (page_in b)) (sym same) looked; put = page }
+pub looked_up_before : {N : Type 0} (old mid new : Engine N) (n : ℕ) → IsReady n (ram old) (ram mid) → IsLookedUp n (ram old) (ram mid) (page_in mid.scratch) → new.scratch ≡ mid.scratch → HasPut Data (ram mid) (ram new) → HasSettled n (ram mid) (ram new) → HasLookedUp n (ram old) (ram new) (page_in new.scratch)
+looked_up_before old mid new n ready looked same page settled = record { mid = ram mid; ready = ready; looked_up = subst (λ b. IsLookedUp n (ram old) (ram mid) (page_in b)) (sym same) looked; put = page; settled = settled }

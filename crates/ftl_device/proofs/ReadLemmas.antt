@@ -14,7 +14,7 @@ use Rattle.page_layout.specs.Array.{array_of, sector_of}
 use Rattle.promises.specs.Step.{State, ReadsSector}
 use Rattle.mapping_cache.specs.declared.slot.Slot.{Slot}
 use Rattle.mapping_cache.specs.declared.mapping.LoadFault.{LoadFault}
-use Rattle.mapping_cache.specs.Mapping.{MappingState, IsMapping, HasLimitsOf, CanLoad, slot_of, moved_row, pending, used, without, loaded, loaded_by}
+use Rattle.mapping_cache.specs.Mapping.{MappingState, IsMapping, HasLimitsOf, CanLoad, slot_of, moved_row, pending, used, without, loaded, loaded_by, cleaned}
 use Rattle.mapping_cache.proofs.Steps.{pending-used, pending-inserted}
 use Rattle.collection.specs.declared.engine.Engine.{Engine}
 use Rattle.collection.specs.declared.engine.Pinned.{Pinned}
@@ -31,8 +31,8 @@ use Rattle.collection.specs.Truth.{IsTrue}
 use Rattle.collection.specs.Safe.{IsSafe, ram, image_in, page_in}
 use Rattle.collection.specs.Looks.{IsRead, FindsRow, GivesSector}
 use Rattle.ftl_device.specs.declared.device.Device.{Device}
-use Rattle.ftl_device.specs.Calls.{array_in, state_in}
-use Rattle.ftl_device.specs.Read.{LooksUp, IsLookedUp, HasRead}
+use Rattle.ftl_device.specs.Calls.{array_in, state_in, HasMadeRoom}
+use Rattle.ftl_device.specs.Read.{LooksUp, HasWrittenBack, IsPrepared, IsLookedUp, HasRead}
 
 module _ (m : MappingState) (n : ℕ) (row : Option ℕ) (v : IsMapping m) where
   lacking_by : CanLoad m n → (o : Option Slot) → slot_of m n ≡ o → (k : ℕ) → pending (loaded_by o m n row) k ≡ pending m k
@@ -170,8 +170,18 @@ pub finds_noted : (result : Result (Option ℕ) WriteFault) (r s : Ram) (n : ℕ
 finds_noted (Ok row) r s n p fault is found = (let P : Ram → Type 0 = λ x. FindsRow x n p row in subst P (sym is) (record { hit = found.hit; miss = found.miss }))
 finds_noted (Err f) r s n p fault is found = tt
 
-pub is_looked_up : {N : Type 0} (e f : Engine N) (n : ℕ) (row : Option ℕ) → f ≡ record e { mapping = loaded e.mapping n row } → FindsRow (ram e) n (page_in e.scratch) row → IsLookedUp n (ram f) (page_in f.scratch)
-is_looked_up {N} e f n row is found = (let P : Engine N → Type 0 = λ x. IsLookedUp n (ram x) (page_in x.scratch) in subst P (sym is) (record { before = e.mapping; row = row; found = found; loaded_is = refl }))
+pub is_looked_up : {N : Type 0} (old : Ram) (e f : Engine N) (n : ℕ) (row : Option ℕ) → f ≡ record e { mapping = loaded e.mapping n row } → IsPrepared old e.mapping → FindsRow (ram e) n (page_in e.scratch) row → IsLookedUp n old (ram f) (page_in f.scratch)
+is_looked_up {N} old e f n row is prepared found = (let P : Engine N → Type 0 = λ x. IsLookedUp n old (ram x) (page_in x.scratch) in subst P (sym is) (record { before = e.mapping; prepared = prepared; row = row; found = found; loaded_is = refl }))
+
+-- a place was made by writing a translation page back
+pub wrote_back : {A : Type 0} (result : Result A WriteFault) (old new : MappingState) (page : ℕ) → OnOk result (new ≡ cleaned old page) → OnOk result (HasWrittenBack old new)
+wrote_back (Ok done) old new page is = inr (page, is)
+wrote_back (Err e) old new page is = tt
+
+-- what was looked for was prepared
+pub prepared_by : {A : Type 0} (result : Result A WriteFault) (old room placed found : Ram) (fault : Option WriteFault) → HasMadeRoom false old room → HasWrittenBack room.mapping placed.mapping → found ≡ record placed { fault = fault } → OnOk result (IsPrepared old found.mapping)
+prepared_by (Ok done) old room placed found fault made place is = (let P : MappingState → Type 0 = λ m. IsPrepared old m in subst P (sym (ap (λ (r : Ram). r.mapping) is)) (record { room = room; made = made; place = place }))
+prepared_by (Err e) old room placed found fault made place is = tt
 
 -- ---- what a read gives
 

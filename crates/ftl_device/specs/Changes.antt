@@ -22,6 +22,7 @@ use Rattle.collection.specs.Safe.{IsSafe, ram, image_in, page_in}
 use Rattle.collection.specs.Left.{IsCalm}
 use Rattle.collection.specs.Collect.{GoesOn}
 use Rattle.collection.specs.Cost.{HasPut}
+use Rattle.collection.specs.Settle.{HasSettled}
 use Rattle.collection.specs.Log.{Went}
 use Rattle.collection.specs.Results.{fault_after}
 use Rattle.collection.specs.Stops.{StopsSafely}
@@ -101,12 +102,13 @@ pub record CollectsOn {N : Type 0} (flash : N → Flash) (recorded : N → Optio
           (λ fault. CallRefused old.geometry (image_in flash old) (ram new) (image_in flash new) (call.Engine fault))
 
 -- THE ROW THAT THE SECTOR HAD WAS LOOKED UP before a page of it was programmed: memory knew it once there was room, or else this page of
--- entries gives it, a sound translation page
+-- entries gives it, a sound translation page. Then its new row was set, and no other.
 pub record HasLookedUp (n : ℕ) (old new : Ram) (entries_page : Page) : Type 0 where
   pub mid : Ram
   pub ready : IsReady n old mid
-  pub looked_up : IsLookedUp n mid entries_page
+  pub looked_up : IsLookedUp n old mid entries_page
   pub put : HasPut Data mid new
+  pub settled : HasSettled n mid new
 
 -- ---- whatever the die does
 

@@ -1,10 +1,11 @@
 -- Which faults a read answers, and what it leaves in memory.
-use Rattle.std.specs.Prelude.{◌≡◌, ◌⊎◌, ℕ, List, Option, Some, None, IsSome, Result, Ok, Err}
-use Rattle.mapping_cache.specs.Mapping.{MappingState, CanLoad, slot_of, moved_row, pending, used, loaded}
+use Rattle.std.specs.Prelude.{◌≡◌, ◌⊎◌, ℕ, false, List, Option, Some, None, IsSome, Result, Ok, Err}
+use Rattle.mapping_cache.specs.Mapping.{MappingState, CanLoad, slot_of, moved_row, pending, used, loaded, cleaned}
 use Rattle.collection.specs.declared.fault.WriteFault.TheVariants as write
 use Rattle.page_layout.specs.Page.{Page}
 use Rattle.collection.specs.State.{Ram}
 use Rattle.collection.specs.Looks.{FindsRow, GivesSector}
+use Rattle.ftl_device.specs.Calls.{HasMadeRoom}
 use Rattle.ftl_device.specs.declared.fault.DeviceFault.{DeviceFault}
 use Rattle.ftl_device.specs.declared.fault.DeviceFault.TheVariants as fault
 
@@ -30,9 +31,20 @@ pub record LooksUp (n : ℕ) (row : Option ℕ) (old new : MappingState) : Type 
   pub miss : slot_of old n ≡ None → (new ≡ old) ⊎ IsCachedNow n row old new
   pub lacking : (k : ℕ) → pending new k ≡ pending old k
 
--- the sector was cached with the row that a look-up found, by memory as it was then or by this page of entries
-pub record IsLookedUp (n : ℕ) (r : Ram) (entries_page : Page) : Type 0 where
+-- the mapping is as it was, or no row is left for one translation page, which was written back
+abbrev pub HasWrittenBack : MappingState → MappingState → Type 0
+HasWrittenBack old new = (new ≡ old) ⊎ ((page : ℕ) × (new ≡ cleaned old page))
+
+-- what the look-up of a sector finds: room was made, and then a place for the sector's entry
+pub record IsPrepared (old : Ram) (before : MappingState) : Type 0 where
+  pub room : Ram
+  pub made : HasMadeRoom false old room
+  pub place : HasWrittenBack room.mapping before
+
+-- THE SECTOR WAS CACHED WITH THE ROW THAT A LOOK-UP FOUND, by memory as it was then, once there were room and a place, or by this page of entries
+pub record IsLookedUp (n : ℕ) (old r : Ram) (entries_page : Page) : Type 0 where
   pub before : MappingState
+  pub prepared : IsPrepared old before
   pub row : Option ℕ
   pub found : FindsRow (record r { mapping = before }) n entries_page row
   pub loaded_is : r.mapping ≡ loaded before n row

@@ -22,7 +22,7 @@ ghost use Rattle.budget.specs.Spending.{IsFunded};
 ghost use Rattle.allocation.specs.State.{free_count};
 ghost use Rattle.allocation.specs.Counts.{counts_of};
 ghost use Rattle.ftl_device.specs.Flush.{KeepsClean};
-ghost use Rattle.ftl_device.specs.Read.{IsLookedUp};
+ghost use Rattle.ftl_device.specs.Read.{HasWrittenBack, IsPrepared, IsLookedUp};
 ghost use Rattle.ftl_device.specs.Shortage.{HasFunds, PlaceCosts, RoomCosts};
 ghost use Rattle.ftl_device.specs.Changes.{Leaves, Ends, Readies, HasLookedUp};
 
@@ -67,6 +67,7 @@ fn make_place<N: Nand>(engine: &mut Engine<N>, sector: u32) -> Result<(), WriteF
     ensures beside { LeavesPin (ram engine.old) (ram engine.new) }
     ensures no_more { HasNoMore engine.old.mapping engine.new.mapping }
     ensures cost { OnOk result (HasMadePlace sector (ram engine.old) (ram engine.new)) }
+    ensures mapping { OnOk result (HasWrittenBack engine.old.mapping engine.new.mapping) }
     ensures costs { PlaceCosts (ram engine.old) (ram engine.new) result }
     ensures truth { N.honest engine.old.nand ≡ true → IsTrue None (ram engine.old) (image_in N.flash engine.old) →
         MatchResult result
@@ -127,6 +128,7 @@ fn prepare<N: Nand>(engine: &mut Engine<N>, sector: u32) -> Result<Option<u32>, 
     ensures place { OnOk result (CanLoad engine.new.mapping sector) }
     ensures row { IfOk result (λ row. ForSome row (λ r. r < row_count engine.old.geometry)) }
     ensures checked { IfOk result (FindsRow (ram engine.new) sector (page_in engine.new.scratch)) }
+    ensures prepared { OnOk result (IsPrepared (ram engine.old) engine.new.mapping) }
     ensures keys { keys_of engine.new.mapping.cached ≡ keys_of engine.old.mapping.cached }
     ensures limits { HasLimitsOf engine.old.mapping engine.new.mapping }
     ensures calm { OnOk result (IsCalm (ram engine.new)) }
@@ -153,7 +155,7 @@ fn make_ready<N: Nand>(engine: &mut Engine<N>, sector: u32) -> Result<(), CallFa
     ensures ends { Ends N.flash N.recorded N.honest N.calm N.failed engine.old result engine.new }
     ensures readies { Readies N.flash N.honest sector 1 engine.old result engine.new }
     ensures holds { OnOk result (IsSome (slot_of engine.new.mapping sector)) }
-    ensures checked { OnOk result (IsLookedUp sector (ram engine.new) (page_in engine.new.scratch)) }
+    ensures checked { OnOk result (IsLookedUp sector (ram engine.old) (ram engine.new) (page_in engine.new.scratch)) }
     ensures cost { OnOk result (IsReady sector (ram engine.old) (ram engine.new)) }
     ensures truth { N.honest engine.old.nand ≡ true → Knows (ram engine.old) (image_in N.flash engine.old) →
         MatchResult result

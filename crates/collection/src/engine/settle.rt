@@ -11,7 +11,7 @@ ghost use Rattle.budget.specs.Stream.{stream_of};
 ghost use Rattle.collection.specs.Safe.{IsSafe, IsOutside, ram, image_in, page_in};
 ghost use Rattle.collection.specs.Truth.{IsTrue};
 ghost use Rattle.collection.specs.Cost.{PutCosts, PageCosts};
-ghost use Rattle.collection.specs.Settle.{HasPlace, SetsRow, SetsMapping, Settles, HasNoMore};
+ghost use Rattle.collection.specs.Settle.{HasPlace, SetsRow, SetsMapping, SetsDirectory, Settles, HasSettled, HasNoMore};
 ghost use Rattle.collection.specs.Results.{MayPut, Goes, KeepsTable, IsReplaced, IsLastPage, IsWritten, Refused};
 ghost use Rattle.collection.specs.Acts.{Acts, OnlyPrograms};
 ghost use Rattle.collection.specs.Stops.{StopsSafely};
@@ -80,6 +80,7 @@ impl<N: Nand> Engine<N> {
         ensures mapping { MatchResult result
             (λ row. SetsMapping (key_from kind number) row self.old.mapping self.new.mapping)
             (λ _. self.new.mapping ≡ self.old.mapping) }
+        ensures directory { IfOk result (λ row. SetsDirectory self.old.geometry (key_from kind number) row self.old.directory self.new.directory) }
         ensures programmed { OnOk result (IsLastPage kind number (ram self.new) (page_in self.new.page)) }
         ensures cost { PutCosts (stream_of kind) (ram self.old) (ram self.new) result }
         ensures truth { N.honest self.old.nand ≡ true →
@@ -110,6 +111,7 @@ impl<N: Nand> Engine<N> {
         ensures keys { keys_of self.new.mapping.cached ≡ keys_of self.old.mapping.cached }
         ensures no_more { HasNoMore self.old.mapping self.new.mapping }
         ensures moved { self.new.mapping.moved ≡ self.old.mapping.moved }
+        ensures settled { OnOk result (HasSettled sector (ram self.old) (ram self.new)) }
         ensures programmed { OnOk result (IsLastPage kind sector (ram self.new) (page_in self.new.page)) }
         ensures cost { PageCosts (stream_of kind) (ram self.old) (ram self.new) result }
         ensures truth { N.honest self.old.nand ≡ true → IsTrue None (ram self.old) (image_in N.flash self.old) →

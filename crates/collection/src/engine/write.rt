@@ -7,7 +7,7 @@ ghost use Rattle.budget.specs.declared.stream.Stream.TheVariants.{Data};
 ghost use Rattle.collection.specs.Safe.{IsSafe, ram, image_in, page_in};
 ghost use Rattle.collection.specs.Truth.{IsTrue};
 ghost use Rattle.collection.specs.Cost.{PageCosts};
-ghost use Rattle.collection.specs.Settle.{HasNoMore};
+ghost use Rattle.collection.specs.Settle.{HasNoMore, HasSettled};
 ghost use Rattle.collection.specs.Results.{IsLastPage, IsWritten, Refused, Goes};
 ghost use Rattle.collection.specs.Acts.{Stands, OnlyPrograms};
 ghost use Rattle.collection.specs.Stops.{StopsSafely};
@@ -40,6 +40,7 @@ impl<N: Nand> Engine<N> {
         ensures keys { keys_of self.new.mapping.cached ≡ keys_of self.old.mapping.cached }
         ensures no_more { HasNoMore self.old.mapping self.new.mapping }
         ensures moved { self.new.mapping.moved ≡ self.old.mapping.moved }
+        ensures settled { OnOk result (HasSettled sector (ram self.old) (ram self.new)) }
         ensures page { self.old.fault ≡ None → self.new.page.body.items ≡ body.now }
         ensures scratch { self.new.scratch ≡ self.old.scratch }
         ensures programmed { OnOk result (IsLastPage Kind.Sector sector (ram self.new) (page_in self.new.page)) }
@@ -77,6 +78,7 @@ impl<N: Nand> Engine<N> {
         ensures keys { keys_of self.new.mapping.cached ≡ keys_of self.old.mapping.cached }
         ensures no_more { HasNoMore self.old.mapping self.new.mapping }
         ensures moved { self.new.mapping.moved ≡ self.old.mapping.moved }
+        ensures settled { OnOk result (HasSettled sector (ram self.old) (ram self.new)) }
         ensures page { self.old.fault ≡ None → self.new.page.body.items ≡ zeros self.old.geometry }
         ensures scratch { self.new.scratch ≡ self.old.scratch }
         ensures programmed { OnOk result (IsLastPage Kind.Trim sector (ram self.new) (page_in self.new.page)) }

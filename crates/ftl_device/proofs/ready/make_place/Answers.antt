@@ -1,10 +1,11 @@
-use Rattle.std.proofs.Common.{◌∙◌, sym}
+use Rattle.std.proofs.Common.{◌∙◌, inl, refl, sym}
 use Rattle.collection.specs.Safe.{ram}
 use Rattle.ftl_device.proofs.ReadyLemmas.{least_page, place_made}
 use Rattle.ftl_device.proofs.CostLemmas.{place_there, place_taken}
 use Rattle.ftl_device.proofs.SpentLemmas.{place_free, place_costs}
 use Rattle.ftl_device.proofs.LeaveLemmas.{leaves_by, leaves_same, back_told}
 use Rattle.ftl_device.proofs.PinLemmas.{beside_here, beside_back}
+use Rattle.ftl_device.proofs.ReadLemmas.{wrote_back}
 use Rattle.ftl_device.proofs.ready.make_place.Goals as goal
 
 pub write_back-requires-clause-page : goal.write_back-requires-clause-page
@@ -46,3 +47,12 @@ returns-in-None-clause-beside g c = beside_here (ram c.args.engine.now)
 
 pub returns-in-Some-clause-beside : goal.returns-in-Some-clause-beside
 returns-in-Some-clause-beside g c = beside_back c.write_back.result (ram c.args.engine.now) (ram c.write_back.new.self) _ c.write_back.ensures.pin c.write_back.ensures.goes c.write_back.ensures.cleaned c.write_back.ensures.mapping
+
+pub returns-then-can_load-clause-mapping : goal.returns-then-can_load-clause-mapping
+returns-then-can_load-clause-mapping g c = inl refl
+
+pub returns-in-None-clause-mapping : goal.returns-in-None-clause-mapping
+returns-in-None-clause-mapping g c = inl refl
+
+pub returns-in-Some-clause-mapping : goal.returns-in-Some-clause-mapping
+returns-in-Some-clause-mapping g c = wrote_back c.write_back.result c.args.engine.now.mapping c.write_back.new.self.mapping _ c.write_back.ensures.cleaned

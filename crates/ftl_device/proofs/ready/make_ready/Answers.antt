@@ -81,7 +81,7 @@ pub returns-clause-cost : goal.returns-clause-cost
 returns-clause-cost g c = ready_then c.args.sector (ram c.args.engine.now) (ram c.prepare.new.engine) (ram c.cache_sector.new.self) (ap (λ e. e.geometry) c.in_ok-cache_sector.ensures.loaded) (ap (λ e. (ram e).blocks) c.in_ok-cache_sector.ensures.loaded) (ap (λ e. e.next) c.in_ok-cache_sector.ensures.loaded) c.in_ok-row.ensures.cost
 
 pub returns-clause-checked : goal.returns-clause-checked
-returns-clause-checked g c = is_looked_up c.prepare.new.engine c.cache_sector.new.self c.args.sector c.in_ok-row.row c.in_ok-cache_sector.ensures.loaded c.in_ok-row.ensures.checked
+returns-clause-checked g c = is_looked_up (ram c.args.engine.now) c.prepare.new.engine c.cache_sector.new.self c.args.sector c.in_ok-row.row c.in_ok-cache_sector.ensures.loaded c.in_ok-row.ensures.prepared c.in_ok-row.ensures.checked
 
 pub returns-clause-truth : goal.returns-clause-truth
 returns-clause-truth g c = λ honest w.

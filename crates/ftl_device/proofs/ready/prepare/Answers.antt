@@ -7,7 +7,7 @@ use Rattle.ftl_device.proofs.FlushLoops.{engine_keeps, engine_refused}
 use Rattle.ftl_device.proofs.ReadyLemmas.{place_stays}
 use Rattle.ftl_device.proofs.CostLemmas.{ready_found}
 use Rattle.ftl_device.proofs.PrepareLemmas.{tells_found, went_found, found_after, calm_after}
-use Rattle.ftl_device.proofs.ReadLemmas.{finds_noted}
+use Rattle.ftl_device.proofs.ReadLemmas.{finds_noted, prepared_by}
 use Rattle.ftl_device.specs.Shortage.{HasFunds}
 use Rattle.ftl_device.proofs.SpentLemmas.{after_room, room_refused, place_refused, found_costs}
 use Rattle.ftl_device.proofs.LeaveLemmas.{leaves_then, leaves_refused}
@@ -96,3 +96,6 @@ returns-clause-leaves g c = (
 
 pub returns-clause-pins : goal.returns-clause-pins
 returns-clause-pins g c = ok_any c.find_row.result (λ none. ap (λ r. r.pin.block) c.find_row.ensures.memory ∙ (ap (λ p. p.block) c.make_place.ensures.beside.pin ∙ room_pins g.N.PageSource.erases c.args.engine.now c.make_room.new.engine c.in_ok-make_room.ensures.erases none))
+
+pub returns-clause-prepared : goal.returns-clause-prepared
+returns-clause-prepared g c = prepared_by c.find_row.result (ram c.args.engine.now) (ram c.make_room.new.engine) (ram c.make_place.new.engine) (ram c.find_row.new.engine) _ c.in_ok-make_room.ensures.made c.in_ok-make_place.ensures.mapping c.find_row.ensures.memory

@@ -58,7 +58,7 @@ pub returns-clause-cost : goal.returns-clause-cost
 returns-clause-cost g c = cost_of c.args.sector (ram c.args.engine.now) (ram c.make_ready.new.engine) (ram c.trim_sector.new.self) c.in_ok-make_ready.ensures.cost (c.in_ok-trim_sector.ensures.cost c.in_ok-make_ready.ensures.ends.fault)
 
 pub returns-clause-checked : goal.returns-clause-checked
-returns-clause-checked g c = looked_up_before c.args.engine.now c.make_ready.new.engine c.trim_sector.new.self c.args.sector c.in_ok-make_ready.ensures.cost c.in_ok-make_ready.ensures.checked c.trim_sector.ensures.scratch (c.in_ok-trim_sector.ensures.cost c.in_ok-make_ready.ensures.ends.fault)
+returns-clause-checked g c = looked_up_before c.args.engine.now c.make_ready.new.engine c.trim_sector.new.self c.args.sector c.in_ok-make_ready.ensures.cost c.in_ok-make_ready.ensures.checked c.trim_sector.ensures.scratch (c.in_ok-trim_sector.ensures.cost c.in_ok-make_ready.ensures.ends.fault) c.in_ok-trim_sector.ensures.settled
 
 pub returns-clause-truth : goal.returns-clause-truth
 returns-clause-truth g c = λ honest well.

@@ -1,5 +1,5 @@
 use Rattle.collection.specs.Safe.{ram}
-use Rattle.collection.proofs.Appends.{may_append, appended, moved_still}
+use Rattle.collection.proofs.Appends.{may_append, appended, has_settled, moved_still}
 use Rattle.std.proofs.lemmas.Result.{err_from_is_err_and}
 use Rattle.collection.proofs.Looks.{ok_not_bus}
 use Rattle.collection.proofs.Costs.{not_bus}
@@ -10,6 +10,9 @@ returns-clause-truth g c = λ honest w. appended (ram c.args.self.now) _ _ _ c.a
 
 pub returns-clause-moved : goal.returns-clause-moved
 returns-clause-moved g c = moved_still _ c.args.sector c.in_ok-replace.field-0 c.args.self.now.mapping _ c.requires.kind c.requires.cached c.in_ok-replace.ensures.mapping
+
+pub returns-clause-settled : goal.returns-clause-settled
+returns-clause-settled g c = has_settled c.args.self.now.geometry c.args.sector c.in_ok-replace.field-0 (ram c.args.self.now) _ _ c.requires.kind c.in_ok-replace.ensures.mapping c.in_ok-replace.ensures.directory
 
 -- ---- what a stop leaves
 

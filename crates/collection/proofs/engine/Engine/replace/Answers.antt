@@ -1,4 +1,6 @@
-use Rattle.std.proofs.Common.{ap}
+use Rattle.std.proofs.Common.{ap, ℕ, List, Option}
+use Rattle.page_layout.specs.declared.geometry.Geometry.{Geometry}
+use Rattle.collection.specs.Settle.{SetsDirectory}
 use Rattle.page_layout.specs.Key.{key_from}
 use Rattle.collection.proofs.Settles.{settled_cost, replaced_by}
 use Rattle.std.proofs.Common.{sym, ◌∙◌, subst}
@@ -16,6 +18,15 @@ returns-clause-cost g c = settled_cost _ _ _ _ (key_from c.args.kind c.args.numb
 
 pub returns-clause-truth : goal.returns-clause-truth
 returns-clause-truth g c = λ honest may. replaced_by c.args.kind c.args.number c.in_ok-row.row _ _ _ _ _ _ _ (c.in_ok-row.ensures.truth honest may) (ap (λ n. (g.N.PageSource.flash n).image) c.settle.ensures.nand) c.put_page.ensures.acts.safe.memory c.requires.key c.put_page.ensures.goes.goes c.settle.ensures.settles
+
+pub returns-clause-directory : goal.returns-clause-directory
+returns-clause-directory g c =
+    let key = key_from c.args.kind c.args.number in
+    let old = c.args.self.now in
+    let put = c.put_page.new.self in
+    let new = c.settle.new.self in
+    subst (λ (h : Geometry). SetsDirectory h key c.in_ok-row.row old.directory new.directory) c.put_page.ensures.goes.goes.geometry
+    (subst (λ (rows : List (Option ℕ)). SetsDirectory put.geometry key c.in_ok-row.row rows new.directory) c.put_page.ensures.goes.directory c.settle.ensures.settles.directory)
 
 -- ---- what a stop leaves
 
