@@ -71,6 +71,6 @@ pub record MakesRoom {N : Type 0} (flash : N → Flash) (honest : N → Bool) (e
   pub tells : IfErr result (RoomTells (ram new))
   pub truth : honest old.nand ≡ true → IsTrue None (ram old) (image_in flash old) → PinHasPassed (ram old) (image_in flash old)
       → MatchResult result
-          (λ done. IsRearranged (ram old) (image_in flash old) (ram new) (image_in flash new))
-          (RoomRefused (ram old) (image_in flash old) (ram new) (image_in flash new))
+      (λ done. IsRearranged (ram old) (image_in flash old) (ram new) (image_in flash new))
+      (RoomRefused (ram old) (image_in flash old) (ram new) (image_in flash new))
   pub few : honest old.nand ≡ true → IsTrue None (ram old) (image_in flash old) → PinHasPassed (ram old) (image_in flash old) → PinIsFew 0 (ram old) → result ≢ Err Bus → PinIsFew 0 (ram new)

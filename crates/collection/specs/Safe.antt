@@ -15,8 +15,15 @@ use Rattle.collection.specs.State.{Ram}
 
 -- the engine's memory
 abbrev pub ram : {N : Type 0} → Engine N → Ram
-ram e = record { geometry = e.geometry; directory = e.directory; mapping = e.mapping; blocks = state e.blocks; next = e.next; fault = e.fault;
-    pin = record { block = e.pinned; marks = e.marks.items } }
+ram e = record {
+  geometry = e.geometry;
+  directory = e.directory;
+  mapping = e.mapping;
+  blocks = state e.blocks;
+  next = e.next;
+  fault = e.fault;
+  pin = record { block = e.pinned; marks = e.marks.items };
+}
 
 -- the image on the engine's die
 abbrev pub image_in : {N : Type 0} → (N → Flash) → Engine N → Image

@@ -40,5 +40,5 @@ pub record Advances {N : Type 0} (flash : N → Flash) (honest : N → Bool) (re
   pub erases_are : IfOk result (λ step. erases new.nand ≡ erases_told step (erases old.nand))
   pub truth : honest old.nand ≡ true → IsTrue None (ram old) (image_in flash old) → HasPassed (ram old) (image_in flash old) p
       → MatchResult result
-          (StepsOn flushing p (ram old) (image_in flash old) (ram new) (image_in flash new))
-          (Refused (ram old) (image_in flash old) (ram new) (image_in flash new))
+      (StepsOn flushing p (ram old) (image_in flash old) (ram new) (image_in flash new))
+      (Refused (ram old) (image_in flash old) (ram new) (image_in flash new))

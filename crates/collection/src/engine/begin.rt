@@ -69,9 +69,18 @@ impl<N: Nand> Engine<N> {
         requires rows { (k row : ℕ) → slice_get directory k ≡ Some (Some row) → row < row_count geometry.now }
         ensures safe { IfOk result (λ engine. IsSafe N.flash engine) }
         ensures die { MatchResult result (λ engine. engine.nand ≡ nand) (λ refused. refused.0 ≡ nand) }
-        ensures memory { IfOk result (λ engine. ram engine ≡ record { geometry = geometry.now; directory = directory; mapping = mapping;
-            blocks = state blocks; next = next; fault = None; pin = record { block = None;
-            marks = replicate (translation_pages geometry.now) false } }) }
+        ensures memory { IfOk result (λ engine. ram engine ≡ record {
+          geometry = geometry.now;
+          directory = directory;
+          mapping = mapping;
+          blocks = state blocks;
+          next = next;
+          fault = None;
+          pin = record {
+            block = None;
+            marks = replicate (translation_pages geometry.now) false;
+          };
+        }) }
     {
         match new_room(alloc, geometry) {
             Ok(room) => {
