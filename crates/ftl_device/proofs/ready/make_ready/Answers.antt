@@ -1,6 +1,8 @@
-use Rattle.std.proofs.Common.{◌∙◌, Err, ap, sym, subst}
+use Rattle.std.proofs.Common.{◌∙◌, ◌<◌, Err, ap, sym, subst}
+use Rattle.std.specs.Option.{ForSome}
 use Rattle.std.specs.Map.{keys_of}
 use Rattle.std.proofs.lemmas.Result.{err_from_is_err_and}
+use Rattle.page_layout.specs.Geometry.{row_count}
 use Rattle.collection.specs.Safe.{ram, image_in}
 use Rattle.ftl_device.proofs.ReadyLemmas.{same_slots, most_recent}
 use Rattle.ftl_device.proofs.CostLemmas.{order_ready, ready_then}
@@ -32,6 +34,16 @@ returns-in_err-row-clause-readies g c =
       costs = room_to_call (HasFunds (g.N.PageSource.honest c.args.engine.now.nand) (ram c.args.engine.now) (image_in g.N.PageSource.flash c.args.engine.now)) _ (ram c.args.engine.now) (ram c.prepare.new.engine) c.in_err-row.ensures.costs;
       pins = tt;
     })
+
+-- ---- its entry is one of the die
+
+pub cache_sector-requires-clause-entry : goal.cache_sector-requires-clause-entry
+cache_sector-requires-clause-entry g c =
+    let same = sym c.prepare.ensures.leaves.geometry in
+    record {
+      sector = subst (λ geometry. c.args.sector < geometry.sectors) same c.requires.sector;
+      row_in = subst (λ geometry. ForSome c.in_ok-row.row (λ r. r < row_count geometry)) same c.in_ok-row.ensures.row;
+    }
 
 -- ---- there was no memory for its entry
 
