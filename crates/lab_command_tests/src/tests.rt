@@ -1,0 +1,8 @@
+//! Runs of whole commands, with files in memory that can fail.
+mod array_rows;
+mod compare_rows;
+mod dumps;
+mod files;
+mod runs;
+mod survey_rows;
+mod word_rows;

@@ -1,0 +1,191 @@
+//! What `array` writes and prints, and each of its refusals.
+use super::dumps::Made;
+use super::files::Trouble;
+use super::runs::{Case, Step, expect_cases};
+use std::test::Fail;
+use test_images::{TABLE_0, TABLE_1, Written, page};
+
+const ARRAY: &str = "nandlab array 64,32,8,32,32 dump.bin out.bin";
+
+const FORCED: &str = "nandlab array 64,32,8,32,32 dump.bin out.bin --force";
+
+const SURE: &str = "unsound 0: the array is that of every page that was programmed\n";
+
+// The newest pages first: a sector twice, one that is trimmed, one in the last row.
+const PAGES: [Written; 6] = [
+    TABLE_0,
+    TABLE_1,
+    page!(8, Sector 3, sequence 9, fill 0x33),
+    page!(9, Sector 3, sequence 5, fill 0x31),
+    page!(10, Trim 4, sequence 7, fill 0x00),
+    page!(255, Sector 31, sequence 8, fill 0x99),
+];
+
+const SHOWN: Made = Made::Disk(&[(3, 0x33), (31, 0x99)]);
+
+const TIED: [Written; 5] = [
+    page!(8, Sector 3, sequence 9, fill 0x33),
+    page!(9, Sector 3, sequence 9, fill 0x34),
+    page!(10, Sector 0, sequence 6, fill 0x10),
+    page!(11, Sector 0, sequence 6, fill 0x10),
+    page!(12, Sector 1, sequence 7, fill 0x11),
+];
+
+// OUT is there already, and is replaced where that is asked for; the dump never is.
+const OTHERS: [Step; 8] = [
+    Step::Run(ARRAY, 1, "refused out 2 Exists\n"),
+    Step::Holds("out.bin", Made::Text("other")),
+    Step::Run(FORCED, 0, SURE),
+    Step::Holds("out.bin", SHOWN),
+    Step::Run(
+        "nandlab array 64,32,8,32,32 dump.bin dump.bin --force",
+        1,
+        "refused out 1 IsDump\n",
+    ),
+    Step::Run(
+        "nandlab array 64,32,8,32,32 ./dump.bin dump.bin",
+        1,
+        "refused out 1 IsDump\n",
+    ),
+    Step::Run(
+        "nandlab array 64,32,8,32,32 dump.bin ./out.bin",
+        1,
+        "refused out 2 Exists\n",
+    ),
+    Step::Holds("dump.bin", Made::Dump(&PAGES)),
+];
+
+// A read in pieces changes nothing; each failure has its line, and leaves no file.
+const TROUBLES: [Step; 20] = [
+    Step::Trouble(Trouble::ReadsEnd(24575)),
+    Step::Run(ARRAY, 3, "fault read dump.bin\n"),
+    Step::Trouble(Trouble::ReadsEnd(0)),
+    Step::Run(ARRAY, 3, "fault read dump.bin\n"),
+    Step::Trouble(Trouble::Ends(24575)),
+    Step::Run(ARRAY, 1, "refused image 1 WrongLength\n"),
+    Step::Trouble(Trouble::Unasked),
+    Step::Run(ARRAY, 3, "fault write out.bin\n"),
+    Step::Trouble(Trouble::Full),
+    Step::Run(ARRAY, 3, "fault write out.bin\n"),
+    Step::Trouble(Trouble::WritesEnd(2)),
+    Step::Run(ARRAY, 3, "fault write out.bin\n"),
+    Step::Trouble(Trouble::Unkept),
+    Step::Run(ARRAY, 3, "fault write out.bin\n"),
+    Step::Trouble(Trouble::NoMemory),
+    Step::Run(ARRAY, 1, "refused image 3 OutOfMemory\n"),
+    Step::Trouble(Trouble::NoMemoryBeside),
+    Step::Run(ARRAY, 1, "refused image 3 OutOfMemory\n"),
+    Step::Lacks("out.bin"),
+    Step::Trouble(Trouble::Calm),
+];
+
+const PIECES: [Step; 4] = [
+    Step::Trouble(Trouble::Pieces(7)),
+    Step::Run(ARRAY, 0, SURE),
+    Step::Holds("out.bin", SHOWN),
+    Step::Closed(FORCED, 1),
+];
+
+// Where several faults hold, the first is told. Here there is no dump.
+const FIRST: [Step; 5] = [
+    Step::Run(
+        "nandlab array 63,32,8,32 dump.bin out.bin",
+        2,
+        "usage: bad number 63,32,8,32\n",
+    ),
+    Step::Run(
+        "nandlab array 63,32,8,32,32 dump.bin out.bin",
+        1,
+        "refused geometry 1 DataSize\n",
+    ),
+    Step::Run(
+        "nandlab array 64,32,8,32,0 dump.bin out.bin --force",
+        1,
+        "refused geometry 5 Sectors\n",
+    ),
+    Step::Run(ARRAY, 1, "refused out 2 Exists\n"),
+    Step::Run(FORCED, 3, "fault read dump.bin\n"),
+];
+
+const CASES: [Case; 8] = [
+    Case {
+        name: "sectors",
+        files: &[("dump.bin", Made::Dump(&PAGES))],
+        steps: &[Step::Run(ARRAY, 0, SURE), Step::Holds("out.bin", SHOWN)],
+    },
+    Case {
+        name: "ties",
+        files: &[("dump.bin", Made::Dump(&TIED))],
+        steps: &[
+            Step::Run(
+                ARRAY,
+                0,
+                "tied sector 0\ntied sector 3\nunsound 0: the array is that of every page that was programmed\n",
+            ),
+            Step::Holds("out.bin", Made::Disk(&[(1, 0x11)])),
+        ],
+    },
+    // the newest page of sector 3 is lost, and so is an erased one
+    Case {
+        name: "unsound pages",
+        files: &[("dump.bin", Made::Changed(&PAGES, &[(768, 0), (9600, 0)]))],
+        steps: &[
+            Step::Run(
+                ARRAY,
+                0,
+                "unsound 2: at most 2 sectors may be older than the last write\n",
+            ),
+            Step::Holds("out.bin", Made::Disk(&[(3, 0x31), (31, 0x99)])),
+        ],
+    },
+    Case {
+        name: "lengths",
+        files: &[
+            ("dump.bin", Made::Cut(&PAGES, 24577)),
+            ("short.bin", Made::Cut(&PAGES, 24480)),
+            ("empty.bin", Made::Text("")),
+        ],
+        steps: &[
+            Step::Run(ARRAY, 1, "refused image 1 WrongLength\n"),
+            Step::Run(
+                "nandlab array 64,32,8,32,32 short.bin out.bin",
+                1,
+                "refused image 1 WrongLength\n",
+            ),
+            Step::Run(
+                "nandlab array 64,32,8,32,32 empty.bin out.bin",
+                1,
+                "refused image 1 WrongLength\n",
+            ),
+            Step::Lacks("out.bin"),
+        ],
+    },
+    Case {
+        name: "other files",
+        files: &[
+            ("dump.bin", Made::Dump(&PAGES)),
+            ("out.bin", Made::Text("other")),
+        ],
+        steps: &OTHERS,
+    },
+    Case {
+        name: "failures",
+        files: &[("dump.bin", Made::Dump(&PAGES))],
+        steps: &TROUBLES,
+    },
+    Case {
+        name: "pieces",
+        files: &[("dump.bin", Made::Dump(&PAGES))],
+        steps: &PIECES,
+    },
+    Case {
+        name: "the first fault",
+        files: &[("out.bin", Made::Text("other"))],
+        steps: &FIRST,
+    },
+];
+
+#[test]
+fn array_writes_what_the_dump_holds(rt: HostRuntime) -> Result<(), Fail> {
+    expect_cases(&rt, rt.alloc(), &CASES)
+}

@@ -1,0 +1,79 @@
+//! Dumps, certificates and disk images of a small die: pages of 64 data bytes and 32 spare bytes, 8 pages a block, 32 blocks, 32 sectors.
+use page_layout::geometry::Geometry;
+use std::alloc::{AllocError, Global};
+use std::test::Fail;
+use test_images::{Claim, FORMATTED, Said, Written, certificate_bytes, image_of};
+
+// What a file is of bytes that are changed: a place and the byte there.
+type Changes = &'static [(usize, u8)];
+
+/// What a certificate says of a formatted die: the next sequence, blocks, and the rows of sectors.
+pub type Claimed = (u64, &'static [Said], &'static [(u32, u32)]);
+
+/// What bytes are made of.
+pub enum Made {
+    /// These bytes.
+    Text(&'static str),
+    /// A dump of erased pages, but for these.
+    Dump(&'static [Written]),
+    /// The same with other bytes in these places.
+    Changed(&'static [Written], Changes),
+    /// The same cut, or made longer by 00h bytes, to so many bytes.
+    Cut(&'static [Written], usize),
+    /// The disk image of 32 sectors of zeros, but for these, each filled with one byte.
+    Disk(&'static [(usize, u8)]),
+    /// A certificate.
+    Certificate(Claimed),
+}
+
+fn dump(alloc: Global, pages: &[Written]) -> Result<Vec<u8>, Fail> {
+    let geometry = Geometry::new(64, 32, 8, 32, 32)?;
+    Ok(image_of(alloc, &geometry, pages)?)
+}
+
+fn changed(alloc: Global, pages: &[Written], changes: Changes) -> Result<Vec<u8>, Fail> {
+    let mut bytes = dump(alloc, pages)?;
+    for (at, byte) in changes {
+        *bytes.get_mut(*at).ok_or("no such byte")? = *byte;
+    }
+    Ok(bytes)
+}
+
+fn cut(alloc: Global, pages: &[Written], length: usize) -> Result<Vec<u8>, Fail> {
+    let mut bytes = dump(alloc, pages)?;
+    bytes.resize(length, 0)?;
+    Ok(bytes)
+}
+
+fn disk(alloc: Global, sectors: &[(usize, u8)]) -> Result<Vec<u8>, AllocError> {
+    let mut bytes = Vec::new(alloc);
+    for number in 0..32 {
+        let found = sectors.iter().find(|sector| sector.0 == number);
+        let fill = found.map_or(0, |sector| sector.1);
+        bytes.extend_from_slice(&[fill; 64])?;
+    }
+    Ok(bytes)
+}
+
+fn certificate(alloc: Global, claimed: &Claimed) -> Result<Vec<u8>, AllocError> {
+    let (next, blocks, sectors) = *claimed;
+    let claim = Claim {
+        next,
+        blocks,
+        sectors,
+        ..FORMATTED
+    };
+    certificate_bytes(alloc, &claim)
+}
+
+/// The bytes of a file.
+pub fn bytes_of(alloc: Global, made: &Made) -> Result<Vec<u8>, Fail> {
+    Ok(match made {
+        Made::Text(text) => Vec::from_slice(alloc, text.as_bytes())?,
+        Made::Dump(pages) => dump(alloc, pages)?,
+        Made::Changed(pages, changes) => changed(alloc, pages, changes)?,
+        Made::Cut(pages, length) => cut(alloc, pages, *length)?,
+        Made::Disk(sectors) => disk(alloc, sectors)?,
+        Made::Certificate(claimed) => certificate(alloc, claimed)?,
+    })
+}

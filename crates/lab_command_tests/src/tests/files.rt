@@ -1,0 +1,269 @@
+//! Files in memory, whose reads and writes can fail.
+use lab_array::{Target, TargetFault};
+use lab_commands::{FileFault, LabFiles};
+use std::alloc::{AllocError, Global};
+use std::io::{self, ErrorKind, Read, Write};
+
+/// What goes wrong with the files.
+#[derive(Clone, Copy, Debug, PartialEq, Eq)]
+pub enum Trouble {
+    /// Nothing.
+    Calm,
+    /// A read gives at most so many bytes.
+    Pieces(usize),
+    /// Each reader of a longer file fails after so many bytes.
+    ReadsEnd(usize),
+    /// Each reader of a longer file ends after so many bytes.
+    Ends(usize),
+    /// Whether there is a file, or one and the same, cannot be asked.
+    Unasked,
+    /// No file can be made.
+    Full,
+    /// Of each file that is made so many pieces can be written.
+    WritesEnd(u32),
+    /// No file that was made can be put in its place.
+    Unkept,
+    /// No memory is found for a reader.
+    NoMemory,
+    /// No memory is found for a file that is to be made.
+    NoMemoryBeside,
+}
+
+/// A file in memory.
+#[derive(Drop)]
+pub struct MemoryFile {
+    path: String,
+    bytes: Vec<u8>,
+}
+
+/// A reader of a file, that can fail.
+#[derive(Drop)]
+pub struct MemoryReader {
+    bytes: Vec<u8>,
+    at: usize,
+    // how many bytes a read gives at most
+    most: usize,
+    // whether it fails after its last byte
+    fails: bool,
+}
+
+impl Read for MemoryReader {
+    fn read(&mut self, buf: &mut [u8]) -> io::Result<usize> {
+        let Some(left) = self.bytes.get(self.at..) else {
+            return Ok(0);
+        };
+        if left.is_empty() && self.fails {
+            return Err(io::Error::from(ErrorKind::BrokenPipe));
+        }
+        let n = buf.len().min(left.len()).min(self.most);
+        buf[..n].copy_from_slice(&left[..n]);
+        self.at = self.at.saturating_add(n);
+        Ok(n)
+    }
+}
+
+/// A file that is being written, that can fail.
+#[derive(Drop)]
+pub struct Beside {
+    bytes: Vec<u8>,
+    size: usize,
+    // how many writes are left until one fails
+    left: u32,
+}
+
+impl Beside {
+    // Puts bytes in the place of a piece, where there is such a piece of as many bytes.
+    fn set(&mut self, number: u32, piece: &[u8]) -> bool {
+        let Some(left) = self.left.checked_sub(1) else {
+            return false;
+        };
+        self.left = left;
+        let at = (number as usize).saturating_mul(self.size);
+        let end = at.saturating_add(piece.len());
+        if piece.len() != self.size || end > self.bytes.len() || end - at != piece.len() {
+            return false;
+        }
+        self.bytes[at..end].copy_from_slice(piece);
+        true
+    }
+}
+
+impl Target for Beside {
+    ghost use Rattle.std.specs.Prelude.{None};
+
+    ghost pieces = { λ _. None };
+
+    fn put(&mut self, number: u32, body: &[u8], _spare: &[u8]) -> Result<(), TargetFault> {
+        if self.set(number, body) {
+            Ok(())
+        } else {
+            Err(TargetFault)
+        }
+    }
+
+    fn blank(&mut self, number: u32, zeros: &[u8]) -> Result<(), TargetFault> {
+        if self.set(number, zeros) {
+            Ok(())
+        } else {
+            Err(TargetFault)
+        }
+    }
+}
+
+/// Files in memory, what goes wrong with them, and how many were put in their places. A run that fails tells the name of its case.
+#[derive(Drop)]
+pub struct MemoryFiles {
+    pub case: &'static str,
+    pub alloc: Global,
+    pub trouble: Trouble,
+    pub kept: usize,
+    files: Vec<MemoryFile>,
+}
+
+// A path without what says that it begins here.
+fn plain(path: &str) -> &str {
+    path.strip_prefix("./").unwrap_or(path)
+}
+
+impl MemoryFiles {
+    /// No files.
+    pub fn new(alloc: Global, case: &'static str) -> MemoryFiles {
+        MemoryFiles {
+            case,
+            alloc,
+            trouble: Trouble::Calm,
+            kept: 0,
+            files: Vec::new(alloc),
+        }
+    }
+
+    /// Puts a file in its place, and takes away the one that stood there.
+    pub fn put(&mut self, path: &str, bytes: Vec<u8>) -> Result<(), AllocError> {
+        let path = String::from_str(self.alloc, plain(path))?;
+        self.files.push(MemoryFile { path, bytes })?;
+        Ok(())
+    }
+
+    /// What a file holds, where there is such a file.
+    pub fn contents(&self, path: &str) -> Option<&[u8]> {
+        let mut files = self.files.iter().rev();
+        let file = files.find(|file| file.path.as_str() == plain(path))?;
+        Some(file.bytes.as_slice())
+    }
+
+    // The bytes that a reader of a file gives before it ends or fails.
+    fn given(&self, path: &str) -> Result<Vec<u8>, FileFault> {
+        let Some(all) = self.contents(path) else {
+            return Err(FileFault::Failed);
+        };
+        let end = match self.trouble {
+            Trouble::ReadsEnd(n) | Trouble::Ends(n) => n.min(all.len()),
+            _ => all.len(),
+        };
+        Vec::from_slice(self.alloc, &all[..end]).map_err(|_| FileFault::OutOfMemory)
+    }
+
+    // A file of so many pieces of zeros.
+    fn beside(&self, count: u32, size: usize) -> Result<Beside, FileFault> {
+        let left = match self.trouble {
+            Trouble::Full => return Err(FileFault::Failed),
+            Trouble::NoMemoryBeside => return Err(FileFault::OutOfMemory),
+            Trouble::WritesEnd(n) => n,
+            _ => u32::MAX,
+        };
+        let length = (count as usize).saturating_mul(size);
+        match vec![in self.alloc; 0u8; length] {
+            Ok(bytes) => Ok(Beside { bytes, size, left }),
+            Err(_) => Err(FileFault::OutOfMemory),
+        }
+    }
+
+    // Puts these bytes in the place of a path.
+    fn keep_bytes(&mut self, path: &str, bytes: Vec<u8>) -> Result<(), FileFault> {
+        if self.trouble == Trouble::Unkept {
+            return Err(FileFault::Failed);
+        }
+        self.kept = self.kept.saturating_add(1);
+        self.put(path, bytes).map_err(|_| FileFault::OutOfMemory)
+    }
+}
+
+impl LabFiles for MemoryFiles {
+    ghost use Rattle.std.specs.Prelude.{None};
+    ghost use Rattle.lab_commands.specs.Files.{unknown};
+
+    type Reader = MemoryReader;
+
+    type Target = Beside;
+
+    ghost answers = { λ _. unknown };
+
+    ghost kept = { λ _. None };
+
+    fn has(&mut self, path: &str) -> Result<bool, FileFault> {
+        if self.trouble == Trouble::Unasked {
+            return Err(FileFault::Failed);
+        }
+        Ok(self.contents(path).is_some())
+    }
+
+    fn is_same(&mut self, first: &str, second: &str) -> Result<bool, FileFault> {
+        if self.trouble == Trouble::Unasked {
+            return Err(FileFault::Failed);
+        }
+        Ok(plain(first) == plain(second))
+    }
+
+    fn open(&mut self, path: &str) -> Result<MemoryReader, FileFault> {
+        if self.trouble == Trouble::NoMemory {
+            return Err(FileFault::OutOfMemory);
+        }
+        let most = match self.trouble {
+            Trouble::Pieces(n) => n,
+            _ => usize::MAX,
+        };
+        let fails = match self.trouble {
+            Trouble::ReadsEnd(n) => self.contents(path).is_some_and(|all| n < all.len()),
+            _ => false,
+        };
+        match self.given(path) {
+            Ok(bytes) => Ok(MemoryReader {
+                bytes,
+                at: 0,
+                most,
+                fails,
+            }),
+            Err(fault) => Err(fault),
+        }
+    }
+
+    fn create(&mut self, _path: &str, count: u32, size: usize) -> Result<Beside, FileFault> {
+        match self.beside(count, size) {
+            Ok(made) => Ok(made),
+            Err(fault) => Err(fault),
+        }
+    }
+
+    fn keep(&mut self, path: &str, target: Beside) -> Result<(), FileFault> {
+        match self.keep_bytes(path, target.bytes) {
+            Ok(()) => Ok(()),
+            Err(fault) => Err(fault),
+        }
+    }
+
+    fn discard(&mut self, _path: &str) {}
+}
+
+/// Standard output that is closed.
+#[derive(Drop)]
+pub struct Closed;
+
+impl Write for Closed {
+    fn write(&mut self, _buf: &[u8]) -> io::Result<usize> {
+        Err(io::Error::from(ErrorKind::BrokenPipe))
+    }
+
+    fn flush(&mut self) -> io::Result<()> {
+        Ok(())
+    }
+}
