@@ -32,8 +32,15 @@ begun_mapping g c stale = record { geometry = g; capacity = c.capacity; cached =
 
 -- the memory of an engine that nothing was asked of yet
 abbrev pub begun_ram : Geometry → Claim → List ℕ → Ram
-begun_ram g c stale = record { geometry = g; directory = c.directory; mapping = begun_mapping g c stale; blocks = begun g c.blocks; next = c.next;
-    fault = None; pin = record { block = None; marks = replicate (translation_pages g) false } }
+begun_ram g c stale = record {
+  geometry = g;
+  directory = c.directory;
+  mapping = begun_mapping g c stale;
+  blocks = begun g c.blocks;
+  next = c.next;
+  fault = None;
+  pin = record { block = None; marks = replicate (translation_pages g) false };
+}
 
 -- ---- what it says of the image
 

@@ -98,8 +98,8 @@ pub record CollectsOn {N : Type 0} (flash : N → Flash) (recorded : N → Optio
   pub bad : honest old.nand ≡ true → Knows (ram old) (image_in flash old) → OnOk result (KeepsBad (ram old) (ram new))
   pub truth : honest old.nand ≡ true → Knows (ram old) (image_in flash old)
       → MatchResult result
-          (λ done. KeepsArray old.geometry (image_in flash old) (ram new) (image_in flash new))
-          (λ fault. CallRefused old.geometry (image_in flash old) (ram new) (image_in flash new) (call.Engine fault))
+      (λ done. KeepsArray old.geometry (image_in flash old) (ram new) (image_in flash new))
+      (λ fault. CallRefused old.geometry (image_in flash old) (ram new) (image_in flash new) (call.Engine fault))
 
 -- THE ROW THAT THE SECTOR HAD WAS LOOKED UP before a page of it was programmed: memory knew it once there was room, or else this page of
 -- entries gives it, a sound translation page. Then its new row was set, and no other.
