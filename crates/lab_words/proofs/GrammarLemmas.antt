@@ -53,9 +53,12 @@ rows_name m = map_map (λ (p : Text × List Row). p.0) _ _
 
 -- a command that was met is what the words ask for
 pub asked_by : (found : Asked) (words : List (List ℕ)) → fault_of grammar words ≡ [] → IsCommandOf (subcommand_of grammar words) found → IsAsked words found
+asked_by (asked.Geometry read) words taken met = (taken, met)
 asked_by (asked.Array read) words taken met = (taken, met)
 asked_by (asked.Survey read) words taken met = (taken, met)
 asked_by (asked.Compare read) words taken met = (taken, met)
+asked_by (asked.Merge read) words taken met = (taken, met)
+asked_by (asked.Repair read) words taken met = (taken, met)
 asked_by (asked.Text text) words taken met = absurd met.read
 
 -- the text of help or of the version is what the words ask for
