@@ -38,8 +38,12 @@ map_file = record (new_rule (codes "map")) { action = Some Set; long = Some (cod
 abbrev pub geometry : App
 geometry = with_rule (new_app (codes "geometry")) (place (codes "DUMP"))
 
+-- but for the word of the map
+abbrev pub array_plain : App
+array_plain = with_rule (with_rule (with_rule (with_rule (new_app (codes "array")) (place (codes "GEOM"))) (place (codes "DUMP"))) (place (codes "OUT"))) force
+
 abbrev pub array : App
-array = with_rule (with_rule (with_rule (with_rule (with_rule (new_app (codes "array")) (place (codes "GEOM"))) (place (codes "DUMP"))) (place (codes "OUT"))) force) map_file
+array = with_rule array_plain map_file
 
 abbrev pub survey : App
 survey = with_rule (with_rule (new_app (codes "survey")) (place (codes "GEOM"))) (place (codes "DUMP"))

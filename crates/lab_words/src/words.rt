@@ -188,9 +188,9 @@ fn geometry<'a>(alloc: Global) -> Result<Command<'a>, AllocError>
         .arg(dump_place(alloc))
 }
 
-// The command `array`.
-fn array<'a>(alloc: Global) -> Result<Command<'a>, AllocError>
-    ensures app { IfOk result (λ command. app_of command ≡ Rattle.lab_words.specs.Words.array) }
+// The command `array`, but for the word of the map.
+fn array_plain<'a>(alloc: Global) -> Result<Command<'a>, AllocError>
+    ensures app { IfOk result (λ command. app_of command ≡ Rattle.lab_words.specs.Words.array_plain) }
     ensures local { IfOk result (λ command. (out-Command command).has_globals ≡ false) }
 {
     Command::new(alloc, "array")
@@ -198,8 +198,15 @@ fn array<'a>(alloc: Global) -> Result<Command<'a>, AllocError>
         .arg(geometry_place(alloc))?
         .arg(dump_place(alloc))?
         .arg(place(alloc, "OUT", "The disk image to be written"))?
-        .arg(force(alloc))?
-        .arg(map_file(alloc))
+        .arg(force(alloc))
+}
+
+// The command `array`.
+fn array<'a>(alloc: Global) -> Result<Command<'a>, AllocError>
+    ensures app { IfOk result (λ command. app_of command ≡ Rattle.lab_words.specs.Words.array) }
+    ensures local { IfOk result (λ command. (out-Command command).has_globals ≡ false) }
+{
+    array_plain(alloc)?.arg(map_file(alloc))
 }
 
 // The command `survey`.
