@@ -5,3 +5,4 @@ pub mod UndoneLemmas
 pub mod ArrayLemmas
 pub mod SurveyLemmas
 pub mod CompareLemmas
+pub mod GeometryLemmas

@@ -75,10 +75,16 @@ pub trait LabFiles {
     /// Puts the file that was made beside this path in its place, once all of it is stored. Where that fails what stood there still does.
     fn keep(&mut self, path: &str, target: Self::Target) -> Result<(), FileFault>
         ensures done { kept self.new ≡ kept_after (kept self.old) path.now (Self.Target.pieces target) result }
-        ensures failed { IfErr result ((answers self.old).fails path.now) };
+        ensures failed { IfErr result ((answers self.old).fails path.now) }
+        ensures no_more { AnswersNoMore (answers self.old) (answers self.new) };
 
     /// The same for pages: a new file beside that of this path, of so many pieces of so many zeros.
-    fn create_pages(&mut self, path: &str, count: u32, size: usize) -> Result<Self::Pages, FileFault>
+    fn create_pages(
+        &mut self,
+        path: &str,
+        count: u32,
+        size: usize,
+    ) -> Result<Self::Pages, FileFault>
         ensures blank { IfOk result (λ target. IfSome (Self.Pages.pieces target) (λ ps. ps ≡ replicate count (replicate size 0))) }
         ensures failed { IfErr result ((answers self.old).fails path.now) }
         ensures no_more { AnswersNoMore (answers self.old) (answers self.new) }

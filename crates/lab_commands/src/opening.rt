@@ -156,6 +156,7 @@ pub(crate) fn keep<'a, F: LabFiles>(
 ) -> Result<(), LabFault<'a>>
     ensures ok { OnOk result (F.kept files.new ≡ with_kept (F.kept files.old) path.now (F.Target.pieces target)) }
     ensures fault { IfErr result (IsUnwritten (F.answers files.old) path.now) }
+    ensures no_more { OnOk result (AnswersNoMore (F.answers files.old) (F.answers files.new)) }
     ensures kept { OnErr result (F.kept files.new ≡ F.kept files.old) }
 {
     match files.keep(path, target) {
