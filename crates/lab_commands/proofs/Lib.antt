@@ -6,3 +6,5 @@ pub mod ArrayLemmas
 pub mod SurveyLemmas
 pub mod CompareLemmas
 pub mod GeometryLemmas
+pub mod RepairLemmas
+pub mod MergeLemmas

@@ -1,5 +1,5 @@
 //! The command `array GEOM DUMP OUT [--map FILE]`.
-ghost use Rattle.std.specs.Prelude.{◌≡◌, OnOk, OnErr, IfOk, IfErr, length, map};
+ghost use Rattle.std.specs.Prelude.{◌≡◌, OnOk, OnErr, IfOk, IfErr, false, length, map};
 ghost use Rattle.lab_array.specs.Held.{state_in};
 ghost use Rattle.lab_map.specs.Map.{map_text};
 ghost use Rattle.lab_commands.specs.Files.{AnswersNoMore};
