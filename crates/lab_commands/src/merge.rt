@@ -169,7 +169,7 @@ pub(crate) fn merge_command<'a, F: LabFiles, W: Write>(
     files: &mut F,
     out: &mut W,
 ) -> Result<(), LabFault<'a>>
-    requires { 0 < length words.entry.dumps.items }
+    requires { 0 < length words.dumps.items }
     ensures ok { OnOk result (WroteMerge (F.answers files.old) words.entry (F.kept files.old) (F.kept files.new) (W.contents out.old) (W.contents out.new)) }
     ensures fault { IfErr result (IsMergeFault (F.answers files.old) words.entry (F.kept files.old) (F.kept files.new) (W.contents out.old) (W.contents out.new)) }
 {
