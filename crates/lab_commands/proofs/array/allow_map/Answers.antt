@@ -1,5 +1,5 @@
 use Rattle.lab_commands.specs.Array.{IsMapNotAllowed}
-use Rattle.lab_commands.proofs.ArrayLemmas.{map_unasked_dump, map_unasked_file, map_unasked_out}
+use Rattle.lab_commands.proofs.ArrayLemmas.{map_unasked_out}
 use Rattle.lab_commands.proofs.UndoneLemmas.{handed_on}
 use Rattle.lab_commands.proofs.array.allow_map.Goals as goal
 
