@@ -40,18 +40,18 @@ conflicts_more g rows n =
 
 -- ---- the counts
 
-abbrev pub the_tally : ℕ → ℕ → ℕ → Tally
-the_tally a b c = record { majority = a; erased = b; unsound = c }
+abbrev pub the_tally : ℕ → ℕ → ℕ → ℕ → Tally
+the_tally s a b c = record { sound = s; majority = a; erased = b; unsound = c }
 
-tally_same : (a b c x y z : ℕ) → a ≡ x → b ≡ y → c ≡ z → the_tally a b c ≡ the_tally x y z
-tally_same a b c x y z e f h = ap (λ k. the_tally k b c) e ∙ (ap (λ k. the_tally x k c) f ∙ ap (the_tally x y) h)
+tally_same : (s a b c w x y z : ℕ) → s ≡ w → a ≡ x → b ≡ y → c ≡ z → the_tally s a b c ≡ the_tally w x y z
+tally_same s a b c w x y z d e f h = ap (λ k. the_tally k a b c) d ∙ (ap (λ k. the_tally w k b c) e ∙ (ap (λ k. the_tally w x k c) f ∙ ap (the_tally w x y) h))
 
-counted_is : (t : Tally) (o : Origin) → the_tally (t.majority + cond (eqb (place_of o) 2) 1 0) (t.erased + cond (eqb (place_of o) 3) 1 0) (t.unsound + cond (eqb (place_of o) 4) 1 0) ≡ counted t o
-counted_is t Sound = tally_same (t.majority + 0) (t.erased + 0) (t.unsound + 0) t.majority t.erased t.unsound (add-zero t.majority) (add-zero t.erased) (add-zero t.unsound)
-counted_is t Conflict = tally_same (t.majority + 0) (t.erased + 0) (t.unsound + 0) t.majority t.erased t.unsound (add-zero t.majority) (add-zero t.erased) (add-zero t.unsound)
-counted_is t Majority = tally_same (t.majority + 1) (t.erased + 0) (t.unsound + 0) (t.majority + 1) t.erased t.unsound refl (add-zero t.erased) (add-zero t.unsound)
-counted_is t Erased = tally_same (t.majority + 0) (t.erased + 1) (t.unsound + 0) t.majority (t.erased + 1) t.unsound (add-zero t.majority) refl (add-zero t.unsound)
-counted_is t Unsound = tally_same (t.majority + 0) (t.erased + 0) (t.unsound + 1) t.majority t.erased (t.unsound + 1) (add-zero t.majority) (add-zero t.erased) refl
+counted_is : (t : Tally) (o : Origin) → the_tally (t.sound + cond (eqb (place_of o) 0) 1 0) (t.majority + cond (eqb (place_of o) 2) 1 0) (t.erased + cond (eqb (place_of o) 3) 1 0) (t.unsound + cond (eqb (place_of o) 4) 1 0) ≡ counted t o
+counted_is t Sound = tally_same (t.sound + 1) (t.majority + 0) (t.erased + 0) (t.unsound + 0) (t.sound + 1) t.majority t.erased t.unsound refl (add-zero t.majority) (add-zero t.erased) (add-zero t.unsound)
+counted_is t Conflict = tally_same (t.sound + 0) (t.majority + 0) (t.erased + 0) (t.unsound + 0) t.sound t.majority t.erased t.unsound (add-zero t.sound) (add-zero t.majority) (add-zero t.erased) (add-zero t.unsound)
+counted_is t Majority = tally_same (t.sound + 0) (t.majority + 1) (t.erased + 0) (t.unsound + 0) t.sound (t.majority + 1) t.erased t.unsound (add-zero t.sound) refl (add-zero t.erased) (add-zero t.unsound)
+counted_is t Erased = tally_same (t.sound + 0) (t.majority + 0) (t.erased + 1) (t.unsound + 0) t.sound t.majority (t.erased + 1) t.unsound (add-zero t.sound) (add-zero t.majority) refl (add-zero t.unsound)
+counted_is t Unsound = tally_same (t.sound + 0) (t.majority + 0) (t.erased + 0) (t.unsound + 1) t.sound t.majority t.erased (t.unsound + 1) (add-zero t.sound) (add-zero t.majority) (add-zero t.erased) refl
 
 count_more : (p : ℕ → Bool) (n : ℕ) → count_by p (range_with_len 0 (n + 1)) ≡ count_by p (range_with_len 0 n) + cond (p n) 1 0
 count_more p n = ap (count_by p) (range_more n) ∙ sum_by_push (λ x. cond (p x) 1 0) (range_with_len 0 n) n
@@ -60,19 +60,20 @@ pub tally_more : (g : Geometry) (rows : ℕ → List Page) (n : ℕ) → tally_b
 unfolding tally_below
 tally_more g rows n =
     let o : Origin = (choice g (rows n)).origin in
+    let s : ℕ = count_by (is_from g rows Sound) (range_with_len 0 n) in
     let m : ℕ = count_by (is_from g rows Majority) (range_with_len 0 n) in
     let e : ℕ = count_by (is_from g rows Erased) (range_with_len 0 n) in
     let u : ℕ = count_by (is_from g rows Unsound) (range_with_len 0 n) in
-    tally_same _ _ _ (m + cond (eqb (place_of o) 2) 1 0) (e + cond (eqb (place_of o) 3) 1 0) (u + cond (eqb (place_of o) 4) 1 0)
-    (count_more (is_from g rows Majority) n) (count_more (is_from g rows Erased) n) (count_more (is_from g rows Unsound) n)
-    ∙ counted_is (the_tally m e u) o
+    tally_same _ _ _ _ (s + cond (eqb (place_of o) 0) 1 0) (m + cond (eqb (place_of o) 2) 1 0) (e + cond (eqb (place_of o) 3) 1 0) (u + cond (eqb (place_of o) 4) 1 0)
+    (count_more (is_from g rows Sound) n) (count_more (is_from g rows Majority) n) (count_more (is_from g rows Erased) n) (count_more (is_from g rows Unsound) n)
+    ∙ counted_is (the_tally s m e u) o
 
 few_more : (n : ℕ) (t : Tally) (o : Origin) → AreFew n t → AreFew (n + 1) (counted t o)
-few_more n t Sound h = let a = h.majority in let b = h.erased in let c = h.unsound in record { majority = omega arith; erased = omega arith; unsound = omega arith }
-few_more n t Conflict h = let a = h.majority in let b = h.erased in let c = h.unsound in record { majority = omega arith; erased = omega arith; unsound = omega arith }
-few_more n t Majority h = let a = h.majority in let b = h.erased in let c = h.unsound in record { majority = omega arith; erased = omega arith; unsound = omega arith }
-few_more n t Erased h = let a = h.majority in let b = h.erased in let c = h.unsound in record { majority = omega arith; erased = omega arith; unsound = omega arith }
-few_more n t Unsound h = let a = h.majority in let b = h.erased in let c = h.unsound in record { majority = omega arith; erased = omega arith; unsound = omega arith }
+few_more n t Sound h = let d = h.sound in let a = h.majority in let b = h.erased in let c = h.unsound in record { sound = omega arith; majority = omega arith; erased = omega arith; unsound = omega arith }
+few_more n t Conflict h = let d = h.sound in let a = h.majority in let b = h.erased in let c = h.unsound in record { sound = omega arith; majority = omega arith; erased = omega arith; unsound = omega arith }
+few_more n t Majority h = let d = h.sound in let a = h.majority in let b = h.erased in let c = h.unsound in record { sound = omega arith; majority = omega arith; erased = omega arith; unsound = omega arith }
+few_more n t Erased h = let d = h.sound in let a = h.majority in let b = h.erased in let c = h.unsound in record { sound = omega arith; majority = omega arith; erased = omega arith; unsound = omega arith }
+few_more n t Unsound h = let d = h.sound in let a = h.majority in let b = h.erased in let c = h.unsound in record { sound = omega arith; majority = omega arith; erased = omega arith; unsound = omega arith }
 
 -- ---- the list
 
@@ -222,10 +223,10 @@ shows_next g of n rows t pages o old out pieces within stands h are written rows
 
 -- ---- before the first row
 
-pub stands_first : (g : Geometry) (scratch : List ℕ) (pieces : Option (List (List ℕ))) → length scratch ≡ page_bytes g → IfSome pieces (λ ps. length ps ≡ row_count g) → Stands g 0 [] (the_tally 0 0 0) scratch pieces
+pub stands_first : (g : Geometry) (scratch : List ℕ) (pieces : Option (List (List ℕ))) → length scratch ≡ page_bytes g → IfSome pieces (λ ps. length ps ≡ row_count g) → Stands g 0 [] (the_tally 0 0 0 0) scratch pieces
 stands_first g scratch pieces size whole = record {
   scratch_size = size;
-  few = record { majority = omega arith; erased = omega arith; unsound = omega arith };
+  few = record { sound = omega arith; majority = omega arith; erased = omega arith; unsound = omega arith };
   listed = record { within = All-nil (λ (r : ℕ). r < 0); rising = λ i j d l k. absurd (omega arith) };
   own = if_more pieces (λ ps. length ps ≡ row_count g) (AreOwn g 0 []) whole (λ ps all. record {
     size = all;
@@ -234,7 +235,7 @@ stands_first g scratch pieces size whole = record {
   });
 }
 
-pub shows_first : (g : Geometry) (of : ℕ → List Page) (pieces : Option (List (List ℕ))) → Shows g of 0 [] (the_tally 0 0 0) pieces
+pub shows_first : (g : Geometry) (of : ℕ → List Page) (pieces : Option (List (List ℕ))) → Shows g of 0 [] (the_tally 0 0 0 0) pieces
 unfolding conflicts_below tally_below
 shows_first g of pieces = record { conflicts_are = refl; tally_is = refl; pieces_are = all pieces }
   where

@@ -41,6 +41,13 @@ IsUnmerged g files (fault.Source i) = i < length files
 IsUnmerged g files fault.Target = Unit {0}
 IsUnmerged g files fault.OutOfMemory = Unit {0}
 
+-- a fault that names a reading names one of so many
+abbrev pub IsOfReading : ℕ → MergeFault → Type 0
+IsOfReading count (fault.WrongLength i) = i < count
+IsOfReading count (fault.Source i) = i < count
+IsOfReading count fault.Target = Unit {0}
+IsOfReading count fault.OutOfMemory = Unit {0}
+
 -- the fault of a reading that ended early or failed
 abbrev pub fault_of_cut : ℕ → Cut → MergeFault
 fault_of_cut i cut.Ended = fault.WrongLength i

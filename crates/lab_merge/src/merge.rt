@@ -5,7 +5,7 @@ ghost use Rattle.page_layout.specs.Page.{Page};
 ghost use Rattle.lab_scan.specs.Scan.{image_bytes};
 ghost use Rattle.lab_merge.specs.InStep.{AreAt, Tell};
 ghost use Rattle.lab_merge.specs.Merging.{Shows, Stands};
-ghost use Rattle.lab_merge.specs.Merged.{IsMerged, IsOwnMerge, IsUnmerged, row_of};
+ghost use Rattle.lab_merge.specs.Merged.{IsMerged, IsOfReading, IsOwnMerge, IsUnmerged, row_of};
 
 use crate::in_step::{ReadingCut, ReadingFault, expect_ends, read_row};
 use crate::merging::{Merging, RowFault, Tally};
@@ -87,7 +87,7 @@ impl From<AllocError> for MergeFault {
 pub struct Merged<T> {
     /// The rows of which two sound pages differ, by rising row.
     pub conflicts: Vec<u32>,
-    /// How many rows have no sound page, by what was written of them.
+    /// How many of the other rows there are, by what was written of them.
     pub tally: Tally,
     /// The file of pages.
     pub target: T,
@@ -106,7 +106,9 @@ fn merge_rows<R: Read, T: PageTarget>(
     requires shows { (rows : ℕ → List Page) → Shows geometry.now rows 0 merging.old.conflicts.items merging.old.tally (T.pieces merging.old.target) }
     ensures stands { OnOk result (Stands geometry.now (row_count geometry.now) merging.new.conflicts.items merging.new.tally merging.new.scratch.items (T.pieces merging.new.target)) }
     ensures shows { OnOk result ((files : List (List ℕ)) → AreAt (map R.remaining readers.old) files 0 → Shows geometry.now (row_of geometry.now files) (row_count geometry.now) merging.new.conflicts.items merging.new.tally (T.pieces merging.new.target)) }
+    ensures count { OnOk result (length readers.new ≡ length readers.old) }
     ensures read { OnOk result ((files : List (List ℕ)) → AreAt (map R.remaining readers.old) files 0 → AreAt (map R.remaining readers.new) files (image_bytes geometry.now)) }
+    ensures reading { IfErr result (IsOfReading (length readers.old)) }
     ensures unmerged { IfErr result (λ fault. (files : List (List ℕ)) → AreAt (map R.remaining readers.old) files 0 → IsUnmerged geometry.now files fault) }
 {
     let size = geometry.data_bytes() + geometry.spare_bytes();
@@ -151,6 +153,7 @@ pub fn merge_dumps<R: Read, T: PageTarget + Drop>(
     ensures ok { IfOk result (λ told. (files : List (List ℕ)) → Tell (map R.remaining readers.old) files → IsMerged geometry.now files told.conflicts.items told.tally (T.pieces told.target)) }
     // Whatever the readers give.
     ensures own { IfOk result (λ told. IsOwnMerge geometry.now told.conflicts.items (T.pieces told.target)) }
+    ensures reading { IfErr result (IsOfReading (length readers.old)) }
     ensures err { IfErr result (λ fault. (files : List (List ℕ)) → Tell (map R.remaining readers.old) files → IsUnmerged geometry.now files fault) }
 {
     let size = geometry.data_bytes() + geometry.spare_bytes();
@@ -161,6 +164,7 @@ pub fn merge_dumps<R: Read, T: PageTarget + Drop>(
     let mut merging = Merging {
         conflicts: Vec::new(alloc),
         tally: Tally {
+            sound: 0,
             majority: 0,
             erased: 0,
             unsound: 0,

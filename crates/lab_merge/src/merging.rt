@@ -10,9 +10,11 @@ use lab_scan::PageTarget;
 use page_layout::geometry::Geometry;
 use std::alloc::AllocError;
 
-/// How many rows have no page that is sound in some reading, by what was written of them.
+/// How many rows there are whose sound pages do not differ, by what was written of them.
 #[derive(Clone, Copy, Debug, PartialEq, Eq)]
 pub struct Tally {
+    /// The page that is sound in some reading.
+    pub sound: u32,
     /// The majority of each bit, which is sound.
     pub majority: u32,
     /// An erased page.
@@ -55,6 +57,7 @@ pub(crate) struct Merging<T> {
 impl Tally {
     // With one row more.
     fn count(self, origin: Origin) -> Tally
+        requires sound { self.sound + 1 < 2 ^ 32 }
         requires majority { self.majority + 1 < 2 ^ 32 }
         requires erased { self.erased + 1 < 2 ^ 32 }
         requires unsound { self.unsound + 1 < 2 ^ 32 }
@@ -62,7 +65,8 @@ impl Tally {
     {
         let mut tally = self;
         match origin {
-            Origin::Sound | Origin::Conflict => (),
+            Origin::Conflict => (),
+            Origin::Sound => tally.sound += 1,
             Origin::Majority => tally.majority += 1,
             Origin::Erased => tally.erased += 1,
             Origin::Unsound => tally.unsound += 1,

@@ -11,7 +11,7 @@ pub merge_rows-requires-clause-shows : goal.merge_rows-requires-clause-shows
 merge_rows-requires-clause-shows g c = λ rows.
     let geo = c.args.geometry.now in
     let pieces = g.T.PageTarget.pieces c.args.target in
-    subst (λ (xs : List ℕ). Shows geo rows 0 xs (the_tally 0 0 0) pieces) (sym c.new.ensures.items) (shows_first geo rows pieces)
+    subst (λ (xs : List ℕ). Shows geo rows 0 xs (the_tally 0 0 0 0) pieces) (sym c.new.ensures.items) (shows_first geo rows pieces)
 
 pub returns-in_err-expect_ends-clause-err : goal.returns-in_err-expect_ends-clause-err
 returns-in_err-expect_ends-clause-err g c =
