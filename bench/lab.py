@@ -410,6 +410,7 @@ def merge_case(rng, folder):
         readings[place] = readings[place][: row * g.page] + page + readings[place][(row + 1) * g.page :]
     chosen = [choice(g, list(pages)) for pages in zip(*(pages_of(g, raw) for raw in readings))]
     told = "".join(f"differ row {row}\n" for row, (_, origin) in enumerate(chosen) if origin == "differ")
+    told += "".join(f"unsound row {row}\n" for row, (_, origin) in enumerate(chosen) if origin == "unsound")
     kinds = ["sound", "differ", "majority", "erased", "unsound"]
     told += " ".join(f"{kind} {sum(origin == kind for _, origin in chosen)}" for kind in kinds) + "\n"
     want, names = (0, told, ""), [f"reading{place}.bin" for place in range(len(readings))]
