@@ -5,7 +5,8 @@ ghost use Rattle.std.specs.List.{flat_map};
 ghost use Rattle.lab_merge.specs.Merged.{IsOfReading};
 ghost use Rattle.lab_words.specs.Words.{texts};
 ghost use Rattle.lab_commands.specs.Files.{AnswersNoMore};
-ghost use Rattle.lab_commands.specs.Merge.{AreOpened, HasSame, IsJoined, IsMergeFault, IsSomeUnread, IsUnjoined, IsUnopened, MayMerge, MayNotMerge, TellsFault, WroteMerge, differ_line, dumps_of, merge_text, tally_line, unsound_line};
+ghost use Rattle.lab_commands.specs.Merge.{AreOpened, HasSame, IsJoined, IsMergeFault, IsSomeUnread, IsUnjoined, IsUnopened, MayMerge, MayNotMerge, TellsFault, WroteMerge};
+ghost use Rattle.lab_commands.specs.Merge.{differ_line, dumps_of, merge_text, tally_line, unsound_line};
 
 use crate::files::LabFiles;
 use crate::opening::{create_pages, geometry_at, has_file, is_dump, keep_pages, open_file};

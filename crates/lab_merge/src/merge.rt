@@ -108,8 +108,10 @@ fn merge_rows<R: Read, T: PageTarget>(
     requires none { merging.old.unsound.items ≡ [] }
     requires shows { (rows : ℕ → List Page) → Shows geometry.now rows 0 merging.old.conflicts.items merging.old.tally (T.pieces merging.old.target) }
     ensures stands { OnOk result (Stands geometry.now (row_count geometry.now) merging.new.conflicts.items merging.new.tally merging.new.scratch.items (T.pieces merging.new.target)) }
-    ensures shows { OnOk result ((files : List (List ℕ)) → AreAt (map R.remaining readers.old) files 0 → Shows geometry.now (row_of geometry.now files) (row_count geometry.now) merging.new.conflicts.items merging.new.tally (T.pieces merging.new.target)) }
-    ensures unsound { OnOk result ((files : List (List ℕ)) → AreAt (map R.remaining readers.old) files 0 → merging.new.unsound.items ≡ unsound_below geometry.now (row_of geometry.now files) (row_count geometry.now)) }
+    ensures shows { OnOk result ((files : List (List ℕ)) → AreAt (map R.remaining readers.old) files 0
+        → Shows geometry.now (row_of geometry.now files) (row_count geometry.now) merging.new.conflicts.items merging.new.tally (T.pieces merging.new.target)) }
+    ensures unsound { OnOk result ((files : List (List ℕ)) → AreAt (map R.remaining readers.old) files 0
+        → merging.new.unsound.items ≡ unsound_below geometry.now (row_of geometry.now files) (row_count geometry.now)) }
     ensures listed { OnOk result (AreListed (row_count geometry.now) merging.new.unsound.items) }
     ensures count { OnOk result (length readers.new ≡ length readers.old) }
     ensures read { OnOk result ((files : List (List ℕ)) → AreAt (map R.remaining readers.old) files 0 → AreAt (map R.remaining readers.new) files (image_bytes geometry.now)) }
