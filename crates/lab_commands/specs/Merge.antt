@@ -23,14 +23,18 @@ use Rattle.lab_commands.specs.Undone.{IsGeometryAt, IsNoGeometry, IsUnprinted, I
 unfoldable pub differ_line : ℕ → List ℕ
 differ_line row = codes "differ row " ++ (decimal row ++ (10 ∷ []))
 
+-- that of a row of which no page is sound or erased, nor the majority sound
+unfoldable pub unsound_line : ℕ → List ℕ
+unsound_line row = codes "unsound row " ++ (decimal row ++ (10 ∷ []))
+
 -- how many rows there are of each kind
 unfoldable pub tally_line : ℕ → Tally → List ℕ
 tally_line differ t =
     codes "sound " ++ (decimal t.sound ++ (codes " differ " ++ (decimal differ ++ (codes " majority " ++ (decimal t.majority ++ (
     codes " erased " ++ (decimal t.erased ++ (codes " unsound " ++ (decimal t.unsound ++ (10 ∷ []))))))))))
 
-abbrev pub merge_text : List ℕ → Tally → List ℕ
-merge_text conflicts t = flat_map differ_line conflicts ++ tally_line (length conflicts) t
+abbrev pub merge_text : List ℕ → List ℕ → Tally → List ℕ
+merge_text conflicts unsound t = flat_map differ_line conflicts ++ (flat_map unsound_line unsound ++ tally_line (length conflicts) t)
 
 -- ---- the dumps
 
@@ -73,29 +77,31 @@ MayNotMerge a words told = IsUnwritten a words.out.now told ⊎ (a.says_file wor
 
 -- ---- done
 
--- The pieces are made of dumps that read so: where the bytes of all are known, the pieces, the rows that differ and the counts are those of the
--- images that they are. Whatever the dumps gave, the rows are named once each, by rising row, and 00h bytes stand for them.
-pub record IsJoined (a : Answers) (paths : List (List ℕ)) (g : Geometry) (pieces : Option (List (List ℕ))) (conflicts : List ℕ) (tally : Tally) : Type 0 where
+-- The pieces are made of dumps that read so: where the bytes of all are known, the pieces, the rows that differ, those that are unsound and the
+-- counts are those of the images that they are. Whatever the dumps gave, the rows are named once each, by rising row, and 00h bytes stand for those
+-- that differ.
+pub record IsJoined (a : Answers) (paths : List (List ℕ)) (g : Geometry) (pieces : Option (List (List ℕ))) (conflicts unsound : List ℕ) (tally : Tally) : Type 0 where
   pub known : List (Option (List ℕ))
   pub opened : AreOpened a paths known
-  pub merged : (files : List (List ℕ)) → Tell known files → IsMerged g files conflicts tally pieces
-  pub own : IsOwnMerge g conflicts pieces
+  pub merged : (files : List (List ℕ)) → Tell known files → IsMerged g files conflicts unsound tally pieces
+  pub own : IsOwnMerge g conflicts unsound pieces
 
 -- the one dump was put in the place of OUT
-pub record PutMerge (a : Answers) (words : MergeWords) (before after : Option (List Kept)) (conflicts : List ℕ) (tally : Tally) : Type 0 where
+pub record PutMerge (a : Answers) (words : MergeWords) (before after : Option (List Kept)) (conflicts unsound : List ℕ) (tally : Tally) : Type 0 where
   pub g : Geometry
   pub pieces : Option (List (List ℕ))
   pub geometry_is : IsGeometryAt words.geometry.now g
   pub allowed : MayMerge a words
-  pub made : IsJoined a (dumps_of words) g pieces conflicts tally
+  pub made : IsJoined a (dumps_of words) g pieces conflicts unsound tally
   pub put : after ≡ with_kept before words.out.now pieces
 
--- and the rows that differ and the counts were printed
+-- and the rows that differ or are unsound and the counts were printed
 pub record WroteMerge (a : Answers) (words : MergeWords) (before after : Option (List Kept)) (out printed : Option (List ℕ)) : Type 0 where
   pub conflicts : List ℕ
+  pub unsound : List ℕ
   pub tally : Tally
-  pub put : PutMerge a words before after conflicts tally
-  pub told : Appends out printed (merge_text conflicts tally)
+  pub put : PutMerge a words before after conflicts unsound tally
+  pub told : Appends out printed (merge_text conflicts unsound tally)
 
 -- ---- not done
 
@@ -152,4 +158,4 @@ IsUnmergedBy a words told =
 abbrev pub IsMergeFault : Answers → MergeWords → Option (List Kept) → Option (List Kept) → Option (List ℕ) → Option (List ℕ) → LabFault → Type 0
 IsMergeFault a words before after out printed told =
     (LeavesAll before after out printed × IsUnmergedBy a words told)
-    ⊎ (((conflicts : List ℕ) × (tally : Tally) × PutMerge a words before after conflicts tally) × IsUnprinted told)
+    ⊎ (((conflicts : List ℕ) × (unsound : List ℕ) × (tally : Tally) × PutMerge a words before after conflicts unsound tally) × IsUnprinted told)

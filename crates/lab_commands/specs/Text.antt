@@ -7,7 +7,8 @@ use Rattle.page_layout.specs.declared.geometry.GeometryFault.TheVariants as geom
 use Rattle.certificate.specs.declared.fault.CertFault.{CertFault}
 use Rattle.certificate.specs.declared.fault.CertFault.TheVariants as certificate
 use Rattle.lab_commands.specs.declared.text.LabFault.{LabFault}
-use Rattle.lab_commands.specs.declared.text.LabFault.TheVariants.{NoSuchCommand, BadNumber, Geometry, NoneFits, IsDump, Exists, MapIsOut, MapIsDump, MapExists, WrongLength, DumpLength, OutOfMemory, Certificate, GeometryDiffers, Read, Write}
+use Rattle.lab_commands.specs.declared.text.LabFault.TheVariants.{NoSuchCommand, BadNumber, Geometry, NoneFits, WrongLength, DumpLength, OutOfMemory, Certificate, GeometryDiffers}
+use Rattle.lab_commands.specs.declared.text.LabFault.TheVariants.{IsDump, Exists, MapIsOut, MapIsDump, MapExists, Read, Write}
 
 -- the number and the name of a limit that is broken
 abbrev pub limit_words : GeometryFault → List ℕ

@@ -5,7 +5,8 @@ ghost use Rattle.std.specs.List.{flat_map};
 ghost use Rattle.lab_merge.specs.Merged.{IsOfReading};
 ghost use Rattle.lab_words.specs.Words.{texts};
 ghost use Rattle.lab_commands.specs.Files.{AnswersNoMore};
-ghost use Rattle.lab_commands.specs.Merge.{AreOpened, HasSame, IsJoined, IsMergeFault, IsSomeUnread, IsUnjoined, IsUnopened, MayMerge, MayNotMerge, TellsFault, WroteMerge, differ_line, dumps_of, merge_text, tally_line};
+ghost use Rattle.lab_commands.specs.Merge.{AreOpened, HasSame, IsJoined, IsMergeFault, IsSomeUnread, IsUnjoined, IsUnopened, MayMerge, MayNotMerge, TellsFault, WroteMerge};
+ghost use Rattle.lab_commands.specs.Merge.{differ_line, dumps_of, merge_text, tally_line, unsound_line};
 
 use crate::files::LabFiles;
 use crate::opening::{create_pages, geometry_at, has_file, is_dump, keep_pages, open_file};
@@ -34,6 +35,24 @@ fn print_conflicts<W: Write>(out: &mut W, conflicts: &[u32]) -> io::Result<()>
     Ok(())
 }
 
+// The line of a row of which no page is sound or erased, nor the majority sound.
+#[tactic(auto, unfolding(crate::specs::Merge::unsound_line))]
+fn print_unsound<W: Write>(out: &mut W, row: u32) -> io::Result<()>
+    ensures { OnOk result (Appends (W.contents out.old) (W.contents out.new) (unsound_line row)) }
+{
+    writeln!(out, "unsound row {row}")
+}
+
+// Those of all of them, in their order.
+fn print_all_unsound<W: Write>(out: &mut W, unsound: &[u32]) -> io::Result<()>
+    ensures { OnOk result (Appends (W.contents out.old) (W.contents out.new) (flat_map unsound_line unsound.now)) }
+{
+    for row in unsound {
+        print_unsound(out, *row)?;
+    }
+    Ok(())
+}
+
 // How many rows there are of each kind.
 #[tactic(auto, unfolding(crate::specs::Merge::tally_line))]
 fn print_tally<W: Write>(out: &mut W, differ: usize, tally: Tally) -> io::Result<()>
@@ -47,11 +66,17 @@ fn print_tally<W: Write>(out: &mut W, differ: usize, tally: Tally) -> io::Result
     )
 }
 
-// Which rows differ, and the counts.
-fn print_merge<W: Write>(out: &mut W, conflicts: &[u32], tally: Tally) -> io::Result<()>
-    ensures { OnOk result (Appends (W.contents out.old) (W.contents out.new) (merge_text conflicts.now tally)) }
+// Which rows differ, which are unsound, and the counts.
+fn print_merge<W: Write>(
+    out: &mut W,
+    conflicts: &[u32],
+    unsound: &[u32],
+    tally: Tally,
+) -> io::Result<()>
+    ensures { OnOk result (Appends (W.contents out.old) (W.contents out.new) (merge_text conflicts.now unsound.now tally)) }
 {
     print_conflicts(out, conflicts)?;
+    print_all_unsound(out, unsound)?;
     print_tally(out, conflicts.len(), tally)
 }
 
@@ -135,7 +160,7 @@ fn join<'a, F: LabFiles>(
     files: &mut F,
 ) -> Result<Merged<F::Pages>, LabFault<'a>>
     requires { 0 < length words.now.dumps.items }
-    ensures made { IfOk result (λ told. IsJoined (F.answers files.old) (dumps_of words.now) geometry.now (F.Pages.pieces told.target) told.conflicts.items told.tally) }
+    ensures made { IfOk result (λ told. IsJoined (F.answers files.old) (dumps_of words.now) geometry.now (F.Pages.pieces told.target) told.conflicts.items told.unsound.items told.tally) }
     ensures fault { IfErr result (IsUnjoined (F.answers files.old) (dumps_of words.now) geometry.now words.now.out.now) }
     ensures no_more { AnswersNoMore (F.answers files.old) (F.answers files.new) }
     ensures kept { F.kept files.new ≡ F.kept files.old }
@@ -152,7 +177,7 @@ fn join<'a, F: LabFiles>(
 }
 
 /// The command `merge`: writes one dump of the dumps DUMP, each a reading of one die of the geometry GEOM, to the file OUT, row by row, and prints
-/// of which rows two sound pages differ, and how many rows there are of each kind.
+/// of which rows two sound pages differ, of which no page is sound or erased nor the majority sound, and how many rows there are of each kind.
 ///
 /// # Errors
 ///
@@ -177,7 +202,7 @@ pub(crate) fn merge_command<'a, F: LabFiles, W: Write>(
     allow_merge(files, &words)?;
     let merged = join(alloc, &words, &geometry, files)?;
     keep_pages(files, words.out, merged.target)?;
-    match print_merge(out, &merged.conflicts, merged.tally) {
+    match print_merge(out, &merged.conflicts, &merged.unsound, merged.tally) {
         Ok(()) => Ok(()),
         Err(_) => Err(LabFault::Write("-")),
     }

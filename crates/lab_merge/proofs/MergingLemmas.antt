@@ -20,7 +20,7 @@ use Rattle.lab_merge.specs.declared.merging.Tally.{Tally}
 use Rattle.lab_merge.specs.Majority.{majority}
 use Rattle.lab_merge.specs.Choice.{is_same, zero_page, chosen, by_erased, by_majority, by_sound, choice}
 use Rattle.lab_merge.specs.Found.{WritesChoice}
-use Rattle.lab_merge.specs.Merging.{named, counted, place_of, is_from, conflicts_below, tally_below, piece_of, Shows, AreOwn, AreListed, AreFew, Stands}
+use Rattle.lab_merge.specs.Merging.{named, counted, place_of, is_from, with_unsound, conflicts_below, unsound_below, tally_below, piece_of, Shows, AreOwn, AreListed, AreFew, Stands}
 use Rattle.lab_merge.proofs.MajorityLemmas.{range_more}
 
 -- ---- the rows that are named
@@ -37,6 +37,29 @@ unfolding conflicts_below
 conflicts_more g rows n =
     ap (filter (is_from g rows Conflict)) (range_more n)
     ∙ (filter-append (is_from g rows Conflict) (range_with_len 0 n) (n ∷ []) ∙ named_is (filter (is_from g rows Conflict) (range_with_len 0 n)) n (choice g (rows n)).origin)
+
+unsound_is : (rows : List ℕ) (n : ℕ) (o : Origin) → rows ++ cond (eqb (place_of o) 4) (n ∷ []) [] ≡ with_unsound rows n o
+unsound_is rows n Sound = append-nil rows
+unsound_is rows n Conflict = append-nil rows
+unsound_is rows n Majority = append-nil rows
+unsound_is rows n Erased = append-nil rows
+unsound_is rows n Unsound = refl
+
+unsound_more : (g : Geometry) (rows : ℕ → List Page) (n : ℕ) → unsound_below g rows (n + 1) ≡ with_unsound (unsound_below g rows n) n (choice g (rows n)).origin
+unfolding unsound_below
+unsound_more g rows n =
+    ap (filter (is_from g rows Unsound)) (range_more n)
+    ∙ (filter-append (is_from g rows Unsound) (range_with_len 0 n) (n ∷ []) ∙ unsound_is (filter (is_from g rows Unsound) (range_with_len 0 n)) n (choice g (rows n)).origin)
+
+pub none_unsound : (g : Geometry) (rows : ℕ → List Page) → [] ≡ unsound_below g rows 0
+unfolding unsound_below
+none_unsound g rows = refl
+
+-- the same, of what the code holds after it
+pub unsound_next : (g : Geometry) (rows : ℕ → List Page) (n : ℕ) (pages : List Page) (o : Origin) (old new out : List ℕ) → rows n ≡ pages → WritesChoice (choice g pages) o out → old ≡ unsound_below g rows n → new ≡ with_unsound old n o → new ≡ unsound_below g rows (n + 1)
+unsound_next g rows n pages o old new out are written before after =
+    let origin : o ≡ (choice g (rows n)).origin = written.origin_is ∙ ap (λ ps. (choice g ps).origin) (sym are) in
+    after ∙ (ap (λ xs. with_unsound xs n o) before ∙ (ap (with_unsound (unsound_below g rows n) n) origin ∙ sym (unsound_more g rows n)))
 
 -- ---- the counts
 
@@ -92,6 +115,22 @@ listed_more n rows Conflict h = record {
 listed_more n rows Majority h = stays n rows h
 listed_more n rows Erased h = stays n rows h
 listed_more n rows Unsound h = stays n rows h
+
+unsound_listed_more : (n : ℕ) (rows : List ℕ) (o : Origin) → AreListed n rows → AreListed (n + 1) (with_unsound rows n o)
+unsound_listed_more n rows Sound h = stays n rows h
+unsound_listed_more n rows Conflict h = stays n rows h
+unsound_listed_more n rows Majority h = stays n rows h
+unsound_listed_more n rows Erased h = stays n rows h
+unsound_listed_more n rows Unsound h = record {
+  within = All-push (λ r. r < n + 1) rows n (wider n rows h.within) (omega arith);
+  rising = all_pairs_push (λ a b. a < b) rows n h.rising h.within;
+}
+
+pub unsound_listed_next : (n : ℕ) (old new : List ℕ) (o : Origin) → new ≡ with_unsound old n o → AreListed n old → AreListed (n + 1) new
+unsound_listed_next n old new o is h = subst (AreListed (n + 1)) (sym is) (unsound_listed_more n old o h)
+
+pub none_listed : AreListed 0 []
+none_listed = record { within = All-nil (λ (r : ℕ). r < 0); rising = λ i j d l k. absurd (omega arith) }
 
 contains_push : (xs : List ℕ) (x y : ℕ) → Contains (xs ++ x ∷ []) y → Contains xs y ⊎ (x ≡ y)
 contains_push xs x y h = elim (cases_lt h.0 (length xs)) [
@@ -227,7 +266,7 @@ pub stands_first : (g : Geometry) (scratch : List ℕ) (pieces : Option (List (L
 stands_first g scratch pieces size whole = record {
   scratch_size = size;
   few = record { sound = omega arith; majority = omega arith; erased = omega arith; unsound = omega arith };
-  listed = record { within = All-nil (λ (r : ℕ). r < 0); rising = λ i j d l k. absurd (omega arith) };
+  listed = none_listed;
   own = if_more pieces (λ ps. length ps ≡ row_count g) (AreOwn g 0 []) whole (λ ps all. record {
     size = all;
     sized = λ row l. absurd (omega arith);

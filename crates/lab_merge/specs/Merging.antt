@@ -20,6 +20,14 @@ named rows row Majority = rows
 named rows row Erased = rows
 named rows row Unsound = rows
 
+-- the rows of which the first reading's page is written as it is, with one more
+abbrev pub with_unsound : List ℕ → ℕ → Origin → List ℕ
+with_unsound rows row Sound = rows
+with_unsound rows row Conflict = rows
+with_unsound rows row Majority = rows
+with_unsound rows row Erased = rows
+with_unsound rows row Unsound = rows ++ (row ∷ [])
+
 abbrev pub counted : Tally → Origin → Tally
 counted t Sound = record { sound = t.sound + 1; majority = t.majority; erased = t.erased; unsound = t.unsound }
 counted t Conflict = t
@@ -44,6 +52,10 @@ is_from g rows origin row = place_of (choice g (rows row)).origin == place_of or
 -- the first rows of which two sound pages differ
 unfoldable pub conflicts_below : Geometry → (ℕ → List Page) → ℕ → List ℕ
 conflicts_below g rows n = filter (is_from g rows Conflict) (range_with_len 0 n)
+
+-- the first rows of which no page is sound or erased, nor the majority sound
+unfoldable pub unsound_below : Geometry → (ℕ → List Page) → ℕ → List ℕ
+unsound_below g rows n = filter (is_from g rows Unsound) (range_with_len 0 n)
 
 -- how many of the first rows are of each origin but `Conflict`
 unfoldable pub tally_below : Geometry → (ℕ → List Page) → ℕ → Tally

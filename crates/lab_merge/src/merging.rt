@@ -3,7 +3,7 @@ ghost use Rattle.std.specs.Prelude.{◌≡◌, ◌<◌, ◌+◌, ◌*◌, ◌^�
 ghost use Rattle.page_layout.specs.Geometry.{page_bytes, row_count};
 ghost use Rattle.page_layout.specs.Page.{Page};
 ghost use Rattle.lab_merge.specs.Pages.{pages_in};
-ghost use Rattle.lab_merge.specs.Merging.{Shows, Stands, counted, named};
+ghost use Rattle.lab_merge.specs.Merging.{AreListed, Shows, Stands, counted, named, unsound_below, with_unsound};
 
 use crate::choice::{Origin, choose};
 use lab_scan::PageTarget;
@@ -48,6 +48,8 @@ impl From<AllocError> for RowFault {
 pub(crate) struct Merging<T> {
     // the rows of which two sound pages differ
     pub(crate) conflicts: Vec<u32>,
+    // those of which the first reading's page was written as it is
+    pub(crate) unsound: Vec<u32>,
     pub(crate) tally: Tally,
     // the page at hand
     pub(crate) scratch: Vec<u8>,
@@ -88,6 +90,19 @@ fn name_conflict(conflicts: &mut Vec<u32>, row: u32, origin: Origin) -> Result<(
     }
 }
 
+// Names a row of which the first reading's page is written as it is.
+fn name_unsound(unsound: &mut Vec<u32>, row: u32, origin: Origin) -> Result<(), AllocError>
+    ensures { OnOk result (unsound.new.items ≡ with_unsound unsound.old.items row origin) }
+{
+    match origin {
+        Origin::Unsound => {
+            unsound.push(row)?;
+            Ok(())
+        }
+        Origin::Sound | Origin::Conflict | Origin::Majority | Origin::Erased => Ok(()),
+    }
+}
+
 impl<T: PageTarget> Merging<T> {
     // Writes the page that is chosen of a row, whose pages stand one behind another.
     pub(crate) fn take_row(
@@ -102,11 +117,15 @@ impl<T: PageTarget> Merging<T> {
         requires whole { length pages.now ≡ count * page_bytes geometry.now }
         requires stands { Stands geometry.now row self.old.conflicts.items self.old.tally self.old.scratch.items (T.pieces self.old.target) }
         ensures stands { OnOk result (Stands geometry.now (row + 1) self.new.conflicts.items self.new.tally self.new.scratch.items (T.pieces self.new.target)) }
+        ensures unsound { OnOk result ((rows : ℕ → List Page) → rows row ≡ pages_in geometry.now pages.now count
+            → self.old.unsound.items ≡ unsound_below geometry.now rows row → self.new.unsound.items ≡ unsound_below geometry.now rows (row + 1)) }
+        ensures listed { OnOk result (AreListed row self.old.unsound.items → AreListed (row + 1) self.new.unsound.items) }
         ensures shows { OnOk result ((rows : ℕ → List Page) → rows row ≡ pages_in geometry.now pages.now count → Shows geometry.now rows row self.old.conflicts.items self.old.tally (T.pieces self.old.target)
             → Shows geometry.now rows (row + 1) self.new.conflicts.items self.new.tally (T.pieces self.new.target)) }
     {
         let origin = choose(geometry, pages, count, &mut self.scratch);
         name_conflict(&mut self.conflicts, row, origin)?;
+        name_unsound(&mut self.unsound, row, origin)?;
         self.tally = self.tally.count(origin);
         match self.target.put(row, &self.scratch) {
             Ok(()) => Ok(()),

@@ -50,19 +50,22 @@ returns-in-Ok-clause-ok g c =
     let geometry = c.in_ok-geometry.geometry in
     let pieces = g.F.Pages.PageTarget.pieces c.in_ok-merged.merged.target in
     let conflicts = c.in_ok-merged.merged.conflicts.items in
+    let unsound = c.in_ok-merged.merged.unsound.items in
     let tally = c.in_ok-merged.merged.tally in
     record {
       conflicts = conflicts;
+      unsound = unsound;
       tally = tally;
       put = record {
         g = geometry;
         pieces = pieces;
         geometry_is = c.in_ok-geometry.ensures.ok;
         allowed = c.in_ok-allow_merge.ensures.ok;
-        made = subst (λ f. IsJoined (g.F.LabFiles.answers f) (dumps_of words) geometry pieces conflicts tally) same c.in_ok-merged.ensures.made;
+        made = subst (λ f. IsJoined (g.F.LabFiles.answers f) (dumps_of words) geometry pieces conflicts unsound tally) same c.in_ok-merged.ensures.made;
         put = c.in_ok-keep_pages.ensures.ok ∙ ap (λ x. with_kept x words.out.now pieces) (c.in_ok-merged.ensures.kept ∙ ap g.F.LabFiles.kept same);
       };
-      told = subst (λ (rows : List ℕ). Appends (g.W.Write.contents c.args.out.now) (g.W.Write.contents c.print_merge.new.out) (merge_text rows tally)) c.deref.ensures.value c.in-Ok.ensures;
+      told = subst (λ (rows : List ℕ). Appends (g.W.Write.contents c.args.out.now) (g.W.Write.contents c.print_merge.new.out) (merge_text conflicts rows tally)) c.deref-2.ensures.value
+          (subst (λ (rows : List ℕ). Appends (g.W.Write.contents c.args.out.now) (g.W.Write.contents c.print_merge.new.out) (merge_text rows c.deref-2.result.now tally)) c.deref.ensures.value c.in-Ok.ensures);
     }
 
 pub returns-clause-fault : goal.returns-clause-fault
@@ -73,13 +76,14 @@ returns-clause-fault g c =
     let geometry = c.in_ok-geometry.geometry in
     let pieces = g.F.Pages.PageTarget.pieces c.in_ok-merged.merged.target in
     let conflicts = c.in_ok-merged.merged.conflicts.items in
+    let unsound = c.in_ok-merged.merged.unsound.items in
     let tally = c.in_ok-merged.merged.tally in
-    let put : PutMerge a words (g.F.LabFiles.kept c.args.files.now) (g.F.LabFiles.kept c.keep_pages.new.files) conflicts tally = record {
+    let put : PutMerge a words (g.F.LabFiles.kept c.args.files.now) (g.F.LabFiles.kept c.keep_pages.new.files) conflicts unsound tally = record {
       g = geometry;
       pieces = pieces;
       geometry_is = c.in_ok-geometry.ensures.ok;
       allowed = c.in_ok-allow_merge.ensures.ok;
-      made = subst (λ f. IsJoined (g.F.LabFiles.answers f) (dumps_of words) geometry pieces conflicts tally) same c.in_ok-merged.ensures.made;
+      made = subst (λ f. IsJoined (g.F.LabFiles.answers f) (dumps_of words) geometry pieces conflicts unsound tally) same c.in_ok-merged.ensures.made;
       put = c.in_ok-keep_pages.ensures.ok ∙ ap (λ x. with_kept x words.out.now pieces) (c.in_ok-merged.ensures.kept ∙ ap g.F.LabFiles.kept same);
     } in
-    inr ((conflicts, tally, put), refl)
+    inr ((conflicts, unsound, tally, put), refl)

@@ -25,5 +25,5 @@ returns-clause-ok g c = λ files tell.
     let geo = c.args.geometry.now in
     let first = tell_first (map g.R.Read.remaining c.args.readers.now) files tell in
     let merging = c.merge_rows.new.merging in
-    merged geo files merging.conflicts.items merging.tally merging.scratch.items (g.T.PageTarget.pieces merging.target) c.in_ok-merge_rows.ensures.stands (c.in_ok-merge_rows.ensures.shows files first)
+    merged geo files merging.conflicts.items merging.unsound.items merging.tally merging.scratch.items (g.T.PageTarget.pieces merging.target) c.in_ok-merge_rows.ensures.stands (c.in_ok-merge_rows.ensures.shows files first) (c.in_ok-merge_rows.ensures.unsound files first)
     (c.in_ok-expect_ends.ensures.ended files (image_bytes geo) (c.in_ok-merge_rows.ensures.read files first))
