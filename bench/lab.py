@@ -503,7 +503,13 @@ def times(folder):
     size = (folder / "dump.bin").stat().st_size
     hashed = spent(["sha256sum", "dump.bin"], folder)
     print(f"{size} bytes: sha256sum {hashed:.3f} s")
-    for words in [["array", g.words(), "dump.bin", "out.bin", "--force"], ["survey", g.words(), "dump.bin"]]:
+    for words in [
+        ["geometry", "dump.bin"],
+        ["survey", g.words(), "dump.bin"],
+        ["array", g.words(), "dump.bin", "out.bin", "--force"],
+        ["merge", g.words(), "out.bin", "dump.bin", "dump.bin", "--force"],
+        ["repair", g.words(), "dump.bin", "out.bin", "--force"],
+    ]:
         made = spent([LAB, *words], folder)
         print(f"nandlab {words[0]} {made:.3f} s, {made / hashed:.2f} times, {measure.run([LAB, *words])[1]} KiB")
 
