@@ -4,9 +4,10 @@
     [LAB=..] bench/lab.py [CASES] [SEED]
     [LAB=..] bench/lab.py --time
 
-LAB is the program, or the one that `rt run` in crates/nandlab builds. The array, what is printed, the refusals and the exit status are
-compared, and that no file is left beside OUT. The dumps are intact, damaged, cut, or read under another geometry of the same size."""
+LAB is the program, or the one that `rt run` in crates/nandlab builds. The files that are written, what is printed, the refusals and the exit
+status are compared, and that no file is left beside OUT. The dumps are intact, damaged, cut, or read under another geometry of the same size."""
 
+import itertools
 import os
 import random
 import subprocess
@@ -46,6 +47,19 @@ def array_of(image):
             told += f"tied sector {n}\n"
     told += age_line(image)
     return b"".join(sectors), told
+
+
+def map_of(image):
+    """The map of the array: the areas of OUT whose sectors stand alike."""
+    g, position = image.g, 0
+    signs = {"found": "+", "tied": "-", "absent": "?"}
+    text = "# Mapfile of an array, made by nandlab\n0x0 + 1\n"
+    for sign, area in itertools.groupby(signs[key_state(image, "sector", n)] for n in range(g.sectors)):
+        size = g.data * len(list(area))
+        text += f"{position:#x} {size:#x} {sign}\n"
+        position += size
+    assert position == g.sectors * g.data
+    return text
 
 
 CLASSES = ["free", "data", "mapping", "closed", "factory", "grown"]
@@ -262,6 +276,34 @@ def dump_for(rng):
     return g, image
 
 
+def left_in(folder, *inputs):
+    """What was written: the files but for the inputs."""
+    return {path.name: path.read_bytes() for path in folder.iterdir() if path.name not in inputs}
+
+
+def clear(folder):
+    for path in folder.iterdir():
+        path.unlink()
+
+
+def stored(rng, folder, words, want, out, extra=None):
+    """Runs a command that writes OUT, which may stand already: what it answers, and leaves."""
+    inputs = [path.name for path in folder.iterdir()]
+    stood = rng.random() < 0.3
+    force = rng.random() < 0.5
+    if stood:
+        (folder / "out.bin").write_bytes(b"stood")
+    answer = run([*words, *["--force"] * force], folder)
+    left = {"out.bin": b"stood"} if stood else {}
+    if stood and not force:
+        want = (1, "", "refused out 2 Exists\n")
+    elif want[0] == 0:
+        left = {"out.bin": out, **(extra or {})}
+    assert answer == want, (words, answer, want)
+    assert left_in(folder, *inputs) == left, (words, "a file differs")
+    clear(folder)
+
+
 def case(rng, folder):
     g, image = dump_for(rng)
     raw = image.raw()
@@ -271,32 +313,140 @@ def case(rng, folder):
     elif cut < 0.1:
         raw += b"\0"
     (folder / "dump.bin").write_bytes(raw)
-    out = folder / "out.bin"
-    stood = rng.random() < 0.3
-    if stood:
-        out.write_bytes(b"stood")
-    force = rng.random() < 0.5
-    answer = run(["array", g.words(), "dump.bin", "out.bin", *(["--force"] if force else [])], folder)
-    if stood and not force:
-        want, left = (1, "", "refused out 2 Exists\n"), b"stood"
-    elif len(raw) != g.rows * g.page:
-        want, left = (1, "", "refused image 1 WrongLength\n"), b"stood" if stood else None
-    else:
-        left, told = array_of(image)
-        want = (0, told, "")
-    found = out.read_bytes() if out.exists() else None
-    assert answer == want, (g.words(), answer, want)
-    assert found == left, (g.words(), "the array differs")
-    assert sorted(p.name for p in folder.iterdir() if p.name not in ("dump.bin", "out.bin")) == []
-    out.unlink(missing_ok=True)
+    words, extra = ["array", g.words(), "dump.bin", "out.bin"], {}
+    if rng.random() < 0.5:
+        words, extra = [*words, "--map", "out.map"], {"out.map": map_of(image).encode()}
+    out, told = array_of(image)
+    want = (0, told, "") if len(raw) == g.rows * g.page else (1, "", "refused image 1 WrongLength\n")
+    stored(rng, folder, words, want, out, extra)
+
+
+def geometry_case(rng, folder):
+    _, image = dump_for(rng)
+    raw = image.raw()
+    if rng.random() < 0.1:
+        raw = raw[: rng.randrange(len(raw))]
+    (folder / "dump.bin").write_bytes(raw)
+    told = "".join(
+        f"geometry {','.join(map(str, numbers))} looked {looked} sound {sound} unsound {unsound} table {table} blocks {blocks} sectors {sectors}\n"
+        for numbers, looked, sound, unsound, table, blocks, sectors in ref.geometries(raw)
+    )
+    want = (0, told, "") if told else (1, "", "refused geometry 6 NoneFits\n")
+    answer = run(["geometry", "dump.bin"], folder)
+    assert answer == want, (image.g.words(), answer, want)
+    assert left_in(folder, "dump.bin") == {}
+    clear(folder)
+
+
+def is_sound(g, page):
+    return ref.record_of(page[: g.data], page[g.data :]) is not None
+
+
+def turned(page, bit):
+    return page[: bit // 8] + bytes([page[bit // 8] ^ 1 << bit % 8]) + page[bit // 8 + 1 :]
+
+
+def pages_of(g, raw):
+    return [raw[row * g.page : (row + 1) * g.page] for row in range(g.rows)]
+
+
+def damaged(rng, g, raw):
+    """The dump with some bits turned: of a page one, or two, or many."""
+    pages = pages_of(g, raw)
+    for row in rng.sample(range(g.rows), rng.choice([0, 1, 3, 6])):
+        for _ in range(rng.choice([1, 1, 2, 20])):
+            pages[row] = turned(pages[row], rng.randrange(8 * g.page))
+    return b"".join(pages)
+
+
+def mended(g, raw):
+    """The dump with each page mended that one bit turned makes sound, and the report."""
+    pages, told = pages_of(g, raw), ""
+    for row, page in enumerate(pages):
+        if is_sound(g, page) or page == b"\xff" * g.page:
+            continue
+        bit = next((bit for bit in range(8 * g.page) if is_sound(g, turned(page, bit))), None)
+        if bit is not None:
+            pages[row] = turned(page, bit)
+            told += f"mended row {row} bit {bit}\n"
+    return b"".join(pages), told + f"mended {told.count('mended')}\n"
+
+
+def repair_case(rng, folder):
+    g, image = dump_for(rng)
+    raw = damaged(rng, g, image.raw())
+    out, told = mended(g, raw)
+    want = (0, told, "")
+    if rng.random() < 0.1:
+        raw, want = rng.choice([raw[:-1], raw + b"\0"]), (1, "", "refused image 1 WrongLength\n")
+    (folder / "dump.bin").write_bytes(raw)
+    stored(rng, folder, ["repair", g.words(), "dump.bin", "out.bin"], want, out)
+
+
+def majority(pages):
+    bits = [sum(page[k // 8] >> k % 8 & 1 for page in pages) for k in range(8 * len(pages[0]))]
+    return sum((2 * n > len(pages)) << k for k, n in enumerate(bits)).to_bytes(len(pages[0]), "little")
+
+
+def choice(g, pages):
+    """What is written of a row, and where it is from."""
+    sound = {page for page in pages if is_sound(g, page)}
+    if sound:
+        return (sound.pop(), "sound") if len(sound) == 1 else (bytes(g.page), "differ")
+    if len(pages) >= 3 and is_sound(g, majority(pages)):
+        return majority(pages), "majority"
+    erased = b"\xff" * g.page
+    return (erased, "erased") if erased in pages else (pages[0], "unsound")
+
+
+def merge_case(rng, folder):
+    g, image = dump_for(rng)
+    readings = [damaged(rng, g, image.raw()) for _ in range(rng.choice([2, 2, 3, 4]))]
+    if rng.random() < 0.5:
+        # another page, or an erased one, in one reading
+        place, row, data = rng.randrange(len(readings)), rng.randrange(g.rows), rng.randbytes(g.data)
+        other = data + ref.spare_of(g, ref.Record(1, 0, 1, 0), data)
+        page = rng.choice([other, b"\xff" * g.page])
+        readings[place] = readings[place][: row * g.page] + page + readings[place][(row + 1) * g.page :]
+    chosen = [choice(g, list(pages)) for pages in zip(*(pages_of(g, raw) for raw in readings))]
+    told = "".join(f"differ row {row}\n" for row, (_, origin) in enumerate(chosen) if origin == "differ")
+    told += "".join(f"unsound row {row}\n" for row, (_, origin) in enumerate(chosen) if origin == "unsound")
+    kinds = ["sound", "differ", "majority", "erased", "unsound"]
+    told += " ".join(f"{kind} {sum(origin == kind for _, origin in chosen)}" for kind in kinds) + "\n"
+    want, names = (0, told, ""), [f"reading{place}.bin" for place in range(len(readings))]
+    if rng.random() < 0.1:
+        place = rng.randrange(len(readings))
+        readings[place] = rng.choice([readings[place][:-1], readings[place] + b"\0"])
+        want = (1, "", f"refused merge 1 DumpLength {names[place]}\n")
+    for name, raw in zip(names, readings):
+        (folder / name).write_bytes(raw)
+    stored(rng, folder, ["merge", g.words(), "out.bin", *names], want, b"".join(page for page, _ in chosen))
 
 
 def refusals(folder):
     """What is refused whatever the dump."""
     (folder / "dump.bin").write_bytes(b"x")
+    (folder / "stood.map").write_bytes(b"stood")
     for words, want in [
         (["array", "64,32,8,32,32", "dump.bin", "dump.bin"], (1, "", "refused out 1 IsDump\n")),
         (["array", "64,32,8,32,32", "dump.bin", "./dump.bin", "--force"], (1, "", "refused out 1 IsDump\n")),
+        (["array", "64,32,8,32,32", "dump.bin", "out.bin", "--map", "./out.bin"], (1, "", "refused map 1 IsOut\n")),
+        (["array", "64,32,8,32,32", "dump.bin", "out.bin", "--map", "./dump.bin", "--force"], (1, "", "refused map 2 IsDump\n")),
+        (["array", "64,32,8,32,32", "dump.bin", "out.bin", "--map", "stood.map"], (1, "", "refused map 3 Exists\n")),
+        (["array", "64,32,8,32,32", "dump.bin", "out.bin", "--map"], (2, "", "usage: no such command\n")),
+        (["geometry", "dump.bin"], (1, "", "refused geometry 6 NoneFits\n")),
+        (["geometry", "none.bin"], (3, "", "fault read none.bin\n")),
+        (["geometry", "64,32,8,32,32", "dump.bin"], (2, "", "usage: no such command\n")),
+        (["repair", "64,32,8,32,32", "dump.bin", "./dump.bin", "--force"], (1, "", "refused out 1 IsDump\n")),
+        (["repair", "64,32,8,32,32", "none.bin", "out.bin"], (3, "", "fault read none.bin\n")),
+        (["repair", "64,32,8,32,32", "dump.bin", "none/out.bin"], (3, "", "fault write none/out.bin\n")),
+        (["repair", "64,32,8,32,32", "dump.bin"], (2, "", "usage: no such command\n")),
+        (["merge", "64,32,8,32,32", "out.bin", "dump.bin"], (2, "", "usage: no such command\n")),
+        (["merge", "64,32,8,32", "out.bin", "dump.bin", "dump.bin"], (2, "", "usage: bad number 64,32,8,32\n")),
+        (["merge", "64,32,8,32,32", "dump.bin", "--force", "stood.map", "./dump.bin"], (1, "", "refused out 1 IsDump\n")),
+        (["merge", "64,32,8,32,32", "stood.map", "dump.bin", "dump.bin"], (1, "", "refused out 2 Exists\n")),
+        (["merge", "64,32,8,32,32", "out.bin", "dump.bin", "none.bin"], (3, "", "fault read none.bin\n")),
+        (["merge", "64,32,8,32,32", "out.bin", "dump.bin", "dump.bin"], (1, "", "refused merge 1 DumpLength dump.bin\n")),
         (["array", "64,32,8,32", "dump.bin", "out.bin"], (2, "", "usage: bad number 64,32,8,32\n")),
         (["array", "63,32,8,32,32", "dump.bin", "out.bin"], (1, "", "refused geometry 1 DataSize\n")),
         (["array", "64,32,8,32,32", "none.bin", "out.bin"], (3, "", "fault read none.bin\n")),
@@ -323,8 +473,8 @@ def refusals(folder):
     answer = run(["array", "64,32,8,32,32", "dump.bin", "link"], folder)
     assert answer == (1, "", "refused out 2 Exists\n"), answer
     (folder / "link").unlink()
-    assert [p.name for p in folder.iterdir()] == ["dump.bin"]
-    (folder / "dump.bin").unlink()
+    assert left_in(folder, "dump.bin") == {"stood.map": b"stood"}
+    clear(folder)
 
 
 def full_dump(path, g):
@@ -353,7 +503,13 @@ def times(folder):
     size = (folder / "dump.bin").stat().st_size
     hashed = spent(["sha256sum", "dump.bin"], folder)
     print(f"{size} bytes: sha256sum {hashed:.3f} s")
-    for words in [["array", g.words(), "dump.bin", "out.bin", "--force"], ["survey", g.words(), "dump.bin"]]:
+    for words in [
+        ["geometry", "dump.bin"],
+        ["survey", g.words(), "dump.bin"],
+        ["array", g.words(), "dump.bin", "out.bin", "--force"],
+        ["merge", g.words(), "out.bin", "dump.bin", "dump.bin", "--force"],
+        ["repair", g.words(), "dump.bin", "out.bin", "--force"],
+    ]:
         made = spent([LAB, *words], folder)
         print(f"nandlab {words[0]} {made:.3f} s, {made / hashed:.2f} times, {measure.run([LAB, *words])[1]} KiB")
 
@@ -369,7 +525,10 @@ def main():
             case(random.Random(f"{seed}.{i}"), folder)
             survey_case(random.Random(f"survey {seed}.{i}"), folder)
             compare_case(random.Random(f"compare {seed}.{i}"), folder)
-        print(f"array, survey and compare of {cases} dumps each agree with the reference, and the refusals")
+            geometry_case(random.Random(f"geometry {seed}.{i}"), folder)
+            repair_case(random.Random(f"repair {seed}.{i}"), folder)
+            merge_case(random.Random(f"merge {seed}.{i}"), folder)
+        print(f"each of the six commands over {cases} dumps agrees with the reference, and the refusals")
 
 
 if __name__ == "__main__":

@@ -5,3 +5,6 @@ pub mod UndoneLemmas
 pub mod ArrayLemmas
 pub mod SurveyLemmas
 pub mod CompareLemmas
+pub mod GeometryLemmas
+pub mod RepairLemmas
+pub mod MergeLemmas

@@ -1,5 +1,5 @@
 -- Why a command ended before it was done.
-use Rattle.std.proofs.Common.{◌≡◌, ℕ, List, Option, Some, None, IfSome, refl, sym, ◌∙◌, subst}
+use Rattle.std.proofs.Common.{◌≡◌, inl, inr, ℕ, Bool, true, List, Option, Some, None, IfSome, refl, sym, ◌∙◌, subst}
 use Rattle.std.specs.Prelude.{Result, Ok, Err, IfErr}
 use Rattle.std.specs.Result.{IsErrAnd}
 use Rattle.std.proofs.KnownBytes.{Keeps-refl}
@@ -8,7 +8,7 @@ use Rattle.lab_commands.specs.declared.text.LabFault.{LabFault}
 use Rattle.lab_commands.specs.declared.text.LabFault.TheVariants as fault
 use Rattle.lab_commands.specs.declared.files.FileFault.TheVariants as file
 use Rattle.lab_commands.specs.Files.{Answers, AnswersNoMore, IsOpened, Kept}
-use Rattle.lab_commands.specs.Undone.{IsUnread, IsUntaken, IsUnwritten, LeavesAll, Opens}
+use Rattle.lab_commands.specs.Undone.{IsUnread, IsUntaken, IsUnwritten, LeavesAll, MayNotWrite, Opens}
 
 pub left_all : (before after : Option (List Kept)) (out : Option (List ℕ)) → after ≡ before → LeavesAll before after out out
 left_all before after out same = record { kept = same; silent = Keeps-refl out }
@@ -58,3 +58,15 @@ untaken_before a b g path fault.WrongLength h k = record { known = k.known; open
 untaken_before a b g path fault.OutOfMemory h k = opens_before a b path h k
 untaken_before a b g path (fault.Read word) h k = (k.0, opens_before a b path h k.1)
 untaken_before a b g path _ h k = absurd k
+
+-- ---- whether a file may be written
+
+pub unasked_file : (a : Answers) (dump path : List ℕ) (force : Bool) (told : LabFault) → IsUnwritten a path told → MayNotWrite a dump path force told
+unasked_file a dump path force fault.OutOfMemory k = inl k
+unasked_file a dump path force (fault.Write word) k = inl k
+unasked_file a dump path force _ k = absurd k
+
+pub unasked_dump : (a : Answers) (dump path : List ℕ) (force : Bool) (told : LabFault) → a.says_file path true → IsUnread a dump told → MayNotWrite a dump path force told
+unasked_dump a dump path force fault.OutOfMemory stands k = inr (stands, k)
+unasked_dump a dump path force (fault.Read word) stands k = inr (stands, k)
+unasked_dump a dump path force _ stands k = absurd k

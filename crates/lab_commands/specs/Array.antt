@@ -1,24 +1,33 @@
 -- What the command `array` comes to.
-use Rattle.std.specs.Prelude.{◌≡◌, ◌⊎◌, ℕ, true, false, List, map, Option, IfSome}
-use Rattle.std.specs.Io.KnownBytes.{Appends}
+use Rattle.std.specs.Prelude.{◌≡◌, ◌⊎◌, ℕ, true, false, List, [], ◌∷◌, map, Option, Some, IfSome, IsSomeAnd}
+use Rattle.std.specs.Option.{option_map_or}
+use Rattle.std.specs.Io.KnownBytes.{Appends, Keeps}
 use Rattle.page_layout.specs.declared.geometry.Geometry.{Geometry}
 use Rattle.lab_array.specs.declared.array.ArrayFault.{ArrayFault}
 use Rattle.lab_array.specs.declared.array.ArrayFault.TheVariants as array
 use Rattle.lab_array.specs.declared.held.Held.{Held}
 use Rattle.lab_array.specs.Held.{state_in}
 use Rattle.lab_array.specs.Written.{IsWritten}
+use Rattle.lab_map.specs.Map.{map_text}
 use Rattle.lab_words.specs.declared.words.ArrayWords.{ArrayWords}
 use Rattle.lab_commands.specs.declared.text.LabFault.{LabFault}
 use Rattle.lab_commands.specs.declared.text.LabFault.TheVariants as fault
 use Rattle.lab_commands.specs.Files.{Answers, IsOpened, Kept, with_kept}
 use Rattle.lab_commands.specs.Report.{report_of}
-use Rattle.lab_commands.specs.Undone.{IsGeometryAt, IsNoGeometry, IsUnprinted, IsUnread, IsUntaken, IsUnwritten, LeavesAll, Opens}
+use Rattle.lab_commands.specs.Undone.{IsGeometryAt, IsNoGeometry, IsUnmade, IsUnprinted, IsUnread, IsUnwritten, LeavesAll, MayNotWrite, MayWrite}
 
 -- ---- done
 
--- by what the files answered, there is no file OUT, or it is not the dump and may be replaced
+-- OUT may be written, by what the files answered
 abbrev pub IsAllowed : Answers → ArrayWords → Type 0
-IsAllowed a words = a.says_file words.out.now false ⊎ (a.says_file words.out.now true × a.says_same words.dump.now words.out.now false × (words.force ≡ true))
+IsAllowed a words = MayWrite a words.dump.now words.out.now words.force
+
+-- and FILE, where a map is wanted: it is not OUT
+abbrev pub AllowsMap : Answers → ArrayWords → Type 0
+AllowsMap a words = IfSome words.map (λ file. a.says_same words.out.now file.now false × MayWrite a words.dump.now file.now words.force)
+
+abbrev pub AreAllowed : Answers → ArrayWords → Type 0
+AreAllowed a words = IsAllowed a words × AllowsMap a words
 
 -- the pieces are made of a dump that reads so: where its bytes are known the pieces, the states and the count are those of the image that
 -- they are
@@ -27,14 +36,22 @@ pub record IsMade (a : Answers) (path : List ℕ) (g : Geometry) (pieces : Optio
   pub opened : IsOpened a path known
   pub made : IfSome known (IsWritten g pieces held unsound)
 
--- the array was put in the place of OUT, with these states and this count
+-- the array was made beside OUT, with these states and this count
+pub record MadeArray (a : Answers) (words : ArrayWords) (g : Geometry) (pieces : Option (List (List ℕ))) (held : List Held) (unsound : ℕ) : Type 0 where
+  pub geometry_is : IsGeometryAt words.geometry.now g
+  pub allowed : AreAllowed a words
+  pub made : IsMade a words.dump.now g pieces held unsound
+
+-- the files once a map was put in the place of FILE, where one is wanted
+abbrev pub with_map : Option (List Kept) → ArrayWords → List ℕ → Option (List Kept)
+with_map kept words text = option_map_or (λ file. with_kept kept file.now (Some (text ∷ []))) words.map kept
+
+-- it was put in the place of OUT, and its map in that of FILE, where one is wanted
 pub record PutArray (a : Answers) (words : ArrayWords) (before after : Option (List Kept)) (held : List Held) (unsound : ℕ) : Type 0 where
   pub g : Geometry
   pub pieces : Option (List (List ℕ))
-  pub geometry_is : IsGeometryAt words.geometry.now g
-  pub allowed : IsAllowed a words
-  pub made : IsMade a words.dump.now g pieces held unsound
-  pub put : after ≡ with_kept before words.out.now pieces
+  pub made : MadeArray a words g pieces held unsound
+  pub put : after ≡ with_map (with_kept before words.out.now pieces) words (map_text g (map state_in held))
 
 -- and the report printed
 pub record WroteArray (a : Answers) (words : ArrayWords) (before after : Option (List Kept)) (out printed : Option (List ℕ)) : Type 0 where
@@ -45,31 +62,51 @@ pub record WroteArray (a : Answers) (words : ArrayWords) (before after : Option 
 
 -- ---- not done
 
--- there is a file OUT, by what the files answered: it is the dump, or may not be replaced; or they could not be asked
+-- OUT may not be written
 abbrev pub IsNotAllowed : Answers → ArrayWords → LabFault → Type 0
-IsNotAllowed a words fault.IsDump = a.says_file words.out.now true × a.says_same words.dump.now words.out.now true
-IsNotAllowed a words fault.Exists = a.says_file words.out.now true × a.says_same words.dump.now words.out.now false × (words.force ≡ false)
-IsNotAllowed a words told = IsUnwritten a words.out.now told ⊎ (a.says_file words.out.now true × IsUnread a words.dump.now told)
+IsNotAllowed a words told = MayNotWrite a words.dump.now words.out.now words.force told
 
--- a file beside OUT was not made or not written whole
-abbrev pub IsUnfilled : Answers → ArrayWords → LabFault → Type 0
-IsUnfilled a words (fault.Write told) = (told.now ≡ words.out.now) × Opens a words.dump.now
-IsUnfilled a words _ = ⊥
+-- FILE is OUT, or the dump, or may not be replaced; or they could not be asked
+abbrev pub IsMapNotAllowed : Answers → ArrayWords → List ℕ → LabFault → Type 0
+IsMapNotAllowed a words file fault.MapIsOut = a.says_same words.out.now file true
+IsMapNotAllowed a words file fault.MapIsDump = MayNotWrite a words.dump.now file words.force fault.IsDump
+IsMapNotAllowed a words file fault.MapExists = MayNotWrite a words.dump.now file words.force fault.Exists
+IsMapNotAllowed a words file told = IsUnwritten a words.out.now told ⊎ IsUnwritten a file told ⊎ IsUnread a words.dump.now told
 
--- the dump was not opened or not taken as a whole, or the file beside OUT was not written or not put in its place
-abbrev pub IsUnmade : Answers → ArrayWords → Geometry → LabFault → Type 0
-IsUnmade a words g told = IsUnread a words.dump.now told ⊎ IsUntaken a g words.dump.now told ⊎ IsUnwritten a words.out.now told ⊎ IsUnfilled a words told
+-- a map is wanted, and FILE may not be written
+abbrev pub HasMapFault : Answers → ArrayWords → LabFault → Type 0
+HasMapFault a words told = IsSomeAnd words.map (λ file. IsMapNotAllowed a words file.now told)
 
--- The first of this order: the geometry; whether OUT may be written; the dump and OUT.
+-- OUT may not be written, or FILE
+abbrev pub AreNotAllowed : Answers → ArrayWords → LabFault → Type 0
+AreNotAllowed a words told = IsNotAllowed a words told ⊎ (IsAllowed a words × HasMapFault a words told)
+
+-- a map is wanted, and memory for it was refused, or FILE was not written or not put in its place
+abbrev pub IsUnmapped : Answers → ArrayWords → LabFault → Type 0
+IsUnmapped a words told = IsSomeAnd words.map (λ file. IsUnwritten a file.now told ⊎ (told ≡ fault.OutOfMemory))
+
+-- The first of this order: the geometry; whether OUT may be written, and FILE; the dump and OUT.
 abbrev pub IsUnput : Answers → ArrayWords → LabFault → Type 0
 IsUnput a words told =
     IsNoGeometry words.geometry.now told
-    ⊎ ((g : Geometry) × IsGeometryAt words.geometry.now g × (IsNotAllowed a words told ⊎ (IsAllowed a words × IsUnmade a words g told)))
+    ⊎ ((g : Geometry) × IsGeometryAt words.geometry.now g × (AreNotAllowed a words told ⊎ (AreAllowed a words × IsUnmade a g words.dump.now words.out.now told)))
 
--- No array was put in place and nothing printed, for one of these reasons; or the array was put in place, and standard output failed.
+-- The array was put in place and nothing printed, but its map was not put in its.
+pub record PutUnmapped (a : Answers) (words : ArrayWords) (before after : Option (List Kept)) (out printed : Option (List ℕ)) (told : LabFault) : Type 0 where
+  pub g : Geometry
+  pub pieces : Option (List (List ℕ))
+  pub held : List Held
+  pub unsound : ℕ
+  pub made : MadeArray a words g pieces held unsound
+  pub put : after ≡ with_kept before words.out.now pieces
+  pub silent : Keeps out printed
+  pub unmapped : IsUnmapped a words told
+
+-- No array was put in place and nothing printed, for one of these reasons; or it was, and no map; or both were, and standard output failed.
 abbrev pub IsArrayFault : Answers → ArrayWords → Option (List Kept) → Option (List Kept) → Option (List ℕ) → Option (List ℕ) → LabFault → Type 0
 IsArrayFault a words before after out printed told =
     (LeavesAll before after out printed × IsUnput a words told)
+    ⊎ PutUnmapped a words before after out printed told
     ⊎ ((held : List Held) × (unsound : ℕ) × PutArray a words before after held unsound × IsUnprinted told)
 
 -- how a fault of the array is told

@@ -6,4 +6,7 @@ pub mod Array
 pub mod Lines
 pub mod Survey
 pub mod Compare
+pub mod Geometry
+pub mod Repair
+pub mod Merge
 pub mod Program

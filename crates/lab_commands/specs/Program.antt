@@ -11,15 +11,21 @@ use Rattle.lab_commands.specs.Text.{IsTold}
 use Rattle.lab_commands.specs.Array.{WroteArray, IsArrayFault}
 use Rattle.lab_commands.specs.Survey.{ToldSurvey, IsSurveyFault}
 use Rattle.lab_commands.specs.Compare.{ToldCompared, IsCompareFault}
+use Rattle.lab_commands.specs.Geometry.{ToldFits, IsGeometryFault}
+use Rattle.lab_commands.specs.Repair.{WroteRepair, IsRepairFault}
+use Rattle.lab_commands.specs.Merge.{WroteMerge, IsMergeFault}
 use Rattle.lab_commands.specs.Undone.{IsUnprinted, LeavesAll}
 
 -- ---- done
 
--- the words asked for an array, which was written, or for a survey, a comparison or a text, which was printed
+-- the words asked for an array, a merge or a repair, which was written, or for geometries, a survey, a comparison or a text, which was printed
 abbrev pub DoesAsked : Answers → Asked → Option (List Kept) → Option (List Kept) → Option (List ℕ) → Option (List ℕ) → Type 0
+DoesAsked a (asked.Geometry read) before after out printed = (after ≡ before) × ToldFits a read out printed
 DoesAsked a (asked.Array read) before after out printed = WroteArray a read before after out printed
 DoesAsked a (asked.Survey read) before after out printed = (after ≡ before) × ToldSurvey a read out printed
 DoesAsked a (asked.Compare read) before after out printed = (after ≡ before) × ToldCompared a read out printed
+DoesAsked a (asked.Merge read) before after out printed = WroteMerge a read before after out printed
+DoesAsked a (asked.Repair read) before after out printed = WroteRepair a read before after out printed
 DoesAsked a (asked.Text text) before after out printed = (after ≡ before) × Appends out printed (string_bytes text)
 
 abbrev pub Obeyed : Answers → List (List ℕ) → Option (List Kept) → Option (List Kept) → Option (List ℕ) → Option (List ℕ) → Type 0
@@ -29,9 +35,12 @@ Obeyed a words before after out printed = (found : Asked) × IsAsked words found
 
 -- why what was asked for was not done
 abbrev pub IsFaultOf : Answers → Asked → Option (List Kept) → Option (List Kept) → Option (List ℕ) → Option (List ℕ) → LabFault → Type 0
+IsFaultOf a (asked.Geometry read) before after out printed told = IsGeometryFault a read before after out printed told
 IsFaultOf a (asked.Array read) before after out printed told = IsArrayFault a read before after out printed told
 IsFaultOf a (asked.Survey read) before after out printed told = IsSurveyFault a read before after out printed told
 IsFaultOf a (asked.Compare read) before after out printed told = IsCompareFault a read before after out printed told
+IsFaultOf a (asked.Merge read) before after out printed told = IsMergeFault a read before after out printed told
+IsFaultOf a (asked.Repair read) before after out printed told = IsRepairFault a read before after out printed told
 IsFaultOf a (asked.Text text) before after out printed told = (after ≡ before) × IsUnprinted told
 
 -- the words are no command, or memory for them was refused

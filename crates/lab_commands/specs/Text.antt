@@ -7,7 +7,8 @@ use Rattle.page_layout.specs.declared.geometry.GeometryFault.TheVariants as geom
 use Rattle.certificate.specs.declared.fault.CertFault.{CertFault}
 use Rattle.certificate.specs.declared.fault.CertFault.TheVariants as certificate
 use Rattle.lab_commands.specs.declared.text.LabFault.{LabFault}
-use Rattle.lab_commands.specs.declared.text.LabFault.TheVariants.{NoSuchCommand, BadNumber, Geometry, IsDump, Exists, WrongLength, OutOfMemory, Certificate, GeometryDiffers, Read, Write}
+use Rattle.lab_commands.specs.declared.text.LabFault.TheVariants.{NoSuchCommand, BadNumber, Geometry, NoneFits, WrongLength, DumpLength, OutOfMemory, Certificate, GeometryDiffers}
+use Rattle.lab_commands.specs.declared.text.LabFault.TheVariants.{IsDump, Exists, MapIsOut, MapIsDump, MapExists, Read, Write}
 
 -- the number and the name of a limit that is broken
 abbrev pub limit_words : GeometryFault → List ℕ
@@ -32,9 +33,14 @@ abbrev pub line_of : LabFault → List ℕ
 line_of NoSuchCommand = codes "usage: no such command"
 line_of (BadNumber word) = codes "usage: bad number " ++ word.now
 line_of (Geometry fault) = codes "refused geometry " ++ limit_words fault
+line_of NoneFits = codes "refused geometry 6 NoneFits"
 line_of IsDump = codes "refused out 1 IsDump"
 line_of Exists = codes "refused out 2 Exists"
+line_of MapIsOut = codes "refused map 1 IsOut"
+line_of MapIsDump = codes "refused map 2 IsDump"
+line_of MapExists = codes "refused map 3 Exists"
 line_of WrongLength = codes "refused image 1 WrongLength"
+line_of (DumpLength path) = codes "refused merge 1 DumpLength " ++ path.now
 line_of OutOfMemory = codes "refused image 3 OutOfMemory"
 line_of (Certificate broken) = codes "refused certificate " ++ certificate_words broken
 line_of GeometryDiffers = codes "refused compare 1 GeometryDiffers"
@@ -46,9 +52,14 @@ abbrev pub status_of : LabFault → ℕ
 status_of NoSuchCommand = 2
 status_of (BadNumber word) = 2
 status_of (Geometry fault) = 1
+status_of NoneFits = 1
 status_of IsDump = 1
 status_of Exists = 1
+status_of MapIsOut = 1
+status_of MapIsDump = 1
+status_of MapExists = 1
 status_of WrongLength = 1
+status_of (DumpLength path) = 1
 status_of OutOfMemory = 1
 status_of (Certificate broken) = 1
 status_of GeometryDiffers = 1

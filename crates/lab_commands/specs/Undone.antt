@@ -1,5 +1,5 @@
 -- What the words of a command say of its geometry, and why a command ended before it was done.
-use Rattle.std.specs.Prelude.{◌≡◌, ℕ, List, codes, length, Option, IfSome}
+use Rattle.std.specs.Prelude.{◌≡◌, ◌⊎◌, ℕ, Bool, true, false, List, codes, length, Option, IfSome}
 use Rattle.std.specs.Io.KnownBytes.{Keeps}
 use Rattle.page_layout.specs.declared.geometry.Geometry.{Geometry}
 use Rattle.page_layout.specs.Faults.{HasNumbers, IsFirstFault}
@@ -40,6 +40,16 @@ IsUnwritten a path (fault.Write told) = (told.now ≡ path) × a.fails path file
 IsUnwritten a path fault.OutOfMemory = a.fails path file.OutOfMemory
 IsUnwritten a path _ = ⊥
 
+-- by what the files answered there is no file of a path that is made of this dump, or it is not the dump and may be replaced
+abbrev pub MayWrite : Answers → List ℕ → List ℕ → Bool → Type 0
+MayWrite a dump path force = a.says_file path false ⊎ (a.says_file path true × a.says_same dump path false × (force ≡ true))
+
+-- there is such a file: it is the dump, or may not be replaced; or they could not be asked
+abbrev pub MayNotWrite : Answers → List ℕ → List ℕ → Bool → LabFault → Type 0
+MayNotWrite a dump path force fault.IsDump = a.says_file path true × a.says_same dump path true
+MayNotWrite a dump path force fault.Exists = a.says_file path true × a.says_same dump path false × (force ≡ false)
+MayNotWrite a dump path force told = IsUnwritten a path told ⊎ (a.says_file path true × IsUnread a dump told)
+
 -- the file was opened for reading
 pub record Opens (a : Answers) (path : List ℕ) : Type 0 where
   pub known : Option (List ℕ)
@@ -57,6 +67,15 @@ IsUntaken a g path fault.WrongLength = OpensOther a g path
 IsUntaken a g path (fault.Read told) = (told.now ≡ path) × Opens a path
 IsUntaken a g path fault.OutOfMemory = Opens a path
 IsUntaken a g path _ = ⊥
+
+-- a file beside that of a path was not made or not written whole, of a dump that was opened
+abbrev pub IsUnfilled : Answers → List ℕ → List ℕ → LabFault → Type 0
+IsUnfilled a dump path (fault.Write told) = (told.now ≡ path) × Opens a dump
+IsUnfilled a dump path _ = ⊥
+
+-- the dump was not opened or not taken as a whole, or the file beside the path was not written or not put in its place
+abbrev pub IsUnmade : Answers → Geometry → List ℕ → List ℕ → LabFault → Type 0
+IsUnmade a g dump path told = IsUnread a dump told ⊎ IsUntaken a g dump told ⊎ IsUnwritten a path told ⊎ IsUnfilled a dump path told
 
 -- ---- what it leaves
 

@@ -1,16 +1,22 @@
-//! The command `array GEOM DUMP OUT`.
-ghost use Rattle.std.specs.Prelude.{◌≡◌, OnOk, IfOk, IfErr};
+//! The command `array GEOM DUMP OUT [--map FILE]`.
+ghost use Rattle.std.specs.Prelude.{◌≡◌, OnOk, OnErr, IfOk, IfErr, false, length, map};
+ghost use Rattle.lab_array.specs.Held.{state_in};
+ghost use Rattle.lab_map.specs.Map.{map_text};
 ghost use Rattle.lab_commands.specs.Files.{AnswersNoMore};
-ghost use Rattle.lab_commands.specs.Array.{IsAllowed, IsArrayFault, IsMade, IsNotAllowed, IsUnmade, WroteArray, told_as};
+ghost use Rattle.lab_commands.specs.Undone.{IsUnmade, MayWrite};
+ghost use Rattle.lab_commands.specs.Array.{AreAllowed, AreNotAllowed, IsArrayFault, IsMade, IsMapNotAllowed, IsUnmapped, WroteArray, told_as, with_map};
 
 use crate::files::LabFiles;
-use crate::opening::{create_beside, geometry_at, has_file, is_dump, keep, open_file};
+use crate::opening::{
+    allow, create_beside, geometry_at, has_file, is_dump, is_out, keep, open_file, store_file,
+};
 use crate::report::print_report;
 use crate::text::LabFault;
-use lab_array::{ArrayFault, Written, write_array};
+use lab_array::{ArrayFault, Held, Written, write_array};
+use lab_map::print_map;
 use lab_words::ArrayWords;
 use page_layout::geometry::Geometry;
-use std::alloc::Global;
+use std::alloc::{AllocError, Global};
 use std::io::Write;
 
 // How a fault of the array is told.
@@ -25,22 +31,77 @@ fn told_as<'a>(fault: ArrayFault, words: &ArrayWords<'a>) -> LabFault<'a>
     }
 }
 
-// Whether OUT may be written: there is no such file, or it is not the dump and may be replaced.
-fn allow<'a, F: LabFiles>(files: &mut F, words: &ArrayWords<'a>) -> Result<(), LabFault<'a>>
-    ensures ok { OnOk result (IsAllowed (F.answers files.old) words.now) }
-    ensures fault { IfErr result (IsNotAllowed (F.answers files.old) words.now) }
+// Whether FILE may be written: it is not OUT, and there is no such file, or it is not the dump and may be replaced.
+fn allow_map<'a, F: LabFiles>(
+    files: &mut F,
+    words: &ArrayWords<'a>,
+    file: &'a str,
+) -> Result<(), LabFault<'a>>
+    ensures other { OnOk result ((F.answers files.old).says_same words.now.out.now file.now false) }
+    ensures ok { OnOk result (MayWrite (F.answers files.old) words.now.dump.now file.now words.now.force) }
+    ensures fault { IfErr result (IsMapNotAllowed (F.answers files.old) words.now file.now) }
     ensures same { files.new ≡ files.old }
 {
-    if !has_file(files, words.out)? {
+    if is_out(files, words.out, file)? {
+        return Err(LabFault::MapIsOut);
+    }
+    if !has_file(files, file)? {
         return Ok(());
     }
-    if is_dump(files, words.dump, words.out)? {
-        return Err(LabFault::IsDump);
+    if is_dump(files, words.dump, file)? {
+        return Err(LabFault::MapIsDump);
     }
     if words.force {
         Ok(())
     } else {
-        Err(LabFault::Exists)
+        Err(LabFault::MapExists)
+    }
+}
+
+// Whether OUT may be written, and FILE, where a map is wanted.
+fn allow_both<'a, F: LabFiles>(files: &mut F, words: &ArrayWords<'a>) -> Result<(), LabFault<'a>>
+    ensures ok { OnOk result (AreAllowed (F.answers files.old) words.now) }
+    ensures fault { IfErr result (AreNotAllowed (F.answers files.old) words.now) }
+    ensures same { files.new ≡ files.old }
+{
+    allow(files, words.dump, words.out, words.force)?;
+    match words.map {
+        Some(file) => allow_map(files, words, file),
+        None => Ok(()),
+    }
+}
+
+// The text of the map.
+fn map_of(alloc: Global, geometry: &Geometry, held: &[Held]) -> Result<Vec<u8>, AllocError>
+    requires { length held.now ≡ geometry.now.sectors }
+    ensures { IfOk result (λ text. text.items ≡ map_text geometry.now (map state_in held.now)) }
+{
+    let mut text = Vec::new(alloc);
+    match print_map(&mut text, geometry, held) {
+        Ok(()) => Ok(text),
+        Err(_) => Err(AllocError),
+    }
+}
+
+// Puts the map in its place, where one is wanted.
+fn put_map<'a, F: LabFiles>(
+    alloc: Global,
+    words: &ArrayWords<'a>,
+    geometry: &Geometry,
+    held: &[Held],
+    files: &mut F,
+) -> Result<(), LabFault<'a>>
+    requires { length held.now ≡ geometry.now.sectors }
+    ensures ok { OnOk result (F.kept files.new ≡ with_map (F.kept files.old) words.now (map_text geometry.now (map state_in held.now))) }
+    ensures fault { IfErr result (IsUnmapped (F.answers files.old) words.now) }
+    ensures kept { OnErr result (F.kept files.new ≡ F.kept files.old) }
+{
+    let Some(file) = words.map else {
+        return Ok(());
+    };
+    match map_of(alloc, geometry, held) {
+        Ok(text) => store_file(files, file, &text),
+        Err(_) => Err(LabFault::OutOfMemory),
     }
 }
 
@@ -52,7 +113,8 @@ fn make<'a, F: LabFiles>(
     files: &mut F,
 ) -> Result<Written<F::Target>, LabFault<'a>>
     ensures made { IfOk result (λ written. IsMade (F.answers files.old) words.now.dump.now geometry.now (F.Target.pieces written.target) written.held.items written.unsound) }
-    ensures fault { IfErr result (IsUnmade (F.answers files.old) words.now geometry.now) }
+    ensures sized { IfOk result (λ written. length written.held.items ≡ geometry.now.sectors) }
+    ensures fault { IfErr result (IsUnmade (F.answers files.old) geometry.now words.now.dump.now words.now.out.now) }
     ensures no_more { AnswersNoMore (F.answers files.old) (F.answers files.new) }
     ensures kept { F.kept files.new ≡ F.kept files.old }
 {
@@ -67,16 +129,18 @@ fn make<'a, F: LabFiles>(
     }
 }
 
-/// The command `array`: writes every sector of the dump DUMP, of the geometry GEOM, to the file OUT, and prints which sectors are tied, and
-/// how far the array may be from the last write.
+/// The command `array`: writes every sector of the dump DUMP, of the geometry GEOM, to the file OUT, and where that is wanted the map of it to
+/// FILE, and prints which sectors are tied, and how far the array may be from the last write.
 ///
 /// # Errors
 ///
 /// The first of this order: `BadNumber` where GEOM writes no numbers, `Geometry` where they are no geometry, `IsDump` where OUT is the dump,
-/// `Exists` where there is a file OUT and it may not be replaced, `Read` where DUMP cannot be opened, `Write` where no file can be made
-/// beside OUT, `OutOfMemory` where a growth was refused; then each when it happens: `Read` where a read of DUMP fails, `WrongLength` where
-/// it has not as many bytes as the geometry says, `Write` where OUT cannot be written or put in its place. After each of these OUT is as it
-/// was, and nothing was printed. `Write` of `-` where `out` failed: then OUT was written.
+/// `Exists` where there is a file OUT and it may not be replaced, `MapIsOut`, `MapIsDump` or `MapExists` where FILE is OUT or the dump, or is
+/// there and may not be replaced, `Read` where DUMP cannot be opened, `Write` where no file can be made beside OUT, `OutOfMemory` where a
+/// growth was refused; then each when it happens: `Read` where a read of DUMP fails, `WrongLength` where it has not as many bytes as the
+/// geometry says, `Write` where OUT cannot be written or put in its place. After each of these OUT and FILE are as they were, and nothing was
+/// printed. `Write` of FILE, or `OutOfMemory`, where FILE cannot be made: then OUT was written, and nothing was printed. `Write` of `-` where
+/// `out` failed: then both were written.
 ///
 /// (This project's.)
 pub(crate) fn array_command<'a, F: LabFiles, W: Write>(
@@ -89,9 +153,10 @@ pub(crate) fn array_command<'a, F: LabFiles, W: Write>(
     ensures fault { IfErr result (IsArrayFault (F.answers files.old) words.entry (F.kept files.old) (F.kept files.new) (W.contents out.old) (W.contents out.new)) }
 {
     let geometry = geometry_at(words.geometry)?;
-    allow(files, &words)?;
+    allow_both(files, &words)?;
     let written = make(alloc, &words, &geometry, files)?;
     keep(files, words.out, written.target)?;
+    put_map(alloc, &words, &geometry, &written.held, files)?;
     match print_report(out, &written.held, written.unsound) {
         Ok(()) => Ok(()),
         Err(_) => Err(LabFault::Write("-")),

@@ -5,9 +5,12 @@
 mod array;
 mod compare;
 mod files;
+mod geometry;
 mod lines;
+mod merge;
 mod opening;
 mod program;
+mod repair;
 mod report;
 mod survey;
 mod survey_report;

@@ -1,8 +1,9 @@
 //! The words and the files that each command begins with.
-ghost use Rattle.std.specs.Prelude.{◌≡◌, IfOk, IfErr, IfSome, OnOk, OnErr, replicate};
+ghost use Rattle.std.specs.Prelude.{◌≡◌, [], ◌∷◌, Some, IfOk, IfErr, IfSome, OnOk, OnErr, length, replicate};
 ghost use Rattle.page_layout.specs.Array.{zeros};
+ghost use Rattle.page_layout.specs.Geometry.{row_count};
 ghost use Rattle.lab_commands.specs.Files.{AnswersNoMore, IsOpened, with_kept};
-ghost use Rattle.lab_commands.specs.Undone.{IsGeometryAt, IsNoGeometry, IsUnread, IsUnwritten};
+ghost use Rattle.lab_commands.specs.Undone.{IsGeometryAt, IsNoGeometry, IsUnread, IsUnwritten, MayNotWrite, MayWrite};
 
 use crate::files::{FileFault, LabFiles};
 use crate::text::LabFault;
@@ -46,6 +47,22 @@ pub(crate) fn open_file<'a, F: LabFiles>(
     }
 }
 
+/// A dump that can be read at whatever place.
+pub(crate) fn open_dump<'a, F: LabFiles>(
+    files: &mut F,
+    path: &'a str,
+) -> Result<F::Dump, LabFault<'a>>
+    ensures bytes { IfOk result (λ dump. IsOpened (F.answers files.old) path.now (F.Dump.bytes dump)) }
+    ensures fault { IfErr result (IsUnread (F.answers files.old) path.now) }
+    ensures kept { F.kept files.new ≡ F.kept files.old }
+{
+    match files.open_dump(path) {
+        Ok(dump) => Ok(dump),
+        Err(FileFault::Failed) => Err(LabFault::Read(path)),
+        Err(FileFault::OutOfMemory) => Err(LabFault::OutOfMemory),
+    }
+}
+
 /// Whether there is a file of a path, which is to be written.
 pub(crate) fn has_file<'a, F: LabFiles>(files: &mut F, path: &'a str) -> Result<bool, LabFault<'a>>
     ensures said { IfOk result ((F.answers files.old).says_file path.now) }
@@ -76,6 +93,43 @@ pub(crate) fn is_dump<'a, F: LabFiles>(
     }
 }
 
+/// Whether a path is that of another file that is to be written.
+pub(crate) fn is_out<'a, F: LabFiles>(
+    files: &mut F,
+    out: &'a str,
+    path: &str,
+) -> Result<bool, LabFault<'a>>
+    ensures said { IfOk result ((F.answers files.old).says_same out.now path.now) }
+    ensures fault { IfErr result (IsUnwritten (F.answers files.old) out.now) }
+    ensures same { files.new ≡ files.old }
+{
+    match files.is_same(out, path) {
+        Ok(same) => Ok(same),
+        Err(FileFault::Failed) => Err(LabFault::Write(out)),
+        Err(FileFault::OutOfMemory) => Err(LabFault::OutOfMemory),
+    }
+}
+
+/// Whether a file of a path may be written that is made of a dump: there is no such file, or it is not the dump and may be replaced.
+pub(crate) fn allow<'a, F: LabFiles>(
+    files: &mut F,
+    dump: &'a str,
+    path: &'a str,
+    force: bool,
+) -> Result<(), LabFault<'a>>
+    ensures ok { OnOk result (MayWrite (F.answers files.old) dump.now path.now force) }
+    ensures fault { IfErr result (MayNotWrite (F.answers files.old) dump.now path.now force) }
+    ensures same { files.new ≡ files.old }
+{
+    if !has_file(files, path)? {
+        return Ok(());
+    }
+    if is_dump(files, dump, path)? {
+        return Err(LabFault::IsDump);
+    }
+    if force { Ok(()) } else { Err(LabFault::Exists) }
+}
+
 /// A file of zeros beside that of a path, with a piece for each sector.
 pub(crate) fn create_beside<'a, F: LabFiles>(
     files: &mut F,
@@ -102,6 +156,7 @@ pub(crate) fn keep<'a, F: LabFiles>(
 ) -> Result<(), LabFault<'a>>
     ensures ok { OnOk result (F.kept files.new ≡ with_kept (F.kept files.old) path.now (F.Target.pieces target)) }
     ensures fault { IfErr result (IsUnwritten (F.answers files.old) path.now) }
+    ensures no_more { OnOk result (AnswersNoMore (F.answers files.old) (F.answers files.new)) }
     ensures kept { OnErr result (F.kept files.new ≡ F.kept files.old) }
 {
     match files.keep(path, target) {
@@ -113,5 +168,63 @@ pub(crate) fn keep<'a, F: LabFiles>(
                 FileFault::OutOfMemory => Err(LabFault::OutOfMemory),
             }
         }
+    }
+}
+
+/// A file of zeros beside that of a path, with a piece for each page.
+pub(crate) fn create_pages<'a, F: LabFiles>(
+    files: &mut F,
+    path: &'a str,
+    geometry: &Geometry,
+) -> Result<F::Pages, LabFault<'a>>
+    ensures blank { IfOk result (λ target. IfSome (F.Pages.pieces target) (λ ps. length ps ≡ row_count geometry.now)) }
+    ensures fault { IfErr result (IsUnwritten (F.answers files.old) path.now) }
+    ensures no_more { AnswersNoMore (F.answers files.old) (F.answers files.new) }
+    ensures kept { F.kept files.new ≡ F.kept files.old }
+{
+    let size = geometry.data_bytes() + geometry.spare_bytes();
+    match files.create_pages(path, geometry.rows(), size) {
+        Ok(target) => Ok(target),
+        Err(FileFault::Failed) => Err(LabFault::Write(path)),
+        Err(FileFault::OutOfMemory) => Err(LabFault::OutOfMemory),
+    }
+}
+
+/// Puts the file of pages beside a path in its place. Where that fails it is removed.
+pub(crate) fn keep_pages<'a, F: LabFiles>(
+    files: &mut F,
+    path: &'a str,
+    target: F::Pages,
+) -> Result<(), LabFault<'a>>
+    ensures ok { OnOk result (F.kept files.new ≡ with_kept (F.kept files.old) path.now (F.Pages.pieces target)) }
+    ensures fault { IfErr result (IsUnwritten (F.answers files.old) path.now) }
+    ensures kept { OnErr result (F.kept files.new ≡ F.kept files.old) }
+{
+    match files.keep_pages(path, target) {
+        Ok(()) => Ok(()),
+        Err(fault) => {
+            files.discard(path);
+            match fault {
+                FileFault::Failed => Err(LabFault::Write(path)),
+                FileFault::OutOfMemory => Err(LabFault::OutOfMemory),
+            }
+        }
+    }
+}
+
+/// Puts a file of these bytes in the place of a path.
+pub(crate) fn store_file<'a, F: LabFiles>(
+    files: &mut F,
+    path: &'a str,
+    bytes: &[u8],
+) -> Result<(), LabFault<'a>>
+    ensures ok { OnOk result (F.kept files.new ≡ with_kept (F.kept files.old) path.now (Some (bytes.now ∷ []))) }
+    ensures fault { IfErr result (IsUnwritten (F.answers files.old) path.now) }
+    ensures kept { OnErr result (F.kept files.new ≡ F.kept files.old) }
+{
+    match files.store(path, bytes) {
+        Ok(()) => Ok(()),
+        Err(FileFault::Failed) => Err(LabFault::Write(path)),
+        Err(FileFault::OutOfMemory) => Err(LabFault::OutOfMemory),
     }
 }

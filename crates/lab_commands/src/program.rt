@@ -6,6 +6,9 @@ ghost use Rattle.lab_commands.specs.Program.{IsRefused, Obeyed, Runs};
 use crate::array::array_command;
 use crate::compare::compare_command;
 use crate::files::LabFiles;
+use crate::geometry::geometry_command;
+use crate::merge::merge_command;
+use crate::repair::repair_command;
 use crate::survey::survey_command;
 use crate::text::{DONE, LabFault, tell};
 use lab_words::{Asked, WordsFault, parse};
@@ -23,9 +26,12 @@ fn obey<'a, F: LabFiles, W: Write>(
     ensures err { IfErr result (IsRefused (F.answers files.old) (texts words.now) (F.kept files.old) (F.kept files.new) (W.contents out.old) (W.contents out.new)) }
 {
     match parse(alloc, words) {
+        Ok(Asked::Geometry(read)) => geometry_command(alloc, read, files, out),
         Ok(Asked::Array(read)) => array_command(alloc, read, files, out),
         Ok(Asked::Survey(read)) => survey_command(alloc, read, files, out),
         Ok(Asked::Compare(read)) => compare_command(alloc, read, files, out),
+        Ok(Asked::Merge(read)) => merge_command(alloc, read, files, out),
+        Ok(Asked::Repair(read)) => repair_command(alloc, read, files, out),
         Ok(Asked::Text(text)) => match out.write_all(text.as_bytes()) {
             Ok(()) => Ok(()),
             Err(_) => Err(LabFault::Write("-")),

@@ -26,12 +26,22 @@ pub enum LabFault<'a> {
     BadNumber(&'a str),
     /// The numbers are no geometry.
     Geometry(GeometryFault),
-    /// The file to be written is the dump.
+    /// No geometry fits the dump.
+    NoneFits,
+    /// The file to be written is a dump that is read.
     IsDump,
     /// There is a file of that path already.
     Exists,
+    /// The file of the map is the one of the array.
+    MapIsOut,
+    /// The file of the map is the dump.
+    MapIsDump,
+    /// There is a file of the map's path already.
+    MapExists,
     /// The dump has not as many bytes as the geometry says.
     WrongLength,
+    /// The dump of this path, one of several, has not as many bytes as the geometry says.
+    DumpLength(&'a str),
     /// A growth was refused.
     OutOfMemory,
     /// The bytes of the certificate's file are no certificate.
@@ -55,9 +65,14 @@ impl LabFault<'_> {
         match self {
             LabFault::NoSuchCommand | LabFault::BadNumber(_) => USAGE,
             LabFault::Geometry(_)
+            | LabFault::NoneFits
             | LabFault::IsDump
             | LabFault::Exists
+            | LabFault::MapIsOut
+            | LabFault::MapIsDump
+            | LabFault::MapExists
             | LabFault::WrongLength
+            | LabFault::DumpLength(_)
             | LabFault::OutOfMemory
             | LabFault::Certificate(_)
             | LabFault::GeometryDiffers => REFUSED,
@@ -102,9 +117,14 @@ fn line<'a>(fault: &LabFault<'a>) -> (&'a str, &'a str)
         LabFault::NoSuchCommand => ("usage: no such command", ""),
         LabFault::BadNumber(word) => ("usage: bad number ", word),
         LabFault::Geometry(broken) => ("refused geometry ", limit(broken)),
+        LabFault::NoneFits => ("refused geometry 6 NoneFits", ""),
         LabFault::IsDump => ("refused out 1 IsDump", ""),
         LabFault::Exists => ("refused out 2 Exists", ""),
+        LabFault::MapIsOut => ("refused map 1 IsOut", ""),
+        LabFault::MapIsDump => ("refused map 2 IsDump", ""),
+        LabFault::MapExists => ("refused map 3 Exists", ""),
         LabFault::WrongLength => ("refused image 1 WrongLength", ""),
+        LabFault::DumpLength(path) => ("refused merge 1 DumpLength ", path),
         LabFault::OutOfMemory => ("refused image 3 OutOfMemory", ""),
         LabFault::Certificate(broken) => ("refused certificate ", certificate_text(broken)),
         LabFault::GeometryDiffers => ("refused compare 1 GeometryDiffers", ""),

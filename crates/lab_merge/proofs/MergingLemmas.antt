@@ -20,7 +20,7 @@ use Rattle.lab_merge.specs.declared.merging.Tally.{Tally}
 use Rattle.lab_merge.specs.Majority.{majority}
 use Rattle.lab_merge.specs.Choice.{is_same, zero_page, chosen, by_erased, by_majority, by_sound, choice}
 use Rattle.lab_merge.specs.Found.{WritesChoice}
-use Rattle.lab_merge.specs.Merging.{named, counted, place_of, is_from, conflicts_below, tally_below, piece_of, Shows, AreOwn, AreListed, AreFew, Stands}
+use Rattle.lab_merge.specs.Merging.{named, counted, place_of, is_from, with_unsound, conflicts_below, unsound_below, tally_below, piece_of, Shows, AreOwn, AreListed, AreFew, Stands}
 use Rattle.lab_merge.proofs.MajorityLemmas.{range_more}
 
 -- ---- the rows that are named
@@ -38,20 +38,43 @@ conflicts_more g rows n =
     ap (filter (is_from g rows Conflict)) (range_more n)
     ∙ (filter-append (is_from g rows Conflict) (range_with_len 0 n) (n ∷ []) ∙ named_is (filter (is_from g rows Conflict) (range_with_len 0 n)) n (choice g (rows n)).origin)
 
+unsound_is : (rows : List ℕ) (n : ℕ) (o : Origin) → rows ++ cond (eqb (place_of o) 4) (n ∷ []) [] ≡ with_unsound rows n o
+unsound_is rows n Sound = append-nil rows
+unsound_is rows n Conflict = append-nil rows
+unsound_is rows n Majority = append-nil rows
+unsound_is rows n Erased = append-nil rows
+unsound_is rows n Unsound = refl
+
+unsound_more : (g : Geometry) (rows : ℕ → List Page) (n : ℕ) → unsound_below g rows (n + 1) ≡ with_unsound (unsound_below g rows n) n (choice g (rows n)).origin
+unfolding unsound_below
+unsound_more g rows n =
+    ap (filter (is_from g rows Unsound)) (range_more n)
+    ∙ (filter-append (is_from g rows Unsound) (range_with_len 0 n) (n ∷ []) ∙ unsound_is (filter (is_from g rows Unsound) (range_with_len 0 n)) n (choice g (rows n)).origin)
+
+pub none_unsound : (g : Geometry) (rows : ℕ → List Page) → [] ≡ unsound_below g rows 0
+unfolding unsound_below
+none_unsound g rows = refl
+
+-- the same, of what the code holds after it
+pub unsound_next : (g : Geometry) (rows : ℕ → List Page) (n : ℕ) (pages : List Page) (o : Origin) (old new out : List ℕ) → rows n ≡ pages → WritesChoice (choice g pages) o out → old ≡ unsound_below g rows n → new ≡ with_unsound old n o → new ≡ unsound_below g rows (n + 1)
+unsound_next g rows n pages o old new out are written before after =
+    let origin : o ≡ (choice g (rows n)).origin = written.origin_is ∙ ap (λ ps. (choice g ps).origin) (sym are) in
+    after ∙ (ap (λ xs. with_unsound xs n o) before ∙ (ap (with_unsound (unsound_below g rows n) n) origin ∙ sym (unsound_more g rows n)))
+
 -- ---- the counts
 
-abbrev pub the_tally : ℕ → ℕ → ℕ → Tally
-the_tally a b c = record { majority = a; erased = b; unsound = c }
+abbrev pub the_tally : ℕ → ℕ → ℕ → ℕ → Tally
+the_tally s a b c = record { sound = s; majority = a; erased = b; unsound = c }
 
-tally_same : (a b c x y z : ℕ) → a ≡ x → b ≡ y → c ≡ z → the_tally a b c ≡ the_tally x y z
-tally_same a b c x y z e f h = ap (λ k. the_tally k b c) e ∙ (ap (λ k. the_tally x k c) f ∙ ap (the_tally x y) h)
+tally_same : (s a b c w x y z : ℕ) → s ≡ w → a ≡ x → b ≡ y → c ≡ z → the_tally s a b c ≡ the_tally w x y z
+tally_same s a b c w x y z d e f h = ap (λ k. the_tally k a b c) d ∙ (ap (λ k. the_tally w k b c) e ∙ (ap (λ k. the_tally w x k c) f ∙ ap (the_tally w x y) h))
 
-counted_is : (t : Tally) (o : Origin) → the_tally (t.majority + cond (eqb (place_of o) 2) 1 0) (t.erased + cond (eqb (place_of o) 3) 1 0) (t.unsound + cond (eqb (place_of o) 4) 1 0) ≡ counted t o
-counted_is t Sound = tally_same (t.majority + 0) (t.erased + 0) (t.unsound + 0) t.majority t.erased t.unsound (add-zero t.majority) (add-zero t.erased) (add-zero t.unsound)
-counted_is t Conflict = tally_same (t.majority + 0) (t.erased + 0) (t.unsound + 0) t.majority t.erased t.unsound (add-zero t.majority) (add-zero t.erased) (add-zero t.unsound)
-counted_is t Majority = tally_same (t.majority + 1) (t.erased + 0) (t.unsound + 0) (t.majority + 1) t.erased t.unsound refl (add-zero t.erased) (add-zero t.unsound)
-counted_is t Erased = tally_same (t.majority + 0) (t.erased + 1) (t.unsound + 0) t.majority (t.erased + 1) t.unsound (add-zero t.majority) refl (add-zero t.unsound)
-counted_is t Unsound = tally_same (t.majority + 0) (t.erased + 0) (t.unsound + 1) t.majority t.erased (t.unsound + 1) (add-zero t.majority) (add-zero t.erased) refl
+counted_is : (t : Tally) (o : Origin) → the_tally (t.sound + cond (eqb (place_of o) 0) 1 0) (t.majority + cond (eqb (place_of o) 2) 1 0) (t.erased + cond (eqb (place_of o) 3) 1 0) (t.unsound + cond (eqb (place_of o) 4) 1 0) ≡ counted t o
+counted_is t Sound = tally_same (t.sound + 1) (t.majority + 0) (t.erased + 0) (t.unsound + 0) (t.sound + 1) t.majority t.erased t.unsound refl (add-zero t.majority) (add-zero t.erased) (add-zero t.unsound)
+counted_is t Conflict = tally_same (t.sound + 0) (t.majority + 0) (t.erased + 0) (t.unsound + 0) t.sound t.majority t.erased t.unsound (add-zero t.sound) (add-zero t.majority) (add-zero t.erased) (add-zero t.unsound)
+counted_is t Majority = tally_same (t.sound + 0) (t.majority + 1) (t.erased + 0) (t.unsound + 0) t.sound (t.majority + 1) t.erased t.unsound (add-zero t.sound) refl (add-zero t.erased) (add-zero t.unsound)
+counted_is t Erased = tally_same (t.sound + 0) (t.majority + 0) (t.erased + 1) (t.unsound + 0) t.sound t.majority (t.erased + 1) t.unsound (add-zero t.sound) (add-zero t.majority) refl (add-zero t.unsound)
+counted_is t Unsound = tally_same (t.sound + 0) (t.majority + 0) (t.erased + 0) (t.unsound + 1) t.sound t.majority t.erased (t.unsound + 1) (add-zero t.sound) (add-zero t.majority) (add-zero t.erased) refl
 
 count_more : (p : ℕ → Bool) (n : ℕ) → count_by p (range_with_len 0 (n + 1)) ≡ count_by p (range_with_len 0 n) + cond (p n) 1 0
 count_more p n = ap (count_by p) (range_more n) ∙ sum_by_push (λ x. cond (p x) 1 0) (range_with_len 0 n) n
@@ -60,19 +83,20 @@ pub tally_more : (g : Geometry) (rows : ℕ → List Page) (n : ℕ) → tally_b
 unfolding tally_below
 tally_more g rows n =
     let o : Origin = (choice g (rows n)).origin in
+    let s : ℕ = count_by (is_from g rows Sound) (range_with_len 0 n) in
     let m : ℕ = count_by (is_from g rows Majority) (range_with_len 0 n) in
     let e : ℕ = count_by (is_from g rows Erased) (range_with_len 0 n) in
     let u : ℕ = count_by (is_from g rows Unsound) (range_with_len 0 n) in
-    tally_same _ _ _ (m + cond (eqb (place_of o) 2) 1 0) (e + cond (eqb (place_of o) 3) 1 0) (u + cond (eqb (place_of o) 4) 1 0)
-    (count_more (is_from g rows Majority) n) (count_more (is_from g rows Erased) n) (count_more (is_from g rows Unsound) n)
-    ∙ counted_is (the_tally m e u) o
+    tally_same _ _ _ _ (s + cond (eqb (place_of o) 0) 1 0) (m + cond (eqb (place_of o) 2) 1 0) (e + cond (eqb (place_of o) 3) 1 0) (u + cond (eqb (place_of o) 4) 1 0)
+    (count_more (is_from g rows Sound) n) (count_more (is_from g rows Majority) n) (count_more (is_from g rows Erased) n) (count_more (is_from g rows Unsound) n)
+    ∙ counted_is (the_tally s m e u) o
 
 few_more : (n : ℕ) (t : Tally) (o : Origin) → AreFew n t → AreFew (n + 1) (counted t o)
-few_more n t Sound h = let a = h.majority in let b = h.erased in let c = h.unsound in record { majority = omega arith; erased = omega arith; unsound = omega arith }
-few_more n t Conflict h = let a = h.majority in let b = h.erased in let c = h.unsound in record { majority = omega arith; erased = omega arith; unsound = omega arith }
-few_more n t Majority h = let a = h.majority in let b = h.erased in let c = h.unsound in record { majority = omega arith; erased = omega arith; unsound = omega arith }
-few_more n t Erased h = let a = h.majority in let b = h.erased in let c = h.unsound in record { majority = omega arith; erased = omega arith; unsound = omega arith }
-few_more n t Unsound h = let a = h.majority in let b = h.erased in let c = h.unsound in record { majority = omega arith; erased = omega arith; unsound = omega arith }
+few_more n t Sound h = let d = h.sound in let a = h.majority in let b = h.erased in let c = h.unsound in record { sound = omega arith; majority = omega arith; erased = omega arith; unsound = omega arith }
+few_more n t Conflict h = let d = h.sound in let a = h.majority in let b = h.erased in let c = h.unsound in record { sound = omega arith; majority = omega arith; erased = omega arith; unsound = omega arith }
+few_more n t Majority h = let d = h.sound in let a = h.majority in let b = h.erased in let c = h.unsound in record { sound = omega arith; majority = omega arith; erased = omega arith; unsound = omega arith }
+few_more n t Erased h = let d = h.sound in let a = h.majority in let b = h.erased in let c = h.unsound in record { sound = omega arith; majority = omega arith; erased = omega arith; unsound = omega arith }
+few_more n t Unsound h = let d = h.sound in let a = h.majority in let b = h.erased in let c = h.unsound in record { sound = omega arith; majority = omega arith; erased = omega arith; unsound = omega arith }
 
 -- ---- the list
 
@@ -91,6 +115,22 @@ listed_more n rows Conflict h = record {
 listed_more n rows Majority h = stays n rows h
 listed_more n rows Erased h = stays n rows h
 listed_more n rows Unsound h = stays n rows h
+
+unsound_listed_more : (n : ℕ) (rows : List ℕ) (o : Origin) → AreListed n rows → AreListed (n + 1) (with_unsound rows n o)
+unsound_listed_more n rows Sound h = stays n rows h
+unsound_listed_more n rows Conflict h = stays n rows h
+unsound_listed_more n rows Majority h = stays n rows h
+unsound_listed_more n rows Erased h = stays n rows h
+unsound_listed_more n rows Unsound h = record {
+  within = All-push (λ r. r < n + 1) rows n (wider n rows h.within) (omega arith);
+  rising = all_pairs_push (λ a b. a < b) rows n h.rising h.within;
+}
+
+pub unsound_listed_next : (n : ℕ) (old new : List ℕ) (o : Origin) → new ≡ with_unsound old n o → AreListed n old → AreListed (n + 1) new
+unsound_listed_next n old new o is h = subst (AreListed (n + 1)) (sym is) (unsound_listed_more n old o h)
+
+pub none_listed : AreListed 0 []
+none_listed = record { within = All-nil (λ (r : ℕ). r < 0); rising = λ i j d l k. absurd (omega arith) }
 
 contains_push : (xs : List ℕ) (x y : ℕ) → Contains (xs ++ x ∷ []) y → Contains xs y ⊎ (x ≡ y)
 contains_push xs x y h = elim (cases_lt h.0 (length xs)) [
@@ -222,11 +262,11 @@ shows_next g of n rows t pages o old out pieces within stands h are written rows
 
 -- ---- before the first row
 
-pub stands_first : (g : Geometry) (scratch : List ℕ) (pieces : Option (List (List ℕ))) → length scratch ≡ page_bytes g → IfSome pieces (λ ps. length ps ≡ row_count g) → Stands g 0 [] (the_tally 0 0 0) scratch pieces
+pub stands_first : (g : Geometry) (scratch : List ℕ) (pieces : Option (List (List ℕ))) → length scratch ≡ page_bytes g → IfSome pieces (λ ps. length ps ≡ row_count g) → Stands g 0 [] (the_tally 0 0 0 0) scratch pieces
 stands_first g scratch pieces size whole = record {
   scratch_size = size;
-  few = record { majority = omega arith; erased = omega arith; unsound = omega arith };
-  listed = record { within = All-nil (λ (r : ℕ). r < 0); rising = λ i j d l k. absurd (omega arith) };
+  few = record { sound = omega arith; majority = omega arith; erased = omega arith; unsound = omega arith };
+  listed = none_listed;
   own = if_more pieces (λ ps. length ps ≡ row_count g) (AreOwn g 0 []) whole (λ ps all. record {
     size = all;
     sized = λ row l. absurd (omega arith);
@@ -234,7 +274,7 @@ stands_first g scratch pieces size whole = record {
   });
 }
 
-pub shows_first : (g : Geometry) (of : ℕ → List Page) (pieces : Option (List (List ℕ))) → Shows g of 0 [] (the_tally 0 0 0) pieces
+pub shows_first : (g : Geometry) (of : ℕ → List Page) (pieces : Option (List (List ℕ))) → Shows g of 0 [] (the_tally 0 0 0 0) pieces
 unfolding conflicts_below tally_below
 shows_first g of pieces = record { conflicts_are = refl; tally_is = refl; pieces_are = all pieces }
   where

@@ -20,12 +20,20 @@ named rows row Majority = rows
 named rows row Erased = rows
 named rows row Unsound = rows
 
+-- the rows of which the first reading's page is written as it is, with one more
+abbrev pub with_unsound : List ℕ → ℕ → Origin → List ℕ
+with_unsound rows row Sound = rows
+with_unsound rows row Conflict = rows
+with_unsound rows row Majority = rows
+with_unsound rows row Erased = rows
+with_unsound rows row Unsound = rows ++ (row ∷ [])
+
 abbrev pub counted : Tally → Origin → Tally
-counted t Sound = t
+counted t Sound = record { sound = t.sound + 1; majority = t.majority; erased = t.erased; unsound = t.unsound }
 counted t Conflict = t
-counted t Majority = record { majority = t.majority + 1; erased = t.erased; unsound = t.unsound }
-counted t Erased = record { majority = t.majority; erased = t.erased + 1; unsound = t.unsound }
-counted t Unsound = record { majority = t.majority; erased = t.erased; unsound = t.unsound + 1 }
+counted t Majority = record { sound = t.sound; majority = t.majority + 1; erased = t.erased; unsound = t.unsound }
+counted t Erased = record { sound = t.sound; majority = t.majority; erased = t.erased + 1; unsound = t.unsound }
+counted t Unsound = record { sound = t.sound; majority = t.majority; erased = t.erased; unsound = t.unsound + 1 }
 
 -- ---- of rows whose pages are known
 
@@ -45,9 +53,14 @@ is_from g rows origin row = place_of (choice g (rows row)).origin == place_of or
 unfoldable pub conflicts_below : Geometry → (ℕ → List Page) → ℕ → List ℕ
 conflicts_below g rows n = filter (is_from g rows Conflict) (range_with_len 0 n)
 
--- how many of the first rows are of each of the origins where no page is sound
+-- the first rows of which no page is sound or erased, nor the majority sound
+unfoldable pub unsound_below : Geometry → (ℕ → List Page) → ℕ → List ℕ
+unsound_below g rows n = filter (is_from g rows Unsound) (range_with_len 0 n)
+
+-- how many of the first rows are of each origin but `Conflict`
 unfoldable pub tally_below : Geometry → (ℕ → List Page) → ℕ → Tally
 tally_below g rows n = record {
+  sound = count_by (is_from g rows Sound) (range_with_len 0 n);
   majority = count_by (is_from g rows Majority) (range_with_len 0 n);
   erased = count_by (is_from g rows Erased) (range_with_len 0 n);
   unsound = count_by (is_from g rows Unsound) (range_with_len 0 n);
@@ -77,6 +90,7 @@ pub record AreListed (n : ℕ) (conflicts : List ℕ) : Type 0 where
   pub rising : AllPairs (λ a b. a < b) conflicts
 
 pub record AreFew (n : ℕ) (tally : Tally) : Type 0 where
+  pub sound : tally.sound ≤ n
   pub majority : tally.majority ≤ n
   pub erased : tally.erased ≤ n
   pub unsound : tally.unsound ≤ n

@@ -1,5 +1,5 @@
 //! Readers of one die that are read in step, a page of each at a time.
-ghost use Rattle.std.specs.Prelude.{◌≡◌, ◌+◌, ◌*◌, ℕ, List, length, map, OnOk, IfErr};
+ghost use Rattle.std.specs.Prelude.{◌≡◌, ◌<◌, ◌+◌, ◌*◌, ℕ, List, length, map, OnOk, IfErr};
 ghost use Rattle.lab_merge.specs.InStep.{AreAt, AreRead, HaveEnded, IsLongAt, IsShortAt};
 
 use lab_scan::{Cut, ScanFault, expect_end, fill};
@@ -27,6 +27,8 @@ pub(crate) fn read_row<R: Read>(
 ) -> Result<(), ReadingCut>
     requires { length pieces.old ≡ length readers.old * size }
     ensures read { OnOk result ((files : List (List ℕ)) (at : ℕ) → AreAt (map R.remaining readers.old) files at → AreRead (map R.remaining readers.new) files at size pieces.new) }
+    ensures reading { IfErr result (λ r. r.reading < length readers.old) }
+    ensures count { OnOk result (length readers.new ≡ length readers.old) }
     ensures cut { IfErr result (λ r. (files : List (List ℕ)) (at : ℕ) → AreAt (map R.remaining readers.old) files at → IsShortAt files (at + size) r) }
 {
     for reading in 0..readers.len() {
@@ -42,6 +44,7 @@ pub(crate) fn read_row<R: Read>(
 // Sees that none of them has a byte left.
 pub(crate) fn expect_ends<R: Read>(readers: &mut [R]) -> Result<(), ReadingFault>
     ensures ended { OnOk result ((files : List (List ℕ)) (at : ℕ) → AreAt (map R.remaining readers.old) files at → HaveEnded files at) }
+    ensures reading { IfErr result (λ r. r.reading < length readers.old) }
     ensures long { IfErr result (λ r. (files : List (List ℕ)) (at : ℕ) → AreAt (map R.remaining readers.old) files at → IsLongAt files at r) }
 {
     for reading in 0..readers.len() {

@@ -1,11 +1,11 @@
 //! The merge of several readings of one die.
-ghost use Rattle.std.specs.Prelude.{◌≡◌, ◌<◌, ◌*◌, ℕ, List, length, map, OnOk, IfOk, IfErr, IfSome};
+ghost use Rattle.std.specs.Prelude.{◌≡◌, ◌<◌, ◌*◌, ℕ, List, [], length, map, OnOk, IfOk, IfErr, IfSome};
 ghost use Rattle.page_layout.specs.Geometry.{page_bytes, row_count};
 ghost use Rattle.page_layout.specs.Page.{Page};
 ghost use Rattle.lab_scan.specs.Scan.{image_bytes};
 ghost use Rattle.lab_merge.specs.InStep.{AreAt, Tell};
-ghost use Rattle.lab_merge.specs.Merging.{Shows, Stands};
-ghost use Rattle.lab_merge.specs.Merged.{IsMerged, IsOwnMerge, IsUnmerged, row_of};
+ghost use Rattle.lab_merge.specs.Merging.{AreListed, Shows, Stands, unsound_below};
+ghost use Rattle.lab_merge.specs.Merged.{IsMerged, IsOfReading, IsOwnMerge, IsUnmerged, row_of};
 
 use crate::in_step::{ReadingCut, ReadingFault, expect_ends, read_row};
 use crate::merging::{Merging, RowFault, Tally};
@@ -87,7 +87,9 @@ impl From<AllocError> for MergeFault {
 pub struct Merged<T> {
     /// The rows of which two sound pages differ, by rising row.
     pub conflicts: Vec<u32>,
-    /// How many rows have no sound page, by what was written of them.
+    /// The rows of which no page is sound or erased, nor the majority sound, by rising row.
+    pub unsound: Vec<u32>,
+    /// How many of the other rows there are, by what was written of them.
     pub tally: Tally,
     /// The file of pages.
     pub target: T,
@@ -103,10 +105,17 @@ fn merge_rows<R: Read, T: PageTarget>(
     requires some { 0 < length readers.old }
     requires whole { length pages.old ≡ length readers.old * page_bytes geometry.now }
     requires stands { Stands geometry.now 0 merging.old.conflicts.items merging.old.tally merging.old.scratch.items (T.pieces merging.old.target) }
+    requires none { merging.old.unsound.items ≡ [] }
     requires shows { (rows : ℕ → List Page) → Shows geometry.now rows 0 merging.old.conflicts.items merging.old.tally (T.pieces merging.old.target) }
     ensures stands { OnOk result (Stands geometry.now (row_count geometry.now) merging.new.conflicts.items merging.new.tally merging.new.scratch.items (T.pieces merging.new.target)) }
-    ensures shows { OnOk result ((files : List (List ℕ)) → AreAt (map R.remaining readers.old) files 0 → Shows geometry.now (row_of geometry.now files) (row_count geometry.now) merging.new.conflicts.items merging.new.tally (T.pieces merging.new.target)) }
+    ensures shows { OnOk result ((files : List (List ℕ)) → AreAt (map R.remaining readers.old) files 0
+        → Shows geometry.now (row_of geometry.now files) (row_count geometry.now) merging.new.conflicts.items merging.new.tally (T.pieces merging.new.target)) }
+    ensures unsound { OnOk result ((files : List (List ℕ)) → AreAt (map R.remaining readers.old) files 0
+        → merging.new.unsound.items ≡ unsound_below geometry.now (row_of geometry.now files) (row_count geometry.now)) }
+    ensures listed { OnOk result (AreListed (row_count geometry.now) merging.new.unsound.items) }
+    ensures count { OnOk result (length readers.new ≡ length readers.old) }
     ensures read { OnOk result ((files : List (List ℕ)) → AreAt (map R.remaining readers.old) files 0 → AreAt (map R.remaining readers.new) files (image_bytes geometry.now)) }
+    ensures reading { IfErr result (IsOfReading (length readers.old)) }
     ensures unmerged { IfErr result (λ fault. (files : List (List ℕ)) → AreAt (map R.remaining readers.old) files 0 → IsUnmerged geometry.now files fault) }
 {
     let size = geometry.data_bytes() + geometry.spare_bytes();
@@ -125,7 +134,7 @@ fn merge_rows<R: Read, T: PageTarget>(
 /// - where none is sound and there are three or more readings, the page that has each bit set which more than half of them have set, if that is
 ///   sound;
 /// - else an erased page, if one is erased;
-/// - else the first reading's page as it is.
+/// - else the first reading's page as it is, and the row is named.
 ///
 /// The target has a piece for each row, of as many bytes as a page has. A page with the same bytes as the first reading's is not hashed again. The
 /// memory is that of a page of each reading and one more, and four bytes or more for each row that is named.
@@ -148,9 +157,10 @@ pub fn merge_dumps<R: Read, T: PageTarget + Drop>(
 ) -> Result<Merged<T>, MergeFault>
     requires some { 0 < length readers.old }
     requires pieces { IfSome (T.pieces target) (λ ps. length ps ≡ row_count geometry.now) }
-    ensures ok { IfOk result (λ told. (files : List (List ℕ)) → Tell (map R.remaining readers.old) files → IsMerged geometry.now files told.conflicts.items told.tally (T.pieces told.target)) }
+    ensures ok { IfOk result (λ told. (files : List (List ℕ)) → Tell (map R.remaining readers.old) files → IsMerged geometry.now files told.conflicts.items told.unsound.items told.tally (T.pieces told.target)) }
     // Whatever the readers give.
-    ensures own { IfOk result (λ told. IsOwnMerge geometry.now told.conflicts.items (T.pieces told.target)) }
+    ensures own { IfOk result (λ told. IsOwnMerge geometry.now told.conflicts.items told.unsound.items (T.pieces told.target)) }
+    ensures reading { IfErr result (IsOfReading (length readers.old)) }
     ensures err { IfErr result (λ fault. (files : List (List ℕ)) → Tell (map R.remaining readers.old) files → IsUnmerged geometry.now files fault) }
 {
     let size = geometry.data_bytes() + geometry.spare_bytes();
@@ -160,7 +170,9 @@ pub fn merge_dumps<R: Read, T: PageTarget + Drop>(
     let mut pages = vec![in alloc; 0; all]?;
     let mut merging = Merging {
         conflicts: Vec::new(alloc),
+        unsound: Vec::new(alloc),
         tally: Tally {
+            sound: 0,
             majority: 0,
             erased: 0,
             unsound: 0,
@@ -172,6 +184,7 @@ pub fn merge_dumps<R: Read, T: PageTarget + Drop>(
     expect_ends(readers)?;
     Ok(Merged {
         conflicts: merging.conflicts,
+        unsound: merging.unsound,
         tally: merging.tally,
         target: merging.target,
     })

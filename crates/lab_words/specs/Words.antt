@@ -1,14 +1,17 @@
 -- The words of the command line, as `clap` reads them.
-use Rattle.std.specs.Prelude.{◌≡◌, ◌≢◌, ◌⊎◌, ℕ, zero, suc, Bool, true, false, List, [], codes, Option, Some, None, map, option_map}
+use Rattle.std.specs.Prelude.{◌≡◌, ◌≢◌, ◌⊎◌, ◌≤◌, ℕ, zero, suc, Bool, true, false, List, [], length, codes, Option, Some, None, map, option_map}
 use Rattle.std.specs.Borrow.{Bor}
-use Rattle.clap.specs.declared.builder.action.ArgAction.TheVariants.{Set, Count}
+use Rattle.clap.specs.declared.builder.action.ArgAction.TheVariants.{Append, Count, Set}
 use Rattle.clap.specs.declared.error.Error.{Error}
 use Rattle.clap.specs.declared.error.kind.ErrorKind.{ErrorKind}
 use Rattle.clap.specs.declared.error.kind.ErrorKind.TheVariants.{DisplayHelp, DisplayVersion, OutOfMemory}
-use Rattle.clap.specs.Words.{App, Row, Rule, first_of, count_of, fault_of, kind_of, new_app, new_rule, subcommand_of, with_rule, with_subcommand, IsAmong}
+use Rattle.clap.specs.Words.{App, Row, Rule, all_of, first_of, count_of, fault_of, kind_of, new_app, new_rule, subcommand_of, with_rule, with_subcommand, IsAmong}
 use Rattle.clap.specs.Simple.{on_top}
 use Rattle.lab_words.specs.declared.words.ArrayWords.{ArrayWords}
 use Rattle.lab_words.specs.declared.words.CompareWords.{CompareWords}
+use Rattle.lab_words.specs.declared.words.GeometryWords.{GeometryWords}
+use Rattle.lab_words.specs.declared.words.MergeWords.{MergeWords}
+use Rattle.lab_words.specs.declared.words.RepairWords.{RepairWords}
 use Rattle.lab_words.specs.declared.words.SurveyWords.{SurveyWords}
 use Rattle.lab_words.specs.declared.words.Asked.{Asked}
 use Rattle.lab_words.specs.declared.words.Asked.TheVariants as asked
@@ -22,11 +25,25 @@ texts words = map (λ word. word.now) words
 abbrev pub place : List ℕ → Rule
 place id = record (new_rule id) { action = Some Set; required = true }
 
+-- a place with more of its kind behind it
+abbrev pub places : List ℕ → Rule
+places id = record (new_rule id) { action = Some Append; required = true }
+
 abbrev pub force : Rule
 force = record (new_rule (codes "force")) { action = Some Count; long = Some (codes "force") }
 
+abbrev pub map_file : Rule
+map_file = record (new_rule (codes "map")) { action = Some Set; long = Some (codes "map"); value_names = 1 }
+
+abbrev pub geometry : App
+geometry = with_rule (new_app (codes "geometry")) (place (codes "DUMP"))
+
+-- but for the word of the map
+abbrev pub array_plain : App
+array_plain = with_rule (with_rule (with_rule (with_rule (new_app (codes "array")) (place (codes "GEOM"))) (place (codes "DUMP"))) (place (codes "OUT"))) force
+
 abbrev pub array : App
-array = with_rule (with_rule (with_rule (with_rule (new_app (codes "array")) (place (codes "GEOM"))) (place (codes "DUMP"))) (place (codes "OUT"))) force
+array = with_rule array_plain map_file
 
 abbrev pub survey : App
 survey = with_rule (with_rule (new_app (codes "survey")) (place (codes "GEOM"))) (place (codes "DUMP"))
@@ -34,18 +51,33 @@ survey = with_rule (with_rule (new_app (codes "survey")) (place (codes "GEOM")))
 abbrev pub compare : App
 compare = with_rule (with_rule (with_rule (new_app (codes "compare")) (place (codes "GEOM"))) (place (codes "CERT"))) (place (codes "DUMP"))
 
+abbrev pub merge : App
+merge = with_rule (with_rule (with_rule (with_rule (new_app (codes "merge")) (place (codes "GEOM"))) (place (codes "OUT"))) (places (codes "DUMP"))) force
+
+abbrev pub repair : App
+repair = with_rule (with_rule (with_rule (with_rule (new_app (codes "repair")) (place (codes "GEOM"))) (place (codes "DUMP"))) (place (codes "OUT"))) force
+
 abbrev pub program : App
 program = on_top (λ s. record s { has_version = true; disable_help_subcommand = true; subcommand_required = true }) (new_app (codes "nandlab"))
 
-abbrev pub with_array : App
-with_array = with_subcommand program array.top
+abbrev pub with_geometry : App
+with_geometry = with_subcommand program geometry.top
 
 abbrev pub with_survey : App
-with_survey = with_subcommand with_array survey.top
+with_survey = with_subcommand with_geometry survey.top
+
+abbrev pub with_array : App
+with_array = with_subcommand with_survey array.top
+
+abbrev pub with_compare : App
+with_compare = with_subcommand with_array compare.top
+
+abbrev pub with_merge : App
+with_merge = with_subcommand with_compare merge.top
 
 -- the commands that the program has
 abbrev pub grammar : App
-grammar = with_subcommand with_survey compare.top
+grammar = with_subcommand with_merge repair.top
 
 -- ---- what the words ask for
 
@@ -55,12 +87,17 @@ once zero = Some false
 once (suc zero) = Some true
 once (suc (suc n)) = None
 
+-- the entry of the words of `geometry` is this
+pub record IsGeometryAt (rows : List Row) (read : GeometryWords) : Type 0 where
+  pub dump_is : first_of (codes "DUMP") rows ≡ Some read.dump.now
+
 -- the entries of the words of `array` are these
 pub record IsArrayAt (rows : List Row) (read : ArrayWords) : Type 0 where
   pub geometry_is : first_of (codes "GEOM") rows ≡ Some read.geometry.now
   pub dump_is : first_of (codes "DUMP") rows ≡ Some read.dump.now
   pub out_is : first_of (codes "OUT") rows ≡ Some read.out.now
   pub forced : once (count_of (codes "force") rows) ≡ Some read.force
+  pub map_is : first_of (codes "map") rows ≡ option_map (λ word. word.now) read.map
 
 -- those of the words of `survey` are these
 pub record IsSurveyAt (rows : List Row) (read : SurveyWords) : Type 0 where
@@ -73,11 +110,33 @@ pub record IsCompareAt (rows : List Row) (read : CompareWords) : Type 0 where
   pub certificate_is : first_of (codes "CERT") rows ≡ Some read.certificate.now
   pub dump_is : first_of (codes "DUMP") rows ≡ Some read.dump.now
 
+-- the dumps of the words of `merge` are these, two or more
+pub record AreDumpsAt (rows : List Row) (dumps : List (Bor (List ℕ))) : Type 0 where
+  pub dumps_are : all_of (codes "DUMP") rows ≡ Some (texts dumps)
+  pub enough : 2 ≤ length dumps
+
+-- those of the words of `merge` are these
+pub record IsMergeAt (rows : List Row) (read : MergeWords) : Type 0 where
+  pub geometry_is : first_of (codes "GEOM") rows ≡ Some read.geometry.now
+  pub out_is : first_of (codes "OUT") rows ≡ Some read.out.now
+  pub dumps : AreDumpsAt rows read.dumps.items
+  pub forced : once (count_of (codes "force") rows) ≡ Some read.force
+
+-- those of the words of `repair` are these
+pub record IsRepairAt (rows : List Row) (read : RepairWords) : Type 0 where
+  pub geometry_is : first_of (codes "GEOM") rows ≡ Some read.geometry.now
+  pub dump_is : first_of (codes "DUMP") rows ≡ Some read.dump.now
+  pub out_is : first_of (codes "OUT") rows ≡ Some read.out.now
+  pub forced : once (count_of (codes "force") rows) ≡ Some read.force
+
 -- the command of this name with these entries asks for that
 abbrev pub IsAt : List ℕ → List Row → Asked → Type 0
+IsAt name rows (asked.Geometry read) = (name ≡ codes "geometry") × IsGeometryAt rows read
 IsAt name rows (asked.Array read) = (name ≡ codes "array") × IsArrayAt rows read
 IsAt name rows (asked.Survey read) = (name ≡ codes "survey") × IsSurveyAt rows read
 IsAt name rows (asked.Compare read) = (name ≡ codes "compare") × IsCompareAt rows read
+IsAt name rows (asked.Merge read) = (name ≡ codes "merge") × IsMergeAt rows read
+IsAt name rows (asked.Repair read) = (name ≡ codes "repair") × IsRepairAt rows read
 IsAt name rows (asked.Text text) = ⊥
 
 -- the command that was met asks for that
@@ -98,9 +157,12 @@ NamesCommand words found = (fault_of grammar words ≡ []) × IsCommandOf (subco
 
 -- Of the words as `clap` reads them: they name a command, with these words, or they ask for help or for the version.
 abbrev pub IsAsked : List (List ℕ) → Asked → Type 0
+IsAsked words (asked.Geometry read) = NamesCommand words (asked.Geometry read)
 IsAsked words (asked.Array read) = NamesCommand words (asked.Array read)
 IsAsked words (asked.Survey read) = NamesCommand words (asked.Survey read)
 IsAsked words (asked.Compare read) = NamesCommand words (asked.Compare read)
+IsAsked words (asked.Merge read) = NamesCommand words (asked.Merge read)
+IsAsked words (asked.Repair read) = NamesCommand words (asked.Repair read)
 IsAsked words (asked.Text text) = IsAmong DisplayHelp (fault_of grammar words) ⊎ IsAmong DisplayVersion (fault_of grammar words)
 
 -- ---- what is no command

@@ -3,4 +3,7 @@
 
 mod words;
 
-pub use words::{ArrayWords, Asked, CompareWords, SurveyWords, WordsFault, parse};
+pub use words::{
+    ArrayWords, Asked, CompareWords, GeometryWords, MergeWords, RepairWords, SurveyWords,
+    WordsFault, parse,
+};

@@ -1,25 +1,37 @@
 //! The words of the command line: one level of subcommands, with help and a version.
-ghost use Rattle.std.specs.Prelude.{◌≡◌, ◌≢◌, ◌↔◌, ◌<◌, [], List, ℕ, IfOk, IfSome, IfErr, OnOk, Some, None, Err, codes, false, option_map, IsTrue};
+ghost use Rattle.std.specs.Prelude.{◌≡◌, ◌≢◌, ◌↔◌, ◌<◌, ◌++◌, [], List, ℕ, IfOk, IfSome, IfErr, OnOk, Ok, Some, None, Err, codes, false, option_map, IsTrue};
+ghost use Rattle.std.specs.Borrow.{Bor};
 ghost use Rattle.clap.specs.declared.builder.command.Command.{out-Command};
 ghost use Rattle.clap.specs.Words.{app_of, first_of, found_of, rows_of, rule_of, fault_of, subcommand_of, subcommand_rows_of, count_of};
 ghost use Rattle.lab_words.specs.declared.words.ArrayWords.{ArrayWords};
 ghost use Rattle.lab_words.specs.declared.words.CompareWords.{CompareWords};
+ghost use Rattle.lab_words.specs.declared.words.GeometryWords.{GeometryWords};
+ghost use Rattle.lab_words.specs.declared.words.MergeWords.{MergeWords};
+ghost use Rattle.lab_words.specs.declared.words.RepairWords.{RepairWords};
 ghost use Rattle.lab_words.specs.declared.words.SurveyWords.{SurveyWords};
 ghost use Rattle.lab_words.specs.declared.words.Asked.{Asked};
-ghost use Rattle.lab_words.specs.Words.{IsArrayAt, IsAsked, IsAt, IsCommandOf, IsCompareAt, IsNoCommand, IsOtherKind, IsSurveyAt, IsTextFor, texts};
+ghost use Rattle.lab_words.specs.Words.{AreDumpsAt, IsArrayAt, IsAsked, IsAt, IsCommandOf, IsCompareAt, IsGeometryAt, IsMergeAt, IsNoCommand, IsOtherKind, IsRepairAt, IsSurveyAt, IsTextFor, texts};
 
 use clap::error::ErrorKind;
 use clap::{Arg, ArgAction, ArgMatches, Command, Error};
 use std::alloc::{AllocError, Global};
 
-/// The words of `array GEOM DUMP OUT`.
+/// The words of `geometry DUMP`.
+#[derive(Clone, Copy)]
+pub struct GeometryWords<'a> {
+    pub dump: &'a str,
+}
+
+/// The words of `array GEOM DUMP OUT [--map FILE]`.
 #[derive(Clone, Copy)]
 pub struct ArrayWords<'a> {
     pub geometry: &'a str,
     pub dump: &'a str,
     pub out: &'a str,
-    /// Whether a file OUT may be replaced.
+    /// Whether files that are there may be replaced.
     pub force: bool,
+    /// FILE, where the map of the array is wanted.
+    pub map: Option<&'a str>,
 }
 
 /// The words of `survey GEOM DUMP`.
@@ -37,15 +49,42 @@ pub struct CompareWords<'a> {
     pub dump: &'a str,
 }
 
+/// The words of `merge GEOM OUT DUMP DUMP..`.
+#[derive(Drop)]
+pub struct MergeWords<'a> {
+    pub geometry: &'a str,
+    pub out: &'a str,
+    /// The dumps, in their order: two or more.
+    pub dumps: Vec<&'a str>,
+    /// Whether a file OUT may be replaced.
+    pub force: bool,
+}
+
+/// The words of `repair GEOM DUMP OUT`.
+#[derive(Clone, Copy)]
+pub struct RepairWords<'a> {
+    pub geometry: &'a str,
+    pub dump: &'a str,
+    pub out: &'a str,
+    /// Whether a file OUT may be replaced.
+    pub force: bool,
+}
+
 /// What the words ask for.
 #[derive(Drop)]
 pub enum Asked<'a> {
+    /// Which geometries fit a dump.
+    Geometry(GeometryWords<'a>),
     /// The array of a dump.
     Array(ArrayWords<'a>),
     /// What a dump tells of its die.
     Survey(SurveyWords<'a>),
     /// Which sectors have lost a page since a certificate was made.
     Compare(CompareWords<'a>),
+    /// One dump of several readings of a die.
+    Merge(MergeWords<'a>),
+    /// A dump with its pages mended.
+    Repair(RepairWords<'a>),
     /// This text, of help or of the version.
     Text(String),
 }
@@ -81,6 +120,17 @@ fn place<'a>(alloc: Global, id: &'a str, help: &'a str) -> Arg<'a>
         .help(help)
 }
 
+// A word that a command wants, and that may be followed by more of its kind.
+fn places<'a>(alloc: Global, id: &'a str, help: &'a str) -> Arg<'a>
+    ensures rule { rule_of result ≡ Rattle.lab_words.specs.Words.places id.now }
+    ensures local { result.global ≡ false }
+{
+    Arg::new(alloc, id)
+        .required(true)
+        .action(ArgAction::Append)
+        .help(help)
+}
+
 // The word that lets a file be replaced.
 fn force<'a>(alloc: Global) -> Arg<'a>
     ensures rule { rule_of result ≡ Rattle.lab_words.specs.Words.force }
@@ -89,7 +139,19 @@ fn force<'a>(alloc: Global) -> Arg<'a>
     Arg::new(alloc, "force")
         .long("force")
         .action(ArgAction::Count)
-        .help("Replaces OUT where there is such a file")
+        .help("Replaces a file to be written that is there already")
+}
+
+// The word that has a map written.
+fn map_file<'a>(alloc: Global) -> Arg<'a>
+    ensures rule { rule_of result ≡ Rattle.lab_words.specs.Words.map_file }
+    ensures local { result.global ≡ false }
+{
+    Arg::new(alloc, "map")
+        .long("map")
+        .value_name("FILE")
+        .action(ArgAction::Set)
+        .help("Writes how each part of OUT stands to FILE, as the mapfile of GNU ddrescue")
 }
 
 // The word of a geometry.
@@ -116,9 +178,19 @@ fn dump_place<'a>(alloc: Global) -> Arg<'a>
     )
 }
 
-// The command `array`.
-fn array<'a>(alloc: Global) -> Result<Command<'a>, AllocError>
-    ensures app { IfOk result (λ command. app_of command ≡ Rattle.lab_words.specs.Words.array) }
+// The command `geometry`.
+fn geometry<'a>(alloc: Global) -> Result<Command<'a>, AllocError>
+    ensures app { IfOk result (λ command. app_of command ≡ Rattle.lab_words.specs.Words.geometry) }
+    ensures local { IfOk result (λ command. (out-Command command).has_globals ≡ false) }
+{
+    Command::new(alloc, "geometry")
+        .about("Tells which geometries fit a dump of unknown shape, best first")
+        .arg(dump_place(alloc))
+}
+
+// The command `array`, but for the word of the map.
+fn array_plain<'a>(alloc: Global) -> Result<Command<'a>, AllocError>
+    ensures app { IfOk result (λ command. app_of command ≡ Rattle.lab_words.specs.Words.array_plain) }
     ensures local { IfOk result (λ command. (out-Command command).has_globals ≡ false) }
 {
     Command::new(alloc, "array")
@@ -127,6 +199,14 @@ fn array<'a>(alloc: Global) -> Result<Command<'a>, AllocError>
         .arg(dump_place(alloc))?
         .arg(place(alloc, "OUT", "The disk image to be written"))?
         .arg(force(alloc))
+}
+
+// The command `array`.
+fn array<'a>(alloc: Global) -> Result<Command<'a>, AllocError>
+    ensures app { IfOk result (λ command. app_of command ≡ Rattle.lab_words.specs.Words.array) }
+    ensures local { IfOk result (λ command. (out-Command command).has_globals ≡ false) }
+{
+    array_plain(alloc)?.arg(map_file(alloc))
 }
 
 // The command `survey`.
@@ -156,6 +236,32 @@ fn compare<'a>(alloc: Global) -> Result<Command<'a>, AllocError>
         .arg(dump_place(alloc))
 }
 
+// The command `merge`.
+fn merge<'a>(alloc: Global) -> Result<Command<'a>, AllocError>
+    ensures app { IfOk result (λ command. app_of command ≡ Rattle.lab_words.specs.Words.merge) }
+    ensures local { IfOk result (λ command. (out-Command command).has_globals ≡ false) }
+{
+    Command::new(alloc, "merge")
+        .about("Writes one dump of two or more readings of a die")
+        .arg(geometry_place(alloc))?
+        .arg(place(alloc, "OUT", "The dump to be written"))?
+        .arg(places(alloc, "DUMP", "The readings, two or more"))?
+        .arg(force(alloc))
+}
+
+// The command `repair`.
+fn repair<'a>(alloc: Global) -> Result<Command<'a>, AllocError>
+    ensures app { IfOk result (λ command. app_of command ≡ Rattle.lab_words.specs.Words.repair) }
+    ensures local { IfOk result (λ command. (out-Command command).has_globals ≡ false) }
+{
+    Command::new(alloc, "repair")
+        .about("Writes a dump with each page mended that one bit turned makes sound")
+        .arg(geometry_place(alloc))?
+        .arg(dump_place(alloc))?
+        .arg(place(alloc, "OUT", "The dump to be written"))?
+        .arg(force(alloc))
+}
+
 // The program, with no command yet.
 fn program<'a>(alloc: Global) -> Command<'a>
     ensures { app_of result ≡ Rattle.lab_words.specs.Words.program }
@@ -167,25 +273,46 @@ fn program<'a>(alloc: Global) -> Command<'a>
         .subcommand_required(true)
 }
 
-// With the command `array`.
-fn with_array<'a>(alloc: Global) -> Result<Command<'a>, AllocError>
-    ensures { IfOk result (λ command. app_of command ≡ Rattle.lab_words.specs.Words.with_array) }
+// With the command `geometry`.
+fn with_geometry<'a>(alloc: Global) -> Result<Command<'a>, AllocError>
+    ensures { IfOk result (λ command. app_of command ≡ Rattle.lab_words.specs.Words.with_geometry) }
 {
-    program(alloc).subcommand(array(alloc)?)
+    program(alloc).subcommand(geometry(alloc)?)
 }
 
 // And `survey`.
 fn with_survey<'a>(alloc: Global) -> Result<Command<'a>, AllocError>
     ensures { IfOk result (λ command. app_of command ≡ Rattle.lab_words.specs.Words.with_survey) }
 {
-    with_array(alloc)?.subcommand(survey(alloc)?)
+    with_geometry(alloc)?.subcommand(survey(alloc)?)
+}
+
+// And `array`.
+fn with_array<'a>(alloc: Global) -> Result<Command<'a>, AllocError>
+    ensures { IfOk result (λ command. app_of command ≡ Rattle.lab_words.specs.Words.with_array) }
+{
+    with_survey(alloc)?.subcommand(array(alloc)?)
+}
+
+// And `compare`.
+fn with_compare<'a>(alloc: Global) -> Result<Command<'a>, AllocError>
+    ensures { IfOk result (λ command. app_of command ≡ Rattle.lab_words.specs.Words.with_compare) }
+{
+    with_array(alloc)?.subcommand(compare(alloc)?)
+}
+
+// And `merge`.
+fn with_merge<'a>(alloc: Global) -> Result<Command<'a>, AllocError>
+    ensures { IfOk result (λ command. app_of command ≡ Rattle.lab_words.specs.Words.with_merge) }
+{
+    with_compare(alloc)?.subcommand(merge(alloc)?)
 }
 
 // The commands that the program has.
 fn grammar<'a>(alloc: Global) -> Result<Command<'a>, AllocError>
     ensures { IfOk result (λ command. app_of command ≡ Rattle.lab_words.specs.Words.grammar) }
 {
-    with_survey(alloc)?.subcommand(compare(alloc)?)
+    with_merge(alloc)?.subcommand(repair(alloc)?)
 }
 
 // The text of help or of the version, where that was asked for.
@@ -211,6 +338,16 @@ fn once(count: u8) -> Option<bool>
     }
 }
 
+// The words of the command `geometry`, where its matches give them.
+fn geometry_words<'a>(found: &ArgMatches<'a>) -> Option<GeometryWords<'a>>
+    ensures some { IfSome result (IsGeometryAt (rows_of (found_of found.now))) }
+    ensures none { result ≡ None → (read : GeometryWords) → ¬ IsGeometryAt (rows_of (found_of found.now)) read }
+{
+    Some(GeometryWords {
+        dump: found.get_str("DUMP")?,
+    })
+}
+
 // The words of the command `array`, where its matches give them.
 fn array_words<'a>(found: &ArgMatches<'a>) -> Option<ArrayWords<'a>>
     ensures some { IfSome result (IsArrayAt (rows_of (found_of found.now))) }
@@ -221,6 +358,7 @@ fn array_words<'a>(found: &ArgMatches<'a>) -> Option<ArrayWords<'a>>
         dump: found.get_str("DUMP")?,
         out: found.get_str("OUT")?,
         force: once(found.get_count("force"))?,
+        map: found.get_str("map"),
     })
 }
 
@@ -247,26 +385,111 @@ fn compare_words<'a>(found: &ArgMatches<'a>) -> Option<CompareWords<'a>>
     })
 }
 
-// What the command of this name asks for, with these matches.
-fn asked_at<'a>(name: &str, found: &ArgMatches<'a>) -> Option<Asked<'a>>
+// The words of the command `repair`, where its matches give them.
+fn repair_words<'a>(found: &ArgMatches<'a>) -> Option<RepairWords<'a>>
+    ensures some { IfSome result (IsRepairAt (rows_of (found_of found.now))) }
+    ensures none { result ≡ None → (read : RepairWords) → ¬ IsRepairAt (rows_of (found_of found.now)) read }
+{
+    Some(RepairWords {
+        geometry: found.get_str("GEOM")?,
+        dump: found.get_str("DUMP")?,
+        out: found.get_str("OUT")?,
+        force: once(found.get_count("force"))?,
+    })
+}
+
+// The dumps of the command `merge`, where there are two or more.
+fn dump_words<'b, 'a>(found: &'b ArgMatches<'a>) -> Option<&'b [&'a str]>
+    ensures some { IfSome result (λ dumps. AreDumpsAt (rows_of (found_of found.now)) dumps.now) }
+    ensures none { result ≡ None → (dumps : List (Bor (List ℕ))) → ¬ AreDumpsAt (rows_of (found_of found.now)) dumps }
+{
+    let dumps = found.get_strs("DUMP")?;
+    if dumps.len() < 2 { None } else { Some(dumps) }
+}
+
+// The words of the command `merge`, where its matches give them: these dumps, and the others.
+fn merge_others<'a>(found: &ArgMatches<'a>, dumps: Vec<&'a str>) -> Option<MergeWords<'a>>
+    requires { AreDumpsAt (rows_of (found_of found.now)) dumps.items }
+    ensures some { IfSome result (IsMergeAt (rows_of (found_of found.now))) }
+    ensures none { result ≡ None → (read : MergeWords) → ¬ IsMergeAt (rows_of (found_of found.now)) read }
+{
+    Some(MergeWords {
+        geometry: found.get_str("GEOM")?,
+        out: found.get_str("OUT")?,
+        force: once(found.get_count("force"))?,
+        dumps,
+    })
+}
+
+// The same with the dumps.
+fn merge_words<'a>(
+    alloc: Global,
+    found: &ArgMatches<'a>,
+) -> Result<Option<MergeWords<'a>>, AllocError>
+    ensures some { IfOk result (λ read. IfSome read (IsMergeAt (rows_of (found_of found.now)))) }
+    ensures none { result ≡ Ok None → (read : MergeWords) → ¬ IsMergeAt (rows_of (found_of found.now)) read }
+{
+    let Some(dumps) = dump_words(found) else {
+        return Ok(None);
+    };
+    let mut kept = Vec::new(alloc);
+    kept.extend_from_slice(dumps)?;
+    Ok(merge_others(found, kept))
+}
+
+// What the command `merge` asks for, with these matches.
+fn merge_asked<'a>(alloc: Global, found: &ArgMatches<'a>) -> Result<Option<Asked<'a>>, AllocError>
+    ensures some { IfOk result (λ read. IfSome read (IsAt (codes "merge") (rows_of (found_of found.now)))) }
+    ensures none { result ≡ Ok None → (asked : Asked) → ¬ IsAt (codes "merge") (rows_of (found_of found.now)) asked }
+{
+    match merge_words(alloc, found)? {
+        Some(read) => Ok(Some(Asked::Merge(read))),
+        None => Ok(None),
+    }
+}
+
+// What the command of this name asks for, with these matches, but for `merge`.
+fn other_asked<'a>(name: &str, found: &ArgMatches<'a>) -> Option<Asked<'a>>
     ensures some { IfSome result (IsAt name.now (rows_of (found_of found.now))) }
-    ensures none { result ≡ None → (asked : Asked) → ¬ IsAt name.now (rows_of (found_of found.now)) asked }
+    ensures none { result ≡ None → name.now ≢ codes "merge" → (asked : Asked) → ¬ IsAt name.now (rows_of (found_of found.now)) asked }
 {
     match name {
+        "geometry" => Some(Asked::Geometry(geometry_words(found)?)),
         "array" => Some(Asked::Array(array_words(found)?)),
         "survey" => Some(Asked::Survey(survey_words(found)?)),
         "compare" => Some(Asked::Compare(compare_words(found)?)),
+        "repair" => Some(Asked::Repair(repair_words(found)?)),
         _ => None,
     }
 }
 
-// What the command asks for that was met.
-fn command_asked<'a>(matches: &ArgMatches<'a>) -> Option<Asked<'a>>
-    ensures some { IfSome result (IsCommandOf (subcommand_rows_of matches.now)) }
-    ensures none { result ≡ None → (asked : Asked) → ¬ IsCommandOf (subcommand_rows_of matches.now) asked }
+// What the command of this name asks for, with these matches.
+fn asked_at<'a>(
+    alloc: Global,
+    name: &str,
+    found: &ArgMatches<'a>,
+) -> Result<Option<Asked<'a>>, AllocError>
+    ensures some { IfOk result (λ asked. IfSome asked (IsAt name.now (rows_of (found_of found.now)))) }
+    ensures none { result ≡ Ok None → (asked : Asked) → ¬ IsAt name.now (rows_of (found_of found.now)) asked }
 {
-    let (name, found) = matches.subcommand()?;
-    asked_at(name, found)
+    match name {
+        "merge" => merge_asked(alloc, found),
+        _ => Ok(other_asked(name, found)),
+    }
+}
+
+// What the command asks for that was met.
+fn command_asked<'a>(
+    alloc: Global,
+    matches: &ArgMatches<'a>,
+) -> Result<Option<Asked<'a>>, AllocError>
+    ensures some { IfOk result (λ asked. IfSome asked (IsCommandOf (subcommand_rows_of matches.now))) }
+    ensures none { result ≡ Ok None → (asked : Asked) → ¬ IsCommandOf (subcommand_rows_of matches.now) asked }
+{
+    match matches.subcommand() {
+        Some((name, found)) => asked_at(alloc, name, found),
+        None => Ok(None),
+    }
 }
 
 /// What the words ask for, of which the first is the program's name: as `clap` reads them. `--force` stands once at most.
@@ -280,7 +503,7 @@ pub fn parse<'a>(alloc: Global, words: &'a [&'a str]) -> Result<Asked<'a>, Words
     ensures none { result ≡ Err WordsFault.NoSuchCommand → IsNoCommand (texts words.now) }
 {
     match grammar(alloc)?.try_get_matches_from(words) {
-        Ok(matches) => match command_asked(&matches) {
+        Ok(matches) => match command_asked(alloc, &matches)? {
             Some(asked) => Ok(asked),
             None => Err(WordsFault::NoSuchCommand),
         },

@@ -1,8 +1,10 @@
 //! The files of the system.
 use lab_array::{Target, TargetFault};
 use lab_commands::{FileFault, LabFiles};
+use lab_geometry::{Dump, DumpFault};
+use lab_scan::{PageFault, PageTarget};
 use std::fs::{self, File, OpenFile};
-use std::io::{self, BufReader, Error, ErrorKind, Seek, SeekFrom, Write};
+use std::io::{self, BufReader, Error, ErrorKind, Read, Seek, SeekFrom, Write};
 use std::rt::Files;
 
 // How many names beside a file are tried: a run that was killed may have left some.
@@ -19,11 +21,17 @@ pub struct SystemFiles<'a, R> {
     made: Option<String>,
 }
 
-/// A file of sectors of the system.
+/// A file of the system that is read at whatever place.
 #[derive(Drop)]
-pub struct SectorFile<F> {
+pub struct DumpFile<F> {
     file: F,
-    // the bytes of a sector
+}
+
+/// A file of sectors or pages of the system, that is being written.
+#[derive(Drop)]
+pub struct PieceFile<F> {
+    file: F,
+    // the bytes of a sector or a page
     size: u32,
 }
 
@@ -31,6 +39,31 @@ impl<'a, R: Files + AllocGlobal> SystemFiles<'a, R> {
     /// The files that the program's handle `rt` reaches. Nothing is opened.
     pub fn new(rt: &'a R) -> SystemFiles<'a, R> {
         SystemFiles { rt, made: None }
+    }
+
+    // A file beside a path, of so many pieces of so many zeros.
+    fn create_pieces(
+        &mut self,
+        path: &str,
+        count: u32,
+        size: usize,
+    ) -> Result<PieceFile<R::File>, FileFault> {
+        let Ok(size) = u32::try_from(size) else {
+            return Err(FileFault::Failed);
+        };
+        let all = u64::from(count) * u64::from(size);
+        let (file, name) = new_zeros(self.rt, path, all).map_err(fault_of)?;
+        self.made = Some(name);
+        Ok(PieceFile { file, size })
+    }
+
+    // Has the file beside a path stored, and renames it.
+    fn keep_pieces(&mut self, path: &str, file: &R::File) -> Result<(), FileFault> {
+        file.sync_all().map_err(fault_of)?;
+        match &self.made {
+            Some(made) => fs::rename(self.rt, made.as_str(), path).map_err(fault_of),
+            None => Err(FileFault::Failed),
+        }
     }
 }
 
@@ -72,28 +105,81 @@ fn new_zeros<R: Files + AllocGlobal>(
     }
 }
 
-impl<F: Seek + Write> SectorFile<F> {
-    // Writes the bytes of a sector.
-    fn write_piece(&mut self, number: u32, bytes: &[u8]) -> Result<(), TargetFault> {
-        let at = u64::from(number) * u64::from(self.size);
+// Writes a new file, has it stored, and renames it.
+fn put_new<R: Files + AllocGlobal>(
+    rt: &R,
+    file: &mut R::File,
+    name: &str,
+    path: &str,
+    bytes: &[u8],
+) -> io::Result<()> {
+    file.write_all(bytes)?;
+    file.sync_all()?;
+    fs::rename(rt, name, path)
+}
+
+// The path that a path leads to: of one that no file has, that of its folder, and its name.
+fn real_path<R: Files + AllocGlobal>(rt: &R, path: &str) -> io::Result<String> {
+    match fs::canonicalize(rt, path) {
+        Ok(found) => Ok(format!(in rt.alloc(); "{}", found.as_str())?),
+        Err(error) if error.kind() == ErrorKind::NotFound => {
+            let (folder, name) = path.rsplit_once('/').unwrap_or((".", path));
+            let folder = fs::canonicalize(rt, if folder.is_empty() { "/" } else { folder })?;
+            Ok(format!(in rt.alloc(); "{}/{name}", folder.as_str())?)
+        }
+        Err(error) => Err(error),
+    }
+}
+
+impl<F: Read + Seek> Dump for DumpFile<F> {
+    ghost use Rattle.std.specs.Prelude.{None, true};
+
+    ghost bytes = { λ _. None };
+
+    ghost failed = { λ _. true };
+
+    fn size(&mut self) -> Result<u64, DumpFault> {
+        self.file.seek(SeekFrom::End(0)).map_err(|_| DumpFault)
+    }
+
+    fn read_at(&mut self, at: u64, buffer: &mut [u8]) -> Result<(), DumpFault> {
         match self.file.seek(SeekFrom::Start(at)) {
-            Ok(_) => self.file.write_all(bytes).map_err(|_| TargetFault),
-            Err(_) => Err(TargetFault),
+            Ok(_) => self.file.read_exact(buffer).map_err(|_| DumpFault),
+            Err(_) => Err(DumpFault),
         }
     }
 }
 
-impl<F: Seek + Write> Target for SectorFile<F> {
+impl<F: Seek + Write> PieceFile<F> {
+    // Writes the bytes of a piece.
+    fn write_piece(&mut self, number: u32, bytes: &[u8]) -> io::Result<()> {
+        let at = u64::from(number) * u64::from(self.size);
+        self.file.seek(SeekFrom::Start(at))?;
+        self.file.write_all(bytes)
+    }
+}
+
+impl<F: Seek + Write> Target for PieceFile<F> {
     ghost use Rattle.std.specs.Prelude.{None};
 
     ghost pieces = { λ _. None };
 
     fn put(&mut self, number: u32, body: &[u8], _spare: &[u8]) -> Result<(), TargetFault> {
-        self.write_piece(number, body)
+        self.write_piece(number, body).map_err(|_| TargetFault)
     }
 
     fn blank(&mut self, number: u32, zeros: &[u8]) -> Result<(), TargetFault> {
-        self.write_piece(number, zeros)
+        self.write_piece(number, zeros).map_err(|_| TargetFault)
+    }
+}
+
+impl<F: Seek + Write> PageTarget for PieceFile<F> {
+    ghost use Rattle.std.specs.Prelude.{None};
+
+    ghost pieces = { λ _. None };
+
+    fn put(&mut self, row: u32, bytes: &[u8]) -> Result<(), PageFault> {
+        self.write_piece(row, bytes).map_err(|_| PageFault)
     }
 }
 
@@ -103,7 +189,11 @@ impl<R: Files + AllocGlobal> LabFiles for SystemFiles<'_, R> {
 
     type Reader = BufReader<R::File>;
 
-    type Target = SectorFile<R::File>;
+    type Dump = DumpFile<R::File>;
+
+    type Target = PieceFile<R::File>;
+
+    type Pages = PieceFile<R::File>;
 
     ghost answers = { λ _. unknown };
 
@@ -118,10 +208,10 @@ impl<R: Files + AllocGlobal> LabFiles for SystemFiles<'_, R> {
     }
 
     fn is_same(&mut self, first: &str, second: &str) -> Result<bool, FileFault> {
-        let first = fs::canonicalize(self.rt, first).map_err(fault_of)?;
-        match fs::canonicalize(self.rt, second) {
+        let first = real_path(self.rt, first).map_err(fault_of)?;
+        match real_path(self.rt, second) {
             Ok(second) => Ok(first.as_str() == second.as_str()),
-            // a link that leads nowhere
+            // in a folder that is not there
             Err(error) if error.kind() == ErrorKind::NotFound => Ok(false),
             Err(error) => Err(fault_of(error)),
         }
@@ -132,27 +222,43 @@ impl<R: Files + AllocGlobal> LabFiles for SystemFiles<'_, R> {
         BufReader::with_capacity(self.rt.alloc(), READ_AHEAD, file).map_err(fault_of)
     }
 
+    fn open_dump(&mut self, path: &str) -> Result<DumpFile<R::File>, FileFault> {
+        let file = fs::open(self.rt, path).map_err(fault_of)?;
+        Ok(DumpFile { file })
+    }
+
     fn create(
         &mut self,
         path: &str,
         count: u32,
         size: usize,
-    ) -> Result<SectorFile<R::File>, FileFault> {
-        let Ok(size) = u32::try_from(size) else {
-            return Err(FileFault::Failed);
-        };
-        let all = u64::from(count) * u64::from(size);
-        let (file, name) = new_zeros(self.rt, path, all).map_err(fault_of)?;
-        self.made = Some(name);
-        Ok(SectorFile { file, size })
+    ) -> Result<PieceFile<R::File>, FileFault> {
+        self.create_pieces(path, count, size)
     }
 
-    fn keep(&mut self, path: &str, target: SectorFile<R::File>) -> Result<(), FileFault> {
-        target.file.sync_all().map_err(fault_of)?;
-        match &self.made {
-            Some(made) => fs::rename(self.rt, made.as_str(), path).map_err(fault_of),
-            None => Err(FileFault::Failed),
-        }
+    fn keep(&mut self, path: &str, target: PieceFile<R::File>) -> Result<(), FileFault> {
+        self.keep_pieces(path, &target.file)
+    }
+
+    fn create_pages(
+        &mut self,
+        path: &str,
+        count: u32,
+        size: usize,
+    ) -> Result<PieceFile<R::File>, FileFault> {
+        self.create_pieces(path, count, size)
+    }
+
+    fn keep_pages(&mut self, path: &str, target: PieceFile<R::File>) -> Result<(), FileFault> {
+        self.keep_pieces(path, &target.file)
+    }
+
+    fn store(&mut self, path: &str, bytes: &[u8]) -> Result<(), FileFault> {
+        let (mut file, name) = new_beside(self.rt, path).map_err(fault_of)?;
+        put_new(self.rt, &mut file, name.as_str(), path, bytes).map_err(|error| {
+            let _ = fs::remove_file(self.rt, name.as_str());
+            fault_of(error)
+        })
     }
 
     fn discard(&mut self, _path: &str) {

@@ -189,3 +189,68 @@ const CASES: [Case; 8] = [
 fn array_writes_what_the_dump_holds(rt: HostRuntime) -> Result<(), Fail> {
     expect_cases(&rt, rt.alloc(), &CASES)
 }
+
+const MAPPED: &str = "nandlab array 64,32,8,32,32 dump.bin out.bin --map map";
+
+// The map beside OUT: what it holds, and each refusal of its path.
+const MAPS: [Step; 15] = [
+    Step::Run(MAPPED, 0, SURE),
+    Step::Holds("out.bin", SHOWN),
+    Step::Holds("map", Made::Text(MAP)),
+    Step::Run(
+        "nandlab array 64,32,8,32,32 dump.bin new.bin --map map",
+        1,
+        "refused map 3 Exists\n",
+    ),
+    Step::Run(
+        "nandlab array 64,32,8,32,32 dump.bin new.bin --map ./new.bin",
+        1,
+        "refused map 1 IsOut\n",
+    ),
+    Step::Run(
+        "nandlab array 64,32,8,32,32 dump.bin new.bin --map dump.bin --force",
+        1,
+        "refused map 2 IsDump\n",
+    ),
+    Step::Lacks("new.bin"),
+    Step::Run(
+        "nandlab array 64,32,8,32,32 dump.bin new.bin --map map --force",
+        0,
+        SURE,
+    ),
+    // two files are put in their places before standard output fails
+    Step::Closed(
+        "nandlab array 64,32,8,32,32 dump.bin new.bin --map map --force",
+        2,
+    ),
+    // OUT is put in its place before the map is
+    Step::Trouble(Trouble::Unstored),
+    Step::Half(
+        "nandlab array 64,32,8,32,32 dump.bin other.bin --map none",
+        3,
+        "fault write none\n",
+    ),
+    Step::Holds("other.bin", SHOWN),
+    Step::Lacks("none"),
+    Step::Trouble(Trouble::Unasked),
+    Step::Run(
+        "nandlab array 64,32,8,32,32 dump.bin last.bin --map none",
+        3,
+        "fault write last.bin\n",
+    ),
+];
+
+// Sector 4 has a page, a trim.
+const MAP: &str =
+    "# Mapfile of an array, made by nandlab\n0x0 + 1\n0x0 0xc0 ?\n0xc0 0x80 +\n0x140 0x680 ?\n0x7c0 0x40 +\n";
+
+const MAP_CASES: [Case; 1] = [Case {
+    name: "maps",
+    files: &[("dump.bin", Made::Dump(&PAGES))],
+    steps: &MAPS,
+}];
+
+#[test]
+fn array_writes_its_map(rt: HostRuntime) -> Result<(), Fail> {
+    expect_cases(&rt, rt.alloc(), &MAP_CASES)
+}

@@ -1,6 +1,8 @@
 //! Files in memory, whose reads and writes can fail.
 use lab_array::{Target, TargetFault};
 use lab_commands::{FileFault, LabFiles};
+use lab_geometry::{Dump, DumpFault};
+use lab_scan::{PageFault, PageTarget};
 use std::alloc::{AllocError, Global};
 use std::io::{self, ErrorKind, Read, Write};
 
@@ -23,6 +25,8 @@ pub enum Trouble {
     WritesEnd(u32),
     /// No file that was made can be put in its place.
     Unkept,
+    /// No map can be stored.
+    Unstored,
     /// No memory is found for a reader.
     NoMemory,
     /// No memory is found for a file that is to be made.
@@ -59,6 +63,39 @@ impl Read for MemoryReader {
         buf[..n].copy_from_slice(&left[..n]);
         self.at = self.at.saturating_add(n);
         Ok(n)
+    }
+}
+
+/// A dump that is read at whatever place, and fails past its last byte.
+#[derive(Drop)]
+pub struct MemoryDump {
+    bytes: Vec<u8>,
+    // how many bytes it says that it has
+    size: u64,
+}
+
+impl Dump for MemoryDump {
+    ghost use Rattle.std.specs.Prelude.{None, true};
+
+    ghost bytes = { λ _. None };
+
+    ghost failed = { λ _. true };
+
+    fn size(&mut self) -> Result<u64, DumpFault> {
+        Ok(self.size)
+    }
+
+    fn read_at(&mut self, at: u64, buffer: &mut [u8]) -> Result<(), DumpFault> {
+        let Ok(at) = usize::try_from(at) else {
+            return Err(DumpFault);
+        };
+        match self.bytes.get(at..at.saturating_add(buffer.len())) {
+            Some(part) if part.len() == buffer.len() => {
+                buffer.copy_from_slice(part);
+                Ok(())
+            }
+            _ => Err(DumpFault),
+        }
     }
 }
 
@@ -106,6 +143,20 @@ impl Target for Beside {
             Ok(())
         } else {
             Err(TargetFault)
+        }
+    }
+}
+
+impl PageTarget for Beside {
+    ghost use Rattle.std.specs.Prelude.{None};
+
+    ghost pieces = { λ _. None };
+
+    fn put(&mut self, row: u32, bytes: &[u8]) -> Result<(), PageFault> {
+        if self.set(row, bytes) {
+            Ok(())
+        } else {
+            Err(PageFault)
         }
     }
 }
@@ -194,7 +245,11 @@ impl LabFiles for MemoryFiles {
 
     type Reader = MemoryReader;
 
+    type Dump = MemoryDump;
+
     type Target = Beside;
+
+    type Pages = Beside;
 
     ghost answers = { λ _. unknown };
 
@@ -237,6 +292,17 @@ impl LabFiles for MemoryFiles {
         }
     }
 
+    fn open_dump(&mut self, path: &str) -> Result<MemoryDump, FileFault> {
+        if self.trouble == Trouble::NoMemory {
+            return Err(FileFault::OutOfMemory);
+        }
+        let size = self.contents(path).map_or(0, |all| all.len() as u64);
+        match self.given(path) {
+            Ok(bytes) => Ok(MemoryDump { bytes, size }),
+            Err(fault) => Err(fault),
+        }
+    }
+
     fn create(&mut self, _path: &str, count: u32, size: usize) -> Result<Beside, FileFault> {
         match self.beside(count, size) {
             Ok(made) => Ok(made),
@@ -246,6 +312,33 @@ impl LabFiles for MemoryFiles {
 
     fn keep(&mut self, path: &str, target: Beside) -> Result<(), FileFault> {
         match self.keep_bytes(path, target.bytes) {
+            Ok(()) => Ok(()),
+            Err(fault) => Err(fault),
+        }
+    }
+
+    fn create_pages(&mut self, _path: &str, count: u32, size: usize) -> Result<Beside, FileFault> {
+        match self.beside(count, size) {
+            Ok(made) => Ok(made),
+            Err(fault) => Err(fault),
+        }
+    }
+
+    fn keep_pages(&mut self, path: &str, target: Beside) -> Result<(), FileFault> {
+        match self.keep_bytes(path, target.bytes) {
+            Ok(()) => Ok(()),
+            Err(fault) => Err(fault),
+        }
+    }
+
+    fn store(&mut self, path: &str, bytes: &[u8]) -> Result<(), FileFault> {
+        if self.trouble == Trouble::Unstored {
+            return Err(FileFault::Failed);
+        }
+        let Ok(copy) = Vec::from_slice(self.alloc, bytes) else {
+            return Err(FileFault::OutOfMemory);
+        };
+        match self.keep_bytes(path, copy) {
             Ok(()) => Ok(()),
             Err(fault) => Err(fault),
         }

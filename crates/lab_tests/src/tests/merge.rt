@@ -57,11 +57,13 @@ fn each_origin(rt: HostRuntime) -> Result<(), Fail> {
     let mut readers = [first.as_slice(), second.as_slice(), third.as_slice()];
     let told = merge_dumps(rt.alloc(), &mut readers, &geometry, target)?;
     let tally = Tally {
+        sound: 2,
         majority: 1,
         erased: 251,
         unsound: 1,
     };
     assert_eq!(rt; told.conflicts.as_slice(), [8u32].as_slice());
+    assert_eq!(rt; told.unsound.as_slice(), [21u32].as_slice());
     assert_eq!(rt; told.tally, tally);
     assert!(rt; told.target.bytes == want, "the pages");
     Ok(())

@@ -1,12 +1,15 @@
 use Rattle.std.proofs.Common.{inl, inr, map, List, refl, ap, subst, ◌∙◌}
 use Rattle.std.specs.Io.KnownBytes.{Appends}
+use Rattle.std.proofs.KnownBytes.{Keeps-refl}
 use Rattle.lab_array.specs.Held.{state_in}
 use Rattle.lab_array.specs.declared.held.Held.{Held}
-use Rattle.lab_commands.specs.Array.{IsArrayFault, IsMade, IsUnmade, PutArray}
+use Rattle.lab_map.specs.Map.{map_text}
+use Rattle.lab_commands.specs.Undone.{IsUnmade}
+use Rattle.lab_commands.specs.Array.{IsArrayFault, IsMade, MadeArray, PutArray, with_map}
 use Rattle.lab_commands.specs.Files.{AnswersNoMore, with_kept}
 use Rattle.lab_commands.specs.Report.{report_of}
-use Rattle.lab_commands.proofs.ArrayLemmas.{no_geometry, not_allowed, not_made}
-use Rattle.lab_commands.proofs.UndoneLemmas.{handed_on, unwritten_before}
+use Rattle.lab_commands.proofs.ArrayLemmas.{no_geometry, not_allowed, not_made, unmapped_before}
+use Rattle.lab_commands.proofs.UndoneLemmas.{handed_on, no_more_then, unwritten_before}
 use Rattle.lab_commands.proofs.array.array_command.Goals as goal
 
 pub returns-in_err-geometry-clause-fault : goal.returns-in_err-geometry-clause-fault
@@ -16,23 +19,23 @@ returns-in_err-geometry-clause-fault g c =
     let o = g.W.Write.contents c.args.out.now in
     handed_on (IsArrayFault a c.args.words k k o o) _ _ c.from_residual.ensures.1 (no_geometry a c.args.words k o _ c.in_err-geometry.ensures.fault)
 
-pub returns-in_err-allow-clause-fault : goal.returns-in_err-allow-clause-fault
-returns-in_err-allow-clause-fault g c =
+pub returns-in_err-allow_both-clause-fault : goal.returns-in_err-allow_both-clause-fault
+returns-in_err-allow_both-clause-fault g c =
     let a = g.F.LabFiles.answers c.args.files.now in
     let k = g.F.LabFiles.kept c.args.files.now in
     let o = g.W.Write.contents c.args.out.now in
-    handed_on (IsArrayFault a c.args.words k (g.F.LabFiles.kept c.allow.new.files) o o) _ _ c.from_residual-in_err-allow.ensures.1
-    (not_allowed a c.args.words c.in_ok-geometry.geometry k _ o _ c.in_ok-geometry.ensures.ok (ap g.F.LabFiles.kept c.in_err-allow.ensures.same) c.in_err-allow.ensures.fault)
+    handed_on (IsArrayFault a c.args.words k (g.F.LabFiles.kept c.allow_both.new.files) o o) _ _ c.from_residual-in_err-allow_both.ensures.1
+    (not_allowed a c.args.words c.in_ok-geometry.geometry k _ o _ c.in_ok-geometry.ensures.ok (ap g.F.LabFiles.kept c.in_err-allow_both.ensures.same) c.in_err-allow_both.ensures.fault)
 
 pub returns-in_err-written-clause-fault : goal.returns-in_err-written-clause-fault
 returns-in_err-written-clause-fault g c =
     let a = g.F.LabFiles.answers c.args.files.now in
     let k = g.F.LabFiles.kept c.args.files.now in
     let o = g.W.Write.contents c.args.out.now in
-    let same = c.in_ok-allow.ensures.same in
+    let same = c.in_ok-allow_both.ensures.same in
     handed_on (IsArrayFault a c.args.words k (g.F.LabFiles.kept c.make.new.files) o o) _ _ c.from_residual-in_err-written.ensures.1
-    (not_made a c.args.words c.in_ok-geometry.geometry k _ o _ c.in_ok-geometry.ensures.ok c.in_ok-allow.ensures.ok (c.in_err-written.ensures.kept ∙ ap g.F.LabFiles.kept same)
-    (subst (λ f. IsUnmade (g.F.LabFiles.answers f) c.args.words c.in_ok-geometry.geometry c.in_err-written.field-0.0) same c.in_err-written.ensures.fault))
+    (not_made a c.args.words c.in_ok-geometry.geometry k _ o _ c.in_ok-geometry.ensures.ok c.in_ok-allow_both.ensures.ok (c.in_err-written.ensures.kept ∙ ap g.F.LabFiles.kept same)
+    (subst (λ f. IsUnmade (g.F.LabFiles.answers f) c.in_ok-geometry.geometry c.args.words.dump.now c.args.words.out.now c.in_err-written.field-0.0) same c.in_err-written.ensures.fault))
 
 pub returns-in_err-keep-clause-fault : goal.returns-in_err-keep-clause-fault
 returns-in_err-keep-clause-fault g c =
@@ -40,16 +43,46 @@ returns-in_err-keep-clause-fault g c =
     let b = g.F.LabFiles.answers c.make.new.files in
     let k = g.F.LabFiles.kept c.args.files.now in
     let o = g.W.Write.contents c.args.out.now in
-    let same = c.in_ok-allow.ensures.same in
+    let same = c.in_ok-allow_both.ensures.same in
     let more : AnswersNoMore a b = subst (λ f. AnswersNoMore (g.F.LabFiles.answers f) b) same c.in_ok-written.ensures.no_more in
     handed_on (IsArrayFault a c.args.words k (g.F.LabFiles.kept c.keep.new.files) o o) _ _ c.from_residual-in_err-keep.ensures.1
-    (not_made a c.args.words c.in_ok-geometry.geometry k _ o _ c.in_ok-geometry.ensures.ok c.in_ok-allow.ensures.ok (c.in_err-keep.ensures.kept ∙ (c.in_ok-written.ensures.kept ∙ ap g.F.LabFiles.kept same))
+    (not_made a c.args.words c.in_ok-geometry.geometry k _ o _ c.in_ok-geometry.ensures.ok c.in_ok-allow_both.ensures.ok (c.in_err-keep.ensures.kept ∙ (c.in_ok-written.ensures.kept ∙ ap g.F.LabFiles.kept same))
     (inr (inr (inl (unwritten_before a b c.args.words.out.now _ more c.in_err-keep.ensures.fault)))))
+
+pub returns-in_err-put_map-clause-fault : goal.returns-in_err-put_map-clause-fault
+returns-in_err-put_map-clause-fault g c =
+    let a = g.F.LabFiles.answers c.args.files.now in
+    let b = g.F.LabFiles.answers c.make.new.files in
+    let d = g.F.LabFiles.answers c.keep.new.files in
+    let k = g.F.LabFiles.kept c.args.files.now in
+    let o = g.W.Write.contents c.args.out.now in
+    let same = c.in_ok-allow_both.ensures.same in
+    let words = c.args.words in
+    let geometry = c.in_ok-geometry.geometry in
+    let pieces = g.F.Target.Target.pieces c.in_ok-written.written.target in
+    let held = c.in_ok-written.written.held.items in
+    let unsound = c.in_ok-written.written.unsound in
+    let first : AnswersNoMore a b = subst (λ f. AnswersNoMore (g.F.LabFiles.answers f) b) same c.in_ok-written.ensures.no_more in
+    let made : MadeArray a words geometry pieces held unsound = record {
+      geometry_is = c.in_ok-geometry.ensures.ok;
+      allowed = c.in_ok-allow_both.ensures.ok;
+      made = subst (λ f. IsMade (g.F.LabFiles.answers f) words.dump.now geometry pieces held unsound) same c.in_ok-written.ensures.made;
+    } in
+    handed_on (IsArrayFault a words k (g.F.LabFiles.kept c.put_map.new.files) o o) _ _ c.from_residual-in_err-put_map.ensures.1
+    (inr (inl (record {
+      g = geometry;
+      pieces = pieces;
+      held = held;
+      unsound = unsound;
+      made = made;
+      put = c.in_err-put_map.ensures.kept ∙ (c.in_ok-keep.ensures.ok ∙ ap (λ x. with_kept x words.out.now pieces) (c.in_ok-written.ensures.kept ∙ ap g.F.LabFiles.kept same));
+      silent = Keeps-refl o;
+      unmapped = unmapped_before a d words _ (no_more_then a b d first c.in_ok-keep.ensures.no_more) c.in_err-put_map.ensures.fault;
+    })))
 
 pub returns-in-Ok-clause-ok : goal.returns-in-Ok-clause-ok
 returns-in-Ok-clause-ok g c =
-    let a = g.F.LabFiles.answers c.args.files.now in
-    let same = c.in_ok-allow.ensures.same in
+    let same = c.in_ok-allow_both.ensures.same in
     let words = c.args.words in
     let geometry = c.in_ok-geometry.geometry in
     let pieces = g.F.Target.Target.pieces c.in_ok-written.written.target in
@@ -61,29 +94,37 @@ returns-in-Ok-clause-ok g c =
       put = record {
         g = geometry;
         pieces = pieces;
-        geometry_is = c.in_ok-geometry.ensures.ok;
-        allowed = c.in_ok-allow.ensures.ok;
-        made = subst (λ f. IsMade (g.F.LabFiles.answers f) words.dump.now geometry pieces held unsound) same c.in_ok-written.ensures.made;
-        put = c.in_ok-keep.ensures.ok ∙ ap (λ k. with_kept k words.out.now pieces) (c.in_ok-written.ensures.kept ∙ ap g.F.LabFiles.kept same);
+        made = record {
+          geometry_is = c.in_ok-geometry.ensures.ok;
+          allowed = c.in_ok-allow_both.ensures.ok;
+          made = subst (λ f. IsMade (g.F.LabFiles.answers f) words.dump.now geometry pieces held unsound) same c.in_ok-written.ensures.made;
+        };
+        put = c.in_ok-put_map.ensures.ok
+            ∙ (ap (λ (hs : List Held). with_map (g.F.LabFiles.kept c.keep.new.files) words (map_text geometry (map state_in hs))) c.deref.ensures.value
+            ∙ ap (λ x. with_map x words (map_text geometry (map state_in held))) (c.in_ok-keep.ensures.ok ∙ ap (λ x. with_kept x words.out.now pieces) (c.in_ok-written.ensures.kept ∙ ap g.F.LabFiles.kept same)));
       };
-      told = subst (λ (hs : List Held). Appends (g.W.Write.contents c.args.out.now) (g.W.Write.contents c.print_report.new.out) (report_of (map state_in hs) unsound)) c.deref.ensures.value c.in-Ok.ensures;
+      told = subst (λ (hs : List Held). Appends (g.W.Write.contents c.args.out.now) (g.W.Write.contents c.print_report.new.out) (report_of (map state_in hs) unsound)) c.deref-2.ensures.value c.in-Ok.ensures;
     }
 
 pub returns-clause-fault : goal.returns-clause-fault
 returns-clause-fault g c =
     let a = g.F.LabFiles.answers c.args.files.now in
-    let same = c.in_ok-allow.ensures.same in
+    let same = c.in_ok-allow_both.ensures.same in
     let words = c.args.words in
     let geometry = c.in_ok-geometry.geometry in
     let pieces = g.F.Target.Target.pieces c.in_ok-written.written.target in
     let held = c.in_ok-written.written.held.items in
     let unsound = c.in_ok-written.written.unsound in
-    let put : PutArray a words (g.F.LabFiles.kept c.args.files.now) (g.F.LabFiles.kept c.keep.new.files) held unsound = record {
+    let put : PutArray a words (g.F.LabFiles.kept c.args.files.now) (g.F.LabFiles.kept c.put_map.new.files) held unsound = record {
       g = geometry;
       pieces = pieces;
-      geometry_is = c.in_ok-geometry.ensures.ok;
-      allowed = c.in_ok-allow.ensures.ok;
-      made = subst (λ f. IsMade (g.F.LabFiles.answers f) words.dump.now geometry pieces held unsound) same c.in_ok-written.ensures.made;
-      put = c.in_ok-keep.ensures.ok ∙ ap (λ k. with_kept k words.out.now pieces) (c.in_ok-written.ensures.kept ∙ ap g.F.LabFiles.kept same);
+      made = record {
+        geometry_is = c.in_ok-geometry.ensures.ok;
+        allowed = c.in_ok-allow_both.ensures.ok;
+        made = subst (λ f. IsMade (g.F.LabFiles.answers f) words.dump.now geometry pieces held unsound) same c.in_ok-written.ensures.made;
+      };
+      put = c.in_ok-put_map.ensures.ok
+          ∙ (ap (λ (hs : List Held). with_map (g.F.LabFiles.kept c.keep.new.files) words (map_text geometry (map state_in hs))) c.deref.ensures.value
+          ∙ ap (λ x. with_map x words (map_text geometry (map state_in held))) (c.in_ok-keep.ensures.ok ∙ ap (λ x. with_kept x words.out.now pieces) (c.in_ok-written.ensures.kept ∙ ap g.F.LabFiles.kept same)));
     } in
-    inr (held, unsound, put, refl)
+    inr (inr (held, unsound, put, refl))

@@ -1,7 +1,7 @@
 use Rattle.std.proofs.Common.{◌≡◌, ℕ, ◌*◌, List, length, map}
 use Rattle.page_layout.specs.Geometry.{page_bytes}
 use Rattle.lab_merge.specs.InStep.{AreAt}
-use Rattle.lab_merge.specs.Merging.{Shows, Stands}
+use Rattle.lab_merge.specs.Merging.{AreListed, Shows, Stands, unsound_below}
 use Rattle.lab_merge.specs.Merged.{row_of}
 use Rattle.lab_merge.proofs.merge.merge_rows.Given as goal
 
@@ -12,5 +12,7 @@ invariant-loop-row g l =
       room : length l.pages ≡ length l.initial.pages;
       stands : Stands l.geometry l.row l.merging.conflicts.items l.merging.tally l.merging.scratch.items (g.T.PageTarget.pieces l.merging.target);
       shows : (files : List (List ℕ)) → AreAt (map g.R.Read.remaining l.initial.readers) files 0 → Shows l.geometry (row_of l.geometry files) l.row l.merging.conflicts.items l.merging.tally (g.T.PageTarget.pieces l.merging.target);
+      unsound : (files : List (List ℕ)) → AreAt (map g.R.Read.remaining l.initial.readers) files 0 → l.merging.unsound.items ≡ unsound_below l.geometry (row_of l.geometry files) l.row;
+      listed : AreListed l.row l.merging.unsound.items;
       read : (files : List (List ℕ)) → AreAt (map g.R.Read.remaining l.initial.readers) files 0 → AreAt (map g.R.Read.remaining l.readers) files (l.row * page_bytes l.geometry);
     }

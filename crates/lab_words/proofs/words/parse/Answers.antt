@@ -1,4 +1,4 @@
-use Rattle.std.proofs.Common.{◌≡◌, inl, inr, true, [], Result, Err, ap, sym, subst, ◌∙◌}
+use Rattle.std.proofs.Common.{◌≡◌, inl, inr, true, [], Result, Ok, Err, ap, sym, subst, ◌∙◌}
 use Rattle.std.specs.Result.{IsErrAnd}
 use Rattle.clap.specs.Words.{HasKind, app_of, fault_of, is_simple, is_simple_and_free, subcommand_of, subcommand_rows_of}
 use Rattle.lab_words.specs.declared.words.WordsFault.{WordsFault}
@@ -19,7 +19,7 @@ returns-in-Some-clause-ok c =
     let simple : is_simple (app_of c.in_ok-grammar.field-0) ≡ true = ap is_simple same ∙ plain_grammar in
     let taken : fault_of grammar words ≡ [] = subst (λ a. fault_of a words ≡ []) same (c.in-Ok.ensures.kinds free) in
     let met : subcommand_rows_of c.in-Ok.matches ≡ subcommand_of grammar words = subst (λ a. subcommand_rows_of c.in-Ok.matches ≡ subcommand_of a words) same (c.in-Ok.ensures.matches simple).1 in
-    asked_by c.in-Some.asked words taken (subst (λ m. IsCommandOf m c.in-Some.asked) met c.in-Some.ensures.some)
+    asked_by c.in-Some.asked words taken (subst (λ m. IsCommandOf m c.in-Some.asked) met (rw c.in-Some.is at c.in_ok-asked-in-Ok.ensures.some))
 
 pub returns-in-Ok-clause-none : goal.returns-in-Ok-clause-none
 returns-in-Ok-clause-none c = λ is.
@@ -29,7 +29,7 @@ returns-in-Ok-clause-none c = λ is.
     let simple : is_simple (app_of c.in_ok-grammar.field-0) ≡ true = ap is_simple same ∙ plain_grammar in
     let taken : fault_of grammar words ≡ [] = subst (λ a. fault_of a words ≡ []) same (c.in-Ok.ensures.kinds free) in
     let met : subcommand_rows_of c.in-Ok.matches ≡ subcommand_of grammar words = subst (λ a. subcommand_rows_of c.in-Ok.matches ≡ subcommand_of a words) same (c.in-Ok.ensures.matches simple).1 in
-    inr (record { taken = taken; none = λ found. subst (λ m. ¬ IsCommandOf m found) met (c.command_asked.ensures.none c.in-None.is found) })
+    inr (record { taken = taken; none = λ found. subst (λ m. ¬ IsCommandOf m found) met (c.command_asked.ensures.none (c.in_ok-asked-in-Ok.was ∙ ap Ok c.in-None.is) found) })
 
 pub returns-in_err-text_of-in-Err-clause-none : goal.returns-in_err-text_of-in-Err-clause-none
 returns-in_err-text_of-in-Err-clause-none c = λ is.

@@ -1,0 +1,67 @@
+//! Which geometries `geometry` tells, and each of its refusals.
+use super::dumps::Made;
+use super::files::Trouble;
+use super::runs::{Case, Step, expect_cases};
+use std::test::Fail;
+use test_images::{TABLE_0, TABLE_1, Written, page};
+
+const GEOMETRY: &str = "nandlab geometry dump.bin";
+
+const PAGES: [Written; 4] = [
+    TABLE_0,
+    TABLE_1,
+    page!(9, Sector 3, sequence 5, fill 0x31),
+    page!(17, Sector 30, sequence 7, fill 0x33),
+];
+
+// The page of sector 30 is not sound, so the die has at least four sectors. In other areas no page is sound, and the table has 32 blocks.
+const TOLD: &str =
+    "geometry 64,32,8,32,4 looked 256 sound 3 unsound 1 table agrees blocks 32 sectors 4
+geometry 64,32,4,64,4 looked 256 sound 3 unsound 1 table differs blocks 32 sectors 4
+geometry 64,32,16,16,4 looked 256 sound 3 unsound 1 table differs blocks 32 sectors 4\n";
+
+const TROUBLES: [Step; 9] = [
+    Step::Trouble(Trouble::ReadsEnd(24575)),
+    Step::Run(GEOMETRY, 3, "fault read dump.bin\n"),
+    Step::Trouble(Trouble::NoMemory),
+    Step::Run(GEOMETRY, 1, "refused image 3 OutOfMemory\n"),
+    Step::Trouble(Trouble::Calm),
+    Step::Run("nandlab geometry none.bin", 3, "fault read none.bin\n"),
+    Step::Run(
+        "nandlab geometry empty.bin",
+        1,
+        "refused geometry 6 NoneFits\n",
+    ),
+    Step::Run(
+        "nandlab geometry erased.bin",
+        1,
+        "refused geometry 6 NoneFits\n",
+    ),
+    Step::Run(
+        "nandlab geometry dump.bin more",
+        2,
+        "usage: no such command\n",
+    ),
+];
+
+const CASES: [Case; 2] = [
+    Case {
+        name: "the shapes",
+        files: &[("dump.bin", Made::Changed(&PAGES, &[(1632, 0)]))],
+        steps: &[Step::Run(GEOMETRY, 0, TOLD), Step::Closed(GEOMETRY, 0)],
+    },
+    Case {
+        name: "refusals",
+        files: &[
+            ("dump.bin", Made::Dump(&PAGES)),
+            ("empty.bin", Made::Text("")),
+            ("erased.bin", Made::Dump(&[])),
+        ],
+        steps: &TROUBLES,
+    },
+];
+
+#[test]
+fn geometry_tells_the_shapes(rt: HostRuntime) -> Result<(), Fail> {
+    expect_cases(&rt, rt.alloc(), &CASES)
+}

@@ -1,0 +1,139 @@
+//! What `merge` makes of readings of one die, and each of its refusals.
+use super::dumps::Made;
+use super::files::Trouble;
+use super::runs::{Case, Step, expect_cases};
+use std::test::Fail;
+use test_images::{TABLE_0, TABLE_1, Written, page};
+
+const THREE: &str = "nandlab merge 64,32,8,32,32 out.bin a.bin b.bin c.bin";
+
+const TWO: &str = "nandlab merge 64,32,8,32,32 out.bin a.bin b.bin";
+
+const FORCED: &str = "nandlab merge 64,32,8,32,32 out.bin a.bin b.bin --force";
+
+const PAGES: [Written; 4] = [
+    TABLE_0,
+    TABLE_1,
+    page!(9, Sector 3, sequence 5, fill 0x31),
+    page!(17, Sector 30, sequence 7, fill 0x33),
+];
+
+// Another page in row 17.
+const OTHERS: [Written; 4] = [
+    TABLE_0,
+    TABLE_1,
+    page!(9, Sector 3, sequence 5, fill 0x31),
+    page!(17, Sector 30, sequence 8, fill 0x34),
+];
+
+// Row 0 is sound in the second alone, row 9 in none, but by the majority of all three; row 20 is erased in the second alone.
+const A: Made = Made::Changed(&PAGES, &[(5, 0x03), (866, 0x00), (1920, 0x00)]);
+
+const B: Made = Made::Changed(&PAGES, &[(870, 0x00)]);
+
+const C: Made = Made::Changed(&PAGES, &[(6, 0x03), (880, 0x00), (1925, 0x00)]);
+
+const TROUBLES: [Step; 17] = [
+    Step::Trouble(Trouble::ReadsEnd(24575)),
+    Step::Run(TWO, 3, "fault read a.bin\n"),
+    Step::Trouble(Trouble::Ends(96)),
+    Step::Run(TWO, 1, "refused merge 1 DumpLength a.bin\n"),
+    Step::Trouble(Trouble::Unasked),
+    Step::Run(TWO, 3, "fault write out.bin\n"),
+    Step::Trouble(Trouble::Full),
+    Step::Run(TWO, 3, "fault write out.bin\n"),
+    Step::Trouble(Trouble::WritesEnd(2)),
+    Step::Run(TWO, 3, "fault write out.bin\n"),
+    Step::Trouble(Trouble::Unkept),
+    Step::Run(TWO, 3, "fault write out.bin\n"),
+    Step::Trouble(Trouble::NoMemory),
+    Step::Run(TWO, 1, "refused image 3 OutOfMemory\n"),
+    Step::Trouble(Trouble::NoMemoryBeside),
+    Step::Run(TWO, 1, "refused image 3 OutOfMemory\n"),
+    Step::Lacks("out.bin"),
+];
+
+const WORDS: [Step; 10] = [
+    Step::Run(TWO, 1, "refused out 2 Exists\n"),
+    Step::Run(
+        "nandlab merge 64,32,8,32,32 b.bin a.bin ./b.bin --force",
+        1,
+        "refused out 1 IsDump\n",
+    ),
+    Step::Run(
+        "nandlab merge 64,32,8,32,32 new.bin a.bin",
+        2,
+        "usage: no such command\n",
+    ),
+    Step::Run(
+        "nandlab merge 64,32,8,32 new.bin a.bin b.bin",
+        2,
+        "usage: bad number 64,32,8,32\n",
+    ),
+    Step::Run(
+        "nandlab merge 64,32,8,32,0 new.bin a.bin b.bin",
+        1,
+        "refused geometry 5 Sectors\n",
+    ),
+    Step::Run(
+        "nandlab merge 64,32,8,32,32 new.bin a.bin none.bin",
+        3,
+        "fault read none.bin\n",
+    ),
+    Step::Run(
+        "nandlab merge 64,32,8,32,32 new.bin a.bin short.bin",
+        1,
+        "refused merge 1 DumpLength short.bin\n",
+    ),
+    Step::Lacks("new.bin"),
+    Step::Closed(FORCED, 1),
+    Step::Holds("b.bin", B),
+];
+
+const CASES: [Case; 4] = [
+    Case {
+        name: "three readings",
+        files: &[("a.bin", A), ("b.bin", B), ("c.bin", C)],
+        steps: &[
+            Step::Run(
+                THREE,
+                0,
+                "sound 3 differ 0 majority 1 erased 252 unsound 0\n",
+            ),
+            Step::Holds("out.bin", Made::Dump(&PAGES)),
+        ],
+    },
+    // where nothing is taken the first reading's page is written
+    Case {
+        name: "two that differ",
+        files: &[("a.bin", A), ("b.bin", Made::Dump(&OTHERS))],
+        steps: &[
+            Step::Trouble(Trouble::Pieces(31)),
+            Step::Run(
+                TWO,
+                0,
+                "differ row 17\nsound 3 differ 1 majority 0 erased 252 unsound 0\n",
+            ),
+        ],
+    },
+    Case {
+        name: "failures",
+        files: &[("a.bin", A), ("b.bin", B)],
+        steps: &TROUBLES,
+    },
+    Case {
+        name: "other files",
+        files: &[
+            ("a.bin", A),
+            ("b.bin", B),
+            ("out.bin", Made::Text("other")),
+            ("short.bin", Made::Cut(&PAGES, 24575)),
+        ],
+        steps: &WORDS,
+    },
+];
+
+#[test]
+fn merge_joins_readings(rt: HostRuntime) -> Result<(), Fail> {
+    expect_cases(&rt, rt.alloc(), &CASES)
+}

@@ -1,0 +1,102 @@
+//! Which pages `repair` mends, and each of its refusals.
+use super::dumps::Made;
+use super::files::Trouble;
+use super::runs::{Case, Step, expect_cases};
+use std::test::Fail;
+use test_images::{TABLE_0, TABLE_1, Written, page};
+
+const REPAIR: &str = "nandlab repair 64,32,8,32,32 dump.bin out.bin";
+
+const FORCED: &str = "nandlab repair 64,32,8,32,32 dump.bin out.bin --force";
+
+const PAGES: [Written; 4] = [
+    TABLE_0,
+    TABLE_1,
+    page!(9, Sector 3, sequence 5, fill 0x31),
+    page!(17, Sector 30, sequence 7, fill 0x33),
+];
+
+// One bit of the data area of row 9, one of the sequence of row 17, two of row 0; and a page that was erased lost a bit.
+const SPOILED: Made = Made::Changed(
+    &PAGES,
+    &[(866, 0x30), (1704, 0x06), (5, 0x03), (4800, 0xFE)],
+);
+
+const MENDED: Made = Made::Changed(&PAGES, &[(5, 0x03), (4800, 0xFE)]);
+
+const SAID: &str = "mended row 9 bit 16\nmended row 17 bit 576\nmended 2\n";
+
+const TROUBLES: [Step; 17] = [
+    Step::Trouble(Trouble::ReadsEnd(24575)),
+    Step::Run(REPAIR, 3, "fault read dump.bin\n"),
+    Step::Trouble(Trouble::Ends(96)),
+    Step::Run(REPAIR, 1, "refused image 1 WrongLength\n"),
+    Step::Trouble(Trouble::Unasked),
+    Step::Run(REPAIR, 3, "fault write out.bin\n"),
+    Step::Trouble(Trouble::Full),
+    Step::Run(REPAIR, 3, "fault write out.bin\n"),
+    Step::Trouble(Trouble::WritesEnd(255)),
+    Step::Run(REPAIR, 3, "fault write out.bin\n"),
+    Step::Trouble(Trouble::Unkept),
+    Step::Run(REPAIR, 3, "fault write out.bin\n"),
+    Step::Trouble(Trouble::NoMemory),
+    Step::Run(REPAIR, 1, "refused image 3 OutOfMemory\n"),
+    Step::Trouble(Trouble::NoMemoryBeside),
+    Step::Run(REPAIR, 1, "refused image 3 OutOfMemory\n"),
+    Step::Lacks("out.bin"),
+];
+
+const OTHERS: [Step; 8] = [
+    Step::Run(REPAIR, 1, "refused out 2 Exists\n"),
+    Step::Run(
+        "nandlab repair 64,32,8,32,32 dump.bin ./dump.bin --force",
+        1,
+        "refused out 1 IsDump\n",
+    ),
+    Step::Run(
+        "nandlab repair 64,32,8,32 dump.bin out.bin",
+        2,
+        "usage: bad number 64,32,8,32\n",
+    ),
+    Step::Run(
+        "nandlab repair 64,32,8,8,32 dump.bin out.bin",
+        1,
+        "refused geometry 4 Blocks\n",
+    ),
+    Step::Run(
+        "nandlab repair 64,32,8,32,32 none.bin new.bin",
+        3,
+        "fault read none.bin\n",
+    ),
+    Step::Trouble(Trouble::Pieces(5)),
+    Step::Run(FORCED, 0, SAID),
+    Step::Holds("out.bin", MENDED),
+];
+
+const CASES: [Case; 3] = [
+    Case {
+        name: "mends",
+        files: &[("dump.bin", SPOILED)],
+        steps: &[
+            Step::Run(REPAIR, 0, SAID),
+            Step::Holds("out.bin", MENDED),
+            Step::Closed(FORCED, 1),
+            Step::Holds("dump.bin", SPOILED),
+        ],
+    },
+    Case {
+        name: "failures",
+        files: &[("dump.bin", SPOILED)],
+        steps: &TROUBLES,
+    },
+    Case {
+        name: "other files",
+        files: &[("dump.bin", SPOILED), ("out.bin", Made::Text("other"))],
+        steps: &OTHERS,
+    },
+];
+
+#[test]
+fn repair_mends_one_bit(rt: HostRuntime) -> Result<(), Fail> {
+    expect_cases(&rt, rt.alloc(), &CASES)
+}

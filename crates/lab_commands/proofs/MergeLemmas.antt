@@ -1,0 +1,98 @@
+-- What the command `merge` comes to.
+use Rattle.std.proofs.Common.{◌≡◌, inl, inr, ℕ, ◌+◌, ◌<◌, Bool, true, false, List, [], ◌∷◌, ◌++◌, length, get_or, map, Option, None, refl, ap, sym, subst, ◌∙◌, arith}
+use Rattle.std.proofs.lemmas.Bool.{cases_eq}
+use Rattle.std.proofs.lemmas.List.{get_or-map, get_or_append_left, get_or_push, length-map, length_push, map-append}
+use Rattle.std.specs.Borrow.{Bor}
+use Rattle.page_layout.specs.declared.geometry.Geometry.{Geometry}
+use Rattle.lab_merge.specs.declared.merge.MergeFault.{MergeFault}
+use Rattle.lab_merge.specs.declared.merge.MergeFault.TheVariants as merge
+use Rattle.lab_merge.specs.InStep.{Tell}
+use Rattle.lab_merge.specs.Merged.{IsOfReading, IsUnmerged}
+use Rattle.lab_words.specs.declared.words.MergeWords.{MergeWords}
+use Rattle.lab_words.specs.Words.{texts}
+use Rattle.lab_commands.specs.declared.text.LabFault.{LabFault}
+use Rattle.lab_commands.specs.declared.text.LabFault.TheVariants as fault
+use Rattle.lab_commands.specs.Files.{Answers, AnswersNoMore, IsOpened, Kept}
+use Rattle.lab_commands.specs.Undone.{IsGeometryAt, IsNoGeometry, IsUnread, IsUnwritten}
+use Rattle.lab_commands.specs.Merge.{AreOpened, AreOpenedBelow, AreOthersBelow, IsMergeFault, IsSomeUnread, IsUnjoined, IsUnmergedTo, IsUnopened, MayMerge, MayNotMerge, TellsFault, dumps_of}
+use Rattle.lab_commands.proofs.UndoneLemmas.{left_all, opened_before, unread_before}
+
+-- ---- the paths
+
+path_at : (ds : List (Bor (List ℕ))) (n : ℕ) (d : Bor (List ℕ)) → n < length ds → get_or (texts ds) n [] ≡ (get_or ds n d).now
+path_at ds n d l = get_or-map (λ (w : Bor (List ℕ)). w.now) ds n d [] l
+
+pub paths_count : (ds : List (Bor (List ℕ))) → length (texts ds) ≡ length ds
+paths_count ds = length-map ds (λ (w : Bor (List ℕ)). w.now)
+
+-- ---- the readers
+
+added : (a : Answers) (paths : List (List ℕ)) (known : List (Option (List ℕ))) (n : ℕ) (one : Option (List ℕ)) → AreOpenedBelow a paths known n → IsOpened a (get_or paths n []) one → AreOpenedBelow a paths (known ++ one ∷ []) (n + 1)
+added a paths known n one h opened = record {
+  count = length_push known one ∙ ap (λ k. k + 1) h.count;
+  each = λ i l. elim (cases_eq i n) [
+    | inl same ↦ subst (λ k. IsOpened a (get_or paths k []) (get_or (known ++ one ∷ []) k None)) (sym same)
+        (subst (IsOpened a (get_or paths n [])) (sym (get_or_push known one None n h.count)) opened)
+    | inr ne ↦ subst (IsOpened a (get_or paths i [])) (sym (get_or_append_left known (one ∷ []) None i (let size = h.count in omega arith))) (h.each i (omega arith))
+  ];
+}
+
+-- one reader more
+pub opened_more : {R : Type 0} (f : R → Option (List ℕ)) (a b : Answers) (ds : List (Bor (List ℕ))) (rs more : List R) (r : R) (n : ℕ) (d : Bor (List ℕ)) → n < length ds → AnswersNoMore a b → AreOpenedBelow a (texts ds) (map f rs) n → IsOpened b (get_or ds n d).now (f r)
+    → more ≡ rs ++ r ∷ [] → AreOpenedBelow a (texts ds) (map f more) (n + 1)
+opened_more f a b ds rs more r n d l no_more h opened are =
+    let before : IsOpened a (get_or (texts ds) n []) (f r) = subst (λ (path : List ℕ). IsOpened a path (f r)) (sym (path_at ds n d l)) (opened_before a b (get_or ds n d).now (f r) no_more opened) in
+    let pushed : map f more ≡ map f rs ++ f r ∷ [] = ap (map f) are ∙ map-append f rs (r ∷ []) in
+    subst (λ (known : List (Option (List ℕ))). AreOpenedBelow a (texts ds) known (n + 1)) (sym pushed) (added a (texts ds) (map f rs) n (f r) h before)
+
+unopened : (a : Answers) (paths : List (List ℕ)) (n : ℕ) (told : LabFault) → n < length paths → IsUnread a (get_or paths n []) told → IsUnopened a paths told
+unopened a paths n fault.OutOfMemory l k = tt
+unopened a paths n (fault.Read word) l k = (n, l, k)
+unopened a paths n _ l k = absurd k
+
+pub unopened_at : (a b : Answers) (ds : List (Bor (List ℕ))) (n : ℕ) (d : Bor (List ℕ)) (told : LabFault) → n < length ds → AnswersNoMore a b → IsUnread b (get_or ds n d).now told → IsUnopened a (texts ds) told
+unopened_at a b ds n d told l more k =
+    let before : IsUnread a (get_or (texts ds) n []) told = subst (λ (path : List ℕ). IsUnread a path told) (sym (path_at ds n d l)) (unread_before a b (get_or ds n d).now told more k) in
+    unopened a (texts ds) n told (let count = paths_count ds in omega arith) before
+
+-- ---- whether OUT may be written
+
+pub others_more : (a : Answers) (ds : List (Bor (List ℕ))) (out : List ℕ) (n : ℕ) (d : Bor (List ℕ)) (answer : Bool) → n < length ds → AreOthersBelow a (texts ds) out n → a.says_same (get_or ds n d).now out answer → answer ≡ false → AreOthersBelow a (texts ds) out (n + 1)
+others_more a ds out n d answer within h said is =
+    let last : a.says_same (get_or (texts ds) n []) out false = subst (λ (path : List ℕ). a.says_same path out false) (sym (path_at ds n d within)) (subst (λ (b : Bool). a.says_same (get_or ds n d).now out b) is said) in
+    λ i l. elim (cases_eq i n) [
+      | inl same ↦ subst (λ k. a.says_same (get_or (texts ds) k []) out false) (sym same) last
+      | inr ne ↦ h i (omega arith)
+    ]
+
+pub unasked_out : (a : Answers) (words : MergeWords) (told : LabFault) → IsUnwritten a words.out.now told → MayNotMerge a words told
+unasked_out a words fault.OutOfMemory k = inl k
+unasked_out a words (fault.Write word) k = inl k
+unasked_out a words _ k = absurd k
+
+pub unasked_dumps : (a : Answers) (words : MergeWords) (told : LabFault) → a.says_file words.out.now true → IsSomeUnread a (dumps_of words) told → MayNotMerge a words told
+unasked_dumps a words fault.OutOfMemory stands k = inr (stands, k)
+unasked_dumps a words (fault.Read word) stands k = inr (stands, k)
+unasked_dumps a words _ stands k = absurd k.2
+
+-- ---- the dumps and OUT
+
+pub unmerged_as : (a : Answers) (paths : List (List ℕ)) (g : Geometry) (out : List ℕ) (known : List (Option (List ℕ))) (f : MergeFault) (told : LabFault) → AreOpened a paths known → IsOfReading (length paths) f
+    → ((files : List (List ℕ)) → Tell known files → IsUnmerged g files f) → TellsFault f paths out told → IsUnmergedTo a paths g out told
+unmerged_as a paths g out known (merge.WrongLength i) (fault.DumpLength word) opened of h is = record { known = known; opened = opened; place = i; within = of; named = sym is; odd = λ files tell. (h files tell).1 }
+unmerged_as a paths g out known (merge.Source i) (fault.Read word) opened of h is = ((i, of, sym is), (known, opened))
+unmerged_as a paths g out known merge.Target (fault.Write word) opened of h is = (is, (known, opened))
+unmerged_as a paths g out known merge.OutOfMemory fault.OutOfMemory opened of h is = (known, opened)
+unmerged_as a paths g out known _ _ opened of h is = absurd is
+
+-- ---- the command
+
+pub no_geometry : (a : Answers) (words : MergeWords) (k : Option (List Kept)) (out : Option (List ℕ)) (told : LabFault) → IsNoGeometry words.geometry.now told → IsMergeFault a words k k out out told
+no_geometry a words k out told h = inl (left_all k k out refl, inl h)
+
+pub not_allowed : (a : Answers) (words : MergeWords) (g : Geometry) (k after : Option (List Kept)) (out : Option (List ℕ)) (told : LabFault) → IsGeometryAt words.geometry.now g → after ≡ k → MayNotMerge a words told → IsMergeFault a words k after out out told
+not_allowed a words g k after out told is same h = inl (left_all k after out same, inr (g, is, inl h))
+
+pub not_made : (a : Answers) (words : MergeWords) (g : Geometry) (k after : Option (List Kept)) (out : Option (List ℕ)) (told : LabFault) → IsGeometryAt words.geometry.now g → MayMerge a words → after ≡ k → IsUnjoined a (dumps_of words) g words.out.now told
+    → IsMergeFault a words k after out out told
+not_made a words g k after out told is allowed same h = inl (left_all k after out same, inr (g, is, inr (allowed, h)))

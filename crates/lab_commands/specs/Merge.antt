@@ -1,0 +1,161 @@
+-- What the command `merge` comes to.
+use Rattle.std.specs.Prelude.{◌≡◌, ◌⊎◌, ℕ, ◌<◌, Bool, true, false, List, [], ◌∷◌, ◌++◌, length, get_or, codes, Option, None}
+use Rattle.std.specs.List.{flat_map}
+use Rattle.std.specs.Fmt.{decimal}
+use Rattle.std.specs.Io.KnownBytes.{Appends}
+use Rattle.page_layout.specs.declared.geometry.Geometry.{Geometry}
+use Rattle.lab_scan.specs.Scan.{image_bytes}
+use Rattle.lab_merge.specs.declared.merge.MergeFault.{MergeFault}
+use Rattle.lab_merge.specs.declared.merge.MergeFault.TheVariants as merge
+use Rattle.lab_merge.specs.declared.merging.Tally.{Tally}
+use Rattle.lab_merge.specs.InStep.{Tell}
+use Rattle.lab_merge.specs.Merged.{IsMerged, IsOwnMerge}
+use Rattle.lab_words.specs.declared.words.MergeWords.{MergeWords}
+use Rattle.lab_words.specs.Words.{texts}
+use Rattle.lab_commands.specs.declared.text.LabFault.{LabFault}
+use Rattle.lab_commands.specs.declared.text.LabFault.TheVariants as fault
+use Rattle.lab_commands.specs.Files.{Answers, IsOpened, Kept, with_kept}
+use Rattle.lab_commands.specs.Undone.{IsGeometryAt, IsNoGeometry, IsUnprinted, IsUnread, IsUnwritten, LeavesAll}
+
+-- ---- the text
+
+-- the line of a row of which two sound pages differ
+unfoldable pub differ_line : ℕ → List ℕ
+differ_line row = codes "differ row " ++ (decimal row ++ (10 ∷ []))
+
+-- that of a row of which no page is sound or erased, nor the majority sound
+unfoldable pub unsound_line : ℕ → List ℕ
+unsound_line row = codes "unsound row " ++ (decimal row ++ (10 ∷ []))
+
+-- how many rows there are of each kind
+unfoldable pub tally_line : ℕ → Tally → List ℕ
+tally_line differ t =
+    codes "sound " ++ (decimal t.sound ++ (codes " differ " ++ (decimal differ ++ (codes " majority " ++ (decimal t.majority ++ (
+    codes " erased " ++ (decimal t.erased ++ (codes " unsound " ++ (decimal t.unsound ++ (10 ∷ []))))))))))
+
+abbrev pub merge_text : List ℕ → List ℕ → Tally → List ℕ
+merge_text conflicts unsound t = flat_map differ_line conflicts ++ (flat_map unsound_line unsound ++ tally_line (length conflicts) t)
+
+-- ---- the dumps
+
+-- the paths of the dumps
+abbrev pub dumps_of : MergeWords → List (List ℕ)
+dumps_of words = texts words.dumps.items
+
+-- readers of the first files of these paths, of which so much is known
+pub record AreOpenedBelow (a : Answers) (paths : List (List ℕ)) (known : List (Option (List ℕ))) (n : ℕ) : Type 0 where
+  pub count : length known ≡ n
+  pub each : (i : ℕ) → i < n → IsOpened a (get_or paths i []) (get_or known i None)
+
+-- of all of them
+abbrev pub AreOpened : Answers → List (List ℕ) → List (Option (List ℕ)) → Type 0
+AreOpened a paths known = AreOpenedBelow a paths known (length paths)
+
+-- a call that names one of them failed
+abbrev pub IsSomeUnread : Answers → List (List ℕ) → LabFault → Type 0
+IsSomeUnread a paths told = (i : ℕ) × (i < length paths) × IsUnread a (get_or paths i []) told
+
+-- ---- whether OUT may be written
+
+-- by what the files answered, none of the first paths is this one, or one is
+abbrev pub AreOthersBelow : Answers → List (List ℕ) → List ℕ → ℕ → Type 0
+AreOthersBelow a paths out n = (i : ℕ) → i < n → a.says_same (get_or paths i []) out false
+
+abbrev pub HasSame : Answers → List (List ℕ) → List ℕ → Bool → Type 0
+HasSame a paths out true = (i : ℕ) × (i < length paths) × a.says_same (get_or paths i []) out true
+HasSame a paths out false = AreOthersBelow a paths out (length paths)
+
+-- there is no file OUT, or it is none of the dumps and may be replaced
+abbrev pub MayMerge : Answers → MergeWords → Type 0
+MayMerge a words = a.says_file words.out.now false ⊎ (a.says_file words.out.now true × HasSame a (dumps_of words) words.out.now false × (words.force ≡ true))
+
+-- there is such a file: it is one of the dumps, or may not be replaced; or they could not be asked
+abbrev pub MayNotMerge : Answers → MergeWords → LabFault → Type 0
+MayNotMerge a words fault.IsDump = a.says_file words.out.now true × HasSame a (dumps_of words) words.out.now true
+MayNotMerge a words fault.Exists = a.says_file words.out.now true × HasSame a (dumps_of words) words.out.now false × (words.force ≡ false)
+MayNotMerge a words told = IsUnwritten a words.out.now told ⊎ (a.says_file words.out.now true × IsSomeUnread a (dumps_of words) told)
+
+-- ---- done
+
+-- The pieces are made of dumps that read so: where the bytes of all are known, the pieces, the rows that differ, those that are unsound and the
+-- counts are those of the images that they are. Whatever the dumps gave, the rows are named once each, by rising row, and 00h bytes stand for those
+-- that differ.
+pub record IsJoined (a : Answers) (paths : List (List ℕ)) (g : Geometry) (pieces : Option (List (List ℕ))) (conflicts unsound : List ℕ) (tally : Tally) : Type 0 where
+  pub known : List (Option (List ℕ))
+  pub opened : AreOpened a paths known
+  pub merged : (files : List (List ℕ)) → Tell known files → IsMerged g files conflicts unsound tally pieces
+  pub own : IsOwnMerge g conflicts unsound pieces
+
+-- the one dump was put in the place of OUT
+pub record PutMerge (a : Answers) (words : MergeWords) (before after : Option (List Kept)) (conflicts unsound : List ℕ) (tally : Tally) : Type 0 where
+  pub g : Geometry
+  pub pieces : Option (List (List ℕ))
+  pub geometry_is : IsGeometryAt words.geometry.now g
+  pub allowed : MayMerge a words
+  pub made : IsJoined a (dumps_of words) g pieces conflicts unsound tally
+  pub put : after ≡ with_kept before words.out.now pieces
+
+-- and the rows that differ or are unsound and the counts were printed
+pub record WroteMerge (a : Answers) (words : MergeWords) (before after : Option (List Kept)) (out printed : Option (List ℕ)) : Type 0 where
+  pub conflicts : List ℕ
+  pub unsound : List ℕ
+  pub tally : Tally
+  pub put : PutMerge a words before after conflicts unsound tally
+  pub told : Appends out printed (merge_text conflicts unsound tally)
+
+-- ---- not done
+
+-- all dumps were opened
+abbrev pub OpensEach : Answers → List (List ℕ) → Type 0
+OpensEach a paths = (known : List (Option (List ℕ))) × AreOpened a paths known
+
+-- one of them is of this path
+abbrev pub IsOneOf : List (List ℕ) → List ℕ → Type 0
+IsOneOf paths path = (i : ℕ) × (i < length paths) × (get_or paths i [] ≡ path)
+
+-- all were opened, and where their bytes are known those of one, of this path, are not as many as an image has
+pub record HasOddLength (a : Answers) (paths : List (List ℕ)) (g : Geometry) (path : List ℕ) : Type 0 where
+  pub known : List (Option (List ℕ))
+  pub opened : AreOpened a paths known
+  pub place : ℕ
+  pub within : place < length paths
+  pub named : get_or paths place [] ≡ path
+  pub odd : (files : List (List ℕ)) → Tell known files → ¬ (length (get_or files place []) ≡ image_bytes g)
+
+-- a dump was not opened, or memory for its reader was refused
+abbrev pub IsUnopened : Answers → List (List ℕ) → LabFault → Type 0
+IsUnopened a paths fault.OutOfMemory = Unit {0}
+IsUnopened a paths told = IsSomeUnread a paths told
+
+-- Why dumps that were opened were not merged. When a read or a write fails is the reader's or the file's own, and when memory is refused.
+abbrev pub IsUnmergedTo : Answers → List (List ℕ) → Geometry → List ℕ → LabFault → Type 0
+IsUnmergedTo a paths g out (fault.DumpLength told) = HasOddLength a paths g told.now
+IsUnmergedTo a paths g out (fault.Read told) = IsOneOf paths told.now × OpensEach a paths
+IsUnmergedTo a paths g out (fault.Write told) = (told.now ≡ out) × OpensEach a paths
+IsUnmergedTo a paths g out fault.OutOfMemory = OpensEach a paths
+IsUnmergedTo a paths g out _ = ⊥
+
+-- the fault of the merge is told so: that of a reading with its path
+abbrev pub TellsFault : MergeFault → List (List ℕ) → List ℕ → LabFault → Type 0
+TellsFault (merge.WrongLength i) paths out (fault.DumpLength told) = told.now ≡ get_or paths i []
+TellsFault (merge.Source i) paths out (fault.Read told) = told.now ≡ get_or paths i []
+TellsFault merge.Target paths out (fault.Write told) = told.now ≡ out
+TellsFault merge.OutOfMemory paths out fault.OutOfMemory = Unit {0}
+TellsFault _ paths out _ = ⊥
+
+-- the dumps were not opened or not merged, or the file beside OUT was not made or not put in its place
+abbrev pub IsUnjoined : Answers → List (List ℕ) → Geometry → List ℕ → LabFault → Type 0
+IsUnjoined a paths g out told = IsUnopened a paths told ⊎ IsUnwritten a out told ⊎ IsUnmergedTo a paths g out told
+
+-- The first of this order: the geometry; whether OUT may be written; the dumps and OUT.
+abbrev pub IsUnmergedBy : Answers → MergeWords → LabFault → Type 0
+IsUnmergedBy a words told =
+    IsNoGeometry words.geometry.now told
+    ⊎ ((g : Geometry) × IsGeometryAt words.geometry.now g × (MayNotMerge a words told
+    ⊎ (MayMerge a words × IsUnjoined a (dumps_of words) g words.out.now told)))
+
+-- No dump was put in place and nothing printed, for one of these reasons; or it was put in place, and standard output failed.
+abbrev pub IsMergeFault : Answers → MergeWords → Option (List Kept) → Option (List Kept) → Option (List ℕ) → Option (List ℕ) → LabFault → Type 0
+IsMergeFault a words before after out printed told =
+    (LeavesAll before after out printed × IsUnmergedBy a words told)
+    ⊎ (((conflicts : List ℕ) × (unsound : List ℕ) × (tally : Tally) × PutMerge a words before after conflicts unsound tally) × IsUnprinted told)

@@ -1,0 +1,75 @@
+-- What the command `repair` comes to.
+use Rattle.std.specs.Prelude.{◌≡◌, ◌⊎◌, ℕ, List, [], ◌∷◌, ◌++◌, length, codes, Option, IfSome}
+use Rattle.std.specs.List.{flat_map}
+use Rattle.std.specs.Fmt.{decimal}
+use Rattle.std.specs.Io.KnownBytes.{Appends}
+use Rattle.page_layout.specs.declared.geometry.Geometry.{Geometry}
+use Rattle.lab_repair.specs.declared.repair.RepairFault.{RepairFault}
+use Rattle.lab_repair.specs.declared.repair.RepairFault.TheVariants as repair
+use Rattle.lab_repair.specs.declared.repairing.Mend.{Mend}
+use Rattle.lab_repair.specs.Repaired.{IsOwnRepair, IsRepaired}
+use Rattle.lab_words.specs.declared.words.RepairWords.{RepairWords}
+use Rattle.lab_commands.specs.declared.text.LabFault.{LabFault}
+use Rattle.lab_commands.specs.declared.text.LabFault.TheVariants as fault
+use Rattle.lab_commands.specs.Files.{Answers, IsOpened, Kept, with_kept}
+use Rattle.lab_commands.specs.Undone.{IsGeometryAt, IsNoGeometry, IsUnmade, IsUnprinted, LeavesAll, MayNotWrite, MayWrite}
+
+-- ---- the text
+
+-- the line of a page that was mended
+unfoldable pub mend_line : Mend → List ℕ
+mend_line m = codes "mended row " ++ (decimal m.row ++ (codes " bit " ++ (decimal m.bit ++ (10 ∷ []))))
+
+-- how many were
+unfoldable pub mended_line : ℕ → List ℕ
+mended_line n = codes "mended " ++ (decimal n ++ (10 ∷ []))
+
+abbrev pub repair_text : List Mend → List ℕ
+repair_text mends = flat_map mend_line mends ++ mended_line (length mends)
+
+-- ---- done
+
+-- The pieces are made of a dump that reads so: where its bytes are known the pieces and the list are those of the image that they are.
+-- Whatever it gave, each piece is a mended page by the bit that the list names of its row.
+pub record IsMended (a : Answers) (path : List ℕ) (g : Geometry) (pieces : Option (List (List ℕ))) (mends : List Mend) : Type 0 where
+  pub known : Option (List ℕ)
+  pub opened : IsOpened a path known
+  pub mended : IfSome known (IsRepaired g pieces mends)
+  pub own : IsOwnRepair g pieces mends
+
+-- the mended dump was put in the place of OUT
+pub record PutRepair (a : Answers) (words : RepairWords) (before after : Option (List Kept)) (mends : List Mend) : Type 0 where
+  pub g : Geometry
+  pub pieces : Option (List (List ℕ))
+  pub geometry_is : IsGeometryAt words.geometry.now g
+  pub allowed : MayWrite a words.dump.now words.out.now words.force
+  pub made : IsMended a words.dump.now g pieces mends
+  pub put : after ≡ with_kept before words.out.now pieces
+
+-- and what was mended was printed
+pub record WroteRepair (a : Answers) (words : RepairWords) (before after : Option (List Kept)) (out printed : Option (List ℕ)) : Type 0 where
+  pub mends : List Mend
+  pub put : PutRepair a words before after mends
+  pub told : Appends out printed (repair_text mends)
+
+-- ---- not done
+
+-- The first of this order: the geometry; whether OUT may be written; the dump and OUT.
+abbrev pub IsUnrepairedBy : Answers → RepairWords → LabFault → Type 0
+IsUnrepairedBy a words told =
+    IsNoGeometry words.geometry.now told
+    ⊎ ((g : Geometry) × IsGeometryAt words.geometry.now g × (MayNotWrite a words.dump.now words.out.now words.force told
+    ⊎ (MayWrite a words.dump.now words.out.now words.force × IsUnmade a g words.dump.now words.out.now told)))
+
+-- No dump was put in place and nothing printed, for one of these reasons; or it was put in place, and standard output failed.
+abbrev pub IsRepairFault : Answers → RepairWords → Option (List Kept) → Option (List Kept) → Option (List ℕ) → Option (List ℕ) → LabFault → Type 0
+IsRepairFault a words before after out printed told =
+    (LeavesAll before after out printed × IsUnrepairedBy a words told)
+    ⊎ (((mends : List Mend) × PutRepair a words before after mends) × IsUnprinted told)
+
+-- how a fault of the repair is told
+abbrev pub repair_told : RepairFault → RepairWords → LabFault
+repair_told repair.WrongLength words = fault.WrongLength
+repair_told repair.Source words = fault.Read words.dump
+repair_told repair.Target words = fault.Write words.out
+repair_told repair.OutOfMemory words = fault.OutOfMemory

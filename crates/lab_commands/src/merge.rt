@@ -1,0 +1,209 @@
+//! The command `merge GEOM OUT DUMP DUMP..`.
+ghost use Rattle.std.specs.Prelude.{◌≡◌, ◌<◌, ℕ, List, [], get_or, length, map, OnOk, IfOk, IfErr};
+ghost use Rattle.std.specs.Io.KnownBytes.{Appends};
+ghost use Rattle.std.specs.List.{flat_map};
+ghost use Rattle.lab_merge.specs.Merged.{IsOfReading};
+ghost use Rattle.lab_words.specs.Words.{texts};
+ghost use Rattle.lab_commands.specs.Files.{AnswersNoMore};
+ghost use Rattle.lab_commands.specs.Merge.{AreOpened, HasSame, IsJoined, IsMergeFault, IsSomeUnread, IsUnjoined, IsUnopened, MayMerge, MayNotMerge, TellsFault, WroteMerge};
+ghost use Rattle.lab_commands.specs.Merge.{differ_line, dumps_of, merge_text, tally_line, unsound_line};
+
+use crate::files::LabFiles;
+use crate::opening::{create_pages, geometry_at, has_file, is_dump, keep_pages, open_file};
+use crate::text::LabFault;
+use lab_merge::{MergeFault, Merged, Tally, merge_dumps};
+use lab_words::MergeWords;
+use page_layout::geometry::Geometry;
+use std::alloc::Global;
+use std::io::{self, Write};
+
+// The line of a row of which two sound pages differ.
+#[tactic(auto, unfolding(crate::specs::Merge::differ_line))]
+fn print_differ<W: Write>(out: &mut W, row: u32) -> io::Result<()>
+    ensures { OnOk result (Appends (W.contents out.old) (W.contents out.new) (differ_line row)) }
+{
+    writeln!(out, "differ row {row}")
+}
+
+// Those of all of them, in their order.
+fn print_conflicts<W: Write>(out: &mut W, conflicts: &[u32]) -> io::Result<()>
+    ensures { OnOk result (Appends (W.contents out.old) (W.contents out.new) (flat_map differ_line conflicts.now)) }
+{
+    for row in conflicts {
+        print_differ(out, *row)?;
+    }
+    Ok(())
+}
+
+// The line of a row of which no page is sound or erased, nor the majority sound.
+#[tactic(auto, unfolding(crate::specs::Merge::unsound_line))]
+fn print_unsound<W: Write>(out: &mut W, row: u32) -> io::Result<()>
+    ensures { OnOk result (Appends (W.contents out.old) (W.contents out.new) (unsound_line row)) }
+{
+    writeln!(out, "unsound row {row}")
+}
+
+// Those of all of them, in their order.
+fn print_all_unsound<W: Write>(out: &mut W, unsound: &[u32]) -> io::Result<()>
+    ensures { OnOk result (Appends (W.contents out.old) (W.contents out.new) (flat_map unsound_line unsound.now)) }
+{
+    for row in unsound {
+        print_unsound(out, *row)?;
+    }
+    Ok(())
+}
+
+// How many rows there are of each kind.
+#[tactic(auto, unfolding(crate::specs::Merge::tally_line))]
+fn print_tally<W: Write>(out: &mut W, differ: usize, tally: Tally) -> io::Result<()>
+    ensures { OnOk result (Appends (W.contents out.old) (W.contents out.new) (tally_line differ tally)) }
+{
+    let (sound, majority) = (tally.sound, tally.majority);
+    let (erased, unsound) = (tally.erased, tally.unsound);
+    writeln!(
+        out,
+        "sound {sound} differ {differ} majority {majority} erased {erased} unsound {unsound}"
+    )
+}
+
+// Which rows differ, which are unsound, and the counts.
+fn print_merge<W: Write>(
+    out: &mut W,
+    conflicts: &[u32],
+    unsound: &[u32],
+    tally: Tally,
+) -> io::Result<()>
+    ensures { OnOk result (Appends (W.contents out.old) (W.contents out.new) (merge_text conflicts.now unsound.now tally)) }
+{
+    print_conflicts(out, conflicts)?;
+    print_all_unsound(out, unsound)?;
+    print_tally(out, conflicts.len(), tally)
+}
+
+// Whether a path is that of one of the dumps.
+fn is_some_dump<'a, F: LabFiles>(
+    files: &mut F,
+    dumps: &[&'a str],
+    path: &str,
+) -> Result<bool, LabFault<'a>>
+    ensures said { IfOk result (HasSame (F.answers files.old) (texts dumps.now) path.now) }
+    ensures fault { IfErr result (IsSomeUnread (F.answers files.old) (texts dumps.now)) }
+    ensures same { files.new ≡ files.old }
+{
+    for place in 0..dumps.len() {
+        if is_dump(files, dumps[place], path)? {
+            return Ok(true);
+        }
+    }
+    Ok(false)
+}
+
+// Whether OUT may be written: there is no such file, or it is none of the dumps and may be replaced.
+fn allow_merge<'a, F: LabFiles>(files: &mut F, words: &MergeWords<'a>) -> Result<(), LabFault<'a>>
+    ensures ok { OnOk result (MayMerge (F.answers files.old) words.now) }
+    ensures fault { IfErr result (MayNotMerge (F.answers files.old) words.now) }
+    ensures same { files.new ≡ files.old }
+{
+    if !has_file(files, words.out)? {
+        return Ok(());
+    }
+    if is_some_dump(files, &words.dumps, words.out)? {
+        return Err(LabFault::IsDump);
+    }
+    if words.force {
+        Ok(())
+    } else {
+        Err(LabFault::Exists)
+    }
+}
+
+// Readers of all dumps, in their order.
+fn open_all<'a, F: LabFiles>(
+    alloc: Global,
+    dumps: &[&'a str],
+    files: &mut F,
+) -> Result<Vec<F::Reader>, LabFault<'a>>
+    ensures opened { IfOk result (λ readers. AreOpened (F.answers files.old) (texts dumps.now) (map F.Reader.remaining readers.items)) }
+    ensures fault { IfErr result (IsUnopened (F.answers files.old) (texts dumps.now)) }
+    ensures no_more { AnswersNoMore (F.answers files.old) (F.answers files.new) }
+    ensures kept { F.kept files.new ≡ F.kept files.old }
+{
+    let mut readers = Vec::new(alloc);
+    for place in 0..dumps.len() {
+        let reader = open_file(files, dumps[place])?;
+        match readers.push(reader) {
+            Ok(_) => (),
+            Err(_) => return Err(LabFault::OutOfMemory),
+        }
+    }
+    Ok(readers)
+}
+
+// How a fault of the merge is told: of a reading by its path.
+fn merge_told<'a>(fault: MergeFault, dumps: &[&'a str], out: &'a str) -> LabFault<'a>
+    requires { IsOfReading (length dumps.now) fault }
+    ensures { TellsFault fault (texts dumps.now) out.now result }
+{
+    match fault {
+        MergeFault::WrongLength(place) => LabFault::DumpLength(dumps[place]),
+        MergeFault::Source(place) => LabFault::Read(dumps[place]),
+        MergeFault::Target => LabFault::Write(out),
+        MergeFault::OutOfMemory => LabFault::OutOfMemory,
+    }
+}
+
+// Makes the one dump beside its place.
+fn join<'a, F: LabFiles>(
+    alloc: Global,
+    words: &MergeWords<'a>,
+    geometry: &Geometry,
+    files: &mut F,
+) -> Result<Merged<F::Pages>, LabFault<'a>>
+    requires { 0 < length words.now.dumps.items }
+    ensures made { IfOk result (λ told. IsJoined (F.answers files.old) (dumps_of words.now) geometry.now (F.Pages.pieces told.target) told.conflicts.items told.unsound.items told.tally) }
+    ensures fault { IfErr result (IsUnjoined (F.answers files.old) (dumps_of words.now) geometry.now words.now.out.now) }
+    ensures no_more { AnswersNoMore (F.answers files.old) (F.answers files.new) }
+    ensures kept { F.kept files.new ≡ F.kept files.old }
+{
+    let mut readers = open_all(alloc, &words.dumps, files)?;
+    let target = create_pages(files, words.out, geometry)?;
+    match merge_dumps(alloc, &mut readers, geometry, target) {
+        Ok(merged) => Ok(merged),
+        Err(fault) => {
+            files.discard(words.out);
+            Err(merge_told(fault, &words.dumps, words.out))
+        }
+    }
+}
+
+/// The command `merge`: writes one dump of the dumps DUMP, each a reading of one die of the geometry GEOM, to the file OUT, row by row, and prints
+/// of which rows two sound pages differ, of which no page is sound or erased nor the majority sound, and how many rows there are of each kind.
+///
+/// # Errors
+///
+/// The first of this order: `BadNumber` where GEOM writes no numbers, `Geometry` where they are no geometry, `IsDump` where OUT is one of the
+/// dumps, `Exists` where there is a file OUT and it may not be replaced, `Read` where one of the dumps cannot be opened, `Write` where no file
+/// can be made beside OUT, `OutOfMemory` where a growth was refused; then each when it happens: `Read` where a read of a dump fails,
+/// `DumpLength` where a dump has not as many bytes as the geometry says, `Write` where OUT cannot be written or put in its place. After each of
+/// these OUT is as it was, and nothing was printed. `Write` of `-` where `out` failed: then OUT was written.
+///
+/// (This project's.)
+pub(crate) fn merge_command<'a, F: LabFiles, W: Write>(
+    alloc: Global,
+    words: MergeWords<'a>,
+    files: &mut F,
+    out: &mut W,
+) -> Result<(), LabFault<'a>>
+    requires { 0 < length words.dumps.items }
+    ensures ok { OnOk result (WroteMerge (F.answers files.old) words.entry (F.kept files.old) (F.kept files.new) (W.contents out.old) (W.contents out.new)) }
+    ensures fault { IfErr result (IsMergeFault (F.answers files.old) words.entry (F.kept files.old) (F.kept files.new) (W.contents out.old) (W.contents out.new)) }
+{
+    let geometry = geometry_at(words.geometry)?;
+    allow_merge(files, &words)?;
+    let merged = join(alloc, &words, &geometry, files)?;
+    keep_pages(files, words.out, merged.target)?;
+    match print_merge(out, &merged.conflicts, &merged.unsound, merged.tally) {
+        Ok(()) => Ok(()),
+        Err(_) => Err(LabFault::Write("-")),
+    }
+}

@@ -1,0 +1,117 @@
+//! The command `repair GEOM DUMP OUT`.
+ghost use Rattle.std.specs.Prelude.{◌≡◌, OnOk, IfOk, IfErr};
+ghost use Rattle.std.specs.Io.KnownBytes.{Appends};
+ghost use Rattle.std.specs.List.{flat_map};
+ghost use Rattle.lab_commands.specs.Files.{AnswersNoMore};
+ghost use Rattle.lab_commands.specs.Undone.{IsUnmade};
+ghost use Rattle.lab_commands.specs.Repair.{IsMended, IsRepairFault, WroteRepair, mend_line, mended_line, repair_text, repair_told};
+
+use crate::files::LabFiles;
+use crate::opening::{allow, create_pages, geometry_at, keep_pages, open_file};
+use crate::text::LabFault;
+use lab_repair::{Mend, RepairFault, Repaired, repair_dump};
+use lab_words::RepairWords;
+use page_layout::geometry::Geometry;
+use std::alloc::Global;
+use std::io::{self, Write};
+
+// The line of a page that was mended.
+#[tactic(auto, unfolding(crate::specs::Repair::mend_line))]
+fn print_mend<W: Write>(out: &mut W, mend: Mend) -> io::Result<()>
+    ensures { OnOk result (Appends (W.contents out.old) (W.contents out.new) (mend_line mend)) }
+{
+    let (row, bit) = (mend.row, mend.bit);
+    writeln!(out, "mended row {row} bit {bit}")
+}
+
+// Those of all of them, in their order.
+fn print_mends<W: Write>(out: &mut W, mends: &[Mend]) -> io::Result<()>
+    ensures { OnOk result (Appends (W.contents out.old) (W.contents out.new) (flat_map mend_line mends.now)) }
+{
+    for mend in mends {
+        print_mend(out, *mend)?;
+    }
+    Ok(())
+}
+
+// How many were mended.
+#[tactic(auto, unfolding(crate::specs::Repair::mended_line))]
+fn print_mended<W: Write>(out: &mut W, count: usize) -> io::Result<()>
+    ensures { OnOk result (Appends (W.contents out.old) (W.contents out.new) (mended_line count)) }
+{
+    writeln!(out, "mended {count}")
+}
+
+// What was mended, and how many pages that are.
+fn print_repair<W: Write>(out: &mut W, mends: &[Mend]) -> io::Result<()>
+    ensures { OnOk result (Appends (W.contents out.old) (W.contents out.new) (repair_text mends.now)) }
+{
+    print_mends(out, mends)?;
+    print_mended(out, mends.len())
+}
+
+// How a fault of the repair is told.
+fn repair_told<'a>(fault: RepairFault, words: &RepairWords<'a>) -> LabFault<'a>
+    ensures { result ≡ repair_told fault words.now }
+{
+    match fault {
+        RepairFault::WrongLength => LabFault::WrongLength,
+        RepairFault::Source => LabFault::Read(words.dump),
+        RepairFault::Target => LabFault::Write(words.out),
+        RepairFault::OutOfMemory => LabFault::OutOfMemory,
+    }
+}
+
+// Makes the mended dump beside its place.
+fn mend<'a, F: LabFiles>(
+    alloc: Global,
+    words: &RepairWords<'a>,
+    geometry: &Geometry,
+    files: &mut F,
+) -> Result<Repaired<F::Pages>, LabFault<'a>>
+    ensures made { IfOk result (λ told. IsMended (F.answers files.old) words.now.dump.now geometry.now (F.Pages.pieces told.target) told.mends.items) }
+    ensures fault { IfErr result (IsUnmade (F.answers files.old) geometry.now words.now.dump.now words.now.out.now) }
+    ensures no_more { AnswersNoMore (F.answers files.old) (F.answers files.new) }
+    ensures kept { F.kept files.new ≡ F.kept files.old }
+{
+    let mut dump = open_file(files, words.dump)?;
+    let target = create_pages(files, words.out, geometry)?;
+    match repair_dump(alloc, &mut dump, geometry, target) {
+        Ok(repaired) => Ok(repaired),
+        Err(fault) => {
+            files.discard(words.out);
+            Err(repair_told(fault, words))
+        }
+    }
+}
+
+/// The command `repair`: writes the dump DUMP, of the geometry GEOM, to the file OUT, with each page mended that is neither erased nor sound and
+/// that one bit turned makes sound, and prints which pages were mended, and how many.
+///
+/// # Errors
+///
+/// The first of this order: `BadNumber` where GEOM writes no numbers, `Geometry` where they are no geometry, `IsDump` where OUT is the dump,
+/// `Exists` where there is a file OUT and it may not be replaced, `Read` where DUMP cannot be opened, `Write` where no file can be made
+/// beside OUT, `OutOfMemory` where a growth was refused; then each when it happens: `Read` where a read of DUMP fails, `WrongLength` where
+/// it has not as many bytes as the geometry says, `Write` where OUT cannot be written or put in its place. After each of these OUT is as it
+/// was, and nothing was printed. `Write` of `-` where `out` failed: then OUT was written.
+///
+/// (This project's.)
+pub(crate) fn repair_command<'a, F: LabFiles, W: Write>(
+    alloc: Global,
+    words: RepairWords<'a>,
+    files: &mut F,
+    out: &mut W,
+) -> Result<(), LabFault<'a>>
+    ensures ok { OnOk result (WroteRepair (F.answers files.old) words.entry (F.kept files.old) (F.kept files.new) (W.contents out.old) (W.contents out.new)) }
+    ensures fault { IfErr result (IsRepairFault (F.answers files.old) words.entry (F.kept files.old) (F.kept files.new) (W.contents out.old) (W.contents out.new)) }
+{
+    let geometry = geometry_at(words.geometry)?;
+    allow(files, words.dump, words.out, words.force)?;
+    let repaired = mend(alloc, &words, &geometry, files)?;
+    keep_pages(files, words.out, repaired.target)?;
+    match print_repair(out, &repaired.mends) {
+        Ok(()) => Ok(()),
+        Err(_) => Err(LabFault::Write("-")),
+    }
+}
