@@ -1,2 +1,3 @@
 mod RefusalLemmas
+mod AnswerLemmas
 mod KeptLemmas

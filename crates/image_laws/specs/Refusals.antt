@@ -1,5 +1,5 @@
 -- What is refused has one reason.
-use Rattle.std.specs.Prelude.{◌≡◌, ℕ, List, Option}
+use Rattle.std.specs.Prelude.{◌≡◌, ◌⊎◌, ℕ, ◌<◌, List, Option, None, length}
 use Rattle.page_layout.specs.declared.geometry.Geometry.{Geometry}
 use Rattle.page_layout.specs.declared.record.Record.{Record}
 use Rattle.page_layout.specs.Page.{Image}
@@ -7,14 +7,46 @@ use Rattle.bad_blocks.specs.declared.table.page.TableFault.{TableFault}
 use Rattle.bad_blocks.specs.TablePage as table
 use Rattle.certificate.specs.Claim.{Claim}
 use Rattle.image_check.specs.declared.refusal.Refusal.{Refusal}
+use Rattle.image_check.specs.declared.refusal.Refusal.TheVariants as refusals
+use Rattle.image_check.specs.Accepted.{Acceptance, IsAcceptance}
 use Rattle.image_check.specs.Mountable.{IsMountable}
-use Rattle.image_check.specs.Refused.{IsFirstWrong, IsFirstRepeated, IsStop, part_of}
-use Rattle.mount.specs.Mounted.{Refuses}
+use Rattle.image_check.specs.Refused.{Tables, IsFirstWrong, IsFirstRepeated, IsJudgement, IsStop, part_of}
+use Rattle.image_check.specs.Streamed.{IsStreamRefusal, image_bytes}
+use Rattle.mount.specs.Mounted.{IsAfter, IsUnmountable, Refuses}
 
 -- ONE PART: of an image and a certificate the part that fails first is one, so all that may be refused of them name it
 abbrev pub OnePartLaw : Type 0
 OnePartLaw = (g : Geometry) (capacity : ℕ) (image : Image) (c : Claim) (r s : Refusal) → IsFirstWrong g capacity image c r → IsFirstWrong g capacity image c s
     → part_of r ≡ part_of s
+
+-- ONE REFUSAL: and it is one also in what it names, the rows, the page, the sector or the block
+abbrev pub OneRefusalLaw : Type 0
+OneRefusalLaw = (g : Geometry) (capacity : ℕ) (image : Image) (c : Claim) (r s : Refusal) → IsFirstWrong g capacity image c r → IsFirstWrong g capacity image c s
+    → r ≡ s
+
+-- ONE ANSWER: what is accepted isn't refused, but for want of memory and a page read that failed, and always with the same stale sectors
+abbrev pub OneAnswerLaw : Type 0
+OneAnswerLaw = (g : Geometry) (capacity : ℕ) (image : Image) (c : Claim) (a : Acceptance) → IsAcceptance g capacity image c a
+    → ((r : Refusal) → ¬ IsFirstWrong g capacity image c r) × ((b : Acceptance) → IsAcceptance g capacity image c b → a ≡ b)
+
+-- ONE REASON NOT TO MOUNT: an image has one, but that the last sequence may be used and too many sectors stale at once, which both come
+-- after all else
+abbrev pub OneReasonLaw : Type 0
+OneReasonLaw = (g : Geometry) (capacity : ℕ) (image : Image) (r s : Refusal) → IsUnmountable g capacity image r → IsUnmountable g capacity image s
+    → (r ≡ s) ⊎ (IsAfter Tables r × IsAfter Tables s)
+
+-- TOO STALE IS MORE THAN THE CAPACITY, to the checker and to a mount
+abbrev pub TooStaleLaw : Type 0
+TooStaleLaw = (g : Geometry) (capacity : ℕ) (image : Image) (c : Claim) (stale most : ℕ)
+    → IsFirstWrong g capacity image c (refusals.TooStale stale most) ⊎ IsUnmountable g capacity image (refusals.TooStale stale most) → most < stale
+
+-- ANOTHER LENGTH: bytes that are as many as an image has aren't refused for their length
+abbrev pub LengthLaw : Type 0
+LengthLaw = (g : Geometry) (capacity : ℕ) (bytes : List ℕ) (c : Claim) → length bytes ≡ image_bytes g → ¬ IsStreamRefusal g capacity bytes c refusals.WrongLength
+
+-- WHAT STOPS A CHECK SAYS NOTHING OF THE IMAGE
+abbrev pub StopLaw : Type 0
+StopLaw = (r : Refusal) → IsStop r → (part_of r ≡ None) × (¬ IsJudgement r)
 
 -- ONE PAIR: the rows that share a sequence, and of which the second is lowest, are two rows alone
 abbrev pub OnePairLaw : Type 0

@@ -3,6 +3,7 @@
 #![tactic(auto)]
 
 ghost use Rattle.image_laws.specs.Refusals.{OnePartLaw, OnePairLaw, OneWordLaw, CertifiedLaw};
+ghost use Rattle.image_laws.specs.Refusals.{OneRefusalLaw, OneAnswerLaw, OneReasonLaw, TooStaleLaw, LengthLaw, StopLaw};
 ghost use Rattle.image_laws.specs.Kept.{OtherRowsLaw, OtherPagesLaw, LowestTableLaw};
 
 /// What a refusal says is one: the part of a certificate that fails first, the rows that share a sequence first, and what is wrong first
@@ -13,6 +14,19 @@ pub fn refusal_laws()
     ensures pair { OnePairLaw }
     ensures word { OneWordLaw }
     ensures certified { CertifiedLaw }
+{}
+
+/// Of an image and a certificate there is one answer: all that may be refused is one refusal, also in what it names, and what is accepted
+/// isn't refused, and always has the same stale sectors. An image has one reason not to be mounted, but for the two that come after all
+/// others. Too many stale sectors are more than the capacity; bytes as many as an image has aren't refused for their length; and what stops
+/// a check says nothing of the image. (This project.)
+pub fn answer_laws()
+    ensures refusal { OneRefusalLaw }
+    ensures answer { OneAnswerLaw }
+    ensures reason { OneReasonLaw }
+    ensures stale { TooStaleLaw }
+    ensures length { LengthLaw }
+    ensures stop { StopLaw }
 {}
 
 /// What stays: reading a table page leaves the rows of all other pages' blocks as they were; a format leaves the pages of good blocks
