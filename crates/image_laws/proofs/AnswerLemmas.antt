@@ -1,5 +1,5 @@
 -- Of an image and a certificate there is one answer, and of an image one reason not to mount it.
-use Rattle.std.proofs.Common.{◌≡◌, ℕ, ◌<◌, ◌⊎◌, List, Option, Some, None, slice_get, inl, inr, refl, sym, ap, subst, ◌∙◌, arith}
+use Rattle.std.proofs.Common.{◌≡◌, ℕ, ◌<◌, ◌⊎◌, List, Option, Some, None, inl, inr, refl, sym, ap, subst, ◌∙◌, arith}
 use Rattle.std.proofs.lemmas.Bool.{cases_order, cases_lt}
 use Rattle.std.proofs.lemmas.Option.{slice_get_within}
 use Rattle.page_layout.specs.declared.record.Record.{Record}
@@ -14,11 +14,10 @@ use Rattle.certificate.specs.declared.block_state.BlockState.{BlockState}
 use Rattle.certificate.specs.Claim.{Claim}
 use Rattle.image_check.specs.declared.refusal.Refusal.{Refusal}
 use Rattle.image_check.specs.declared.refusal.Refusal.TheVariants as refusals
-use Rattle.image_check.specs.Accepted.{Acceptance, IsAcceptance}
+use Rattle.image_check.specs.Accepted.{Acceptance}
 use Rattle.image_check.specs.Survey.{IsFirstOutside}
-use Rattle.image_check.specs.Refused.{Part, Numbers, Sequences, Tables, Next, Fresh, order, part_of, Says, Holds, IsFirstWrong, IsJudgement, IsStop}
+use Rattle.image_check.specs.Refused.{Part, Numbers, Sequences, Tables, Next, Fresh, order, part_of, Says, Holds, IsJudgement}
 use Rattle.image_check.specs.Refused.{IsUnformatted, IsTableDamaged, IsFirstDirectoryWrong, IsNoSuchRecord, IsNotNewest, IsWrongBlock}
-use Rattle.image_check.specs.Streamed.{IsStreamRefusal}
 use Rattle.mount.specs.Mounted.{IsAfter, IsUnmountable, Shows}
 use Rattle.mount.proofs.RefuseLemmas.{holds}
 use Rattle.image_laws.specs.Refusals.{OneRefusalLaw, OneAnswerLaw, OneReasonLaw, TooStaleLaw, LengthLaw, StopLaw}

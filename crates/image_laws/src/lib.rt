@@ -4,6 +4,10 @@
 
 ghost use Rattle.image_laws.specs.Refusals.{OnePartLaw, OnePairLaw, OneWordLaw, CertifiedLaw};
 ghost use Rattle.image_laws.specs.Refusals.{OneRefusalLaw, OneAnswerLaw, OneReasonLaw, TooStaleLaw, LengthLaw, StopLaw};
+ghost use Rattle.image_laws.specs.Certificates.{OneNextLaw, OneCertificateLaw, OneMountLaw, WholeFirstLaw};
+ghost use Rattle.image_laws.specs.Sectors.{OneTieLaw, ShownLaw, HeldLaw, ShownReadLaw};
+ghost use Rattle.image_laws.specs.Tables.{WrongWordLaw, SameLengthLaw, EraseCountLaw, WordLaw, RightLaw, TableWordLaw};
+ghost use Rattle.image_laws.specs.Formats.{UntouchedLaw, LostLaw, EnoughLaw, NoFailureLaw, LowSequenceLaw};
 ghost use Rattle.image_laws.specs.Kept.{OtherRowsLaw, OtherPagesLaw, LowestTableLaw};
 
 /// What a refusal says is one: the part of a certificate that fails first, the rows that share a sequence first, and what is wrong first
@@ -27,6 +31,45 @@ pub fn answer_laws()
     ensures stale { TooStaleLaw }
     ensures length { LengthLaw }
     ensures stop { StopLaw }
+{}
+
+/// An image has one certificate: two that agree with it differ in their next sequence alone, and mounting gives just one. To read one asks
+/// for memory only for bytes that are as many as their head promises. (This project.)
+pub fn certificate_laws()
+    ensures next { OneNextLaw }
+    ensures certificate { OneCertificateLaw }
+    ensures mount { OneMountLaw }
+    ensures memory { WholeFirstLaw }
+{}
+
+/// The rows that are named where pages of a sector share its greatest sequence are two alone, and nothing else is shown of a sector than a
+/// page of its own, whole. (This project.)
+pub fn sector_laws()
+    ensures tie { OneTieLaw }
+    ensures shown { ShownLaw }
+    ensures held { HeldLaw }
+    ensures read { ShownReadLaw }
+{}
+
+/// What the table of blocks says: how an erase and a failure change a row, which word a row has and which are right, and where the word of a
+/// block stands in an image. (This project.)
+pub fn table_laws()
+    ensures wrong { WrongWordLaw }
+    ensures length { SameLengthLaw }
+    ensures erased { EraseCountLaw }
+    ensures words { WordLaw }
+    ensures right { RightLaw }
+    ensures word { TableWordLaw }
+{}
+
+/// What a format did: nothing where it was refused for memory or a used page; it lost two blocks at most, or three where it gave up; enough
+/// good blocks are left where it ended well; without a failure none is lost; and the sequences that it used are low. (This project.)
+pub fn format_laws()
+    ensures untouched { UntouchedLaw }
+    ensures lost { LostLaw }
+    ensures enough { EnoughLaw }
+    ensures calm { NoFailureLaw }
+    ensures sequences { LowSequenceLaw }
 {}
 
 /// What stays: reading a table page leaves the rows of all other pages' blocks as they were; a format leaves the pages of good blocks

@@ -1,0 +1,55 @@
+-- What a format did, and what it did not.
+use Rattle.std.proofs.Common.{◌≡◌, ℕ, ◌+◌, ◌⊎◌, Bool, true, false, List, [], ◌∷◌, inl, inr, refl, arith}
+use Rattle.page_layout.specs.Flash.{Operation, Program, Erase}
+use Rattle.page_layout.proofs.CountLemmas.{count_by-cons}
+use Rattle.promises.specs.Log.{failed_in}
+use Rattle.mount.specs.Log.{has_failed, failures}
+use Rattle.image_laws.specs.Formats.{UntouchedLaw, LostLaw, EnoughLaw, NoFailureLaw, LowSequenceLaw}
+use Rattle.image_laws.proofs.KeptLemmas.{lowest_table}
+
+pub untouched : UntouchedLaw
+untouched g old new before after row = (
+  λ h. (elim h [ inl same ↦ same | inr used ↦ used.untouched ]),
+  λ h. (elim h [ inl same ↦ same | inr used ↦ used.1 ]),
+)
+
+pub lost : LostLaw
+lost g old new good asked = (
+  λ h. (elim h [
+    | inl f ↦ let few = f.at_most in let fewer = f.fewer in omega arith
+    | inr f ↦ let few = f.at_most in let fewer = f.fewer in omega arith
+  ]),
+  λ f. (f.three, f.fewer),
+)
+
+pub enough : EnoughLaw
+enough g old new before after good asked = (
+  λ h. (elim h [ inl f ↦ f.enough | inr a ↦ a.0 ]),
+  λ h. (elim h [
+    | inl f ↦ let few = f.few in let is = f.asked_is in omega arith
+    | inr a ↦ let few = a.0 in let is = a.1 in omega arith
+  ]),
+)
+
+-- a log of no failure fails in no block
+none_failed : (pages : ℕ) (log : List Operation) (block : ℕ) → failures log ≡ 0 → failed_in pages log block ≡ false
+none_failed pages [] block none = refl
+none_failed pages (Program row p true left ∷ log) block none =
+    none_failed pages log block (let one : failures (Program row p true left ∷ log) ≡ 0 + failures log = count_by-cons has_failed (Program row p true left) log in omega (arith, none, one))
+none_failed pages (Program row p false left ∷ log) block none = absurd (let one : failures (Program row p false left ∷ log) ≡ 1 + failures log = count_by-cons has_failed (Program row p false left) log in omega (arith, none, one))
+none_failed pages (Erase b true left ∷ log) block none =
+    none_failed pages log block (let one : failures (Erase b true left ∷ log) ≡ 0 + failures log = count_by-cons has_failed (Erase b true left) log in omega (arith, none, one))
+none_failed pages (Erase b false left ∷ log) block none = absurd (let one : failures (Erase b false left ∷ log) ≡ 1 + failures log = count_by-cons has_failed (Erase b false left) log in omega (arith, none, one))
+
+marked_below : (a b : Bool) → b ≡ false → (a ≡ true) ⊎ (b ≡ true) → a ≡ true
+marked_below a b none (inl is) = is
+marked_below a b none (inr is) = absurd cc
+
+pub no_failure : NoFailureLaw
+no_failure g old new good f none = (
+  (let fewer = f.fewer in omega arith),
+  λ lower below. marked_below _ _ (none_failed g.pages f.log lower none) (lowest_table g old new f.log f.block lower f.table below),
+)
+
+pub low_sequence : LowSequenceLaw
+low_sequence g old new good row r f here = let below = f.blank.below.below row r here in let few = f.few_programs in omega arith

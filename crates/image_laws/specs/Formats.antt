@@ -1,0 +1,39 @@
+-- What a format did, and what it did not.
+use Rattle.std.specs.Prelude.{◌≡◌, ℕ, ◌+◌, ◌*◌, ◌<◌, ◌≤◌, ◌⊎◌, true, [], get_or, Some, None, Ok, Err}
+use Rattle.page_layout.specs.declared.geometry.Geometry.{Geometry}
+use Rattle.page_layout.specs.declared.record.Record.{Record}
+use Rattle.page_layout.specs.Geometry.{need, table_pages}
+use Rattle.page_layout.specs.Array.{marks}
+use Rattle.page_layout.specs.Flash.{Flash}
+use Rattle.bad_blocks.specs.Marks.{is_marked}
+use Rattle.mount.specs.Log.{failures}
+use Rattle.mount.specs.Formatted.{good_after, IsFormatted, IsWriteFailed, Formats, Answers}
+use Rattle.mount.specs.declared.format_fault.FormatFault.TheVariants.{TooFewGood, OutOfMemory, NotFresh}
+
+-- NOTHING WAS DONE by a format that was refused for memory or for a used page, and no program was counted
+abbrev pub UntouchedLaw : Type 0
+UntouchedLaw = (g : Geometry) (old new : Flash) (before after row : ℕ)
+    → (Formats g old new (Err OutOfMemory) ⊎ Formats g old new (Err (NotFresh row)) → new ≡ old)
+    × (Answers g before after (Err OutOfMemory) ⊎ Answers g before after (Err (NotFresh row)) → after ≡ before)
+
+-- TWO BLOCKS ARE LOST AT MOST by a format that ends well or is left with too few, and three by one that gives up
+abbrev pub LostLaw : Type 0
+LostLaw = (g : Geometry) (old new : Flash) (good asked : ℕ)
+    → (Formats g old new (Ok good) ⊎ Formats g old new (Err (TooFewGood good asked)) → good_after g old.image [] ≤ good + 2)
+    × ((f : IsWriteFailed g old new) → (failures f.log ≡ 3) × (good_after g old.image f.log + 3 ≡ good_after g old.image []))
+
+-- ENOUGH BLOCKS ARE GOOD after a format that ended well, whatever the die was, and too few where it says so
+abbrev pub EnoughLaw : Type 0
+EnoughLaw = (g : Geometry) (old new : Flash) (before after good asked : ℕ)
+    → (Formats g old new (Ok good) ⊎ Answers g before after (Ok good) → need g ≤ good)
+    × (Formats g old new (Err (TooFewGood good asked)) ⊎ Answers g before after (Err (TooFewGood good asked)) → good < asked)
+
+-- A DIE WITHOUT FAILURES: its format loses no block, and its table stands in the first that isn't marked
+abbrev pub NoFailureLaw : Type 0
+NoFailureLaw = (g : Geometry) (old new : Flash) (good : ℕ) (f : IsFormatted g old new good) → failures f.log ≡ 0
+    → (good ≡ good_after g old.image []) × ((lower : ℕ) → lower < f.block → is_marked g old.image lower ≡ true)
+
+-- THE SEQUENCES OF A FORMATTED DIE ARE LOW: three tables were begun at most
+abbrev pub LowSequenceLaw : Type 0
+LowSequenceLaw = (g : Geometry) (old new : Flash) (good row : ℕ) (r : Record) → IsFormatted g old new good → get_or (marks new.image) row None ≡ Some r
+    → r.sequence ≤ 3 * table_pages g
