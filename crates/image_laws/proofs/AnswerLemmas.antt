@@ -20,7 +20,7 @@ use Rattle.image_check.specs.Refused.{Part, Numbers, Sequences, Tables, Next, Fr
 use Rattle.image_check.specs.Refused.{IsUnformatted, IsTableDamaged, IsFirstDirectoryWrong, IsNoSuchRecord, IsNotNewest, IsWrongBlock}
 use Rattle.mount.specs.Mounted.{IsAfter, IsUnmountable, Shows}
 use Rattle.mount.proofs.RefuseLemmas.{holds}
-use Rattle.image_laws.specs.Refusals.{OneRefusalLaw, OneAnswerLaw, OneReasonLaw, TooStaleLaw, LengthLaw, StopLaw}
+use Rattle.image_laws.specs.Refusals.{OneRefusalLaw, OneAnswerLaw, OneReasonLaw, TooStaleLaw, LengthLaw, StopLaw, NamedLaw, MountingLaw, IsNamedOf}
 use Rattle.image_laws.proofs.RefusalLemmas.{same_place, same_part, one_pair}
 
 -- ---- each first is one
@@ -250,3 +250,33 @@ of_length g capacity bytes c size (inr (inr w)) = let part = w.wrong.part_is in 
 pub stops : StopLaw
 stops r (inl is) = (ap part_of is, λ judged. subst IsJudgement is judged)
 stops r (inr is) = (ap part_of is, λ judged. subst IsJudgement is judged)
+
+-- ---- what is named
+
+named_of : (g : Geometry) (capacity : ℕ) (image : Image) (c : Claim) (r : Refusal) → Says g capacity image c r → IsNamedOf g r
+named_of g capacity image c (refusals.TableDamaged u) h = h.within
+named_of g capacity image c (refusals.DirectoryWrong i) h = elim h.wrong [
+  | inl w ↦ let below = w.0 in omega arith
+  | inr w ↦ let below = w.1 in let is = w.2 in omega arith
+]
+named_of g capacity image c (refusals.NoSuchRecord n row) h = h.within
+named_of g capacity image c (refusals.NotNewest n row) h = h.within
+named_of g capacity image c (refusals.BadSetWrong b) h = h.within
+named_of g capacity image c (refusals.BlockState b) h = h.within
+named_of g capacity image c (refusals.LiveWrong b) h = h.within
+named_of g capacity image c (refusals.WearWrong b) h = h.within
+named_of g capacity image c _ h = tt
+
+pub names : NamedLaw
+names g capacity image c r w = named_of g capacity image c r w.wrong.says
+
+pub of_mounting : MountingLaw
+of_mounting (refusals.NumberRange row) h = inr (inl tt)
+of_mounting (refusals.SequenceRepeated a b) h = inr (inl tt)
+of_mounting refusals.NotFormatted h = inr (inl tt)
+of_mounting (refusals.TableDamaged u) h = inr (inl tt)
+of_mounting refusals.NextSequence h = inr (inr (inl refl))
+of_mounting (refusals.TooStale stale most) h = inr (inr (inr refl))
+of_mounting refusals.Source h = inl (inl refl)
+of_mounting refusals.OutOfMemory h = inl (inr refl)
+of_mounting _ h = absurd h

@@ -11,15 +11,17 @@ pub untouched : UntouchedLaw
 untouched g old new before after row = (
   λ h. (elim h [ inl same ↦ same | inr used ↦ used.untouched ]),
   λ h. (elim h [ inl same ↦ same | inr used ↦ used.1 ]),
+  λ used. used.0,
 )
 
 pub lost : LostLaw
-lost g old new good asked = (
+lost g old new before after good asked = (
   λ h. (elim h [
     | inl f ↦ let few = f.at_most in let fewer = f.fewer in omega arith
     | inr f ↦ let few = f.at_most in let fewer = f.fewer in omega arith
   ]),
   λ f. (f.three, f.fewer),
+  λ more. more,
 )
 
 pub enough : EnoughLaw
@@ -29,6 +31,7 @@ enough g old new before after good asked = (
     | inl f ↦ let few = f.few in let is = f.asked_is in omega arith
     | inr a ↦ let few = a.0 in let is = a.1 in omega arith
   ]),
+  λ a. a.1,
 )
 
 -- a log of no failure fails in no block

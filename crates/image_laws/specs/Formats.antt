@@ -1,32 +1,35 @@
 -- What a format did, and what it did not.
-use Rattle.std.specs.Prelude.{◌≡◌, ℕ, ◌+◌, ◌*◌, ◌<◌, ◌≤◌, ◌⊎◌, true, [], get_or, Some, None, Ok, Err}
+use Rattle.std.specs.Prelude.{◌≡◌, ℕ, ◌+◌, ◌*◌, ◌^◌, ◌<◌, ◌≤◌, ◌⊎◌, true, [], get_or, Some, None, Ok, Err}
 use Rattle.page_layout.specs.declared.geometry.Geometry.{Geometry}
 use Rattle.page_layout.specs.declared.record.Record.{Record}
-use Rattle.page_layout.specs.Geometry.{need, table_pages}
+use Rattle.page_layout.specs.Geometry.{need, row_count, table_pages}
 use Rattle.page_layout.specs.Array.{marks}
 use Rattle.page_layout.specs.Flash.{Flash}
 use Rattle.bad_blocks.specs.Marks.{is_marked}
 use Rattle.mount.specs.Log.{failures}
 use Rattle.mount.specs.Formatted.{good_after, IsFormatted, IsWriteFailed, Formats, Answers}
-use Rattle.mount.specs.declared.format_fault.FormatFault.TheVariants.{TooFewGood, OutOfMemory, NotFresh}
+use Rattle.mount.specs.declared.format_fault.FormatFault.TheVariants.{TooFewGood, OutOfMemory, WriteFailed, NotFresh}
 
--- NOTHING WAS DONE by a format that was refused for memory or for a used page, and no program was counted
+-- NOTHING WAS DONE by a format that was refused for memory or for a used page, which is one of the die, and no program was counted
 abbrev pub UntouchedLaw : Type 0
 UntouchedLaw = (g : Geometry) (old new : Flash) (before after row : ℕ)
     → (Formats g old new (Err OutOfMemory) ⊎ Formats g old new (Err (NotFresh row)) → new ≡ old)
     × (Answers g before after (Err OutOfMemory) ⊎ Answers g before after (Err (NotFresh row)) → after ≡ before)
+    × (Answers g before after (Err (NotFresh row)) → row < row_count g)
 
--- TWO BLOCKS ARE LOST AT MOST by a format that ends well or is left with too few, and three by one that gives up
+-- TWO BLOCKS ARE LOST AT MOST by a format that ends well or is left with too few, and three by one that gives up, after three programs at least
 abbrev pub LostLaw : Type 0
-LostLaw = (g : Geometry) (old new : Flash) (good asked : ℕ)
+LostLaw = (g : Geometry) (old new : Flash) (before after good asked : ℕ)
     → (Formats g old new (Ok good) ⊎ Formats g old new (Err (TooFewGood good asked)) → good_after g old.image [] ≤ good + 2)
     × ((f : IsWriteFailed g old new) → (failures f.log ≡ 3) × (good_after g old.image f.log + 3 ≡ good_after g old.image []))
+    × (Answers g before after (Err WriteFailed) → before + 3 < 2 ^ 64 → before + 3 ≤ after)
 
 -- ENOUGH BLOCKS ARE GOOD after a format that ended well, whatever the die was, and too few where it says so
 abbrev pub EnoughLaw : Type 0
 EnoughLaw = (g : Geometry) (old new : Flash) (before after good asked : ℕ)
     → (Formats g old new (Ok good) ⊎ Answers g before after (Ok good) → need g ≤ good)
     × (Formats g old new (Err (TooFewGood good asked)) ⊎ Answers g before after (Err (TooFewGood good asked)) → good < asked)
+    × (Answers g before after (Ok good) → good ≤ g.blocks)
 
 -- A DIE WITHOUT FAILURES: its format loses no block, and its table stands in the first that isn't marked
 abbrev pub NoFailureLaw : Type 0

@@ -1,7 +1,8 @@
 -- What is refused has one reason.
-use Rattle.std.specs.Prelude.{◌≡◌, ◌⊎◌, ℕ, ◌<◌, List, Option, None, length}
+use Rattle.std.specs.Prelude.{◌≡◌, ◌⊎◌, ℕ, ◌+◌, ◌<◌, List, Option, Some, None, length}
 use Rattle.page_layout.specs.declared.geometry.Geometry.{Geometry}
 use Rattle.page_layout.specs.declared.record.Record.{Record}
+use Rattle.page_layout.specs.Geometry.{translation_pages, table_pages}
 use Rattle.page_layout.specs.Page.{Image}
 use Rattle.bad_blocks.specs.declared.table.page.TableFault.{TableFault}
 use Rattle.bad_blocks.specs.TablePage as table
@@ -10,9 +11,9 @@ use Rattle.image_check.specs.declared.refusal.Refusal.{Refusal}
 use Rattle.image_check.specs.declared.refusal.Refusal.TheVariants as refusals
 use Rattle.image_check.specs.Accepted.{Acceptance, IsAcceptance}
 use Rattle.image_check.specs.Mountable.{IsMountable}
-use Rattle.image_check.specs.Refused.{Tables, IsFirstWrong, IsFirstRepeated, IsJudgement, IsStop, part_of}
+use Rattle.image_check.specs.Refused.{Tables, Next, Fresh, IsFirstWrong, IsFirstRepeated, IsJudgement, IsOfImage, IsStop, part_of}
 use Rattle.image_check.specs.Streamed.{IsStreamRefusal, image_bytes}
-use Rattle.mount.specs.Mounted.{IsAfter, IsUnmountable, Refuses}
+use Rattle.mount.specs.Mounted.{IsAfter, IsUnmountable, IsOfMounting, Refuses}
 
 -- ONE PART: of an image and a certificate the part that fails first is one, so all that may be refused of them name it
 abbrev pub OnePartLaw : Type 0
@@ -47,6 +48,26 @@ LengthLaw = (g : Geometry) (capacity : ℕ) (bytes : List ℕ) (c : Claim) → l
 -- WHAT STOPS A CHECK SAYS NOTHING OF THE IMAGE
 abbrev pub StopLaw : Type 0
 StopLaw = (r : Refusal) → IsStop r → (part_of r ≡ None) × (¬ IsJudgement r)
+
+-- the page, the row of the directory, the sector or the block that a refusal names is one of the die
+abbrev pub IsNamedOf : Geometry → Refusal → Type 0
+IsNamedOf g (refusals.TableDamaged u) = u < table_pages g
+IsNamedOf g (refusals.DirectoryWrong i) = i < translation_pages g + table_pages g
+IsNamedOf g (refusals.NoSuchRecord n row) = n < g.sectors
+IsNamedOf g (refusals.NotNewest n row) = n < g.sectors
+IsNamedOf g (refusals.BadSetWrong b) = b < g.blocks
+IsNamedOf g (refusals.BlockState b) = b < g.blocks
+IsNamedOf g (refusals.LiveWrong b) = b < g.blocks
+IsNamedOf g (refusals.WearWrong b) = b < g.blocks
+IsNamedOf g _ = Unit {0}
+
+-- NOTHING ELSE IS NAMED than what the die has
+abbrev pub NamedLaw : Type 0
+NamedLaw = (g : Geometry) (capacity : ℕ) (image : Image) (c : Claim) (r : Refusal) → IsFirstWrong g capacity image c r → IsNamedOf g r
+
+-- A MOUNT IS REFUSED for what the pages alone decide, for the last sequence, for too many stale sectors, or for what stops it
+abbrev pub MountingLaw : Type 0
+MountingLaw = (r : Refusal) → IsOfMounting r → IsStop r ⊎ (IsOfImage r ⊎ ((part_of r ≡ Some Next) ⊎ (part_of r ≡ Some Fresh)))
 
 -- ONE PAIR: the rows that share a sequence, and of which the second is lowest, are two rows alone
 abbrev pub OnePairLaw : Type 0

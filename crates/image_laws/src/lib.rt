@@ -3,7 +3,7 @@
 #![tactic(auto)]
 
 ghost use Rattle.image_laws.specs.Refusals.{OnePartLaw, OnePairLaw, OneWordLaw, CertifiedLaw};
-ghost use Rattle.image_laws.specs.Refusals.{OneRefusalLaw, OneAnswerLaw, OneReasonLaw, TooStaleLaw, LengthLaw, StopLaw};
+ghost use Rattle.image_laws.specs.Refusals.{OneRefusalLaw, OneAnswerLaw, OneReasonLaw, TooStaleLaw, LengthLaw, StopLaw, NamedLaw, MountingLaw};
 ghost use Rattle.image_laws.specs.Certificates.{OneNextLaw, OneCertificateLaw, OneMountLaw, WholeFirstLaw};
 ghost use Rattle.image_laws.specs.Sectors.{OneTieLaw, ShownLaw, HeldLaw, ShownReadLaw};
 ghost use Rattle.image_laws.specs.Tables.{WrongWordLaw, SameLengthLaw, EraseCountLaw, WordLaw, RightLaw, TableWordLaw};
@@ -22,8 +22,8 @@ pub fn refusal_laws()
 
 /// Of an image and a certificate there is one answer: all that may be refused is one refusal, also in what it names, and what is accepted
 /// isn't refused, and always has the same stale sectors. An image has one reason not to be mounted, but for the two that come after all
-/// others. Too many stale sectors are more than the capacity; bytes as many as an image has aren't refused for their length; and what stops
-/// a check says nothing of the image. (This project.)
+/// others. Too many stale sectors are more than the capacity; bytes as many as an image has aren't refused for their length; what stops a
+/// check says nothing of the image; what is named is of the die; and a mount is refused for what the pages decide. (This project.)
 pub fn answer_laws()
     ensures refusal { OneRefusalLaw }
     ensures answer { OneAnswerLaw }
@@ -31,6 +31,8 @@ pub fn answer_laws()
     ensures stale { TooStaleLaw }
     ensures length { LengthLaw }
     ensures stop { StopLaw }
+    ensures named { NamedLaw }
+    ensures mounting { MountingLaw }
 {}
 
 /// An image has one certificate: two that agree with it differ in their next sequence alone, and mounting gives just one. To read one asks

@@ -1,4 +1,4 @@
-use Rattle.image_laws.proofs.AnswerLemmas.{one_refusal, one_answer, one_reason, too_stale, of_length, stops}
+use Rattle.image_laws.proofs.AnswerLemmas.{one_refusal, one_answer, one_reason, too_stale, of_length, stops, names, of_mounting}
 use Rattle.image_laws.proofs.answer_laws.Goals as goal
 
 pub returns-clause-refusal : goal.returns-clause-refusal
@@ -18,3 +18,9 @@ returns-clause-length c = of_length
 
 pub returns-clause-stop : goal.returns-clause-stop
 returns-clause-stop c = stops
+
+pub returns-clause-named : goal.returns-clause-named
+returns-clause-named c = names
+
+pub returns-clause-mounting : goal.returns-clause-mounting
+returns-clause-mounting c = of_mounting
