@@ -59,13 +59,16 @@ state_of : (g : Geometry) (capacity : ℕ) (image : Image) (c : Claim) (b : ℕ)
 state_of g capacity image c b a l =
     let at = a.states.state b l in
     let live = a.live.state b l in
-    let wear = a.wear.state b l in
-    (at.0, at.1, record {
-      class_is = at.2.0;
-      pointer_is = at.2.1;
-      live_is = sym (ap (λ (s : BlockState). s.live) (one_state c.blocks b at.0 live.0 at.1 live.1)) ∙ live.2;
-      wear_is = sym (ap (λ (s : BlockState). s.wear) (one_state c.blocks b at.0 wear.0 at.1 wear.1)) ∙ wear.2;
-    })
+    let wear = a.wear.state b l in (
+      at.0,
+      at.1,
+      record {
+        class_is = at.2.0;
+        pointer_is = at.2.1;
+        live_is = sym (ap (λ (s : BlockState). s.live) (one_state c.blocks b at.0 live.0 at.1 live.1)) ∙ live.2;
+        wear_is = sym (ap (λ (s : BlockState). s.wear) (one_state c.blocks b at.0 wear.0 at.1 wear.1)) ∙ wear.2;
+      },
+    )
 
 same_blocks : (g : Geometry) (capacity : ℕ) (image : Image) (c d : Claim) (b : ℕ) → Agrees g capacity image c → Agrees g capacity image d → b < g.blocks → slice_get c.blocks b ≡ slice_get d.blocks b
 same_blocks g capacity image c d b a e l =

@@ -24,8 +24,7 @@ row_set rows block row within = get_or_from_slice_get (slice_set rows block row)
 pub erase_count : EraseCountLaw
 erase_count rows block within =
     let erased = row_set rows block (record { class = class_at rows block; wear = min (wear_at rows block + 1) 16777215 }) within in
-    let failed = row_set rows block (record { class = Grown; wear = wear_at rows block }) within in
-    (
+    let failed = row_set rows block (record { class = Grown; wear = wear_at rows block }) within in (
       λ less. ap (λ (r : TableRow). r.wear) erased ∙ omega arith,
       λ most. ap (λ (r : TableRow). r.wear) erased ∙ omega arith,
       ap (λ (r : TableRow). r.class) erased,
