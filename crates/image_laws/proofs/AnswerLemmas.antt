@@ -1,5 +1,5 @@
 -- Of an image and a certificate there is one answer, and of an image one reason not to mount it.
-use Rattle.std.proofs.Common.{◌≡◌, ℕ, ◌<◌, ◌⊎◌, List, Option, Some, None, inl, inr, refl, sym, ap, subst, ◌∙◌, arith}
+use Rattle.std.proofs.Common.{◌≡◌, ℕ, ◌<◌, ◌⊎◌, List, Option, Some, None, inl, inr, refl, sym, ap, subst, ◌∙◌, arith, length, length-append, ◌+◌}
 use Rattle.std.proofs.lemmas.Bool.{cases_order, cases_lt}
 use Rattle.std.proofs.lemmas.Option.{slice_get_within}
 use Rattle.page_layout.specs.declared.record.Record.{Record}
@@ -20,7 +20,7 @@ use Rattle.image_check.specs.Refused.{Part, Numbers, Sequences, Tables, Next, Fr
 use Rattle.image_check.specs.Refused.{IsUnformatted, IsTableDamaged, IsFirstDirectoryWrong, IsNoSuchRecord, IsNotNewest, IsWrongBlock}
 use Rattle.mount.specs.Mounted.{IsAfter, IsUnmountable, Shows}
 use Rattle.mount.proofs.RefuseLemmas.{holds}
-use Rattle.image_laws.specs.Refusals.{OneRefusalLaw, OneAnswerLaw, OneReasonLaw, TooStaleLaw, LengthLaw, StopLaw, NamedLaw, MountingLaw, IsNamedOf}
+use Rattle.image_laws.specs.Refusals.{OneRefusalLaw, OneAnswerLaw, OneReasonLaw, TooStaleLaw, LengthLaw, ReadLaw, StopLaw, NamedLaw, MountingLaw, IsNamedOf}
 use Rattle.image_laws.proofs.RefusalLemmas.{same_place, same_part, one_pair}
 
 -- ---- each first is one
@@ -246,6 +246,12 @@ of_length g capacity bytes c size (inl (inl source)) = cc
 of_length g capacity bytes c size (inl (inr memory)) = cc
 of_length g capacity bytes c size (inr (inl w)) = w.1 size
 of_length g capacity bytes c size (inr (inr w)) = let part = w.wrong.part_is in cc
+
+pub read_most : ReadLaw
+read_most most before after h =
+    let size : length before ≡ length h.bytes + length after = ap length h.read ∙ length-append h.bytes after in
+    let few = h.few in
+    omega arith
 
 pub stops : StopLaw
 stops r (inl is) = (ap part_of is, λ judged. subst IsJudgement is judged)

@@ -1,10 +1,12 @@
 -- What a format did, and what it did not.
-use Rattle.std.proofs.Common.{◌≡◌, ℕ, ◌+◌, ◌⊎◌, Bool, true, false, List, [], ◌∷◌, inl, inr, refl, arith}
+use Rattle.std.proofs.Common.{◌∙◌, ◌≡◌, ℕ, ◌+◌, ◌⊎◌, Bool, true, false, List, [], ◌∷◌, inl, inr, refl, arith, ap, slice_get, Some}
+use Rattle.page_layout.specs.Page.{Page, Image}
+use Rattle.page_layout.specs.Sound.{record_of, version_of}
 use Rattle.page_layout.specs.Flash.{Operation, Program, Erase}
 use Rattle.page_layout.proofs.CountLemmas.{count_by-cons}
 use Rattle.promises.specs.Log.{failed_in}
 use Rattle.mount.specs.Log.{has_failed, failures}
-use Rattle.image_laws.specs.Formats.{UntouchedLaw, LostLaw, EnoughLaw, NoFailureLaw, LowSequenceLaw}
+use Rattle.image_laws.specs.Formats.{UntouchedLaw, LostLaw, EnoughLaw, NoFailureLaw, TablePageLaw, LowSequenceLaw}
 use Rattle.image_laws.proofs.KeptLemmas.{lowest_table}
 
 pub untouched : UntouchedLaw
@@ -53,6 +55,14 @@ no_failure g old new good f none = (
   (let fewer = f.fewer in omega arith),
   λ lower below. marked_below _ _ (none_failed g.pages f.log lower none) (lowest_table g old new f.log f.block lower f.table below),
 )
+
+same_page : (image : Image) (row : ℕ) (p q : Page) → slice_get image row ≡ Some p → slice_get image row ≡ Some q → p ≡ q
+same_page image row p q e f = cc
+
+pub table_page : TablePageLaw
+table_page g image row u sequence table p h at =
+    let same : p ≡ h.its = same_page image row p h.its at h.at in
+    (ap record_of same ∙ h.says, ap version_of same ∙ h.version, ap (λ (q : Page). q.body) same ∙ h.body)
 
 pub low_sequence : LowSequenceLaw
 low_sequence g old new good row r f here = let below = f.blank.below.below row r here in let few = f.few_programs in omega arith

@@ -1,13 +1,17 @@
 -- What a format did, and what it did not.
-use Rattle.std.specs.Prelude.{◌≡◌, ℕ, ◌+◌, ◌*◌, ◌^◌, ◌<◌, ◌≤◌, ◌⊎◌, true, [], get_or, Some, None, Ok, Err}
+use Rattle.std.specs.Prelude.{◌≡◌, List, slice_get, ℕ, ◌+◌, ◌*◌, ◌^◌, ◌<◌, ◌≤◌, ◌⊎◌, true, [], get_or, Some, None, Ok, Err}
 use Rattle.page_layout.specs.declared.geometry.Geometry.{Geometry}
 use Rattle.page_layout.specs.declared.record.Record.{Record}
-use Rattle.page_layout.specs.Geometry.{need, row_count, table_pages}
+use Rattle.page_layout.specs.Geometry.{entries, need, row_count, table_pages}
+use Rattle.page_layout.specs.Page.{Page, Image}
+use Rattle.page_layout.specs.Sound.{record_of, version_of, version_for}
 use Rattle.page_layout.specs.Array.{marks}
 use Rattle.page_layout.specs.Flash.{Flash}
+use Rattle.bad_blocks.specs.declared.table.TableRow.{TableRow}
 use Rattle.bad_blocks.specs.Marks.{is_marked}
+use Rattle.bad_blocks.specs.TablePage.{table_bytes}
 use Rattle.mount.specs.Log.{failures}
-use Rattle.mount.specs.Formatted.{good_after, IsFormatted, IsWriteFailed, Formats, Answers}
+use Rattle.mount.specs.Formatted.{good_after, table_record, HasTablePage, IsFormatted, IsWriteFailed, Formats, Answers}
 use Rattle.mount.specs.declared.format_fault.FormatFault.TheVariants.{TooFewGood, OutOfMemory, WriteFailed, NotFresh}
 
 -- NOTHING WAS DONE by a format that was refused for memory or for a used page, which is one of the die, and no program was counted
@@ -35,6 +39,11 @@ EnoughLaw = (g : Geometry) (old new : Flash) (before after good asked : ℕ)
 abbrev pub NoFailureLaw : Type 0
 NoFailureLaw = (g : Geometry) (old new : Flash) (good : ℕ) (f : IsFormatted g old new good) → failures f.log ≡ 0
     → (good ≡ good_after g old.image []) × ((lower : ℕ) → lower < f.block → is_marked g old.image lower ≡ true)
+
+-- A TABLE PAGE THAT A FORMAT WROTE is sound, of its number and sequence and of no erase, in the version for the die, and holds the table's bytes
+abbrev pub TablePageLaw : Type 0
+TablePageLaw = (g : Geometry) (image : Image) (row u sequence : ℕ) (table : List TableRow) (p : Page) → HasTablePage g image row u sequence table
+    → slice_get image row ≡ Some p → (record_of p ≡ Some (table_record u sequence)) × (version_of p ≡ Some (version_for g)) × (p.body ≡ table_bytes (entries g) table u)
 
 -- THE SEQUENCES OF A FORMATTED DIE ARE LOW: three tables were begun at most
 abbrev pub LowSequenceLaw : Type 0

@@ -1,5 +1,5 @@
 -- What is refused has one reason.
-use Rattle.std.specs.Prelude.{◌≡◌, ◌⊎◌, ℕ, ◌+◌, ◌<◌, List, Option, Some, None, length}
+use Rattle.std.specs.Prelude.{◌≡◌, ◌⊎◌, ℕ, ◌+◌, ◌<◌, ◌≤◌, List, Option, Some, None, length}
 use Rattle.page_layout.specs.declared.geometry.Geometry.{Geometry}
 use Rattle.page_layout.specs.declared.record.Record.{Record}
 use Rattle.page_layout.specs.Geometry.{translation_pages, table_pages}
@@ -12,7 +12,7 @@ use Rattle.image_check.specs.declared.refusal.Refusal.TheVariants as refusals
 use Rattle.image_check.specs.Accepted.{Acceptance, IsAcceptance}
 use Rattle.image_check.specs.Mountable.{IsMountable}
 use Rattle.image_check.specs.Refused.{Tables, Next, Fresh, IsFirstWrong, IsFirstRepeated, IsJudgement, IsOfImage, IsStop, part_of}
-use Rattle.image_check.specs.Streamed.{IsStreamRefusal, image_bytes}
+use Rattle.image_check.specs.Streamed.{IsStreamRefusal, ReadsUpTo, image_bytes}
 use Rattle.mount.specs.Mounted.{IsAfter, IsUnmountable, IsOfMounting, Refuses}
 
 -- ONE PART: of an image and a certificate the part that fails first is one, so all that may be refused of them name it
@@ -44,6 +44,10 @@ TooStaleLaw = (g : Geometry) (capacity : ℕ) (image : Image) (c : Claim) (stale
 -- ANOTHER LENGTH: bytes that are as many as an image has aren't refused for their length
 abbrev pub LengthLaw : Type 0
 LengthLaw = (g : Geometry) (capacity : ℕ) (bytes : List ℕ) (c : Claim) → length bytes ≡ image_bytes g → ¬ IsStreamRefusal g capacity bytes c refusals.WrongLength
+
+-- NO MORE IS READ than is said: of bytes that are known as many are left
+abbrev pub ReadLaw : Type 0
+ReadLaw = (most : ℕ) (before after : List ℕ) → ReadsUpTo most (Some before) (Some after) → length before ≤ length after + most
 
 -- WHAT STOPS A CHECK SAYS NOTHING OF THE IMAGE
 abbrev pub StopLaw : Type 0

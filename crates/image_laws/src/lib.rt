@@ -3,11 +3,11 @@
 #![tactic(auto)]
 
 ghost use Rattle.image_laws.specs.Refusals.{OnePartLaw, OnePairLaw, OneWordLaw, CertifiedLaw};
-ghost use Rattle.image_laws.specs.Refusals.{OneRefusalLaw, OneAnswerLaw, OneReasonLaw, TooStaleLaw, LengthLaw, StopLaw, NamedLaw, MountingLaw};
+ghost use Rattle.image_laws.specs.Refusals.{OneRefusalLaw, OneAnswerLaw, OneReasonLaw, TooStaleLaw, LengthLaw, ReadLaw, StopLaw, NamedLaw, MountingLaw};
 ghost use Rattle.image_laws.specs.Certificates.{OneNextLaw, OneCertificateLaw, OneMountLaw, WholeFirstLaw};
 ghost use Rattle.image_laws.specs.Sectors.{OneTieLaw, ShownLaw, HeldLaw, ShownReadLaw};
 ghost use Rattle.image_laws.specs.Tables.{WrongWordLaw, SameLengthLaw, EraseCountLaw, WordLaw, RightLaw, TableWordLaw};
-ghost use Rattle.image_laws.specs.Formats.{UntouchedLaw, LostLaw, EnoughLaw, NoFailureLaw, LowSequenceLaw};
+ghost use Rattle.image_laws.specs.Formats.{UntouchedLaw, LostLaw, EnoughLaw, NoFailureLaw, TablePageLaw, LowSequenceLaw};
 ghost use Rattle.image_laws.specs.Kept.{OtherRowsLaw, OtherPagesLaw, LowestTableLaw};
 
 /// What a refusal says is one: the part of a certificate that fails first, the rows that share a sequence first, and what is wrong first
@@ -20,16 +20,17 @@ pub fn refusal_laws()
     ensures certified { CertifiedLaw }
 {}
 
-/// Of an image and a certificate there is one answer: all that may be refused is one refusal, also in what it names, and what is accepted
-/// isn't refused, and always has the same stale sectors. An image has one reason not to be mounted, but for the two that come after all
-/// others. Too many stale sectors are more than the capacity; bytes as many as an image has aren't refused for their length; what stops a
-/// check says nothing of the image; what is named is of the die; and a mount is refused for what the pages decide. (This project.)
+/// Of an image and a certificate there is one answer: all that may be refused is one refusal, also in what it names, which is of the die, and
+/// what is accepted isn't refused, and always has the same stale sectors. An image has one reason not to be mounted, but for the two that come
+/// after all others, and a mount is refused for what the pages decide. Too many stale sectors are more than the capacity; bytes as many as an
+/// image has aren't refused for their length, and no more are read than is said; what stops a check says nothing of the image. (This project.)
 pub fn answer_laws()
     ensures refusal { OneRefusalLaw }
     ensures answer { OneAnswerLaw }
     ensures reason { OneReasonLaw }
     ensures stale { TooStaleLaw }
     ensures length { LengthLaw }
+    ensures read { ReadLaw }
     ensures stop { StopLaw }
     ensures named { NamedLaw }
     ensures mounting { MountingLaw }
@@ -65,12 +66,14 @@ pub fn table_laws()
 {}
 
 /// What a format did: nothing where it was refused for memory or a used page; it lost two blocks at most, or three where it gave up; enough
-/// good blocks are left where it ended well; without a failure none is lost; and the sequences that it used are low. (This project.)
+/// good blocks are left where it ended well; without a failure none is lost; its table pages say what they have to; and the sequences that it
+/// used are low. (This project.)
 pub fn format_laws()
     ensures untouched { UntouchedLaw }
     ensures lost { LostLaw }
     ensures enough { EnoughLaw }
     ensures calm { NoFailureLaw }
+    ensures page { TablePageLaw }
     ensures sequences { LowSequenceLaw }
 {}
 

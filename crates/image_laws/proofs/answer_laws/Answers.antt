@@ -1,4 +1,4 @@
-use Rattle.image_laws.proofs.AnswerLemmas.{one_refusal, one_answer, one_reason, too_stale, of_length, stops, names, of_mounting}
+use Rattle.image_laws.proofs.AnswerLemmas.{one_refusal, one_answer, one_reason, too_stale, of_length, read_most, stops, names, of_mounting}
 use Rattle.image_laws.proofs.answer_laws.Goals as goal
 
 pub returns-clause-refusal : goal.returns-clause-refusal
@@ -24,3 +24,6 @@ returns-clause-named c = names
 
 pub returns-clause-mounting : goal.returns-clause-mounting
 returns-clause-mounting c = of_mounting
+
+pub returns-clause-read : goal.returns-clause-read
+returns-clause-read c = read_most

@@ -1,4 +1,4 @@
-use Rattle.image_laws.proofs.FormatLemmas.{untouched, lost, enough, no_failure, low_sequence}
+use Rattle.image_laws.proofs.FormatLemmas.{untouched, lost, enough, no_failure, table_page, low_sequence}
 use Rattle.image_laws.proofs.format_laws.Goals as goal
 
 pub returns-clause-untouched : goal.returns-clause-untouched
@@ -15,3 +15,6 @@ returns-clause-calm c = no_failure
 
 pub returns-clause-sequences : goal.returns-clause-sequences
 returns-clause-sequences c = low_sequence
+
+pub returns-clause-page : goal.returns-clause-page
+returns-clause-page c = table_page
