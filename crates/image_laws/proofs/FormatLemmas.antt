@@ -1,12 +1,16 @@
 -- What a format did, and what it did not.
-use Rattle.std.proofs.Common.{◌∙◌, ◌≡◌, ℕ, ◌+◌, ◌⊎◌, Bool, true, false, List, [], ◌∷◌, inl, inr, refl, arith, ap, slice_get, Some}
+use Rattle.std.proofs.Common.{subst, ◌∙◌, ◌≡◌, ℕ, ◌+◌, ◌⊎◌, Bool, true, false, List, [], ◌∷◌, inl, inr, refl, arith, ap, slice_get, Some}
 use Rattle.page_layout.specs.Page.{Page, Image}
 use Rattle.page_layout.specs.Sound.{record_of, version_of}
 use Rattle.page_layout.specs.Flash.{Operation, Program, Erase}
 use Rattle.page_layout.proofs.CountLemmas.{count_by-cons}
 use Rattle.promises.specs.Log.{failed_in}
+use Rattle.promises.specs.Legal.{IsLegal}
+use Rattle.promises.proofs.LegalLemmas.{no_bad_block}
+use Rattle.bad_blocks.specs.Marks.{is_marked}
+use Rattle.std.specs.Prelude.{◌||◌}
 use Rattle.mount.specs.Log.{has_failed, failures}
-use Rattle.image_laws.specs.Formats.{UntouchedLaw, LostLaw, EnoughLaw, NoFailureLaw, TablePageLaw, LowSequenceLaw}
+use Rattle.image_laws.specs.Formats.{UntouchedLaw, LostLaw, EnoughLaw, AloneLaw, NoFailureLaw, TablePageLaw, LowSequenceLaw}
 use Rattle.image_laws.proofs.KeptLemmas.{lowest_table}
 
 pub untouched : UntouchedLaw
@@ -34,6 +38,16 @@ enough g old new before after good asked = (
     | inr a ↦ let few = a.0 in let is = a.1 in omega arith
   ]),
   λ a. a.1,
+)
+
+neither : (a b : Bool) → (a || b) ≡ false → a ≡ false
+neither true b is = is
+neither false b is = refl
+
+pub alone : AloneLaw
+alone g old new log did = (
+  did.erases,
+  λ before after op is. neither _ _ (no_bad_block g old.image (is_marked g old.image) before after op (subst (IsLegal g old.image (is_marked g old.image)) is did.legal)),
 )
 
 -- a log of no failure fails in no block

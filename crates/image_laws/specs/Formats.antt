@@ -1,17 +1,18 @@
 -- What a format did, and what it did not.
-use Rattle.std.specs.Prelude.{◌≡◌, List, slice_get, ℕ, ◌+◌, ◌*◌, ◌^◌, ◌<◌, ◌≤◌, ◌⊎◌, true, [], get_or, Some, None, Ok, Err}
+use Rattle.std.specs.Prelude.{◌≡◌, List, slice_get, ℕ, ◌+◌, ◌*◌, ◌^◌, ◌<◌, ◌≤◌, ◌⊎◌, true, false, [], ◌∷◌, ◌++◌, get_or, Some, None, Ok, Err}
 use Rattle.page_layout.specs.declared.geometry.Geometry.{Geometry}
 use Rattle.page_layout.specs.declared.record.Record.{Record}
 use Rattle.page_layout.specs.Geometry.{entries, need, row_count, table_pages}
 use Rattle.page_layout.specs.Page.{Page, Image}
 use Rattle.page_layout.specs.Sound.{record_of, version_of, version_for}
 use Rattle.page_layout.specs.Array.{marks}
-use Rattle.page_layout.specs.Flash.{Flash}
+use Rattle.page_layout.specs.Flash.{Flash, Operation}
 use Rattle.bad_blocks.specs.declared.table.TableRow.{TableRow}
 use Rattle.bad_blocks.specs.Marks.{is_marked}
 use Rattle.bad_blocks.specs.TablePage.{table_bytes}
+use Rattle.promises.specs.Log.{block_of, erases_in}
 use Rattle.mount.specs.Log.{failures}
-use Rattle.mount.specs.Formatted.{good_after, table_record, HasTablePage, IsFormatted, IsWriteFailed, Formats, Answers}
+use Rattle.mount.specs.Formatted.{good_after, table_record, HasTablePage, IsDone, IsFormatted, IsWriteFailed, Formats, Answers}
 use Rattle.mount.specs.declared.format_fault.FormatFault.TheVariants.{TooFewGood, OutOfMemory, WriteFailed, NotFresh}
 
 -- NOTHING WAS DONE by a format that was refused for memory or for a used page, which is one of the die, and no program was counted
@@ -34,6 +35,11 @@ EnoughLaw = (g : Geometry) (old new : Flash) (before after good asked : ℕ)
     → (Formats g old new (Ok good) ⊎ Answers g before after (Ok good) → need g ≤ good)
     × (Formats g old new (Err (TooFewGood good asked)) ⊎ Answers g before after (Err (TooFewGood good asked)) → good < asked)
     × (Answers g before after (Ok good) → good ≤ g.blocks)
+
+-- A FORMAT ERASES NOTHING and leaves the marked blocks alone
+abbrev pub AloneLaw : Type 0
+AloneLaw = (g : Geometry) (old new : Flash) (log : List Operation) → IsDone g old new log
+    → (erases_in log ≡ 0) × ((before after : List Operation) (op : Operation) → log ≡ before ++ op ∷ after → is_marked g old.image (block_of g.pages op) ≡ false)
 
 -- A DIE WITHOUT FAILURES: its format loses no block, and its table stands in the first that isn't marked
 abbrev pub NoFailureLaw : Type 0

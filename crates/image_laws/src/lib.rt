@@ -7,7 +7,7 @@ ghost use Rattle.image_laws.specs.Refusals.{OneRefusalLaw, OneAnswerLaw, OneReas
 ghost use Rattle.image_laws.specs.Certificates.{OneNextLaw, OneCertificateLaw, OneMountLaw, WholeFirstLaw};
 ghost use Rattle.image_laws.specs.Sectors.{OneTieLaw, ShownLaw, HeldLaw, ShownReadLaw};
 ghost use Rattle.image_laws.specs.Tables.{WrongWordLaw, SameLengthLaw, EraseCountLaw, WordLaw, RightLaw, TableWordLaw};
-ghost use Rattle.image_laws.specs.Formats.{UntouchedLaw, LostLaw, EnoughLaw, NoFailureLaw, TablePageLaw, LowSequenceLaw};
+ghost use Rattle.image_laws.specs.Formats.{UntouchedLaw, LostLaw, EnoughLaw, AloneLaw, NoFailureLaw, TablePageLaw, LowSequenceLaw};
 ghost use Rattle.image_laws.specs.Kept.{OtherRowsLaw, OtherPagesLaw, LowestTableLaw};
 
 /// What a refusal says is one: the part of a certificate that fails first, the rows that share a sequence first, and what is wrong first
@@ -66,12 +66,13 @@ pub fn table_laws()
 {}
 
 /// What a format did: nothing where it was refused for memory or a used page; it lost two blocks at most, or three where it gave up; enough
-/// good blocks are left where it ended well; without a failure none is lost; its table pages say what they have to; and the sequences that it
+/// good blocks are left where it ended well; it erases nothing and leaves marked blocks alone; without a failure none is lost; its table pages say what they have to; and the sequences that it
 /// used are low. (This project.)
 pub fn format_laws()
     ensures untouched { UntouchedLaw }
     ensures lost { LostLaw }
     ensures enough { EnoughLaw }
+    ensures alone { AloneLaw }
     ensures calm { NoFailureLaw }
     ensures page { TablePageLaw }
     ensures sequences { LowSequenceLaw }

@@ -1,4 +1,4 @@
-use Rattle.image_laws.proofs.FormatLemmas.{untouched, lost, enough, no_failure, table_page, low_sequence}
+use Rattle.image_laws.proofs.FormatLemmas.{untouched, lost, enough, alone, no_failure, table_page, low_sequence}
 use Rattle.image_laws.proofs.format_laws.Goals as goal
 
 pub returns-clause-untouched : goal.returns-clause-untouched
@@ -18,3 +18,6 @@ returns-clause-sequences c = low_sequence
 
 pub returns-clause-page : goal.returns-clause-page
 returns-clause-page c = table_page
+
+pub returns-clause-alone : goal.returns-clause-alone
+returns-clause-alone c = alone
