@@ -9,6 +9,7 @@
     bench/planted.py --first PATH ..    any of these, but first this module or function of the crate is checked alone, as `laws`: what
                                         that refuses is done in seconds, and the whole check is run where it lets the bug through
 
+A bug of planted/CRATE may stand in a crate below (`file: ../OTHER/specs/..`), which then is proved first, and is refused by a law of CRATE.
 The whole check of the crate is run over what earlier checks kept (crates/*/out). Of each bug one line is printed:
 
     refused   an open goal, or a proof of a law or a clause that no longer holds: the first message says where
@@ -97,12 +98,14 @@ def try_edit(room, name, pairs_file, first):
         return "unfit", str(fault)
     for path, text in texts.items():
         path.write_text(text, encoding="utf-8")
+    bent = {path.resolve().relative_to(room.resolve()).parts[1] for path in texts}
     verdict, why = "proves", ""
     if first is not None:
         verdict, why = run_check(crate, "--only", f"{name}::{first}")
     if verdict == "proves":
         verdict, why = run_check(crate)
-    restore(room, name)
+    for other in bent | {name}:
+        restore(room, other)
     return verdict, why
 
 

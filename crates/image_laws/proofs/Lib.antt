@@ -1,2 +1,7 @@
 mod RefusalLemmas
+mod AnswerLemmas
+mod CertificateLemmas
+mod SectorLemmas
+mod TableLemmas
 mod KeptLemmas
+mod FormatLemmas

@@ -42,11 +42,11 @@ part_there Wear = refl
 part_there Next = refl
 part_there Fresh = refl
 
-same_place : (p q : Part) → order p ≡ order q → p ≡ q
+pub same_place : (p q : Part) → order p ≡ order q → p ≡ q
 same_place p q is = sym (part_there p) ∙ (ap part_at is ∙ part_there q)
 
 -- a part that fails comes after no other one that fails first
-same_part : (g : Geometry) (capacity : ℕ) (image : Image) (c : Claim) (r s : Refusal) (a : IsFirstWrong g capacity image c r) (b : IsFirstWrong g capacity image c s) → a.part ≡ b.part
+pub same_part : (g : Geometry) (capacity : ℕ) (image : Image) (c : Claim) (r s : Refusal) (a : IsFirstWrong g capacity image c r) (b : IsFirstWrong g capacity image c s) → a.part ≡ b.part
 same_part g capacity image c r s a b = elim (cases_order (order a.part) (order b.part)) [
   | inl same ↦ same_place a.part b.part same
   | inr (inl below) ↦ absurd (a.wrong.fails (b.before a.part below))

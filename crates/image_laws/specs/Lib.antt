@@ -1,2 +1,6 @@
 pub mod Refusals
+pub mod Certificates
+pub mod Sectors
+pub mod Tables
+pub mod Formats
 pub mod Kept

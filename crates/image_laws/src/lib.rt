@@ -3,6 +3,11 @@
 #![tactic(auto)]
 
 ghost use Rattle.image_laws.specs.Refusals.{OnePartLaw, OnePairLaw, OneWordLaw, CertifiedLaw};
+ghost use Rattle.image_laws.specs.Refusals.{OneRefusalLaw, OneAnswerLaw, OneReasonLaw, TooStaleLaw, LengthLaw, ReadLaw, StopLaw, NamedLaw, MountingLaw};
+ghost use Rattle.image_laws.specs.Certificates.{OneNextLaw, OneCertificateLaw, OneMountLaw, WholeFirstLaw};
+ghost use Rattle.image_laws.specs.Sectors.{OneTieLaw, ShownLaw, HeldLaw, ShownReadLaw};
+ghost use Rattle.image_laws.specs.Tables.{WrongWordLaw, SameLengthLaw, EraseCountLaw, WordLaw, RightLaw, TableWordLaw};
+ghost use Rattle.image_laws.specs.Formats.{UntouchedLaw, LostLaw, EnoughLaw, AloneLaw, NoFailureLaw, TablePageLaw, LowSequenceLaw};
 ghost use Rattle.image_laws.specs.Kept.{OtherRowsLaw, OtherPagesLaw, LowestTableLaw};
 
 /// What a refusal says is one: the part of a certificate that fails first, the rows that share a sequence first, and what is wrong first
@@ -13,6 +18,64 @@ pub fn refusal_laws()
     ensures pair { OnePairLaw }
     ensures word { OneWordLaw }
     ensures certified { CertifiedLaw }
+{}
+
+/// Of an image and a certificate there is one answer: all that may be refused is one refusal, also in what it names, which is of the die, and
+/// what is accepted isn't refused, and always has the same stale sectors. An image has one reason not to be mounted, but for the two that come
+/// after all others, and a mount is refused for what the pages decide. Too many stale sectors are more than the capacity; bytes as many as an
+/// image has aren't refused for their length, and no more are read than is said; what stops a check says nothing of the image. (This project.)
+pub fn answer_laws()
+    ensures refusal { OneRefusalLaw }
+    ensures answer { OneAnswerLaw }
+    ensures reason { OneReasonLaw }
+    ensures stale { TooStaleLaw }
+    ensures length { LengthLaw }
+    ensures read { ReadLaw }
+    ensures stop { StopLaw }
+    ensures named { NamedLaw }
+    ensures mounting { MountingLaw }
+{}
+
+/// An image has one certificate: two that agree with it differ in their next sequence alone, and mounting gives just one. To read one asks
+/// for memory only for bytes that are as many as their head promises. (This project.)
+pub fn certificate_laws()
+    ensures next { OneNextLaw }
+    ensures certificate { OneCertificateLaw }
+    ensures mount { OneMountLaw }
+    ensures memory { WholeFirstLaw }
+{}
+
+/// The rows that are named where pages of a sector share its greatest sequence are two alone, and nothing else is shown of a sector than a
+/// page of its own, whole. (This project.)
+pub fn sector_laws()
+    ensures tie { OneTieLaw }
+    ensures shown { ShownLaw }
+    ensures held { HeldLaw }
+    ensures read { ShownReadLaw }
+{}
+
+/// What the table of blocks says: how an erase and a failure change a row, which word a row has and which are right, and where the word of a
+/// block stands in an image. (This project.)
+pub fn table_laws()
+    ensures wrong { WrongWordLaw }
+    ensures length { SameLengthLaw }
+    ensures erased { EraseCountLaw }
+    ensures words { WordLaw }
+    ensures right { RightLaw }
+    ensures word { TableWordLaw }
+{}
+
+/// What a format did: nothing where it was refused for memory or a used page; it lost two blocks at most, or three where it gave up; enough
+/// good blocks are left where it ended well; it erases nothing and leaves marked blocks alone; without a failure none is lost; its table pages say what they have to; and the sequences that it
+/// used are low. (This project.)
+pub fn format_laws()
+    ensures untouched { UntouchedLaw }
+    ensures lost { LostLaw }
+    ensures enough { EnoughLaw }
+    ensures alone { AloneLaw }
+    ensures calm { NoFailureLaw }
+    ensures page { TablePageLaw }
+    ensures sequences { LowSequenceLaw }
 {}
 
 /// What stays: reading a table page leaves the rows of all other pages' blocks as they were; a format leaves the pages of good blocks
