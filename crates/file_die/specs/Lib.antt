@@ -1,0 +1,4 @@
+-- what a store holds, and what each call makes of it
+pub mod Store
+-- what that comes to
+pub mod Laws
