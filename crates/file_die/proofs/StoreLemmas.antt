@@ -1,9 +1,9 @@
 -- What the calls of a store leave.
-use Rattle.std.proofs.Common.{◌≡◌, ◌≢◌, ◌∙◌, ◌<◌, ◌≤◌, ◌/◌, ◌+◌, ◌*◌, ap, refl, sym, subst, arith, ℕ, Bool, true, false, List, [], ◌∷◌, length, get_or, replicate}
+use Rattle.std.proofs.Common.{◌≡◌, ◌∙◌, ◌<◌, ◌≤◌, ◌/◌, ◌+◌, ◌*◌, ap, refl, sym, subst, arith, ℕ, Bool, List, [], ◌∷◌, length, replicate}
 use Rattle.std.proofs.lemmas.List.{get_or-set_same, get_or-replicate, length-replicate}
 use Rattle.page_layout.specs.declared.geometry.Geometry.{Geometry}
 use Rattle.page_layout.specs.Geometry.{row_count}
-use Rattle.page_layout.specs.Page.{Page, Image}
+use Rattle.page_layout.specs.Page.{Image}
 use Rattle.page_layout.specs.Change.{erased_page}
 use Rattle.page_layout.specs.Flash.{no_page, with_block}
 use Rattle.page_layout.proofs.FlashLemmas.{inside, with_block-inside}

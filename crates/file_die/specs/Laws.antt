@@ -1,10 +1,10 @@
 -- What the clauses of a store come to, over any calls.
-use Rattle.std.specs.Prelude.{◌≡◌, ◌≢◌, ◌<◌, ◌/◌, ℕ, Bool, true, false, List, [], ◌∷◌}
+use Rattle.std.specs.Prelude.{◌≡◌, ◌≢◌, ◌<◌, ◌/◌, ℕ, Bool, true, List, [], ◌∷◌}
 use Rattle.page_layout.specs.declared.geometry.Geometry.{Geometry}
 use Rattle.page_layout.specs.Geometry.{row_count}
 use Rattle.page_layout.specs.Page.{Page}
 use Rattle.page_layout.specs.Change.{erased_page}
-use Rattle.file_die.specs.Store.{Held, AreImages, MayBeLeft, page_in, Loads, Puts, Clears, Syncs}
+use Rattle.file_die.specs.Store.{Held, AreImages, page_in, Loads, Puts, Clears, Syncs}
 
 -- a call of a store, with the page that it gave or was given
 pub data Call : Type 0 where

@@ -2,3 +2,5 @@
 pub mod Store
 -- what that comes to
 pub mod Laws
+-- a store in memory
+pub mod Memory

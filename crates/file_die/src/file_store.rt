@@ -1,6 +1,7 @@
 //! A store over a file of the system.
-ghost use Rattle.std.specs.Prelude.{◌≡◌, ◌≤◌, OnOk, OnErr, false};
-ghost use Rattle.page_layout.specs.Counter.{HasRisen, counted};
+ghost use Rattle.std.specs.Prelude.{◌≡◌, ◌≤◌, ◌*◌, OnOk, OnErr, IfOk, false};
+ghost use Rattle.page_layout.specs.Geometry.{page_bytes};
+ghost use Rattle.page_layout.specs.Counter.{counted};
 ghost use Rattle.file_die.specs.Store.{blank};
 
 use crate::store::{Store, StoreFault};
@@ -48,11 +49,14 @@ impl FileStore {
     }
 
     // Counts a failure of the file.
-    fn settle(&mut self, result: io::Result<()>) -> Result<(), StoreFault>
+    fn settle(&mut self, answer: io::Result<()>) -> Result<(), StoreFault>
         ensures ok { OnOk result (self.new ≡ self.old) }
-        ensures err { OnErr result (self.new ≡ record self.old { failures = counted self.old.failures }) }
+        ensures err { OnErr result (self.new.failures ≡ counted self.old.failures) }
+        ensures failed { self.old.failures ≤ self.new.failures }
+        ensures geometry { self.new.geometry ≡ self.old.geometry }
+        ensures erased { self.new.erased ≡ self.old.erased }
     {
-        match result {
+        match answer {
             Ok(()) => Ok(()),
             Err(_) => {
                 self.failures = self.failures.saturating_add(1);
@@ -70,24 +74,24 @@ impl Store for FileStore {
     ghost failed = { λ s. s.failures };
 
     fn load(&mut self, row: u32, page: &mut [u8]) -> Result<(), StoreFault> {
-        let result = self.file.read_exact_at(page, self.offset(row));
-        self.settle(result)
+        let answer = self.file.read_exact_at(page, self.offset(row));
+        self.settle(answer)
     }
 
     fn put(&mut self, row: u32, page: &[u8]) -> Result<(), StoreFault> {
-        let result = self.file.write_all_at(page, self.offset(row));
-        self.settle(result)
+        let answer = self.file.write_all_at(page, self.offset(row));
+        self.settle(answer)
     }
 
     fn clear(&mut self, block: u32) -> Result<(), StoreFault> {
         let start = self.offset(self.geometry.row(block, 0));
-        let result = self.file.write_all_at(&self.erased, start);
-        self.settle(result)
+        let answer = self.file.write_all_at(&self.erased, start);
+        self.settle(answer)
     }
 
     fn sync(&mut self) -> Result<(), StoreFault> {
-        let result = self.file.sync_data();
-        self.settle(result)
+        let answer = self.file.sync_data();
+        self.settle(answer)
     }
 
     fn geometry(&self) -> Geometry {

@@ -16,7 +16,7 @@ pub trait Store {
     ghost use Rattle.page_layout.specs.Counter.{HasRisen};
     ghost use Rattle.page_layout.specs.Geometry.{row_count, page_bytes};
     ghost use Rattle.onfi_cycles.specs.Cycles.{page_of};
-    ghost use Rattle.file_die.specs.Store.{Held, Loads, Puts, Clears, Syncs};
+    ghost use Rattle.file_die.specs.Store.{Held, AreImages, Loads, Puts, Clears, Syncs};
 
     /// What it holds.
     ghost held: { Self → Held };
@@ -84,9 +84,10 @@ pub trait Store {
         ensures settled { OnOk result (failed self.new ≡ failed self.old) }
         ensures rose { OnErr result (HasRisen (failed self.old) (failed self.new)) };
 
-    /// The geometry of its die.
+    /// The geometry of its die. The pages of an honest store are those of such a die.
     fn geometry(&self) -> Geometry
-        ensures { result ≡ (held self.now).geometry };
+        ensures geometry { result ≡ (held self.now).geometry }
+        ensures whole { honest self.now ≡ true → AreImages (held self.now) };
 
     /// Its failures so far. The count stays at 2^64 - 1 once there.
     fn failures(&self) -> u64
