@@ -10,21 +10,21 @@ ghost use Rattle.nand_die.specs.Made.{with_mark};
 
 use page_layout::geometry::Geometry;
 
-// The bytes of a page.
+/// The bytes of a page: of its data area and of its spare area.
 pub fn page_length(geometry: &Geometry) -> usize
     ensures { result ≡ page_bytes geometry.now }
 {
     geometry.data_bytes() + geometry.spare_bytes()
 }
 
-// The bytes of a raw image.
+/// The bytes of a raw image: of all pages of the die.
 pub fn image_length(geometry: &Geometry) -> usize
     ensures { result ≡ row_count geometry.now * page_bytes geometry.now }
 {
     geometry.rows() as usize * page_length(geometry)
 }
 
-// Writes a page into its place.
+/// Writes a page into its place in a raw image: its data area and then its spare area.
 pub fn write_page(bytes: &mut [u8], geometry: &Geometry, row: u32, page: &[u8])
     requires in_range { row < row_count geometry.now }
     requires whole { length bytes.old ≡ row_count geometry.now * page_bytes geometry.now }
@@ -47,7 +47,7 @@ pub fn tear_page(bytes: &mut [u8], geometry: &Geometry, row: u32, page: &[u8])
     write_page(bytes, geometry, row, page);
 }
 
-// A page, lent.
+/// A page of a raw image, lent: its data area and then its spare area.
 pub fn page_slice<'a>(bytes: &'a [u8], geometry: &Geometry, row: u32) -> &'a [u8]
     requires in_range { row < row_count geometry.now }
     requires whole { length bytes.now ≡ row_count geometry.now * page_bytes geometry.now }
@@ -83,7 +83,7 @@ pub fn mark_page(bytes: &mut [u8], geometry: &Geometry, row: u32)
     page[geometry.data_bytes()] = 0;
 }
 
-// Erases the pages of a block.
+/// Fills the pages of a block in a raw image with FFh.
 pub fn erase_pages(bytes: &mut [u8], geometry: &Geometry, block: u32)
     requires in_range { block < geometry.now.blocks }
     requires whole { length bytes.old ≡ row_count geometry.now * page_bytes geometry.now }

@@ -1,7 +1,7 @@
-// Where the die stands between two cycles.
+//! Where a die stands between two cycles.
 use onfi_cycles::BusFault;
 
-// What data out is taken from. Of an identity so many bytes have been put out.
+/// What data out is taken from. Of an identity so many bytes have been put out. (ONFI 1.0, basic commands.)
 #[derive(Clone, Copy)]
 pub enum OutputSource {
     Nothing,
@@ -11,7 +11,7 @@ pub enum OutputSource {
     Zeros { taken: u8 },
 }
 
-// What address cycles are for.
+/// What address cycles are for. (ONFI 1.0, basic commands.)
 #[derive(Clone, Copy)]
 pub enum AddressUse {
     Read,
@@ -22,7 +22,7 @@ pub enum AddressUse {
     Identity,
 }
 
-// The address cycles that have come.
+/// The address cycles that have come, in their order.
 #[derive(Clone, Copy)]
 pub enum AddressBytes {
     Zero,
@@ -32,7 +32,8 @@ pub enum AddressBytes {
     Four(u8, u8, u8, u8),
 }
 
-// While it loads, and for the column cycles of 85h, the page register holds what has come in.
+/// Where a die stands between two cycles. While it loads, and for the column cycles of 85h, the page register holds what has come in.
+/// (ONFI 1.0, basic commands.)
 #[derive(Clone, Copy)]
 pub enum BusState {
     Unreset,
@@ -55,7 +56,7 @@ impl BusState {
     ghost use Rattle.onfi_cycles.specs.Cycles.{given_up};
     ghost use Rattle.nand_die.specs.BusState.{phase_of, IsWithin};
 
-    // Where the die stands after a fault.
+    /// Where the die stands after a fault: the unfinished command is given up, and nothing is put out.
     pub fn given_up(self) -> BusState
         ensures phase { (register : List ℕ) → phase_of register result ≡ given_up (phase_of register self) }
         ensures within { (g : Geometry) → IsWithin g result }
@@ -67,7 +68,7 @@ impl BusState {
     }
 }
 
-// What a command cycle asks for.
+/// What a command cycle asks for. A program is one of the page register. (ONFI 1.0, basic commands.)
 #[derive(Clone, Copy)]
 pub enum CommandStep {
     Moves(BusState),
@@ -77,7 +78,7 @@ pub enum CommandStep {
     Refuses(BusFault),
 }
 
-// What an address cycle asks for. At `Loads` the page register is filled with FFh.
+/// What an address cycle asks for. At `Loads` the page register is filled with FFh. (ONFI 1.0, basic commands.)
 #[derive(Clone, Copy)]
 pub enum AddressStep {
     Moves(BusState),

@@ -12,7 +12,8 @@ use crate::array::{erase_pages, write_page};
 use crate::fault::Strike;
 use page_layout::geometry::Geometry;
 
-// The next page of a block, whether the block is bad or has failed, and what was asked of it.
+/// The turn of a block: its next page, whether the block is bad or has failed, and how many programs and erases were asked for. (This
+/// project's.)
 #[derive(Clone, Copy)]
 pub struct BlockTurn {
     pub next: u32,
@@ -21,15 +22,15 @@ pub struct BlockTurn {
     pub erases: u64,
 }
 
-// A program or an erase, as it went.
+/// A program or an erase, as it went: whether it was due, and whether it passed. (This project's.)
 #[derive(Clone, Copy)]
 pub struct Change {
     pub legal: bool,
     pub passed: bool,
 }
 
-// Whether a page is the next of its block.
-fn is_due(turn: BlockTurn, page: u32) -> bool
+/// Whether a program of a page of a block is due: it is the next one, and the block is neither bad nor failed. (This project's.)
+pub fn is_due(turn: BlockTurn, page: u32) -> bool
     ensures { result ≡ (not turn.barred && (turn.next == page)) }
 {
     !turn.barred && turn.next == page
@@ -45,7 +46,8 @@ pub fn program_is_due(turns: &[BlockTurn], geometry: &Geometry, row: u32) -> boo
     is_due(turns[block as usize], row % geometry.pages())
 }
 
-fn change_of(legal: bool, struck: bool) -> Change
+/// A program or an erase by whether it was due, and whether something made it fail. (This project's.)
+pub fn change_of(legal: bool, struck: bool) -> Change
     ensures legal { result.legal ≡ legal }
     ensures passed { result.passed ≡ (legal && not struck) }
 {
@@ -55,8 +57,8 @@ fn change_of(legal: bool, struck: bool) -> Change
     }
 }
 
-// The turn of a block after a program.
-fn programmed(turn: BlockTurn, change: Change) -> BlockTurn
+/// The turn of a block after a program. (This project's.)
+pub fn programmed(turn: BlockTurn, change: Change) -> BlockTurn
     requires { change.legal ≡ true → turn.next < 2 ^ 32 - 1 }
     ensures { turn_of result ≡ after_program (turn_of turn) change.legal change.passed }
 {
@@ -72,8 +74,8 @@ fn programmed(turn: BlockTurn, change: Change) -> BlockTurn
     }
 }
 
-// The turn of a block after an erase.
-fn erased(turn: BlockTurn, change: Change) -> BlockTurn
+/// The turn of a block after an erase. (This project's.)
+pub fn erased(turn: BlockTurn, change: Change) -> BlockTurn
     ensures { turn_of result ≡ after_erase (turn_of turn) change.legal change.passed }
 {
     BlockTurn {

@@ -90,7 +90,7 @@ fn command_at_data(geometry: &Geometry, row: u32, column: u32, code: u8) -> Comm
     }
 }
 
-// A command cycle.
+/// What a command cycle asks for, where the die stands so. (ONFI 1.0, basic commands.)
 #[tactic(auto, unfolding(onfi_cycles::specs::Cycles::command_due))]
 pub fn command_step(geometry: &Geometry, state: BusState, code: u8) -> CommandStep
     requires within { IsWithin geometry.now state }
@@ -272,7 +272,7 @@ fn address_step_for(
     }
 }
 
-// An address cycle.
+/// What an address cycle asks for, where the die stands so. (ONFI 1.0, basic commands.)
 #[tactic(auto, unfolding(onfi_cycles::specs::Cycles::address_due))]
 pub fn address_step(geometry: &Geometry, state: BusState, byte: u8) -> AddressStep
     requires within { IsWithin geometry.now state }
@@ -286,7 +286,11 @@ pub fn address_step(geometry: &Geometry, state: BusState, byte: u8) -> AddressSt
     }
 }
 
-// The row and the column of data that comes in.
+/// The row of the page and the column from which on so many bytes come in.
+///
+/// # Errors
+///
+/// `NoReset` before the first Reset, `OutOfTurn` where no data is due, `ColumnRange` where the bytes would pass the page's last one.
 #[tactic(auto, unfolding(onfi_cycles::specs::Cycles::data_in_due))]
 pub fn data_place(
     geometry: &Geometry,

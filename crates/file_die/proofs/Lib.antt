@@ -1,0 +1,2 @@
+pub mod StoreLemmas
+pub mod MemoryLemmas
