@@ -9,8 +9,10 @@ use Rattle.bad_blocks.specs.declared.class.Class.TheVariants.{Grown}
 use Rattle.bad_blocks.specs.declared.table.TableRow.{TableRow}
 use Rattle.bad_blocks.specs.Table.{class_at, wear_at, table_row_at, no_table_row}
 use Rattle.bad_blocks.proofs.TableLemmas.{slice_get-set_same}
+use Rattle.translation_pages.specs.TranslationPage.{entry_at}
+use Rattle.translation_pages.specs.Entry.{entry_in, entry_of}
 use Rattle.image_check.specs.Blocks.{body_in, table_body, word_of_block}
-use Rattle.image_laws.specs.Tables.{WrongWordLaw, SameLengthLaw, EraseCountLaw, WordLaw, RightLaw, TableWordLaw}
+use Rattle.image_laws.specs.Tables.{WrongWordLaw, SameLengthLaw, EraseCountLaw, WordLaw, RightLaw, TableWordLaw, EntryLaw}
 
 pub wrong_word : WrongWordLaw
 wrong_word entries blocks u bytes fault first formed = both_ways _ first.wrong (formed.right first.place first.within)
@@ -41,3 +43,7 @@ right_words = (refl, refl, refl, refl, refl)
 pub table_word : TableWordLaw
 unfolding word_of_block table_body
 table_word g image block row is = ap (λ (found : Option ℕ). word_at (body_in image found) (4 * (block % entries g))) is
+
+pub entry : EntryLaw
+unfolding entry_of entry_at
+entry g image sector row = (λ none. ap (entry_in image (sector % entries g)) none, λ some. ap (entry_in image (sector % entries g)) some)

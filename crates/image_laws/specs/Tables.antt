@@ -1,12 +1,13 @@
--- What the table of blocks and its pages say, in plain data.
-use Rattle.std.specs.Prelude.{◌≡◌, ℕ, ◌+◌, ◌*◌, ◌/◌, ◌%◌, ◌<◌, ◌≤◌, true, false, List, length, Some}
+-- What the table of blocks, its pages and the translation pages say, in plain data.
+use Rattle.std.specs.Prelude.{◌≡◌, ℕ, ◌+◌, ◌*◌, ◌/◌, ◌%◌, ◌<◌, ◌≤◌, true, false, List, length, Some, None}
 use Rattle.page_layout.specs.declared.geometry.Geometry.{Geometry}
-use Rattle.page_layout.specs.declared.record.Key.TheVariants.{Table}
+use Rattle.page_layout.specs.declared.record.Key.TheVariants.{Table, Translation}
 use Rattle.page_layout.specs.Geometry.{entries}
 use Rattle.page_layout.specs.Page.{Image, body_at}
 use Rattle.page_layout.specs.Newest.{newest}
 use Rattle.page_layout.specs.Array.{marks}
-use Rattle.page_layout.specs.Word.{word_at}
+use Rattle.page_layout.specs.Word.{row_of_word, word_at}
+use Rattle.translation_pages.specs.Entry.{entry_of}
 use Rattle.bad_blocks.specs.declared.class.Class.TheVariants.{Good, Factory, Grown}
 use Rattle.bad_blocks.specs.declared.table.TableRow.{TableRow}
 use Rattle.bad_blocks.specs.declared.table.page.TableFault.{TableFault}
@@ -43,3 +44,9 @@ RightLaw = (is_right 4 3 0x502 ≡ true) × (is_right 4 3 0x503 ≡ false) × (i
 abbrev pub TableWordLaw : Type 0
 TableWordLaw = (g : Geometry) (image : Image) (block row : ℕ) → newest (marks image) (Table (block / entries g)) ≡ Some row
     → word_of_block g image block ≡ word_at (body_at image row) (4 * (block % entries g))
+
+-- A SECTOR'S ENTRY stands in the newest page of its translation page, at the sector's place in it; without such a page there is none
+abbrev pub EntryLaw : Type 0
+EntryLaw = (g : Geometry) (image : Image) (sector row : ℕ)
+    → (newest (marks image) (Translation (sector / entries g)) ≡ None → entry_of g image sector ≡ None)
+    × (newest (marks image) (Translation (sector / entries g)) ≡ Some row → entry_of g image sector ≡ row_of_word (word_at (body_at image row) (4 * (sector % entries g))))

@@ -6,7 +6,7 @@ ghost use Rattle.image_laws.specs.Refusals.{OnePartLaw, OnePairLaw, OneWordLaw, 
 ghost use Rattle.image_laws.specs.Refusals.{OneRefusalLaw, OneAnswerLaw, OneReasonLaw, TooStaleLaw, LengthLaw, ReadLaw, StopLaw, NamedLaw, MountingLaw};
 ghost use Rattle.image_laws.specs.Certificates.{OneNextLaw, OneCertificateLaw, OneMountLaw, WholeFirstLaw};
 ghost use Rattle.image_laws.specs.Sectors.{OneTieLaw, ShownLaw, HeldLaw, ShownReadLaw};
-ghost use Rattle.image_laws.specs.Tables.{WrongWordLaw, SameLengthLaw, EraseCountLaw, WordLaw, RightLaw, TableWordLaw};
+ghost use Rattle.image_laws.specs.Tables.{WrongWordLaw, SameLengthLaw, EraseCountLaw, WordLaw, RightLaw, TableWordLaw, EntryLaw};
 ghost use Rattle.image_laws.specs.Formats.{UntouchedLaw, LostLaw, EnoughLaw, AloneLaw, NoFailureLaw, TablePageLaw, LowSequenceLaw};
 ghost use Rattle.image_laws.specs.Kept.{OtherRowsLaw, OtherPagesLaw, LowestTableLaw};
 
@@ -55,7 +55,7 @@ pub fn sector_laws()
 {}
 
 /// What the table of blocks says: how an erase and a failure change a row, which word a row has and which are right, and where the word of a
-/// block stands in an image. (This project.)
+/// block and the entry of a sector stand in an image. (This project.)
 pub fn table_laws()
     ensures wrong { WrongWordLaw }
     ensures length { SameLengthLaw }
@@ -63,11 +63,12 @@ pub fn table_laws()
     ensures words { WordLaw }
     ensures right { RightLaw }
     ensures word { TableWordLaw }
+    ensures entry { EntryLaw }
 {}
 
 /// What a format did: nothing where it was refused for memory or a used page; it lost two blocks at most, or three where it gave up; enough
-/// good blocks are left where it ended well; it erases nothing and leaves marked blocks alone; without a failure none is lost; its table pages say what they have to; and the sequences that it
-/// used are low. (This project.)
+/// good blocks are left where it ended well; it erases nothing and leaves marked blocks alone; without a failure none is lost; its table
+/// pages say what they have to; and the sequences that it used are low. (This project.)
 pub fn format_laws()
     ensures untouched { UntouchedLaw }
     ensures lost { LostLaw }

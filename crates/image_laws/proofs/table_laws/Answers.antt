@@ -1,4 +1,4 @@
-use Rattle.image_laws.proofs.TableLemmas.{wrong_word, same_length, erase_count, words, right_words, table_word}
+use Rattle.image_laws.proofs.TableLemmas.{wrong_word, same_length, erase_count, words, right_words, table_word, entry}
 use Rattle.image_laws.proofs.table_laws.Goals as goal
 
 pub returns-clause-wrong : goal.returns-clause-wrong
@@ -18,3 +18,6 @@ returns-clause-right c = right_words
 
 pub returns-clause-word : goal.returns-clause-word
 returns-clause-word c = table_word
+
+pub returns-clause-entry : goal.returns-clause-entry
+returns-clause-entry c = entry
