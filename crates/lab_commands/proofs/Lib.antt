@@ -1,5 +1,3 @@
-pub mod ReportLemmas
-pub mod LineLemmas
 pub mod TextLemmas
 pub mod UndoneLemmas
 pub mod ArrayLemmas

@@ -9,12 +9,12 @@ use Rattle.lab_array.specs.declared.held.Held.{Held}
 use Rattle.lab_array.specs.Held.{state_in}
 use Rattle.lab_array.specs.Written.{IsWritten}
 use Rattle.lab_map.specs.Map.{map_text}
+use Rattle.lab_report.specs.Reports.{array_text}
 use Rattle.lab_words.specs.declared.words.ArrayWords.{ArrayWords}
 use Rattle.lab_commands.specs.declared.text.LabFault.{LabFault}
 use Rattle.lab_commands.specs.declared.text.LabFault.TheVariants as fault
 use Rattle.lab_commands.specs.Files.{Answers, IsOpened, Kept, with_kept}
-use Rattle.lab_commands.specs.Report.{report_of}
-use Rattle.lab_commands.specs.Undone.{IsGeometryAt, IsNoGeometry, IsUnmade, IsUnprinted, IsUnread, IsUnwritten, LeavesAll, MayNotWrite, MayWrite}
+use Rattle.lab_commands.specs.Undone.{IsGeometryAt, IsHalfPrinted, IsNoGeometry, IsUnmade, IsUnread, IsUnwritten, LeavesAll, MayNotWrite, MayWrite, form_of}
 
 -- ---- done
 
@@ -47,18 +47,18 @@ abbrev pub with_map : Option (List Kept) → ArrayWords → List ℕ → Option 
 with_map kept words text = option_map_or (λ file. with_kept kept file.now (Some (text ∷ []))) words.map kept
 
 -- it was put in the place of OUT, and its map in that of FILE, where one is wanted
-pub record PutArray (a : Answers) (words : ArrayWords) (before after : Option (List Kept)) (held : List Held) (unsound : ℕ) : Type 0 where
-  pub g : Geometry
+pub record PutArray (a : Answers) (words : ArrayWords) (before after : Option (List Kept)) (g : Geometry) (held : List Held) (unsound : ℕ) : Type 0 where
   pub pieces : Option (List (List ℕ))
   pub made : MadeArray a words g pieces held unsound
   pub put : after ≡ with_map (with_kept before words.out.now pieces) words (map_text g (map state_in held))
 
 -- and the report printed
 pub record WroteArray (a : Answers) (words : ArrayWords) (before after : Option (List Kept)) (out printed : Option (List ℕ)) : Type 0 where
+  pub g : Geometry
   pub held : List Held
   pub unsound : ℕ
-  pub put : PutArray a words before after held unsound
-  pub told : Appends out printed (report_of (map state_in held) unsound)
+  pub put : PutArray a words before after g held unsound
+  pub told : Appends out printed (array_text (form_of words.showing) g (map state_in held) unsound)
 
 -- ---- not done
 
@@ -102,12 +102,14 @@ pub record PutUnmapped (a : Answers) (words : ArrayWords) (before after : Option
   pub silent : Keeps out printed
   pub unmapped : IsUnmapped a words told
 
--- No array was put in place and nothing printed, for one of these reasons; or it was, and no map; or both were, and standard output failed.
+-- No array was put in place and nothing printed, for one of these reasons; or it was, and no map; or both were, and a
+-- beginning of the report printed.
 abbrev pub IsArrayFault : Answers → ArrayWords → Option (List Kept) → Option (List Kept) → Option (List ℕ) → Option (List ℕ) → LabFault → Type 0
 IsArrayFault a words before after out printed told =
     (LeavesAll before after out printed × IsUnput a words told)
     ⊎ PutUnmapped a words before after out printed told
-    ⊎ ((held : List Held) × (unsound : ℕ) × PutArray a words before after held unsound × IsUnprinted told)
+    ⊎ ((g : Geometry) × (held : List Held) × (unsound : ℕ) × PutArray a words before after g held unsound
+    × IsHalfPrinted out printed (array_text (form_of words.showing) g (map state_in held) unsound) told)
 
 -- how a fault of the array is told
 abbrev pub told_as : ArrayFault → ArrayWords → LabFault

@@ -1,5 +1,5 @@
 -- What the command `compare` comes to.
-use Rattle.std.specs.Prelude.{◌≡◌, ◌≢◌, ◌⊎◌, ℕ, ◌^◌, Bool, true, false, List, ◌++◌, get_or, take, Option, Some, None, IfSome}
+use Rattle.std.specs.Prelude.{◌≡◌, ◌≢◌, ◌⊎◌, ℕ, ◌^◌, List, take, Option, IfSome}
 use Rattle.std.specs.Io.KnownBytes.{Appends}
 use Rattle.page_layout.specs.declared.geometry.Geometry.{Geometry}
 use Rattle.certificate.specs.Claim.{Claim, sizes_of}
@@ -7,29 +7,12 @@ use Rattle.certificate.specs.Faults.{IsFirstFault}
 use Rattle.certificate.specs.Spelling.{Fits, certificate_bytes}
 use Rattle.lab_compare.specs.declared.compare.Compared.{Compared}
 use Rattle.lab_compare.specs.Compared.{IsComparedTo}
+use Rattle.lab_report.specs.Reports.{compare_text}
 use Rattle.lab_words.specs.declared.words.CompareWords.{CompareWords}
-use Rattle.lab_commands.specs.declared.lines.Line.{Line}
-use Rattle.lab_commands.specs.declared.lines.Line.TheVariants.{Lost}
 use Rattle.lab_commands.specs.declared.text.LabFault.{LabFault}
 use Rattle.lab_commands.specs.declared.text.LabFault.TheVariants as fault
 use Rattle.lab_commands.specs.Files.{Answers, IsOpened, Kept}
-use Rattle.lab_commands.specs.Lines.{text_below}
-use Rattle.lab_commands.specs.Report.{age_line}
-use Rattle.lab_commands.specs.Undone.{IsGeometryAt, IsNoGeometry, IsUnprinted, IsUnread, IsUntaken, LeavesAll, Opens}
-
--- ---- the text
-
--- a sector that has lost a page
-abbrev pub lost_line : ℕ → Bool → Option Line
-lost_line n true = Some (Lost n)
-lost_line n false = None
-
--- the first of them
-abbrev pub lost_text : List Bool → ℕ → List ℕ
-lost_text lost count = text_below (λ n. lost_line n (get_or lost n false)) count
-
-abbrev pub compare_text : Geometry → Compared → List ℕ
-compare_text g told = lost_text told.lost.items g.sectors ++ age_line told.unsound
+use Rattle.lab_commands.specs.Undone.{IsGeometryAt, IsHalfPrinted, IsNoGeometry, IsUnread, IsUntaken, LeavesAll, Opens, form_of}
 
 -- ---- the certificate
 
@@ -83,7 +66,7 @@ pub record ToldCompared (a : Answers) (words : CompareWords) (out printed : Opti
   pub g : Geometry
   pub compared : Compared
   pub has : HasCompared a words g compared
-  pub told : Appends out printed (compare_text g compared)
+  pub told : Appends out printed (compare_text (form_of words.showing) g compared)
 
 -- ---- not done
 
@@ -103,8 +86,8 @@ IsUncompared a words told =
     ⊎ ((g : Geometry) × IsGeometryAt words.geometry.now g × (HasNone a words.certificate.now told
     ⊎ ((c : Claim) × IsCertificateAt a words.certificate.now c × IsUnheld a g c words.dump.now told)))
 
--- nothing was printed, for one of these reasons, or standard output failed
+-- nothing was printed, for one of these reasons, or a beginning of what the dump comes to was
 abbrev pub IsCompareFault : Answers → CompareWords → Option (List Kept) → Option (List Kept) → Option (List ℕ) → Option (List ℕ) → LabFault → Type 0
 IsCompareFault a words before after out printed told =
     (LeavesAll before after out printed × IsUncompared a words told)
-    ⊎ ((after ≡ before) × ((g : Geometry) × (compared : Compared) × HasCompared a words g compared) × IsUnprinted told)
+    ⊎ ((after ≡ before) × ((g : Geometry) × (compared : Compared) × HasCompared a words g compared × IsHalfPrinted out printed (compare_text (form_of words.showing) g compared) told))

@@ -1,46 +1,15 @@
 -- What the command `geometry` comes to.
-use Rattle.std.specs.Prelude.{◌≡◌, ◌⊎◌, ◌<◌, ℕ, All, List, [], ◌∷◌, ◌++◌, length, codes, Option, IfSome, IsPermutation}
-use Rattle.std.specs.List.{flat_map}
+use Rattle.std.specs.Prelude.{◌≡◌, ◌⊎◌, ◌<◌, ℕ, All, List, [], length, Option, IfSome, IsPermutation}
 use Rattle.std.specs.List.Sorted.{IsSorted}
-use Rattle.std.specs.Fmt.{decimal}
 use Rattle.std.specs.Io.KnownBytes.{Appends}
 use Rattle.lab_geometry.specs.declared.fit.Fit.{Fit}
-use Rattle.lab_geometry.specs.declared.fit.TableSays.{TableSays}
-use Rattle.lab_geometry.specs.declared.fit.TableSays.TheVariants.{Agrees, Silent, Differs}
 use Rattle.lab_geometry.specs.Fits.{IsPossible, fits_of, rank}
+use Rattle.lab_report.specs.Reports.{fits_text}
 use Rattle.lab_words.specs.declared.words.GeometryWords.{GeometryWords}
 use Rattle.lab_commands.specs.declared.text.LabFault.{LabFault}
 use Rattle.lab_commands.specs.declared.text.LabFault.TheVariants as fault
 use Rattle.lab_commands.specs.Files.{Answers, IsOpened, Kept}
-use Rattle.lab_commands.specs.Undone.{IsUnprinted, IsUnread, LeavesAll, Opens}
-
--- ---- the text
-
--- what the table of blocks says of the number of blocks
-abbrev pub says_words : TableSays → List ℕ
-says_words Agrees = codes "agrees"
-says_words Silent = codes "silent"
-says_words Differs = codes "differs"
-
--- the five numbers, as the words of a command write them
-abbrev pub shape_words : Fit → List ℕ
-shape_words f =
-    decimal f.data_bytes ++ (codes "," ++ (decimal f.spare_bytes ++ (codes "," ++ (decimal f.pages ++ (codes "," ++ (decimal f.blocks ++ (codes "," ++ decimal f.sectors)))))))
-
--- the sound pages of those that were looked at, and those neither sound nor erased
-abbrev pub looked_words : Fit → List ℕ
-looked_words f = codes " looked " ++ (decimal f.looked ++ (codes " sound " ++ (decimal f.sound.0 ++ (codes " unsound " ++ decimal f.unsound))))
-
--- what the table of blocks says, and the sectors that all pages tell of
-abbrev pub told_words : Fit → List ℕ
-told_words f = codes " table " ++ (says_words f.table ++ (codes " blocks " ++ (decimal f.blocks_told ++ (codes " sectors " ++ decimal f.sectors_told))))
-
--- the line of a geometry that fits
-unfoldable pub fit_line : Fit → List ℕ
-fit_line f = codes "geometry " ++ (shape_words f ++ (looked_words f ++ (told_words f ++ (10 ∷ []))))
-
-abbrev pub fits_text : List Fit → List ℕ
-fits_text fits = flat_map fit_line fits
+use Rattle.lab_commands.specs.Undone.{IsHalfPrinted, IsUnread, LeavesAll, Opens, form_of}
 
 -- ---- done
 
@@ -57,7 +26,7 @@ pub record AreFound (a : Answers) (path : List ℕ) (fits : List Fit) : Type 0 w
 pub record ToldFits (a : Answers) (words : GeometryWords) (out printed : Option (List ℕ)) : Type 0 where
   pub fits : List Fit
   pub found : AreFound a words.dump.now fits
-  pub told : Appends out printed (fits_text fits)
+  pub told : Appends out printed (fits_text (form_of words.showing) fits)
 
 -- ---- not done
 
@@ -78,8 +47,8 @@ IsUnfitted a path _ = ⊥
 abbrev pub IsUnfound : Answers → List ℕ → LabFault → Type 0
 IsUnfound a path told = IsUnread a path told ⊎ IsUnfitted a path told
 
--- nothing was printed, for one of these reasons, or standard output failed
+-- nothing was printed, for one of these reasons, or a beginning of the list was
 abbrev pub IsGeometryFault : Answers → GeometryWords → Option (List Kept) → Option (List Kept) → Option (List ℕ) → Option (List ℕ) → LabFault → Type 0
 IsGeometryFault a words before after out printed told =
     (LeavesAll before after out printed × IsUnfound a words.dump.now told)
-    ⊎ ((after ≡ before) × ((fits : List Fit) × AreFound a words.dump.now fits) × IsUnprinted told)
+    ⊎ ((after ≡ before) × ((fits : List Fit) × AreFound a words.dump.now fits × IsHalfPrinted out printed (fits_text (form_of words.showing) fits) told))

@@ -1,7 +1,5 @@
 -- What the command `merge` comes to.
-use Rattle.std.specs.Prelude.{◌≡◌, ◌⊎◌, ℕ, ◌<◌, Bool, true, false, List, [], ◌∷◌, ◌++◌, length, get_or, codes, Option, None}
-use Rattle.std.specs.List.{flat_map}
-use Rattle.std.specs.Fmt.{decimal}
+use Rattle.std.specs.Prelude.{◌≡◌, ◌⊎◌, ℕ, ◌<◌, Bool, true, false, List, [], length, get_or, Option, None}
 use Rattle.std.specs.Io.KnownBytes.{Appends}
 use Rattle.page_layout.specs.declared.geometry.Geometry.{Geometry}
 use Rattle.lab_scan.specs.Scan.{image_bytes}
@@ -10,31 +8,13 @@ use Rattle.lab_merge.specs.declared.merge.MergeFault.TheVariants as merge
 use Rattle.lab_merge.specs.declared.merging.Tally.{Tally}
 use Rattle.lab_merge.specs.InStep.{Tell}
 use Rattle.lab_merge.specs.Merged.{IsMerged, IsOwnMerge}
+use Rattle.lab_report.specs.Reports.{merge_text}
 use Rattle.lab_words.specs.declared.words.MergeWords.{MergeWords}
 use Rattle.lab_words.specs.Words.{texts}
 use Rattle.lab_commands.specs.declared.text.LabFault.{LabFault}
 use Rattle.lab_commands.specs.declared.text.LabFault.TheVariants as fault
 use Rattle.lab_commands.specs.Files.{Answers, IsOpened, Kept, with_kept}
-use Rattle.lab_commands.specs.Undone.{IsGeometryAt, IsNoGeometry, IsUnprinted, IsUnread, IsUnwritten, LeavesAll}
-
--- ---- the text
-
--- the line of a row of which two sound pages differ
-unfoldable pub differ_line : ℕ → List ℕ
-differ_line row = codes "differ row " ++ (decimal row ++ (10 ∷ []))
-
--- that of a row of which no page is sound or erased, nor the majority sound
-unfoldable pub unsound_line : ℕ → List ℕ
-unsound_line row = codes "unsound row " ++ (decimal row ++ (10 ∷ []))
-
--- how many rows there are of each kind
-unfoldable pub tally_line : ℕ → Tally → List ℕ
-tally_line differ t =
-    codes "sound " ++ (decimal t.sound ++ (codes " differ " ++ (decimal differ ++ (codes " majority " ++ (decimal t.majority ++ (
-    codes " erased " ++ (decimal t.erased ++ (codes " unsound " ++ (decimal t.unsound ++ (10 ∷ []))))))))))
-
-abbrev pub merge_text : List ℕ → List ℕ → Tally → List ℕ
-merge_text conflicts unsound t = flat_map differ_line conflicts ++ (flat_map unsound_line unsound ++ tally_line (length conflicts) t)
+use Rattle.lab_commands.specs.Undone.{IsGeometryAt, IsHalfPrinted, IsNoGeometry, IsUnread, IsUnwritten, LeavesAll, form_of}
 
 -- ---- the dumps
 
@@ -101,7 +81,7 @@ pub record WroteMerge (a : Answers) (words : MergeWords) (before after : Option 
   pub unsound : List ℕ
   pub tally : Tally
   pub put : PutMerge a words before after conflicts unsound tally
-  pub told : Appends out printed (merge_text conflicts unsound tally)
+  pub told : Appends out printed (merge_text (form_of words.showing) conflicts unsound tally)
 
 -- ---- not done
 
@@ -154,8 +134,9 @@ IsUnmergedBy a words told =
     ⊎ ((g : Geometry) × IsGeometryAt words.geometry.now g × (MayNotMerge a words told
     ⊎ (MayMerge a words × IsUnjoined a (dumps_of words) g words.out.now told)))
 
--- No dump was put in place and nothing printed, for one of these reasons; or it was put in place, and standard output failed.
+-- No dump was put in place and nothing printed, for one of these reasons; or it was put in place, and a beginning of the list printed.
 abbrev pub IsMergeFault : Answers → MergeWords → Option (List Kept) → Option (List Kept) → Option (List ℕ) → Option (List ℕ) → LabFault → Type 0
 IsMergeFault a words before after out printed told =
     (LeavesAll before after out printed × IsUnmergedBy a words told)
-    ⊎ (((conflicts : List ℕ) × (unsound : List ℕ) × (tally : Tally) × PutMerge a words before after conflicts unsound tally) × IsUnprinted told)
+    ⊎ ((conflicts : List ℕ) × (unsound : List ℕ) × (tally : Tally) × PutMerge a words before after conflicts unsound tally
+    × IsHalfPrinted out printed (merge_text (form_of words.showing) conflicts unsound tally) told)

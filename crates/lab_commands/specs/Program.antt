@@ -14,7 +14,7 @@ use Rattle.lab_commands.specs.Compare.{ToldCompared, IsCompareFault}
 use Rattle.lab_commands.specs.Geometry.{ToldFits, IsGeometryFault}
 use Rattle.lab_commands.specs.Repair.{WroteRepair, IsRepairFault}
 use Rattle.lab_commands.specs.Merge.{WroteMerge, IsMergeFault}
-use Rattle.lab_commands.specs.Undone.{IsUnprinted, LeavesAll}
+use Rattle.lab_commands.specs.Undone.{IsHalfPrinted, LeavesAll}
 
 -- ---- done
 
@@ -41,7 +41,7 @@ IsFaultOf a (asked.Survey read) before after out printed told = IsSurveyFault a 
 IsFaultOf a (asked.Compare read) before after out printed told = IsCompareFault a read before after out printed told
 IsFaultOf a (asked.Merge read) before after out printed told = IsMergeFault a read before after out printed told
 IsFaultOf a (asked.Repair read) before after out printed told = IsRepairFault a read before after out printed told
-IsFaultOf a (asked.Text text) before after out printed told = (after ≡ before) × IsUnprinted told
+IsFaultOf a (asked.Text text) before after out printed told = (after ≡ before) × IsHalfPrinted out printed (string_bytes text) told
 
 -- the words are no command, or memory for them was refused
 abbrev pub IsUnasked : List (List ℕ) → LabFault → Type 0

@@ -1,31 +1,17 @@
 -- What the command `repair` comes to.
-use Rattle.std.specs.Prelude.{◌≡◌, ◌⊎◌, ℕ, List, [], ◌∷◌, ◌++◌, length, codes, Option, IfSome}
-use Rattle.std.specs.List.{flat_map}
-use Rattle.std.specs.Fmt.{decimal}
+use Rattle.std.specs.Prelude.{◌≡◌, ◌⊎◌, ℕ, List, Option, IfSome}
 use Rattle.std.specs.Io.KnownBytes.{Appends}
 use Rattle.page_layout.specs.declared.geometry.Geometry.{Geometry}
 use Rattle.lab_repair.specs.declared.repair.RepairFault.{RepairFault}
 use Rattle.lab_repair.specs.declared.repair.RepairFault.TheVariants as repair
 use Rattle.lab_repair.specs.declared.repairing.Mend.{Mend}
 use Rattle.lab_repair.specs.Repaired.{IsOwnRepair, IsRepaired}
+use Rattle.lab_report.specs.Reports.{repair_text}
 use Rattle.lab_words.specs.declared.words.RepairWords.{RepairWords}
 use Rattle.lab_commands.specs.declared.text.LabFault.{LabFault}
 use Rattle.lab_commands.specs.declared.text.LabFault.TheVariants as fault
 use Rattle.lab_commands.specs.Files.{Answers, IsOpened, Kept, with_kept}
-use Rattle.lab_commands.specs.Undone.{IsGeometryAt, IsNoGeometry, IsUnmade, IsUnprinted, LeavesAll, MayNotWrite, MayWrite}
-
--- ---- the text
-
--- the line of a page that was mended
-unfoldable pub mend_line : Mend → List ℕ
-mend_line m = codes "mended row " ++ (decimal m.row ++ (codes " bit " ++ (decimal m.bit ++ (10 ∷ []))))
-
--- how many were
-unfoldable pub mended_line : ℕ → List ℕ
-mended_line n = codes "mended " ++ (decimal n ++ (10 ∷ []))
-
-abbrev pub repair_text : List Mend → List ℕ
-repair_text mends = flat_map mend_line mends ++ mended_line (length mends)
+use Rattle.lab_commands.specs.Undone.{IsGeometryAt, IsNoGeometry, IsHalfPrinted, IsUnmade, LeavesAll, MayNotWrite, MayWrite, form_of}
 
 -- ---- done
 
@@ -50,7 +36,7 @@ pub record PutRepair (a : Answers) (words : RepairWords) (before after : Option 
 pub record WroteRepair (a : Answers) (words : RepairWords) (before after : Option (List Kept)) (out printed : Option (List ℕ)) : Type 0 where
   pub mends : List Mend
   pub put : PutRepair a words before after mends
-  pub told : Appends out printed (repair_text mends)
+  pub told : Appends out printed (repair_text (form_of words.showing) mends)
 
 -- ---- not done
 
@@ -61,11 +47,11 @@ IsUnrepairedBy a words told =
     ⊎ ((g : Geometry) × IsGeometryAt words.geometry.now g × (MayNotWrite a words.dump.now words.out.now words.force told
     ⊎ (MayWrite a words.dump.now words.out.now words.force × IsUnmade a g words.dump.now words.out.now told)))
 
--- No dump was put in place and nothing printed, for one of these reasons; or it was put in place, and standard output failed.
+-- No dump was put in place and nothing printed, for one of these reasons; or it was put in place, and a beginning of the list printed.
 abbrev pub IsRepairFault : Answers → RepairWords → Option (List Kept) → Option (List Kept) → Option (List ℕ) → Option (List ℕ) → LabFault → Type 0
 IsRepairFault a words before after out printed told =
     (LeavesAll before after out printed × IsUnrepairedBy a words told)
-    ⊎ (((mends : List Mend) × PutRepair a words before after mends) × IsUnprinted told)
+    ⊎ ((mends : List Mend) × PutRepair a words before after mends × IsHalfPrinted out printed (repair_text (form_of words.showing) mends) told)
 
 -- how a fault of the repair is told
 abbrev pub repair_told : RepairFault → RepairWords → LabFault

@@ -4,11 +4,11 @@ use Rattle.std.specs.Io.KnownBytes.{Appends}
 use Rattle.page_layout.specs.declared.geometry.Geometry.{Geometry}
 use Rattle.lab_survey.specs.declared.survey.DieSurvey.{DieSurvey}
 use Rattle.lab_survey.specs.Surveyed.{IsSurveyOf}
+use Rattle.lab_report.specs.Reports.{survey_text}
 use Rattle.lab_words.specs.declared.words.SurveyWords.{SurveyWords}
 use Rattle.lab_commands.specs.declared.text.LabFault.{LabFault}
 use Rattle.lab_commands.specs.Files.{Answers, IsOpened, Kept}
-use Rattle.lab_commands.specs.Lines.{survey_text}
-use Rattle.lab_commands.specs.Undone.{IsGeometryAt, IsNoGeometry, IsUnprinted, IsUnread, IsUntaken, LeavesAll}
+use Rattle.lab_commands.specs.Undone.{IsGeometryAt, IsHalfPrinted, IsNoGeometry, IsUnread, IsUntaken, LeavesAll, form_of}
 
 -- a survey of a dump that reads so: where its bytes are known it is of the image that they are
 pub record IsSeen (a : Answers) (path : List ℕ) (g : Geometry) (survey : DieSurvey) : Type 0 where
@@ -26,7 +26,7 @@ pub record ToldSurvey (a : Answers) (words : SurveyWords) (out printed : Option 
   pub g : Geometry
   pub survey : DieSurvey
   pub has : HasSurvey a words g survey
-  pub told : Appends out printed (survey_text g survey)
+  pub told : Appends out printed (survey_text (form_of words.showing) g survey)
 
 -- why there is no survey: the dump was not opened, or not taken as a whole
 abbrev pub IsUnsurveyed : Answers → Geometry → List ℕ → LabFault → Type 0
@@ -38,8 +38,8 @@ IsUnseen a words told =
     IsNoGeometry words.geometry.now told
     ⊎ ((g : Geometry) × IsGeometryAt words.geometry.now g × IsUnsurveyed a g words.dump.now told)
 
--- nothing was printed, for one of these reasons, or standard output failed
+-- nothing was printed, for one of these reasons, or a beginning of the survey was
 abbrev pub IsSurveyFault : Answers → SurveyWords → Option (List Kept) → Option (List Kept) → Option (List ℕ) → Option (List ℕ) → LabFault → Type 0
 IsSurveyFault a words before after out printed told =
     (LeavesAll before after out printed × IsUnseen a words told)
-    ⊎ ((after ≡ before) × ((g : Geometry) × (survey : DieSurvey) × HasSurvey a words g survey) × IsUnprinted told)
+    ⊎ ((after ≡ before) × ((g : Geometry) × (survey : DieSurvey) × HasSurvey a words g survey × IsHalfPrinted out printed (survey_text (form_of words.showing) g survey) told))

@@ -1,11 +1,15 @@
 -- What the words of a command say of its geometry, and why a command ended before it was done.
-use Rattle.std.specs.Prelude.{◌≡◌, ◌⊎◌, ℕ, Bool, true, false, List, codes, length, Option, IfSome}
+use Rattle.std.specs.Prelude.{◌≡◌, ◌⊎◌, ℕ, Bool, true, false, if◌then◌else◌, List, codes, length, Option, IfSome}
 use Rattle.std.specs.Io.KnownBytes.{Keeps}
 use Rattle.page_layout.specs.declared.geometry.Geometry.{Geometry}
 use Rattle.page_layout.specs.Faults.{HasNumbers, IsFirstFault}
+use Rattle.request_stream.specs.Frames.{AppendsFront}
 use Rattle.command_words.specs.declared.numbers.GeometryNumbers.{GeometryNumbers}
 use Rattle.command_words.specs.Numbers.{SpellsGeometry}
 use Rattle.lab_scan.specs.Scan.{image_bytes}
+use Rattle.lab_report.specs.declared.printing.Form.{Form}
+use Rattle.lab_report.specs.declared.printing.Form.TheVariants.{Text, Json}
+use Rattle.lab_words.specs.declared.words.Showing.{Showing}
 use Rattle.lab_commands.specs.declared.files.FileFault.TheVariants as file
 use Rattle.lab_commands.specs.declared.text.LabFault.{LabFault}
 use Rattle.lab_commands.specs.declared.text.LabFault.TheVariants as fault
@@ -84,7 +88,16 @@ pub record LeavesAll (before after : Option (List Kept)) (out printed : Option (
   pub kept : after ≡ before
   pub silent : Keeps out printed
 
--- it is standard output that failed
+-- standard output failed, or memory for a line was refused
 abbrev pub IsUnprinted : LabFault → Type 0
 IsUnprinted (fault.Write told) = told.now ≡ codes "-"
+IsUnprinted fault.OutOfMemory = Unit {0}
 IsUnprinted _ = ⊥
+
+-- so that of what was due a beginning stands there
+abbrev pub IsHalfPrinted : Option (List ℕ) → Option (List ℕ) → List ℕ → LabFault → Type 0
+IsHalfPrinted before after due told = IsUnprinted told × AppendsFront before after due
+
+-- the form that was asked for
+abbrev pub form_of : Showing → Form
+form_of showing = if showing.json then Json else Text

@@ -8,12 +8,14 @@ ghost use Rattle.lab_commands.specs.Array.{AreAllowed, AreNotAllowed, IsArrayFau
 
 use crate::files::LabFiles;
 use crate::opening::{
-    allow, create_beside, geometry_at, has_file, is_dump, is_out, keep, open_file, store_file,
+    allow, create_beside, geometry_at, has_file, is_dump, is_out, keep, open_file, progress_of,
+    store_file,
 };
-use crate::report::print_report;
+use crate::printing::{printer, unprinted};
 use crate::text::LabFault;
 use lab_array::{ArrayFault, Held, Written, write_array};
 use lab_map::print_map;
+use lab_report::print_array;
 use lab_words::ArrayWords;
 use page_layout::geometry::Geometry;
 use std::alloc::{AllocError, Global};
@@ -118,7 +120,7 @@ fn make<'a, F: LabFiles>(
     ensures no_more { AnswersNoMore (F.answers files.old) (F.answers files.new) }
     ensures kept { F.kept files.new ≡ F.kept files.old }
 {
-    let mut dump = open_file(files, words.dump)?;
+    let mut dump = open_file(files, words.dump, progress_of(words.showing))?;
     let target = create_beside(files, words.out, geometry)?;
     match write_array(alloc, &mut dump, geometry, target) {
         Ok(written) => Ok(written),
@@ -157,8 +159,9 @@ pub(crate) fn array_command<'a, F: LabFiles, W: Write>(
     let written = make(alloc, &words, &geometry, files)?;
     keep(files, words.out, written.target)?;
     put_map(alloc, &words, &geometry, &written.held, files)?;
-    match print_report(out, &written.held, written.unsound) {
+    let printer = printer(alloc, words.showing);
+    match print_array(printer, out, &geometry, &written.held, written.unsound) {
         Ok(()) => Ok(()),
-        Err(_) => Err(LabFault::Write("-")),
+        Err(fault) => Err(unprinted(fault)),
     }
 }

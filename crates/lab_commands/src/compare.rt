@@ -1,18 +1,17 @@
 //! The command `compare GEOM CERT DUMP`.
-ghost use Rattle.std.specs.Prelude.{◌≡◌, ◌<◌, ◌≤◌, length, OnOk, IfOk, IfErr};
-ghost use Rattle.std.specs.Io.KnownBytes.{Appends};
+ghost use Rattle.std.specs.Prelude.{◌≡◌, OnOk, IfOk, IfErr};
 ghost use Rattle.certificate.specs.Claim.{sizes_of};
 ghost use Rattle.lab_commands.specs.Files.{AnswersNoMore};
-ghost use Rattle.lab_commands.specs.Compare.{HasNone, IsCertificateAt, IsCompareFault, IsCompared, IsUnheld, ToldCompared, compare_text, lost_text};
+ghost use Rattle.lab_commands.specs.Compare.{HasNone, IsCertificateAt, IsCompareFault, IsCompared, IsUnheld, ToldCompared};
 
-use crate::files::LabFiles;
-use crate::lines::{lost_line, print_line};
-use crate::opening::{geometry_at, open_file};
-use crate::report::print_age;
+use crate::files::{LabFiles, Progress};
+use crate::opening::{geometry_at, open_file, progress_of};
+use crate::printing::{printer, unprinted};
 use crate::text::LabFault;
 use certificate::{Certificate, read_certificate};
 use lab_compare::{CompareFault, Compared, compare_dump};
-use lab_words::CompareWords;
+use lab_report::print_compared;
+use lab_words::{CompareWords, Showing};
 use page_layout::geometry::Geometry;
 use std::alloc::Global;
 use std::io::{self, Read, Write};
@@ -31,7 +30,7 @@ fn load_certificate<'a, F: LabFiles>(
     ensures no_more { AnswersNoMore (F.answers files.old) (F.answers files.new) }
     ensures kept { F.kept files.new ≡ F.kept files.old }
 {
-    let reader = open_file(files, path)?;
+    let reader = open_file(files, path, Progress::Hidden)?;
     let mut bytes = Vec::new(alloc);
     match reader.take(MOST_BYTES).read_to_end(&mut bytes) {
         Ok(_) => (),
@@ -52,15 +51,15 @@ fn compare_with<'a, F: LabFiles>(
     dump: &'a str,
     geometry: &Geometry,
     certificate: &Certificate,
+    showing: Showing,
     files: &mut F,
 ) -> Result<Compared, LabFault<'a>>
     ensures ok { IfOk result (IsCompared (F.answers files.old) dump.now geometry.now certificate.now) }
     ensures sizes { OnOk result (certificate.now.sizes ≡ sizes_of geometry.now) }
-    ensures sized { IfOk result (λ told. length told.lost.items ≡ geometry.now.sectors) }
     ensures fault { IfErr result (IsUnheld (F.answers files.old) geometry.now certificate.now dump.now) }
     ensures kept { F.kept files.new ≡ F.kept files.old }
 {
-    let mut reader = open_file(files, dump)?;
+    let mut reader = open_file(files, dump, progress_of(showing))?;
     match compare_dump(alloc, &mut reader, geometry, certificate) {
         Ok(told) => Ok(told),
         Err(CompareFault::GeometryDiffers) => Err(LabFault::GeometryDiffers),
@@ -68,26 +67,6 @@ fn compare_with<'a, F: LabFiles>(
         Err(CompareFault::Source) => Err(LabFault::Read(dump)),
         Err(CompareFault::OutOfMemory) => Err(LabFault::OutOfMemory),
     }
-}
-
-// The sectors that have lost a page, of the first so many.
-fn print_lost<W: Write>(out: &mut W, lost: &[bool], count: u32) -> io::Result<()>
-    requires { count ≤ length lost.now }
-    ensures { OnOk result (Appends (W.contents out.old) (W.contents out.new) (lost_text lost.now count)) }
-{
-    for sector in 0..count {
-        print_line(out, lost_line(sector, lost[sector as usize]))?;
-    }
-    Ok(())
-}
-
-// What a dump comes to beside a certificate: the sectors that have lost a page, and the line of the pages that are neither erased nor sound.
-fn print_compared<W: Write>(out: &mut W, geometry: &Geometry, told: &Compared) -> io::Result<()>
-    requires { length told.now.lost.items ≡ geometry.now.sectors }
-    ensures { OnOk result (Appends (W.contents out.old) (W.contents out.new) (compare_text geometry.now told.now)) }
-{
-    print_lost(out, &told.lost, geometry.sectors())?;
-    print_age(out, told.unsound)
 }
 
 /// The command `compare`: prints which sectors of the dump DUMP, of the geometry GEOM, have lost a page since the certificate CERT was made of
@@ -114,9 +93,16 @@ pub(crate) fn compare_command<'a, F: LabFiles, W: Write>(
 {
     let geometry = geometry_at(words.geometry)?;
     let certificate = load_certificate(alloc, words.certificate, files)?;
-    let told = compare_with(alloc, words.dump, &geometry, &certificate, files)?;
-    match print_compared(out, &geometry, &told) {
+    let told = compare_with(
+        alloc,
+        words.dump,
+        &geometry,
+        &certificate,
+        words.showing,
+        files,
+    )?;
+    match print_compared(printer(alloc, words.showing), out, &geometry, &told) {
         Ok(()) => Ok(()),
-        Err(_) => Err(LabFault::Write("-")),
+        Err(fault) => Err(unprinted(fault)),
     }
 }

@@ -16,6 +16,17 @@ pub enum FileFault {
     OutOfMemory,
 }
 
+/// Whether a file shows how far it was read. (This project's.)
+#[derive(Clone, Copy, Debug, PartialEq, Eq)]
+pub enum Progress {
+    /// It does not.
+    Hidden,
+    /// It does where somebody looks.
+    IfWatched,
+    /// It does.
+    Shown,
+}
+
 /// The files that the words name, by their paths as written: those of the system, or some in memory.
 pub trait LabFiles {
     ghost use Rattle.std.specs.Prelude.{◌≡◌, List, [], ◌∷◌, ℕ, Option, Some, Result, IfOk, IfErr, IfSome, replicate};
@@ -52,14 +63,14 @@ pub trait LabFiles {
         ensures same { self.new ≡ self.old };
 
     /// A reader of a file, from its first byte on. No file is changed.
-    fn open(&mut self, path: &str) -> Result<Self::Reader, FileFault>
+    fn open(&mut self, path: &str, progress: Progress) -> Result<Self::Reader, FileFault>
         ensures bytes { IfOk result (λ reader. IsOpened (answers self.old) path.now (Self.Reader.remaining reader)) }
         ensures failed { IfErr result ((answers self.old).fails path.now) }
         ensures no_more { AnswersNoMore (answers self.old) (answers self.new) }
         ensures kept { kept self.new ≡ kept self.old };
 
     /// A dump of a file, to be read at whatever place. No file is changed.
-    fn open_dump(&mut self, path: &str) -> Result<Self::Dump, FileFault>
+    fn open_dump(&mut self, path: &str, progress: Progress) -> Result<Self::Dump, FileFault>
         ensures bytes { IfOk result (λ dump. IsOpened (answers self.old) path.now (Self.Dump.bytes dump)) }
         ensures failed { IfErr result ((answers self.old).fails path.now) }
         ensures no_more { AnswersNoMore (answers self.old) (answers self.new) }

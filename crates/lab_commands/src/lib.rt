@@ -6,16 +6,14 @@ mod array;
 mod compare;
 mod files;
 mod geometry;
-mod lines;
 mod merge;
 mod opening;
+mod printing;
 mod program;
 mod repair;
-mod report;
 mod survey;
-mod survey_report;
 mod text;
 
-pub use files::{FileFault, LabFiles};
+pub use files::{FileFault, LabFiles, Progress};
 pub use program::run;
 pub use text::{LabFault, tell};

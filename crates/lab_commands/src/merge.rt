@@ -1,84 +1,23 @@
 //! The command `merge GEOM OUT DUMP DUMP..`.
 ghost use Rattle.std.specs.Prelude.{◌≡◌, ◌<◌, ℕ, List, [], get_or, length, map, OnOk, IfOk, IfErr};
-ghost use Rattle.std.specs.Io.KnownBytes.{Appends};
-ghost use Rattle.std.specs.List.{flat_map};
 ghost use Rattle.lab_merge.specs.Merged.{IsOfReading};
 ghost use Rattle.lab_words.specs.Words.{texts};
 ghost use Rattle.lab_commands.specs.Files.{AnswersNoMore};
 ghost use Rattle.lab_commands.specs.Merge.{AreOpened, HasSame, IsJoined, IsMergeFault, IsSomeUnread, IsUnjoined, IsUnopened, MayMerge, MayNotMerge, TellsFault, WroteMerge};
-ghost use Rattle.lab_commands.specs.Merge.{differ_line, dumps_of, merge_text, tally_line, unsound_line};
+ghost use Rattle.lab_commands.specs.Merge.{dumps_of};
 
-use crate::files::LabFiles;
-use crate::opening::{create_pages, geometry_at, has_file, is_dump, keep_pages, open_file};
+use crate::files::{LabFiles, Progress};
+use crate::opening::{
+    create_pages, geometry_at, has_file, is_dump, keep_pages, open_file, progress_of,
+};
+use crate::printing::{printer, unprinted};
 use crate::text::LabFault;
-use lab_merge::{MergeFault, Merged, Tally, merge_dumps};
+use lab_merge::{MergeFault, Merged, merge_dumps};
+use lab_report::print_merged;
 use lab_words::MergeWords;
 use page_layout::geometry::Geometry;
 use std::alloc::Global;
-use std::io::{self, Write};
-
-// The line of a row of which two sound pages differ.
-#[tactic(auto, unfolding(crate::specs::Merge::differ_line))]
-fn print_differ<W: Write>(out: &mut W, row: u32) -> io::Result<()>
-    ensures { OnOk result (Appends (W.contents out.old) (W.contents out.new) (differ_line row)) }
-{
-    writeln!(out, "differ row {row}")
-}
-
-// Those of all of them, in their order.
-fn print_conflicts<W: Write>(out: &mut W, conflicts: &[u32]) -> io::Result<()>
-    ensures { OnOk result (Appends (W.contents out.old) (W.contents out.new) (flat_map differ_line conflicts.now)) }
-{
-    for row in conflicts {
-        print_differ(out, *row)?;
-    }
-    Ok(())
-}
-
-// The line of a row of which no page is sound or erased, nor the majority sound.
-#[tactic(auto, unfolding(crate::specs::Merge::unsound_line))]
-fn print_unsound<W: Write>(out: &mut W, row: u32) -> io::Result<()>
-    ensures { OnOk result (Appends (W.contents out.old) (W.contents out.new) (unsound_line row)) }
-{
-    writeln!(out, "unsound row {row}")
-}
-
-// Those of all of them, in their order.
-fn print_all_unsound<W: Write>(out: &mut W, unsound: &[u32]) -> io::Result<()>
-    ensures { OnOk result (Appends (W.contents out.old) (W.contents out.new) (flat_map unsound_line unsound.now)) }
-{
-    for row in unsound {
-        print_unsound(out, *row)?;
-    }
-    Ok(())
-}
-
-// How many rows there are of each kind.
-#[tactic(auto, unfolding(crate::specs::Merge::tally_line))]
-fn print_tally<W: Write>(out: &mut W, differ: usize, tally: Tally) -> io::Result<()>
-    ensures { OnOk result (Appends (W.contents out.old) (W.contents out.new) (tally_line differ tally)) }
-{
-    let (sound, majority) = (tally.sound, tally.majority);
-    let (erased, unsound) = (tally.erased, tally.unsound);
-    writeln!(
-        out,
-        "sound {sound} differ {differ} majority {majority} erased {erased} unsound {unsound}"
-    )
-}
-
-// Which rows differ, which are unsound, and the counts.
-fn print_merge<W: Write>(
-    out: &mut W,
-    conflicts: &[u32],
-    unsound: &[u32],
-    tally: Tally,
-) -> io::Result<()>
-    ensures { OnOk result (Appends (W.contents out.old) (W.contents out.new) (merge_text conflicts.now unsound.now tally)) }
-{
-    print_conflicts(out, conflicts)?;
-    print_all_unsound(out, unsound)?;
-    print_tally(out, conflicts.len(), tally)
-}
+use std::io::Write;
 
 // Whether a path is that of one of the dumps.
 fn is_some_dump<'a, F: LabFiles>(
@@ -117,10 +56,11 @@ fn allow_merge<'a, F: LabFiles>(files: &mut F, words: &MergeWords<'a>) -> Result
     }
 }
 
-// Readers of all dumps, in their order.
+// Readers of all dumps, in their order. They are read in step, so the first alone shows how far it is.
 fn open_all<'a, F: LabFiles>(
     alloc: Global,
     dumps: &[&'a str],
+    progress: Progress,
     files: &mut F,
 ) -> Result<Vec<F::Reader>, LabFault<'a>>
     ensures opened { IfOk result (λ readers. AreOpened (F.answers files.old) (texts dumps.now) (map F.Reader.remaining readers.items)) }
@@ -130,7 +70,12 @@ fn open_all<'a, F: LabFiles>(
 {
     let mut readers = Vec::new(alloc);
     for place in 0..dumps.len() {
-        let reader = open_file(files, dumps[place])?;
+        let shown = if place == 0 {
+            progress
+        } else {
+            Progress::Hidden
+        };
+        let reader = open_file(files, dumps[place], shown)?;
         match readers.push(reader) {
             Ok(_) => (),
             Err(_) => return Err(LabFault::OutOfMemory),
@@ -165,7 +110,7 @@ fn join<'a, F: LabFiles>(
     ensures no_more { AnswersNoMore (F.answers files.old) (F.answers files.new) }
     ensures kept { F.kept files.new ≡ F.kept files.old }
 {
-    let mut readers = open_all(alloc, &words.dumps, files)?;
+    let mut readers = open_all(alloc, &words.dumps, progress_of(words.showing), files)?;
     let target = create_pages(files, words.out, geometry)?;
     match merge_dumps(alloc, &mut readers, geometry, target) {
         Ok(merged) => Ok(merged),
@@ -202,8 +147,15 @@ pub(crate) fn merge_command<'a, F: LabFiles, W: Write>(
     allow_merge(files, &words)?;
     let merged = join(alloc, &words, &geometry, files)?;
     keep_pages(files, words.out, merged.target)?;
-    match print_merge(out, &merged.conflicts, &merged.unsound, merged.tally) {
+    let printer = printer(alloc, words.showing);
+    match print_merged(
+        printer,
+        out,
+        &merged.conflicts,
+        &merged.unsound,
+        merged.tally,
+    ) {
         Ok(()) => Ok(()),
-        Err(_) => Err(LabFault::Write("-")),
+        Err(fault) => Err(unprinted(fault)),
     }
 }

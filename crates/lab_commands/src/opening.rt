@@ -5,9 +5,10 @@ ghost use Rattle.page_layout.specs.Geometry.{row_count};
 ghost use Rattle.lab_commands.specs.Files.{AnswersNoMore, IsOpened, with_kept};
 ghost use Rattle.lab_commands.specs.Undone.{IsGeometryAt, IsNoGeometry, IsUnread, IsUnwritten, MayNotWrite, MayWrite};
 
-use crate::files::{FileFault, LabFiles};
+use crate::files::{FileFault, LabFiles, Progress};
 use crate::text::LabFault;
 use command_words::geometry_numbers;
+use lab_words::Showing;
 use page_layout::geometry::Geometry;
 
 /// The geometry that a word says.
@@ -30,33 +31,44 @@ pub(crate) fn geometry_at<'a>(word: &'a str) -> Result<Geometry, LabFault<'a>>
     }
 }
 
+/// Whether a dump shows how far it was read.
+pub(crate) fn progress_of(showing: Showing) -> Progress {
+    if showing.progress {
+        Progress::Shown
+    } else {
+        Progress::IfWatched
+    }
+}
+
 /// A reader of a file.
 pub(crate) fn open_file<'a, F: LabFiles>(
     files: &mut F,
     path: &'a str,
+    progress: Progress,
 ) -> Result<F::Reader, LabFault<'a>>
     ensures bytes { IfOk result (λ reader. IsOpened (F.answers files.old) path.now (F.Reader.remaining reader)) }
     ensures fault { IfErr result (IsUnread (F.answers files.old) path.now) }
     ensures no_more { AnswersNoMore (F.answers files.old) (F.answers files.new) }
     ensures kept { F.kept files.new ≡ F.kept files.old }
 {
-    match files.open(path) {
+    match files.open(path, progress) {
         Ok(reader) => Ok(reader),
         Err(FileFault::Failed) => Err(LabFault::Read(path)),
         Err(FileFault::OutOfMemory) => Err(LabFault::OutOfMemory),
     }
 }
 
-/// A dump that can be read at whatever place.
+/// A dump that can be read at whatever place, which shows how much was read.
 pub(crate) fn open_dump<'a, F: LabFiles>(
     files: &mut F,
     path: &'a str,
+    progress: Progress,
 ) -> Result<F::Dump, LabFault<'a>>
     ensures bytes { IfOk result (λ dump. IsOpened (F.answers files.old) path.now (F.Dump.bytes dump)) }
     ensures fault { IfErr result (IsUnread (F.answers files.old) path.now) }
     ensures kept { F.kept files.new ≡ F.kept files.old }
 {
-    match files.open_dump(path) {
+    match files.open_dump(path, progress) {
         Ok(dump) => Ok(dump),
         Err(FileFault::Failed) => Err(LabFault::Read(path)),
         Err(FileFault::OutOfMemory) => Err(LabFault::OutOfMemory),

@@ -12,6 +12,7 @@ use crate::repair::repair_command;
 use crate::survey::survey_command;
 use crate::text::{DONE, LabFault, tell};
 use lab_words::{Asked, WordsFault, parse};
+use request_stream::send;
 use std::alloc::Global;
 use std::io::Write;
 
@@ -32,7 +33,7 @@ fn obey<'a, F: LabFiles, W: Write>(
         Ok(Asked::Compare(read)) => compare_command(alloc, read, files, out),
         Ok(Asked::Merge(read)) => merge_command(alloc, read, files, out),
         Ok(Asked::Repair(read)) => repair_command(alloc, read, files, out),
-        Ok(Asked::Text(text)) => match out.write_all(text.as_bytes()) {
+        Ok(Asked::Text(text)) => match send(out, text.as_bytes()) {
             Ok(()) => Ok(()),
             Err(_) => Err(LabFault::Write("-")),
         },

@@ -1,54 +1,19 @@
 //! The command `repair GEOM DUMP OUT`.
 ghost use Rattle.std.specs.Prelude.{◌≡◌, OnOk, IfOk, IfErr};
-ghost use Rattle.std.specs.Io.KnownBytes.{Appends};
-ghost use Rattle.std.specs.List.{flat_map};
 ghost use Rattle.lab_commands.specs.Files.{AnswersNoMore};
 ghost use Rattle.lab_commands.specs.Undone.{IsUnmade};
-ghost use Rattle.lab_commands.specs.Repair.{IsMended, IsRepairFault, WroteRepair, mend_line, mended_line, repair_text, repair_told};
+ghost use Rattle.lab_commands.specs.Repair.{IsMended, IsRepairFault, WroteRepair, repair_told};
 
 use crate::files::LabFiles;
-use crate::opening::{allow, create_pages, geometry_at, keep_pages, open_file};
+use crate::opening::{allow, create_pages, geometry_at, keep_pages, open_file, progress_of};
+use crate::printing::{printer, unprinted};
 use crate::text::LabFault;
-use lab_repair::{Mend, RepairFault, Repaired, repair_dump};
+use lab_repair::{RepairFault, Repaired, repair_dump};
+use lab_report::print_repaired;
 use lab_words::RepairWords;
 use page_layout::geometry::Geometry;
 use std::alloc::Global;
-use std::io::{self, Write};
-
-// The line of a page that was mended.
-#[tactic(auto, unfolding(crate::specs::Repair::mend_line))]
-fn print_mend<W: Write>(out: &mut W, mend: Mend) -> io::Result<()>
-    ensures { OnOk result (Appends (W.contents out.old) (W.contents out.new) (mend_line mend)) }
-{
-    let (row, bit) = (mend.row, mend.bit);
-    writeln!(out, "mended row {row} bit {bit}")
-}
-
-// Those of all of them, in their order.
-fn print_mends<W: Write>(out: &mut W, mends: &[Mend]) -> io::Result<()>
-    ensures { OnOk result (Appends (W.contents out.old) (W.contents out.new) (flat_map mend_line mends.now)) }
-{
-    for mend in mends {
-        print_mend(out, *mend)?;
-    }
-    Ok(())
-}
-
-// How many were mended.
-#[tactic(auto, unfolding(crate::specs::Repair::mended_line))]
-fn print_mended<W: Write>(out: &mut W, count: usize) -> io::Result<()>
-    ensures { OnOk result (Appends (W.contents out.old) (W.contents out.new) (mended_line count)) }
-{
-    writeln!(out, "mended {count}")
-}
-
-// What was mended, and how many pages that are.
-fn print_repair<W: Write>(out: &mut W, mends: &[Mend]) -> io::Result<()>
-    ensures { OnOk result (Appends (W.contents out.old) (W.contents out.new) (repair_text mends.now)) }
-{
-    print_mends(out, mends)?;
-    print_mended(out, mends.len())
-}
+use std::io::Write;
 
 // How a fault of the repair is told.
 fn repair_told<'a>(fault: RepairFault, words: &RepairWords<'a>) -> LabFault<'a>
@@ -74,7 +39,7 @@ fn mend<'a, F: LabFiles>(
     ensures no_more { AnswersNoMore (F.answers files.old) (F.answers files.new) }
     ensures kept { F.kept files.new ≡ F.kept files.old }
 {
-    let mut dump = open_file(files, words.dump)?;
+    let mut dump = open_file(files, words.dump, progress_of(words.showing))?;
     let target = create_pages(files, words.out, geometry)?;
     match repair_dump(alloc, &mut dump, geometry, target) {
         Ok(repaired) => Ok(repaired),
@@ -110,8 +75,8 @@ pub(crate) fn repair_command<'a, F: LabFiles, W: Write>(
     allow(files, words.dump, words.out, words.force)?;
     let repaired = mend(alloc, &words, &geometry, files)?;
     keep_pages(files, words.out, repaired.target)?;
-    match print_repair(out, &repaired.mends) {
+    match print_repaired(printer(alloc, words.showing), out, &repaired.mends) {
         Ok(()) => Ok(()),
-        Err(_) => Err(LabFault::Write("-")),
+        Err(fault) => Err(unprinted(fault)),
     }
 }

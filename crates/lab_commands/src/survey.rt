@@ -1,14 +1,14 @@
 //! The command `survey GEOM DUMP`.
 ghost use Rattle.std.specs.Prelude.{◌≡◌, OnOk, IfOk, IfErr};
-ghost use Rattle.lab_survey.specs.Surveyed.{IsWhole};
 ghost use Rattle.lab_commands.specs.Survey.{IsSeen, IsSurveyFault, IsUnsurveyed, ToldSurvey};
 
 use crate::files::LabFiles;
-use crate::opening::{geometry_at, open_file};
-use crate::survey_report::print_survey;
+use crate::opening::{geometry_at, open_file, progress_of};
+use crate::printing::{printer, unprinted};
 use crate::text::LabFault;
+use lab_report::print_survey;
 use lab_survey::{DieSurvey, SurveyFault, survey_dump};
-use lab_words::SurveyWords;
+use lab_words::{Showing, SurveyWords};
 use page_layout::geometry::Geometry;
 use std::alloc::Global;
 use std::io::Write;
@@ -18,14 +18,14 @@ fn survey_of<'a, F: LabFiles>(
     alloc: Global,
     dump: &'a str,
     geometry: &Geometry,
+    showing: Showing,
     files: &mut F,
 ) -> Result<DieSurvey, LabFault<'a>>
     ensures seen { IfOk result (IsSeen (F.answers files.old) dump.now geometry.now) }
-    ensures whole { IfOk result (IsWhole geometry.now) }
     ensures fault { IfErr result (IsUnsurveyed (F.answers files.old) geometry.now dump.now) }
     ensures kept { F.kept files.new ≡ F.kept files.old }
 {
-    let mut reader = open_file(files, dump)?;
+    let mut reader = open_file(files, dump, progress_of(showing))?;
     match survey_dump(alloc, &mut reader, geometry) {
         Ok(survey) => Ok(survey),
         Err(SurveyFault::WrongLength) => Err(LabFault::WrongLength),
@@ -54,9 +54,9 @@ pub(crate) fn survey_command<'a, F: LabFiles, W: Write>(
     ensures fault { IfErr result (IsSurveyFault (F.answers files.old) words.entry (F.kept files.old) (F.kept files.new) (W.contents out.old) (W.contents out.new)) }
 {
     let geometry = geometry_at(words.geometry)?;
-    let survey = survey_of(alloc, words.dump, &geometry, files)?;
-    match print_survey(out, &geometry, &survey) {
+    let survey = survey_of(alloc, words.dump, &geometry, words.showing, files)?;
+    match print_survey(printer(alloc, words.showing), out, &geometry, &survey) {
         Ok(()) => Ok(()),
-        Err(_) => Err(LabFault::Write("-")),
+        Err(fault) => Err(unprinted(fault)),
     }
 }

@@ -12,6 +12,7 @@ use Rattle.lab_words.specs.declared.words.CompareWords.{CompareWords}
 use Rattle.lab_words.specs.declared.words.GeometryWords.{GeometryWords}
 use Rattle.lab_words.specs.declared.words.MergeWords.{MergeWords}
 use Rattle.lab_words.specs.declared.words.RepairWords.{RepairWords}
+use Rattle.lab_words.specs.declared.words.Showing.{Showing}
 use Rattle.lab_words.specs.declared.words.SurveyWords.{SurveyWords}
 use Rattle.lab_words.specs.declared.words.Asked.{Asked}
 use Rattle.lab_words.specs.declared.words.Asked.TheVariants as asked
@@ -35,27 +36,55 @@ force = record (new_rule (codes "force")) { action = Some Count; long = Some (co
 abbrev pub map_file : Rule
 map_file = record (new_rule (codes "map")) { action = Some Set; long = Some (codes "map"); value_names = 1 }
 
+abbrev pub rows_word : Rule
+rows_word = record (new_rule (codes "rows")) { action = Some Set; long = Some (codes "rows"); value_names = 1 }
+
+abbrev pub json : Rule
+json = record (new_rule (codes "json")) { action = Some Count; long = Some (codes "json") }
+
+abbrev pub progress : Rule
+progress = record (new_rule (codes "progress")) { action = Some Count; long = Some (codes "progress") }
+
+-- with the words that all commands have
+abbrev pub with_showing : App → App
+with_showing command = with_rule (with_rule command json) progress
+
+abbrev pub geometry_plain : App
+geometry_plain = with_rule (new_app (codes "geometry")) (place (codes "DUMP"))
+
 abbrev pub geometry : App
-geometry = with_rule (new_app (codes "geometry")) (place (codes "DUMP"))
+geometry = with_showing geometry_plain
 
 -- but for the word of the map
 abbrev pub array_plain : App
 array_plain = with_rule (with_rule (with_rule (with_rule (new_app (codes "array")) (place (codes "GEOM"))) (place (codes "DUMP"))) (place (codes "OUT"))) force
 
 abbrev pub array : App
-array = with_rule array_plain map_file
+array = with_showing (with_rule array_plain map_file)
+
+abbrev pub survey_plain : App
+survey_plain = with_rule (with_rule (with_rule (new_app (codes "survey")) (place (codes "GEOM"))) (place (codes "DUMP"))) rows_word
 
 abbrev pub survey : App
-survey = with_rule (with_rule (new_app (codes "survey")) (place (codes "GEOM"))) (place (codes "DUMP"))
+survey = with_showing survey_plain
+
+abbrev pub compare_plain : App
+compare_plain = with_rule (with_rule (with_rule (new_app (codes "compare")) (place (codes "GEOM"))) (place (codes "CERT"))) (place (codes "DUMP"))
 
 abbrev pub compare : App
-compare = with_rule (with_rule (with_rule (new_app (codes "compare")) (place (codes "GEOM"))) (place (codes "CERT"))) (place (codes "DUMP"))
+compare = with_showing compare_plain
+
+abbrev pub merge_plain : App
+merge_plain = with_rule (with_rule (with_rule (with_rule (new_app (codes "merge")) (place (codes "GEOM"))) (place (codes "OUT"))) (places (codes "DUMP"))) force
 
 abbrev pub merge : App
-merge = with_rule (with_rule (with_rule (with_rule (new_app (codes "merge")) (place (codes "GEOM"))) (place (codes "OUT"))) (places (codes "DUMP"))) force
+merge = with_showing merge_plain
+
+abbrev pub repair_plain : App
+repair_plain = with_rule (with_rule (with_rule (with_rule (new_app (codes "repair")) (place (codes "GEOM"))) (place (codes "DUMP"))) (place (codes "OUT"))) force
 
 abbrev pub repair : App
-repair = with_rule (with_rule (with_rule (with_rule (new_app (codes "repair")) (place (codes "GEOM"))) (place (codes "DUMP"))) (place (codes "OUT"))) force
+repair = with_showing (with_rule repair_plain rows_word)
 
 abbrev pub program : App
 program = on_top (λ s. record s { has_version = true; disable_help_subcommand = true; subcommand_required = true }) (new_app (codes "nandlab"))
@@ -87,9 +116,15 @@ once zero = Some false
 once (suc zero) = Some true
 once (suc (suc n)) = None
 
+-- how a command tells what it does is so
+pub record IsShowingAt (rows : List Row) (read : Showing) : Type 0 where
+  pub json_is : once (count_of (codes "json") rows) ≡ Some read.json
+  pub progress_is : once (count_of (codes "progress") rows) ≡ Some read.progress
+
 -- the entry of the words of `geometry` is this
 pub record IsGeometryAt (rows : List Row) (read : GeometryWords) : Type 0 where
   pub dump_is : first_of (codes "DUMP") rows ≡ Some read.dump.now
+  pub showing : IsShowingAt rows read.showing
 
 -- the entries of the words of `array` are these
 pub record IsArrayAt (rows : List Row) (read : ArrayWords) : Type 0 where
@@ -98,17 +133,21 @@ pub record IsArrayAt (rows : List Row) (read : ArrayWords) : Type 0 where
   pub out_is : first_of (codes "OUT") rows ≡ Some read.out.now
   pub forced : once (count_of (codes "force") rows) ≡ Some read.force
   pub map_is : first_of (codes "map") rows ≡ option_map (λ word. word.now) read.map
+  pub showing : IsShowingAt rows read.showing
 
 -- those of the words of `survey` are these
 pub record IsSurveyAt (rows : List Row) (read : SurveyWords) : Type 0 where
   pub geometry_is : first_of (codes "GEOM") rows ≡ Some read.geometry.now
   pub dump_is : first_of (codes "DUMP") rows ≡ Some read.dump.now
+  pub rows_are : first_of (codes "rows") rows ≡ option_map (λ word. word.now) read.rows
+  pub showing : IsShowingAt rows read.showing
 
 -- those of the words of `compare` are these
 pub record IsCompareAt (rows : List Row) (read : CompareWords) : Type 0 where
   pub geometry_is : first_of (codes "GEOM") rows ≡ Some read.geometry.now
   pub certificate_is : first_of (codes "CERT") rows ≡ Some read.certificate.now
   pub dump_is : first_of (codes "DUMP") rows ≡ Some read.dump.now
+  pub showing : IsShowingAt rows read.showing
 
 -- the dumps of the words of `merge` are these, two or more
 pub record AreDumpsAt (rows : List Row) (dumps : List (Bor (List ℕ))) : Type 0 where
@@ -121,6 +160,7 @@ pub record IsMergeAt (rows : List Row) (read : MergeWords) : Type 0 where
   pub out_is : first_of (codes "OUT") rows ≡ Some read.out.now
   pub dumps : AreDumpsAt rows read.dumps.items
   pub forced : once (count_of (codes "force") rows) ≡ Some read.force
+  pub showing : IsShowingAt rows read.showing
 
 -- those of the words of `repair` are these
 pub record IsRepairAt (rows : List Row) (read : RepairWords) : Type 0 where
@@ -128,6 +168,8 @@ pub record IsRepairAt (rows : List Row) (read : RepairWords) : Type 0 where
   pub dump_is : first_of (codes "DUMP") rows ≡ Some read.dump.now
   pub out_is : first_of (codes "OUT") rows ≡ Some read.out.now
   pub forced : once (count_of (codes "force") rows) ≡ Some read.force
+  pub rows_are : first_of (codes "rows") rows ≡ option_map (λ word. word.now) read.rows
+  pub showing : IsShowingAt rows read.showing
 
 -- the command of this name with these entries asks for that
 abbrev pub IsAt : List ℕ → List Row → Asked → Type 0

@@ -4,6 +4,6 @@
 mod words;
 
 pub use words::{
-    ArrayWords, Asked, CompareWords, GeometryWords, MergeWords, RepairWords, SurveyWords,
+    ArrayWords, Asked, CompareWords, GeometryWords, MergeWords, RepairWords, Showing, SurveyWords,
     WordsFault, parse,
 };

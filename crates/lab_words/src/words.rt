@@ -8,18 +8,29 @@ ghost use Rattle.lab_words.specs.declared.words.CompareWords.{CompareWords};
 ghost use Rattle.lab_words.specs.declared.words.GeometryWords.{GeometryWords};
 ghost use Rattle.lab_words.specs.declared.words.MergeWords.{MergeWords};
 ghost use Rattle.lab_words.specs.declared.words.RepairWords.{RepairWords};
+ghost use Rattle.lab_words.specs.declared.words.Showing.{Showing};
 ghost use Rattle.lab_words.specs.declared.words.SurveyWords.{SurveyWords};
 ghost use Rattle.lab_words.specs.declared.words.Asked.{Asked};
-ghost use Rattle.lab_words.specs.Words.{AreDumpsAt, IsArrayAt, IsAsked, IsAt, IsCommandOf, IsCompareAt, IsGeometryAt, IsMergeAt, IsNoCommand, IsOtherKind, IsRepairAt, IsSurveyAt, IsTextFor, texts};
+ghost use Rattle.lab_words.specs.Words.{AreDumpsAt, IsArrayAt, IsAsked, IsAt, IsCommandOf, IsCompareAt, IsGeometryAt, IsMergeAt, IsNoCommand, IsOtherKind, IsRepairAt, IsShowingAt, IsSurveyAt, IsTextFor, texts};
 
 use clap::error::ErrorKind;
 use clap::{Arg, ArgAction, ArgMatches, Command, Error};
 use std::alloc::{AllocError, Global};
 
+/// How a command tells what it does.
+#[derive(Clone, Copy)]
+pub struct Showing {
+    /// Whether it prints one JSON document, and no plain text.
+    pub json: bool,
+    /// Whether it shows on standard error how far it is.
+    pub progress: bool,
+}
+
 /// The words of `geometry DUMP`.
 #[derive(Clone, Copy)]
 pub struct GeometryWords<'a> {
     pub dump: &'a str,
+    pub showing: Showing,
 }
 
 /// The words of `array GEOM DUMP OUT [--map FILE]`.
@@ -32,13 +43,17 @@ pub struct ArrayWords<'a> {
     pub force: bool,
     /// FILE, where the map of the array is wanted.
     pub map: Option<&'a str>,
+    pub showing: Showing,
 }
 
-/// The words of `survey GEOM DUMP`.
+/// The words of `survey GEOM DUMP [--rows A..B]`.
 #[derive(Clone, Copy)]
 pub struct SurveyWords<'a> {
     pub geometry: &'a str,
     pub dump: &'a str,
+    /// A..B, where some rows alone are to be looked at.
+    pub rows: Option<&'a str>,
+    pub showing: Showing,
 }
 
 /// The words of `compare GEOM CERT DUMP`.
@@ -47,6 +62,7 @@ pub struct CompareWords<'a> {
     pub geometry: &'a str,
     pub certificate: &'a str,
     pub dump: &'a str,
+    pub showing: Showing,
 }
 
 /// The words of `merge GEOM OUT DUMP DUMP..`.
@@ -58,9 +74,10 @@ pub struct MergeWords<'a> {
     pub dumps: Vec<&'a str>,
     /// Whether a file OUT may be replaced.
     pub force: bool,
+    pub showing: Showing,
 }
 
-/// The words of `repair GEOM DUMP OUT`.
+/// The words of `repair GEOM DUMP OUT [--rows A..B]`.
 #[derive(Clone, Copy)]
 pub struct RepairWords<'a> {
     pub geometry: &'a str,
@@ -68,6 +85,9 @@ pub struct RepairWords<'a> {
     pub out: &'a str,
     /// Whether a file OUT may be replaced.
     pub force: bool,
+    /// A..B, where some rows alone are to be mended.
+    pub rows: Option<&'a str>,
+    pub showing: Showing,
 }
 
 /// What the words ask for.
@@ -154,6 +174,49 @@ fn map_file<'a>(alloc: Global) -> Arg<'a>
         .help("Writes how each part of OUT stands to FILE, as the mapfile of GNU ddrescue")
 }
 
+// The word that names rows.
+fn rows_word<'a>(alloc: Global, help: &'a str) -> Arg<'a>
+    ensures rule { rule_of result ≡ Rattle.lab_words.specs.Words.rows_word }
+    ensures local { result.global ≡ false }
+{
+    Arg::new(alloc, "rows")
+        .long("rows")
+        .value_name("A..B")
+        .action(ArgAction::Set)
+        .help(help)
+}
+
+// The word that has one JSON document printed.
+fn json<'a>(alloc: Global) -> Arg<'a>
+    ensures rule { rule_of result ≡ Rattle.lab_words.specs.Words.json }
+    ensures local { result.global ≡ false }
+{
+    Arg::new(alloc, "json")
+        .long("json")
+        .action(ArgAction::Count)
+        .help("Prints one JSON document")
+}
+
+// The word that has progress shown.
+fn progress<'a>(alloc: Global) -> Arg<'a>
+    ensures rule { rule_of result ≡ Rattle.lab_words.specs.Words.progress }
+    ensures local { result.global ≡ false }
+{
+    Arg::new(alloc, "progress")
+        .long("progress")
+        .action(ArgAction::Count)
+        .help("Shows on standard error how far it is, as it does where that is a terminal")
+}
+
+// A command with the words that all have.
+fn with_showing<'a>(alloc: Global, command: Command<'a>) -> Result<Command<'a>, AllocError>
+    requires { (out-Command command).has_globals ≡ false }
+    ensures app { IfOk result (λ shown. app_of shown ≡ Rattle.lab_words.specs.Words.with_showing (app_of command.entry)) }
+    ensures local { IfOk result (λ shown. (out-Command shown).has_globals ≡ false) }
+{
+    command.arg(json(alloc))?.arg(progress(alloc))
+}
+
 // The word of a geometry.
 fn geometry_place<'a>(alloc: Global) -> Arg<'a>
     ensures rule { rule_of result ≡ Rattle.lab_words.specs.Words.place (codes "GEOM") }
@@ -178,14 +241,22 @@ fn dump_place<'a>(alloc: Global) -> Arg<'a>
     )
 }
 
-// The command `geometry`.
-fn geometry<'a>(alloc: Global) -> Result<Command<'a>, AllocError>
-    ensures app { IfOk result (λ command. app_of command ≡ Rattle.lab_words.specs.Words.geometry) }
+// The command `geometry`, but for the words that all have.
+fn geometry_plain<'a>(alloc: Global) -> Result<Command<'a>, AllocError>
+    ensures app { IfOk result (λ command. app_of command ≡ Rattle.lab_words.specs.Words.geometry_plain) }
     ensures local { IfOk result (λ command. (out-Command command).has_globals ≡ false) }
 {
     Command::new(alloc, "geometry")
         .about("Tells which geometries fit a dump of unknown shape, best first")
         .arg(dump_place(alloc))
+}
+
+// The command `geometry`.
+fn geometry<'a>(alloc: Global) -> Result<Command<'a>, AllocError>
+    ensures app { IfOk result (λ command. app_of command ≡ Rattle.lab_words.specs.Words.geometry) }
+    ensures local { IfOk result (λ command. (out-Command command).has_globals ≡ false) }
+{
+    with_showing(alloc, geometry_plain(alloc)?)
 }
 
 // The command `array`, but for the word of the map.
@@ -206,7 +277,22 @@ fn array<'a>(alloc: Global) -> Result<Command<'a>, AllocError>
     ensures app { IfOk result (λ command. app_of command ≡ Rattle.lab_words.specs.Words.array) }
     ensures local { IfOk result (λ command. (out-Command command).has_globals ≡ false) }
 {
-    array_plain(alloc)?.arg(map_file(alloc))
+    with_showing(alloc, array_plain(alloc)?.arg(map_file(alloc))?)
+}
+
+// The command `survey`, but for the words that all have.
+fn survey_plain<'a>(alloc: Global) -> Result<Command<'a>, AllocError>
+    ensures app { IfOk result (λ command. app_of command ≡ Rattle.lab_words.specs.Words.survey_plain) }
+    ensures local { IfOk result (λ command. (out-Command command).has_globals ≡ false) }
+{
+    Command::new(alloc, "survey")
+        .about("Tells what a dump says of its die, and each reason why the die would not mount")
+        .arg(geometry_place(alloc))?
+        .arg(dump_place(alloc))?
+        .arg(rows_word(
+            alloc,
+            "Looks at the rows A to B - 1 alone: every other page counts as erased",
+        ))
 }
 
 // The command `survey`.
@@ -214,15 +300,12 @@ fn survey<'a>(alloc: Global) -> Result<Command<'a>, AllocError>
     ensures app { IfOk result (λ command. app_of command ≡ Rattle.lab_words.specs.Words.survey) }
     ensures local { IfOk result (λ command. (out-Command command).has_globals ≡ false) }
 {
-    Command::new(alloc, "survey")
-        .about("Tells what a dump says of its die, and each reason why the die would not mount")
-        .arg(geometry_place(alloc))?
-        .arg(dump_place(alloc))
+    with_showing(alloc, survey_plain(alloc)?)
 }
 
-// The command `compare`.
-fn compare<'a>(alloc: Global) -> Result<Command<'a>, AllocError>
-    ensures app { IfOk result (λ command. app_of command ≡ Rattle.lab_words.specs.Words.compare) }
+// The command `compare`, but for the words that all have.
+fn compare_plain<'a>(alloc: Global) -> Result<Command<'a>, AllocError>
+    ensures app { IfOk result (λ command. app_of command ≡ Rattle.lab_words.specs.Words.compare_plain) }
     ensures local { IfOk result (λ command. (out-Command command).has_globals ≡ false) }
 {
     Command::new(alloc, "compare")
@@ -236,9 +319,17 @@ fn compare<'a>(alloc: Global) -> Result<Command<'a>, AllocError>
         .arg(dump_place(alloc))
 }
 
-// The command `merge`.
-fn merge<'a>(alloc: Global) -> Result<Command<'a>, AllocError>
-    ensures app { IfOk result (λ command. app_of command ≡ Rattle.lab_words.specs.Words.merge) }
+// The command `compare`.
+fn compare<'a>(alloc: Global) -> Result<Command<'a>, AllocError>
+    ensures app { IfOk result (λ command. app_of command ≡ Rattle.lab_words.specs.Words.compare) }
+    ensures local { IfOk result (λ command. (out-Command command).has_globals ≡ false) }
+{
+    with_showing(alloc, compare_plain(alloc)?)
+}
+
+// The command `merge`, but for the words that all have.
+fn merge_plain<'a>(alloc: Global) -> Result<Command<'a>, AllocError>
+    ensures app { IfOk result (λ command. app_of command ≡ Rattle.lab_words.specs.Words.merge_plain) }
     ensures local { IfOk result (λ command. (out-Command command).has_globals ≡ false) }
 {
     Command::new(alloc, "merge")
@@ -249,9 +340,17 @@ fn merge<'a>(alloc: Global) -> Result<Command<'a>, AllocError>
         .arg(force(alloc))
 }
 
-// The command `repair`.
-fn repair<'a>(alloc: Global) -> Result<Command<'a>, AllocError>
-    ensures app { IfOk result (λ command. app_of command ≡ Rattle.lab_words.specs.Words.repair) }
+// The command `merge`.
+fn merge<'a>(alloc: Global) -> Result<Command<'a>, AllocError>
+    ensures app { IfOk result (λ command. app_of command ≡ Rattle.lab_words.specs.Words.merge) }
+    ensures local { IfOk result (λ command. (out-Command command).has_globals ≡ false) }
+{
+    with_showing(alloc, merge_plain(alloc)?)
+}
+
+// The command `repair`, but for the word of the rows and those that all have.
+fn repair_plain<'a>(alloc: Global) -> Result<Command<'a>, AllocError>
+    ensures app { IfOk result (λ command. app_of command ≡ Rattle.lab_words.specs.Words.repair_plain) }
     ensures local { IfOk result (λ command. (out-Command command).has_globals ≡ false) }
 {
     Command::new(alloc, "repair")
@@ -260,6 +359,15 @@ fn repair<'a>(alloc: Global) -> Result<Command<'a>, AllocError>
         .arg(dump_place(alloc))?
         .arg(place(alloc, "OUT", "The dump to be written"))?
         .arg(force(alloc))
+}
+
+// The command `repair`.
+fn repair<'a>(alloc: Global) -> Result<Command<'a>, AllocError>
+    ensures app { IfOk result (λ command. app_of command ≡ Rattle.lab_words.specs.Words.repair) }
+    ensures local { IfOk result (λ command. (out-Command command).has_globals ≡ false) }
+{
+    let rows = rows_word(alloc, "Mends pages of the rows A to B - 1 alone");
+    with_showing(alloc, repair_plain(alloc)?.arg(rows)?)
 }
 
 // The program, with no command yet.
@@ -338,6 +446,17 @@ fn once(count: u8) -> Option<bool>
     }
 }
 
+// How a command tells what it does, where its matches say so.
+fn showing_words(found: &ArgMatches<'_>) -> Option<Showing>
+    ensures some { IfSome result (IsShowingAt (rows_of (found_of found.now))) }
+    ensures none { result ≡ None → (read : Showing) → ¬ IsShowingAt (rows_of (found_of found.now)) read }
+{
+    Some(Showing {
+        json: once(found.get_count("json"))?,
+        progress: once(found.get_count("progress"))?,
+    })
+}
+
 // The words of the command `geometry`, where its matches give them.
 fn geometry_words<'a>(found: &ArgMatches<'a>) -> Option<GeometryWords<'a>>
     ensures some { IfSome result (IsGeometryAt (rows_of (found_of found.now))) }
@@ -345,6 +464,7 @@ fn geometry_words<'a>(found: &ArgMatches<'a>) -> Option<GeometryWords<'a>>
 {
     Some(GeometryWords {
         dump: found.get_str("DUMP")?,
+        showing: showing_words(found)?,
     })
 }
 
@@ -359,6 +479,7 @@ fn array_words<'a>(found: &ArgMatches<'a>) -> Option<ArrayWords<'a>>
         out: found.get_str("OUT")?,
         force: once(found.get_count("force"))?,
         map: found.get_str("map"),
+        showing: showing_words(found)?,
     })
 }
 
@@ -370,6 +491,8 @@ fn survey_words<'a>(found: &ArgMatches<'a>) -> Option<SurveyWords<'a>>
     Some(SurveyWords {
         geometry: found.get_str("GEOM")?,
         dump: found.get_str("DUMP")?,
+        rows: found.get_str("rows"),
+        showing: showing_words(found)?,
     })
 }
 
@@ -382,6 +505,7 @@ fn compare_words<'a>(found: &ArgMatches<'a>) -> Option<CompareWords<'a>>
         geometry: found.get_str("GEOM")?,
         certificate: found.get_str("CERT")?,
         dump: found.get_str("DUMP")?,
+        showing: showing_words(found)?,
     })
 }
 
@@ -395,6 +519,8 @@ fn repair_words<'a>(found: &ArgMatches<'a>) -> Option<RepairWords<'a>>
         dump: found.get_str("DUMP")?,
         out: found.get_str("OUT")?,
         force: once(found.get_count("force"))?,
+        rows: found.get_str("rows"),
+        showing: showing_words(found)?,
     })
 }
 
@@ -417,6 +543,7 @@ fn merge_others<'a>(found: &ArgMatches<'a>, dumps: Vec<&'a str>) -> Option<Merge
         geometry: found.get_str("GEOM")?,
         out: found.get_str("OUT")?,
         force: once(found.get_count("force"))?,
+        showing: showing_words(found)?,
         dumps,
     })
 }

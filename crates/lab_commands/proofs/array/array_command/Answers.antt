@@ -1,4 +1,4 @@
-use Rattle.std.proofs.Common.{inl, inr, map, List, refl, ap, subst, ◌∙◌}
+use Rattle.std.proofs.Common.{inl, inr, map, List, ap, subst, ◌∙◌}
 use Rattle.std.specs.Io.KnownBytes.{Appends}
 use Rattle.std.proofs.KnownBytes.{Keeps-refl}
 use Rattle.lab_array.specs.Held.{state_in}
@@ -7,7 +7,8 @@ use Rattle.lab_map.specs.Map.{map_text}
 use Rattle.lab_commands.specs.Undone.{IsUnmade}
 use Rattle.lab_commands.specs.Array.{IsArrayFault, IsMade, MadeArray, PutArray, with_map}
 use Rattle.lab_commands.specs.Files.{AnswersNoMore, with_kept}
-use Rattle.lab_commands.specs.Report.{report_of}
+use Rattle.request_stream.specs.Frames.{AppendsFront}
+use Rattle.lab_report.specs.Reports.{array_text}
 use Rattle.lab_commands.proofs.ArrayLemmas.{no_geometry, not_allowed, not_made, unmapped_before}
 use Rattle.lab_commands.proofs.UndoneLemmas.{handed_on, no_more_then, unwritten_before}
 use Rattle.lab_commands.proofs.array.array_command.Goals as goal
@@ -89,10 +90,10 @@ returns-in-Ok-clause-ok g c =
     let held = c.in_ok-written.written.held.items in
     let unsound = c.in_ok-written.written.unsound in
     record {
+      g = geometry;
       held = held;
       unsound = unsound;
       put = record {
-        g = geometry;
         pieces = pieces;
         made = record {
           geometry_is = c.in_ok-geometry.ensures.ok;
@@ -103,7 +104,8 @@ returns-in-Ok-clause-ok g c =
             ∙ (ap (λ (hs : List Held). with_map (g.F.LabFiles.kept c.keep.new.files) words (map_text geometry (map state_in hs))) c.deref.ensures.value
             ∙ ap (λ x. with_map x words (map_text geometry (map state_in held))) (c.in_ok-keep.ensures.ok ∙ ap (λ x. with_kept x words.out.now pieces) (c.in_ok-written.ensures.kept ∙ ap g.F.LabFiles.kept same)));
       };
-      told = subst (λ (hs : List Held). Appends (g.W.Write.contents c.args.out.now) (g.W.Write.contents c.print_report.new.out) (report_of (map state_in hs) unsound)) c.deref-2.ensures.value c.in-Ok.ensures;
+      told = subst (λ f. Appends (g.W.Write.contents c.args.out.now) (g.W.Write.contents c.print_array.new.out) (array_text f geometry (map state_in held) unsound)) c.printer-printer.ensures
+          (subst (λ (hs : List Held). Appends (g.W.Write.contents c.args.out.now) (g.W.Write.contents c.print_array.new.out) (array_text c.printer-printer.result.form geometry (map state_in hs) unsound)) c.deref-2.ensures.value c.in-Ok.ensures);
     }
 
 pub returns-clause-fault : goal.returns-clause-fault
@@ -115,8 +117,7 @@ returns-clause-fault g c =
     let pieces = g.F.Target.Target.pieces c.in_ok-written.written.target in
     let held = c.in_ok-written.written.held.items in
     let unsound = c.in_ok-written.written.unsound in
-    let put : PutArray a words (g.F.LabFiles.kept c.args.files.now) (g.F.LabFiles.kept c.put_map.new.files) held unsound = record {
-      g = geometry;
+    let put : PutArray a words (g.F.LabFiles.kept c.args.files.now) (g.F.LabFiles.kept c.put_map.new.files) geometry held unsound = record {
       pieces = pieces;
       made = record {
         geometry_is = c.in_ok-geometry.ensures.ok;
@@ -127,4 +128,14 @@ returns-clause-fault g c =
           ∙ (ap (λ (hs : List Held). with_map (g.F.LabFiles.kept c.keep.new.files) words (map_text geometry (map state_in hs))) c.deref.ensures.value
           ∙ ap (λ x. with_map x words (map_text geometry (map state_in held))) (c.in_ok-keep.ensures.ok ∙ ap (λ x. with_kept x words.out.now pieces) (c.in_ok-written.ensures.kept ∙ ap g.F.LabFiles.kept same)));
     } in
-    inr (inr (held, unsound, put, refl))
+    inr (inr (
+      geometry,
+      held,
+      unsound,
+      put,
+      (
+        c.unprinted.ensures,
+        subst (λ f. AppendsFront (g.W.Write.contents c.args.out.now) (g.W.Write.contents c.print_array.new.out) (array_text f geometry (map state_in held) unsound)) c.printer-printer.ensures
+            (subst (λ (hs : List Held). AppendsFront (g.W.Write.contents c.args.out.now) (g.W.Write.contents c.print_array.new.out) (array_text c.printer-printer.result.form geometry (map state_in hs) unsound)) c.deref-2.ensures.value c.in-Err.ensures),
+      ),
+    ))

@@ -1,4 +1,7 @@
-use Rattle.std.proofs.Common.{inr, refl, ◌∙◌}
+use Rattle.std.proofs.Common.{inr, subst, ◌∙◌}
+use Rattle.std.specs.Io.KnownBytes.{Appends}
+use Rattle.request_stream.specs.Frames.{AppendsFront}
+use Rattle.lab_report.specs.Reports.{compare_text}
 use Rattle.lab_commands.specs.Compare.{HasCompared, IsCompareFault}
 use Rattle.lab_commands.proofs.CompareLemmas.{compared_before, no_certificate, no_geometry, not_held, unheld_before}
 use Rattle.lab_commands.proofs.UndoneLemmas.{handed_on}
@@ -47,7 +50,7 @@ returns-in-Ok-clause-ok g c =
         sizes = c.in_ok-told.ensures.sizes;
         compared = compared_before a b c.args.words.dump.now c.in_ok-geometry.geometry c.in_ok-certificate.certificate c.in_ok-told.told has.no_more c.in_ok-told.ensures.ok;
       };
-      told = c.in-Ok.ensures;
+      told = subst (λ f. Appends (g.W.Write.contents c.args.out.now) (g.W.Write.contents c.print_compared.new.out) (compare_text f c.in_ok-geometry.geometry c.in_ok-told.told)) c.printer.ensures c.in-Ok.ensures;
     }
 
 pub returns-clause-fault : goal.returns-clause-fault
@@ -62,4 +65,4 @@ returns-clause-fault g c =
       sizes = c.in_ok-told.ensures.sizes;
       compared = compared_before a b c.args.words.dump.now c.in_ok-geometry.geometry c.in_ok-certificate.certificate c.in_ok-told.told has.no_more c.in_ok-told.ensures.ok;
     } in
-    inr (c.in_ok-told.ensures.kept ∙ has.kept, (c.in_ok-geometry.geometry, c.in_ok-told.told, compared), refl)
+    inr (c.in_ok-told.ensures.kept ∙ has.kept, (c.in_ok-geometry.geometry, c.in_ok-told.told, compared, (c.unprinted.ensures, subst (λ f. AppendsFront (g.W.Write.contents c.args.out.now) (g.W.Write.contents c.print_compared.new.out) (compare_text f c.in_ok-geometry.geometry c.in_ok-told.told)) c.printer.ensures c.in-Err.ensures)))

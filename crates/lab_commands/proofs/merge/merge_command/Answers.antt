@@ -1,6 +1,8 @@
-use Rattle.std.proofs.Common.{inl, inr, ℕ, List, refl, ap, subst, ◌∙◌}
+use Rattle.std.proofs.Common.{inl, inr, ℕ, List, ap, subst, ◌∙◌}
 use Rattle.std.specs.Io.KnownBytes.{Appends}
-use Rattle.lab_commands.specs.Merge.{IsJoined, IsMergeFault, IsUnjoined, PutMerge, dumps_of, merge_text}
+use Rattle.request_stream.specs.Frames.{AppendsFront}
+use Rattle.lab_report.specs.Reports.{merge_text}
+use Rattle.lab_commands.specs.Merge.{IsJoined, IsMergeFault, IsUnjoined, PutMerge, dumps_of}
 use Rattle.lab_commands.specs.Files.{AnswersNoMore, with_kept}
 use Rattle.lab_commands.proofs.MergeLemmas.{no_geometry, not_allowed, not_made}
 use Rattle.lab_commands.proofs.UndoneLemmas.{handed_on, unwritten_before}
@@ -64,8 +66,9 @@ returns-in-Ok-clause-ok g c =
         made = subst (λ f. IsJoined (g.F.LabFiles.answers f) (dumps_of words) geometry pieces conflicts unsound tally) same c.in_ok-merged.ensures.made;
         put = c.in_ok-keep_pages.ensures.ok ∙ ap (λ x. with_kept x words.out.now pieces) (c.in_ok-merged.ensures.kept ∙ ap g.F.LabFiles.kept same);
       };
-      told = subst (λ (rows : List ℕ). Appends (g.W.Write.contents c.args.out.now) (g.W.Write.contents c.print_merge.new.out) (merge_text conflicts rows tally)) c.deref-2.ensures.value
-          (subst (λ (rows : List ℕ). Appends (g.W.Write.contents c.args.out.now) (g.W.Write.contents c.print_merge.new.out) (merge_text rows c.deref-2.result.now tally)) c.deref.ensures.value c.in-Ok.ensures);
+      told = subst (λ f. Appends (g.W.Write.contents c.args.out.now) (g.W.Write.contents c.print_merged.new.out) (merge_text f conflicts unsound tally)) c.printer-printer.ensures
+          (subst (λ (rows : List ℕ). Appends (g.W.Write.contents c.args.out.now) (g.W.Write.contents c.print_merged.new.out) (merge_text c.printer-printer.result.form conflicts rows tally)) c.deref-2.ensures.value
+          (subst (λ (rows : List ℕ). Appends (g.W.Write.contents c.args.out.now) (g.W.Write.contents c.print_merged.new.out) (merge_text c.printer-printer.result.form rows c.deref-2.result.now tally)) c.deref.ensures.value c.in-Ok.ensures));
     }
 
 pub returns-clause-fault : goal.returns-clause-fault
@@ -86,4 +89,15 @@ returns-clause-fault g c =
       made = subst (λ f. IsJoined (g.F.LabFiles.answers f) (dumps_of words) geometry pieces conflicts unsound tally) same c.in_ok-merged.ensures.made;
       put = c.in_ok-keep_pages.ensures.ok ∙ ap (λ x. with_kept x words.out.now pieces) (c.in_ok-merged.ensures.kept ∙ ap g.F.LabFiles.kept same);
     } in
-    inr ((conflicts, unsound, tally, put), refl)
+    inr (
+      conflicts,
+      unsound,
+      tally,
+      put,
+      (
+        c.unprinted.ensures,
+        subst (λ f. AppendsFront (g.W.Write.contents c.args.out.now) (g.W.Write.contents c.print_merged.new.out) (merge_text f conflicts unsound tally)) c.printer-printer.ensures
+            (subst (λ (rows : List ℕ). AppendsFront (g.W.Write.contents c.args.out.now) (g.W.Write.contents c.print_merged.new.out) (merge_text c.printer-printer.result.form conflicts rows tally)) c.deref-2.ensures.value
+            (subst (λ (rows : List ℕ). AppendsFront (g.W.Write.contents c.args.out.now) (g.W.Write.contents c.print_merged.new.out) (merge_text c.printer-printer.result.form rows c.deref-2.result.now tally)) c.deref.ensures.value c.in-Err.ensures)),
+      ),
+    )

@@ -1,8 +1,10 @@
-use Rattle.std.proofs.Common.{inl, inr, List, refl, ap, subst, ◌∙◌}
+use Rattle.std.proofs.Common.{inl, inr, List, ap, subst, ◌∙◌}
 use Rattle.std.specs.Io.KnownBytes.{Appends}
 use Rattle.lab_repair.specs.declared.repairing.Mend.{Mend}
 use Rattle.lab_commands.specs.Undone.{IsUnmade}
-use Rattle.lab_commands.specs.Repair.{IsMended, IsRepairFault, PutRepair, repair_text}
+use Rattle.request_stream.specs.Frames.{AppendsFront}
+use Rattle.lab_report.specs.Reports.{repair_text}
+use Rattle.lab_commands.specs.Repair.{IsMended, IsRepairFault, PutRepair}
 use Rattle.lab_commands.specs.Files.{AnswersNoMore, with_kept}
 use Rattle.lab_commands.proofs.RepairLemmas.{no_geometry, not_allowed, not_made}
 use Rattle.lab_commands.proofs.UndoneLemmas.{handed_on, unwritten_before}
@@ -62,7 +64,7 @@ returns-in-Ok-clause-ok g c =
         made = subst (λ f. IsMended (g.F.LabFiles.answers f) words.dump.now geometry pieces mends) same c.in_ok-repaired.ensures.made;
         put = c.in_ok-keep_pages.ensures.ok ∙ ap (λ x. with_kept x words.out.now pieces) (c.in_ok-repaired.ensures.kept ∙ ap g.F.LabFiles.kept same);
       };
-      told = subst (λ (ms : List Mend). Appends (g.W.Write.contents c.args.out.now) (g.W.Write.contents c.print_repair.new.out) (repair_text ms)) c.deref.ensures.value c.in-Ok.ensures;
+      told = subst (λ f. Appends (g.W.Write.contents c.args.out.now) (g.W.Write.contents c.print_repaired.new.out) (repair_text f mends)) c.printer.ensures (subst (λ (ms : List Mend). Appends (g.W.Write.contents c.args.out.now) (g.W.Write.contents c.print_repaired.new.out) (repair_text c.printer.result.form ms)) c.deref.ensures.value c.in-Ok.ensures);
     }
 
 pub returns-clause-fault : goal.returns-clause-fault
@@ -81,4 +83,4 @@ returns-clause-fault g c =
       made = subst (λ f. IsMended (g.F.LabFiles.answers f) words.dump.now geometry pieces mends) same c.in_ok-repaired.ensures.made;
       put = c.in_ok-keep_pages.ensures.ok ∙ ap (λ x. with_kept x words.out.now pieces) (c.in_ok-repaired.ensures.kept ∙ ap g.F.LabFiles.kept same);
     } in
-    inr ((mends, put), refl)
+    inr (mends, put, (c.unprinted.ensures, subst (λ f. AppendsFront (g.W.Write.contents c.args.out.now) (g.W.Write.contents c.print_repaired.new.out) (repair_text f mends)) c.printer.ensures (subst (λ (ms : List Mend). AppendsFront (g.W.Write.contents c.args.out.now) (g.W.Write.contents c.print_repaired.new.out) (repair_text c.printer.result.form ms)) c.deref.ensures.value c.in-Err.ensures)))

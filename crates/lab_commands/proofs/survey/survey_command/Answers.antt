@@ -1,4 +1,7 @@
-use Rattle.std.proofs.Common.{inr, refl}
+use Rattle.std.proofs.Common.{inr, subst}
+use Rattle.std.specs.Io.KnownBytes.{Appends}
+use Rattle.request_stream.specs.Frames.{AppendsFront}
+use Rattle.lab_report.specs.Reports.{survey_text}
 use Rattle.lab_commands.specs.Survey.{HasSurvey, IsSurveyFault}
 use Rattle.lab_commands.proofs.SurveyLemmas.{no_geometry, not_seen}
 use Rattle.lab_commands.proofs.UndoneLemmas.{handed_on}
@@ -24,10 +27,10 @@ returns-in-Ok-clause-ok g c = record {
   g = c.in_ok-geometry.geometry;
   survey = c.in_ok-survey.survey;
   has = record { geometry_is = c.in_ok-geometry.ensures.ok; seen = c.in_ok-survey.ensures.seen };
-  told = c.in-Ok.ensures;
+  told = subst (λ f. Appends (g.W.Write.contents c.args.out.now) (g.W.Write.contents c.print_survey.new.out) (survey_text f c.in_ok-geometry.geometry c.in_ok-survey.survey)) c.printer.ensures c.in-Ok.ensures;
 }
 
 pub returns-clause-fault : goal.returns-clause-fault
 returns-clause-fault g c =
     let has : HasSurvey (g.F.LabFiles.answers c.args.files.now) c.args.words c.in_ok-geometry.geometry c.in_ok-survey.survey = record { geometry_is = c.in_ok-geometry.ensures.ok; seen = c.in_ok-survey.ensures.seen } in
-    inr (c.in_ok-survey.ensures.kept, (c.in_ok-geometry.geometry, c.in_ok-survey.survey, has), refl)
+    inr (c.in_ok-survey.ensures.kept, (c.in_ok-geometry.geometry, c.in_ok-survey.survey, has, (c.unprinted.ensures, subst (λ f. AppendsFront (g.W.Write.contents c.args.out.now) (g.W.Write.contents c.print_survey.new.out) (survey_text f c.in_ok-geometry.geometry c.in_ok-survey.survey)) c.printer.ensures c.in-Err.ensures)))

@@ -23,4 +23,5 @@ returns-clause-some c =
       out_is = word_at f (codes "OUT") c.get_str-3.result _ c.get_str-3.ensures c.in_ok-get_str-3.was;
       forced = sym (c.once.ensures ∙ ap once c.get_count.ensures.value) ∙ c.in_ok-once.was;
       map_is = sym (c.get_str-4.ensures ∙ first_value-rows f (codes "map"));
+      showing = c.in_ok-showing_words.ensures.some;
     }

@@ -19,4 +19,5 @@ returns-clause-some c =
       geometry_is = word_at f (codes "GEOM") c.get_str.result _ c.get_str.ensures c.in_ok-get_str.was;
       certificate_is = word_at f (codes "CERT") c.get_str-2.result _ c.get_str-2.ensures c.in_ok-get_str-2.was;
       dump_is = word_at f (codes "DUMP") c.get_str-3.result _ c.get_str-3.ensures c.in_ok-get_str-3.was;
+      showing = c.in_ok-showing_words.ensures.some;
     }

@@ -18,4 +18,5 @@ returns-clause-some c =
       out_is = word_at f (codes "OUT") c.get_str-2.result _ c.get_str-2.ensures c.in_ok-get_str-2.was;
       dumps = c.requires;
       forced = sym (c.once.ensures ∙ ap once c.get_count.ensures.value) ∙ c.in_ok-once.was;
+      showing = c.in_ok-showing_words.ensures.some;
     }

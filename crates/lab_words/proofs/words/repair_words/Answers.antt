@@ -1,5 +1,6 @@
 use Rattle.std.proofs.Common.{codes, ap, sym, ◌∙◌}
 use Rattle.clap.specs.Words.{found_of}
+use Rattle.clap.proofs.WalkLemmas.{first_value-rows}
 use Rattle.lab_words.specs.Words.{once}
 use Rattle.lab_words.proofs.GrammarLemmas.{word_at, lacks}
 use Rattle.lab_words.proofs.words.repair_words.Goals as goal
@@ -21,4 +22,6 @@ returns-clause-some c =
       dump_is = word_at f (codes "DUMP") c.get_str-2.result _ c.get_str-2.ensures c.in_ok-get_str-2.was;
       out_is = word_at f (codes "OUT") c.get_str-3.result _ c.get_str-3.ensures c.in_ok-get_str-3.was;
       forced = sym (c.once.ensures ∙ ap once c.get_count.ensures.value) ∙ c.in_ok-once.was;
+      rows_are = sym (c.get_str-4.ensures ∙ first_value-rows f (codes "rows"));
+      showing = c.in_ok-showing_words.ensures.some;
     }

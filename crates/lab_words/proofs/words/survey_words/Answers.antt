@@ -1,5 +1,6 @@
-use Rattle.std.proofs.Common.{codes}
+use Rattle.std.proofs.Common.{codes, sym, ◌∙◌}
 use Rattle.clap.specs.Words.{found_of}
+use Rattle.clap.proofs.WalkLemmas.{first_value-rows}
 use Rattle.lab_words.proofs.GrammarLemmas.{word_at, lacks}
 use Rattle.lab_words.proofs.words.survey_words.Goals as goal
 
@@ -15,4 +16,6 @@ returns-clause-some c =
     record {
       geometry_is = word_at f (codes "GEOM") c.get_str.result _ c.get_str.ensures c.in_ok-get_str.was;
       dump_is = word_at f (codes "DUMP") c.get_str-2.result _ c.get_str-2.ensures c.in_ok-get_str-2.was;
+      rows_are = sym (c.get_str-3.ensures ∙ first_value-rows f (codes "rows"));
+      showing = c.in_ok-showing_words.ensures.some;
     }

@@ -1,0 +1,25 @@
+//! How a command prints what it has to say.
+ghost use Rattle.std.specs.Prelude.{◌≡◌};
+ghost use Rattle.lab_commands.specs.Undone.{IsUnprinted, form_of};
+
+use crate::text::LabFault;
+use lab_report::{Form, PrintFault, Printer};
+use lab_words::Showing;
+use std::alloc::Global;
+
+/// What prints in the form that is asked for.
+pub(crate) fn printer(alloc: Global, showing: Showing) -> Printer
+    ensures { result.form ≡ form_of showing }
+{
+    Printer::new(alloc, if showing.json { Form::Json } else { Form::Text })
+}
+
+/// How it is told that standard output did not take all.
+pub(crate) fn unprinted<'a>(fault: PrintFault) -> LabFault<'a>
+    ensures { IsUnprinted result }
+{
+    match fault {
+        PrintFault::Failed => LabFault::Write("-"),
+        PrintFault::OutOfMemory => LabFault::OutOfMemory,
+    }
+}

@@ -1,0 +1,2 @@
+pub mod PrintLemmas
+pub mod ValueLemmas
