@@ -1,5 +1,5 @@
 -- A session of a disk that holds what it is given and does what it is asked.
-use Rattle.std.proofs.Common.{◌≡◌, inl, inr, ℕ, Bool, true, List, Option, Result, ap, subst}
+use Rattle.std.proofs.Common.{◌≡◌, inl, inr, ℕ, Bool, true, List, Option, Result, ap, ◌∙◌, subst}
 use Rattle.request_stream.specs.declared.reply.ServeFault.{ServeFault}
 use Rattle.nbd_stream.specs.declared.export.Export.{Export}
 use Rattle.nbd_stream.specs.declared.request.End.{End}
@@ -7,6 +7,7 @@ use Rattle.nbd_stream.specs.Disk.{Contents}
 use Rattle.nbd_stream.specs.Exchanges.{Exchange, requests_in}
 use Rattle.nbd_stream.specs.Transmission.{Carries, Serves}
 use Rattle.nbd_stream.proofs.RunLemmas.{done_law}
+use Rattle.nbd_stream.proofs.UntilLemmas.{stays_law}
 use Rattle.nbd_memory.specs.Memory.{ServesBytes}
 
 pub of_calm : {D : Type 0} (contents : D → Contents) (honest calm : D → Bool) (e : Export) (limit : ℕ) (old new : D) (u v b a : Option (List ℕ)) (result : Result End ServeFault)
@@ -14,7 +15,8 @@ pub of_calm : {D : Type 0} (contents : D → Contents) (honest calm : D → Bool
 of_calm contents honest calm e limit old new u v b a result (inl (same, negotiated)) holds does = inl (ap (λ d. (contents d).bytes) same, negotiated)
 of_calm contents honest calm e limit old new u v b a result (inr begun) holds does =
     let its = begun.transmits in
-    let law = done_law e (contents old) (contents new) its.exchanges (its.run holds) (its.done does) in
+    let stays : honest new ≡ true = stays_law contents honest calm e old new its.exchanges its.each (its.done does) ∙ holds in
+    let law = done_law e (contents old) (contents new) its.exchanges (its.run stays) (its.done does) in
     inr (record {
       unread' = begun.unread';
       before' = begun.before';

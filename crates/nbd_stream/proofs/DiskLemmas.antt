@@ -15,17 +15,17 @@ length-with_bytes o body bytes fits =
     omega (arith, length-append (take o bytes) (body ++ drop (o + length body) bytes), length-append body (drop (o + length body) bytes), length-take-le o bytes (omega arith), length-drop (o + length body) bytes)
 
 -- before the range, in it and past it
-before_it : (o : ℕ) (body bytes : List ℕ) (p : ℕ) → o + length body ≤ length bytes → p < o → slice_index (with_bytes o body bytes) p ≡ slice_index bytes p
+pub before_it : (o : ℕ) (body bytes : List ℕ) (p : ℕ) → o + length body ≤ length bytes → p < o → slice_index (with_bytes o body bytes) p ≡ slice_index bytes p
 before_it o body bytes p fits less =
     let long : length (take o bytes) ≡ o = length-take-le o bytes (omega arith) in
     get_or_append_left (take o bytes) (body ++ drop (o + length body) bytes) 0 p (omega arith) ∙ get_or-take o bytes p 0 less
 
-inside_it : (o : ℕ) (body bytes : List ℕ) (p : ℕ) → o + length body ≤ length bytes → o ≤ p → p < o + length body → slice_index (with_bytes o body bytes) p ≡ slice_index body (p - o)
+pub inside_it : (o : ℕ) (body bytes : List ℕ) (p : ℕ) → o + length body ≤ length bytes → o ≤ p → p < o + length body → slice_index (with_bytes o body bytes) p ≡ slice_index body (p - o)
 inside_it o body bytes p fits from to =
     get_or-append_right (take o bytes) (body ++ drop (o + length body) bytes) o p 0 (length-take-le o bytes (omega arith)) from
     ∙ get_or_append_left body (drop (o + length body) bytes) 0 (p - o) (omega arith)
 
-past_it : (o : ℕ) (body bytes : List ℕ) (p : ℕ) → o + length body ≤ length bytes → o + length body ≤ p → slice_index (with_bytes o body bytes) p ≡ slice_index bytes p
+pub past_it : (o : ℕ) (body bytes : List ℕ) (p : ℕ) → o + length body ≤ length bytes → o + length body ≤ p → slice_index (with_bytes o body bytes) p ≡ slice_index bytes p
 past_it o body bytes p fits from =
     let place : (o + length body) + ((p - o) - length body) ≡ p = omega arith in
     get_or-append_right (take o bytes) (body ++ drop (o + length body) bytes) o p 0 (length-take-le o bytes (omega arith)) (omega arith)

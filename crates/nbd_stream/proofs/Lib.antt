@@ -8,4 +8,5 @@ pub mod TaskLemmas
 pub mod Asked
 pub mod DiskLemmas
 pub mod RunLemmas
+pub mod UntilLemmas
 pub mod Serving

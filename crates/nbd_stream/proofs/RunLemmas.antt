@@ -15,7 +15,7 @@ use Rattle.nbd_stream.proofs.Asked.{inside, taken_of}
 -- ---- a chain of disks is a run
 
 module _ {D : Type 0} (contents : D → Contents) (honest calm : D → Bool) (e : Export) where
-  one_answers : (k : Result Task RequestError) (old new : D) (x : Exchange) → TellsBy contents honest calm k old x new → honest old ≡ true → AnswersBy k (contents old) x (contents new)
+  pub one_answers : (k : Result Task RequestError) (old new : D) (x : Exchange) → TellsBy contents honest calm k old x new → honest new ≡ true → AnswersBy k (contents old) x (contents new)
   one_answers (Err error) old new x (is, same) h = (is, ap contents same)
   one_answers (Ok task) old new x tells h = (tells.sized, tells.steps h)
 
@@ -23,9 +23,9 @@ module _ {D : Type 0} (contents : D → Contents) (honest calm : D → Bool) (e 
   one_sized (Err error) old new x (is, same) = ap (λ (d : D). length (contents d).bytes) same
   one_sized (Ok task) old new x tells = tells.sized
 
-  pub one_honest : (k : Result Task RequestError) (old new : D) (x : Exchange) → TellsBy contents honest calm k old x new → honest new ≡ honest old
-  one_honest (Err error) old new x (is, same) = ap honest same
-  one_honest (Ok task) old new x tells = tells.honest_is
+  one_back : (k : Result Task RequestError) (old new : D) (x : Exchange) → TellsBy contents honest calm k old x new → honest new ≡ true → honest old ≡ true
+  one_back (Err error) old new x (is, same) h = sym (ap honest same) ∙ h
+  one_back (Ok task) old new x tells h = tells.back h
 
   pub one_calm : (k : Result Task RequestError) (old new : D) (x : Exchange) → TellsBy contents honest calm k old x new → calm new ≡ calm old
   one_calm (Err error) old new x (is, same) = ap calm same
@@ -35,10 +35,14 @@ module _ {D : Type 0} (contents : D → Contents) (honest calm : D → Bool) (e 
   one_done (Err error) old new x tells h task is = (let no : ⊥ = cc in absurd no)
   one_done (Ok task') old new x tells h task is = tells.calmly h
 
-  pub runs_of : (old new : D) (xs : List Exchange) → ToldEach contents honest calm e old xs new → honest old ≡ true → Runs e (contents old) xs (contents new)
+  pub back_of : (old new : D) (xs : List Exchange) → ToldEach contents honest calm e old xs new → honest new ≡ true → honest old ≡ true
+  back_of old new [] same h = sym (ap honest same) ∙ h
+  back_of old new (x ∷ xs) (mid, one, more) h = one_back (task_of e x.request) old mid x one (back_of mid new xs more h)
+
+  pub runs_of : (old new : D) (xs : List Exchange) → ToldEach contents honest calm e old xs new → honest new ≡ true → Runs e (contents old) xs (contents new)
   runs_of old new [] same h = ap contents same
   runs_of old new (x ∷ xs) (mid, one, more) h =
-      (contents mid, one_answers (task_of e x.request) old mid x one h, runs_of mid new xs more (one_honest (task_of e x.request) old mid x one ∙ h))
+      (contents mid, one_answers (task_of e x.request) old mid x one (back_of mid new xs more h), runs_of mid new xs more h)
 
   pub done_of : (old new : D) (xs : List Exchange) → ToldEach contents honest calm e old xs new → calm old ≡ true → AreDone e xs
   done_of old new [] same h = tt
@@ -111,7 +115,7 @@ kept_law e s t xs p are runs lasts = kept_from (λ (value : ℕ). value ≡ slic
 
 -- ---- what is done
 
-on_ok : {P : Type 0} (answer : Result (List ℕ) RequestError) → IsOk answer → OnOk answer P → P
+pub on_ok : {P : Type 0} (answer : Result (List ℕ) RequestError) → IsOk answer → OnOk answer P → P
 on_ok (Ok bytes) ok done = done
 on_ok (Err e) ok done = (let no : ⊥ = cc in absurd no)
 

@@ -22,11 +22,13 @@ use Rattle.nbd_stream.specs.Tasks.{admitted}
 use Rattle.nbd_stream.specs.Disk.{Contents, Performs, answer_from, count_given, count_taken, error_for}
 use Rattle.nbd_stream.specs.Exchanges.{Exchange, Tells, TellsBy, ToldEach, bytes_in, reply_in, requests_in, task_of}
 use Rattle.nbd_stream.specs.Runs.{Runs}
+use Rattle.nbd_stream.specs.Until.{Until}
 use Rattle.nbd_stream.specs.Transmission.{Carries, HasServed, Reads, Replies, ServesNext, Transmits, left_of}
 use Rattle.nbd_stream.proofs.Asked.{room_for, taken_of}
 use Rattle.nbd_stream.proofs.Negotiating.{all_more, map_more}
-use Rattle.nbd_stream.proofs.RunLemmas.{done_of, one_calm, one_honest, one_sized, runs_of}
+use Rattle.nbd_stream.proofs.RunLemmas.{back_of, done_of, one_calm, one_sized, runs_of}
 use Rattle.nbd_stream.proofs.TaskLemmas.{admitted_sound}
+use Rattle.nbd_stream.proofs.UntilLemmas.{until_of}
 
 abbrev pub refusal : RequestError → Result (Unit {0}) RequestError
 refusal error = Err error
@@ -116,7 +118,6 @@ module _ {D : Type 0} (contents : D → Contents) (honest calm : D → Bool) (e 
     pub exchanges : List Exchange
     pub each : ToldEach contents honest calm e old exchanges now
     pub sized : length (contents now).bytes ≡ length (contents old).bytes
-    pub honest_is : honest now ≡ honest old
     pub calm_is : calm now ≡ calm old
     pub read : Reads unread left (requests_in exchanges) []
     pub written : writes (flat_map reply_in exchanges)
@@ -126,7 +127,6 @@ module _ {D : Type 0} (contents : D → Contents) (honest calm : D → Bool) (e 
     exchanges = [];
     each = refl;
     sized = refl;
-    honest_is = refl;
     calm_is = refl;
     read = record { each = tt; bytes = Consumes-nil u };
     written = Appends-nil b;
@@ -153,7 +153,6 @@ module _ {D : Type 0} (contents : D → Contents) (honest calm : D → Bool) (e 
           exchanges = xs ++ x ∷ [];
           each = told_more old mid new xs x so_far.each one.tells;
           sized = one_sized contents honest calm e k mid new x one.tells ∙ so_far.sized;
-          honest_is = one_honest contents honest calm e k mid new x one.tells ∙ so_far.honest_is;
           calm_is = one_calm contents honest calm e k mid new x one.tells ∙ so_far.calm_is;
           read = record {
             each = subst (AllByRecursion IsRequest) (sym requests) (all_more IsRequest (requests_in xs) x.request so_far.read.each one.whole);
@@ -171,9 +170,11 @@ module _ {D : Type 0} (contents : D → Contents) (honest calm : D → Bool) (e 
       exchanges = so_far.exchanges;
       each = subst (λ (d : D). ToldEach contents honest calm e old so_far.exchanges d) (sym same) so_far.each;
       sized = ap (λ (d : D). length (contents d).bytes) same ∙ so_far.sized;
-      honest_is = ap honest same ∙ so_far.honest_is;
+      back = λ h. back_of contents honest calm e old now so_far.exchanges so_far.each (sym (ap honest same) ∙ h);
       calm_is = ap calm same ∙ so_far.calm_is;
-      run = λ h. subst (λ (d : D). Runs e (contents old) so_far.exchanges (contents d)) (sym same) (runs_of contents honest calm e old now so_far.exchanges so_far.each h);
+      until = λ h. subst (λ (d : D). Until contents honest calm e old so_far.exchanges d) (sym same) (until_of contents honest calm e old now so_far.exchanges so_far.each h);
+      run = λ h. subst (λ (d : D). Runs e (contents old) so_far.exchanges (contents d)) (sym same)
+          (runs_of contents honest calm e old now so_far.exchanges so_far.each (sym (ap honest same) ∙ h));
       done = λ h. done_of contents honest calm e old now so_far.exchanges so_far.each h;
       stream = stream;
     }

@@ -2,9 +2,9 @@
 use Rattle.std.specs.Prelude.{◌≡◌, ◌≤◌, ◌⊎◌, ◌+◌, ◌-◌, ◌&&◌, ℕ, nat_le, nat_lt, Bool, true, false, List, [], ◌++◌, length, take, drop, replicate}
 use Rattle.std.specs.Prelude.{slice_index, slice_range, Option, Some, None, Result, Ok, Err, IfOk, IfErr, IsOk, OnOk, OnErr, if◌then◌else◌}
 use Rattle.nbd_stream.specs.declared.fault.DiskFault.{DiskFault}
-use Rattle.nbd_stream.specs.declared.fault.DiskFault.TheVariants.{ReadOnly, Failed}
+use Rattle.nbd_stream.specs.declared.fault.DiskFault.TheVariants as fault
 use Rattle.nbd_stream.specs.declared.reply.RequestError.{RequestError}
-use Rattle.nbd_stream.specs.declared.reply.RequestError.TheVariants.{NotPermitted, InputOutput}
+use Rattle.nbd_stream.specs.declared.reply.RequestError.TheVariants.{NotPermitted, InputOutput, NoSpace}
 use Rattle.nbd_stream.specs.declared.task.Task.{Task}
 use Rattle.nbd_stream.specs.declared.task.Task.TheVariants.{Read, Write, Flush, Trim, WriteZeroes}
 
@@ -84,21 +84,26 @@ makes_last (WriteZeroes offset count durable) place = durable && is_in offset co
 
 -- the error that a client is told
 abbrev pub error_for : DiskFault → RequestError
-error_for ReadOnly = NotPermitted
-error_for Failed = InputOutput
+error_for fault.ReadOnly = NotPermitted
+error_for fault.Failed = InputOutput
+error_for fault.NoSpace = NoSpace
 
 -- what a disk answered: the bytes that it gave, or an error
 abbrev pub answer_from : Result (Unit {0}) DiskFault → List ℕ → Result (List ℕ) RequestError
 answer_from (Ok done) bytes = Ok bytes
-answer_from (Err fault) bytes = Err (error_for fault)
+answer_from (Err e) bytes = Err (error_for e)
 
--- the errors that a disk answers: a task failed; a change is no longer taken
+-- the errors that a change may have: it failed; no change is taken any more; there is no room for it
+abbrev pub IsOfChange : RequestError → Type 0
+IsOfChange e = (e ≡ InputOutput) ⊎ (e ≡ NotPermitted) ⊎ (e ≡ NoSpace)
+
+-- THE ERRORS THAT A DISK ANSWERS: a read and a flush only that they failed
 abbrev pub MayAnswer : Task → RequestError → Type 0
 MayAnswer (Read offset count) e = e ≡ InputOutput
-MayAnswer (Write offset count durable) e = (e ≡ InputOutput) ⊎ (e ≡ NotPermitted)
+MayAnswer (Write offset count durable) e = IsOfChange e
 MayAnswer Flush e = e ≡ InputOutput
-MayAnswer (Trim offset count durable) e = (e ≡ InputOutput) ⊎ (e ≡ NotPermitted)
-MayAnswer (WriteZeroes offset count durable) e = (e ≡ InputOutput) ⊎ (e ≡ NotPermitted)
+MayAnswer (Trim offset count durable) e = IsOfChange e
+MayAnswer (WriteZeroes offset count durable) e = IsOfChange e
 
 -- ---- one task
 
@@ -116,13 +121,16 @@ pub record Steps (task : Task) (body : List ℕ) (s : Contents) (answer : Result
   pub stays : (place : ℕ) → (slice_index t.durable place ≡ slice_index s.durable place) ⊎ IsEither s.bytes (bytes_after task body s.bytes) t.durable place
   pub lasts : OnOk answer ((place : ℕ) → makes_last task place ≡ true → slice_index t.durable place ≡ slice_index t.bytes place)
 
--- ONE CALL OF A DISK, whatever it does; and what is true of one that holds what it is given. One that is calm does all that it is asked.
+-- ONE CALL OF A DISK, whatever it does. A disk holds what it is given until a call of it fails; from then on it may be honest no more, and is never
+-- again. What is true of the bytes is said of a disk that is honest after the call: so of each call that is done, and of each that failed and
+-- left it honest. One that is calm does all that it is asked.
 pub record Performs {D : Type 0} (contents : D → Contents) (honest calm : D → Bool) (task : Task) (body : List ℕ)
     (old : D) (answer : Result (List ℕ) RequestError) (new : D) : Type 0 where
   pub sized : length (contents new).bytes ≡ length (contents old).bytes
-  pub honest_is : honest new ≡ honest old
+  pub kept : OnOk answer (honest new ≡ honest old)
+  pub back : honest new ≡ true → honest old ≡ true
   pub calm_is : calm new ≡ calm old
   pub fault : IfErr answer (MayAnswer task)
   pub given : IfOk answer (λ bytes. length bytes ≡ count_given task)
   pub calmly : calm old ≡ true → IsOk answer
-  pub steps : honest old ≡ true → Steps task body (contents old) answer (contents new)
+  pub steps : honest new ≡ true → Steps task body (contents old) answer (contents new)

@@ -6,4 +6,5 @@ pub mod Tasks
 pub mod Disk
 pub mod Exchanges
 pub mod Runs
+pub mod Until
 pub mod Transmission

@@ -14,6 +14,7 @@ use Rattle.nbd_stream.specs.Negotiation.{Negotiates}
 use Rattle.nbd_stream.specs.Disk.{Contents}
 use Rattle.nbd_stream.specs.Exchanges.{Exchange, Tells, ToldEach, reply_in, requests_in}
 use Rattle.nbd_stream.specs.Runs.{Runs, AreDone}
+use Rattle.nbd_stream.specs.Until.{Until}
 
 -- ---- the streams
 
@@ -40,16 +41,17 @@ Carries unread left before after xs (Err fault.Read) =
 Carries unread left before after xs (Err fault.Write) = Reads unread left (requests_in xs) [] × AppendsFront before after (flat_map reply_in xs)
 Carries unread left before after xs (Err fault.OutOfMemory) = ⊥
 
--- THE TRANSMISSION: each request was read, asked of the disk, and answered. Of a disk that holds what it is given the answers are a run of its
--- array, and one that is calm did all that it was asked.
+-- THE TRANSMISSION: each request was read, asked of the disk, and answered. Of an honest disk the answers are a run of its array: up to the first
+-- exchange that ended its honesty, and all of them where it is honest at the end. One that is calm did all that it was asked.
 pub record Transmits {D : Type 0} (contents : D → Contents) (honest calm : D → Bool) (e : Export) (old new : D)
     (unread left before after : Option (List ℕ)) (result : Result End ServeFault) : Type 0 where
   pub exchanges : List Exchange
   pub each : ToldEach contents honest calm e old exchanges new
   pub sized : length (contents new).bytes ≡ length (contents old).bytes
-  pub honest_is : honest new ≡ honest old
+  pub back : honest new ≡ true → honest old ≡ true
   pub calm_is : calm new ≡ calm old
-  pub run : honest old ≡ true → Runs e (contents old) exchanges (contents new)
+  pub until : honest old ≡ true → Until contents honest calm e old exchanges new
+  pub run : honest new ≡ true → Runs e (contents old) exchanges (contents new)
   pub done : calm old ≡ true → AreDone e exchanges
   pub stream : Carries unread left before after exchanges result
 

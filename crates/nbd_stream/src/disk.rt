@@ -8,8 +8,9 @@ use crate::task::Task;
 /// what was there or what was to be. A change may be kept back; one that is `durable`, and each before a flush, is so no longer when the
 /// call is answered.
 ///
-/// That is said where the disk is `honest`: it holds what it is given. What a file or another machine holds no contract can name, so a disk over one
-/// is not, and to whoever starts it, that word is the premise.
+/// That is said where the disk is `honest` after the call: it holds what it is given. A call that is done leaves it as honest as it was. One that
+/// fails may end its honesty, as where a device under it stops and its bytes are no longer known; then it is never honest again. What a file or
+/// another machine holds no contract can name, so a disk over one is not honest, and to whoever starts it, that word is the premise.
 pub trait Disk {
     ghost use Rattle.std.specs.Prelude.{◌≤◌, ◌+◌, Bool, [], length};
     ghost use Rattle.nbd_stream.specs.Disk.{Contents, Performs, answer_from};
@@ -17,7 +18,7 @@ pub trait Disk {
     /// The bytes that it stands for, and those that it will stand for if the power goes now.
     ghost contents: { Self → Contents };
 
-    /// Whether it holds what it is given.
+    /// Whether it holds what it is given, until now.
     ghost honest: { Self → Bool };
 
     /// Whether it does whatever it is asked, without an error.
@@ -27,7 +28,7 @@ pub trait Disk {
     ///
     /// # Errors
     ///
-    /// `Failed` where the disk failed: the bytes are as they were.
+    /// `Failed` where the disk failed: of one that is still honest, the bytes are as they were.
     fn read(&mut self, offset: u64, buffer: &mut [u8]) -> Result<(), DiskFault>
         requires { offset + length buffer.old ≤ length (contents self.old).bytes }
         ensures { Performs contents honest calm (Task.Read offset (length buffer.old)) [] self.old (answer_from result buffer.new) self.new };
@@ -36,7 +37,8 @@ pub trait Disk {
     ///
     /// # Errors
     ///
-    /// `ReadOnly` where no change is taken, `Failed` where the disk failed: each byte of the range is as it was or as it was to be.
+    /// `ReadOnly` where no change is taken any more, `NoSpace` where there is no room for this one, `Failed` where the disk failed: of a disk that is
+    /// still honest, each byte of the range is as it was or as it was to be.
     fn write(&mut self, offset: u64, bytes: &[u8], durable: bool) -> Result<(), DiskFault>
         requires { offset + length bytes.now ≤ length (contents self.old).bytes }
         ensures { Performs contents honest calm (Task.Write offset (length bytes.now) durable) bytes.now self.old (answer_from result []) self.new };
@@ -50,11 +52,11 @@ pub trait Disk {
         requires { offset + count ≤ length (contents self.old).bytes }
         ensures { Performs contents honest calm (Task.Trim offset count durable) [] self.old (answer_from result []) self.new };
 
-    /// Makes all bytes last.
+    /// Makes all bytes last. A disk that takes no change any more is flushed too: what it was given before is to last.
     ///
     /// # Errors
     ///
-    /// `Failed` where the disk failed: the bytes are as they were, and may not all last.
+    /// `Failed` where the disk failed: of one that is still honest, the bytes are as they were, and may not all last.
     fn flush(&mut self) -> Result<(), DiskFault>
         ensures { Performs contents honest calm Task.Flush [] self.old (answer_from result []) self.new };
 }

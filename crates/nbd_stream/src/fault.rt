@@ -14,6 +14,9 @@ pub enum DiskFault {
     /// The disk failed. The client is told `EIO`.
     #[error("Failed")]
     Failed,
+    /// A change has no room: on the disk, or in memory. The client is told `ENOSPC`.
+    #[error("NoSpace")]
+    NoSpace,
 }
 
 // What a client is told.
@@ -23,5 +26,6 @@ pub(crate) fn error_for(fault: DiskFault) -> RequestError
     match fault {
         DiskFault::ReadOnly => RequestError::NotPermitted,
         DiskFault::Failed => RequestError::InputOutput,
+        DiskFault::NoSpace => RequestError::NoSpace,
     }
 }

@@ -2,6 +2,9 @@
 ghost use Rattle.nbd_stream.specs.Frames.{OneWayLaw, SomeWayLaw};
 ghost use Rattle.nbd_stream.specs.Runs.{ByteLaw, DoneLaw, KeptLaw, LastsLaw, NothingLostLaw, ReadBackLaw, SetLaw};
 ghost use Rattle.nbd_stream.specs.Tasks.{AdmittedLaw};
+ghost use Rattle.nbd_stream.specs.Until.{BackLaw, StaysLaw, UntilLaw};
+
+use crate::disk::Disk;
 
 /// Every list of bytes is, in just one way, whole requests and a rest. (This project's.)
 pub fn stream_laws()
@@ -26,4 +29,13 @@ pub fn disk_laws()
     ensures kept { KeptLaw }
     ensures nothing_lost { NothingLostLaw }
     ensures done { DoneLaw }
+{}
+
+/// How long a disk is honest. Once it is not, it never is again, whatever it is asked. While no task fails it stays so. In a transmission it ends
+/// with an exchange that was asked of the disk and failed, and not before: up to that one the answers are the array's, and where none of them
+/// failed they are what it gives. (This project's.)
+pub fn honesty_laws<D: Disk>()
+    ensures back { BackLaw D.contents D.honest D.calm }
+    ensures stays { StaysLaw D.contents D.honest D.calm }
+    ensures until { UntilLaw D.contents D.honest D.calm }
 {}

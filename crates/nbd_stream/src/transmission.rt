@@ -105,10 +105,11 @@ fn serve_next<R: Read, W: Write, D: Disk>(
 /// greatest count that the export tells, and takes what was read: no memory is asked for.
 ///
 /// **Each request that was read is answered by one reply, in order, with its cookie. One that asks nothing of a disk as `admit` says is
-/// answered the error that stands there, and the disk is as it was. Each other one is asked of the disk. Where the disk holds what it is
-/// given, the answers are those of an array of bytes: a read that is done gives the bytes of its range, a write that is done stands
-/// in the array, trims and zeroes that are done are zeros there, and a byte that a flush or a durable change made last stays, whatever
-/// fails later, until a request sets it.** `laws::disk_laws` says these of any run.
+/// answered the error that stands there, and the disk is as it was. Each other one is asked of the disk. Where the disk is honest, the answers
+/// are those of an array of bytes: a read that is done gives the bytes of its range, a write that is done stands in the array, trims and
+/// zeroes that are done are zeros there, and a byte that a flush or a durable change made last stays, whatever fails later, until a
+/// request sets it.** `laws::disk_laws` says these of any run. A disk that was honest is so up to a task that failed (`until`), and over all
+/// of the transmission if it is honest at its end (`laws::honesty_laws`).
 ///
 /// What was read is these requests and what stands after the last of them, and what was written their replies, of a reader and a
 /// writer that tell their bytes, in whatever pieces these come.

@@ -3,4 +3,5 @@ mod negotiations;
 mod pieces;
 mod replies;
 mod requests;
+mod sectors;
 mod transmissions;

@@ -1,0 +1,9 @@
+use Rattle.nbd_stream.proofs.UntilLemmas.{back_law, stays_law, until_law}
+use Rattle.nbd_stream.proofs.laws.honesty_laws.Goals as goal
+
+pub returns : goal.returns
+returns g c = record {
+  back = back_law g.D.Disk.contents g.D.Disk.honest g.D.Disk.calm;
+  stays = stays_law g.D.Disk.contents g.D.Disk.honest g.D.Disk.calm;
+  until = until_law g.D.Disk.contents g.D.Disk.honest g.D.Disk.calm;
+}

@@ -1,0 +1,327 @@
+// Disks over four sectors of four bytes, which are kept back until a flush.
+ghost use Rattle.std.specs.Prelude.{◌≡◌};
+
+use nbd_stream::{Disk, DiskFault};
+use sector_disk::{SectorDisk, Sectors};
+use std::alloc::Global;
+use std::test::Fail;
+
+const SIZE: usize = 16;
+
+const SECTOR: usize = 4;
+
+// A device that holds what it is given, and fails its call of this number, from 1; 0 for none. A sector that is to be written then is as it was.
+#[derive(Drop)]
+struct CachedSectors {
+    bytes: [u8; SIZE],
+    kept: [u8; SIZE],
+    failing: usize,
+    fault: DiskFault,
+    asked: usize,
+}
+
+impl CachedSectors {
+    // Counts a call, and tells whether it fails.
+    fn fails(&mut self) -> bool
+        ensures bytes { self.new.bytes ≡ self.old.bytes }
+        ensures kept { self.new.kept ≡ self.old.kept }
+    {
+        self.asked = self.asked.saturating_add(1);
+        self.failing == self.asked
+    }
+}
+
+impl Sectors for CachedSectors {
+    ghost use Rattle.std.specs.Prelude.{true, false};
+
+    ghost contents = { λ device. record { bytes = device.bytes; durable = device.kept } };
+
+    ghost honest = { λ device. true };
+
+    ghost calm = { λ device. false };
+
+    ghost size = { λ device. 4 };
+
+    ghost count = { λ device. 4 };
+
+    fn read_sector(&mut self, sector: u64, buffer: &mut [u8]) -> Result<(), DiskFault> {
+        if self.fails() {
+            return Err(DiskFault::Failed);
+        }
+        let start = sector as usize * SECTOR;
+        buffer.copy_from_slice(&self.bytes[start..start + SECTOR]);
+        Ok(())
+    }
+
+    fn write_sector(&mut self, sector: u64, bytes: &[u8]) -> Result<(), DiskFault> {
+        if self.fails() {
+            return Err(self.fault);
+        }
+        let start = sector as usize * SECTOR;
+        self.bytes[start..start + SECTOR].copy_from_slice(bytes);
+        Ok(())
+    }
+
+    fn trim_sector(&mut self, sector: u64) -> Result<(), DiskFault> {
+        if self.fails() {
+            return Err(self.fault);
+        }
+        let start = sector as usize * SECTOR;
+        self.bytes[start..start + SECTOR].fill(0);
+        Ok(())
+    }
+
+    fn flush(&mut self) -> Result<(), DiskFault> {
+        if self.fails() {
+            return Err(DiskFault::Failed);
+        }
+        self.kept = self.bytes;
+        Ok(())
+    }
+
+    fn sector_bytes(&self) -> usize {
+        SECTOR
+    }
+
+    fn sector_count(&self) -> u64 {
+        4
+    }
+}
+
+// What a disk is asked, and its answer.
+#[derive(Clone, Copy)]
+enum Step {
+    // These bytes are given from an offset on.
+    Read(u64, &'static [u8], Result<(), DiskFault>),
+    Write(u64, &'static [u8], bool, Result<(), DiskFault>),
+    Clear(u64, u32, bool, Result<(), DiskFault>),
+    Flush(Result<(), DiskFault>),
+}
+
+// The steps, and what is left: what stands, and what lasts.
+struct Row {
+    name: &'static str,
+    // The call of the device that fails, from 1; 0 for none.
+    failing: usize,
+    fault: DiskFault,
+    steps: &'static [Step],
+    bytes: &'static [u8; SIZE],
+    kept: &'static [u8; SIZE],
+}
+
+const FIRST: &[u8; SIZE] = b"abcdefghijklmnop";
+
+const OTHERS: &[u8; SIZE] = b"ABCDEFGHIJKLMNOP";
+
+const QUIET: Row = Row {
+    name: "",
+    failing: 0,
+    fault: DiskFault::Failed,
+    steps: &[],
+    bytes: FIRST,
+    kept: FIRST,
+};
+
+const ROWS: &[Row] = &[
+    Row {
+        name: "a part of one sector",
+        steps: &[
+            Step::Write(5, b"XY", false, Ok(())),
+            Step::Read(4, b"eXYh", Ok(())),
+            Step::Read(3, b"deXYhi", Ok(())),
+        ],
+        bytes: b"abcdeXYhijklmnop",
+        ..QUIET
+    },
+    Row {
+        name: "two parts and a whole sector, and a flush",
+        steps: &[
+            Step::Write(2, b"ABCDEFGH", false, Ok(())),
+            Step::Read(0, b"abABCDEFGHklmnop", Ok(())),
+            Step::Flush(Ok(())),
+            Step::Write(15, b"Z", false, Ok(())),
+        ],
+        bytes: b"abABCDEFGHklmnoZ",
+        kept: b"abABCDEFGHklmnop",
+        ..QUIET
+    },
+    Row {
+        name: "changes that are to last",
+        steps: &[
+            Step::Write(3, b"XYZ", true, Ok(())),
+            Step::Clear(7, 6, true, Ok(())),
+        ],
+        bytes: b"abcXYZg\0\0\0\0\0\0nop",
+        kept: b"abcXYZg\0\0\0\0\0\0nop",
+        ..QUIET
+    },
+    Row {
+        name: "no byte",
+        steps: &[
+            Step::Write(16, b"", false, Ok(())),
+            Step::Read(7, b"", Ok(())),
+            Step::Clear(3, 0, false, Ok(())),
+        ],
+        ..QUIET
+    },
+    Row {
+        name: "no room for the second sector of a write",
+        failing: 3,
+        fault: DiskFault::NoSpace,
+        steps: &[
+            Step::Write(2, b"ABCDEFGH", false, Err(DiskFault::NoSpace)),
+            Step::Read(0, b"abABefghijkl", Ok(())),
+        ],
+        bytes: b"abABefghijklmnop",
+        ..QUIET
+    },
+    Row {
+        name: "the last sector of a write is not read",
+        failing: 4,
+        fault: DiskFault::ReadOnly,
+        steps: &[
+            Step::Write(2, b"ABCDEFGH", true, Err(DiskFault::Failed)),
+            Step::Flush(Ok(())),
+        ],
+        bytes: b"abABCDEFijklmnop",
+        kept: b"abABCDEFijklmnop",
+        ..QUIET
+    },
+    Row {
+        name: "a whole sector is not trimmed",
+        failing: 3,
+        fault: DiskFault::ReadOnly,
+        steps: &[Step::Clear(3, 13, false, Err(DiskFault::ReadOnly))],
+        bytes: b"abc\0efghijklmnop",
+        ..QUIET
+    },
+    Row {
+        name: "a change that does not last",
+        failing: 3,
+        steps: &[Step::Write(0, b"Z", true, Err(DiskFault::Failed))],
+        bytes: b"Zbcdefghijklmnop",
+        ..QUIET
+    },
+    Row {
+        name: "a read that fails in the middle",
+        failing: 2,
+        steps: &[
+            Step::Read(2, b"cdefgh", Err(DiskFault::Failed)),
+            Step::Read(2, b"cdefgh", Ok(())),
+        ],
+        ..QUIET
+    },
+];
+
+// Whether a disk of sixteen bytes does this.
+fn does(disk: &mut SectorDisk<CachedSectors>, step: &Step) -> bool {
+    if disk.bytes() != 16 {
+        return false;
+    }
+    let mut out = [0; SIZE];
+    match *step {
+        Step::Read(offset, bytes, answer) => {
+            if offset > 16 || bytes.len() > SIZE - offset as usize {
+                return false;
+            }
+            let done = disk.read(offset, &mut out[..bytes.len()]);
+            done == answer && (done.is_err() || &out[..bytes.len()] == bytes)
+        }
+        Step::Write(offset, bytes, durable, answer) => {
+            offset <= 16
+                && bytes.len() <= SIZE - offset as usize
+                && disk.write(offset, bytes, durable) == answer
+        }
+        Step::Clear(offset, count, durable, answer) => {
+            offset <= 16
+                && count <= 16 - offset as u32
+                && disk.clear(offset, count, durable) == answer
+        }
+        Step::Flush(answer) => disk.flush() == answer,
+    }
+}
+
+// Whether a disk does all of a row, and what is left of its device.
+fn does_all(alloc: Global, row: &Row) -> (bool, Option<CachedSectors>) {
+    let device = CachedSectors {
+        bytes: *FIRST,
+        kept: *FIRST,
+        failing: row.failing,
+        fault: row.fault,
+        asked: 0,
+    };
+    let Ok(mut disk) = SectorDisk::new(alloc, device) else {
+        return (false, None);
+    };
+    let mut all = true;
+    for step in row.steps {
+        all = does(&mut disk, step) && all;
+    }
+    (all, Some(disk.into_sectors()))
+}
+
+#[test]
+fn sectors_by_hand(rt: HostRuntime) -> Result<(), Fail> {
+    for row in ROWS {
+        let name = row.name;
+        let (all, device) = does_all(rt.alloc(), row);
+        assert!(rt; all, "{name}");
+        let same = match device {
+            Some(device) => device.bytes == *row.bytes && device.kept == *row.kept,
+            None => false,
+        };
+        assert!(rt; same, "{name}");
+    }
+    Ok(())
+}
+
+// Sets a range of the disk and of a list of bytes, clears the first half of it in both, and tells whether they are the same then.
+fn set_both(
+    disk: &mut SectorDisk<CachedSectors>,
+    plain: &mut [u8; SIZE],
+    start: usize,
+    bytes: &[u8],
+) -> bool {
+    if disk.bytes() != 16 || start > SIZE || bytes.len() > SIZE - start {
+        return false;
+    }
+    let half = bytes.len() / 2;
+    let written = disk.write(start as u64, bytes, false).is_ok();
+    let cleared = disk.clear(start as u64, half as u32, false).is_ok();
+    plain[start..start + bytes.len()].copy_from_slice(bytes);
+    plain[start..start + half].fill(0);
+    let mut all = [0; SIZE];
+    let given = disk.read(0, &mut all).is_ok();
+    written && cleared && given && all == *plain
+}
+
+// Whether each range of a disk is set and cleared as in a list of bytes.
+fn ranges_hold(alloc: Global) -> bool {
+    let device = CachedSectors {
+        bytes: *FIRST,
+        kept: *FIRST,
+        failing: 0,
+        fault: DiskFault::Failed,
+        asked: 0,
+    };
+    let Ok(mut disk) = SectorDisk::new(alloc, device) else {
+        return false;
+    };
+    let mut plain = *FIRST;
+    let mut holds = true;
+    for start in 0..SIZE {
+        for count in 0..=SIZE - start {
+            let letters = if count % 2 == 0 { OTHERS } else { FIRST };
+            let bytes = &letters[start..start + count];
+            holds = set_both(&mut disk, &mut plain, start, bytes) && holds;
+        }
+    }
+    holds
+}
+
+#[test]
+fn every_range(rt: HostRuntime) -> Result<(), Fail> {
+    let holds = ranges_hold(rt.alloc());
+    assert!(rt; holds);
+    Ok(())
+}

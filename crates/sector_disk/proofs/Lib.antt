@@ -1,0 +1,4 @@
+pub mod Bytes
+pub mod Joining
+pub mod Fronts
+pub mod FlatLemmas

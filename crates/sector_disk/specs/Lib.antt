@@ -1,0 +1,2 @@
+-- a device of sectors as bytes
+pub mod Flat

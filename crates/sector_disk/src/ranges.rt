@@ -1,0 +1,125 @@
+//! Ranges of bytes, sector by sector.
+ghost use Rattle.std.specs.Prelude.{◌≡◌, ◌≤◌, ◌+◌, false, [], length};
+ghost use Rattle.nbd_stream.specs.Disk.{Performs, answer_from};
+
+use crate::pieces::{clear_piece, piece_length, read_piece, write_piece};
+use crate::sectors::Sectors;
+use nbd_stream::{DiskFault, Task};
+
+// Gives the bytes of a range.
+pub(crate) fn read_range<S: Sectors>(
+    sectors: &mut S,
+    buffer: &mut [u8],
+    offset: u64,
+    out: &mut [u8],
+) -> Result<(), DiskFault>
+    requires room { length buffer.old ≡ S.size sectors.old }
+    requires within { offset + length out.old ≤ length (S.contents sectors.old).bytes }
+    ensures size { S.size sectors.new ≡ S.size sectors.old }
+    ensures performs { Performs S.contents S.honest S.calm (Task.Read offset (length out.old)) [] sectors.old (answer_from result out.new) sectors.new }
+{
+    let size = sectors.sector_bytes();
+    let _count = sectors.sector_count();
+    let mut done = 0;
+    while done < out.len() {
+        let place = offset + done as u64;
+        let taken = piece_length(size, place, out.len() - done);
+        match read_piece(sectors, buffer, place, &mut out[done..done + taken]) {
+            Ok(()) => done += taken,
+            Err(fault) => return Err(fault),
+        }
+    }
+    Ok(())
+}
+
+// Sets the bytes of a range. Where a sector fails those before it are written, and those after it are not.
+fn write_pieces<S: Sectors>(
+    sectors: &mut S,
+    buffer: &mut [u8],
+    offset: u64,
+    bytes: &[u8],
+) -> Result<(), DiskFault>
+    requires room { length buffer.old ≡ S.size sectors.old }
+    requires within { offset + length bytes.now ≤ length (S.contents sectors.old).bytes }
+    ensures size { S.size sectors.new ≡ S.size sectors.old }
+    ensures performs { Performs S.contents S.honest S.calm (Task.Write offset (length bytes.now) false) bytes.now sectors.old (answer_from result []) sectors.new }
+{
+    let size = sectors.sector_bytes();
+    let _count = sectors.sector_count();
+    let mut done = 0;
+    while done < bytes.len() {
+        let place = offset + done as u64;
+        let taken = piece_length(size, place, bytes.len() - done);
+        match write_piece(sectors, buffer, place, &bytes[done..done + taken]) {
+            Ok(()) => done += taken,
+            Err(fault) => return Err(fault),
+        }
+    }
+    Ok(())
+}
+
+// Sets the bytes of a range to zeros.
+fn clear_pieces<S: Sectors>(
+    sectors: &mut S,
+    buffer: &mut [u8],
+    offset: u64,
+    count: usize,
+) -> Result<(), DiskFault>
+    requires room { length buffer.old ≡ S.size sectors.old }
+    requires within { offset + count ≤ length (S.contents sectors.old).bytes }
+    ensures size { S.size sectors.new ≡ S.size sectors.old }
+    ensures performs { Performs S.contents S.honest S.calm (Task.Trim offset count false) [] sectors.old (answer_from result []) sectors.new }
+{
+    let size = sectors.sector_bytes();
+    let _count = sectors.sector_count();
+    let mut done = 0;
+    while done < count {
+        let place = offset + done as u64;
+        let taken = piece_length(size, place, count - done);
+        match clear_piece(sectors, buffer, place, taken) {
+            Ok(()) => done += taken,
+            Err(fault) => return Err(fault),
+        }
+    }
+    Ok(())
+}
+
+// Sets the bytes of a range, and makes them last where that is asked.
+pub(crate) fn write_range<S: Sectors>(
+    sectors: &mut S,
+    buffer: &mut [u8],
+    offset: u64,
+    bytes: &[u8],
+    durable: bool,
+) -> Result<(), DiskFault>
+    requires room { length buffer.old ≡ S.size sectors.old }
+    requires within { offset + length bytes.now ≤ length (S.contents sectors.old).bytes }
+    ensures size { S.size sectors.new ≡ S.size sectors.old }
+    ensures performs { Performs S.contents S.honest S.calm (Task.Write offset (length bytes.now) durable) bytes.now sectors.old (answer_from result []) sectors.new }
+{
+    match write_pieces(sectors, buffer, offset, bytes) {
+        Ok(()) if durable => sectors.flush(),
+        Ok(()) => Ok(()),
+        Err(fault) => Err(fault),
+    }
+}
+
+// Sets the bytes of a range to zeros, and makes them last where that is asked.
+pub(crate) fn clear_range<S: Sectors>(
+    sectors: &mut S,
+    buffer: &mut [u8],
+    offset: u64,
+    count: usize,
+    durable: bool,
+) -> Result<(), DiskFault>
+    requires room { length buffer.old ≡ S.size sectors.old }
+    requires within { offset + count ≤ length (S.contents sectors.old).bytes }
+    ensures size { S.size sectors.new ≡ S.size sectors.old }
+    ensures performs { Performs S.contents S.honest S.calm (Task.Trim offset count durable) [] sectors.old (answer_from result []) sectors.new }
+{
+    match clear_pieces(sectors, buffer, offset, count) {
+        Ok(()) if durable => sectors.flush(),
+        Ok(()) => Ok(()),
+        Err(fault) => Err(fault),
+    }
+}

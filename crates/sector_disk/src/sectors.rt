@@ -1,0 +1,83 @@
+//! A device of whole sectors.
+use nbd_stream::{DiskFault, Task};
+
+/// A device that is read and written by whole sectors, in the order in which it is asked. (This project's.)
+///
+/// Each method is one `Performs` of `nbd_stream`, of a task whose range is the sector: so its words, `contents`, `honest` and `calm`, are those of a
+/// `Disk`, and its honesty may end in a call that fails. Its contents are its sectors as one list of bytes, the first sector first.
+pub trait Sectors {
+    ghost use Rattle.std.specs.Prelude.{◌≡◌, ◌<◌, ◌+◌, ◌*◌, ◌^◌, ℕ, Bool, false, [], length};
+    ghost use Rattle.nbd_stream.specs.Disk.{Contents, Performs, answer_from};
+
+    /// The bytes of its sectors, and those that they will have if the power goes now.
+    ghost contents: { Self → Contents };
+
+    /// Whether it holds what it is given, until now.
+    ghost honest: { Self → Bool };
+
+    /// Whether it does whatever it is asked, without an error.
+    ghost calm: { Self → Bool };
+
+    /// Bytes of a sector.
+    ghost size: { Self → ℕ };
+
+    /// How many sectors it has.
+    ghost count: { Self → ℕ };
+
+    /// Gives the bytes of a sector.
+    ///
+    /// # Errors
+    ///
+    /// `Failed` where the device failed: of one that is still honest, the sectors are as they were.
+    fn read_sector(&mut self, sector: u64, buffer: &mut [u8]) -> Result<(), DiskFault>
+        requires within { sector < count self.old }
+        requires whole { length buffer.old ≡ size self.old }
+        ensures size { size self.new ≡ size self.old }
+        ensures count { count self.new ≡ count self.old }
+        ensures performs { Performs contents honest calm (Task.Read (sector * size self.old) (size self.old)) [] self.old (answer_from result buffer.new) self.new };
+
+    /// Sets the bytes of a sector.
+    ///
+    /// # Errors
+    ///
+    /// `ReadOnly` where no change is taken any more, `NoSpace` where there is no room for this one, `Failed` where the device failed: of one that is
+    /// still honest, each byte of the sector is as it was or as it was to be.
+    fn write_sector(&mut self, sector: u64, bytes: &[u8]) -> Result<(), DiskFault>
+        requires within { sector < count self.old }
+        requires whole { length bytes.now ≡ size self.old }
+        ensures size { size self.new ≡ size self.old }
+        ensures count { count self.new ≡ count self.old }
+        ensures performs { Performs contents honest calm (Task.Write (sector * size self.old) (size self.old) false) bytes.now self.old (answer_from result []) self.new };
+
+    /// Sets the bytes of a sector to zeros: they are not needed.
+    ///
+    /// # Errors
+    ///
+    /// As `write_sector`.
+    fn trim_sector(&mut self, sector: u64) -> Result<(), DiskFault>
+        requires within { sector < count self.old }
+        ensures size { size self.new ≡ size self.old }
+        ensures count { count self.new ≡ count self.old }
+        ensures performs { Performs contents honest calm (Task.Trim (sector * size self.old) (size self.old) false) [] self.old (answer_from result []) self.new };
+
+    /// Makes all sectors last. A device that takes no change any more is flushed too: what it was given before is to last.
+    ///
+    /// # Errors
+    ///
+    /// `Failed` where the device failed: of one that is still honest, the sectors are as they were, and may not all last.
+    fn flush(&mut self) -> Result<(), DiskFault>
+        ensures size { size self.new ≡ size self.old }
+        ensures count { count self.new ≡ count self.old }
+        ensures performs { Performs contents honest calm Task.Flush [] self.old (answer_from result []) self.new };
+
+    /// Bytes of a sector, which are some.
+    fn sector_bytes(&self) -> usize
+        ensures size { result ≡ size self.now }
+        ensures some { 0 < result };
+
+    /// How many sectors it has. All their bytes together are fewer than 2^64.
+    fn sector_count(&self) -> u64
+        ensures count { result ≡ count self.now }
+        ensures whole { length (contents self.now).bytes ≡ count self.now * size self.now }
+        ensures bounded { count self.now * size self.now < 2 ^ 64 };
+}
