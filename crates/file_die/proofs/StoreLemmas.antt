@@ -55,7 +55,7 @@ read_back s t u v calls row page given w lt put run spare load =
     load.does.gave refl ∙ (stays t u calls row run (subst (λ g. SpareAll g row calls) (sym put.geometry) spare) ∙ there)
 
 -- a row of a block that was erased
-erased_in : (g : Geometry) (block row : ℕ) (image : Image) → length image ≡ row_count g → block < g.blocks → row / g.pages ≡ block
+pub erased_in : (g : Geometry) (block row : ℕ) (image : Image) → length image ≡ row_count g → block < g.blocks → row / g.pages ≡ block
     → page_in (with_block g.pages block (replicate g.pages (erased_page g)) image) row ≡ erased_page g
 erased_in g block row image rows lt is =
     let some : 0 < g.pages = omega (arith, g.limits.page_count.least) in

@@ -2,5 +2,11 @@
 pub mod Store
 -- what that comes to
 pub mod Laws
+-- a die over a store
+pub mod Die
+-- what its cycles come to
+pub mod DieLaws
+-- how it is opened
+pub mod Open
 -- a store in memory
 pub mod Memory

@@ -1,4 +1,5 @@
-//! What the clauses of a store come to. Each function does nothing: its contract is the law.
+//! What the clauses of a store and of a die over one come to. Each function does nothing: its contract is the law.
+ghost use Rattle.file_die.specs.DieLaws.{LandsLaw, WipesLaw, CopiesLaw, AlwaysLaw, KeepsLaw};
 ghost use Rattle.file_die.specs.Laws.{StaysLaw, ReadBackLaw, ClearedLaw, LoadLaw, SyncLaw, WholeLaw};
 
 /// What an honest store holds, over any calls, done or failed: what was put at a row is loaded again until it is put at or cleared, and an erased
@@ -10,4 +11,15 @@ pub fn store_laws()
     ensures load { LoadLaw }
     ensures sync { SyncLaw }
     ensures whole { WholeLaw }
+{}
+
+/// What the cycles of a die leave in an honest store: a program lands just on its row, and an erase on its block; what was copied out of a block
+/// lasts before the block is erased, and none of its old pages lasts after; a row that no program and no erase was due of holds what it held,
+/// and that goes on to last; and where each program is synced all pages last. (This project's.)
+pub fn die_laws()
+    ensures lands { LandsLaw }
+    ensures wipes { WipesLaw }
+    ensures copies { CopiesLaw }
+    ensures always { AlwaysLaw }
+    ensures keeps { KeepsLaw }
 {}

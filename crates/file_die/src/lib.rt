@@ -8,11 +8,17 @@
 //! All of it is this project's.
 #![tactic(auto)]
 
+mod asks;
+mod die;
 mod file_store;
 pub mod laws;
 mod memory_store;
+mod open;
+mod output;
 mod store;
 
+pub use die::{FileDie, SyncWhen};
 pub use file_store::FileStore;
 pub use memory_store::MemoryStore;
+pub use open::OpenFault;
 pub use store::{Store, StoreFault};

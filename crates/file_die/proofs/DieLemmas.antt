@@ -1,0 +1,191 @@
+-- What a die over a store does is a case of the protocol.
+use Rattle.std.proofs.Common.{◌≡◌, inl, ℕ, ◌+◌, ◌*◌, ◌/◌, ◌<◌, ◌≤◌, Bool, true, false, List, length, refl, sym, ◌∙◌, ap, subst, arith, get_or, ◌++◌, length-drop, if◌then◌else◌, Ok, replicate, take, drop}
+use Rattle.std.specs.Prelude.{slice_set, not, map}
+use Rattle.std.proofs.Math.Seq.{drop-drop}
+use Rattle.std.proofs.lemmas.List.{map-set, length-map, get_or-set_same, set-get_or, length-replicate, length-take-le, take-append-drop, get_or-take, get_or-drop}
+use Rattle.std.proofs.lemmas.Option.{slice_get-get_or}
+use Rattle.page_layout.specs.declared.geometry.Geometry.{Geometry}
+use Rattle.page_layout.specs.Geometry.{row_count}
+use Rattle.page_layout.specs.Page.{Page, Image, IsPage, IsImage}
+use Rattle.page_layout.specs.Change.{erased_page}
+use Rattle.page_layout.specs.Counter.{counted}
+use Rattle.page_layout.specs.Flash.{Flash, TurnState, Program, Erase, Steps, IsWhole, after, after_program, after_erase, turn_at, may_program, may_erase, no_page, with_block}
+use Rattle.onfi_cycles.specs.Cycles.{Phase, Due, Moves, Ready, NoOutput, status_of}
+use Rattle.nand_die.proofs.PagesLemmas.{block_within, middle_part}
+use Rattle.file_die.specs.declared.die.SyncWhen.{SyncWhen}
+use Rattle.file_die.specs.Store.{Held, AreImages}
+use Rattle.nand_die.specs.declared.change.BlockTurn.{BlockTurn}
+use Rattle.nand_die.specs.Turns.{turn_of}
+use Rattle.file_die.specs.Die.{FileState, IsFit, Acts, ended}
+
+-- a die of these parts
+abbrev of_parts : {S : Type 0} → S → List TurnState → ℕ → Phase → List ℕ → ℕ → SyncWhen → FileState S
+of_parts store turns abuse phase register status sync_when = record { store = store; turns = turns; abuse = abuse; phase = phase; register = register; status = status; sync_when = sync_when }
+
+-- a block's turn was set, and the count of abuse
+pub ended_so : {S : Type 0} → (store : S) (turns : List BlockTurn) (abuse : ℕ) (phase : Phase) (register : List ℕ) (status : ℕ) (sync_when : SyncWhen) (d : FileState S) (block : ℕ) (turn : BlockTurn) (legal passed : Bool) (count : ℕ)
+    → of_parts store (map turn_of turns) abuse phase register status sync_when ≡ d → count ≡ (if legal then abuse else counted abuse)
+    → of_parts store (map turn_of (slice_set turns block turn)) count (Ready NoOutput) register (status_of passed) sync_when ≡ ended block (turn_of turn) legal passed d
+ended_so store turns abuse phase register status sync_when d block turn legal passed count is counts =
+    ap (λ ts. of_parts store ts count (Ready NoOutput) register (status_of passed) sync_when) (map-set turn_of turns block turn)
+    ∙ (ap (λ n. of_parts store (slice_set (map turn_of turns) block (turn_of turn)) n (Ready NoOutput) register (status_of passed) sync_when) counts
+    ∙ ap (ended block (turn_of turn) legal passed) is)
+
+-- a die of these parts is fit
+pub fit_of : {S : Type 0} → (held : S → Held) (honest : S → Bool) (store : S) (turns : List BlockTurn) (abuse : ℕ) (phase : Phase) (register : List ℕ) (status : ℕ) (sync_when : SyncWhen) (d : FileState S) (g : Geometry)
+    → of_parts store (map turn_of turns) abuse phase register status sync_when ≡ d → (held store).geometry ≡ g → (honest store ≡ true → AreImages (held store)) → length turns ≡ g.blocks → IsFit held honest d
+fit_of held honest store turns abuse phase register status sync_when d g is same images blocks =
+    subst (IsFit held honest) is (record { images = images; blocks = length-map turns turn_of ∙ (blocks ∙ ap (λ (x : Geometry). x.blocks) (sym same)) })
+
+-- a cycle that moves on, with another register or the same
+pub acts_moves : {S : Type 0} → (held : S → Held) (honest : S → Bool) (failed : S → ℕ) (due : Geometry → Phase → Due) (store : S) (turns : List TurnState) (abuse : ℕ) (phase : Phase) (register : List ℕ) (status : ℕ) (sync_when : SyncWhen)
+    → (d : FileState S) (g : Geometry) (phase' : Phase) (register' : List ℕ) → of_parts store turns abuse phase register status sync_when ≡ d → (held store).geometry ≡ g → due g phase ≡ Moves phase'
+    → (honest store ≡ true → AreImages (held store)) → length turns ≡ g.blocks → Acts held honest failed (due (held d.store).geometry d.phase) d (of_parts store turns abuse phase' register' status sync_when) (Ok tt)
+acts_moves held honest failed due store turns abuse phase register status sync_when d g phase' register' is same to images blocks =
+    let old = of_parts store turns abuse phase register status sync_when in
+    let new = of_parts store turns abuse phase' register' status sync_when in
+    subst (λ v. Acts held honest failed (due (held v.store).geometry v.phase) v new (Ok tt)) is
+    (subst (λ u. Acts held honest failed u old new (Ok tt)) (sym (ap (λ x. due x phase) same ∙ to))
+    (record {
+      follows = λ h. refl;
+      leaves = λ h. refl;
+      whole = λ h. record { image_whole = (images h).pages_whole; turns_whole = blocks ∙ ap (λ (x : Geometry). x.blocks) (sym same) };
+      geometry = refl;
+      sync_when = refl;
+      as_honest = refl;
+      rising = omega arith;
+      rose = tt;
+      settled = refl;
+      uncounted = tt;
+    }))
+
+pub not_legal : (legal : Bool) (a b n : ℕ) → not legal ≡ true → n ≡ counted b → n ≡ (if legal then a else counted b)
+not_legal true a b n e is = let no : ⊥ = cc in absurd no
+not_legal false a b n e is = is
+
+pub is_legal : (legal : Bool) (a b : ℕ) → not legal ≡ false → a ≡ (if legal then a else b)
+is_legal true a b e = refl
+is_legal false a b e = let no : ⊥ = cc in absurd no
+
+-- the same flash
+flash_is : (f : Flash) (g : Geometry) (image : Image) (turns : List TurnState) (abuse : ℕ) → f.geometry ≡ g → f.image ≡ image → f.turns ≡ turns → f.abuse ≡ abuse
+    → f ≡ record { geometry = g; image = image; turns = turns; abuse = abuse }
+flash_is f g image turns abuse a b c d =
+    ap (λ x. record { geometry = x; image = f.image; turns = f.turns; abuse = f.abuse }) a
+    ∙ (ap (λ x. record { geometry = g; image = x; turns = f.turns; abuse = f.abuse }) b
+    ∙ (ap (λ x. record { geometry = g; image = image; turns = x; abuse = f.abuse }) c ∙ ap (λ x. record { geometry = g; image = image; turns = turns; abuse = x }) d))
+
+-- a program that was done in a store is one of the die: legal it passes, and else nothing is changed
+pub program_steps : (g : Geometry) (i j : Image) (t u : List TurnState) (a b row : ℕ) (p : Page) (legal : Bool)
+    → IsWhole (record { geometry = g; image = i; turns = t; abuse = a }) → IsImage g j → row < row_count g → legal ≡ may_program (record { geometry = g; image = i; turns = t; abuse = a }) row
+    → (legal ≡ true → j ≡ slice_set i row p) → (legal ≡ false → j ≡ i)
+    → u ≡ slice_set t (row / g.pages) (after_program (turn_at (record { geometry = g; image = i; turns = t; abuse = a }) (row / g.pages)) legal legal) → b ≡ (if legal then a else counted a)
+    → Steps (record { geometry = g; image = i; turns = t; abuse = a }) (Program row p legal (get_or j row no_page)) (record { geometry = g; image = j; turns = u; abuse = b })
+unfolding after
+program_steps g i j t u a b row p true w v lt is set keeps turns abuse =
+    let old : Flash = record { geometry = g; image = i; turns = t; abuse = a } in
+    let inside : row < length i = subst (λ n. row < n) (sym w.image_whole.rows) lt in
+    let left : get_or j row no_page ≡ p = ap (λ (image : Image). get_or image row no_page) (set refl) ∙ get_or-set_same i row p no_page inside in
+    let here : row < length j = subst (λ n. row < n) (sym v.rows) lt in
+    record {
+      lawful = record {
+        in_range = inside;
+        sized = v.pages row (get_or j row no_page) (slice_get-get_or j row no_page here);
+        due = λ e. sym is;
+        kept = λ e. left;
+        failed = λ e. let no : ⊥ = cc in absurd no;
+        refused = λ e. let no : true ≡ false = is ∙ e in let never : ⊥ = cc in absurd never;
+      };
+      left = flash_is _ _ _ _ _ refl (set refl ∙ ap (λ q. slice_set i row q) (sym left))
+          (turns ∙ ap (λ (x : Bool). slice_set t (row / g.pages) (after_program (turn_at old (row / g.pages)) x true)) is)
+          (abuse ∙ ap (λ (x : Bool). if x then a else counted a) is);
+    }
+program_steps g i j t u a b row p false w v lt is set keeps turns abuse =
+    let old : Flash = record { geometry = g; image = i; turns = t; abuse = a } in
+    let inside : row < length i = subst (λ n. row < n) (sym w.image_whole.rows) lt in
+    let left : get_or j row no_page ≡ get_or i row no_page = ap (λ (image : Image). get_or image row no_page) (keeps refl) in
+    let here : row < length j = subst (λ n. row < n) (sym v.rows) lt in
+    record {
+      lawful = record {
+        in_range = inside;
+        sized = v.pages row (get_or j row no_page) (slice_get-get_or j row no_page here);
+        due = λ e. let no : ⊥ = cc in absurd no;
+        kept = λ e. let no : ⊥ = cc in absurd no;
+        failed = λ e. inl left;
+        refused = λ e. left;
+      };
+      left = flash_is _ _ _ _ _ refl (keeps refl ∙ (sym (set-get_or i row no_page) ∙ ap (λ q. slice_set i row q) (sym left)))
+          (turns ∙ ap (λ (x : Bool). slice_set t (row / g.pages) (after_program (turn_at old (row / g.pages)) x false)) is)
+          (abuse ∙ ap (λ (x : Bool). if x then a else counted a) is);
+    }
+
+block_length : (g : Geometry) (image : Image) (block : ℕ) → block < g.blocks → length image ≡ row_count g → length (take g.pages (drop (block * g.pages) image)) ≡ g.pages
+block_length g image block lt e =
+    let le : block * g.pages + g.pages ≤ length image = subst (λ n. block * g.pages + g.pages ≤ n) (sym e) (block_within g block lt) in
+    length-take-le g.pages (drop (block * g.pages) image) (omega (arith, le, length-drop (block * g.pages) image))
+
+-- a page of a block of a die that is whole
+block_sized : (g : Geometry) (image : Image) (block k : ℕ) → IsImage g image → block < g.blocks → k < g.pages → IsPage g (get_or (take g.pages (drop (block * g.pages) image)) k no_page)
+block_sized g image block k w lt small =
+    let within : block * g.pages + g.pages ≤ row_count g = block_within g block lt in
+    let at : get_or (take g.pages (drop (block * g.pages) image)) k no_page ≡ get_or image (block * g.pages + k) no_page = get_or-take g.pages (drop (block * g.pages) image) k no_page small ∙ get_or-drop (block * g.pages) image k no_page in
+    let here : block * g.pages + k < length image = omega (arith, small, within, w.rows) in
+    subst (IsPage g) (sym at) (w.pages (block * g.pages + k) (get_or image (block * g.pages + k) no_page) (slice_get-get_or image (block * g.pages + k) no_page here))
+
+-- a block that is left as it was leaves the image
+same_block : (pages block : ℕ) (image : Image) → with_block pages block (take pages (drop (block * pages) image)) image ≡ image
+same_block pages block image =
+    let rest : take pages (drop (block * pages) image) ++ drop (block * pages + pages) image ≡ drop (block * pages) image =
+    ap (λ xs. take pages (drop (block * pages) image) ++ xs) (sym (drop-drop pages (block * pages) image)) ∙ take-append-drop pages (drop (block * pages) image) in
+    ap (λ xs. take (block * pages) image ++ xs) rest ∙ take-append-drop (block * pages) image
+
+-- the pages that were put into a block
+block_put : (pages block : ℕ) (left image : Image) → length left ≡ pages → block * pages ≤ length image → take pages (drop (block * pages) (with_block pages block left image)) ≡ left
+block_put pages block left image e le = middle_part (take (block * pages) image) left (drop (block * pages + pages) image) (block * pages) pages (length-take-le (block * pages) image le) e
+
+-- the same of an erase
+pub erase_steps : (g : Geometry) (i j : Image) (t u : List TurnState) (a b block : ℕ) (legal : Bool)
+    → IsWhole (record { geometry = g; image = i; turns = t; abuse = a }) → IsImage g j → block < g.blocks → legal ≡ may_erase (record { geometry = g; image = i; turns = t; abuse = a }) block
+    → (legal ≡ true → j ≡ with_block g.pages block (replicate g.pages (erased_page g)) i) → (legal ≡ false → j ≡ i)
+    → u ≡ slice_set t block (after_erase (turn_at (record { geometry = g; image = i; turns = t; abuse = a }) block) legal legal) → b ≡ (if legal then a else counted a)
+    → Steps (record { geometry = g; image = i; turns = t; abuse = a }) (Erase block legal (take g.pages (drop (block * g.pages) j))) (record { geometry = g; image = j; turns = u; abuse = b })
+unfolding after
+erase_steps g i j t u a b block true w v lt is set keeps turns abuse =
+    let within : block * g.pages + g.pages ≤ length i = subst (λ n. block * g.pages + g.pages ≤ n) (sym w.image_whole.rows) (block_within g block lt) in
+    let old : Flash = record { geometry = g; image = i; turns = t; abuse = a } in
+    let left : take g.pages (drop (block * g.pages) j) ≡ replicate g.pages (erased_page g) = ap (λ (image : Image). take g.pages (drop (block * g.pages) image)) (set refl)
+    ∙ block_put g.pages block (replicate g.pages (erased_page g)) i (length-replicate g.pages (erased_page g)) (omega (arith, within)) in
+    record {
+      lawful = record {
+        in_range = subst (λ n. block < n) (sym w.turns_whole) lt;
+        in_image = within;
+        due = λ e. sym is;
+        size = block_length g j block lt v.rows;
+        sized = λ k small. block_sized g j block k v lt small;
+        erased = λ e. left;
+        failed = λ e. let no : ⊥ = cc in absurd no;
+        refused = λ e. let no : true ≡ false = is ∙ e in let never : ⊥ = cc in absurd never;
+      };
+      left = flash_is _ _ _ _ _ refl (set refl ∙ ap (λ q. with_block g.pages block q i) (sym left))
+          (turns ∙ ap (λ (x : Bool). slice_set t block (after_erase (turn_at old block) x true)) is)
+          (abuse ∙ ap (λ (x : Bool). if x then a else counted a) is);
+    }
+erase_steps g i j t u a b block false w v lt is set keeps turns abuse =
+    let within : block * g.pages + g.pages ≤ length i = subst (λ n. block * g.pages + g.pages ≤ n) (sym w.image_whole.rows) (block_within g block lt) in
+    let old : Flash = record { geometry = g; image = i; turns = t; abuse = a } in
+    let left : take g.pages (drop (block * g.pages) j) ≡ take g.pages (drop (block * g.pages) i) = ap (λ (image : Image). take g.pages (drop (block * g.pages) image)) (keeps refl) in
+    record {
+      lawful = record {
+        in_range = subst (λ n. block < n) (sym w.turns_whole) lt;
+        in_image = within;
+        due = λ e. let no : ⊥ = cc in absurd no;
+        size = block_length g j block lt v.rows;
+        sized = λ k small. block_sized g j block k v lt small;
+        erased = λ e. let no : ⊥ = cc in absurd no;
+        failed = λ e k small. inl (ap (λ (q : Image). get_or q k no_page) left ∙ (get_or-take g.pages (drop (block * g.pages) i) k no_page small ∙ get_or-drop (block * g.pages) i k no_page));
+        refused = λ e. left;
+      };
+      left = flash_is _ _ _ _ _ refl (keeps refl ∙ (sym (same_block g.pages block i) ∙ ap (λ q. with_block g.pages block q i) (sym left)))
+          (turns ∙ ap (λ (x : Bool). slice_set t block (after_erase (turn_at old block) x false)) is)
+          (abuse ∙ ap (λ (x : Bool). if x then a else counted a) is);
+    }

@@ -1,0 +1,47 @@
+-- A DIE OVER A STORE AS IT IS OPENED, and why none is.
+use Rattle.std.specs.Prelude.{◌≡◌, ℕ, Bool, true, List, replicate, Result, Ok, Err}
+use Rattle.page_layout.specs.declared.geometry.Geometry.{Geometry}
+use Rattle.page_layout.specs.Geometry.{page_bytes}
+use Rattle.page_layout.specs.Flash.{TurnState}
+use Rattle.page_layout.specs.Counter.{HasRisen}
+use Rattle.onfi_cycles.specs.Cycles.{Unreset}
+use Rattle.nand_die.specs.Made.{IsFirstMisnamed}
+use Rattle.file_die.specs.declared.die.SyncWhen.{SyncWhen}
+use Rattle.file_die.specs.declared.open.OpenFault.{OpenFault}
+use Rattle.file_die.specs.declared.open.OpenFault.TheVariants.{OutOfMemory, BadBlock, Store}
+use Rattle.file_die.specs.Store.{Held}
+use Rattle.file_die.specs.Die.{FileState}
+
+-- a die that was not yet reset, and of which nothing was asked
+abbrev pub fresh : {S : Type 0} → S → Geometry → List TurnState → SyncWhen → FileState S
+fresh store g turns sync_when = record {
+  store = store;
+  turns = turns;
+  abuse = 0;
+  phase = Unreset;
+  register = replicate (page_bytes g) 255;
+  status = 0xE0;
+  sync_when = sync_when;
+}
+
+-- a store was looked at alone: what it holds is as it was
+pub record OnlyLooks {S : Type 0} (held : S → Held) (honest : S → Bool) (old new : S) : Type 0 where
+  pub same : honest old ≡ true → held new ≡ held old
+  pub geometry : (held new).geometry ≡ (held old).geometry
+  pub as_honest : honest new ≡ honest old
+
+-- the store's count of failures: it rose where a load failed, and there alone
+abbrev pub CountsAs : OpenFault → ℕ → ℕ → Type 0
+CountsAs OutOfMemory old new = new ≡ old
+CountsAs (BadBlock block) old new = new ≡ old
+CountsAs Store old new = HasRisen old new
+
+abbrev pub Counts : {A : Type 0} → Result A OpenFault → ℕ → ℕ → Type 0
+Counts (Ok x) old new = new ≡ old
+Counts (Err fault) old new = CountsAs fault old new
+
+-- the fault says which block is misnamed
+abbrev pub IsCause : Geometry → List ℕ → OpenFault → Type 0
+IsCause g bad OutOfMemory = Unit {0}
+IsCause g bad (BadBlock block) = IsFirstMisnamed g bad block
+IsCause g bad Store = Unit {0}

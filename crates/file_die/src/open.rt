@@ -1,0 +1,200 @@
+//! How a die over a store is begun.
+ghost use Rattle.std.specs.Prelude.{◌≡◌, ◌⊎◌, ◌<◌, ◌≤◌, true, false, [], ℕ, List, length, map, replicate, slice_set, get_or, IfOk, IfErr, IfSome, IfNone, OnOk, OnErr};
+ghost use Rattle.page_layout.specs.Geometry.{row_count, page_bytes};
+ghost use Rattle.page_layout.specs.Sound.{is_erased_page};
+ghost use Rattle.page_layout.specs.Flash.{no_turn};
+ghost use Rattle.nand_die.specs.Turns.{turn_of};
+ghost use Rattle.nand_die.specs.Made.{AreNames, IsFirstMisnamed, first_turn, first_turns, barred_turn, next_in};
+ghost use Rattle.file_die.specs.Store.{page_in};
+ghost use Rattle.file_die.specs.Open.{OnlyLooks, Counts, IsCause};
+
+use crate::asks::load;
+use crate::store::Store;
+use nand_die::{BlockTurn, page_length};
+use page_layout::geometry::Geometry;
+use page_layout::record::is_erased;
+use std::alloc::Global;
+use thiserror::Error;
+
+/// Why a die was not opened. (This project's.)
+#[derive(Clone, Copy, Debug, PartialEq, Eq, Error)]
+pub enum OpenFault {
+    /// There is no memory for two pages and the turns of the blocks.
+    #[error("OutOfMemory")]
+    OutOfMemory,
+    /// A block that is named bad lies past the die, or was named before.
+    #[error("BadBlock {block}")]
+    BadBlock { block: u32 },
+    /// The store failed to load a page.
+    #[error("Store")]
+    Store,
+}
+
+// What a die holds beside its store.
+pub struct Parts {
+    pub register: Vec<u8>,
+    pub page: Vec<u8>,
+    pub turns: Vec<BlockTurn>,
+}
+
+// A page of bytes FFh.
+fn blank(alloc: Global, geometry: &Geometry) -> Result<Vec<u8>, OpenFault>
+    ensures ok { IfOk result (λ bytes. bytes.items ≡ replicate (page_bytes geometry.now) 255) }
+    ensures err { IfErr result (λ fault. fault ≡ OpenFault.OutOfMemory) }
+{
+    vec![in alloc; 0xFF; page_length(geometry)].map_err(|_| OpenFault::OutOfMemory)
+}
+
+// The turn of a block of which nothing was asked.
+fn turn_from(next: u32) -> BlockTurn
+    ensures { turn_of result ≡ first_turn next false }
+{
+    BlockTurn {
+        next,
+        barred: false,
+        programs: 0,
+        erases: 0,
+    }
+}
+
+// A turn for each block.
+fn new_turns(alloc: Global, geometry: &Geometry) -> Result<Vec<BlockTurn>, OpenFault>
+    ensures ok { IfOk result (λ turns. map turn_of turns.items ≡ first_turns geometry.now (λ block. 0) []) }
+    ensures len { IfOk result (λ turns. length turns.items ≡ geometry.now.blocks) }
+    ensures err { IfErr result (λ fault. fault ≡ OpenFault.OutOfMemory) }
+{
+    match vec![in alloc; turn_from(0); geometry.blocks() as usize] {
+        Ok(turns) => Ok(turns),
+        Err(_) => Err(OpenFault::OutOfMemory),
+    }
+}
+
+// Whether the page of a row is erased.
+fn is_row_erased<S: Store>(
+    store: &mut S,
+    geometry: &Geometry,
+    row: u32,
+    page: &mut [u8],
+) -> Result<bool, OpenFault>
+    requires geometry { (S.held store.old).geometry ≡ geometry.now }
+    requires in_range { row < row_count geometry.now }
+    requires room { length page.old ≡ page_bytes geometry.now }
+    ensures erased { IfOk result (λ erased. S.honest store.old ≡ true → erased ≡ is_erased_page (page_in (S.held store.old).pages row)) }
+    ensures looks { OnlyLooks S.held S.honest store.old store.new }
+    ensures counts { Counts result (S.failed store.old) (S.failed store.new) }
+    ensures err { IfErr result (λ fault. fault ≡ OpenFault.Store) }
+{
+    load(store, row, page).map_err(|_| OpenFault::Store)?;
+    let (body, spare) = page.split_at(geometry.data_bytes());
+    Ok(is_erased(body, spare))
+}
+
+// One past the last page of a block that isn't erased, its pages looked at from the last one down.
+fn next_page<S: Store>(
+    store: &mut S,
+    geometry: &Geometry,
+    block: u32,
+    page: &mut [u8],
+) -> Result<u32, OpenFault>
+    requires geometry { (S.held store.old).geometry ≡ geometry.now }
+    requires images { S.honest store.old ≡ true → length (S.held store.old).pages ≡ row_count geometry.now }
+    requires in_range { block < geometry.now.blocks }
+    requires room { length page.old ≡ page_bytes geometry.now }
+    ensures next { IfOk result (λ next. S.honest store.old ≡ true → next ≡ next_in geometry.now (S.held store.old).pages block) }
+    ensures looks { OnlyLooks S.held S.honest store.old store.new }
+    ensures counts { Counts result (S.failed store.old) (S.failed store.new) }
+    ensures err { IfErr result (λ fault. fault ≡ OpenFault.Store) }
+{
+    let mut next = geometry.pages();
+    while next > 0 {
+        if !is_row_erased(store, geometry, geometry.row(block, next - 1), page)? {
+            return Ok(next);
+        }
+        next -= 1;
+    }
+    Ok(0)
+}
+
+// Names a block bad, where it lies in the die and was not named before.
+fn bar(turns: &mut [BlockTurn], block: u32) -> Result<(), OpenFault>
+    ensures ok { OnOk result ((block < length turns.old) × ((get_or (map turn_of turns.old) block no_turn).barred ≡ false)
+        × (map turn_of turns.new ≡ slice_set (map turn_of turns.old) block (barred_turn (get_or (map turn_of turns.old) block no_turn)))) }
+    ensures err { IfErr result (λ fault. (fault ≡ OpenFault.BadBlock block) × ((length turns.old ≤ block) ⊎ ((get_or (map turn_of turns.old) block no_turn).barred ≡ true))) }
+{
+    if block as usize >= turns.len() {
+        return Err(OpenFault::BadBlock { block });
+    }
+    let turn = &mut turns[block as usize];
+    if turn.barred {
+        return Err(OpenFault::BadBlock { block });
+    }
+    turn.barred = true;
+    Ok(())
+}
+
+// Names blocks bad.
+fn bar_all(turns: &mut [BlockTurn], geometry: &Geometry, bad: &[u32]) -> Result<(), OpenFault>
+    requires blocks { length turns.old ≡ geometry.now.blocks }
+    requires fresh { map turn_of turns.old ≡ first_turns geometry.now (λ block. 0) [] }
+    ensures turns { OnOk result (map turn_of turns.new ≡ first_turns geometry.now (λ block. 0) bad.now) }
+    ensures named { OnOk result (AreNames geometry.now bad.now) }
+    ensures err { IfErr result (λ fault. (block : ℕ) × (fault ≡ OpenFault.BadBlock block) × IsFirstMisnamed geometry.now bad.now block) }
+{
+    for block in bad {
+        bar(turns, *block)?;
+    }
+    Ok(())
+}
+
+// Finds the next page of each block of a store.
+fn find_next_pages<S: Store>(
+    turns: &mut [BlockTurn],
+    store: &mut S,
+    geometry: &Geometry,
+    page: &mut [u8],
+) -> Result<(), OpenFault>
+    requires geometry { (S.held store.old).geometry ≡ geometry.now }
+    requires images { S.honest store.old ≡ true → length (S.held store.old).pages ≡ row_count geometry.now }
+    requires blocks { length turns.old ≡ geometry.now.blocks }
+    requires room { length page.old ≡ page_bytes geometry.now }
+    ensures turns { OnOk result (S.honest store.old ≡ true → (bad : List ℕ) → map turn_of turns.old ≡ first_turns geometry.now (λ block. 0) bad →
+        map turn_of turns.new ≡ first_turns geometry.now (next_in geometry.now (S.held store.old).pages) bad) }
+    ensures looks { OnlyLooks S.held S.honest store.old store.new }
+    ensures counts { Counts result (S.failed store.old) (S.failed store.new) }
+    ensures err { IfErr result (λ fault. fault ≡ OpenFault.Store) }
+{
+    for block in 0..geometry.blocks() {
+        turns[block as usize].next = next_page(store, geometry, block, page)?;
+    }
+    Ok(())
+}
+
+// Takes memory for what a die holds, and looks over its store.
+pub fn parts_of<S: Store>(
+    alloc: Global,
+    store: &mut S,
+    geometry: &Geometry,
+    bad: &[u32],
+) -> Result<Parts, OpenFault>
+    requires geometry { (S.held store.old).geometry ≡ geometry.now }
+    requires images { S.honest store.old ≡ true → length (S.held store.old).pages ≡ row_count geometry.now }
+    ensures register { IfOk result (λ parts. parts.register.items ≡ replicate (page_bytes geometry.now) 255) }
+    ensures page { IfOk result (λ parts. length parts.page.items ≡ page_bytes geometry.now) }
+    ensures blocks { IfOk result (λ parts. length parts.turns.items ≡ geometry.now.blocks) }
+    ensures turns { IfOk result (λ parts. S.honest store.old ≡ true → map turn_of parts.turns.items ≡ first_turns geometry.now (next_in geometry.now (S.held store.old).pages) bad.now) }
+    ensures named { OnOk result (AreNames geometry.now bad.now) }
+    ensures looks { OnlyLooks S.held S.honest store.old store.new }
+    ensures counts { Counts result (S.failed store.old) (S.failed store.new) }
+    ensures err { IfErr result (IsCause geometry.now bad.now) }
+{
+    let register = blank(alloc, geometry)?;
+    let mut page = blank(alloc, geometry)?;
+    let mut turns = new_turns(alloc, geometry)?;
+    bar_all(&mut turns, geometry, bad)?;
+    find_next_pages(&mut turns, store, geometry, &mut page)?;
+    Ok(Parts {
+        register,
+        page,
+        turns,
+    })
+}

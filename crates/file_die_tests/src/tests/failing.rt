@@ -1,0 +1,217 @@
+//! A die over a store that fails each call in turn, and the calls that a die makes.
+use super::noting::{Call, Noting};
+use super::{Answer, Ask, answer_of, hold};
+use file_die::{FileDie, Store, SyncWhen};
+use onfi_cycles::Bus;
+use std::alloc::Global;
+use std::process::Abort;
+
+const PASSED: Answer = Answer::Status(0xE0);
+
+const FAILED: Answer = Answer::Status(0xE1);
+
+const ONES: Answer = Answer::Filled(0x11);
+
+const THREES: Answer = Answer::Filled(0x33);
+
+const BLANK: Answer = Answer::Filled(0xFF);
+
+// What is asked of each die.
+const ASKED: [Ask; 7] = [
+    Ask::Program(0, 0x11),
+    Ask::Program(1, 0x22),
+    Ask::Read(0),
+    Ask::Erase(1),
+    Ask::Program(0, 0x33),
+    Ask::Read(0),
+    Ask::Read(0),
+];
+
+// How many calls a die makes as it is opened over a store that is erased: it loads each page.
+const LOADS: usize = 256;
+
+// The answers of a die whose store fails at this call after it was opened, where each program is synced: a put or a sync of a program that
+// failed leaves the block's next page where it was, and so does an erase.
+const FAILS: [(u8, &str, [Answer; 7]); 12] = [
+    (
+        1,
+        "the first put",
+        [Answer::Fault, FAILED, BLANK, PASSED, PASSED, THREES, THREES],
+    ),
+    (
+        2,
+        "its sync",
+        [Answer::Fault, FAILED, ONES, PASSED, PASSED, THREES, THREES],
+    ),
+    (
+        3,
+        "the second put",
+        [PASSED, Answer::Fault, ONES, PASSED, PASSED, THREES, THREES],
+    ),
+    (
+        4,
+        "its sync",
+        [PASSED, Answer::Fault, ONES, PASSED, PASSED, THREES, THREES],
+    ),
+    (
+        5,
+        "a load",
+        [
+            PASSED,
+            PASSED,
+            Answer::Fault,
+            PASSED,
+            PASSED,
+            THREES,
+            THREES,
+        ],
+    ),
+    (
+        6,
+        "the sync before an erase",
+        [PASSED, PASSED, ONES, Answer::Fault, FAILED, ONES, ONES],
+    ),
+    (
+        7,
+        "a clear",
+        [PASSED, PASSED, ONES, Answer::Fault, FAILED, ONES, ONES],
+    ),
+    (
+        8,
+        "the sync after an erase",
+        [PASSED, PASSED, ONES, Answer::Fault, FAILED, BLANK, BLANK],
+    ),
+    (
+        9,
+        "the third put",
+        [PASSED, PASSED, ONES, PASSED, Answer::Fault, BLANK, BLANK],
+    ),
+    (
+        10,
+        "its sync",
+        [PASSED, PASSED, ONES, PASSED, Answer::Fault, THREES, THREES],
+    ),
+    (
+        11,
+        "another load",
+        [PASSED, PASSED, ONES, PASSED, PASSED, Answer::Fault, THREES],
+    ),
+    (
+        12,
+        "none",
+        [PASSED, PASSED, ONES, PASSED, PASSED, THREES, THREES],
+    ),
+];
+
+// A die over a store that is erased, after its Reset.
+fn die_over(
+    rt: &impl Abort,
+    alloc: Global,
+    fails_at: usize,
+    sync_when: SyncWhen,
+) -> FileDie<Noting> {
+    match FileDie::open(alloc, Noting::new(rt, alloc, fails_at), &[], sync_when) {
+        Ok(mut die) => {
+            assert!(rt; die.command(0xFF) == Ok(()), "a Reset");
+            die
+        }
+        Err(_) => panic!(rt; "no die"),
+    }
+}
+
+// The faults that the store of a die has counted after the script.
+fn faults_after(
+    rt: &impl Abort,
+    alloc: Global,
+    fails_at: u8,
+    name: &str,
+    wants: &[Answer; 7],
+) -> u64 {
+    let mut die = die_over(rt, alloc, LOADS + fails_at as usize, SyncWhen::Always);
+    for (call, want) in ASKED.iter().zip(wants) {
+        hold(rt, &mut die, name, &[(*call, *want)]);
+    }
+    die.failures()
+}
+
+#[test]
+fn each_call_fails(rt: HostRuntime) {
+    for (fails_at, name, wants) in &FAILS {
+        let want = if *fails_at < 12 { 1 } else { 0 };
+        assert!(rt;
+            faults_after(&rt, rt.alloc(), *fails_at, name, wants) == want,
+            "{name}"
+        );
+    }
+}
+
+// The calls of a die that does each thing once, by when it syncs.
+const CALLS: [(SyncWhen, &[Call]); 2] = [
+    (
+        SyncWhen::Erases,
+        &[
+            Call::Put(0),
+            Call::Put(1),
+            Call::Load(0),
+            Call::Sync,
+            Call::Clear(0),
+            Call::Sync,
+            Call::Put(0),
+            Call::Load(0),
+        ],
+    ),
+    (
+        SyncWhen::Always,
+        &[
+            Call::Put(0),
+            Call::Sync,
+            Call::Put(1),
+            Call::Sync,
+            Call::Load(0),
+            Call::Sync,
+            Call::Clear(0),
+            Call::Sync,
+            Call::Put(0),
+            Call::Sync,
+            Call::Load(0),
+        ],
+    ),
+];
+
+// Whether a die makes these calls after it was opened.
+fn makes_calls(rt: &impl Abort, alloc: Global, sync_when: SyncWhen, calls: &[Call]) -> bool {
+    let mut die = die_over(rt, alloc, 0, sync_when);
+    for call in &ASKED {
+        answer_of(&mut die, *call);
+    }
+    let store = die.into_store();
+    store.calls().get(LOADS..) == Some(calls)
+}
+
+#[test]
+fn calls_of_a_store(rt: HostRuntime) {
+    for (sync_when, calls) in &CALLS {
+        assert!(rt;
+            makes_calls(&rt, rt.alloc(), *sync_when, calls),
+            "{sync_when:?}"
+        );
+    }
+}
+
+// What is asked of a die that changes nothing.
+const REFUSED: [(Ask, Answer); 4] = [
+    (Ask::Program(1, 0x11), FAILED),
+    (Ask::Program(8, 0x11), PASSED),
+    (Ask::Program(8, 0x22), FAILED),
+    (Ask::Read(8), ONES),
+];
+
+#[test]
+fn a_page_is_put_once(rt: HostRuntime) {
+    let mut die = die_over(&rt, rt.alloc(), 0, SyncWhen::Erases);
+    hold(&rt, &mut die, "a page is put once", &REFUSED);
+    let store = die.into_store();
+    let want: &[Call] = &[Call::Put(8), Call::Load(8)];
+    assert!(rt; store.calls().get(LOADS..) == Some(want), "the calls");
+    assert!(rt; store.failures() == 0, "no failures");
+}
