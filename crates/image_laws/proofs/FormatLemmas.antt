@@ -34,8 +34,8 @@ pub enough : EnoughLaw
 enough g old new before after good asked = (
   λ h. (elim h [ inl f ↦ f.enough | inr a ↦ a.0 ]),
   λ h. (elim h [
-    | inl f ↦ let few = f.few in let is = f.asked_is in omega arith
-    | inr a ↦ let few = a.0 in let is = a.1 in omega arith
+    | inl f ↦ let few = f.few in let is = f.asked_is in (omega arith, is)
+    | inr a ↦ let few = a.0 in let is = a.1 in (omega arith, is)
   ]),
   λ a. a.1,
 )

@@ -29,11 +29,12 @@ LostLaw = (g : Geometry) (old new : Flash) (before after good asked : ℕ)
     × ((f : IsWriteFailed g old new) → (failures f.log ≡ 3) × (good_after g old.image f.log + 3 ≡ good_after g old.image []))
     × (Answers g before after (Err WriteFailed) → before + 3 < 2 ^ 64 → before + 3 ≤ after)
 
--- ENOUGH BLOCKS ARE GOOD after a format that ended well, whatever the die was, and too few where it says so
+-- ENOUGH BLOCKS ARE GOOD after a format that ended well, whatever the die was, and too few where it says so, which asks for just as many as the
+-- geometry does
 abbrev pub EnoughLaw : Type 0
 EnoughLaw = (g : Geometry) (old new : Flash) (before after good asked : ℕ)
     → (Formats g old new (Ok good) ⊎ Answers g before after (Ok good) → need g ≤ good)
-    × (Formats g old new (Err (TooFewGood good asked)) ⊎ Answers g before after (Err (TooFewGood good asked)) → good < asked)
+    × (Formats g old new (Err (TooFewGood good asked)) ⊎ Answers g before after (Err (TooFewGood good asked)) → (good < asked) × (asked ≡ need g))
     × (Answers g before after (Ok good) → good ≤ g.blocks)
 
 -- A FORMAT ERASES NOTHING and leaves the marked blocks alone

@@ -5,7 +5,7 @@
 ghost use Rattle.image_laws.specs.Refusals.{OnePartLaw, OnePairLaw, OneWordLaw, CertifiedLaw};
 ghost use Rattle.image_laws.specs.Refusals.{OneRefusalLaw, OneAnswerLaw, OneReasonLaw, TooStaleLaw, LengthLaw, ReadLaw, StopLaw, NamedLaw, MountingLaw};
 ghost use Rattle.image_laws.specs.Certificates.{OneNextLaw, OneCertificateLaw, OneMountLaw, WholeFirstLaw};
-ghost use Rattle.image_laws.specs.Sectors.{OneTieLaw, ShownLaw, HeldLaw, ShownReadLaw};
+ghost use Rattle.image_laws.specs.Sectors.{OneTieLaw, TopTieLaw, ShownLaw, HeldLaw, ShownReadLaw};
 ghost use Rattle.image_laws.specs.Tables.{WrongWordLaw, SameLengthLaw, EraseCountLaw, WordLaw, RightLaw, TableWordLaw, EntryLaw};
 ghost use Rattle.image_laws.specs.Formats.{UntouchedLaw, LostLaw, EnoughLaw, AloneLaw, NoFailureLaw, TablePageLaw, LowSequenceLaw};
 ghost use Rattle.image_laws.specs.Kept.{OtherRowsLaw, OtherPagesLaw, LowestTableLaw};
@@ -45,10 +45,11 @@ pub fn certificate_laws()
     ensures memory { WholeFirstLaw }
 {}
 
-/// The rows that are named where pages of a sector share its greatest sequence are two alone, and nothing else is shown of a sector than a
-/// page of its own, whole. (This project.)
+/// The rows that are named where pages of a sector share its greatest sequence are two alone, and it is the greatest of its key; and nothing
+/// else is shown of a sector than a page of its own, whole. (This project.)
 pub fn sector_laws()
     ensures tie { OneTieLaw }
+    ensures top { TopTieLaw }
     ensures shown { ShownLaw }
     ensures held { HeldLaw }
     ensures read { ShownReadLaw }

@@ -1,0 +1,35 @@
+-- Which image was checked, and which is stored.
+use Rattle.std.specs.Prelude.{◌≡◌, ℕ, ◌*◌, List, Option, Result, length}
+use Rattle.page_layout.specs.declared.geometry.Geometry.{Geometry}
+use Rattle.page_layout.specs.Geometry.{row_count, page_bytes}
+use Rattle.page_layout.specs.Raw.{raw_image, raw_bytes}
+use Rattle.page_layout.specs.Flash.{Flash}
+use Rattle.certificate.specs.Claim.{Claim}
+use Rattle.certificate.specs.Spelling.{certificate_bytes}
+use Rattle.image_check.specs.Agrees.{Agrees}
+use Rattle.mount.specs.Log.{failures}
+use Rattle.request_stream.specs.declared.reply.ServeFault.{ServeFault}
+use Rattle.block_server.specs.declared.server.Served.{Served}
+use Rattle.commands.specs.Check.{IsSpelled, IsHeld}
+use Rattle.commands.specs.Format.{IsFormattedImage}
+use Rattle.commands.specs.Serve.{ServesDie, flash_behind}
+
+-- A CERTIFICATE THAT WAS HELD agrees with the image, which is as long as the die's pages
+abbrev pub HeldLaw : Type 0
+HeldLaw = (g : Geometry) (capacity : ℕ) (bytes : List ℕ) (c : Claim) → IsHeld g capacity bytes c
+    → (length bytes ≡ row_count g * page_bytes g) × Agrees g capacity (raw_image g bytes) c
+
+-- ITS CLAIM spells the bytes that were read
+abbrev pub SpelledLaw : Type 0
+SpelledLaw = (c : Claim) (written : List ℕ) → IsSpelled c written → certificate_bytes c ≡ written
+
+-- A FORMAT STORES the bytes of the die that it formatted, and no program of it failed
+abbrev pub FormattedLaw : Type 0
+FormattedLaw = (g : Geometry) (before after : List ℕ) (good : ℕ) (f : IsFormattedImage g before after good)
+    → (failures f.formatted.log ≡ 0) × (after ≡ raw_bytes f.flash.image) × (raw_image g after ≡ f.flash.image)
+
+-- A SERVER STORES the bytes of its die's pages
+abbrev pub ServedLaw : Type 0
+ServedLaw = (g : Geometry) (capacity : ℕ) (c : Claim) (s : Flash) (after : List ℕ) (unread left out out' : Option (List ℕ)) (result : Result Served ServeFault)
+    (served : ServesDie g capacity c s after unread left out out' result)
+    → (after ≡ raw_bytes (flash_behind served.last.engine.nand).image) × (raw_image g after ≡ (flash_behind served.last.engine.nand).image)

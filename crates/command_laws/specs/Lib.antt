@@ -1,0 +1,3 @@
+pub mod Loads
+pub mod Images
+pub mod Lines

@@ -1,0 +1,28 @@
+-- What is told of a command.
+use Rattle.std.specs.Prelude.{◌≡◌, ◌≢◌, ℕ, false, List, [], ◌∷◌, ◌++◌, Option, Some, None, Ok}
+use Rattle.std.specs.Io.KnownBytes.{Appends}
+use Rattle.request_stream.specs.Frames.{AppendsFront}
+use Rattle.commands.specs.declared.text.CommandFault.{CommandFault}
+use Rattle.commands.specs.declared.text.ServeStop.{ServeStop}
+use Rattle.commands.specs.Files.{Stored, written, unwritten, with_store}
+use Rattle.commands.specs.Text.{IsTold, told_line, status_of}
+use Rattle.commands.specs.Serve.{Ends}
+
+-- THE LINE OF A FAULT was written, and the status is the fault's; or a beginning of it was, and the status is 3
+abbrev pub ToldLaw : Type 0
+ToldLaw = (fault : CommandFault) (before after : Option (List ℕ)) (status : ℕ) → IsTold fault before after status
+    → (status ≢ 3 → (status ≡ status_of fault) × Appends before after (told_line fault))
+    × (status ≢ status_of fault → AppendsFront before after (told_line fault))
+
+-- A STORE THAT FAILED is told as not done
+abbrev pub FailedStoreLaw : Type 0
+FailedStoreLaw = (path bytes : List ℕ) → (unwritten path bytes).done ≡ false
+
+-- STORES STAND IN THEIR ORDER, the latest last
+abbrev pub StoresInOrderLaw : Type 0
+StoresInOrderLaw = (earlier : List Stored) (last : Stored) → with_store (Some earlier) last ≡ Some (earlier ++ (last ∷ []))
+
+-- A SERVER THAT IS TOLD AS DONE was not stopped
+abbrev pub UnstoredLaw : Type 0
+UnstoredLaw = (path image : List ℕ) (how : Option ServeStop) (before after : Option (List Stored)) → Ends path image how before after (Ok tt)
+    → (how ≡ None) × (after ≡ with_store before (written path image))

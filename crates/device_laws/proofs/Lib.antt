@@ -1,0 +1,2 @@
+mod CollectionLemmas
+mod DeviceLemmas

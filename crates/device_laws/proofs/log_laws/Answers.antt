@@ -1,0 +1,11 @@
+use Rattle.device_laws.proofs.CollectionLemmas.{nothing, led, takes}
+use Rattle.device_laws.proofs.log_laws.Goals as goal
+
+pub returns-clause-nothing : goal.returns-clause-nothing
+returns-clause-nothing c = nothing
+
+pub returns-clause-led : goal.returns-clause-led
+returns-clause-led c = led
+
+pub returns-clause-takes : goal.returns-clause-takes
+returns-clause-takes c = takes

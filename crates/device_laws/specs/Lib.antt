@@ -1,0 +1,5 @@
+pub mod Collections
+pub mod Logs
+pub mod Turns
+pub mod Reads
+pub mod Flushes

@@ -1,0 +1,55 @@
+//! Laws on what the engine and the device promise of a call: which block is collected and when, what a turn does first, what a read leaves, and
+//! what one log says. They stand in no crate that others rest on, so that a new one has nothing proved again.
+#![tactic(auto)]
+
+ghost use Rattle.device_laws.specs.Collections.{VictimLaw, PinnedFirstLaw, NoneWaitsLaw, LowestPageLaw, RoomLaw, AilingLaw};
+ghost use Rattle.device_laws.specs.Logs.{NothingLaw, LedLaw, TakesLaw};
+ghost use Rattle.device_laws.specs.Turns.{GoesOnLaw, BeginsLaw, RescueFirstLaw};
+ghost use Rattle.device_laws.specs.Reads.{KeepsRowsLaw, RefusedReadLaw};
+ghost use Rattle.device_laws.specs.Flushes.{NoneStaleLaw, NoTableOldLaw, OneFailureLaw, ShownShortLaw, CallFailuresLaw};
+
+/// Which block is collected for a call: the pinned one, and else a closed one of the fewest newest pages, with fewer than nine blocks free. As
+/// it is erased no sector is on the moved list; translation pages are written lowest first, and only those that have to be; room is five free
+/// blocks, and nine where a block is worth collecting. (This project.)
+pub fn collection_laws()
+    ensures victim { VictimLaw }
+    ensures pinned { PinnedFirstLaw }
+    ensures waits { NoneWaitsLaw }
+    ensures lowest { LowestPageLaw }
+    ensures room { RoomLaw }
+    ensures ailing { AilingLaw }
+{}
+
+/// What went on in a call is one log: it leads from the flash before it to the flash after it, each program takes the next sequence, and where
+/// it is empty nothing has changed. (This project.)
+pub fn log_laws()
+    ensures nothing { NothingLaw }
+    ensures led { LedLaw }
+    ensures takes { TakesLaw }
+{}
+
+/// What a turn does: it goes on with the pinned block; it begins a collection only with fewer than twelve blocks free, from page 0 of the next
+/// victim; and while a bad block holds a newest page it collects none. (This project.)
+pub fn turn_laws()
+    ensures on { GoesOnLaw }
+    ensures begins { BeginsLaw }
+    ensures rescue { RescueFirstLaw }
+{}
+
+/// What a read leaves: no row is lost that a translation page lacks, and one that is refused leaves memory as it was, unless the die failed.
+/// (This project.)
+pub fn read_laws()
+    ensures rows { KeepsRowsLaw }
+    ensures refused { RefusedReadLaw }
+{}
+
+/// What a flush and a shortage are: after a flush that is done no sector is stale, and no table page of version 1 where the die has version 2; one
+/// block that failed in it leaves no device read-only; and `ReadOnly` comes in a shortage alone, with the failures of its own call. (This
+/// project.)
+pub fn flush_laws()
+    ensures stale { NoneStaleLaw }
+    ensures tables { NoTableOldLaw }
+    ensures one { OneFailureLaw }
+    ensures short { ShownShortLaw }
+    ensures failures { CallFailuresLaw }
+{}
