@@ -13,9 +13,9 @@ use Rattle.page_layout.specs.declared.geometry.Geometry.{Geometry}
 use Rattle.page_layout.specs.Geometry.{row_count, page_bytes}
 use Rattle.page_layout.specs.Page.{Page, Image}
 use Rattle.lab_scan.proofs.ScanLemmas.{if_more}
+use Rattle.lab_scan.specs.declared.rows.Rows.{Rows}
 use Rattle.lab_repair.specs.declared.repairing.Mend.{Mend}
-use Rattle.lab_repair.specs.Mend.{mend_of}
-use Rattle.lab_repair.specs.Repairing.{mend_in, noted, mends_below, piece_of, AreMendedBelow, Shows, named_bit, IsOwn, AreOwn, AreListed, Stands}
+use Rattle.lab_repair.specs.Repairing.{mend_at, mend_in, noted, mends_below, piece_at, AreMendedBelow, Shows, named_bit, IsOwn, AreOwn, AreListed, Stands}
 
 -- ---- the list of an image
 
@@ -36,17 +36,17 @@ noted_is : (ms : List Mend) (row : ℕ) (o : Option ℕ) → ms ++ cons_option (
 noted_is ms row None = append-nil ms
 noted_is ms row (Some k) = refl
 
-pub mends_more : (image : Image) (row : ℕ) (p : Page) → slice_get image row ≡ Some p → mends_below image (row + 1) ≡ noted (mends_below image row) row (mend_of p)
+pub mends_more : (asked : Option Rows) (image : Image) (row : ℕ) (p : Page) → slice_get image row ≡ Some p → mends_below asked image (row + 1) ≡ noted (mends_below asked image row) row (mend_at asked row p)
 unfolding mends_below
-mends_more image row p at =
-    let h : ℕ → Option Mend = λ r. mend_in r (slice_get image r) in
+mends_more asked image row p at =
+    let h : ℕ → Option Mend = λ r. mend_in asked r (slice_get image r) in
     ap (filter_map h) (range_more row)
     ∙ (filter_push h (range_with_len 0 row) row
-    ∙ (ap (λ q. filter_map h (range_with_len 0 row) ++ cons_option (mend_in row q) []) at ∙ noted_is (filter_map h (range_with_len 0 row)) row (mend_of p)))
+    ∙ (ap (λ q. filter_map h (range_with_len 0 row) ++ cons_option (mend_in asked row q) []) at ∙ noted_is (filter_map h (range_with_len 0 row)) row (mend_at asked row p)))
 
-pub mends_none : (image : Image) → mends_below image 0 ≡ []
+pub mends_none : (asked : Option Rows) (image : Image) → mends_below asked image 0 ≡ []
 unfolding mends_below
-mends_none image = refl
+mends_none asked image = refl
 
 -- ---- the bit that a list names of a row
 
@@ -98,67 +98,68 @@ listed_noted ms row (Some k) h =
       rising = all_pairs_push (λ (a b : Mend). a.row < b.row) ms m h.rising h.within;
     }
 
-pub own_noted : (g : Geometry) (row : ℕ) (ms : List Mend) (o : Option ℕ) (piece : List ℕ) (ps : List (List ℕ)) → row < row_count g → AreListed row ms → IsOwn g o piece → AreOwn g row ms ps → AreOwn g (row + 1) (noted ms row o) (set ps row piece)
-own_noted g row ms o piece ps within listed own h = record {
+pub own_noted : (g : Geometry) (asked : Option Rows) (row : ℕ) (ms : List Mend) (o : Option ℕ) (piece : List ℕ) (ps : List (List ℕ)) → row < row_count g → AreListed row ms → IsOwn g asked row o piece → AreOwn g asked row ms ps → AreOwn g asked (row + 1) (noted ms row o) (set ps row piece)
+own_noted g asked row ms o piece ps within listed own h = record {
   size = length-set ps row piece ∙ h.size;
   each = λ j l. elim (cases_eq row j) [
     | inl same ↦
-        subst (λ x. IsOwn g (named_bit (noted ms row o) x) (get_or (set ps row piece) x [])) same
-        (subst (λ x. IsOwn g x (get_or (set ps row piece) row [])) (sym (named_same ms row o listed.within))
-        (subst (λ x. IsOwn g o x) (sym (get_or-set_same ps row piece [] (let size = h.size in omega arith))) own))
+        subst (λ x. IsOwn g asked x (named_bit (noted ms row o) x) (get_or (set ps row piece) x [])) same
+        (subst (λ x. IsOwn g asked row x (get_or (set ps row piece) row [])) (sym (named_same ms row o listed.within))
+        (subst (λ x. IsOwn g asked row o x) (sym (get_or-set_same ps row piece [] (let size = h.size in omega arith))) own))
     | inr ne ↦
-        subst (λ x. IsOwn g x (get_or (set ps row piece) j [])) (sym (named_other ms row j o ne))
-        (subst (λ x. IsOwn g (named_bit ms j) x) (sym (get_or-set_other ps row j piece [] (λ e. ne (sym e)))) (h.each j (omega arith)))
+        subst (λ x. IsOwn g asked j x (get_or (set ps row piece) j [])) (sym (named_other ms row j o ne))
+        (subst (λ x. IsOwn g asked j (named_bit ms j) x) (sym (get_or-set_other ps row j piece [] (λ e. ne (sym e)))) (h.each j (omega arith)))
   ];
 }
 
-pub mended_more : (image : Image) (row : ℕ) (p : Page) (ps : List (List ℕ)) → slice_get image row ≡ Some p → row < length ps → AreMendedBelow image row ps → AreMendedBelow image (row + 1) (set ps row (piece_of p))
-mended_more image row p ps at inside h j q l is = elim (cases_eq row j) [
+pub mended_more : (asked : Option Rows) (image : Image) (row : ℕ) (p : Page) (ps : List (List ℕ)) → slice_get image row ≡ Some p → row < length ps → AreMendedBelow asked image row ps
+    → AreMendedBelow asked image (row + 1) (set ps row (piece_at asked row p))
+mended_more asked image row p ps at inside h j q l is = elim (cases_eq row j) [
   | inl same ↦
       let page : p ≡ q = same_Some p q (sym at ∙ (ap (slice_get image) same ∙ is)) in
-      ap (λ x. get_or (set ps row (piece_of p)) x []) (sym same) ∙ (get_or-set_same ps row (piece_of p) [] inside ∙ ap piece_of page)
-  | inr ne ↦ get_or-set_other ps row j (piece_of p) [] (λ e. ne (sym e)) ∙ h j q (omega arith) is
+      ap (λ x. get_or (set ps row (piece_at asked row p)) x []) (sym same) ∙ (get_or-set_same ps row (piece_at asked row p) [] inside ∙ (ap (piece_at asked row) page ∙ ap (λ x. piece_at asked x q) same))
+  | inr ne ↦ get_or-set_other ps row j (piece_at asked row p) [] (λ e. ne (sym e)) ∙ h j q (omega arith) is
 ]
 
 if_set : (pieces : Option (List (List ℕ))) (P Q : List (List ℕ) → Type 0) (row : ℕ) (piece : List ℕ) → IfSome pieces P → ((ps : List (List ℕ)) → P ps → Q (set ps row piece)) → IfSome (option_map (λ ps. set ps row piece) pieces) Q
 if_set None P Q row piece h more = tt
 if_set (Some ps) P Q row piece h more = more ps h
 
-pub stands_more : (g : Geometry) (row : ℕ) (ms : List Mend) (o : Option ℕ) (scratch : List ℕ) (pieces : Option (List (List ℕ))) → row < row_count g → Stands g row ms scratch pieces → IsOwn g o scratch
-    → Stands g (row + 1) (noted ms row o) scratch (option_map (λ ps. set ps row scratch) pieces)
-stands_more g row ms o scratch pieces within h own = record {
+pub stands_more : (g : Geometry) (asked : Option Rows) (row : ℕ) (ms : List Mend) (o : Option ℕ) (scratch : List ℕ) (pieces : Option (List (List ℕ))) → row < row_count g → Stands g asked row ms scratch pieces → IsOwn g asked row o scratch
+    → Stands g asked (row + 1) (noted ms row o) scratch (option_map (λ ps. set ps row scratch) pieces)
+stands_more g asked row ms o scratch pieces within h own = record {
   scratch_size = h.scratch_size;
   listed = listed_noted ms row o h.listed;
-  own = if_set pieces (AreOwn g row ms) (AreOwn g (row + 1) (noted ms row o)) row scratch h.own (λ ps each. own_noted g row ms o scratch ps within h.listed own each);
+  own = if_set pieces (AreOwn g asked row ms) (AreOwn g asked (row + 1) (noted ms row o)) row scratch h.own (λ ps each. own_noted g asked row ms o scratch ps within h.listed own each);
 }
 
 both_set : (pieces : Option (List (List ℕ))) (P Q R : List (List ℕ) → Type 0) (row : ℕ) (piece : List ℕ) → IfSome pieces P → IfSome pieces Q → ((ps : List (List ℕ)) → P ps → Q ps → R (set ps row piece)) → IfSome (option_map (λ ps. set ps row piece) pieces) R
 both_set None P Q R row piece p q more = tt
 both_set (Some ps) P Q R row piece p q more = more ps p q
 
-pub shows_more : (g : Geometry) (row : ℕ) (image : Image) (p : Page) (ms : List Mend) (scratch : List ℕ) (pieces : Option (List (List ℕ))) → row < row_count g → Stands g row ms scratch pieces → Shows row image ms pieces
-    → slice_get image row ≡ Some p → scratch ≡ piece_of p → Shows (row + 1) image (noted ms row (mend_of p)) (option_map (λ ps. set ps row scratch) pieces)
-shows_more g row image p ms scratch pieces within stands h at is = record {
-  mends_are = ap (λ xs. noted xs row (mend_of p)) h.mends_are ∙ sym (mends_more image row p at);
-  pieces_are = both_set pieces (AreOwn g row ms) (AreMendedBelow image row) (AreMendedBelow image (row + 1)) row scratch stands.own h.pieces_are
-      (λ ps own each. subst (λ x. AreMendedBelow image (row + 1) (set ps row x)) (sym is) (mended_more image row p ps at (let size = own.size in omega arith) each));
+pub shows_more : (g : Geometry) (asked : Option Rows) (row : ℕ) (image : Image) (p : Page) (ms : List Mend) (scratch : List ℕ) (pieces : Option (List (List ℕ))) → row < row_count g → Stands g asked row ms scratch pieces → Shows asked row image ms pieces
+    → slice_get image row ≡ Some p → scratch ≡ piece_at asked row p → Shows asked (row + 1) image (noted ms row (mend_at asked row p)) (option_map (λ ps. set ps row scratch) pieces)
+shows_more g asked row image p ms scratch pieces within stands h at is = record {
+  mends_are = ap (λ xs. noted xs row (mend_at asked row p)) h.mends_are ∙ sym (mends_more asked image row p at);
+  pieces_are = both_set pieces (AreOwn g asked row ms) (AreMendedBelow asked image row) (AreMendedBelow asked image (row + 1)) row scratch stands.own h.pieces_are
+      (λ ps own each. subst (λ x. AreMendedBelow asked image (row + 1) (set ps row x)) (sym is) (mended_more asked image row p ps at (let size = own.size in omega arith) each));
 }
 
 -- ---- before the first page
 
-pub stands_first : (g : Geometry) (scratch : List ℕ) (pieces : Option (List (List ℕ))) → length scratch ≡ page_bytes g → IfSome pieces (λ ps. length ps ≡ row_count g) → Stands g 0 [] scratch pieces
-stands_first g scratch pieces size whole = record {
+pub stands_first : (g : Geometry) (asked : Option Rows) (scratch : List ℕ) (pieces : Option (List (List ℕ))) → length scratch ≡ page_bytes g → IfSome pieces (λ ps. length ps ≡ row_count g) → Stands g asked 0 [] scratch pieces
+stands_first g asked scratch pieces size whole = record {
   scratch_size = size;
   listed = record { within = All-nil (λ (m : Mend). m.row < 0); rising = λ i j d l k. absurd (omega arith) };
-  own = if_more pieces (λ ps. length ps ≡ row_count g) (AreOwn g 0 []) whole (λ ps all. record { size = all; each = λ row l. absurd (omega arith) });
+  own = if_more pieces (λ ps. length ps ≡ row_count g) (AreOwn g asked 0 []) whole (λ ps all. record { size = all; each = λ row l. absurd (omega arith) });
 }
 
-pub shows_first : (image : Image) (pieces : Option (List (List ℕ))) → Shows 0 image [] pieces
-shows_first image pieces = record {
-  mends_are = sym (mends_none image);
+pub shows_first : (asked : Option Rows) (image : Image) (pieces : Option (List (List ℕ))) → Shows asked 0 image [] pieces
+shows_first asked image pieces = record {
+  mends_are = sym (mends_none asked image);
   pieces_are = all pieces;
 }
   where
-    all : (o : Option (List (List ℕ))) → IfSome o (AreMendedBelow image 0)
+    all : (o : Option (List (List ℕ))) → IfSome o (AreMendedBelow asked image 0)
     all None = tt
     all (Some ps) = λ row p l is. absurd (omega arith)

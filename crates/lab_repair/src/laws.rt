@@ -2,6 +2,7 @@
 ghost use Rattle.lab_repair.specs.Bits.{TurnedLaw};
 ghost use Rattle.lab_repair.specs.Mend.{AgainLaw, KeptLaw, MendLaw, MendedLaw};
 ghost use Rattle.lab_repair.specs.Repairing.{OwnLaw};
+ghost use Rattle.lab_repair.specs.Repaired.{RowsLaw};
 
 /// A page with a bit turned differs in that bit and in no other.
 pub fn turned_law()
@@ -28,7 +29,12 @@ pub fn again_law()
     ensures { AgainLaw }
 {}
 
-/// Whatever the reader gave, the page of a row that the list names is sound.
+/// Whatever the reader gave, a row that the list names was asked for, and its page is sound.
 pub fn own_law()
     ensures { OwnLaw }
+{}
+
+/// Each row that is asked for gets the mended page, each other one its own page byte for byte, and only rows that are asked for are listed.
+pub fn rows_law()
+    ensures { RowsLaw }
 {}

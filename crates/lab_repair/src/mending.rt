@@ -5,9 +5,9 @@ ghost use Rattle.page_layout.specs.Page.{page};
 ghost use Rattle.lab_scan.specs.PageBytes.{bits_of, page_of};
 ghost use Rattle.lab_repair.specs.Bits.{turned_bytes};
 ghost use Rattle.lab_repair.specs.Mend.{lowest_bit, mend_of, mended, turned_if};
-ghost use Rattle.lab_repair.specs.Repairing.{IsOwn, piece_of};
+ghost use Rattle.lab_repair.specs.Repairing.{IsOwn, mend_at, piece_at};
 
-use lab_scan::{is_broken, is_sound, join_page};
+use lab_scan::{Rows, is_asked, is_broken, is_sound, join_page};
 use page_layout::geometry::Geometry;
 
 // Turns a bit: bit k mod 8, counted from the lowest, of byte k / 8.
@@ -49,9 +49,12 @@ fn mend_page(geometry: &Geometry, bytes: &mut [u8]) -> Option<u32>
     }
 }
 
-/// Writes the mended page of the one with these areas, and answers the bit that was turned, if one was.
-pub(crate) fn write_mended(
+/// Writes the mended page of the one with these areas where its row is asked for, and else the page as it is. Answers the bit that was turned, if
+/// one was.
+pub(crate) fn write_page(
     geometry: &Geometry,
+    rows: Option<Rows>,
+    row: u32,
     body: &[u8],
     spare: &[u8],
     bytes: &mut [u8],
@@ -59,10 +62,14 @@ pub(crate) fn write_mended(
     requires body_whole { length body.now ≡ geometry.now.data_bytes }
     requires spare_whole { length spare.now ≡ geometry.now.spare_bytes }
     requires room { length bytes.old ≡ page_bytes geometry.now }
-    ensures bit { result ≡ mend_of (page body.now spare.now) }
-    ensures piece { bytes.new ≡ piece_of (page body.now spare.now) }
-    ensures own { IsOwn geometry.now result bytes.new }
+    ensures bit { result ≡ mend_at rows row (page body.now spare.now) }
+    ensures piece { bytes.new ≡ piece_at rows row (page body.now spare.now) }
+    ensures own { IsOwn geometry.now rows row result bytes.new }
 {
     join_page(bytes, body, spare);
-    mend_page(geometry, bytes)
+    if is_asked(rows, row) {
+        mend_page(geometry, bytes)
+    } else {
+        None
+    }
 }

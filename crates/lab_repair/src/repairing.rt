@@ -2,11 +2,10 @@
 ghost use Rattle.std.specs.Prelude.{◌≡◌, ◌<◌, ◌+◌, OnOk, slice_get, Some};
 ghost use Rattle.page_layout.specs.Geometry.{row_count};
 ghost use Rattle.page_layout.specs.Page.{Page, Image};
-ghost use Rattle.lab_repair.specs.Mend.{mend_of};
-ghost use Rattle.lab_repair.specs.Repairing.{IsOwn, noted, piece_of, Shows, Stands};
+ghost use Rattle.lab_repair.specs.Repairing.{IsOwn, mend_at, noted, piece_at, Shows, Stands};
 
-use crate::mending::write_mended;
-use lab_scan::{PageTarget, Stopped, Taker};
+use crate::mending::write_page;
+use lab_scan::{PageTarget, Rows, Stopped, Taker};
 use page_layout::geometry::Geometry;
 use std::alloc::AllocError;
 
@@ -22,6 +21,8 @@ pub struct Mend {
 /// The pages of a dump as they are mended and written, a piece for each.
 #[derive(Drop)]
 pub struct Repairing<T> {
+    // the rows whose pages are mended
+    pub(crate) rows: Option<Rows>,
     pub(crate) mends: Vec<Mend>,
     // the page at hand
     pub(crate) scratch: Vec<u8>,
@@ -47,11 +48,12 @@ impl<T: PageTarget> Repairing<T> {
     // Lists the row if this bit was turned of its page, and writes the page.
     fn write(&mut self, geometry: &Geometry, row: u32, bit: Option<u32>) -> Result<(), Stopped>
         requires row_in { row < row_count geometry.now }
-        requires stands { Stands geometry.now row self.old.mends.items self.old.scratch.items (T.pieces self.old.target) }
-        requires own { IsOwn geometry.now bit self.old.scratch.items }
-        ensures stands { OnOk result (Stands geometry.now (row + 1) self.new.mends.items self.new.scratch.items (T.pieces self.new.target)) }
-        ensures shows { OnOk result ((image : Image) (p : Page) → Shows row image self.old.mends.items (T.pieces self.old.target) → slice_get image row ≡ Some p → bit ≡ mend_of p
-            → self.old.scratch.items ≡ piece_of p → Shows (row + 1) image self.new.mends.items (T.pieces self.new.target)) }
+        requires stands { Stands geometry.now self.old.rows row self.old.mends.items self.old.scratch.items (T.pieces self.old.target) }
+        requires own { IsOwn geometry.now self.old.rows row bit self.old.scratch.items }
+        ensures asked { self.new.rows ≡ self.old.rows }
+        ensures stands { OnOk result (Stands geometry.now self.old.rows (row + 1) self.new.mends.items self.new.scratch.items (T.pieces self.new.target)) }
+        ensures shows { OnOk result ((image : Image) (p : Page) → Shows self.old.rows row image self.old.mends.items (T.pieces self.old.target) → slice_get image row ≡ Some p
+            → bit ≡ mend_at self.old.rows row p → self.old.scratch.items ≡ piece_at self.old.rows row p → Shows self.old.rows (row + 1) image self.new.mends.items (T.pieces self.new.target)) }
     {
         match list_mend(&mut self.mends, row, bit) {
             Ok(()) => (),
@@ -73,9 +75,11 @@ impl<T: PageTarget> Taker for Repairing<T> {
     ghost use Rattle.page_layout.specs.Page.{Image, page};
     ghost use Rattle.lab_repair.specs.Repairing.{Stands, Shows};
 
-    ghost stands = { λ s g rows. Stands g rows s.mends.items s.scratch.items (T.pieces s.target) };
+    ghost asked = { λ s. s.rows };
 
-    ghost shows = { λ s g rows image. Shows rows image s.mends.items (T.pieces s.target) };
+    ghost stands = { λ s g rows. Stands g s.rows rows s.mends.items s.scratch.items (T.pieces s.target) };
+
+    ghost shows = { λ s g rows image. Shows s.rows rows image s.mends.items (T.pieces s.target) };
 
     fn take(
         &mut self,
@@ -84,7 +88,7 @@ impl<T: PageTarget> Taker for Repairing<T> {
         body: &[u8],
         spare: &[u8],
     ) -> Result<(), Stopped> {
-        let bit = write_mended(geometry, body, spare, &mut self.scratch);
+        let bit = write_page(geometry, self.rows, row, body, spare, &mut self.scratch);
         self.write(geometry, row, bit)
     }
 }

@@ -1,2 +1,3 @@
 pub mod PageLemmas
 pub mod ScanLemmas
+pub mod RowLemmas

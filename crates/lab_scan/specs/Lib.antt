@@ -4,3 +4,5 @@ pub mod Look
 pub mod PageBytes
 -- a dump that a reader gives, page by page
 pub mod Scan
+-- the rows that are asked for
+pub mod Rows

@@ -5,9 +5,11 @@
 mod look;
 mod page_bytes;
 mod pages;
+mod rows;
 mod target;
 
 pub use look::{Look, look_at, look_with};
 pub use page_bytes::{is_broken, is_sound, join_page};
-pub use pages::{Cut, ScanFault, Stopped, Taker, expect_end, fill, scan};
+pub use pages::{Cut, ScanFault, Stopped, Taker, expect_end, fill, scan, scan_rows};
+pub use rows::{Rows, asked_law, each_law, is_asked, within_law};
 pub use target::{PageFault, PageTarget};

@@ -3,9 +3,11 @@ ghost use Rattle.std.specs.Prelude.{◌≡◌, ◌⊎◌, ◌+◌, ◌++◌, len
 ghost use Rattle.std.specs.Io.KnownBytes.{Consumes, IsAtEnd};
 ghost use Rattle.page_layout.specs.Geometry.{row_count};
 ghost use Rattle.page_layout.specs.Page.{Image};
+ghost use Rattle.lab_scan.specs.Rows.{within};
 ghost use Rattle.lab_scan.specs.Scan.{HasMore, IsCut, IsReadTo, IsTaken, IsUntaken};
 ghost use Rattle.lab_scan.specs.declared.pages.ScanFault.TheVariants as faults;
 
+use crate::rows::{Rows, show_page};
 use page_layout::geometry::Geometry;
 use std::io::Read;
 use thiserror::Error;
@@ -41,10 +43,14 @@ impl From<Stopped> for ScanFault {
 
 /// What takes the pages of a dump one by one, by rising row.
 pub trait Taker {
-    ghost use Rattle.std.specs.Prelude.{◌≡◌, ◌<◌, ◌+◌, ℕ, length, slice_get, OnOk, Some};
+    ghost use Rattle.std.specs.Prelude.{◌≡◌, ◌<◌, ◌+◌, ℕ, length, slice_get, OnOk, Option, Some, None};
     ghost use Rattle.page_layout.specs.declared.geometry.Geometry.{Geometry};
     ghost use Rattle.page_layout.specs.Geometry.{row_count};
     ghost use Rattle.page_layout.specs.Page.{Image, page};
+    ghost use Rattle.lab_scan.specs.declared.rows.Rows.{Rows};
+
+    /// The rows that are asked of it, where it makes a difference between rows. They stay the same.
+    ghost asked: { Self → Option Rows } = { λ _. None };
 
     /// What holds of it once it took so many pages of a die of this geometry, whatever they were.
     ghost stands: { Self → Geometry → ℕ → Type 0 };
@@ -68,6 +74,7 @@ pub trait Taker {
         requires body_whole { length body.now ≡ geometry.now.data_bytes }
         requires spare_whole { length spare.now ≡ geometry.now.spare_bytes }
         requires stands { stands self.old geometry.now row }
+        ensures asked { OnOk result (asked self.new ≡ asked self.old) }
         ensures stands { OnOk result (stands self.new geometry.now (row + 1)) }
         ensures shows { OnOk result ((image : Image) → shows self.old geometry.now row image → slice_get image row ≡ Some (page body.now spare.now) → shows self.new geometry.now (row + 1) image) };
 }
@@ -124,10 +131,11 @@ fn read_page<R: Read>(reader: &mut R, body: &mut [u8], spare: &mut [u8]) -> Resu
     fill(reader, spare)
 }
 
-// Hands each page to the taker, in row order, as the reader gives them.
+// Hands the page of each row asked for to the taker, in row order, as the reader gives them, and an erased one in place of each other.
 fn take_pages<R: Read, T: Taker>(
     reader: &mut R,
     geometry: &Geometry,
+    rows: Option<Rows>,
     taker: &mut T,
     body: &mut [u8],
     spare: &mut [u8],
@@ -136,12 +144,14 @@ fn take_pages<R: Read, T: Taker>(
     requires shows { (image : Image) → T.shows taker.old geometry.now 0 image }
     requires body_whole { length body.old ≡ geometry.now.data_bytes }
     requires spare_whole { length spare.old ≡ geometry.now.spare_bytes }
+    ensures asked { OnOk result (T.asked taker.new ≡ T.asked taker.old) }
     ensures stands { OnOk result (T.stands taker.new geometry.now (row_count geometry.now)) }
-    ensures read { OnOk result (IsReadTo geometry.now (row_count geometry.now) (R.remaining reader.old) (R.remaining reader.new) (T.shows taker.new geometry.now (row_count geometry.now))) }
+    ensures read { OnOk result (IsReadTo geometry.now (row_count geometry.now) (R.remaining reader.old) (R.remaining reader.new) (λ image. T.shows taker.new geometry.now (row_count geometry.now) (within geometry.now rows image))) }
     ensures untaken { IfErr result (λ fault. IfSome (R.remaining reader.old) (IsUntaken geometry.now fault)) }
 {
     for row in 0..geometry.rows() {
         read_page(reader, body, spare)?;
+        show_page(geometry, rows, row, body, spare);
         taker.take(geometry, row, body, spare)?;
     }
     Ok(())
@@ -172,6 +182,7 @@ pub fn expect_end<R: Read>(reader: &mut R) -> Result<(), ScanFault>
 ///
 /// `WrongLength` where the reader's bytes ended before the last page or a byte follows it, `Source` where a read failed or was
 /// interrupted, `Stopped` where the taker stopped: each when it happens. (This project's rules.)
+#[tactic(auto, unfolding(crate::specs::Rows::within))]
 pub fn scan<R: Read, T: Taker>(
     reader: &mut R,
     geometry: &Geometry,
@@ -183,10 +194,38 @@ pub fn scan<R: Read, T: Taker>(
     requires shows { (image : Image) → T.shows taker.old geometry.now 0 image }
     requires body_whole { length body.old ≡ geometry.now.data_bytes }
     requires spare_whole { length spare.old ≡ geometry.now.spare_bytes }
+    ensures asked { OnOk result (T.asked taker.new ≡ T.asked taker.old) }
     ensures stands { OnOk result (T.stands taker.new geometry.now (row_count geometry.now)) }
     ensures taken { OnOk result (IfSome (R.remaining reader.old) (IsTaken geometry.now (T.shows taker.new geometry.now (row_count geometry.now)))) }
     ensures untaken { IfErr result (λ fault. IfSome (R.remaining reader.old) (IsUntaken geometry.now fault)) }
 {
-    take_pages(reader, geometry, taker, body, spare)?;
+    scan_rows(reader, geometry, None, taker, body, spare)
+}
+
+/// The same for some rows: the page of each row that is asked for is handed to the taker, and an erased page in place of each other; where no
+/// rows are named, each is asked for. The dump is read whole.
+///
+/// # Errors
+///
+/// `WrongLength` where the reader's bytes ended before the last page or a byte follows it, `Source` where a read failed or was
+/// interrupted, `Stopped` where the taker stopped: each when it happens. (This project's rules.)
+pub fn scan_rows<R: Read, T: Taker>(
+    reader: &mut R,
+    geometry: &Geometry,
+    rows: Option<Rows>,
+    taker: &mut T,
+    body: &mut [u8],
+    spare: &mut [u8],
+) -> Result<(), ScanFault>
+    requires stands { T.stands taker.old geometry.now 0 }
+    requires shows { (image : Image) → T.shows taker.old geometry.now 0 image }
+    requires body_whole { length body.old ≡ geometry.now.data_bytes }
+    requires spare_whole { length spare.old ≡ geometry.now.spare_bytes }
+    ensures asked { OnOk result (T.asked taker.new ≡ T.asked taker.old) }
+    ensures stands { OnOk result (T.stands taker.new geometry.now (row_count geometry.now)) }
+    ensures taken { OnOk result (IfSome (R.remaining reader.old) (IsTaken geometry.now (λ image. T.shows taker.new geometry.now (row_count geometry.now) (within geometry.now rows image)))) }
+    ensures untaken { IfErr result (λ fault. IfSome (R.remaining reader.old) (IsUntaken geometry.now fault)) }
+{
+    take_pages(reader, geometry, rows, taker, body, spare)?;
     expect_end(reader)
 }

@@ -19,6 +19,8 @@ use Rattle.image_check.specs.Refused.{IsFirstRepeated}
 use Rattle.image_check.specs.Stale.{stale_count}
 use Rattle.image_check.specs.Survey.{index_of}
 use Rattle.lab_scan.specs.Scan.{image_bytes}
+use Rattle.lab_scan.specs.Rows.{within}
+use Rattle.lab_scan.specs.declared.rows.Rows.{Rows}
 use Rattle.lab_scan.specs.declared.pages.ScanFault.{ScanFault}
 use Rattle.lab_scan.specs.declared.pages.ScanFault.TheVariants as scan
 use Rattle.lab_array.specs.declared.held.State.TheVariants as state
@@ -61,10 +63,10 @@ pub record IsSurveyed (g : Geometry) (image : Image) (s : DieSurvey) : Type 0 wh
   pub unsound : (b : ℕ) → b < g.blocks → get_or s.unsound.items b 0 ≡ unsound_in g image b
   pub blocks : BlocksAs g image (option_map (λ states. states.items) s.blocks)
 
--- the bytes are as many as an image has, and the survey is of the image that they are
-pub record IsSurveyOf (g : Geometry) (s : DieSurvey) (bytes : List ℕ) : Type 0 where
+-- The bytes are as many as an image has, and the survey is of the image that they are, in which every page of a row that isn't asked for is erased.
+pub record IsSurveyOf (g : Geometry) (rows : Option Rows) (s : DieSurvey) (bytes : List ℕ) : Type 0 where
   pub whole : length bytes ≡ image_bytes g
-  pub survey : IsSurveyed g (raw_image g bytes) s
+  pub survey : IsSurveyed g (within g rows (raw_image g bytes)) s
 
 -- its lists are as long as the geometry says
 pub record IsWhole (g : Geometry) (s : DieSurvey) : Type 0 where

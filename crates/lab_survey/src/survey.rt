@@ -16,7 +16,7 @@ use crate::seeing::Seeing;
 use certificate::BlockState;
 use image_check::{Newest, Refusal, Survey, describe_blocks};
 use lab_array::State;
-use lab_scan::{ScanFault, scan};
+use lab_scan::{Rows, ScanFault, scan_rows};
 use page_layout::geometry::Geometry;
 use std::alloc::{AllocError, Global};
 use std::io::Read;
@@ -149,7 +149,8 @@ fn conclude(alloc: Global, seeing: Seeing) -> Result<DieSurvey, AllocError>
     })
 }
 
-/// Surveys a dump in one pass over its pages.
+/// Surveys a dump in one pass over its pages, as if each page of a row that is not asked for were erased; where no rows are named, each is asked
+/// for. The dump is read whole, and only pages of rows asked for are hashed.
 ///
 /// # Errors
 ///
@@ -159,14 +160,15 @@ pub fn survey_dump<R: Read>(
     alloc: Global,
     reader: &mut R,
     geometry: &Geometry,
+    rows: Option<Rows>,
 ) -> Result<DieSurvey, SurveyFault>
     ensures whole { IfOk result (IsWhole geometry.now) }
-    ensures ok { IfOk result (λ survey. IfSome (R.remaining reader.old) (IsSurveyOf geometry.now survey)) }
+    ensures ok { IfOk result (λ survey. IfSome (R.remaining reader.old) (IsSurveyOf geometry.now rows survey)) }
     ensures err { IfErr result (λ fault. IfSome (R.remaining reader.old) (IsUnsurveyed geometry.now fault)) }
 {
     let mut body = vec![in alloc; 0; geometry.data_bytes()]?;
     let mut spare = vec![in alloc; 0; geometry.spare_bytes()]?;
     let mut seeing = Seeing::new(alloc, geometry)?;
-    scan(reader, geometry, &mut seeing, &mut body, &mut spare)?;
+    scan_rows(reader, geometry, rows, &mut seeing, &mut body, &mut spare)?;
     Ok(conclude(alloc, seeing)?)
 }

@@ -7,10 +7,10 @@ use Rattle.lab_repair.proofs.repairing.RepairingTaker.take.Goals as goal
 
 pub write-requires-clause-own : goal.write-requires-clause-own
 write-requires-clause-own g c =
-    let back = take_at c.write_mended-bit.new.bytes (drop (length c.write_mended-bit.new.bytes) c.args.self.now.scratch.items) c.args.self.now.scratch.len (omega arith) in
-    subst (IsOwn c.args.geometry.now c.write_mended-bit.result) (sym back) c.write_mended-bit.ensures.own
+    let back = take_at c.write_page-bit.new.bytes (drop (length c.write_page-bit.new.bytes) c.args.self.now.scratch.items) c.args.self.now.scratch.len (omega arith) in
+    subst (IsOwn c.args.geometry.now c.args.self.now.rows c.args.row c.write_page-bit.result) (sym back) c.write_page-bit.ensures.own
 
 pub returns-clause-shows : goal.returns-clause-shows
 returns-clause-shows g c =
-    let back = take_at c.write_mended-bit.new.bytes (drop (length c.write_mended-bit.new.bytes) c.args.self.now.scratch.items) c.args.self.now.scratch.len (omega arith) in
-    ok_map _ _ c.write.result (λ more image shown at. more image (page c.args.body.now c.args.spare.now) shown at c.write_mended-bit.ensures.bit (back ∙ c.write_mended-bit.ensures.piece)) c.write.ensures.shows
+    let back = take_at c.write_page-bit.new.bytes (drop (length c.write_page-bit.new.bytes) c.args.self.now.scratch.items) c.args.self.now.scratch.len (omega arith) in
+    ok_map _ _ c.write.result (λ more image shown at. more image (page c.args.body.now c.args.spare.now) shown at c.write_page-bit.ensures.bit (back ∙ c.write_page-bit.ensures.piece)) c.write.ensures.shows
