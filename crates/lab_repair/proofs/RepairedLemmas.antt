@@ -1,5 +1,5 @@
 -- What the pieces and the list are once all pages were taken.
-use Rattle.std.proofs.Common.{◌≡◌, ℕ, ◌<◌, Bool, true, false, cond, List, [], ◌∷◌, length, get_or, map, slice_get, All, Option, Some, None, refl, sym, ap, ◌∙◌, subst, arith}
+use Rattle.std.proofs.Common.{◌≡◌, ℕ, ◌<◌, Bool, true, false, cond, List, [], ◌∷◌, length, get_or, slice_get, All, Option, Some, None, refl, sym, ap, ◌∙◌, subst, arith}
 use Rattle.std.specs.Prelude.{IsSome, option_map}
 use Rattle.std.specs.List.{range_with_len, filter_map, cons_option}
 use Rattle.std.proofs.lemmas.List.Elements.{All-nil, All-cons}
@@ -22,7 +22,7 @@ use Rattle.lab_scan.proofs.PageLemmas.{bytes_again}
 use Rattle.lab_repair.specs.Bits.{turned}
 use Rattle.lab_repair.specs.Mend.{mend_of, mended, turned_if}
 use Rattle.lab_repair.specs.Repairing.{mend_at, mend_in, mends_below, piece_of, piece_at, AreMendedBelow, IsOwn, AreOwn, OwnLaw, Shows, Stands}
-use Rattle.lab_repair.specs.Repaired.{mends_of, pieces_of, IsRepaired, AreWritten, RowsLaw}
+use Rattle.lab_repair.specs.Repaired.{pieces_of, IsRepaired, RowsLaw}
 use Rattle.lab_repair.proofs.BitLemmas.{count_page, count_turned, turned_twice}
 use Rattle.lab_repair.proofs.MendLemmas.{mend_law, mended_by}
 
@@ -78,6 +78,7 @@ own_law g asked row piece k h = by (is_asked asked row) refl
   where
     q : Page
     q = page_of g.data_bytes piece
+
     by : (b : Bool) → is_asked asked row ≡ b → (is_asked asked row ≡ true) × IsSome (record_of q) × (k < bits_of piece)
     by false e = absurd (let none : None ≡ Some k = sym (unasked_mend asked row (turned q k) e) ∙ h.bit_is in cc)
     by true e =
@@ -119,17 +120,20 @@ repaired g asked ms scratch pieces bytes stands taken =
 
 listed_all : (asked : Option Rows) (image : Image) (rows : List ℕ) → All (λ m. is_asked asked m.row ≡ true) (filter_map (λ row. mend_in asked row (slice_get image row)) rows)
 listed_all asked image [] = All-nil (λ (m : Mend). is_asked asked m.row ≡ true)
-listed_all asked image (row ∷ rows) = by (slice_get image row)
+listed_all asked image (row ∷ rows) = by (slice_get image row) (listed_all asked image rows)
   where
     rest : List Mend
     rest = filter_map (λ r. mend_in asked r (slice_get image r)) rows
-    of_bit : (o : Option ℕ) (b : Bool) → is_asked asked row ≡ b → All (λ m. is_asked asked m.row ≡ true) (cons_option (option_map (λ k. record { row = row; bit = k }) (cond b o None)) rest)
-    of_bit o false e = listed_all asked image rows
-    of_bit None true e = listed_all asked image rows
-    of_bit (Some k) true e = All-cons (λ (m : Mend). is_asked asked m.row ≡ true) (record { row = row; bit = k }) rest e (listed_all asked image rows)
-    by : (o : Option Page) → All (λ m. is_asked asked m.row ≡ true) (cons_option (mend_in asked row o) rest)
-    by None = listed_all asked image rows
-    by (Some p) = of_bit (mend_of p) (is_asked asked row) refl
+
+    of_bit : (o : Option ℕ) (b : Bool) → is_asked asked row ≡ b → All (λ m. is_asked asked m.row ≡ true) rest
+        → All (λ m. is_asked asked m.row ≡ true) (cons_option (option_map (λ k. record { row = row; bit = k }) (cond b o None)) rest)
+    of_bit o false e h = h
+    of_bit None true e h = h
+    of_bit (Some k) true e h = All-cons (λ (m : Mend). is_asked asked m.row ≡ true) (record { row = row; bit = k }) rest e h
+
+    by : (o : Option Page) → All (λ m. is_asked asked m.row ≡ true) rest → All (λ m. is_asked asked m.row ≡ true) (cons_option (mend_in asked row o) rest)
+    by None h = h
+    by (Some p) h = of_bit (mend_of p) (is_asked asked row) refl h
 
 pub rows_law : RowsLaw
 unfolding mends_below
@@ -141,5 +145,6 @@ rows_law g asked pieces mends bytes h = record {
   where
     image : Image
     image = raw_image g bytes
+
     at : (row : ℕ) → slice_get pieces row ≡ option_map (piece_at asked row) (slice_get image row)
     at row = ap (λ ps. slice_get ps row) h.pages ∙ pieces_get asked image row
