@@ -5,15 +5,18 @@
     [LAB=..] bench/lab.py --time
 
 LAB is the program, or the one that `rt run` in crates/nandlab builds. The files that are written, what is printed, the refusals and the exit
-status are compared, and that no file is left beside OUT. The dumps are intact, damaged, cut, or read under another geometry of the same size."""
+status are compared, and that no file is left beside OUT. The dumps are intact, damaged, cut, or read under another geometry of the same size.
+Half of the runs ask for JSON: the document is held to its form, and its objects, as lines, to the same report. Some ask for some rows alone."""
 
 import itertools
+import json
 import os
 import random
 import subprocess
 import sys
 import tempfile
 import time
+import types
 from pathlib import Path
 
 import compare
@@ -24,16 +27,76 @@ BUILT = Path(__file__).resolve().parent.parent / "crates/nandlab/out/nandlab"
 LAB = str(Path(os.environ.get("LAB", BUILT)).resolve())
 
 
+COMMANDS = ["geometry", "survey", "array", "compare", "merge", "repair"]
+FORMS = random.Random("forms")
+
+
+def line_of(told):
+    """The line that an object of a document stands for."""
+    kind = told.pop("line")
+    if kind == "pages":
+        return f"pages {told['sort']} {told['count']}"
+    if kind == "reason":
+        name = told.pop("reason")
+        if name == "SequenceRepeated":
+            return "reason {} row {} row {}".format(name, *told["rows"])
+        ((of, number),) = told.items()
+        return f"reason {name} {of} {number}"
+    if kind in ("tied", "missing"):
+        return f"{kind} {told['key']} {told['number']}"
+    if kind == "block":
+        names = ["block", "class", "pointer", "live", "wear", "unsound"]
+        return " ".join(f"{name} {told[name]}" for name in names if name in told)
+    if kind == "geometry":
+        names = {"looked": "looked", "sound": "sound", "unsound": "unsound", "table": "table", "blocks": "blocks_told", "sectors": "sectors_told"}
+        return f"geometry {','.join(map(str, told['geometry']))} " + " ".join(f"{name} {told[key]}" for name, key in names.items())
+    if kind == "mended":
+        return f"mended row {told['row']} bit {told['bit']}"
+    if kind == "repaired":
+        return f"mended {told['mended']}"
+    if kind == "merged":
+        return " ".join(f"{name} {told[name]}" for name in ["sound", "differ", "majority", "erased", "unsound"])
+    if kind == "age":
+        return age_text(told["unsound"])
+    ((of, number),) = told.items()
+    return f"{kind} {of} {number}"
+
+
+def lines_of(command, text):
+    """The lines that a document stands for. Its text is held to the one form that it may have."""
+    document = json.loads(text)
+    objects = [json.dumps(told, sort_keys=True, separators=(",", ":")) for told in document]
+    assert text == "[" + ",\n".join(objects) + "\n]\n", text
+    assert document[0] == {"command": command, "line": "command", "program": "nandlab"}, text
+    return "".join(line_of(told) + "\n" for told in document[1:])
+
+
 def run(words, folder):
+    asks = words[:1] != [] and words[0] in COMMANDS and FORMS.random() < 0.5
+    words = [words[0], "--json", *words[1:]] if asks else words
     done = subprocess.run([LAB, *words], cwd=folder, capture_output=True, stdin=subprocess.DEVNULL)
-    return done.returncode, done.stdout.decode(), done.stderr.decode()
+    out = done.stdout.decode()
+    if asks and done.returncode == 0:
+        out = lines_of(words[0], out)
+    return done.returncode, out, done.stderr.decode()
+
+
+def age_text(unsound):
+    if unsound == 0:
+        return "unsound 0: the array is that of every page that was programmed"
+    return f"unsound {unsound}: at most {unsound} sectors may be older than the last write"
 
 
 def age_line(image):
-    unsound = sum(1 for r, e in zip(image.records, image.erased) if r is None and not e)
-    if unsound == 0:
-        return "unsound 0: the array is that of every page that was programmed\n"
-    return f"unsound {unsound}: at most {unsound} sectors may be older than the last write\n"
+    return age_text(sum(1 for r, e in zip(image.records, image.erased) if r is None and not e)) + "\n"
+
+
+def some_rows(rng, g):
+    """Rows that are asked for, and the words that ask."""
+    if rng.random() < 0.6:
+        return range(g.rows), []
+    first, end = sorted(rng.choices(range(g.rows + 1), k=2))
+    return range(first, end), ["--rows", f"{first}..{end}"]
 
 
 def array_of(image):
@@ -147,10 +210,14 @@ def survey_case(rng, folder):
     elif cut < 0.1:
         raw += b"\0"
     (folder / "dump.bin").write_bytes(raw)
-    answer = run(["survey", g.words(), "dump.bin"], folder)
+    rows, asked = some_rows(rng, g)
+    answer = run(["survey", *asked, g.words(), "dump.bin"], folder)
     if len(raw) != g.rows * g.page:
         assert answer == (1, "", "refused image 1 WrongLength\n"), (g.words(), answer)
         return
+    if asked:
+        pages = [page if row in rows else b"\xff" * g.page for row, page in enumerate(pages_of(g, raw))]
+        image = ref.Image(g, b"".join(pages))
     told, shown = survey_of(image)
     assert answer == (0, told, ""), (g.words(), answer, told)
     mounts_as_told(image, told, shown)
@@ -359,11 +426,11 @@ def damaged(rng, g, raw):
     return b"".join(pages)
 
 
-def mended(g, raw):
-    """The dump with each page mended that one bit turned makes sound, and the report."""
+def mended(g, raw, rows):
+    """The dump with each page of these rows mended that one bit turned makes sound, and the report."""
     pages, told = pages_of(g, raw), ""
     for row, page in enumerate(pages):
-        if is_sound(g, page) or page == b"\xff" * g.page:
+        if row not in rows or is_sound(g, page) or page == b"\xff" * g.page:
             continue
         bit = next((bit for bit in range(8 * g.page) if is_sound(g, turned(page, bit))), None)
         if bit is not None:
@@ -375,12 +442,13 @@ def mended(g, raw):
 def repair_case(rng, folder):
     g, image = dump_for(rng)
     raw = damaged(rng, g, image.raw())
-    out, told = mended(g, raw)
+    rows, asked = some_rows(rng, g)
+    out, told = mended(g, raw, rows)
     want = (0, told, "")
     if rng.random() < 0.1:
         raw, want = rng.choice([raw[:-1], raw + b"\0"]), (1, "", "refused image 1 WrongLength\n")
     (folder / "dump.bin").write_bytes(raw)
-    stored(rng, folder, ["repair", g.words(), "dump.bin", "out.bin"], want, out)
+    stored(rng, folder, ["repair", g.words(), "dump.bin", "out.bin", *asked], want, out)
 
 
 def majority(pages):
@@ -441,6 +509,14 @@ def refusals(folder):
         (["repair", "64,32,8,32,32", "none.bin", "out.bin"], (3, "", "fault read none.bin\n")),
         (["repair", "64,32,8,32,32", "dump.bin", "none/out.bin"], (3, "", "fault write none/out.bin\n")),
         (["repair", "64,32,8,32,32", "dump.bin"], (2, "", "usage: no such command\n")),
+        (["repair", "64,32,8,32,32", "none.bin", "dump.bin", "--rows", "9..8"], (1, "", "refused rows 1 RowRange\n")),
+        (["repair", "64,32,8,32,32", "none.bin", "dump.bin", "--rows", "0..257"], (1, "", "refused rows 1 RowRange\n")),
+        (["repair", "64,32,8,32,32", "none.bin", "dump.bin", "--rows", "0-9"], (2, "", "usage: bad number 0-9\n")),
+        (["survey", "64,32,8,32,32", "none.bin", "--rows", ".."], (2, "", "usage: bad number ..\n")),
+        (["survey", "64,32,8,32,32", "none.bin", "--rows", "0..4294967296"], (2, "", "usage: bad number 0..4294967296\n")),
+        (["survey", "63,32,8,32,32", "none.bin", "--rows", ".."], (1, "", "refused geometry 1 DataSize\n")),
+        (["survey", "64,32,8,32,32", "none.bin", "--rows"], (2, "", "usage: no such command\n")),
+        (["array", "64,32,8,32,32", "none.bin", "out.bin", "--rows", "0..9"], (2, "", "usage: no such command\n")),
         (["merge", "64,32,8,32,32", "out.bin", "dump.bin"], (2, "", "usage: no such command\n")),
         (["merge", "64,32,8,32", "out.bin", "dump.bin", "dump.bin"], (2, "", "usage: bad number 64,32,8,32\n")),
         (["merge", "64,32,8,32,32", "dump.bin", "--force", "stood.map", "./dump.bin"], (1, "", "refused out 1 IsDump\n")),
@@ -478,12 +554,19 @@ def refusals(folder):
 
 
 def full_dump(path, g):
-    """Each page a sector's, in random order: every page is hashed, and most are the newest when they come."""
+    """Each page a sector's, in random order: every page is hashed, and most are the newest when they come. Gives a certificate of it."""
     rng = random.Random(1)
+    newest = [None] * g.sectors
     with open(path, "wb") as out:
-        for sequence in range(g.rows):
+        for row in range(g.rows):
             body = rng.randbytes(g.data)
-            out.write(body + ref.spare_of(g, ref.Record(1, rng.randrange(g.sectors), sequence, 1), body))
+            made = ref.Record(1, rng.randrange(g.sectors), row, 1)
+            out.write(body + ref.spare_of(g, made, body))
+            newest[made.number] = row
+    shown = types.SimpleNamespace(
+        next=g.rows, blocks=[[3, g.pages, 0, 1]] * g.blocks, directory=[None] * (g.translation + g.tables), sectors=newest
+    )
+    return ref.certificate_bytes(g, 64, shown)
 
 
 def spent(words, folder):
@@ -499,7 +582,7 @@ def spent(words, folder):
 def times(folder):
     os.chdir(folder)
     g = ref.Geometry(2048, 64, 64, 512, 20000)
-    full_dump(folder / "dump.bin", g)
+    (folder / "die.cert").write_bytes(full_dump(folder / "dump.bin", g))
     size = (folder / "dump.bin").stat().st_size
     hashed = spent(["sha256sum", "dump.bin"], folder)
     print(f"{size} bytes: sha256sum {hashed:.3f} s")
@@ -507,6 +590,7 @@ def times(folder):
         ["geometry", "dump.bin"],
         ["survey", g.words(), "dump.bin"],
         ["array", g.words(), "dump.bin", "out.bin", "--force"],
+        ["compare", g.words(), "die.cert", "dump.bin"],
         ["merge", g.words(), "out.bin", "dump.bin", "dump.bin", "--force"],
         ["repair", g.words(), "dump.bin", "out.bin", "--force"],
     ]:

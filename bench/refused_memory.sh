@@ -1,10 +1,11 @@
 #!/usr/bin/env bash
 # Refuses each allocation of a run of the program in turn, and looks that the run then ends in its named refusal (nothing on
-# standard output, `refused image 3 OutOfMemory` on standard error, status 1), or, where a vector made do with a smaller
-# growth, as if nothing had been refused. The program is PROGRAM, or the one that `rt run` in crates/nandctl builds. The Nth call of malloc or
-# realloc is refused by a library that is loaded before the C library.
+# standard output, or a beginning of what the whole run prints, `refused image 3 OutOfMemory` on standard error, status 1), or, where a vector
+# made do with a smaller growth, as if nothing had been refused; and that no file is left beside another one. The program is PROGRAM, or the
+# one that `rt run` in crates/nandctl builds. The Nth call of malloc or realloc is refused by a library that is loaded before the C library.
 #
-#     bench/refused_memory.sh WORD..       the program's words, in the folder of its stored run (default: that run's)
+#     bench/refused_memory.sh WORD..       the program's words, in a folder with the files of nandctl's and nandlab's stored runs (default:
+#                                          the words of nandctl's)
 set -eu
 top="$(cd "$(dirname "$0")/.." && pwd)"
 program="${PROGRAM:-$top/crates/nandctl/out/nandctl}"
@@ -40,22 +41,28 @@ void *realloc(void *old, size_t size) {
 }
 C
 cc -shared -fPIC -O1 -o "$folder/refuse.so" "$folder/refuse.c" -ldl
-cp "$top"/crates/nandctl/data/* "$folder"
+cp "$top"/crates/nandctl/data/* "$top"/crates/nandlab/data/* "$folder"
 if [ $# -eq 0 ]; then mapfile -t words < "$top/crates/nandctl/args"; else words=("$@"); fi
 cd "$folder"
 wanted=0
 "$program" "${words[@]}" > wanted.out 2> wanted.err || wanted=$?
 named=0
+begun=0
 for ((n = 1; ; n++)); do
     rm -f refused
     status=0
     REFUSE=$n REFUSED=refused LD_PRELOAD="$folder/refuse.so" "$program" "${words[@]}" > out 2> err || status=$?
     [ -e refused ] || break
-    if [ "$status" -eq 1 ] && [ ! -s out ] && [ "$(cat err)" = "refused image 3 OutOfMemory" ]; then
+    if [ "$status" -eq 1 ] && [ "$(cat err)" = "refused image 3 OutOfMemory" ] && head -c "$(stat -c %s out)" wanted.out | cmp -s - out; then
         named=$((named + 1))
+        if [ -s out ]; then begun=$((begun + 1)); fi
     elif [ "$status" -ne "$wanted" ] || ! cmp -s out wanted.out || ! cmp -s err wanted.err; then
         echo "allocation $n refused: status $status, $(wc -c < out) bytes out, standard error: $(cat err)"
         exit 1
     fi
+    if compgen -G "*.part*" > /dev/null; then
+        echo "allocation $n refused: left $(echo *.part*)"
+        exit 1
+    fi
 done
-echo "$((n - 1)) allocations, each refused in turn: $named ended in \`refused image 3 OutOfMemory\`, $((n - 1 - named)) as if none had been refused"
+echo "$((n - 1)) allocations, each refused in turn: $named ended in \`refused image 3 OutOfMemory\`, $begun of them with a beginning of the output, $((n - 1 - named)) as if none had been refused"

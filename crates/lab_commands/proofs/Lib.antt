@@ -1,6 +1,7 @@
 pub mod TextLemmas
 pub mod UndoneLemmas
 pub mod ArrayLemmas
+pub mod RowLemmas
 pub mod SurveyLemmas
 pub mod CompareLemmas
 pub mod GeometryLemmas

@@ -1,6 +1,7 @@
 pub mod Files
 pub mod Text
 pub mod Undone
+pub mod Rows
 pub mod Array
 pub mod Survey
 pub mod Compare

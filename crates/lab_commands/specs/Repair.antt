@@ -2,6 +2,7 @@
 use Rattle.std.specs.Prelude.{◌≡◌, ◌⊎◌, ℕ, List, Option, IfSome}
 use Rattle.std.specs.Io.KnownBytes.{Appends}
 use Rattle.page_layout.specs.declared.geometry.Geometry.{Geometry}
+use Rattle.lab_scan.specs.declared.rows.Rows.{Rows}
 use Rattle.lab_repair.specs.declared.repair.RepairFault.{RepairFault}
 use Rattle.lab_repair.specs.declared.repair.RepairFault.TheVariants as repair
 use Rattle.lab_repair.specs.declared.repairing.Mend.{Mend}
@@ -11,25 +12,28 @@ use Rattle.lab_words.specs.declared.words.RepairWords.{RepairWords}
 use Rattle.lab_commands.specs.declared.text.LabFault.{LabFault}
 use Rattle.lab_commands.specs.declared.text.LabFault.TheVariants as fault
 use Rattle.lab_commands.specs.Files.{Answers, IsOpened, Kept, with_kept}
+use Rattle.lab_commands.specs.Rows.{AreNoRows, AreRowsAt}
 use Rattle.lab_commands.specs.Undone.{IsGeometryAt, IsNoGeometry, IsHalfPrinted, IsUnmade, LeavesAll, MayNotWrite, MayWrite, form_of}
 
 -- ---- done
 
 -- The pieces are made of a dump that reads so: where its bytes are known the pieces and the list are those of the image that they are.
--- Whatever it gave, each piece is a mended page by the bit that the list names of its row.
-pub record IsMended (a : Answers) (path : List ℕ) (g : Geometry) (pieces : Option (List (List ℕ))) (mends : List Mend) : Type 0 where
+-- Whatever it gave, each piece is what is written of a page by the bit that the list names of its row.
+pub record IsMended (a : Answers) (path : List ℕ) (g : Geometry) (rows : Option Rows) (pieces : Option (List (List ℕ))) (mends : List Mend) : Type 0 where
   pub known : Option (List ℕ)
   pub opened : IsOpened a path known
-  pub mended : IfSome known (IsRepaired g pieces mends)
-  pub own : IsOwnRepair g pieces mends
+  pub mended : IfSome known (IsRepaired g rows pieces mends)
+  pub own : IsOwnRepair g rows pieces mends
 
 -- the mended dump was put in the place of OUT
 pub record PutRepair (a : Answers) (words : RepairWords) (before after : Option (List Kept)) (mends : List Mend) : Type 0 where
   pub g : Geometry
+  pub rows : Option Rows
   pub pieces : Option (List (List ℕ))
   pub geometry_is : IsGeometryAt words.geometry.now g
+  pub rows_are : AreRowsAt words.rows g rows
   pub allowed : MayWrite a words.dump.now words.out.now words.force
-  pub made : IsMended a words.dump.now g pieces mends
+  pub made : IsMended a words.dump.now g rows pieces mends
   pub put : after ≡ with_kept before words.out.now pieces
 
 -- and what was mended was printed
@@ -40,12 +44,13 @@ pub record WroteRepair (a : Answers) (words : RepairWords) (before after : Optio
 
 -- ---- not done
 
--- The first of this order: the geometry; whether OUT may be written; the dump and OUT.
+-- The first of this order: the geometry; the rows; whether OUT may be written; the dump and OUT.
 abbrev pub IsUnrepairedBy : Answers → RepairWords → LabFault → Type 0
 IsUnrepairedBy a words told =
     IsNoGeometry words.geometry.now told
-    ⊎ ((g : Geometry) × IsGeometryAt words.geometry.now g × (MayNotWrite a words.dump.now words.out.now words.force told
-    ⊎ (MayWrite a words.dump.now words.out.now words.force × IsUnmade a g words.dump.now words.out.now told)))
+    ⊎ ((g : Geometry) × IsGeometryAt words.geometry.now g × (AreNoRows words.rows g told
+    ⊎ ((rows : Option Rows) × AreRowsAt words.rows g rows × (MayNotWrite a words.dump.now words.out.now words.force told
+    ⊎ (MayWrite a words.dump.now words.out.now words.force × IsUnmade a g words.dump.now words.out.now told)))))
 
 -- No dump was put in place and nothing printed, for one of these reasons; or it was put in place, and a beginning of the list printed.
 abbrev pub IsRepairFault : Answers → RepairWords → Option (List Kept) → Option (List Kept) → Option (List ℕ) → Option (List ℕ) → LabFault → Type 0

@@ -2,24 +2,28 @@
 use Rattle.std.specs.Prelude.{◌≡◌, ◌⊎◌, ℕ, List, Option, IfSome}
 use Rattle.std.specs.Io.KnownBytes.{Appends}
 use Rattle.page_layout.specs.declared.geometry.Geometry.{Geometry}
+use Rattle.lab_scan.specs.declared.rows.Rows.{Rows}
 use Rattle.lab_survey.specs.declared.survey.DieSurvey.{DieSurvey}
 use Rattle.lab_survey.specs.Surveyed.{IsSurveyOf}
 use Rattle.lab_report.specs.Reports.{survey_text}
 use Rattle.lab_words.specs.declared.words.SurveyWords.{SurveyWords}
 use Rattle.lab_commands.specs.declared.text.LabFault.{LabFault}
 use Rattle.lab_commands.specs.Files.{Answers, IsOpened, Kept}
+use Rattle.lab_commands.specs.Rows.{AreNoRows, AreRowsAt}
 use Rattle.lab_commands.specs.Undone.{IsGeometryAt, IsHalfPrinted, IsNoGeometry, IsUnread, IsUntaken, LeavesAll, form_of}
 
--- a survey of a dump that reads so: where its bytes are known it is of the image that they are
-pub record IsSeen (a : Answers) (path : List ℕ) (g : Geometry) (survey : DieSurvey) : Type 0 where
+-- a survey of these rows of a dump that reads so: where its bytes are known it is of the image that they are
+pub record IsSeen (a : Answers) (path : List ℕ) (g : Geometry) (rows : Option Rows) (survey : DieSurvey) : Type 0 where
   pub known : Option (List ℕ)
   pub opened : IsOpened a path known
-  pub seen : IfSome known (IsSurveyOf g survey)
+  pub seen : IfSome known (IsSurveyOf g rows survey)
 
--- the words name a geometry, and this is the survey
+-- the words name a geometry and rows, or all, and this is the survey
 pub record HasSurvey (a : Answers) (words : SurveyWords) (g : Geometry) (survey : DieSurvey) : Type 0 where
+  pub rows : Option Rows
   pub geometry_is : IsGeometryAt words.geometry.now g
-  pub seen : IsSeen a words.dump.now g survey
+  pub rows_are : AreRowsAt words.rows g rows
+  pub seen : IsSeen a words.dump.now g rows survey
 
 -- the survey was printed
 pub record ToldSurvey (a : Answers) (words : SurveyWords) (out printed : Option (List ℕ)) : Type 0 where
@@ -32,11 +36,12 @@ pub record ToldSurvey (a : Answers) (words : SurveyWords) (out printed : Option 
 abbrev pub IsUnsurveyed : Answers → Geometry → List ℕ → LabFault → Type 0
 IsUnsurveyed a g path told = IsUnread a path told ⊎ IsUntaken a g path told
 
--- The first of this order: the geometry; the dump.
+-- The first of this order: the geometry; the rows; the dump.
 abbrev pub IsUnseen : Answers → SurveyWords → LabFault → Type 0
 IsUnseen a words told =
     IsNoGeometry words.geometry.now told
-    ⊎ ((g : Geometry) × IsGeometryAt words.geometry.now g × IsUnsurveyed a g words.dump.now told)
+    ⊎ ((g : Geometry) × IsGeometryAt words.geometry.now g × (AreNoRows words.rows g told
+    ⊎ ((rows : Option Rows) × AreRowsAt words.rows g rows × IsUnsurveyed a g words.dump.now told)))
 
 -- nothing was printed, for one of these reasons, or a beginning of the survey was
 abbrev pub IsSurveyFault : Answers → SurveyWords → Option (List Kept) → Option (List Kept) → Option (List ℕ) → Option (List ℕ) → LabFault → Type 0

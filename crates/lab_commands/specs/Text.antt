@@ -7,7 +7,7 @@ use Rattle.page_layout.specs.declared.geometry.GeometryFault.TheVariants as geom
 use Rattle.certificate.specs.declared.fault.CertFault.{CertFault}
 use Rattle.certificate.specs.declared.fault.CertFault.TheVariants as certificate
 use Rattle.lab_commands.specs.declared.text.LabFault.{LabFault}
-use Rattle.lab_commands.specs.declared.text.LabFault.TheVariants.{NoSuchCommand, BadNumber, Geometry, NoneFits, WrongLength, DumpLength, OutOfMemory, Certificate, GeometryDiffers}
+use Rattle.lab_commands.specs.declared.text.LabFault.TheVariants.{NoSuchCommand, BadNumber, Geometry, NoneFits, RowRange, WrongLength, DumpLength, OutOfMemory, Certificate, GeometryDiffers}
 use Rattle.lab_commands.specs.declared.text.LabFault.TheVariants.{IsDump, Exists, MapIsOut, MapIsDump, MapExists, Read, Write}
 
 -- the number and the name of a limit that is broken
@@ -34,6 +34,7 @@ line_of NoSuchCommand = codes "usage: no such command"
 line_of (BadNumber word) = codes "usage: bad number " ++ word.now
 line_of (Geometry fault) = codes "refused geometry " ++ limit_words fault
 line_of NoneFits = codes "refused geometry 6 NoneFits"
+line_of RowRange = codes "refused rows 1 RowRange"
 line_of IsDump = codes "refused out 1 IsDump"
 line_of Exists = codes "refused out 2 Exists"
 line_of MapIsOut = codes "refused map 1 IsOut"
@@ -53,6 +54,7 @@ status_of NoSuchCommand = 2
 status_of (BadNumber word) = 2
 status_of (Geometry fault) = 1
 status_of NoneFits = 1
+status_of RowRange = 1
 status_of IsDump = 1
 status_of Exists = 1
 status_of MapIsOut = 1

@@ -11,6 +11,7 @@ mod opening;
 mod printing;
 mod program;
 mod repair;
+mod rows;
 mod survey;
 mod text;
 

@@ -7,9 +7,11 @@ ghost use Rattle.lab_commands.specs.Repair.{IsMended, IsRepairFault, WroteRepair
 use crate::files::LabFiles;
 use crate::opening::{allow, create_pages, geometry_at, keep_pages, open_file, progress_of};
 use crate::printing::{printer, unprinted};
+use crate::rows::rows_at;
 use crate::text::LabFault;
 use lab_repair::{RepairFault, Repaired, repair_dump};
 use lab_report::print_repaired;
+use lab_scan::Rows;
 use lab_words::RepairWords;
 use page_layout::geometry::Geometry;
 use std::alloc::Global;
@@ -32,16 +34,17 @@ fn mend<'a, F: LabFiles>(
     alloc: Global,
     words: &RepairWords<'a>,
     geometry: &Geometry,
+    rows: Option<Rows>,
     files: &mut F,
 ) -> Result<Repaired<F::Pages>, LabFault<'a>>
-    ensures made { IfOk result (λ told. IsMended (F.answers files.old) words.now.dump.now geometry.now (F.Pages.pieces told.target) told.mends.items) }
+    ensures made { IfOk result (λ told. IsMended (F.answers files.old) words.now.dump.now geometry.now rows (F.Pages.pieces told.target) told.mends.items) }
     ensures fault { IfErr result (IsUnmade (F.answers files.old) geometry.now words.now.dump.now words.now.out.now) }
     ensures no_more { AnswersNoMore (F.answers files.old) (F.answers files.new) }
     ensures kept { F.kept files.new ≡ F.kept files.old }
 {
     let mut dump = open_file(files, words.dump, progress_of(words.showing))?;
     let target = create_pages(files, words.out, geometry)?;
-    match repair_dump(alloc, &mut dump, geometry, target) {
+    match repair_dump(alloc, &mut dump, geometry, rows, target) {
         Ok(repaired) => Ok(repaired),
         Err(fault) => {
             files.discard(words.out);
@@ -51,11 +54,13 @@ fn mend<'a, F: LabFiles>(
 }
 
 /// The command `repair`: writes the dump DUMP, of the geometry GEOM, to the file OUT, with each page mended that is neither erased nor sound and
-/// that one bit turned makes sound, and prints which pages were mended, and how many.
+/// that one bit turned makes sound, and prints which pages were mended, and how many. Where it has the word A..B, pages of the rows A to B - 1
+/// alone are mended.
 ///
 /// # Errors
 ///
-/// The first of this order: `BadNumber` where GEOM writes no numbers, `Geometry` where they are no geometry, `IsDump` where OUT is the dump,
+/// The first of this order: `BadNumber` where GEOM writes no numbers, `Geometry` where they are no geometry, `BadNumber` where A..B is no two
+/// numbers, `RowRange` where B is less than A or more than the die has rows, `IsDump` where OUT is the dump,
 /// `Exists` where there is a file OUT and it may not be replaced, `Read` where DUMP cannot be opened, `Write` where no file can be made
 /// beside OUT, `OutOfMemory` where a growth was refused; then each when it happens: `Read` where a read of DUMP fails, `WrongLength` where
 /// it has not as many bytes as the geometry says, `Write` where OUT cannot be written or put in its place. After each of these OUT is as it
@@ -72,8 +77,9 @@ pub(crate) fn repair_command<'a, F: LabFiles, W: Write>(
     ensures fault { IfErr result (IsRepairFault (F.answers files.old) words.entry (F.kept files.old) (F.kept files.new) (W.contents out.old) (W.contents out.new)) }
 {
     let geometry = geometry_at(words.geometry)?;
+    let rows = rows_at(words.rows, &geometry)?;
     allow(files, words.dump, words.out, words.force)?;
-    let repaired = mend(alloc, &words, &geometry, files)?;
+    let repaired = mend(alloc, &words, &geometry, rows, files)?;
     keep_pages(files, words.out, repaired.target)?;
     match print_repaired(printer(alloc, words.showing), out, &repaired.mends) {
         Ok(()) => Ok(()),

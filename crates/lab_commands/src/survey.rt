@@ -5,8 +5,10 @@ ghost use Rattle.lab_commands.specs.Survey.{IsSeen, IsSurveyFault, IsUnsurveyed,
 use crate::files::LabFiles;
 use crate::opening::{geometry_at, open_file, progress_of};
 use crate::printing::{printer, unprinted};
+use crate::rows::rows_at;
 use crate::text::LabFault;
 use lab_report::print_survey;
+use lab_scan::Rows;
 use lab_survey::{DieSurvey, SurveyFault, survey_dump};
 use lab_words::{Showing, SurveyWords};
 use page_layout::geometry::Geometry;
@@ -18,15 +20,16 @@ fn survey_of<'a, F: LabFiles>(
     alloc: Global,
     dump: &'a str,
     geometry: &Geometry,
+    rows: Option<Rows>,
     showing: Showing,
     files: &mut F,
 ) -> Result<DieSurvey, LabFault<'a>>
-    ensures seen { IfOk result (IsSeen (F.answers files.old) dump.now geometry.now) }
+    ensures seen { IfOk result (IsSeen (F.answers files.old) dump.now geometry.now rows) }
     ensures fault { IfErr result (IsUnsurveyed (F.answers files.old) geometry.now dump.now) }
     ensures kept { F.kept files.new ≡ F.kept files.old }
 {
     let mut reader = open_file(files, dump, progress_of(showing))?;
-    match survey_dump(alloc, &mut reader, geometry) {
+    match survey_dump(alloc, &mut reader, geometry, rows) {
         Ok(survey) => Ok(survey),
         Err(SurveyFault::WrongLength) => Err(LabFault::WrongLength),
         Err(SurveyFault::Source) => Err(LabFault::Read(dump)),
@@ -34,12 +37,13 @@ fn survey_of<'a, F: LabFiles>(
     }
 }
 
-/// The command `survey`: prints what the dump DUMP, of the geometry GEOM, tells of its die.
+/// The command `survey`: prints what the dump DUMP, of the geometry GEOM, tells of its die. Where it has the word A..B, every page of another row
+/// than A to B - 1 counts as erased.
 ///
 /// # Errors
 ///
-/// The first of this order: `BadNumber` where GEOM writes no numbers, `Geometry` where they are no geometry, `Read` where DUMP cannot be
-/// opened; then each when it happens: `OutOfMemory` where a growth was refused, `Read` where a read of DUMP fails, `WrongLength` where it
+/// The first of this order: `BadNumber` where GEOM writes no numbers, `Geometry` where they are no geometry, `BadNumber` where A..B is no two
+/// numbers, `RowRange` where B is less than A or more than the die has rows, `Read` where DUMP cannot be opened; then each when it happens: `OutOfMemory` where a growth was refused, `Read` where a read of DUMP fails, `WrongLength` where it
 /// has not as many bytes as the geometry says. After each of these nothing was printed. `Write` of `-` where `out` failed.
 ///
 /// (This project's.)
@@ -54,7 +58,8 @@ pub(crate) fn survey_command<'a, F: LabFiles, W: Write>(
     ensures fault { IfErr result (IsSurveyFault (F.answers files.old) words.entry (F.kept files.old) (F.kept files.new) (W.contents out.old) (W.contents out.new)) }
 {
     let geometry = geometry_at(words.geometry)?;
-    let survey = survey_of(alloc, words.dump, &geometry, words.showing, files)?;
+    let rows = rows_at(words.rows, &geometry)?;
+    let survey = survey_of(alloc, words.dump, &geometry, rows, words.showing, files)?;
     match print_survey(printer(alloc, words.showing), out, &geometry, &survey) {
         Ok(()) => Ok(()),
         Err(fault) => Err(unprinted(fault)),

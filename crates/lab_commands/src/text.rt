@@ -22,12 +22,14 @@ const IO: u8 = 3;
 pub enum LabFault<'a> {
     /// The words are no command that the program has.
     NoSuchCommand,
-    /// The word is no five numbers with four commas.
+    /// The word is not the numbers that are wanted: five with four commas, or two with two dots.
     BadNumber(&'a str),
     /// The numbers are no geometry.
     Geometry(GeometryFault),
     /// No geometry fits the dump.
     NoneFits,
+    /// The numbers are no rows of the die.
+    RowRange,
     /// The file to be written is a dump that is read.
     IsDump,
     /// There is a file of that path already.
@@ -66,6 +68,7 @@ impl LabFault<'_> {
             LabFault::NoSuchCommand | LabFault::BadNumber(_) => USAGE,
             LabFault::Geometry(_)
             | LabFault::NoneFits
+            | LabFault::RowRange
             | LabFault::IsDump
             | LabFault::Exists
             | LabFault::MapIsOut
@@ -118,6 +121,7 @@ fn line<'a>(fault: &LabFault<'a>) -> (&'a str, &'a str)
         LabFault::BadNumber(word) => ("usage: bad number ", word),
         LabFault::Geometry(broken) => ("refused geometry ", limit(broken)),
         LabFault::NoneFits => ("refused geometry 6 NoneFits", ""),
+        LabFault::RowRange => ("refused rows 1 RowRange", ""),
         LabFault::IsDump => ("refused out 1 IsDump", ""),
         LabFault::Exists => ("refused out 2 Exists", ""),
         LabFault::MapIsOut => ("refused map 1 IsOut", ""),

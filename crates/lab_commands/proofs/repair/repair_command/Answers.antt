@@ -6,7 +6,7 @@ use Rattle.request_stream.specs.Frames.{AppendsFront}
 use Rattle.lab_report.specs.Reports.{repair_text}
 use Rattle.lab_commands.specs.Repair.{IsMended, IsRepairFault, PutRepair}
 use Rattle.lab_commands.specs.Files.{AnswersNoMore, with_kept}
-use Rattle.lab_commands.proofs.RepairLemmas.{no_geometry, not_allowed, not_made}
+use Rattle.lab_commands.proofs.RepairLemmas.{no_geometry, no_rows, not_allowed, not_made}
 use Rattle.lab_commands.proofs.UndoneLemmas.{handed_on, unwritten_before}
 use Rattle.lab_commands.proofs.repair.repair_command.Goals as goal
 
@@ -17,13 +17,20 @@ returns-in_err-geometry-clause-fault g c =
     let o = g.W.Write.contents c.args.out.now in
     handed_on (IsRepairFault a c.args.words k k o o) _ _ c.from_residual.ensures.1 (no_geometry a c.args.words k o _ c.in_err-geometry.ensures.fault)
 
+pub returns-in_err-rows-clause-fault : goal.returns-in_err-rows-clause-fault
+returns-in_err-rows-clause-fault g c =
+    let a = g.F.LabFiles.answers c.args.files.now in
+    let k = g.F.LabFiles.kept c.args.files.now in
+    let o = g.W.Write.contents c.args.out.now in
+    handed_on (IsRepairFault a c.args.words k k o o) _ _ c.from_residual-in_err-rows.ensures.1 (no_rows a c.args.words c.in_ok-geometry.geometry k o _ c.in_ok-geometry.ensures.ok c.in_err-rows.ensures.fault)
+
 pub returns-in_err-allow-clause-fault : goal.returns-in_err-allow-clause-fault
 returns-in_err-allow-clause-fault g c =
     let a = g.F.LabFiles.answers c.args.files.now in
     let k = g.F.LabFiles.kept c.args.files.now in
     let o = g.W.Write.contents c.args.out.now in
     handed_on (IsRepairFault a c.args.words k (g.F.LabFiles.kept c.allow.new.files) o o) _ _ c.from_residual-in_err-allow.ensures.1
-    (not_allowed a c.args.words c.in_ok-geometry.geometry k _ o _ c.in_ok-geometry.ensures.ok (ap g.F.LabFiles.kept c.in_err-allow.ensures.same) c.in_err-allow.ensures.fault)
+    (not_allowed a c.args.words c.in_ok-geometry.geometry c.in_ok-rows.rows k _ o _ c.in_ok-geometry.ensures.ok c.in_ok-rows.ensures.ok (ap g.F.LabFiles.kept c.in_err-allow.ensures.same) c.in_err-allow.ensures.fault)
 
 pub returns-in_err-repaired-clause-fault : goal.returns-in_err-repaired-clause-fault
 returns-in_err-repaired-clause-fault g c =
@@ -32,7 +39,7 @@ returns-in_err-repaired-clause-fault g c =
     let o = g.W.Write.contents c.args.out.now in
     let same = c.in_ok-allow.ensures.same in
     handed_on (IsRepairFault a c.args.words k (g.F.LabFiles.kept c.mend.new.files) o o) _ _ c.from_residual-in_err-repaired.ensures.1
-    (not_made a c.args.words c.in_ok-geometry.geometry k _ o _ c.in_ok-geometry.ensures.ok c.in_ok-allow.ensures.ok (c.in_err-repaired.ensures.kept ∙ ap g.F.LabFiles.kept same)
+    (not_made a c.args.words c.in_ok-geometry.geometry c.in_ok-rows.rows k _ o _ c.in_ok-geometry.ensures.ok c.in_ok-rows.ensures.ok c.in_ok-allow.ensures.ok (c.in_err-repaired.ensures.kept ∙ ap g.F.LabFiles.kept same)
     (subst (λ f. IsUnmade (g.F.LabFiles.answers f) c.in_ok-geometry.geometry c.args.words.dump.now c.args.words.out.now c.in_err-repaired.field-0.0) same c.in_err-repaired.ensures.fault))
 
 pub returns-in_err-keep_pages-clause-fault : goal.returns-in_err-keep_pages-clause-fault
@@ -44,7 +51,7 @@ returns-in_err-keep_pages-clause-fault g c =
     let same = c.in_ok-allow.ensures.same in
     let more : AnswersNoMore a b = subst (λ f. AnswersNoMore (g.F.LabFiles.answers f) b) same c.in_ok-repaired.ensures.no_more in
     handed_on (IsRepairFault a c.args.words k (g.F.LabFiles.kept c.keep_pages.new.files) o o) _ _ c.from_residual-in_err-keep_pages.ensures.1
-    (not_made a c.args.words c.in_ok-geometry.geometry k _ o _ c.in_ok-geometry.ensures.ok c.in_ok-allow.ensures.ok (c.in_err-keep_pages.ensures.kept ∙ (c.in_ok-repaired.ensures.kept ∙ ap g.F.LabFiles.kept same))
+    (not_made a c.args.words c.in_ok-geometry.geometry c.in_ok-rows.rows k _ o _ c.in_ok-geometry.ensures.ok c.in_ok-rows.ensures.ok c.in_ok-allow.ensures.ok (c.in_err-keep_pages.ensures.kept ∙ (c.in_ok-repaired.ensures.kept ∙ ap g.F.LabFiles.kept same))
     (inr (inr (inl (unwritten_before a b c.args.words.out.now _ more c.in_err-keep_pages.ensures.fault)))))
 
 pub returns-in-Ok-clause-ok : goal.returns-in-Ok-clause-ok
@@ -52,16 +59,19 @@ returns-in-Ok-clause-ok g c =
     let same = c.in_ok-allow.ensures.same in
     let words = c.args.words in
     let geometry = c.in_ok-geometry.geometry in
+    let rows = c.in_ok-rows.rows in
     let pieces = g.F.Pages.PageTarget.pieces c.in_ok-repaired.repaired.target in
     let mends = c.in_ok-repaired.repaired.mends.items in
     record {
       mends = mends;
       put = record {
         g = geometry;
+        rows = rows;
         pieces = pieces;
         geometry_is = c.in_ok-geometry.ensures.ok;
+        rows_are = c.in_ok-rows.ensures.ok;
         allowed = c.in_ok-allow.ensures.ok;
-        made = subst (λ f. IsMended (g.F.LabFiles.answers f) words.dump.now geometry pieces mends) same c.in_ok-repaired.ensures.made;
+        made = subst (λ f. IsMended (g.F.LabFiles.answers f) words.dump.now geometry rows pieces mends) same c.in_ok-repaired.ensures.made;
         put = c.in_ok-keep_pages.ensures.ok ∙ ap (λ x. with_kept x words.out.now pieces) (c.in_ok-repaired.ensures.kept ∙ ap g.F.LabFiles.kept same);
       };
       told = subst (λ f. Appends (g.W.Write.contents c.args.out.now) (g.W.Write.contents c.print_repaired.new.out) (repair_text f mends)) c.printer.ensures (subst (λ (ms : List Mend). Appends (g.W.Write.contents c.args.out.now) (g.W.Write.contents c.print_repaired.new.out) (repair_text c.printer.result.form ms)) c.deref.ensures.value c.in-Ok.ensures);
@@ -73,14 +83,17 @@ returns-clause-fault g c =
     let same = c.in_ok-allow.ensures.same in
     let words = c.args.words in
     let geometry = c.in_ok-geometry.geometry in
+    let rows = c.in_ok-rows.rows in
     let pieces = g.F.Pages.PageTarget.pieces c.in_ok-repaired.repaired.target in
     let mends = c.in_ok-repaired.repaired.mends.items in
     let put : PutRepair a words (g.F.LabFiles.kept c.args.files.now) (g.F.LabFiles.kept c.keep_pages.new.files) mends = record {
       g = geometry;
+      rows = rows;
       pieces = pieces;
       geometry_is = c.in_ok-geometry.ensures.ok;
+      rows_are = c.in_ok-rows.ensures.ok;
       allowed = c.in_ok-allow.ensures.ok;
-      made = subst (λ f. IsMended (g.F.LabFiles.answers f) words.dump.now geometry pieces mends) same c.in_ok-repaired.ensures.made;
+      made = subst (λ f. IsMended (g.F.LabFiles.answers f) words.dump.now geometry rows pieces mends) same c.in_ok-repaired.ensures.made;
       put = c.in_ok-keep_pages.ensures.ok ∙ ap (λ x. with_kept x words.out.now pieces) (c.in_ok-repaired.ensures.kept ∙ ap g.F.LabFiles.kept same);
     } in
     inr (mends, put, (c.unprinted.ensures, subst (λ f. AppendsFront (g.W.Write.contents c.args.out.now) (g.W.Write.contents c.print_repaired.new.out) (repair_text f mends)) c.printer.ensures (subst (λ (ms : List Mend). AppendsFront (g.W.Write.contents c.args.out.now) (g.W.Write.contents c.print_repaired.new.out) (repair_text c.printer.result.form ms)) c.deref.ensures.value c.in-Err.ensures)))
