@@ -1,6 +1,7 @@
 //! `nandlab`: tools for recovery laboratories, on dumps of one NAND die.
 #![tactic(auto)]
 
+mod progress;
 mod system;
 
 use lab_commands::{LabFault, run, tell};
@@ -17,10 +18,11 @@ fn word_slices(alloc: Global, kept: &[String]) -> Result<Vec<&str>, AllocError> 
 }
 
 // Does what the words of the command line say, over the system's files. Words that are no text are no command.
-fn run_over<S: Env + Files + AllocGlobal, W: Write, E: Write>(
+fn run_over<S: Env + Files + AllocGlobal, W: Write, E: Write, P: Write + Drop>(
     system: &S,
     out: &mut W,
     err: &mut E,
+    screen: P,
 ) -> u8 {
     let Ok(found) = env::args(system) else {
         return tell(&LabFault::NoSuchCommand, err);
@@ -33,7 +35,7 @@ fn run_over<S: Env + Files + AllocGlobal, W: Write, E: Write>(
         Ok(words) => run(
             system.alloc(),
             &words,
-            &mut SystemFiles::new(system),
+            &mut SystemFiles::new(system, screen),
             out,
             err,
         ),
@@ -42,5 +44,5 @@ fn run_over<S: Env + Files + AllocGlobal, W: Write, E: Write>(
 }
 
 fn main(rt: HostRuntime) -> ExitCode {
-    ExitCode::from(run_over(&rt, &mut rt.stdout(), &mut rt.stderr()))
+    ExitCode::from(run_over(&rt, &mut rt.stdout(), &mut rt.stderr(), rt.stderr()))
 }

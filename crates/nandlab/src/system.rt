@@ -1,6 +1,7 @@
 //! The files of the system.
+use crate::progress::{Meter, Metered, is_terminal, size_of};
 use lab_array::{Target, TargetFault};
-use lab_commands::{FileFault, LabFiles};
+use lab_commands::{FileFault, LabFiles, Progress};
 use lab_geometry::{Dump, DumpFault};
 use lab_scan::{PageFault, PageTarget};
 use std::fs::{self, File, OpenFile};
@@ -15,16 +16,19 @@ const READ_AHEAD: usize = 262_144;
 
 /// The system's files, by their paths.
 #[derive(Drop)]
-pub struct SystemFiles<'a, R> {
+pub struct SystemFiles<'a, R, E> {
     rt: &'a R,
+    // where the first file that may shows how far it was read
+    screen: Option<E>,
     // the name of the file that was made beside another one
     made: Option<String>,
 }
 
 /// A file of the system that is read at whatever place.
 #[derive(Drop)]
-pub struct DumpFile<F> {
+pub struct DumpFile<F, E> {
     file: F,
+    meter: Option<Meter<E>>,
 }
 
 /// A file of sectors or pages of the system, that is being written.
@@ -35,10 +39,28 @@ pub struct PieceFile<F> {
     size: u32,
 }
 
-impl<'a, R: Files + AllocGlobal> SystemFiles<'a, R> {
-    /// The files that the program's handle `rt` reaches. Nothing is opened.
-    pub fn new(rt: &'a R) -> SystemFiles<'a, R> {
-        SystemFiles { rt, made: None }
+impl<'a, R: Files + AllocGlobal, E: Write> SystemFiles<'a, R, E> {
+    /// The files that the program's handle `rt` reaches, and a screen to show progress on. Nothing is opened.
+    pub fn new(rt: &'a R, screen: E) -> SystemFiles<'a, R, E> {
+        SystemFiles {
+            rt,
+            screen: Some(screen),
+            made: None,
+        }
+    }
+
+    // A meter for a file, where it is to show how far it was read.
+    fn meter(&mut self, file: &mut R::File, progress: Progress) -> Option<Meter<E>> {
+        let shows = match progress {
+            Progress::Hidden => false,
+            Progress::IfWatched => is_terminal(self.rt),
+            Progress::Shown => true,
+        };
+        if !shows {
+            return None;
+        }
+        let size = size_of(file)?;
+        Some(Meter::new(self.screen.take()?, size))
     }
 
     // A file beside a path, of so many pieces of so many zeros.
@@ -131,7 +153,7 @@ fn real_path<R: Files + AllocGlobal>(rt: &R, path: &str) -> io::Result<String> {
     }
 }
 
-impl<F: Read + Seek> Dump for DumpFile<F> {
+impl<F: Read + Seek, E: Write> Dump for DumpFile<F, E> {
     ghost use Rattle.std.specs.Prelude.{None, true};
 
     ghost bytes = { λ _. None };
@@ -144,9 +166,13 @@ impl<F: Read + Seek> Dump for DumpFile<F> {
 
     fn read_at(&mut self, at: u64, buffer: &mut [u8]) -> Result<(), DumpFault> {
         match self.file.seek(SeekFrom::Start(at)) {
-            Ok(_) => self.file.read_exact(buffer).map_err(|_| DumpFault),
-            Err(_) => Err(DumpFault),
+            Ok(_) => self.file.read_exact(buffer).map_err(|_| DumpFault)?,
+            Err(_) => return Err(DumpFault),
         }
+        if let Some(meter) = &mut self.meter {
+            meter.advance(buffer.len() as u64);
+        }
+        Ok(())
     }
 }
 
@@ -183,13 +209,13 @@ impl<F: Seek + Write> PageTarget for PieceFile<F> {
     }
 }
 
-impl<R: Files + AllocGlobal> LabFiles for SystemFiles<'_, R> {
+impl<R: Files + AllocGlobal, E: Write + Drop> LabFiles for SystemFiles<'_, R, E> {
     ghost use Rattle.std.specs.Prelude.{None};
     ghost use Rattle.lab_commands.specs.Files.{unknown};
 
-    type Reader = BufReader<R::File>;
+    type Reader = Metered<BufReader<R::File>, E>;
 
-    type Dump = DumpFile<R::File>;
+    type Dump = DumpFile<R::File, E>;
 
     type Target = PieceFile<R::File>;
 
@@ -217,14 +243,25 @@ impl<R: Files + AllocGlobal> LabFiles for SystemFiles<'_, R> {
         }
     }
 
-    fn open(&mut self, path: &str) -> Result<BufReader<R::File>, FileFault> {
-        let file = fs::open(self.rt, path).map_err(fault_of)?;
-        BufReader::with_capacity(self.rt.alloc(), READ_AHEAD, file).map_err(fault_of)
+    fn open(
+        &mut self,
+        path: &str,
+        progress: Progress,
+    ) -> Result<Metered<BufReader<R::File>, E>, FileFault> {
+        let mut file = fs::open(self.rt, path).map_err(fault_of)?;
+        let meter = self.meter(&mut file, progress);
+        let reader = BufReader::with_capacity(self.rt.alloc(), READ_AHEAD, file).map_err(fault_of)?;
+        Ok(Metered::new(reader, meter))
     }
 
-    fn open_dump(&mut self, path: &str) -> Result<DumpFile<R::File>, FileFault> {
-        let file = fs::open(self.rt, path).map_err(fault_of)?;
-        Ok(DumpFile { file })
+    fn open_dump(
+        &mut self,
+        path: &str,
+        progress: Progress,
+    ) -> Result<DumpFile<R::File, E>, FileFault> {
+        let mut file = fs::open(self.rt, path).map_err(fault_of)?;
+        let meter = self.meter(&mut file, progress);
+        Ok(DumpFile { file, meter })
     }
 
     fn create(

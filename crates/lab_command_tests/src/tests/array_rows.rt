@@ -107,6 +107,13 @@ const FIRST: [Step; 5] = [
     Step::Run(FORCED, 3, "fault read dump.bin\n"),
 ];
 
+const DOCUMENT: &str = r#"[{"command":"array","line":"command","program":"nandlab"},
+{"key":"sector","line":"tied","number":0},
+{"key":"sector","line":"tied","number":3},
+{"line":"age","unsound":0}
+]
+"#;
+
 const CASES: [Case; 8] = [
     Case {
         name: "sectors",
@@ -123,6 +130,11 @@ const CASES: [Case; 8] = [
                 "tied sector 0\ntied sector 3\nunsound 0: the array is that of every page that was programmed\n",
             ),
             Step::Holds("out.bin", Made::Disk(&[(1, 0x11)])),
+            Step::Run(
+                "nandlab array 64,32,8,32,32 dump.bin out.bin --force --json",
+                0,
+                DOCUMENT,
+            ),
         ],
     },
     // the newest page of sector 3 is lost, and so is an erased one

@@ -44,15 +44,28 @@ const TROUBLES: [Step; 13] = [
     Step::Closed(COMPARE, 0),
 ];
 
+const DOCUMENT: &str = r#"[{"command":"compare","line":"command","program":"nandlab"},
+{"line":"lost","sector":5},
+{"line":"age","unsound":0}
+]
+"#;
+
 const CASES: [Case; 3] = [
     Case {
         name: "since",
         files: &[("cert.bin", BEFORE), ("dump.bin", Made::Dump(&SINCE))],
-        steps: &[Step::Run(
-            COMPARE,
-            0,
-            "lost sector 5\nunsound 0: the array is that of every page that was programmed\n",
-        )],
+        steps: &[
+            Step::Run(
+                COMPARE,
+                0,
+                "lost sector 5\nunsound 0: the array is that of every page that was programmed\n",
+            ),
+            Step::Run(
+                "nandlab compare 64,32,8,32,32 cert.bin dump.bin --json",
+                0,
+                DOCUMENT,
+            ),
+        ],
     },
     Case {
         name: "failures",

@@ -1,6 +1,6 @@
 //! Files in memory, whose reads and writes can fail.
 use lab_array::{Target, TargetFault};
-use lab_commands::{FileFault, LabFiles};
+use lab_commands::{FileFault, LabFiles, Progress};
 use lab_geometry::{Dump, DumpFault};
 use lab_scan::{PageFault, PageTarget};
 use std::alloc::{AllocError, Global};
@@ -269,7 +269,7 @@ impl LabFiles for MemoryFiles {
         Ok(plain(first) == plain(second))
     }
 
-    fn open(&mut self, path: &str) -> Result<MemoryReader, FileFault> {
+    fn open(&mut self, path: &str, _progress: Progress) -> Result<MemoryReader, FileFault> {
         if self.trouble == Trouble::NoMemory {
             return Err(FileFault::OutOfMemory);
         }
@@ -292,7 +292,7 @@ impl LabFiles for MemoryFiles {
         }
     }
 
-    fn open_dump(&mut self, path: &str) -> Result<MemoryDump, FileFault> {
+    fn open_dump(&mut self, path: &str, _progress: Progress) -> Result<MemoryDump, FileFault> {
         if self.trouble == Trouble::NoMemory {
             return Err(FileFault::OutOfMemory);
         }

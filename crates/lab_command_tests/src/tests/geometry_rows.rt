@@ -20,6 +20,13 @@ const TOLD: &str =
 geometry 64,32,4,64,4 looked 256 sound 3 unsound 1 table differs blocks 32 sectors 4
 geometry 64,32,16,16,4 looked 256 sound 3 unsound 1 table differs blocks 32 sectors 4\n";
 
+const DOCUMENT: &str = r#"[{"command":"geometry","line":"command","program":"nandlab"},
+{"blocks_told":32,"geometry":[64,32,8,32,4],"line":"geometry","looked":256,"sectors_told":4,"sound":3,"table":"agrees","unsound":1},
+{"blocks_told":32,"geometry":[64,32,4,64,4],"line":"geometry","looked":256,"sectors_told":4,"sound":3,"table":"differs","unsound":1},
+{"blocks_told":32,"geometry":[64,32,16,16,4],"line":"geometry","looked":256,"sectors_told":4,"sound":3,"table":"differs","unsound":1}
+]
+"#;
+
 const TROUBLES: [Step; 9] = [
     Step::Trouble(Trouble::ReadsEnd(24575)),
     Step::Run(GEOMETRY, 3, "fault read dump.bin\n"),
@@ -48,7 +55,11 @@ const CASES: [Case; 2] = [
     Case {
         name: "the shapes",
         files: &[("dump.bin", Made::Changed(&PAGES, &[(1632, 0)]))],
-        steps: &[Step::Run(GEOMETRY, 0, TOLD), Step::Closed(GEOMETRY, 0)],
+        steps: &[
+            Step::Run(GEOMETRY, 0, TOLD),
+            Step::Run("nandlab geometry --json dump.bin --progress", 0, DOCUMENT),
+            Step::Closed(GEOMETRY, 0),
+        ],
     },
     Case {
         name: "refusals",

@@ -90,6 +90,12 @@ const WORDS: [Step; 10] = [
     Step::Holds("b.bin", B),
 ];
 
+const DOCUMENT: &str = r#"[{"command":"merge","line":"command","program":"nandlab"},
+{"line":"differ","row":17},
+{"differ":1,"erased":252,"line":"merged","majority":0,"sound":3,"unsound":0}
+]
+"#;
+
 const CASES: [Case; 4] = [
     Case {
         name: "three readings",
@@ -113,6 +119,11 @@ const CASES: [Case; 4] = [
                 TWO,
                 0,
                 "differ row 17\nsound 3 differ 1 majority 0 erased 252 unsound 0\n",
+            ),
+            Step::Run(
+                "nandlab merge --json 64,32,8,32,32 json.bin a.bin b.bin",
+                0,
+                DOCUMENT,
             ),
         ],
     },

@@ -26,6 +26,68 @@ const MENDED: Made = Made::Changed(&PAGES, &[(5, 0x03), (4800, 0xFE)]);
 
 const SAID: &str = "mended row 9 bit 16\nmended row 17 bit 576\nmended 2\n";
 
+const ROW_9: Made = Made::Changed(&PAGES, &[(1704, 0x06), (5, 0x03), (4800, 0xFE)]);
+
+const DOCUMENT: &str = r#"[{"command":"repair","line":"command","program":"nandlab"},
+{"bit":16,"line":"mended","row":9},
+{"bit":576,"line":"mended","row":17},
+{"line":"repaired","mended":2}
+]
+"#;
+
+const ROWS: [Step; 14] = [
+    Step::Run(
+        "nandlab repair 64,32,8,32,32 dump.bin out.bin --rows 9..17",
+        0,
+        "mended row 9 bit 16\nmended 1\n",
+    ),
+    Step::Holds("out.bin", ROW_9),
+    Step::Run(
+        "nandlab repair --rows 10..10 64,32,8,32,32 dump.bin none.bin",
+        0,
+        "mended 0\n",
+    ),
+    Step::Holds("none.bin", SPOILED),
+    Step::Run(
+        "nandlab repair --rows 0..256 64,32,8,32,32 dump.bin all.bin --json",
+        0,
+        DOCUMENT,
+    ),
+    Step::Holds("all.bin", MENDED),
+    Step::Run(
+        "nandlab repair 64,32,8,32,32 none.bin out.bin --rows 17..16",
+        1,
+        "refused rows 1 RowRange\n",
+    ),
+    Step::Run(
+        "nandlab repair 64,32,8,32,32 none.bin out.bin --rows 0..257",
+        1,
+        "refused rows 1 RowRange\n",
+    ),
+    Step::Run(
+        "nandlab repair 64,32,8,32,32 none.bin out.bin --rows 9",
+        2,
+        "usage: bad number 9\n",
+    ),
+    Step::Run(
+        "nandlab repair 64,32,8,32,32 none.bin out.bin --rows 9...17",
+        2,
+        "usage: bad number 9...17\n",
+    ),
+    Step::Run(
+        "nandlab repair 64,32,8,32,32 none.bin out.bin --rows 9.17",
+        2,
+        "usage: bad number 9.17\n",
+    ),
+    Step::Run(
+        "nandlab repair 64,32,8,31,32,1 none.bin out.bin --rows 9",
+        2,
+        "usage: bad number 64,32,8,31,32,1\n",
+    ),
+    Step::Holds("out.bin", ROW_9),
+    Step::Closed("nandlab repair 64,32,8,32,32 dump.bin new.bin --json", 1),
+];
+
 const TROUBLES: [Step; 17] = [
     Step::Trouble(Trouble::ReadsEnd(24575)),
     Step::Run(REPAIR, 3, "fault read dump.bin\n"),
@@ -73,7 +135,7 @@ const OTHERS: [Step; 8] = [
     Step::Holds("out.bin", MENDED),
 ];
 
-const CASES: [Case; 3] = [
+const CASES: [Case; 4] = [
     Case {
         name: "mends",
         files: &[("dump.bin", SPOILED)],
@@ -83,6 +145,11 @@ const CASES: [Case; 3] = [
             Step::Closed(FORCED, 1),
             Step::Holds("dump.bin", SPOILED),
         ],
+    },
+    Case {
+        name: "rows",
+        files: &[("dump.bin", SPOILED)],
+        steps: &ROWS,
     },
     Case {
         name: "failures",
