@@ -1,4 +1,5 @@
 pub mod BitLemmas
+pub mod SealLemmas
 pub mod MendLemmas
 pub mod RepairingLemmas
 pub mod RepairedLemmas

@@ -6,6 +6,7 @@ mod laws;
 mod mending;
 mod repair;
 mod repairing;
+mod seal;
 
 pub use laws::{again_law, kept_law, mend_law, mended_law, own_law, rows_law, turned_law};
 pub use repair::{RepairFault, Repaired, repair_dump};

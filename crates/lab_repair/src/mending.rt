@@ -7,7 +7,8 @@ ghost use Rattle.lab_repair.specs.Bits.{turned_bytes};
 ghost use Rattle.lab_repair.specs.Mend.{lowest_bit, mend_of, mended, turned_if};
 ghost use Rattle.lab_repair.specs.Repairing.{IsOwn, mend_at, piece_at};
 
-use lab_scan::{Rows, is_asked, is_broken, is_sound, join_page};
+use crate::seal::Prefix;
+use lab_scan::{Rows, is_asked, is_broken, join_page};
 use page_layout::geometry::Geometry;
 
 // Turns a bit: bit k mod 8, counted from the lowest, of byte k / 8.
@@ -19,19 +20,22 @@ fn turn(bytes: &mut [u8], bit: u32)
     bytes[bit as usize / 8] ^= 1 << (bit % 8);
 }
 
-// Turns the lowest bit whose turning makes the page sound, and answers it; where there is none the page stays as it is.
+// Turns the lowest bit whose turning makes the page sound, and answers it; where there is none the page stays as it is. What stands before the byte
+// at hand in the data area is hashed once.
 fn turn_lowest(geometry: &Geometry, bytes: &mut [u8]) -> Option<u32>
     requires { length bytes.old ≡ page_bytes geometry.now }
     ensures bit { result ≡ lowest_bit (page_of geometry.now.data_bytes bytes.old) }
     ensures after { page_of geometry.now.data_bytes bytes.new ≡ turned_if (page_of geometry.now.data_bytes bytes.old) result }
 {
     let bits = 8 * bytes.len() as u32;
+    let mut prefix = Prefix::new();
     for bit in 0..bits {
         turn(bytes, bit);
-        if is_sound(geometry, bytes) {
+        if prefix.is_sound(geometry, bytes, bit) {
             return Some(bit);
         }
         turn(bytes, bit);
+        prefix.pass(geometry, bytes, bit);
     }
     None
 }

@@ -1,6 +1,7 @@
 use Rattle.std.proofs.Common.{◌≡◌, ℕ, ◌<◌, false}
 use Rattle.lab_scan.specs.PageBytes.{is_sound, page_of}
 use Rattle.lab_repair.specs.Bits.{turned_bytes}
+use Rattle.lab_repair.specs.Seal.{HasTaken}
 use Rattle.lab_repair.proofs.mending.turn_lowest.Given as goal
 
 abbrev pub invariant-loop-bit : goal.invariant-loop-bit
@@ -8,4 +9,5 @@ invariant-loop-bit l =
     record {
       same : l.bytes ≡ l.initial.bytes;
       none : (j : ℕ) → j < l.bit → is_sound (page_of l.geometry.data_bytes (turned_bytes l.initial.bytes j)) ≡ false;
+      taken : HasTaken l.geometry.data_bytes l.initial.bytes l.bit l.prefix;
     }
