@@ -8,6 +8,7 @@ use lab_commands::{LabFault, run, tell};
 use std::alloc::{AllocError, Global};
 use std::env;
 use std::io::Write;
+use std::os::unix::fs::FileExt;
 use std::process::ExitCode;
 use std::rt::{Env, Files};
 use system::SystemFiles;
@@ -23,7 +24,10 @@ fn run_over<S: Env + Files + AllocGlobal, W: Write, E: Write, P: Write + Drop>(
     out: &mut W,
     err: &mut E,
     screen: P,
-) -> u8 {
+) -> u8
+where
+    S::File: FileExt,
+{
     let Ok(found) = env::args(system) else {
         return tell(&LabFault::NoSuchCommand, err);
     };

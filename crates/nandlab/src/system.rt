@@ -6,6 +6,7 @@ use lab_geometry::{Dump, DumpFault};
 use lab_scan::{PageFault, PageTarget};
 use std::fs::{self, File, OpenFile};
 use std::io::{self, BufReader, Error, ErrorKind, Read, Seek, SeekFrom, Write};
+use std::os::unix::fs::FileExt;
 use std::rt::Files;
 
 // How many names beside a file are tried: a run that was killed may have left some.
@@ -176,16 +177,15 @@ impl<F: Read + Seek, E: Write> Dump for DumpFile<F, E> {
     }
 }
 
-impl<F: Seek + Write> PieceFile<F> {
+impl<F: FileExt> PieceFile<F> {
     // Writes the bytes of a piece.
     fn write_piece(&mut self, number: u32, bytes: &[u8]) -> io::Result<()> {
         let at = u64::from(number) * u64::from(self.size);
-        self.file.seek(SeekFrom::Start(at))?;
-        self.file.write_all(bytes)
+        self.file.write_all_at(bytes, at)
     }
 }
 
-impl<F: Seek + Write> Target for PieceFile<F> {
+impl<F: FileExt> Target for PieceFile<F> {
     ghost use Rattle.std.specs.Prelude.{None};
 
     ghost pieces = { λ _. None };
@@ -199,7 +199,7 @@ impl<F: Seek + Write> Target for PieceFile<F> {
     }
 }
 
-impl<F: Seek + Write> PageTarget for PieceFile<F> {
+impl<F: FileExt> PageTarget for PieceFile<F> {
     ghost use Rattle.std.specs.Prelude.{None};
 
     ghost pieces = { λ _. None };
@@ -209,7 +209,10 @@ impl<F: Seek + Write> PageTarget for PieceFile<F> {
     }
 }
 
-impl<R: Files + AllocGlobal, E: Write + Drop> LabFiles for SystemFiles<'_, R, E> {
+impl<R: Files + AllocGlobal, E: Write + Drop> LabFiles for SystemFiles<'_, R, E>
+where
+    R::File: FileExt,
+{
     ghost use Rattle.std.specs.Prelude.{None};
     ghost use Rattle.lab_commands.specs.Files.{unknown};
 
