@@ -41,7 +41,8 @@ void *realloc(void *old, size_t size) {
 }
 C
 cc -shared -fPIC -O1 -o "$folder/refuse.so" "$folder/refuse.c" -ldl
-cp "$top"/crates/nandctl/data/* "$top"/crates/nandlab/data/* "$folder"
+cp "$top"/crates/nandlab/data/* "$folder"
+cp "$top"/crates/nandctl/data/* "$folder"
 if [ $# -eq 0 ]; then mapfile -t words < "$top/crates/nandctl/args"; else words=("$@"); fi
 cd "$folder"
 wanted=0

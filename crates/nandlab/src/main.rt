@@ -1,13 +1,16 @@
 //! `nandlab`: tools for recovery laboratories, on dumps of one NAND die.
 #![tactic(auto)]
 
+ghost use Rattle.std.specs.Prelude.{◌≡◌, ◌≢◌};
+ghost use Rattle.std.specs.IoError.{error_kind};
+
 mod progress;
 mod system;
 
 use lab_commands::{LabFault, run, tell};
 use std::alloc::{AllocError, Global};
 use std::env;
-use std::io::Write;
+use std::io::{Error, ErrorKind, Write};
 use std::os::unix::fs::FileExt;
 use std::process::ExitCode;
 use std::rt::{Env, Files};
@@ -18,7 +21,19 @@ fn word_slices(alloc: Global, kept: &[String]) -> Result<Vec<&str>, AllocError> 
     kept.iter().map(|word| word.as_str()).collect(alloc)
 }
 
-// Does what the words of the command line say, over the system's files. Words that are no text are no command.
+// Why there are no words. Words that are no text are no command.
+fn words_fault(error: Error) -> LabFault<'static>
+    ensures memory { error_kind error ≡ ErrorKind.OutOfMemory → result ≡ LabFault.OutOfMemory }
+    ensures other { error_kind error ≢ ErrorKind.OutOfMemory → result ≡ LabFault.NoSuchCommand }
+{
+    if error.kind() == ErrorKind::OutOfMemory {
+        LabFault::OutOfMemory
+    } else {
+        LabFault::NoSuchCommand
+    }
+}
+
+// Does what the words of the command line say, over the system's files.
 fn run_over<S: Env + Files + AllocGlobal, W: Write, E: Write, P: Write + Drop>(
     system: &S,
     out: &mut W,
@@ -28,8 +43,9 @@ fn run_over<S: Env + Files + AllocGlobal, W: Write, E: Write, P: Write + Drop>(
 where
     S::File: FileExt,
 {
-    let Ok(found) = env::args(system) else {
-        return tell(&LabFault::NoSuchCommand, err);
+    let found = match env::args(system) {
+        Ok(found) => found,
+        Err(error) => return tell(&words_fault(error), err),
     };
     let kept: Result<Vec<String>, AllocError> = found.collect(system.alloc());
     let Ok(kept) = kept else {
