@@ -1,0 +1,8 @@
+//! The block device as a device of whole sectors, so that `SectorDisk` of it is a disk of bytes.
+#![tactic(auto)]
+
+mod answer;
+mod disk;
+pub mod laws;
+
+pub use disk::DeviceDisk;
