@@ -4,5 +4,7 @@
 mod answer;
 mod disk;
 pub mod laws;
+mod open;
 
 pub use disk::DeviceDisk;
+pub use open::{OpenFault, open_checked};
