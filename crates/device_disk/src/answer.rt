@@ -1,0 +1,45 @@
+//! What a disk answers where the device gave this answer.
+ghost use Rattle.std.specs.Prelude.{◌≡◌};
+ghost use Rattle.device_disk.specs.Disk.{change_answer, flush_answer, read_answer};
+
+use ftl_device::DeviceFault;
+use nbd_stream::DiskFault;
+
+// A read.
+pub(crate) fn read_answer(answer: Result<(), DeviceFault>) -> Result<(), DiskFault>
+    ensures { result ≡ read_answer answer }
+{
+    match answer {
+        Ok(()) => Ok(()),
+        Err(_) => Err(DiskFault::Failed),
+    }
+}
+
+// A write or a trim.
+pub(crate) fn change_answer(answer: Result<(), DeviceFault>) -> Result<(), DiskFault>
+    ensures { result ≡ change_answer answer }
+{
+    match answer {
+        Ok(()) => Ok(()),
+        Err(DeviceFault::ReadOnly { .. } | DeviceFault::SequenceSpent) => Err(DiskFault::ReadOnly),
+        Err(DeviceFault::OutOfMemory) => Err(DiskFault::NoSpace),
+        Err(DeviceFault::OutOfRange | DeviceFault::Damaged | DeviceFault::BusFault) => {
+            Err(DiskFault::Failed)
+        }
+    }
+}
+
+// A flush: what was answered before stands on the die, where no change is taken any more too.
+pub(crate) fn flush_answer(answer: Result<(), DeviceFault>) -> Result<(), DiskFault>
+    ensures { result ≡ flush_answer answer }
+{
+    match answer {
+        Ok(()) | Err(DeviceFault::ReadOnly { .. } | DeviceFault::SequenceSpent) => Ok(()),
+        Err(
+            DeviceFault::OutOfRange
+            | DeviceFault::OutOfMemory
+            | DeviceFault::Damaged
+            | DeviceFault::BusFault,
+        ) => Err(DiskFault::Failed),
+    }
+}

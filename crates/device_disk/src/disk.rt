@@ -1,0 +1,211 @@
+//! The device, by its sectors.
+ghost use Rattle.std.specs.Prelude.{◌≡◌, ◌≤◌, true, None, IfOk, IfErr, OnOk};
+ghost use Rattle.certificate.specs.Claim.{sizes_of};
+ghost use Rattle.allocation.specs.State.{free_count};
+ghost use Rattle.collection.specs.Collect.{HasAiling, HasNoneAiling};
+ghost use Rattle.collection.specs.Safe.{ram};
+ghost use Rattle.ftl_device.specs.Begin.{begun_ram};
+ghost use Rattle.ftl_device.specs.Calls.{HasFallen, HasRescued, HasWorked, IsQuiet};
+ghost use Rattle.ftl_device.specs.Changes.{Upkeeps};
+ghost use Rattle.ftl_device.specs.Device.{IsAcceptedFor};
+ghost use Rattle.ftl_device.specs.Turn.{HasTurned};
+ghost use Rattle.promises.specs.Step.{Turn};
+ghost use Rattle.device_disk.specs.Disk.{holds, IsDisk, LeavesBytes};
+
+use crate::answer::{change_answer, flush_answer, read_answer};
+use ftl_device::{Device, DeviceFault, StartFault};
+use image_check::Accepted;
+use nbd_stream::{DiskFault, Task};
+use onfi_cycles::Nand;
+use sector_disk::Sectors;
+use std::alloc::Global;
+use std::marker::Model;
+
+/// The block device as a device of whole sectors. To contracts it is the device. (This project's.)
+///
+/// Its contents are the array that the image on the die holds, one sector behind another, and what a stop of the die between two calls leaves is that
+/// array too: so a change that is answered lasts, and a flush makes no more last. What a host's loss of power leaves of a die that is kept elsewhere is
+/// not said here. It is honest as long as its die is and it was not stopped; it is never calm, since a device becomes read-only as its
+/// blocks fail. A call that fails and leaves it honest leaves all sectors as they were.
+#[derive(Drop)]
+pub struct DeviceDisk<N: Nand> {
+    device: Device<N>,
+}
+
+impl<N: Nand> Model for DeviceDisk<N> {
+    ghost use Rattle.ftl_device.specs.declared.device.Device.{Device};
+    ghost use Rattle.device_disk.specs.Disk.{IsDisk};
+
+    ghost Value = { Device N };
+
+    ghost view = { λ d. d.device };
+
+    ghost invariant = { λ d. IsDisk N.flash N.honest d.device };
+}
+
+impl<N: Nand> DeviceDisk<N> {
+    /// The disk of a device. Where its die is honest and it was not stopped, what it knows of its image is true, as of each device that was started
+    /// from an accepted certificate and called since.
+    pub fn new(device: Device<N>) -> DeviceDisk<N>
+        requires disk { IsDisk N.flash N.honest device }
+        ensures { result ≡ device }
+    {
+        DeviceDisk { device }
+    }
+
+    /// The disk of a device that is started over a die whose image a checker accepted. Nothing is asked of the die.
+    ///
+    /// # Errors
+    ///
+    /// `OutOfMemory` alone, where a growth was refused: the die and the certificate come back.
+    pub fn start<'a>(
+        alloc: Global,
+        nand: N,
+        accepted: Accepted<'a>,
+    ) -> Result<DeviceDisk<N>, StartFault<'a, N>>
+        requires same_geometry { sizes_of (N.flash nand).geometry ≡ accepted.claim.sizes }
+        requires accepted { N.honest nand ≡ true → IsAcceptedFor (N.flash nand) accepted }
+        ensures nand { IfOk result (λ d. d.engine.nand ≡ nand) }
+        ensures begun { IfOk result (λ d. ram d.engine ≡ begun_ram (N.flash nand).geometry accepted.entry.claim accepted.entry.stale) }
+        ensures fault { IfErr result (λ fault. fault ≡ StartFault.OutOfMemory nand accepted.entry) }
+    {
+        let device = Device::start(alloc, nand, accepted)?;
+        Ok(DeviceDisk { device })
+    }
+
+    /// Gives the device back.
+    pub fn into_device(self) -> Device<N>
+        ensures { result ≡ self }
+    {
+        self.device
+    }
+
+    /// Gives the device one idle moment between two requests, as `Device::turn` does, with all that this says. The bytes stay.
+    ///
+    /// # Errors
+    ///
+    /// Those of `Device::turn`. After `Damaged` and `BusFault` the device is stopped; after the others it holds its array as before.
+    pub fn turn(&mut self) -> Result<(), DeviceFault>
+        ensures leaves { LeavesBytes N.flash N.honest self.old result self.new }
+        ensures geometry { self.new.engine.geometry ≡ self.old.engine.geometry }
+        ensures upkeeps { Upkeeps N.flash N.recorded N.honest N.calm N.failed Turn self.old result self.new }
+        ensures turned { OnOk result (HasTurned (ram self.old.engine) (ram self.new.engine)) }
+        ensures rests { HasNoneAiling (ram self.old.engine).blocks → self.old.engine.pinned ≡ None → 12 ≤ free_count (ram self.old.engine).blocks →
+            OnOk result (self.new.engine ≡ self.old.engine) }
+        ensures quiet { holds N.honest self.old ≡ true → OnOk result (IsQuiet N.erases self.old.engine self.new.engine) }
+        ensures falls { holds N.honest self.old ≡ true → HasNoneAiling (ram self.old.engine).blocks →
+            OnOk result (HasFallen N.flash N.erases self.old.engine self.new.engine) }
+        ensures rescued { holds N.honest self.old ≡ true → OnOk result (HasRescued (ram self.old.engine) (ram self.new.engine)) }
+        ensures worked { holds N.honest self.old ≡ true → HasAiling (ram self.old.engine).blocks →
+            OnOk result (HasWorked (ram self.old.engine) (ram self.new.engine) (N.erases self.old.engine.nand) (N.erases self.new.engine.nand)) }
+    {
+        self.device.turn()
+    }
+}
+
+impl<N: Nand> Sectors for DeviceDisk<N> {
+    ghost use Rattle.std.specs.Prelude.{◌≡◌, ◌<◌, ◌*◌, false, [], length, Err, IsSome, OnErr};
+    ghost use Rattle.page_layout.specs.OnlyReads.{OnlyReads};
+    ghost use Rattle.promises.specs.Step.{Write, Trim};
+    ghost use Rattle.ftl_device.specs.Calls.{stop_of};
+    ghost use Rattle.nbd_stream.specs.Disk.{Performs, answer_from};
+    ghost use Rattle.device_disk.specs.Disk.{contents_of, holds, AsksChange, AsksFlush, KeepsOnError};
+
+    ghost contents = { contents_of N.flash N.honest };
+
+    ghost honest = { holds N.honest };
+
+    ghost calm = { λ d. false };
+
+    ghost size = { λ d. d.engine.geometry.data_bytes };
+
+    ghost count = { λ d. d.engine.geometry.sectors };
+
+    /// Gives the bytes of a sector. Nothing is programmed or erased.
+    ///
+    /// # Errors
+    ///
+    /// `Failed` where the device was stopped before, whose die is not asked then; where a page was damaged, which never is of an honest die; and
+    /// where the die gave no page, which stops the device.
+    fn read_sector(&mut self, sector: u64, buffer: &mut [u8]) -> Result<(), DiskFault>
+        requires within { sector < self.old.engine.geometry.sectors }
+        requires whole { length buffer.old ≡ self.old.engine.geometry.data_bytes }
+        ensures size { self.new.engine.geometry.data_bytes ≡ self.old.engine.geometry.data_bytes }
+        ensures count { self.new.engine.geometry.sectors ≡ self.old.engine.geometry.sectors }
+        ensures performs { Performs (contents_of N.flash N.honest) (holds N.honest) (λ d. false)
+            (Task.Read (sector * self.old.engine.geometry.data_bytes) self.old.engine.geometry.data_bytes) [] self.old (answer_from result buffer.new) self.new }
+
+        // Whatever the die does.
+        ensures stopped { IsSome (stop_of self.old.engine.fault) → (result ≡ Err DiskFault.Failed) × (self.new ≡ self.old) }
+        ensures refused { OnErr result (buffer.new ≡ buffer.old) }
+        ensures only_reads { OnlyReads N.flash N.honest N.calm N.programs N.erases N.failed self.old.engine.nand self.new.engine.nand }
+    {
+        read_answer(self.device.read(sector as u32, buffer))
+    }
+
+    /// Sets the bytes of a sector: all of them, or none where that failed and the device holds its array. It is one `Device::write`.
+    ///
+    /// # Errors
+    ///
+    /// - `ReadOnly` where the device is read-only, or has given out its last sequence: no change is taken any more, and reads go on.
+    /// - `NoSpace` where a growth was refused. The next change may be taken.
+    /// - `Failed` where the device was stopped before, or is now.
+    fn write_sector(&mut self, sector: u64, bytes: &[u8]) -> Result<(), DiskFault>
+        requires within { sector < self.old.engine.geometry.sectors }
+        requires whole { length bytes.now ≡ self.old.engine.geometry.data_bytes }
+        ensures size { self.new.engine.geometry.data_bytes ≡ self.old.engine.geometry.data_bytes }
+        ensures count { self.new.engine.geometry.sectors ≡ self.old.engine.geometry.sectors }
+        ensures performs { Performs (contents_of N.flash N.honest) (holds N.honest) (λ d. false)
+            (Task.Write (sector * self.old.engine.geometry.data_bytes) self.old.engine.geometry.data_bytes false) bytes.now self.old (answer_from result []) self.new }
+        ensures whole { KeepsOnError N.flash N.honest self.old result self.new }
+
+        // Whatever the die does.
+        ensures asked { AsksChange N.flash N.recorded N.honest N.calm N.failed sector (Write sector bytes.now) self.old result self.new }
+    {
+        change_answer(self.device.write(sector as u32, bytes))
+    }
+
+    /// Sets the bytes of a sector to zeros. It is one `Device::trim`.
+    ///
+    /// # Errors
+    ///
+    /// As `write_sector`.
+    fn trim_sector(&mut self, sector: u64) -> Result<(), DiskFault>
+        requires within { sector < self.old.engine.geometry.sectors }
+        ensures size { self.new.engine.geometry.data_bytes ≡ self.old.engine.geometry.data_bytes }
+        ensures count { self.new.engine.geometry.sectors ≡ self.old.engine.geometry.sectors }
+        ensures performs { Performs (contents_of N.flash N.honest) (holds N.honest) (λ d. false)
+            (Task.Trim (sector * self.old.engine.geometry.data_bytes) self.old.engine.geometry.data_bytes false) [] self.old (answer_from result []) self.new }
+        ensures whole { KeepsOnError N.flash N.honest self.old result self.new }
+
+        // Whatever the die does.
+        ensures asked { AsksChange N.flash N.recorded N.honest N.calm N.failed sector (Trim sector) self.old result self.new }
+    {
+        change_answer(self.device.trim(sector as u32))
+    }
+
+    /// Writes to the die what is known in memory alone, so that it may be mounted with any cache. No sector needs it to last. It is one
+    /// `Device::flush`; a device that takes no change any more has nothing to write, and is answered as one that was flushed.
+    ///
+    /// # Errors
+    ///
+    /// `Failed` where the device was stopped before, or is now.
+    fn flush(&mut self) -> Result<(), DiskFault>
+        ensures size { self.new.engine.geometry.data_bytes ≡ self.old.engine.geometry.data_bytes }
+        ensures count { self.new.engine.geometry.sectors ≡ self.old.engine.geometry.sectors }
+        ensures performs { Performs (contents_of N.flash N.honest) (holds N.honest) (λ d. false) Task.Flush [] self.old (answer_from result []) self.new }
+
+        // Whatever the die does.
+        ensures asked { AsksFlush N.flash N.recorded N.honest N.calm N.failed self.old result self.new }
+    {
+        flush_answer(self.device.flush())
+    }
+
+    fn sector_bytes(&self) -> usize {
+        self.device.engine.geometry.data_bytes()
+    }
+
+    fn sector_count(&self) -> u64 {
+        u64::from(self.device.engine.geometry.sectors())
+    }
+}

@@ -1,0 +1,21 @@
+//! What a device is as sectors of a disk. Each function does nothing: its contract is the law.
+ghost use Rattle.device_disk.specs.Laws.{ClosedLaw, HoldsLaw, LastsLaw, LengthLaw, NoSpaceLaw, ReadOnlyLaw, SectorLaw};
+
+use onfi_cycles::Nand;
+
+/// A sector of the array that the image on the die holds is a range of the disk's bytes, which are as many as all sectors have. That is said of a
+/// device that was not stopped over a die that is honest, and of no other. (This project's.)
+pub fn array_laws<N: Nand>()
+    ensures length { LengthLaw N.flash N.honest }
+    ensures sector { SectorLaw N.flash N.honest }
+    ensures lasts { LastsLaw N.flash N.honest }
+    ensures holds { HoldsLaw N.honest }
+{}
+
+/// Which refusals of the device are `NoSpace` and `ReadOnly`: `OutOfMemory` alone is the one; those after which no change is taken any more are the
+/// other, and a flush that has such a one is done. (This project's.)
+pub fn fault_laws()
+    ensures no_space { NoSpaceLaw }
+    ensures read_only { ReadOnlyLaw }
+    ensures closed { ClosedLaw }
+{}
