@@ -5,7 +5,7 @@
 ghost use Rattle.device_laws.specs.Collections.{VictimLaw, PinnedFirstLaw, NoneWaitsLaw, LowestPageLaw, RoomLaw, AilingLaw};
 ghost use Rattle.device_laws.specs.Logs.{NothingLaw, LedLaw, TakesLaw};
 ghost use Rattle.device_laws.specs.Turns.{GoesOnLaw, BeginsLaw, RescueFirstLaw};
-ghost use Rattle.device_laws.specs.Reads.{KeepsRowsLaw, RefusedReadLaw};
+ghost use Rattle.device_laws.specs.Reads.{KeepsRowsLaw, RefusedReadLaw, ReadFaultsLaw};
 ghost use Rattle.device_laws.specs.Flushes.{NoneStaleLaw, NoTableOldLaw, OneFailureLaw, ShownShortLaw, CallFailuresLaw};
 
 /// Which block is collected for a call: the pinned one, and else a closed one of the fewest newest pages, with fewer than nine blocks free. As
@@ -36,11 +36,12 @@ pub fn turn_laws()
     ensures rescue { RescueFirstLaw }
 {}
 
-/// What a read leaves: no row is lost that a translation page lacks, and one that is refused leaves memory as it was, unless the die failed.
-/// (This project.)
+/// What a read leaves: no row is lost that a translation page lacks, and one that is refused leaves memory as it was, unless the die failed. It
+/// is refused for its sector's number, for damage or by the die alone. (This project.)
 pub fn read_laws()
     ensures rows { KeepsRowsLaw }
     ensures refused { RefusedReadLaw }
+    ensures faults { ReadFaultsLaw }
 {}
 
 /// What a flush and a shortage are: after a flush that is done no sector is stale, and no table page of version 1 where the die has version 2; one
