@@ -11,8 +11,8 @@ use Rattle.collection.specs.State.{Ram}
 use Rattle.collection.specs.Collect.{has_moved}
 use Rattle.collection.specs.Room.{IsWorth, IsNextFor}
 use Rattle.promises.specs.Log.{programs_in}
-use Rattle.device_laws.specs.Collections.{VictimLaw, PinnedFirstLaw, NoneWaitsLaw, LowestPageLaw, RoomLaw, AilingLaw}
-use Rattle.device_laws.specs.Logs.{NothingLaw, LedLaw, TakesLaw}
+use Rattle.device_laws.specs.Collections.{VictimLaw, PinnedFirstLaw, NoneWaitsLaw, LowestPageLaw, RoomLaw, AilingLaw, LessLeftLaw}
+use Rattle.device_laws.specs.Logs.{NothingLaw, LedLaw, TakesLaw, LegalCallLaw}
 
 pub victim : VictimLaw
 victim r block other is none =
@@ -49,11 +49,17 @@ room r block has = (
 pub ailing : AilingLaw
 ailing s block is = (is.bad, is.some)
 
+pub less_left : LessLeftLaw
+less_left flushing p old new before after step is ne = (let left = is.left ne in omega (arith, left))
+
 pub led : LedLaw
 led old new before after told told' w = w.leads
 
 pub takes : TakesLaw
 takes old new before after told told' w = w.next
+
+pub legal : LegalCallLaw
+legal old new before after told told' w accounts agree = w.follows.legal accounts agree
 
 pub nothing : NothingLaw
 nothing old new before after told told' w empty = (
