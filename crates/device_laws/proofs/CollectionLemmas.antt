@@ -1,15 +1,13 @@
 -- Which block is collected, and what a log says, each by the fields of its definition.
-use Rattle.std.proofs.Common.{◌≡◌, ℕ, ◌+◌, ◌<◌, Bool, true, false, Option, Some, None, MatchOption, [], inl, inr, refl, sym, ap, ◌∙◌, subst, arith}
+use Rattle.std.proofs.Common.{◌≡◌, ◌<◌, Bool, true, false, Option, MatchOption, inl, inr, refl, ap, ◌∙◌, subst, arith}
 use Rattle.std.specs.Prelude.{◌||◌}
-use Rattle.page_layout.specs.Geometry.{translation_pages, vmax}
+use Rattle.page_layout.specs.Geometry.{translation_pages}
 use Rattle.page_layout.specs.declared.geometry.Geometry.{Geometry}
-use Rattle.page_layout.specs.Flash.{Flash, Operation, Leads}
+use Rattle.page_layout.specs.Flash.{Leads}
 use Rattle.mapping_cache.specs.Mapping.{MappingState}
-use Rattle.allocation.specs.State.{live_at}
 use Rattle.collection.specs.declared.engine.Pinned.{Pinned}
-use Rattle.collection.specs.State.{Ram}
 use Rattle.collection.specs.Collect.{has_moved}
-use Rattle.collection.specs.Room.{IsWorth, IsNextFor}
+use Rattle.collection.specs.Room.{IsWorth}
 use Rattle.promises.specs.Log.{programs_in}
 use Rattle.device_laws.specs.Collections.{VictimLaw, PinnedFirstLaw, NoneWaitsLaw, LowestPageLaw, RoomLaw, AilingLaw, LessLeftLaw}
 use Rattle.device_laws.specs.Logs.{NothingLaw, LedLaw, TakesLaw, LegalCallLaw}

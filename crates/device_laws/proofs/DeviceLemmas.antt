@@ -1,7 +1,6 @@
 -- What a turn, a read and a flush say, each by the fields of its definition.
-use Rattle.std.proofs.Common.{◌≡◌, Option, Some, None, MatchOption, inl, inr, refl, sym, subst, arith}
+use Rattle.std.proofs.Common.{◌≡◌, Option, MatchOption, inl, inr, refl, sym, subst, arith}
 use Rattle.collection.specs.declared.engine.Pinned.{Pinned}
-use Rattle.collection.specs.State.{Ram}
 use Rattle.collection.specs.Collect.{HasAiling, HasNoneAiling}
 use Rattle.collection.specs.Room.{IsWorth}
 use Rattle.allocation.specs.State.{State}

@@ -1,5 +1,5 @@
 -- What a turn does for bad blocks, by the fields of its definition.
-use Rattle.std.proofs.Common.{◌≡◌, ℕ, ◌<◌, ◌≤◌, refl, inl, inr, arith}
+use Rattle.std.proofs.Common.{refl, inl, inr, arith}
 use Rattle.std.proofs.lemmas.Bool.{cases_lt}
 use Rattle.command_queue.specs.Rescues.{newest_in}
 use Rattle.device_laws.specs.Rescues.{NoGainLaw, NoneAilsLaw}

@@ -1,5 +1,5 @@
 -- What the one log of a call says.
-use Rattle.std.specs.Prelude.{◌≡◌, ℕ, ◌+◌, List, [], Option}
+use Rattle.std.specs.Prelude.{◌≡◌, ◌+◌, List, [], Option}
 use Rattle.page_layout.specs.Flash.{Flash, Leads}
 use Rattle.page_layout.specs.Recording.{Recording}
 use Rattle.promises.specs.Log.{programs_in}
