@@ -1,18 +1,16 @@
 -- Which block is collected, and what a log says, each by the fields of its definition.
-use Rattle.std.proofs.Common.{◌≡◌, ℕ, ◌+◌, ◌<◌, Bool, true, false, Option, Some, None, MatchOption, [], inl, inr, refl, sym, ap, ◌∙◌, subst, arith}
+use Rattle.std.proofs.Common.{◌≡◌, ◌<◌, Bool, true, false, Option, MatchOption, inl, inr, refl, ap, ◌∙◌, subst, arith}
 use Rattle.std.specs.Prelude.{◌||◌}
-use Rattle.page_layout.specs.Geometry.{translation_pages, vmax}
+use Rattle.page_layout.specs.Geometry.{translation_pages}
 use Rattle.page_layout.specs.declared.geometry.Geometry.{Geometry}
-use Rattle.page_layout.specs.Flash.{Flash, Operation, Leads}
+use Rattle.page_layout.specs.Flash.{Leads}
 use Rattle.mapping_cache.specs.Mapping.{MappingState}
-use Rattle.allocation.specs.State.{live_at}
 use Rattle.collection.specs.declared.engine.Pinned.{Pinned}
-use Rattle.collection.specs.State.{Ram}
 use Rattle.collection.specs.Collect.{has_moved}
-use Rattle.collection.specs.Room.{IsWorth, IsNextFor}
+use Rattle.collection.specs.Room.{IsWorth}
 use Rattle.promises.specs.Log.{programs_in}
-use Rattle.device_laws.specs.Collections.{VictimLaw, PinnedFirstLaw, NoneWaitsLaw, LowestPageLaw, RoomLaw, AilingLaw}
-use Rattle.device_laws.specs.Logs.{NothingLaw, LedLaw, TakesLaw}
+use Rattle.device_laws.specs.Collections.{VictimLaw, PinnedFirstLaw, NoneWaitsLaw, LowestPageLaw, RoomLaw, AilingLaw, LessLeftLaw}
+use Rattle.device_laws.specs.Logs.{NothingLaw, LedLaw, TakesLaw, LegalCallLaw}
 
 pub victim : VictimLaw
 victim r block other is none =
@@ -49,11 +47,17 @@ room r block has = (
 pub ailing : AilingLaw
 ailing s block is = (is.bad, is.some)
 
+pub less_left : LessLeftLaw
+less_left flushing p old new before after step is ne = (let left = is.left ne in omega (arith, left))
+
 pub led : LedLaw
 led old new before after told told' w = w.leads
 
 pub takes : TakesLaw
 takes old new before after told told' w = w.next
+
+pub legal : LegalCallLaw
+legal old new before after told told' w accounts agree = w.follows.legal accounts agree
 
 pub nothing : NothingLaw
 nothing old new before after told told' w empty = (

@@ -1,13 +1,12 @@
 -- What a turn, a read and a flush say, each by the fields of its definition.
-use Rattle.std.proofs.Common.{◌≡◌, Option, Some, None, MatchOption, inl, inr, refl, sym, subst, arith}
+use Rattle.std.proofs.Common.{◌≡◌, Option, MatchOption, inl, inr, refl, sym, subst, arith}
 use Rattle.collection.specs.declared.engine.Pinned.{Pinned}
-use Rattle.collection.specs.State.{Ram}
 use Rattle.collection.specs.Collect.{HasAiling, HasNoneAiling}
 use Rattle.collection.specs.Room.{IsWorth}
 use Rattle.allocation.specs.State.{State}
 use Rattle.ftl_device.specs.declared.fault.DeviceFault.TheVariants.{OutOfRange, ReadOnly, SequenceSpent, OutOfMemory, Damaged, BusFault}
 use Rattle.device_laws.specs.Turns.{GoesOnLaw, BeginsLaw, RescueFirstLaw}
-use Rattle.device_laws.specs.Reads.{KeepsRowsLaw, RefusedReadLaw}
+use Rattle.device_laws.specs.Reads.{KeepsRowsLaw, RefusedReadLaw, ReadFaultsLaw}
 use Rattle.device_laws.specs.Flushes.{NoneStaleLaw, NoTableOldLaw, OneFailureLaw, ShownShortLaw, CallFailuresLaw}
 
 pub goes_on : GoesOnLaw
@@ -42,6 +41,14 @@ refused_read n SequenceSpent old new p q bytes other left = left
 refused_read n OutOfMemory old new p q bytes other left = left
 refused_read n Damaged old new p q bytes other left = left
 refused_read n BusFault old new p q bytes other left = absurd (other refl)
+
+pub read_faults : ReadFaultsLaw
+read_faults OutOfRange is = inl refl
+read_faults (ReadOnly good wanted failed) is = absurd is
+read_faults SequenceSpent is = absurd is
+read_faults OutOfMemory is = absurd is
+read_faults Damaged is = inr (inl refl)
+read_faults BusFault is = inr (inr refl)
 
 pub none_stale : NoneStaleLaw
 none_stale first log image out = out.fresh

@@ -1,2 +1,3 @@
 mod CollectionLemmas
 mod DeviceLemmas
+mod RescueLemmas

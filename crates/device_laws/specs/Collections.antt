@@ -1,12 +1,16 @@
 -- Which block is collected, and what is done before it is erased.
-use Rattle.std.specs.Prelude.{◌≡◌, ℕ, ◌<◌, ◌≤◌, Bool, true, false, Some, None}
+use Rattle.std.specs.Prelude.{◌≡◌, ◌≢◌, ℕ, ◌<◌, ◌≤◌, Bool, true, false, Some, None}
 use Rattle.page_layout.specs.Geometry.{translation_pages, vmax}
+use Rattle.page_layout.specs.Page.{Image}
 use Rattle.bad_blocks.specs.Table.{is_good_at}
 use Rattle.allocation.specs.State.{State, live_at, is_closed, free_count}
 use Rattle.collection.specs.declared.engine.Pinned.{Pinned}
+use Rattle.collection.specs.declared.engine.turns.Step.{Step}
+use Rattle.collection.specs.declared.engine.turns.Step.TheVariants.{Erased}
 use Rattle.collection.specs.State.{Ram}
 use Rattle.collection.specs.Collect.{has_moved, is_due, HasWritten, HasCollected, HasRoom, IsAiling}
 use Rattle.collection.specs.Room.{IsNextFor}
+use Rattle.collection.specs.Left.{StepsOn, left_in}
 
 -- THE BLOCK THAT IS COLLECTED FOR A CALL, where none is pinned: fewer than nine are free, and it is a closed one, with newest pages so few that it
 -- pays, and no other closed one has fewer
@@ -36,3 +40,8 @@ RoomLaw = (r : Ram) (block : ℕ) → HasRoom r → (5 ≤ free_count r.blocks)
 -- A PAGE IS RESCUED from a bad block alone
 abbrev pub AilingLaw : Type 0
 AilingLaw = (s : State) (block : ℕ) → IsAiling s block → (is_good_at s.table block ≡ false) × (0 < live_at s block)
+
+-- EACH STEP LEAVES LESS TO DO, but the erase that ends the collection
+abbrev pub LessLeftLaw : Type 0
+LessLeftLaw = (flushing : Bool) (p : Pinned) (old new : Ram) (before after : Image) (step : Step) → StepsOn flushing p old before new after step
+    → step ≢ Erased → left_in flushing new after p.block < left_in flushing old before p.block

@@ -3,3 +3,4 @@ pub mod Logs
 pub mod Turns
 pub mod Reads
 pub mod Flushes
+pub mod Rescues

@@ -2,15 +2,16 @@
 //! what one log says. They stand in no crate that others rest on, so that a new one has nothing proved again.
 #![tactic(auto)]
 
-ghost use Rattle.device_laws.specs.Collections.{VictimLaw, PinnedFirstLaw, NoneWaitsLaw, LowestPageLaw, RoomLaw, AilingLaw};
-ghost use Rattle.device_laws.specs.Logs.{NothingLaw, LedLaw, TakesLaw};
+ghost use Rattle.device_laws.specs.Collections.{VictimLaw, PinnedFirstLaw, NoneWaitsLaw, LowestPageLaw, RoomLaw, AilingLaw, LessLeftLaw};
+ghost use Rattle.device_laws.specs.Logs.{NothingLaw, LedLaw, TakesLaw, LegalCallLaw};
 ghost use Rattle.device_laws.specs.Turns.{GoesOnLaw, BeginsLaw, RescueFirstLaw};
-ghost use Rattle.device_laws.specs.Reads.{KeepsRowsLaw, RefusedReadLaw};
+ghost use Rattle.device_laws.specs.Rescues.{NoGainLaw, NoneAilsLaw};
+ghost use Rattle.device_laws.specs.Reads.{KeepsRowsLaw, RefusedReadLaw, ReadFaultsLaw};
 ghost use Rattle.device_laws.specs.Flushes.{NoneStaleLaw, NoTableOldLaw, OneFailureLaw, ShownShortLaw, CallFailuresLaw};
 
 /// Which block is collected for a call: the pinned one, and else a closed one of the fewest newest pages, with fewer than nine blocks free. As
 /// it is erased no sector is on the moved list; translation pages are written lowest first, and only those that have to be; room is five free
-/// blocks, and nine where a block is worth collecting. (This project.)
+/// blocks, and nine where a block is worth collecting. Each step of a collection but its last leaves less to do. (This project.)
 pub fn collection_laws()
     ensures victim { VictimLaw }
     ensures pinned { PinnedFirstLaw }
@@ -18,14 +19,16 @@ pub fn collection_laws()
     ensures lowest { LowestPageLaw }
     ensures room { RoomLaw }
     ensures ailing { AilingLaw }
+    ensures less { LessLeftLaw }
 {}
 
-/// What went on in a call is one log: it leads from the flash before it to the flash after it, each program takes the next sequence, and where
-/// it is empty nothing has changed. (This project.)
+/// What went on in a call is one log: it leads from the flash before it to the flash after it, it is legal, each program takes the next sequence,
+/// and where it is empty nothing has changed. (This project.)
 pub fn log_laws()
     ensures nothing { NothingLaw }
     ensures led { LedLaw }
     ensures takes { TakesLaw }
+    ensures legal { LegalCallLaw }
 {}
 
 /// What a turn does: it goes on with the pinned block; it begins a collection only with fewer than twelve blocks free, from page 0 of the next
@@ -36,11 +39,19 @@ pub fn turn_laws()
     ensures rescue { RescueFirstLaw }
 {}
 
-/// What a read leaves: no row is lost that a translation page lacks, and one that is refused leaves memory as it was, unless the die failed.
-/// (This project.)
+/// What a turn does for bad blocks: none of them gains a newest page, and one that programs and erases nothing found none in them. (This
+/// project.)
+pub fn rescue_laws()
+    ensures gain { NoGainLaw }
+    ensures ails { NoneAilsLaw }
+{}
+
+/// What a read leaves: no row is lost that a translation page lacks, and one that is refused leaves memory as it was, unless the die failed. It
+/// is refused for its sector's number, for damage or by the die alone. (This project.)
 pub fn read_laws()
     ensures rows { KeepsRowsLaw }
     ensures refused { RefusedReadLaw }
+    ensures faults { ReadFaultsLaw }
 {}
 
 /// What a flush and a shortage are: after a flush that is done no sector is stale, and no table page of version 1 where the die has version 2; one

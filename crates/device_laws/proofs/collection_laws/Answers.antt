@@ -1,4 +1,4 @@
-use Rattle.device_laws.proofs.CollectionLemmas.{victim, pinned_first, none_waits, lowest_page, room, ailing}
+use Rattle.device_laws.proofs.CollectionLemmas.{victim, pinned_first, none_waits, lowest_page, room, ailing, less_left}
 use Rattle.device_laws.proofs.collection_laws.Goals as goal
 
 pub returns-clause-victim : goal.returns-clause-victim
@@ -18,3 +18,6 @@ returns-clause-room c = room
 
 pub returns-clause-ailing : goal.returns-clause-ailing
 returns-clause-ailing c = ailing
+
+pub returns-clause-less : goal.returns-clause-less
+returns-clause-less c = less_left

@@ -1,4 +1,4 @@
-use Rattle.device_laws.proofs.CollectionLemmas.{nothing, led, takes}
+use Rattle.device_laws.proofs.CollectionLemmas.{nothing, led, takes, legal}
 use Rattle.device_laws.proofs.log_laws.Goals as goal
 
 pub returns-clause-nothing : goal.returns-clause-nothing
@@ -9,3 +9,6 @@ returns-clause-led c = led
 
 pub returns-clause-takes : goal.returns-clause-takes
 returns-clause-takes c = takes
+
+pub returns-clause-legal : goal.returns-clause-legal
+returns-clause-legal c = legal

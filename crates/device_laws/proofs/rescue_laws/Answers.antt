@@ -1,0 +1,8 @@
+use Rattle.device_laws.proofs.RescueLemmas.{no_gain, none_ails}
+use Rattle.device_laws.proofs.rescue_laws.Goals as goal
+
+pub returns-clause-gain : goal.returns-clause-gain
+returns-clause-gain c = no_gain
+
+pub returns-clause-ails : goal.returns-clause-ails
+returns-clause-ails c = none_ails
