@@ -1,1 +1,2 @@
 mod CommandLemmas
+mod RescueLemmas

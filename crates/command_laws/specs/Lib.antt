@@ -1,3 +1,4 @@
 pub mod Loads
 pub mod Images
 pub mod Lines
+pub mod Rescues

@@ -1,7 +1,8 @@
-//! Laws on what the commands of the program promise: which bytes were looked at, which are stored, and what is told. They stand in no crate that
-//! others rest on, so that a new one has nothing proved again.
+//! Laws on what the commands of the program promise: which bytes were looked at, which are stored, and what is told; and on the turns of a run. They
+//! stand in no crate that others rest on, so that a new one has nothing proved again.
 #![tactic(auto)]
 
+ghost use Rattle.command_laws.specs.Rescues.{NoGainLaw, NoneAilsLaw};
 ghost use Rattle.command_laws.specs.Loads.{KnownLaw, InputLaw};
 ghost use Rattle.command_laws.specs.Images.{HeldLaw, SpelledLaw, FormattedLaw, ServedLaw};
 ghost use Rattle.command_laws.specs.Lines.{ToldLaw, FailedStoreLaw, StoresInOrderLaw, UnstoredLaw};
@@ -31,4 +32,11 @@ pub fn line_laws()
     ensures failed { FailedStoreLaw }
     ensures order { StoresInOrderLaw }
     ensures stopped { UnstoredLaw }
+{}
+
+/// What a turn does for bad blocks: none of them gains a newest page, and one that programs and erases nothing found none in them. (This
+/// project.)
+pub fn rescue_laws()
+    ensures gain { NoGainLaw }
+    ensures ails { NoneAilsLaw }
 {}

@@ -1,3 +1,2 @@
 mod CollectionLemmas
 mod DeviceLemmas
-mod RescueLemmas

@@ -3,4 +3,3 @@ pub mod Logs
 pub mod Turns
 pub mod Reads
 pub mod Flushes
-pub mod Rescues

@@ -5,7 +5,6 @@
 ghost use Rattle.device_laws.specs.Collections.{VictimLaw, PinnedFirstLaw, NoneWaitsLaw, LowestPageLaw, RoomLaw, AilingLaw, LessLeftLaw};
 ghost use Rattle.device_laws.specs.Logs.{NothingLaw, LedLaw, TakesLaw, LegalCallLaw};
 ghost use Rattle.device_laws.specs.Turns.{GoesOnLaw, BeginsLaw, RescueFirstLaw};
-ghost use Rattle.device_laws.specs.Rescues.{NoGainLaw, NoneAilsLaw};
 ghost use Rattle.device_laws.specs.Reads.{KeepsRowsLaw, RefusedReadLaw, ReadFaultsLaw};
 ghost use Rattle.device_laws.specs.Flushes.{NoneStaleLaw, NoTableOldLaw, OneFailureLaw, ShownShortLaw, CallFailuresLaw};
 
@@ -37,13 +36,6 @@ pub fn turn_laws()
     ensures on { GoesOnLaw }
     ensures begins { BeginsLaw }
     ensures rescue { RescueFirstLaw }
-{}
-
-/// What a turn does for bad blocks: none of them gains a newest page, and one that programs and erases nothing found none in them. (This
-/// project.)
-pub fn rescue_laws()
-    ensures gain { NoGainLaw }
-    ensures ails { NoneAilsLaw }
 {}
 
 /// What a read leaves: no row is lost that a translation page lacks, and one that is refused leaves memory as it was, unless the die failed. It

@@ -2,7 +2,7 @@
 use Rattle.std.proofs.Common.{refl, inl, inr, arith}
 use Rattle.std.proofs.lemmas.Bool.{cases_lt}
 use Rattle.command_queue.specs.Rescues.{newest_in}
-use Rattle.device_laws.specs.Rescues.{NoGainLaw, NoneAilsLaw}
+use Rattle.command_laws.specs.Rescues.{NoGainLaw, NoneAilsLaw}
 
 pub no_gain : NoGainLaw
 no_gain g bad piece old new b r within is = r.keeps b within is

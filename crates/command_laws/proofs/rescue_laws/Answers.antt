@@ -1,5 +1,5 @@
-use Rattle.device_laws.proofs.RescueLemmas.{no_gain, none_ails}
-use Rattle.device_laws.proofs.rescue_laws.Goals as goal
+use Rattle.command_laws.proofs.RescueLemmas.{no_gain, none_ails}
+use Rattle.command_laws.proofs.rescue_laws.Goals as goal
 
 pub returns-clause-gain : goal.returns-clause-gain
 returns-clause-gain c = no_gain
