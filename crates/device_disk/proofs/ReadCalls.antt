@@ -1,6 +1,6 @@
 -- A read of the device as one of a disk.
 use Rattle.std.proofs.Common.{◌≡◌, ◌≢◌, ◌*◌, ◌<◌, ℕ, Bool, true, false, List, [], length, Some, None, Result, Ok, Err, refl, sym, ap, ◌∙◌, subst, arith}
-use Rattle.std.specs.Prelude.{IfOk, IfErr, OnOk}
+use Rattle.std.specs.Prelude.{IsOk, IfOk, IfErr, OnOk}
 use Rattle.std.specs.Option.{ForSome}
 use Rattle.std.proofs.lemmas.Option.{get_or_from_slice_get}
 use Rattle.page_layout.specs.declared.geometry.Geometry.{Geometry}
@@ -75,6 +75,16 @@ sets_read g n out s t (Err e) are within h = record {
   not_done = ap flat (steps.kept g s t (step.Read n) _ (not_done e) h);
 }
 
+given_by : (g : Geometry) (n : ℕ) (out : List ℕ) (s t : State) (result : Result (Unit {0}) DeviceFault) → n < g.sectors
+    → ArrayStep g s (step.Read n) (read_reply_of out result) t → IsOk (read_answer result)
+given_by g n out s t (Ok done) within h = refl
+given_by g n out s t (Err OutOfRange) within h = absurd (omega (arith, within, h.past))
+given_by g n out s t (Err (ReadOnly good wanted failed)) within h = absurd h
+given_by g n out s t (Err SequenceSpent) within h = absurd h
+given_by g n out s t (Err OutOfMemory) within h = absurd h
+given_by g n out s t (Err Damaged) within h = absurd h
+given_by g n out s t (Err BusFault) within h = absurd h
+
 module _ {N : Type 0} (flash : N → Flash) (honest : N → Bool) (n : ℕ) (old new : Device N) (result : Result (Unit {0}) DeviceFault) (p q : Page) (out : List ℕ)
     (was : IsDisk flash honest old) (same : honest new.engine.nand ≡ honest old.engine.nand)
     (stopped : ForSome (stop_of old.engine.fault) (λ fault. (result ≡ Err fault) × (new ≡ old)))
@@ -93,6 +103,15 @@ module _ {N : Type 0} (flash : N → Flash) (honest : N → Bool) (n : ℕ) (old
     device = device;
     well = λ h. (let before = back_here h in well (parts honest old before).0 (was.well before) (no_bus h));
   }
+
+  -- a device that holds its array still has given the sector
+  pub read_given : n < old.engine.geometry.sectors
+      → (honest old.engine.nand ≡ true → IsWell flash old → result ≢ Err BusFault
+      → ArrayStep old.engine.geometry (state_in flash old) (step.Read n) (read_reply_of out result) (state_in flash new))
+      → holds honest new ≡ true → IsOk (read_answer result)
+  read_given within step_is h =
+      let before : holds honest old ≡ true = back_here h in
+      given_by old.engine.geometry n out (state_in flash old) (state_in flash new) result within (step_is (parts honest old before).0 (was.well before) (no_bus h))
 
   pub read_performs : n < old.engine.geometry.sectors → length out ≡ old.engine.geometry.data_bytes → IsDisk flash honest new
       → (honest old.engine.nand ≡ true → IsWell flash old → result ≢ Err BusFault

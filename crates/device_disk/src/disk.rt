@@ -104,7 +104,7 @@ impl<N: Nand> DeviceDisk<N> {
 }
 
 impl<N: Nand> Sectors for DeviceDisk<N> {
-    ghost use Rattle.std.specs.Prelude.{◌≡◌, ◌<◌, ◌*◌, false, [], length, Err, IsSome, OnErr};
+    ghost use Rattle.std.specs.Prelude.{◌≡◌, ◌<◌, ◌*◌, false, [], length, true, Err, IsOk, IsSome, OnErr};
     ghost use Rattle.page_layout.specs.OnlyReads.{OnlyReads};
     ghost use Rattle.promises.specs.Step.{Write, Trim};
     ghost use Rattle.ftl_device.specs.Calls.{stop_of};
@@ -134,6 +134,7 @@ impl<N: Nand> Sectors for DeviceDisk<N> {
         ensures count { self.new.engine.geometry.sectors ≡ self.old.engine.geometry.sectors }
         ensures performs { Performs (contents_of N.flash N.honest) (holds N.honest) (λ d. false)
             (Task.Read (sector * self.old.engine.geometry.data_bytes) self.old.engine.geometry.data_bytes) [] self.old (answer_from result buffer.new) self.new }
+        ensures given { holds N.honest self.new ≡ true → IsOk result }
 
         // Whatever the die does.
         ensures stopped { IsSome (stop_of self.old.engine.fault) → (result ≡ Err DiskFault.Failed) × (self.new ≡ self.old) }

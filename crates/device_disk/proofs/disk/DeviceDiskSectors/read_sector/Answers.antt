@@ -1,9 +1,10 @@
 use Rattle.std.proofs.Common.{◌≡◌, ◌<◌, ◌*◌, ◌∙◌, false, [], ap, length, rules, subst, sym}
+use Rattle.std.specs.Prelude.{IsOk}
 use Rattle.nbd_stream.specs.Disk.{Performs, answer_from}
 use Rattle.nbd_stream.specs.declared.task.Task.TheVariants as task
 use Rattle.collection.specs.Safe.{page_in}
 use Rattle.device_disk.specs.Disk.{contents_of, holds, read_answer}
-use Rattle.device_disk.proofs.ReadCalls.{read_disk, read_performs}
+use Rattle.device_disk.proofs.ReadCalls.{read_disk, read_given, read_performs}
 use Rattle.device_disk.proofs.disk.DeviceDiskSectors.read_sector.Goals as goal
 
 pub invariant_of-self : goal.invariant_of-self
@@ -26,3 +27,11 @@ returns-clause-performs g c =
     (read_performs g.N.PageSource.flash g.N.PageSource.honest c.args.sector c.self.inside.device c.read.new.self c.read.result
     (page_in c.read.new.self.engine.scratch) (page_in c.read.new.self.engine.page) c.read.new.out c.self.invariant c.read.ensures.only_reads.honest_is
     c.read.ensures.stopped c.read.ensures.memory within whole (invariant_of-self g c) c.read.ensures.step))
+
+pub returns-clause-given : goal.returns-clause-given
+returns-clause-given g c =
+    let within : c.args.sector < c.self.inside.device.engine.geometry.sectors = subst (λ d. c.args.sector < d.engine.geometry.sectors) (sym c.self.view_is) c.requires.within in
+    λ h. subst (λ r. IsOk r) (sym c.read_answer.ensures)
+    (read_given g.N.PageSource.flash g.N.PageSource.honest c.args.sector c.self.inside.device c.read.new.self c.read.result
+    (page_in c.read.new.self.engine.scratch) (page_in c.read.new.self.engine.page) c.read.new.out c.self.invariant c.read.ensures.only_reads.honest_is
+    c.read.ensures.stopped c.read.ensures.memory within c.read.ensures.step h)
