@@ -4,7 +4,7 @@ ghost use Rattle.page_layout.specs.Array.{array_of};
 ghost use Rattle.page_layout.specs.OnlyReads.{OnlyReads};
 ghost use Rattle.ftl_device.specs.Calls.{array_in};
 ghost use Rattle.device_disk.specs.Disk.{holds};
-ghost use Rattle.device_disk.specs.Open.{nand_of};
+ghost use Rattle.device_disk.specs.Open.{IsUnopened, nand_of};
 
 use crate::disk::DeviceDisk;
 use certificate::Certificate;
@@ -31,10 +31,10 @@ pub enum OpenFault<N> {
 ///
 /// # Errors
 ///
-/// - `Refused` with the checker's refusal.
-/// - `Start` where a growth was refused.
+/// - `Refused` with the checker's refusal, which is so of an honest die.
+/// - `Start` where the certificate was accepted and a growth was refused.
 ///
-/// The die comes back in each case, as honest and as calm as it was, with no fewer faults counted. (This project's.)
+/// The die comes back in each case, its pages as they were but where a read failed, as honest and as calm as it was, with no fewer faults counted. (This project's.)
 pub fn open_checked<N: Nand>(
     alloc: Global,
     mut nand: N,
@@ -47,6 +47,7 @@ pub fn open_checked<N: Nand>(
     ensures honest { IfOk result (λ d. holds N.honest d ≡ N.honest nand) }
     ensures array { IfOk result (λ d. N.honest nand ≡ true → array_in N.flash d ≡ array_of geometry.now (N.flash nand).image) }
     ensures reads { IfOk result (λ d. OnlyReads N.flash N.honest N.calm N.programs N.erases N.failed nand d.engine.nand) }
+    ensures unopened { IfErr result (IsUnopened N.flash N.honest nand geometry.now capacity certificate.now) }
     ensures fault { IfErr result (λ fault. OnlyReads N.flash N.honest N.calm N.programs N.erases N.failed nand (nand_of fault)) }
 {
     let accepted = match check(alloc, &mut nand, geometry, capacity, certificate) {
