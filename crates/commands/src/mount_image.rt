@@ -59,11 +59,12 @@ fn mount_bytes<'a>(
         Err(refusal) => return Err(CommandFault::Mount(refusal)),
     };
     let written = spell(alloc, &made.certificate)?;
+    let stale = made.stale.len() as u32;
     Ok(Mounted {
         written,
         next: made.certificate.next_sequence(),
         good: made.certificate.good(),
-        stale: made.stale,
+        stale,
     })
 }
 

@@ -5,9 +5,10 @@ ghost use Rattle.image_check.specs.Rising.{IsRisingBelow};
 use certificate::Certificate;
 use std::marker::Model;
 
-/// A certificate that the checker found to agree with an image, and the sectors that are stale there.
+/// A certificate that agrees with an image, and the sectors that are stale there.
 ///
-/// Only the checker makes one. It borrows the certificate, which a device started from it reads without a copy.
+/// The checker makes one, and whoever made the certificate by looking at the whole image knows as much. It borrows the certificate, which a
+/// device started from it reads without a copy.
 #[derive(Drop)]
 pub struct Accepted<'a> {
     certificate: &'a Certificate,
@@ -27,7 +28,9 @@ impl<'a> Model for Accepted<'a> {
 }
 
 impl<'a> Accepted<'a> {
-    pub(crate) fn new(certificate: &'a Certificate, stale: Vec<u32>) -> Accepted<'a>
+    /// What is known of a certificate. That it agrees with an image, and that these are its stale sectors, is for the caller to know:
+    /// `IsAcceptance` says it. (This project's.)
+    pub fn new(certificate: &'a Certificate, stale: Vec<u32>) -> Accepted<'a>
         requires few { length stale.items ≤ certificate.now.capacity }
         requires rising { IsRisingBelow certificate.now.sizes.sectors stale.items }
         ensures claim { result.claim ≡ certificate.now }

@@ -1,10 +1,11 @@
 //! Mounting: an image's certificate is made, or it is said why it has none.
-ghost use Rattle.std.specs.Prelude.{◌≡◌, ◌≢◌, ◌≤◌, ◌+◌, [], true, Err, vec_capacity, IfOk, IfErr};
+ghost use Rattle.std.specs.Prelude.{◌≡◌, ◌≢◌, ◌≤◌, ◌+◌, [], true, Err, length, vec_capacity, IfOk, IfErr};
 ghost use Rattle.page_layout.specs.Counter.{HasRisen};
 ghost use Rattle.page_layout.specs.Geometry.{row_count, translation_pages, table_pages};
 ghost use Rattle.page_layout.specs.OnlyReads.{OnlyReads};
 ghost use Rattle.image_check.specs.Agrees.{IsAsked};
-ghost use Rattle.image_check.specs.Stale.{stale_count};
+ghost use Rattle.image_check.specs.Rising.{IsRisingBelow};
+ghost use Rattle.image_check.specs.Stale.{stale_sectors};
 ghost use Rattle.mount.specs.Mounted.{IsMounted, Refuses, IsOfMounting};
 ghost use Rattle.mount.specs.Shown.{IsShownSized, HasWords};
 
@@ -48,12 +49,12 @@ fn put_directory(words: &mut Vec<u32>, geometry: &Geometry, shown: &Shown)
 pub struct Mounted {
     /// The image's certificate.
     pub certificate: Certificate,
-    /// How many sectors are stale: their entry in the newest translation page isn't the row of their newest page.
-    pub stale: u32,
+    /// The sectors that are stale, rising: their entry in the newest translation page isn't the row of their newest page.
+    pub stale: Vec<u32>,
 }
 
-/// The certificate of an image, and how many sectors are stale. It is `mount` but for that count: it reads, takes and refuses
-/// as `mount` does, and the checker accepts the certificate with just so many stale sectors.
+/// The certificate of an image, and its stale sectors. It is `mount` but for these: it reads, takes and refuses as `mount` does, and
+/// the checker accepts the certificate with just these stale sectors. So a device may be started from it with no second look at the image.
 ///
 /// # Errors
 /// As of `mount`. (This project's rules.)
@@ -68,11 +69,12 @@ pub fn mount_counted<S: PageSource>(
     requires most { capacity ≤ 65536 }
     // The truth of the answer, for a source that keeps its promises.
     ensures ok { IfOk result (λ mounted. S.honest source.old ≡ true → IsMounted geometry.now capacity (S.flash source.old).image mounted.certificate) }
-    ensures stale { IfOk result (λ mounted. S.honest source.old ≡ true → mounted.stale ≡ stale_count geometry.now (S.flash source.old).image) }
+    ensures stale { IfOk result (λ mounted. S.honest source.old ≡ true → mounted.stale.items ≡ stale_sectors geometry.now (S.flash source.old).image) }
     ensures err { IfErr result (λ refusal. S.honest source.old ≡ true → Refuses geometry.now capacity (S.flash source.old).image refusal) }
     ensures same { result ≢ Err Refusal.Source → S.honest source.old ≡ true → S.flash source.new ≡ S.flash source.old }
     // Whatever the source does.
-    ensures few { IfOk result (λ mounted. mounted.stale ≤ capacity) }
+    ensures few { IfOk result (λ mounted. length mounted.stale.items ≤ capacity) }
+    ensures rising { IfOk result (λ mounted. IsRisingBelow geometry.now.sectors mounted.stale.items) }
     ensures asked { IfOk result (λ mounted. IsAsked geometry.now capacity mounted.certificate) }
     ensures only { IfErr result IsOfMounting }
     ensures only_reads { OnlyReads S.flash S.honest S.calm S.programs S.erases S.failed source.old source.new }
@@ -94,9 +96,12 @@ pub fn mount_counted<S: PageSource>(
         &mut spare,
         &mut stale,
     )?;
-    let stale = stale.len() as u32;
-    if stale > capacity {
-        return Err(Refusal::TooStale { stale, capacity });
+    let count = stale.len() as u32;
+    if count > capacity {
+        return Err(Refusal::TooStale {
+            stale: count,
+            capacity,
+        });
     }
     put_sectors(&mut sectors, geometry, &shown);
     put_directory(&mut directory, geometry, &shown);

@@ -179,7 +179,7 @@ fn hold_case(rt: &impl Abort, alloc: Global, case: &Case, layout: Layout) -> Res
         Ok(Mounted { certificate, stale }) => {
             let (said, want) = case.answer?;
             hold_said(rt, case.name, &certificate, said);
-            assert!(rt; stale as usize == want, "{}, as mounted", case.name);
+            assert!(rt; stale.len() == want, "{}, as mounted", case.name);
             let checked = stale_count(alloc, &mut source, &geometry, case.capacity, &certificate);
             assert!(rt; checked == Ok(want), "{}, as checked", case.name);
         }
