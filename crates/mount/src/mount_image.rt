@@ -1,7 +1,8 @@
 //! Mounting: an image's certificate is made, or it is said why it has none.
-ghost use Rattle.std.specs.Prelude.{◌≡◌, ◌≢◌, ◌≤◌, ◌+◌, [], true, Err, length, vec_capacity, IfOk, IfErr};
+ghost use Rattle.std.specs.Prelude.{◌≡◌, ◌≢◌, ◌≤◌, ◌+◌, [], true, Err, length, vec_capacity, IfOk, IfErr, OnOk};
 ghost use Rattle.page_layout.specs.Counter.{HasRisen};
 ghost use Rattle.page_layout.specs.Geometry.{row_count, translation_pages, table_pages};
+ghost use Rattle.page_layout.specs.Page.{IsImage};
 ghost use Rattle.page_layout.specs.OnlyReads.{OnlyReads};
 ghost use Rattle.image_check.specs.Agrees.{IsAsked};
 ghost use Rattle.image_check.specs.Rising.{IsRisingBelow};
@@ -70,6 +71,7 @@ pub fn mount_counted<S: PageSource>(
     // The truth of the answer, for a source that keeps its promises.
     ensures ok { IfOk result (λ mounted. S.honest source.old ≡ true → IsMounted geometry.now capacity (S.flash source.old).image mounted.certificate) }
     ensures stale { IfOk result (λ mounted. S.honest source.old ≡ true → mounted.stale.items ≡ stale_sectors geometry.now (S.flash source.old).image) }
+    ensures whole { OnOk result (S.honest source.old ≡ true → IsImage geometry.now (S.flash source.old).image) }
     ensures err { IfErr result (λ refusal. S.honest source.old ≡ true → Refuses geometry.now capacity (S.flash source.old).image refusal) }
     ensures same { result ≢ Err Refusal.Source → S.honest source.old ≡ true → S.flash source.new ≡ S.flash source.old }
     // Whatever the source does.

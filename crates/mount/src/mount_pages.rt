@@ -1,10 +1,10 @@
 //! What all pages of an image show: the state of each block, the newest page of each key, and the next sequence.
-ghost use Rattle.std.specs.Prelude.{◌≡◌, ◌≢◌, ◌≤◌, ◌+◌, ℕ, true, Err, length, IfOk, IfErr};
+ghost use Rattle.std.specs.Prelude.{◌≡◌, ◌≢◌, ◌≤◌, ◌+◌, ℕ, true, Err, length, IfOk, IfErr, OnOk};
 ghost use Rattle.page_layout.specs.declared.geometry.Geometry.{Geometry};
 ghost use Rattle.page_layout.specs.Array.{marks};
 ghost use Rattle.page_layout.specs.Counter.{HasRisen};
 ghost use Rattle.page_layout.specs.Geometry.{row_count};
-ghost use Rattle.page_layout.specs.Page.{Image};
+ghost use Rattle.page_layout.specs.Page.{Image, IsImage};
 ghost use Rattle.page_layout.specs.OnlyReads.{OnlyReads};
 ghost use Rattle.image_check.specs.declared.refusal.Refusal.TheVariants as refusals;
 ghost use Rattle.image_check.specs.Agrees.{HasTables};
@@ -41,6 +41,7 @@ fn survey_pages<S: PageSource>(
     requires spare_whole { length spare.old ≡ geometry.now.spare_bytes }
     ensures sized { IfOk result (IsSized geometry.now (row_count geometry.now)) }
     ensures surveys { IfOk result (λ survey. S.honest source.old ≡ true → Surveys geometry.now (S.flash source.old).image survey) }
+    ensures whole { OnOk result (S.honest source.old ≡ true → IsImage geometry.now (S.flash source.old).image) }
     ensures stops { IfErr result IsStop }
     ensures same { result ≢ Err Refusal.Source → S.honest source.old ≡ true → S.flash source.new ≡ S.flash source.old }
     ensures only_reads { OnlyReads S.flash S.honest S.calm S.programs S.erases S.failed source.old source.new }
@@ -84,6 +85,7 @@ pub(crate) fn show_pages<S: PageSource>(
     requires spare_whole { length spare.old ≡ geometry.now.spare_bytes }
     ensures sized { IfOk result (IsShownSized geometry.now) }
     ensures shown { IfOk result (λ shown. S.honest source.old ≡ true → IsShown geometry.now (S.flash source.old).image shown) }
+    ensures whole { OnOk result (S.honest source.old ≡ true → IsImage geometry.now (S.flash source.old).image) }
     ensures err { IfErr result (λ refusal. S.honest source.old ≡ true → (capacity : ℕ) → Refuses geometry.now capacity (S.flash source.old).image refusal) }
     ensures only { IfErr result IsOfMounting }
     ensures same { result ≢ Err Refusal.Source → S.honest source.old ≡ true → S.flash source.new ≡ S.flash source.old }

@@ -1,5 +1,7 @@
 use Rattle.std.proofs.Common.{rules, ◌≡◌, arith, refl, ◌∙◌, subst}
 use Rattle.page_layout.specs.Geometry.{row_count}
+use Rattle.page_layout.specs.Flash.{Flash}
+use Rattle.page_layout.specs.Page.{IsImage}
 use Rattle.page_layout.proofs.GeometryLemmas.{some_rows}
 use Rattle.image_check.specs.Surveyed.{IsSurvey}
 use Rattle.image_check.proofs.JudgeLemmas.{surveys_of}
@@ -44,3 +46,10 @@ returns-clause-surveys g c = λ honest.
     let rows : c.loop-row.row ≡ row_count geo = omega arith in
     let all : IsSurvey geo first.image (row_count geo) c.loop-row.survey = subst (λ n. IsSurvey geo first.image n c.loop-row.survey) rows (inv.seen honest) in
     surveys_of geo first (g.S.PageSource.flash c.loop-row.source) c.loop-row.survey (inv.same honest) (inv.whole (omega (arith, some_rows geo, rows)) honest) all
+
+pub returns-clause-whole : goal.returns-clause-whole
+returns-clause-whole g c = λ honest.
+    let geo = c.args.geometry.now in
+    let inv = c.loop-row.invariant in
+    let rows : c.loop-row.row ≡ row_count geo = omega arith in
+    subst (λ (f : Flash). IsImage geo f.image) (inv.same honest) (inv.whole (omega (arith, some_rows geo, rows)) honest)
