@@ -1,0 +1,3 @@
+pub mod Made
+pub mod Opened
+pub mod Synced

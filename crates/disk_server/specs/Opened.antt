@@ -1,0 +1,51 @@
+-- A DISK AS IT IS OPENED, and why there is none.
+use Rattle.std.specs.Prelude.{◌≡◌, ◌≢◌, ℕ, Bool, true, List}
+use Rattle.page_layout.specs.declared.geometry.Geometry.{Geometry}
+use Rattle.page_layout.specs.Array.{array_of}
+use Rattle.page_layout.specs.Flash.{Flash}
+use Rattle.onfi_cycles.specs.Driver.{DriverState, flash_by}
+use Rattle.file_die.specs.Store.{Held}
+use Rattle.file_die.specs.Die.{FileState, shown}
+use Rattle.sector_disk.specs.Flat.{flat}
+use Rattle.certificate.specs.Claim.{Claim}
+use Rattle.image_check.specs.declared.refusal.Refusal.{Refusal}
+use Rattle.image_check.specs.declared.refusal.Refusal.TheVariants.{Source}
+use Rattle.mount.specs.Mounted.{IsMounted, Refuses}
+use Rattle.device_disk.specs.declared.open.OpenFault.{OpenFault}
+use Rattle.device_disk.specs.declared.open.OpenFault.TheVariants.{Refused, Start}
+use Rattle.disk_server.specs.declared.opened.OpenStoreFault.{OpenStoreFault}
+use Rattle.disk_server.specs.declared.opened.OpenStoreFault.TheVariants as why
+
+-- the image was not mounted: of an honest die for what is so of it, and it is as it was unless a read failed
+pub record IsRefused {N : Type 0} (flash : N → Flash) (honest : N → Bool) (nand : N) (g : Geometry) (capacity : ℕ) (why : Refusal) (given : N) : Type 0 where
+  pub refuses : honest nand ≡ true → Refuses g capacity (flash nand).image why
+  pub same : why ≢ Source → honest nand ≡ true → flash given ≡ flash nand
+
+-- it has a certificate, and is as it was, but no memory was left to start a device
+pub record IsUnstarted {N : Type 0} (flash : N → Flash) (honest : N → Bool) (nand : N) (g : Geometry) (capacity : ℕ) (given : N) : Type 0 where
+  pub certificate : Claim
+  pub mounted : honest nand ≡ true → IsMounted g capacity (flash nand).image certificate
+  pub same : honest nand ≡ true → flash given ≡ flash nand
+
+abbrev pub IsUnmounted : {N : Type 0} → (N → Flash) → (honest : N → Bool) → N → Geometry → (capacity : ℕ) → OpenFault N → Type 0
+IsUnmounted flash honest nand g capacity (Refused why given) = IsRefused flash honest nand g capacity why given
+IsUnmounted flash honest nand g capacity (Start given) = IsUnstarted flash honest nand g capacity given
+
+-- ---- over a store
+
+-- what the driver of a die over a store shows, and whether it is honest
+abbrev pub flash_in : {S : Type 0} → (S → Held) → DriverState (FileState S) → Flash
+flash_in held d = flash_by (shown held) d
+
+abbrev pub is_honest_in : {S : Type 0} → (S → Bool) → DriverState (FileState S) → Bool
+is_honest_in honest d = honest d.bus.store
+
+-- THE DISK OF A STORE: the bytes of the array that its pages hold, one sector behind another
+abbrev pub bytes_of : Held → List ℕ
+bytes_of s = flat (array_of s.geometry s.pages)
+
+-- why there is none: what keeps the pages from being mounted is so of an honest store
+abbrev pub IsUnopened : {S : Type 0} → (S → Held) → (honest : S → Bool) → S → (capacity : ℕ) → OpenStoreFault → Type 0
+IsUnopened held honest store capacity why.OutOfMemory = Unit {0}
+IsUnopened held honest store capacity why.Device = Unit {0}
+IsUnopened held honest store capacity (why.Mount refusal) = honest store ≡ true → Refuses (held store).geometry capacity (held store).pages refusal

@@ -1,0 +1,54 @@
+//! A die is mounted, and the disk of a device is started over it.
+ghost use Rattle.std.specs.Prelude.{◌≡◌, ◌≤◌, true, IfOk, IfErr};
+ghost use Rattle.page_layout.specs.Array.{array_of};
+ghost use Rattle.page_layout.specs.OnlyReads.{OnlyReads};
+ghost use Rattle.ftl_device.specs.Calls.{array_in};
+ghost use Rattle.device_disk.specs.Disk.{holds};
+ghost use Rattle.device_disk.specs.Open.{nand_of};
+ghost use Rattle.disk_server.specs.Opened.{IsUnmounted};
+
+use device_disk::{DeviceDisk, OpenFault};
+use ftl_device::StartFault;
+use image_check::Accepted;
+use mount::{Mounted, mount_counted};
+use onfi_cycles::Nand;
+use page_layout::geometry::Geometry;
+use std::alloc::Global;
+
+/// Mounts what a die holds, and starts a device from it: of a die that is honest, the disk has the array that the image holds, byte by byte, and is
+/// honest. The certificate of a mount agrees with the image, so it is not checked again, and each page is looked at once, the newest translation pages
+/// twice. Whatever the die is, it is asked for reads alone. The cache has room for `capacity` entries.
+///
+/// # Errors
+///
+/// - `Refused` with what keeps the image from being mounted, which is so of an honest die.
+/// - `Start` where the image was mounted and a growth was refused.
+///
+/// The die comes back in each case, its pages as they were but where a read failed, as honest and as calm as it was, with no fewer faults counted. (This project's.)
+pub fn open_mounted<N: Nand>(
+    alloc: Global,
+    mut nand: N,
+    geometry: &Geometry,
+    capacity: u32,
+) -> Result<DeviceDisk<N>, OpenFault<N>>
+    requires same_geometry { (N.flash nand).geometry ≡ geometry.now }
+    requires least { 1 ≤ capacity }
+    requires most { capacity ≤ 65536 }
+    ensures geometry { IfOk result (λ d. d.engine.geometry ≡ geometry.now) }
+    ensures honest { IfOk result (λ d. holds N.honest d ≡ N.honest nand) }
+    ensures array { IfOk result (λ d. N.honest nand ≡ true → array_in N.flash d ≡ array_of geometry.now (N.flash nand).image) }
+    ensures reads { IfOk result (λ d. OnlyReads N.flash N.honest N.calm N.programs N.erases N.failed nand d.engine.nand) }
+    ensures unmounted { IfErr result (IsUnmounted N.flash N.honest nand geometry.now capacity) }
+    ensures fault { IfErr result (λ fault. OnlyReads N.flash N.honest N.calm N.programs N.erases N.failed nand (nand_of fault)) }
+{
+    let (certificate, stale) = match mount_counted(alloc, &mut nand, geometry, capacity) {
+        Ok(Mounted { certificate, stale }) => (certificate, stale),
+        Err(refusal) => return Err(OpenFault::Refused { refusal, nand }),
+    };
+    let accepted = Accepted::new(&certificate, stale);
+    let disk = match DeviceDisk::start(alloc, nand, accepted) {
+        Ok(disk) => disk,
+        Err(StartFault::OutOfMemory { nand, .. }) => return Err(OpenFault::Start { nand }),
+    };
+    Ok(disk)
+}

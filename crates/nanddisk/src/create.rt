@@ -1,0 +1,182 @@
+//! The command `create`: a new disk, of a size, of a geometry, or from a dump.
+use crate::fault::{Fault, unread, unwritten};
+use crate::files::{die_bytes, shape_name};
+use disk_server::{CreateFault, OpenStoreFault, format_store, mount_store};
+use disk_shape::{Shape, write_shape};
+use file_die::{FileStore, Store};
+use page_layout::geometry::Geometry;
+use std::fs::{self, File, OpenOptions, TryLockError};
+use std::io::{self, ErrorKind, Read, Seek, SeekFrom, Write};
+use std::rt::Files;
+
+// Whether nothing stands at a path, and no link either.
+fn is_free<R: Files>(rt: &R, path: &str) -> io::Result<bool> {
+    match fs::symlink_metadata(rt, path) {
+        Ok(_) => Ok(false),
+        Err(error) if error.kind() == ErrorKind::NotFound => Ok(true),
+        Err(error) => Err(error),
+    }
+}
+
+// Refuses a path at which something stands.
+fn want_free<'a, R: Files>(rt: &R, name: &str, path: &'a str) -> Result<(), Fault<'a>> {
+    match is_free(rt, name) {
+        Ok(true) => Ok(()),
+        Ok(false) => Err(Fault::Exists(path)),
+        Err(error) => Err(unread(path, error)),
+    }
+}
+
+// An empty file that is to become the one at a path. One that an earlier run has left is taken over, and one that another run is at is not.
+fn new_part<'a, R: Files<File = File>>(
+    rt: &R,
+    name: &str,
+    path: &'a str,
+) -> Result<File, Fault<'a>> {
+    let opened = OpenOptions::new()
+        .read(true)
+        .write(true)
+        .create(true)
+        .open(rt, name);
+    let file = opened.map_err(|error| unwritten(path, error))?;
+    match file.try_lock() {
+        Ok(()) => {}
+        Err(TryLockError::WouldBlock) => return Err(Fault::InUse(path)),
+        Err(TryLockError::Error(error)) => return Err(unwritten(path, error)),
+    }
+    match file.set_len(0) {
+        Ok(()) => Ok(file),
+        Err(error) => Err(unwritten(path, error)),
+    }
+}
+
+// Erases all blocks of a store.
+fn erase_all(store: &mut FileStore, blocks: u32) -> bool {
+    for block in 0..blocks {
+        if store.clear(block).is_err() {
+            return false;
+        }
+    }
+    true
+}
+
+// A formatted die in a file.
+fn put_new<'a, R: AllocGlobal>(
+    rt: &R,
+    file: File,
+    shape: &Shape,
+    path: &'a str,
+) -> Result<(), Fault<'a>> {
+    let Ok(mut store) = FileStore::new(rt.alloc(), shape.geometry, file) else {
+        return Err(Fault::OutOfMemory);
+    };
+    if !erase_all(&mut store, shape.geometry.blocks()) {
+        return Err(Fault::Write(path));
+    }
+    match format_store(rt.alloc(), store) {
+        Ok(_) => Ok(()),
+        Err(CreateFault::Open(OpenStoreFault::OutOfMemory)) => Err(Fault::OutOfMemory),
+        Err(fault) => Err(Fault::Create(path, fault)),
+    }
+}
+
+// Copies a dump of just so many bytes.
+fn copy_dump<'a, R: Files<File = File>>(
+    rt: &R,
+    dump: &'a str,
+    file: &File,
+    wanted: u64,
+    path: &'a str,
+) -> Result<(), Fault<'a>> {
+    let mut from = fs::open(rt, dump).map_err(|error| unread(dump, error))?;
+    let found = from
+        .seek(SeekFrom::End(0))
+        .map_err(|error| unread(dump, error))?;
+    if found != wanted {
+        return Err(Fault::Length(dump, found, wanted));
+    }
+    from.seek(SeekFrom::Start(0))
+        .map_err(|error| unread(dump, error))?;
+    let mut to = file;
+    match io::copy(&mut from, &mut to) {
+        Ok(_) => file.sync_all().map_err(|error| unwritten(path, error)),
+        Err(error) => Err(unwritten(path, error)),
+    }
+}
+
+// A die in a file that has a dump's pages, if these are a device's.
+fn put_dump<'a, R: Files<File = File> + AllocGlobal>(
+    rt: &R,
+    dump: &'a str,
+    file: File,
+    shape: &Shape,
+    path: &'a str,
+) -> Result<(), Fault<'a>> {
+    copy_dump(rt, dump, &file, die_bytes(&shape.geometry), path)?;
+    let Ok(store) = FileStore::new(rt.alloc(), shape.geometry, file) else {
+        return Err(Fault::OutOfMemory);
+    };
+    match mount_store(rt.alloc(), store, shape.cache) {
+        Ok(_) => Ok(()),
+        Err(fault) => Err(Fault::Open(dump, fault)),
+    }
+}
+
+// Has a file's bytes stored, under a name that no file has.
+fn put_bytes<R: Files<File = File>>(rt: &R, name: &str, bytes: &[u8]) -> io::Result<()> {
+    let mut file = File::create_new(rt, name)?;
+    let written = file.write_all(bytes);
+    let done = written.and_then(|()| file.sync_all());
+    if done.is_err() {
+        let _ = fs::remove_file(rt, name);
+    }
+    done
+}
+
+// Gives the finished die its name, with the file beside it that tells its shape.
+fn publish<'a, R: Files<File = File> + AllocGlobal>(
+    rt: &R,
+    part: &str,
+    shape: &Shape,
+    path: &'a str,
+) -> Result<(), Fault<'a>> {
+    let beside = shape_name(rt, path)?;
+    let Ok(text) = write_shape(rt.alloc(), shape) else {
+        return Err(Fault::OutOfMemory);
+    };
+    put_bytes(rt, beside.as_str(), text.as_bytes()).map_err(|error| unwritten(path, error))?;
+    fs::hard_link(rt, part, path).map_err(|error| {
+        let _ = fs::remove_file(rt, beside.as_str());
+        if error.kind() == ErrorKind::AlreadyExists {
+            Fault::Exists(path)
+        } else {
+            unwritten(path, error)
+        }
+    })
+}
+
+/// Creates the disk at a path: its die is made beside it, and has its name when it is whole. With a dump the die has the dump's pages, and else it is formatted.
+pub fn create_command<'a, R: Files<File = File> + AllocGlobal>(
+    rt: &R,
+    path: &'a str,
+    shape: &Shape,
+    dump: Option<&'a str>,
+) -> Result<(), Fault<'a>> {
+    want_free(rt, path, path)?;
+    let beside = shape_name(rt, path)?;
+    want_free(rt, beside.as_str(), path)?;
+    let Ok(part) = format!(in rt.alloc(); "{path}.part") else {
+        return Err(Fault::OutOfMemory);
+    };
+    let file = new_part(rt, part.as_str(), path)?;
+    let made = match dump {
+        Some(dump) => put_dump(rt, dump, file, shape, path),
+        None => put_new(rt, file, shape, path),
+    };
+    let done = match made {
+        Ok(()) => publish(rt, part.as_str(), shape, path),
+        Err(fault) => Err(fault),
+    };
+    let _ = fs::remove_file(rt, part.as_str());
+    done
+}
