@@ -66,7 +66,7 @@ module _ {D : Type 0} (contents : D → Contents) (honest calm : D → Bool) (re
 
   rest_back : (k : Result Task RequestError) (old new : D) (rested : Option (Result (Unit {0}) DiskFault)) → RestsBy contents honest calm rests k old rested new → honest new ≡ true → honest old ≡ true
   rest_back k old new None same h = sym (ap honest same) ∙ h
-  rest_back k old new (Some result) (is, idles, more) h = idles.back h
+  rest_back k old new (Some result) (is, idles, more) h = idles.was_honest h
 
   rest_calm : (k : Result Task RequestError) (old new : D) (rested : Option (Result (Unit {0}) DiskFault)) → RestsBy contents honest calm rests k old rested new → calm new ≡ calm old
   rest_calm k old new None same = ap calm same
@@ -104,7 +104,7 @@ module _ {D : Type 0} (contents : D → Contents) (honest calm : D → Bool) (re
       subst (λ (d : D). AnswersBy k (contents old) x (contents d)) (sym same) (one_answers k old mid x tells (sym (ap honest same) ∙ h))
   rested_answers (Err error) old mid new x (Some result) tells (is, idles, more) h = (let no : ⊥ = cc in absurd no)
   rested_answers (Ok task) old mid new x (Some result) tells (is, idles, more) h =
-      (idles.sized ∙ tells.sized, steps_rested (contents old) (contents mid) (contents new) (idles.bytes h) (idles.stays h) task x.request.body x.answer (tells.steps (idles.back h)))
+      (idles.sized ∙ tells.sized, steps_rested (contents old) (contents mid) (contents new) (idles.bytes h) (idles.stays h) task x.request.body x.answer (tells.steps (idles.was_honest h)))
 
   module _ (old new : D) (x : Round) (round : TellsRound contents honest calm rests e old x new) where
     pub round_sized : length (contents new).bytes ≡ length (contents old).bytes

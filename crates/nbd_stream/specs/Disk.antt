@@ -141,7 +141,7 @@ pub record Performs {D : Type 0} (contents : D → Contents) (honest calm : D �
 pub record Idles {D : Type 0} (contents : D → Contents) (honest calm : D → Bool) (old : D) (result : Result (Unit {0}) DiskFault) (new : D) : Type 0 where
   pub sized : length (contents new).bytes ≡ length (contents old).bytes
   pub kept : OnOk result (honest new ≡ honest old)
-  pub back : honest new ≡ true → honest old ≡ true
+  pub was_honest : honest new ≡ true → honest old ≡ true
   pub calm_is : calm new ≡ calm old
   pub fault : IfErr result (λ e. e ≡ fault.Failed)
   pub calmly : calm old ≡ true → IsOk result
