@@ -59,13 +59,15 @@ impl MemoryDisk {
 }
 
 impl Disk for MemoryDisk {
-    ghost use Rattle.std.specs.Prelude.{true};
+    ghost use Rattle.std.specs.Prelude.{◌≡◌, true, Ok};
 
     ghost contents = { λ disk. record { bytes = disk.bytes.items; durable = disk.bytes.items } };
 
     ghost honest = { λ disk. true };
 
     ghost calm = { λ disk. true };
+
+    ghost rests = { λ old result new. (result ≡ Ok tt) × (new ≡ old) };
 
     fn read(&mut self, offset: u64, buffer: &mut [u8]) -> Result<(), DiskFault> {
         copy_range(&self.bytes, offset as usize, buffer);
@@ -83,6 +85,11 @@ impl Disk for MemoryDisk {
     }
 
     fn flush(&mut self) -> Result<(), DiskFault> {
+        Ok(())
+    }
+
+    // Nothing is left to tidy up.
+    fn rest(&mut self) -> Result<(), DiskFault> {
         Ok(())
     }
 }

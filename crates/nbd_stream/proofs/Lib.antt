@@ -7,6 +7,7 @@ pub mod Negotiating
 pub mod TaskLemmas
 pub mod Asked
 pub mod DiskLemmas
+pub mod RoundLemmas
 pub mod RunLemmas
 pub mod UntilLemmas
 pub mod Serving

@@ -1,53 +1,16 @@
 -- What a run comes to.
-use Rattle.std.proofs.Common.{◌≡◌, ◌<◌, ◌≤◌, ◌+◌, ◌⊎◌, inl, inr, ℕ, Bool, true, List, [], ◌∷◌, length, Option, Some, None, Result, Ok, Err, refl, sym, ap, ◌∙◌, subst, rules}
+use Rattle.std.proofs.Common.{◌≡◌, ◌<◌, ◌≤◌, ◌+◌, ◌⊎◌, inl, inr, ℕ, true, List, [], ◌∷◌, length, Option, Some, None, Result, Ok, Err, refl, sym, ap, ◌∙◌, subst, rules}
 use Rattle.std.specs.Prelude.{slice_index, unwrap_or, IsOk, IfOk, OnOk, OnErr}
 use Rattle.nbd_stream.specs.declared.export.Export.{Export}
 use Rattle.nbd_stream.specs.declared.reply.RequestError.{RequestError}
 use Rattle.nbd_stream.specs.declared.task.Task.{Task}
 use Rattle.nbd_stream.specs.Frames.{Request, IsRequest}
 use Rattle.nbd_stream.specs.Disk.{Contents, IsEither, bytes_after, bytes_given, is_in, makes_last, value_at}
-use Rattle.nbd_stream.specs.Exchanges.{Exchange, TellsBy, ToldEach, requests_in, task_of}
-use Rattle.nbd_stream.specs.Runs.{AnswersBy, Runs, AreDone, AreFor, IsSet, IsToLast, answer_by, bytes_left, exchanges_of, left_by, value_by, value_of}
+use Rattle.nbd_stream.specs.Exchanges.{Exchange, requests_in, task_of}
+use Rattle.nbd_stream.specs.Runs.{AnswersBy, Runs, AreFor, IsSet, IsToLast, answer_by, bytes_left, exchanges_of, left_by, value_by, value_of}
 use Rattle.nbd_stream.specs.Runs.{DoneLaw, KeptLaw, LastsLaw, NothingLostLaw, SetLaw}
 use Rattle.nbd_stream.proofs.DiskLemmas.{byte_law}
 use Rattle.nbd_stream.proofs.Asked.{inside, taken_of}
-
--- ---- a chain of disks is a run
-
-module _ {D : Type 0} (contents : D → Contents) (honest calm : D → Bool) (e : Export) where
-  pub one_answers : (k : Result Task RequestError) (old new : D) (x : Exchange) → TellsBy contents honest calm k old x new → honest new ≡ true → AnswersBy k (contents old) x (contents new)
-  one_answers (Err error) old new x (is, same) h = (is, ap contents same)
-  one_answers (Ok task) old new x tells h = (tells.sized, tells.steps h)
-
-  pub one_sized : (k : Result Task RequestError) (old new : D) (x : Exchange) → TellsBy contents honest calm k old x new → length (contents new).bytes ≡ length (contents old).bytes
-  one_sized (Err error) old new x (is, same) = ap (λ (d : D). length (contents d).bytes) same
-  one_sized (Ok task) old new x tells = tells.sized
-
-  one_back : (k : Result Task RequestError) (old new : D) (x : Exchange) → TellsBy contents honest calm k old x new → honest new ≡ true → honest old ≡ true
-  one_back (Err error) old new x (is, same) h = sym (ap honest same) ∙ h
-  one_back (Ok task) old new x tells h = tells.back h
-
-  pub one_calm : (k : Result Task RequestError) (old new : D) (x : Exchange) → TellsBy contents honest calm k old x new → calm new ≡ calm old
-  one_calm (Err error) old new x (is, same) = ap calm same
-  one_calm (Ok task) old new x tells = tells.calm_is
-
-  one_done : (k : Result Task RequestError) (old new : D) (x : Exchange) → TellsBy contents honest calm k old x new → calm old ≡ true → (task : Task) → k ≡ Ok task → IsOk x.answer
-  one_done (Err error) old new x tells h task is = (let no : ⊥ = cc in absurd no)
-  one_done (Ok task') old new x tells h task is = tells.calmly h
-
-  pub back_of : (old new : D) (xs : List Exchange) → ToldEach contents honest calm e old xs new → honest new ≡ true → honest old ≡ true
-  back_of old new [] same h = sym (ap honest same) ∙ h
-  back_of old new (x ∷ xs) (mid, one, more) h = one_back (task_of e x.request) old mid x one (back_of mid new xs more h)
-
-  pub runs_of : (old new : D) (xs : List Exchange) → ToldEach contents honest calm e old xs new → honest new ≡ true → Runs e (contents old) xs (contents new)
-  runs_of old new [] same h = ap contents same
-  runs_of old new (x ∷ xs) (mid, one, more) h =
-      (contents mid, one_answers (task_of e x.request) old mid x one (back_of mid new xs more h), runs_of mid new xs more h)
-
-  pub done_of : (old new : D) (xs : List Exchange) → ToldEach contents honest calm e old xs new → calm old ≡ true → AreDone e xs
-  done_of old new [] same h = tt
-  done_of old new (x ∷ xs) (mid, one, more) h =
-      (one_done (task_of e x.request) old mid x one h, done_of mid new xs more (one_calm (task_of e x.request) old mid x one ∙ h))
 
 -- ---- one answer
 

@@ -1,10 +1,10 @@
 -- How a transmission goes on, and how it ends.
-use Rattle.std.proofs.Common.{◌≡◌, ◌≤◌, ◌+◌, inl, ℕ, Bool, List, [], ◌∷◌, ◌++◌, Option, Some, None, Result, Ok, Err, length, take, refl, sym, ap, ◌∙◌, subst, arith, lit<, append_assoc, append-nil, length-append}
+use Rattle.std.proofs.Common.{◌≡◌, ◌≤◌, ◌+◌, inl, ℕ, Bool, true, List, [], ◌∷◌, ◌++◌, Option, Some, None, Result, Ok, Err, length, take, refl, sym, ap, ◌∙◌, subst, arith, lit<, append_assoc, append-nil, length-append}
 use Rattle.std.specs.Prelude.{IfSome}
 use Rattle.std.specs.List.{flat_map, AllByRecursion}
 use Rattle.std.proofs.lemmas.List.{map-append, take_at}
 use Rattle.std.specs.Io.KnownBytes.{Appends, Consumes}
-use Rattle.std.proofs.KnownBytes.{Appends-nil, Consumes-trans, Consumes-nil}
+use Rattle.std.proofs.KnownBytes.{Appends-nil, Appends-trans, Consumes-trans, Consumes-nil}
 use Rattle.request_stream.specs.Frames.{AppendsFront, Sends}
 use Rattle.request_stream.specs.declared.reply.ServeFault.{ServeFault}
 use Rattle.request_stream.specs.declared.reply.ServeFault.TheVariants as fault
@@ -18,15 +18,15 @@ use Rattle.nbd_stream.specs.declared.request.End.TheVariants.{Boundary, Unfinish
 use Rattle.nbd_stream.specs.declared.request.Next.TheVariants as next
 use Rattle.nbd_stream.specs.declared.task.Task.{Task}
 use Rattle.nbd_stream.specs.Frames.{Request, IsRequest, IsRest, ReadsRequest, Rests, Splits, is_header, is_end, reply_bytes, reply_header_bytes, request_at, request_bytes}
-use Rattle.nbd_stream.specs.Tasks.{admitted}
+use Rattle.nbd_stream.specs.Tasks.{admitted, asks_change}
 use Rattle.nbd_stream.specs.Disk.{Contents, Performs, answer_from, count_given, count_taken, error_for}
-use Rattle.nbd_stream.specs.Exchanges.{Exchange, Tells, TellsBy, ToldEach, bytes_in, reply_in, requests_in, task_of}
+use Rattle.nbd_stream.specs.Exchanges.{Exchange, Round, RestsAfter, RestsBy, TellsBy, TellsRound, ToldEach, AreRested, IsRested, bytes_in, exchanges_in, reply_in, requests_in, task_of}
 use Rattle.nbd_stream.specs.Runs.{Runs}
 use Rattle.nbd_stream.specs.Until.{Until}
-use Rattle.nbd_stream.specs.Transmission.{Carries, HasServed, Reads, Replies, ServesNext, Transmits, left_of}
+use Rattle.nbd_stream.specs.Transmission.{Carries, HasServed, Reads, Replies, Rested, ServesNext, Transmits, left_of}
 use Rattle.nbd_stream.proofs.Asked.{room_for, taken_of}
 use Rattle.nbd_stream.proofs.Negotiating.{all_more, map_more}
-use Rattle.nbd_stream.proofs.RunLemmas.{back_of, done_of, one_calm, one_sized, runs_of}
+use Rattle.nbd_stream.proofs.RoundLemmas.{back_of, done_of, rests_done_of, round_calm, round_sized, runs_of}
 use Rattle.nbd_stream.proofs.TaskLemmas.{admitted_sound}
 use Rattle.nbd_stream.proofs.UntilLemmas.{until_of}
 
@@ -80,118 +80,148 @@ module _ {D : Type 0} (contents : D → Contents) (honest calm : D → Bool) (e 
         performed (Err (error_for f)) (subst (λ (r : Result (Unit {0}) DiskFault). Performs contents honest calm task (take (count_taken task) buffer) old (answer_from r gave) new) err performs)
         (subst (λ (k : RequestError). Sends b a (reply_bytes h.cookie (refusal k) []) result) same sends)
 
+module _ {D : Type 0} (contents : D → Contents) (honest calm : D → Bool) (rests : D → Result (Unit {0}) DiskFault → D → Type 0) (e : Export) where
   -- ---- the next request
 
   module _ (old new : D) (u v b a : Option (List ℕ)) (h : Header) (body : List ℕ) (is : IsRequest (request_at h body)) (read : Consumes u v (request_bytes (request_at h body))) where
-    served : (writes : List ℕ → Type 0) (x : Exchange) → x.request ≡ request_at h body → Tells contents honest calm e old x new → writes (reply_in x) → HasServed contents honest calm e old new u v writes
-    served writes x same tells wrote = record {
-      exchange = x;
+    served : (writes : List ℕ → Type 0) (rested : Round → Type 0) (x : Round) → x.exchange.request ≡ request_at h body → TellsRound contents honest calm rests e old x new → writes (reply_in x.exchange) → rested x
+        → HasServed contents honest calm rests e old new u v writes rested
+    served writes rested x same tells wrote is_rested = record {
+      round = x;
       whole = subst IsRequest (sym same) is;
       read = subst (λ (r : Request). Consumes u v (request_bytes r)) (sym same) read;
       tells = tells;
       written = wrote;
+      has_rested = is_rested;
     }
 
-    pub next_served : (done : Unit {0}) → Replies contents honest calm e old (request_at h body) new b a (Ok done) → ServesNext contents honest calm e old new u v b a (Ok None)
-    next_served done replies = served (Appends b a) replies.exchange replies.request_is replies.tells replies.sends
+    pub next_served : (mid : D) (done : Unit {0}) → Replies contents honest calm e old (request_at h body) mid b a (Ok done) → RestsAfter contents honest calm rests (admitted e h) mid new
+        → ServesNext contents honest calm rests e old new u v b a (Ok None)
+    next_served mid done replies (rested, some, rest) =
+        let x : Round = record { exchange = replies.exchange; rested = rested } in
+        let tells : TellsRound contents honest calm rests e old x new = record {
+          mid = mid;
+          tells = replies.tells;
+          rest = subst (λ (r : Request). RestsBy contents honest calm rests (task_of e r) mid rested new) (sym replies.request_is) rest;
+        } in
+        served (Appends b a) (IsRested e) x replies.request_is tells replies.sends
+        (λ asks. some (subst (λ (r : Request). asks_change (task_of e r) ≡ true) replies.request_is asks))
 
-    pub next_unsent : (f : ServeFault) → Replies contents honest calm e old (request_at h body) new b a (Err f) → ServesNext contents honest calm e old new u v b a (Err f)
+    pub next_unsent : (f : ServeFault) → Replies contents honest calm e old (request_at h body) new b a (Err f) → ServesNext contents honest calm rests e old new u v b a (Err f)
     next_unsent f replies =
-        subst (λ (k : ServeFault). ServesNext contents honest calm e old new u v b a (Err k)) (sym replies.sends.0) (served (AppendsFront b a) replies.exchange replies.request_is replies.tells replies.sends.1)
+        let x : Round = record { exchange = replies.exchange; rested = None } in
+        let tells : TellsRound contents honest calm rests e old x new = record { mid = new; tells = replies.tells; rest = refl } in
+        subst (λ (k : ServeFault). ServesNext contents honest calm rests e old new u v b a (Err k)) (sym replies.sends.0)
+        (served (AppendsFront b a) (λ (y : Round). y.rested ≡ None) x replies.request_is tells replies.sends.1 refl)
 
   module _ (old : D) (u v b : Option (List ℕ)) (buffer : List ℕ) where
-    pub next_ended : (end : End) → ReadsRequest u v buffer (Ok (next.Ended end)) → ServesNext contents honest calm e old old u v b b (Ok (Some end))
+    pub next_ended : (end : End) → ReadsRequest u v buffer (Ok (next.Ended end)) → ServesNext contents honest calm rests e old old u v b b (Ok (Some end))
     next_ended end (tail, rests, read) = record { tail = tail; is = rests; read = read; same = refl; kept = refl }
 
-    pub next_unread : (f : ServeFault) → ReadsRequest u v buffer (Err f) → ServesNext contents honest calm e old old u v b b (Err f)
+    pub next_unread : (f : ServeFault) → ReadsRequest u v buffer (Err f) → ServesNext contents honest calm rests e old old u v b b (Err f)
     next_unread f (is, tail, begins, read) =
-        subst (λ (k : ServeFault). ServesNext contents honest calm e old old u v b b (Err k)) (sym is) (record { tail = tail; is = begins; read = read; same = refl; kept = refl })
+        subst (λ (k : ServeFault). ServesNext contents honest calm rests e old old u v b b (Err k)) (sym is) (record { tail = tail; is = begins; read = read; same = refl; kept = refl })
 
   -- ---- many
 
-  told_more : (old mid new : D) (xs : List Exchange) (x : Exchange) → ToldEach contents honest calm e old xs mid → Tells contents honest calm e mid x new → ToldEach contents honest calm e old (xs ++ x ∷ []) new
-  told_more old mid new [] x same one = (new, subst (λ (d : D). Tells contents honest calm e d x new) same one, refl)
+  told_more : (old mid new : D) (xs : List Round) (x : Round) → ToldEach contents honest calm rests e old xs mid → TellsRound contents honest calm rests e mid x new → ToldEach contents honest calm rests e old (xs ++ x ∷ []) new
+  told_more old mid new [] x same one = (new, subst (λ (d : D). TellsRound contents honest calm rests e d x new) same one, refl)
   told_more old mid new (y ∷ xs) x (next, first, more) one = (next, first, told_more next mid new xs x more one)
 
-  -- so many requests were read and answered, and of their replies so much was written
-  pub record IsServing (old now : D) (unread left : Option (List ℕ)) (writes : List ℕ → Type 0) : Type 0 where
-    pub exchanges : List Exchange
-    pub each : ToldEach contents honest calm e old exchanges now
+  -- so many requests were read and answered, of their replies so much was written, and the disk rested so
+  pub record IsServing (old now : D) (unread left : Option (List ℕ)) (writes : List ℕ → Type 0) (rested : List Round → Type 0) : Type 0 where
+    pub rounds : List Round
+    pub each : ToldEach contents honest calm rests e old rounds now
     pub sized : length (contents now).bytes ≡ length (contents old).bytes
     pub calm_is : calm now ≡ calm old
-    pub read : Reads unread left (requests_in exchanges) []
-    pub written : writes (flat_map reply_in exchanges)
+    pub read : Reads unread left (requests_in (exchanges_in rounds)) []
+    pub written : writes (flat_map reply_in (exchanges_in rounds))
+    pub have_rested : rested rounds
 
-  pub serving_none : (old : D) (u b : Option (List ℕ)) → IsServing old old u u (Appends b b)
+  pub serving_none : (old : D) (u b : Option (List ℕ)) → IsServing old old u u (Appends b b) (AreRested e)
   serving_none old u b = record {
-    exchanges = [];
+    rounds = [];
     each = refl;
     sized = refl;
     calm_is = refl;
     read = record { each = tt; bytes = Consumes-nil u };
     written = Appends-nil b;
+    have_rested = tt;
   }
 
-  module _ (old mid : D) (u v b c : Option (List ℕ)) (so_far : IsServing old mid u v (Appends b c)) where
+  module _ (old mid : D) (u v b c : Option (List ℕ)) (so_far : IsServing old mid u v (Appends b c) (AreRested e)) where
     -- the requests, and then these bytes
-    reads_then : (w : Option (List ℕ)) (tail : List ℕ) → Consumes v w tail → Reads u w (requests_in so_far.exchanges) tail
+    reads_then : (w : Option (List ℕ)) (tail : List ℕ) → Consumes v w tail → Reads u w (requests_in (exchanges_in so_far.rounds)) tail
     reads_then w tail more =
-        let all : List ℕ = flat_map request_bytes (requests_in so_far.exchanges) in
+        let all : List ℕ = flat_map request_bytes (requests_in (exchanges_in so_far.rounds)) in
         record { each = so_far.read.each; bytes = Consumes-trans u v w all tail (subst (Consumes u v) (append-nil all) so_far.read.bytes) more }
 
-    -- one request more, whose reply is sent whole or in part
-    pub serving_more : (new : D) (w : Option (List ℕ)) (writes sends : List ℕ → Type 0) → HasServed contents honest calm e mid new v w writes → ((front bytes : List ℕ) → Appends b c front → writes bytes → sends (front ++ bytes)) → IsServing old new u w sends
-    serving_more new w writes sends one joins =
-        let xs : List Exchange = so_far.exchanges in
-        let x : Exchange = one.exchange in
-        let k = task_of e x.request in
-        let requests : requests_in (xs ++ x ∷ []) ≡ requests_in xs ++ x.request ∷ [] = map-append (λ (y : Exchange). y.request) xs (x ∷ []) in
-        let bytes : flat_map request_bytes (requests_in (xs ++ x ∷ [])) ≡ flat_map request_bytes (requests_in xs) ++ request_bytes x.request =
+    -- one request more, whose reply is sent whole or in part, and after which the disk rested or not
+    serving_more : (new : D) (w : Option (List ℕ)) (writes sends : List ℕ → Type 0) (rested : Round → Type 0) (are_rested : List Round → Type 0) → HasServed contents honest calm rests e mid new v w writes rested
+        → ((front bytes : List ℕ) → Appends b c front → writes bytes → sends (front ++ bytes)) → ((front : List Round) (x : Round) → AreRested e front → rested x → are_rested (front ++ x ∷ []))
+        → IsServing old new u w sends are_rested
+    serving_more new w writes sends rested are_rested one joins rests_join =
+        let rounds : List Round = so_far.rounds in
+        let xs : List Exchange = exchanges_in rounds in
+        let x : Exchange = one.round.exchange in
+        let exchanges : exchanges_in (rounds ++ one.round ∷ []) ≡ xs ++ x ∷ [] = map-append (λ (y : Round). y.exchange) rounds (one.round ∷ []) in
+        let requests : requests_in (exchanges_in (rounds ++ one.round ∷ [])) ≡ requests_in xs ++ x.request ∷ [] =
+        ap requests_in exchanges ∙ map-append (λ (y : Exchange). y.request) xs (x ∷ []) in
+        let bytes : flat_map request_bytes (requests_in (exchanges_in (rounds ++ one.round ∷ []))) ≡ flat_map request_bytes (requests_in xs) ++ request_bytes x.request =
         ap (flat_map request_bytes) requests ∙ map_more request_bytes (requests_in xs) x.request in
+        let replies : flat_map reply_in (exchanges_in (rounds ++ one.round ∷ [])) ≡ flat_map reply_in xs ++ reply_in x = ap (flat_map reply_in) exchanges ∙ map_more reply_in xs x in
         let later : Reads u w (requests_in xs) (request_bytes x.request) = reads_then w (request_bytes x.request) one.read in
         record {
-          exchanges = xs ++ x ∷ [];
-          each = told_more old mid new xs x so_far.each one.tells;
-          sized = one_sized contents honest calm e k mid new x one.tells ∙ so_far.sized;
-          calm_is = one_calm contents honest calm e k mid new x one.tells ∙ so_far.calm_is;
+          rounds = rounds ++ one.round ∷ [];
+          each = told_more old mid new rounds one.round so_far.each one.tells;
+          sized = round_sized contents honest calm rests e mid new one.round one.tells ∙ so_far.sized;
+          calm_is = round_calm contents honest calm rests e mid new one.round one.tells ∙ so_far.calm_is;
           read = record {
             each = subst (AllByRecursion IsRequest) (sym requests) (all_more IsRequest (requests_in xs) x.request so_far.read.each one.whole);
-            bytes = subst (Consumes u w) (sym (append-nil (flat_map request_bytes (requests_in (xs ++ x ∷ []))) ∙ bytes)) later.bytes;
+            bytes = subst (Consumes u w) (sym (append-nil (flat_map request_bytes (requests_in (exchanges_in (rounds ++ one.round ∷ [])))) ∙ bytes)) later.bytes;
           };
-          written = subst sends (sym (map_more reply_in xs x)) (joins (flat_map reply_in xs) (reply_in x) so_far.written one.written);
+          written = subst sends (sym replies) (joins (flat_map reply_in xs) (reply_in x) so_far.written one.written);
+          have_rested = rests_join rounds one.round so_far.have_rested one.has_rested;
         }
+
+    pub serving_on : (new : D) (w a : Option (List ℕ)) → ServesNext contents honest calm rests e mid new v w c a (Ok None) → IsServing old new u w (Appends b a) (AreRested e)
+    serving_on new w a one =
+        serving_more new w (Appends c a) (Appends b a) (IsRested e) (AreRested e) one (λ front bytes wrote more. Appends-trans b c a front bytes wrote more) (λ front x are is. all_more (IsRested e) front x are is)
 
   -- ---- the end
 
-  module _ (old now : D) (u v : Option (List ℕ)) (writes : List ℕ → Type 0) (so_far : IsServing old now u v writes) where
+  module _ (old now : D) (u v : Option (List ℕ)) (writes : List ℕ → Type 0) (rested : List Round → Type 0) (so_far : IsServing old now u v writes rested) where
     -- what was served until now, with these bytes read and written
-    pub transmitted : (new : D) (w b a : Option (List ℕ)) (result : Result End ServeFault) → new ≡ now → Carries u w b a so_far.exchanges result → Transmits contents honest calm e old new u w b a result
-    transmitted new w b a result same stream = record {
-      exchanges = so_far.exchanges;
-      each = subst (λ (d : D). ToldEach contents honest calm e old so_far.exchanges d) (sym same) so_far.each;
+    pub transmitted : (new : D) (w b a : Option (List ℕ)) (result : Result End ServeFault) → new ≡ now → Rested e so_far.rounds result → Carries u w b a (exchanges_in so_far.rounds) result
+        → Transmits contents honest calm rests e old new u w b a result
+    transmitted new w b a result same has_rested stream = record {
+      rounds = so_far.rounds;
+      each = subst (λ (d : D). ToldEach contents honest calm rests e old so_far.rounds d) (sym same) so_far.each;
+      rested = has_rested;
       sized = ap (λ (d : D). length (contents d).bytes) same ∙ so_far.sized;
-      back = λ h. back_of contents honest calm e old now so_far.exchanges so_far.each (sym (ap honest same) ∙ h);
+      back = λ h. back_of contents honest calm rests e old now so_far.rounds so_far.each (sym (ap honest same) ∙ h);
       calm_is = ap calm same ∙ so_far.calm_is;
-      until = λ h. subst (λ (d : D). Until contents honest calm e old so_far.exchanges d) (sym same) (until_of contents honest calm e old now so_far.exchanges so_far.each h);
-      run = λ h. subst (λ (d : D). Runs e (contents old) so_far.exchanges (contents d)) (sym same)
-          (runs_of contents honest calm e old now so_far.exchanges so_far.each (sym (ap honest same) ∙ h));
-      done = λ h. done_of contents honest calm e old now so_far.exchanges so_far.each h;
+      until = λ h. subst (λ (d : D). Until contents honest calm rests e old so_far.rounds d) (sym same) (until_of contents honest calm rests e old now so_far.rounds so_far.each h);
+      run = λ h. subst (λ (d : D). Runs e (contents old) (exchanges_in so_far.rounds) (contents d)) (sym same)
+          (runs_of contents honest calm rests e old now so_far.rounds so_far.each (sym (ap honest same) ∙ h));
+      done = λ h. (done_of contents honest calm rests e old now so_far.rounds so_far.each h, rests_done_of contents honest calm rests e old now so_far.rounds so_far.each h);
       stream = stream;
     }
 
-  module _ (old mid : D) (u v b c : Option (List ℕ)) (so_far : IsServing old mid u v (Appends b c)) where
-    pub stopped : (new : D) (w a : Option (List ℕ)) (f : ServeFault) → ServesNext contents honest calm e mid new v w c a (Err f) → Transmits contents honest calm e old new u w b a (Err f)
+  module _ (old mid : D) (u v b c : Option (List ℕ)) (so_far : IsServing old mid u v (Appends b c) (AreRested e)) where
+    pub stopped : (new : D) (w a : Option (List ℕ)) (f : ServeFault) → ServesNext contents honest calm rests e mid new v w c a (Err f) → Transmits contents honest calm rests e old new u w b a (Err f)
     stopped new w a fault.Read one =
-        transmitted old mid u v (Appends b c) so_far new w b a (Err fault.Read) one.same
-        (one.tail, reads_then old mid u v b c so_far w one.tail one.read, one.is, subst (λ (k : Option (List ℕ)). Appends b k (flat_map reply_in so_far.exchanges)) (sym one.kept) so_far.written)
+        transmitted old mid u v (Appends b c) (AreRested e) so_far new w b a (Err fault.Read) one.same so_far.have_rested
+        (one.tail, reads_then old mid u v b c so_far w one.tail one.read, one.is, subst (λ (k : Option (List ℕ)). Appends b k (flat_map reply_in (exchanges_in so_far.rounds))) (sym one.kept) so_far.written)
     stopped new w a fault.Write one =
-        let all = serving_more old mid u v b c so_far new w (AppendsFront c a) (AppendsFront b a) one (λ front bytes wrote more. front_more b c a front bytes (front ++ bytes) refl wrote more) in
-        transmitted old new u w (AppendsFront b a) all new w b a (Err fault.Write) refl (all.read, all.written)
+        let all = serving_more old mid u v b c so_far new w (AppendsFront c a) (AppendsFront b a) (λ (x : Round). x.rested ≡ None) (λ (xs : List Round). Rested e xs (Err fault.Write)) one
+        (λ front bytes wrote more. front_more b c a front bytes (front ++ bytes) refl wrote more) (λ before last are none. (before, last, refl, are, none)) in
+        transmitted old new u w (AppendsFront b a) (λ (xs : List Round). Rested e xs (Err fault.Write)) all new w b a (Err fault.Write) refl all.have_rested (all.read, all.written)
     stopped new w a fault.OutOfMemory one = absurd one
 
     -- as many requests were answered as can be counted
-    pub counted_out : Transmits contents honest calm e old mid u v b c (Err fault.Read)
-    counted_out = transmitted old mid u v (Appends b c) so_far mid v b c (Err fault.Read) refl ([], so_far.read, inl (lit< tt), so_far.written)
+    pub counted_out : Transmits contents honest calm rests e old mid u v b c (Err fault.Read)
+    counted_out = transmitted old mid u v (Appends b c) (AreRested e) so_far mid v b c (Err fault.Read) refl so_far.have_rested ([], so_far.read, inl (lit< tt), so_far.written)
 
     ends_so : (end : End) (tail left : List ℕ) → Rests end tail (Some left) → IsRest end (tail ++ left)
     ends_so Boundary tail left (nothing, ended) = ap (λ (l : List ℕ). l ++ left) nothing ∙ ended
@@ -200,22 +230,22 @@ module _ {D : Type 0} (contents : D → Contents) (honest calm : D → Bool) (e 
     ends_so Disconnected tail left (long, good, ends) =
         (omega (arith, length-append tail left, long), ap is_header (take_at tail left 28 long) ∙ good, ap is_end (take_at tail left 28 long) ∙ ends)
 
-    splits_so : (all w : Option (List ℕ)) (end : End) (tail : List ℕ) → Reads all w (requests_in so_far.exchanges) tail → Rests end tail w → IfSome all (λ input. Splits input (requests_in so_far.exchanges) end (tail ++ left_of w))
+    splits_so : (all w : Option (List ℕ)) (end : End) (tail : List ℕ) → Reads all w (requests_in (exchanges_in so_far.rounds)) tail → Rests end tail w → IfSome all (λ input. Splits input (requests_in (exchanges_in so_far.rounds)) end (tail ++ left_of w))
     splits_so None w end tail reads rest = tt
     splits_so (Some input) None end tail reads rest = absurd reads.bytes
     splits_so (Some input) (Some left) end tail reads rest = record {
-      whole = reads.bytes ∙ append_assoc (flat_map request_bytes (requests_in so_far.exchanges)) tail left;
+      whole = reads.bytes ∙ append_assoc (flat_map request_bytes (requests_in (exchanges_in so_far.rounds))) tail left;
       each = reads.each;
       ends = ends_so end tail left rest;
     }
 
-    pub finished : (new : D) (w a : Option (List ℕ)) (end : End) → ServesNext contents honest calm e mid new v w c a (Ok (Some end)) → Transmits contents honest calm e old new u w b a (Ok end)
+    pub finished : (new : D) (w a : Option (List ℕ)) (end : End) → ServesNext contents honest calm rests e mid new v w c a (Ok (Some end)) → Transmits contents honest calm rests e old new u w b a (Ok end)
     finished new w a end one =
         let reads = reads_then old mid u v b c so_far w one.tail one.read in
-        transmitted old mid u v (Appends b c) so_far new w b a (Ok end) one.same (
+        transmitted old mid u v (Appends b c) (AreRested e) so_far new w b a (Ok end) one.same so_far.have_rested (
           one.tail,
           reads,
           one.is,
-          subst (λ (k : Option (List ℕ)). Appends b k (flat_map reply_in so_far.exchanges)) (sym one.kept) so_far.written,
+          subst (λ (k : Option (List ℕ)). Appends b k (flat_map reply_in (exchanges_in so_far.rounds))) (sym one.kept) so_far.written,
           splits_so u w end one.tail reads one.is,
         )

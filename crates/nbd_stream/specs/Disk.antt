@@ -134,3 +134,17 @@ pub record Performs {D : Type 0} (contents : D → Contents) (honest calm : D �
   pub given : IfOk answer (λ bytes. length bytes ≡ count_given task)
   pub calmly : calm old ≡ true → IsOk answer
   pub steps : honest new ≡ true → Steps task body (contents old) answer (contents new)
+
+-- ONE REST, an idle moment between two requests. Done or failed, it leaves the bytes of a disk that is honest after it; if the power goes now, each
+-- byte is as it would have been before, or as it stands. A disk's honesty may end in it as in a call that failed, and its one error is that the disk
+-- failed. One that is calm rests without an error.
+pub record Idles {D : Type 0} (contents : D → Contents) (honest calm : D → Bool) (old : D) (result : Result (Unit {0}) DiskFault) (new : D) : Type 0 where
+  pub sized : length (contents new).bytes ≡ length (contents old).bytes
+  pub kept : OnOk result (honest new ≡ honest old)
+  pub was_honest : honest new ≡ true → honest old ≡ true
+  pub calm_is : calm new ≡ calm old
+  pub fault : IfErr result (λ e. e ≡ fault.Failed)
+  pub calmly : calm old ≡ true → IsOk result
+  pub bytes : honest new ≡ true → (contents new).bytes ≡ (contents old).bytes
+  pub stays : honest new ≡ true → (place : ℕ) → (slice_index (contents new).durable place ≡ slice_index (contents old).durable place)
+      ⊎ (slice_index (contents new).durable place ≡ slice_index (contents old).bytes place)

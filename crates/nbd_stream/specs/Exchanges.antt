@@ -1,12 +1,14 @@
--- EXCHANGES: what a disk was asked in a transmission, and what was answered.
-use Rattle.std.specs.Prelude.{◌≡◌, ℕ, Bool, List, [], ◌∷◌, map, Result, Ok, Err}
+-- EXCHANGES: what a disk was asked in a transmission, and what was answered; and the rests between them.
+use Rattle.std.specs.Prelude.{◌≡◌, ℕ, Bool, true, List, [], ◌∷◌, map, Option, Some, None, IsSome, IfSome, Result, Ok, Err, IsOk}
+use Rattle.std.specs.List.{AllByRecursion}
 use Rattle.nbd_stream.specs.declared.export.Export.{Export}
+use Rattle.nbd_stream.specs.declared.fault.DiskFault.{DiskFault}
 use Rattle.nbd_stream.specs.declared.reply.RequestError.{RequestError}
 use Rattle.nbd_stream.specs.declared.request.Header.{Header}
 use Rattle.nbd_stream.specs.declared.task.Task.{Task}
 use Rattle.nbd_stream.specs.Frames.{Request, reply_bytes}
-use Rattle.nbd_stream.specs.Tasks.{admitted}
-use Rattle.nbd_stream.specs.Disk.{Contents, Performs}
+use Rattle.nbd_stream.specs.Tasks.{admitted, asks_change}
+use Rattle.nbd_stream.specs.Disk.{Contents, Idles, Performs}
 
 -- AN EXCHANGE: a request, and the bytes that answer it, or an error
 pub record Exchange : Type 0 where
@@ -41,7 +43,55 @@ TellsBy contents honest calm (Ok task) old x new = Performs contents honest calm
 abbrev pub Tells : {D : Type 0} → (D → Contents) → (honest calm : D → Bool) → Export → D → Exchange → D → Type 0
 Tells contents honest calm e old x new = TellsBy contents honest calm (task_of e x.request) old x new
 
--- EACH EXCHANGE, from a disk to the next: a chain of disks, from the one to the other
-abbrev pub ToldEach : {D : Type 0} → (D → Contents) → (honest calm : D → Bool) → Export → D → List Exchange → D → Type 0
-ToldEach contents honest calm e old [] new = new ≡ old
-ToldEach {D} contents honest calm e old (x ∷ xs) new = (mid : D) × Tells contents honest calm e old x mid × ToldEach contents honest calm e mid xs new
+-- ---- rests
+
+-- A ROUND: an exchange, and what the disk answered to the rest after it, if there was one
+pub record Round : Type 0 where
+  pub exchange : Exchange
+  pub rested : Option (Result (Unit {0}) DiskFault)
+
+abbrev pub exchanges_in : List Round → List Exchange
+exchanges_in rounds = map (λ (x : Round). x.exchange) rounds
+
+-- THE REST AFTER AN EXCHANGE: none, and the disk is as it was; or, after a change alone, one that leaves the bytes and is what the disk says of a rest
+abbrev pub RestsBy : {D : Type 0} → (D → Contents) → (honest calm : D → Bool) → (rests : D → Result (Unit {0}) DiskFault → D → Type 0)
+    → Result Task RequestError → D → Option (Result (Unit {0}) DiskFault) → D → Type 0
+RestsBy contents honest calm rests asked old None new = new ≡ old
+RestsBy contents honest calm rests asked old (Some result) new =
+    (asks_change asked ≡ true) × Idles contents honest calm old result new × rests old result new
+
+-- after a change a rest, and after anything else none
+abbrev pub RestsAfter : {D : Type 0} → (D → Contents) → (honest calm : D → Bool) → (rests : D → Result (Unit {0}) DiskFault → D → Type 0)
+    → Result Task RequestError → D → D → Type 0
+RestsAfter contents honest calm rests asked old new =
+    (rested : Option (Result (Unit {0}) DiskFault))
+    × (asks_change asked ≡ true → IsSome rested)
+    × RestsBy contents honest calm rests asked old rested new
+
+-- ONE ROUND: from a disk to the one that was asked, and from that one to the one that rested
+pub record TellsRound {D : Type 0} (contents : D → Contents) (honest calm : D → Bool) (rests : D → Result (Unit {0}) DiskFault → D → Type 0)
+    (e : Export) (old : D) (x : Round) (new : D) : Type 0 where
+  pub mid : D
+  pub tells : Tells contents honest calm e old x.exchange mid
+  pub rest : RestsBy contents honest calm rests (task_of e x.exchange.request) mid x.rested new
+
+-- EACH ROUND, from a disk to the next: a chain of disks, from the one to the other
+abbrev pub ToldEach : {D : Type 0} → (D → Contents) → (honest calm : D → Bool) → (rests : D → Result (Unit {0}) DiskFault → D → Type 0)
+    → Export → D → List Round → D → Type 0
+ToldEach contents honest calm rests e old [] new = new ≡ old
+ToldEach {D} contents honest calm rests e old (x ∷ xs) new =
+    (next : D) × TellsRound contents honest calm rests e old x next × ToldEach contents honest calm rests e next xs new
+
+-- a change that the disk was asked is followed by a rest
+abbrev pub IsRested : Export → Round → Type 0
+IsRested e x = asks_change (task_of e x.exchange.request) ≡ true → IsSome x.rested
+
+abbrev pub AreRested : Export → List Round → Type 0
+AreRested e xs = AllByRecursion (IsRested e) xs
+
+-- no rest failed
+abbrev pub IsRestDone : Round → Type 0
+IsRestDone x = IfSome x.rested (λ result. IsOk result)
+
+abbrev pub AreRestsDone : List Round → Type 0
+AreRestsDone xs = AllByRecursion IsRestDone xs

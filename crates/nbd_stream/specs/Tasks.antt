@@ -1,5 +1,5 @@
 -- What a request asks of a disk, or the error that it has before the disk is asked. (The NBD protocol, "Request types" and "Error values".)
-use Rattle.std.specs.Prelude.{◌≡◌, ◌<◌, ◌≤◌, ◌+◌, ◌%◌, ◌==◌, ◌&&◌, ℕ, nat_lt, nat_le, Bool, false, Option, Some, None, Result, Ok, Err, if◌then◌else◌}
+use Rattle.std.specs.Prelude.{◌≡◌, ◌<◌, ◌≤◌, ◌+◌, ◌%◌, ◌==◌, ◌&&◌, ℕ, nat_lt, nat_le, Bool, true, false, Option, Some, None, Result, Ok, Err, if◌then◌else◌}
 use Rattle.nbd_stream.specs.declared.export.Export.{Export}
 use Rattle.nbd_stream.specs.declared.reply.RequestError.{RequestError}
 use Rattle.nbd_stream.specs.declared.reply.RequestError.TheVariants.{NotPermitted, Invalid, NoSpace}
@@ -44,6 +44,21 @@ admitted_by (Some command.WriteZeroes) e h = if nat_lt 3 h.flags then Err Invali
 -- WHAT IS ASKED
 abbrev pub admitted : Export → Header → Result Task RequestError
 admitted e h = admitted_by (command_from h.code) e h
+
+-- ---- changes
+
+-- A CHANGE: what sets bytes
+abbrev pub is_change : Task → Bool
+is_change (Read offset count) = false
+is_change (Write offset count durable) = true
+is_change Flush = false
+is_change (Trim offset count durable) = true
+is_change (WriteZeroes offset count durable) = true
+
+-- a change was asked of the disk
+abbrev pub asks_change : Result Task RequestError → Bool
+asks_change (Err e) = false
+asks_change (Ok task) = is_change task
 
 -- ---- a law
 

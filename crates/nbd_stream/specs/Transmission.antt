@@ -1,18 +1,19 @@
--- A TRANSMISSION: what was read, what the disk was asked and answered, and what was written.
-use Rattle.std.specs.Prelude.{◌≡◌, ◌⊎◌, ℕ, Bool, true, List, [], ◌++◌, length, Option, Some, None, IfSome, Result, Ok, Err}
+-- A TRANSMISSION: what was read, what the disk was asked and answered, what was written, and when the disk rested.
+use Rattle.std.specs.Prelude.{◌≡◌, ◌⊎◌, ℕ, Bool, true, List, [], ◌∷◌, ◌++◌, length, Option, Some, None, IfSome, Result, Ok, Err}
 use Rattle.std.specs.List.{flat_map, AllByRecursion}
 use Rattle.std.specs.Io.KnownBytes.{Appends, Consumes}
 use Rattle.request_stream.specs.Frames.{AppendsFront, Sends}
 use Rattle.request_stream.specs.declared.reply.ServeFault.{ServeFault}
 use Rattle.request_stream.specs.declared.reply.ServeFault.TheVariants as fault
 use Rattle.nbd_stream.specs.declared.export.Export.{Export}
+use Rattle.nbd_stream.specs.declared.fault.DiskFault.{DiskFault}
 use Rattle.nbd_stream.specs.declared.request.End.{End}
 use Rattle.nbd_stream.specs.declared.negotiation.Negotiated.{Negotiated}
 use Rattle.nbd_stream.specs.declared.negotiation.Negotiated.TheVariants.{Transmission, Ended}
 use Rattle.nbd_stream.specs.Frames.{Request, IsRequest, IsBeginning, Rests, Splits, request_bytes}
 use Rattle.nbd_stream.specs.Negotiation.{Negotiates}
 use Rattle.nbd_stream.specs.Disk.{Contents}
-use Rattle.nbd_stream.specs.Exchanges.{Exchange, Tells, ToldEach, reply_in, requests_in}
+use Rattle.nbd_stream.specs.Exchanges.{Exchange, Round, Tells, TellsRound, ToldEach, IsRested, AreRested, AreRestsDone, exchanges_in, reply_in, requests_in}
 use Rattle.nbd_stream.specs.Runs.{Runs, AreDone}
 use Rattle.nbd_stream.specs.Until.{Until}
 
@@ -41,19 +42,30 @@ Carries unread left before after xs (Err fault.Read) =
 Carries unread left before after xs (Err fault.Write) = Reads unread left (requests_in xs) [] × AppendsFront before after (flat_map reply_in xs)
 Carries unread left before after xs (Err fault.OutOfMemory) = ⊥
 
--- THE TRANSMISSION: each request was read, asked of the disk, and answered. Of an honest disk the answers are a run of its array: up to the first
--- exchange that ended its honesty, and all of them where it is honest at the end. One that is calm did all that it was asked.
-pub record Transmits {D : Type 0} (contents : D → Contents) (honest calm : D → Bool) (e : Export) (old new : D)
-    (unread left before after : Option (List ℕ)) (result : Result End ServeFault) : Type 0 where
-  pub exchanges : List Exchange
-  pub each : ToldEach contents honest calm e old exchanges new
+-- WHEN THE DISK RESTED, by the result: after each change that it was asked, done or failed, once the reply was handed on. After `Write` the last reply was
+-- not, and no rest follows it.
+abbrev pub Rested : Export → List Round → Result End ServeFault → Type 0
+Rested e xs (Ok end) = AreRested e xs
+Rested e xs (Err fault.Read) = AreRested e xs
+Rested e xs (Err fault.Write) =
+    (before : List Round) × (last : Round) × (xs ≡ before ++ last ∷ []) × AreRested e before × (last.rested ≡ None)
+Rested e xs (Err fault.OutOfMemory) = ⊥
+
+-- THE TRANSMISSION: each request was read, asked of the disk, and answered, and after a change the disk rested. Of an honest disk the answers are a run
+-- of its array: up to the first round that ended its honesty, and all of them where it is honest at the end. One that is calm did all that it
+-- was asked.
+pub record Transmits {D : Type 0} (contents : D → Contents) (honest calm : D → Bool) (rests : D → Result (Unit {0}) DiskFault → D → Type 0)
+    (e : Export) (old new : D) (unread left before after : Option (List ℕ)) (result : Result End ServeFault) : Type 0 where
+  pub rounds : List Round
+  pub each : ToldEach contents honest calm rests e old rounds new
+  pub rested : Rested e rounds result
   pub sized : length (contents new).bytes ≡ length (contents old).bytes
   pub back : honest new ≡ true → honest old ≡ true
   pub calm_is : calm new ≡ calm old
-  pub until : honest old ≡ true → Until contents honest calm e old exchanges new
-  pub run : honest new ≡ true → Runs e (contents old) exchanges (contents new)
-  pub done : calm old ≡ true → AreDone e exchanges
-  pub stream : Carries unread left before after exchanges result
+  pub until : honest old ≡ true → Until contents honest calm rests e old rounds new
+  pub run : honest new ≡ true → Runs e (contents old) (exchanges_in rounds) (contents new)
+  pub done : calm old ≡ true → AreDone e (exchanges_in rounds) × AreRestsDone rounds
+  pub stream : Carries unread left before after (exchanges_in rounds) result
 
 -- ---- one request
 
@@ -65,14 +77,15 @@ pub record Replies {D : Type 0} (contents : D → Contents) (honest calm : D →
   pub tells : Tells contents honest calm e old exchange new
   pub sends : Sends before after (reply_in exchange) result
 
--- a request was read, the disk was asked it, and its reply was written as this says
-pub record HasServed {D : Type 0} (contents : D → Contents) (honest calm : D → Bool) (e : Export) (old new : D)
-    (unread left : Option (List ℕ)) (writes : List ℕ → Type 0) : Type 0 where
-  pub exchange : Exchange
-  pub whole : IsRequest exchange.request
-  pub read : Consumes unread left (request_bytes exchange.request)
-  pub tells : Tells contents honest calm e old exchange new
-  pub written : writes (reply_in exchange)
+-- a request was read, the disk was asked it, its reply was written as this says, and the disk rested as that says
+pub record HasServed {D : Type 0} (contents : D → Contents) (honest calm : D → Bool) (rests : D → Result (Unit {0}) DiskFault → D → Type 0)
+    (e : Export) (old new : D) (unread left : Option (List ℕ)) (writes : List ℕ → Type 0) (rested : Round → Type 0) : Type 0 where
+  pub round : Round
+  pub whole : IsRequest round.exchange.request
+  pub read : Consumes unread left (request_bytes round.exchange.request)
+  pub tells : TellsRound contents honest calm rests e old round new
+  pub written : writes (reply_in round.exchange)
+  pub has_rested : rested round
 
 -- no request was read whole, the disk is as it was, and nothing was written
 pub record HasEnded {D : Type 0} (old new : D) (unread left before after : Option (List ℕ)) (P : List ℕ → Type 0) : Type 0 where
@@ -82,15 +95,16 @@ pub record HasEnded {D : Type 0} (old new : D) (unread left before after : Optio
   pub same : new ≡ old
   pub kept : after ≡ before
 
-abbrev pub ServesNext : {D : Type 0} → (D → Contents) → (honest calm : D → Bool) → Export → (old new : D)
-    → (unread left before after : Option (List ℕ)) → Result (Option End) ServeFault → Type 0
-ServesNext contents honest calm e old new unread left before after (Ok None) = HasServed contents honest calm e old new unread left (Appends before after)
-ServesNext contents honest calm e old new unread left before after (Ok (Some end)) =
+abbrev pub ServesNext : {D : Type 0} → (D → Contents) → (honest calm : D → Bool) → (rests : D → Result (Unit {0}) DiskFault → D → Type 0) → Export
+    → (old new : D) → (unread left before after : Option (List ℕ)) → Result (Option End) ServeFault → Type 0
+ServesNext contents honest calm rests e old new unread left before after (Ok None) =
+    HasServed contents honest calm rests e old new unread left (Appends before after) (IsRested e)
+ServesNext contents honest calm rests e old new unread left before after (Ok (Some end)) =
     HasEnded old new unread left before after (λ tail. Rests end tail left)
-ServesNext contents honest calm e old new unread left before after (Err fault.Read) = HasEnded old new unread left before after IsBeginning
-ServesNext contents honest calm e old new unread left before after (Err fault.Write) =
-    HasServed contents honest calm e old new unread left (AppendsFront before after)
-ServesNext contents honest calm e old new unread left before after (Err fault.OutOfMemory) = ⊥
+ServesNext contents honest calm rests e old new unread left before after (Err fault.Read) = HasEnded old new unread left before after IsBeginning
+ServesNext contents honest calm rests e old new unread left before after (Err fault.Write) =
+    HasServed contents honest calm rests e old new unread left (AppendsFront before after) (λ round. round.rested ≡ None)
+ServesNext contents honest calm rests e old new unread left before after (Err fault.OutOfMemory) = ⊥
 
 -- ---- a whole session
 
@@ -100,16 +114,16 @@ negotiated_as (Ok end) = Ok (Ended end)
 negotiated_as (Err e) = Err e
 
 -- A NEGOTIATION AND A TRANSMISSION: of the bytes between, so many were read and written by the one
-pub record Begins {D : Type 0} (contents : D → Contents) (honest calm : D → Bool) (e : Export) (limit : ℕ) (old new : D)
-    (unread left before after : Option (List ℕ)) (result : Result End ServeFault) : Type 0 where
+pub record Begins {D : Type 0} (contents : D → Contents) (honest calm : D → Bool) (rests : D → Result (Unit {0}) DiskFault → D → Type 0)
+    (e : Export) (limit : ℕ) (old new : D) (unread left before after : Option (List ℕ)) (result : Result End ServeFault) : Type 0 where
   pub unread' : Option (List ℕ)
   pub before' : Option (List ℕ)
   pub negotiated : Negotiates e limit unread unread' before before' (Ok Transmission)
-  pub transmits : Transmits contents honest calm e old new unread' left before' after result
+  pub transmits : Transmits contents honest calm rests e old new unread' left before' after result
 
 -- A SESSION: a negotiation that came to no transmission, and the disk is as it was; or one that did, and the transmission
-abbrev pub Serves : {D : Type 0} → (D → Contents) → (honest calm : D → Bool) → Export → (limit : ℕ) → (old new : D)
-    → (unread left before after : Option (List ℕ)) → Result End ServeFault → Type 0
-Serves contents honest calm e limit old new unread left before after result =
+abbrev pub Serves : {D : Type 0} → (D → Contents) → (honest calm : D → Bool) → (rests : D → Result (Unit {0}) DiskFault → D → Type 0) → Export
+    → (limit : ℕ) → (old new : D) → (unread left before after : Option (List ℕ)) → Result End ServeFault → Type 0
+Serves contents honest calm rests e limit old new unread left before after result =
     ((new ≡ old) × Negotiates e limit unread left before after (negotiated_as result))
-    ⊎ Begins contents honest calm e limit old new unread left before after result
+    ⊎ Begins contents honest calm rests e limit old new unread left before after result

@@ -1,52 +1,67 @@
--- HOW LONG A DISK HOLDS WHAT IT IS GIVEN: the exchanges before the first one that ended that.
-use Rattle.std.specs.Prelude.{◌≡◌, Bool, true, false, List, [], ◌∷◌, ◌++◌, Ok, IsErr}
+-- HOW LONG A DISK HOLDS WHAT IT IS GIVEN: the rounds before the first one that ended that.
+use Rattle.std.specs.Prelude.{◌≡◌, ◌⊎◌, Bool, true, false, List, [], ◌∷◌, ◌++◌, Some, Result, Ok, Err, IsOk, IsErr}
 use Rattle.nbd_stream.specs.declared.export.Export.{Export}
+use Rattle.nbd_stream.specs.declared.fault.DiskFault.{DiskFault}
+use Rattle.nbd_stream.specs.declared.fault.DiskFault.TheVariants.{Failed}
 use Rattle.nbd_stream.specs.declared.task.Task.{Task}
 use Rattle.nbd_stream.specs.Disk.{Contents}
-use Rattle.nbd_stream.specs.Exchanges.{Exchange, Tells, ToldEach, requests_in, task_of}
+use Rattle.nbd_stream.specs.Exchanges.{Round, TellsRound, ToldEach, AreRestsDone, exchanges_in, requests_in, task_of}
 use Rattle.nbd_stream.specs.Runs.{Runs, AreDone, bytes_left, exchanges_of}
 
--- nothing more was asked; or the next exchange left a disk that is not honest, and of that one the others were asked
-abbrev pub BreaksBy : {D : Type 0} → (D → Contents) → (honest calm : D → Bool) → Export → D → List Exchange → D → Type 0
-BreaksBy contents honest calm e mid [] new = new ≡ mid
-BreaksBy {D} contents honest calm e mid (x ∷ xs) new =
-    (next : D) × Tells contents honest calm e mid x next × (honest next ≡ false) × ToldEach contents honest calm e next xs new
+-- nothing more was asked; or the next round left a disk that is not honest, and of that one the others were asked
+abbrev pub BreaksBy : {D : Type 0} → (D → Contents) → (honest calm : D → Bool) → (rests : D → Result (Unit {0}) DiskFault → D → Type 0)
+    → Export → D → List Round → D → Type 0
+BreaksBy contents honest calm rests e mid [] new = new ≡ mid
+BreaksBy {D} contents honest calm rests e mid (x ∷ xs) new =
+    (next : D) × TellsRound contents honest calm rests e mid x next × (honest next ≡ false) × ToldEach contents honest calm rests e next xs new
 
--- THE LONGEST FRONT of the exchanges that an honest disk came through honest: over it the answers are a run of its array. After it nothing was
--- asked, or the next exchange ended it.
-pub record Until {D : Type 0} (contents : D → Contents) (honest calm : D → Bool) (e : Export) (old : D) (xs : List Exchange) (new : D) : Type 0 where
-  pub before : List Exchange
-  pub rest : List Exchange
-  pub joined : xs ≡ before ++ rest
+-- THE LONGEST FRONT of the rounds that an honest disk came through honest: over it the answers are a run of its array. After it nothing was
+-- asked, or the next round ended it.
+pub record Until {D : Type 0} (contents : D → Contents) (honest calm : D → Bool) (rests : D → Result (Unit {0}) DiskFault → D → Type 0)
+    (e : Export) (old : D) (xs : List Round) (new : D) : Type 0 where
+  pub before : List Round
+  pub after : List Round
+  pub joined : xs ≡ before ++ after
   pub mid : D
-  pub each : ToldEach contents honest calm e old before mid
+  pub each : ToldEach contents honest calm rests e old before mid
   pub held : honest mid ≡ true
-  pub runs : Runs e (contents old) before (contents mid)
-  pub breaks : BreaksBy contents honest calm e mid rest new
+  pub runs : Runs e (contents old) (exchanges_in before) (contents mid)
+  pub breaks : BreaksBy contents honest calm rests e mid after new
 
 -- ---- laws
 
 -- A DISK THAT IS HONEST NO MORE is never again, whatever it is asked
-abbrev pub BackLaw : {D : Type 0} → (D → Contents) → (honest calm : D → Bool) → Type 0
-BackLaw {D} contents honest calm =
-    (e : Export) (old new : D) (xs : List Exchange) → ToldEach contents honest calm e old xs new → honest old ≡ false → honest new ≡ false
+abbrev pub BackLaw : {D : Type 0} → (D → Contents) → (honest calm : D → Bool) → (rests : D → Result (Unit {0}) DiskFault → D → Type 0) → Type 0
+BackLaw {D} contents honest calm rests =
+    (e : Export) (old new : D) (xs : List Round) → ToldEach contents honest calm rests e old xs new → honest old ≡ false → honest new ≡ false
 
--- the first of these exchanges was asked of the disk, and failed
-abbrev pub IsFirstFailed : Export → List Exchange → Type 0
+-- a round that was asked of the disk and failed, or whose rest failed
+abbrev pub IsFailed : Export → Round → Type 0
+IsFailed e x = ((task : Task) × (task_of e x.exchange.request ≡ Ok task)) × (IsErr x.exchange.answer ⊎ (x.rested ≡ Some (Err Failed)))
+
+abbrev pub IsFirstFailed : Export → List Round → Type 0
 IsFirstFailed e [] = Unit {0}
-IsFirstFailed e (x ∷ xs) = ((task : Task) × (task_of e x.request ≡ Ok task)) × IsErr x.answer
+IsFirstFailed e (x ∷ xs) = IsFailed e x
 
--- WHERE IT ENDED: not while the disk is honest, and by no exchange but one that was asked of the disk and failed. Where no task before that one failed,
--- the exchanges before it are those of the array.
-abbrev pub UntilLaw : {D : Type 0} → (D → Contents) → (honest calm : D → Bool) → Type 0
-UntilLaw {D} contents honest calm =
-    (e : Export) (old new : D) (xs : List Exchange) (until : Until contents honest calm e old xs new)
+-- an answer without an error is the array's too where the rest after it failed
+abbrev pub IsFirstOfRun : Export → Contents → (before after : List Round) → Type 0
+IsFirstOfRun e s before [] = Unit {0}
+IsFirstOfRun e s before (x ∷ xs) = IsOk x.exchange.answer → (t : Contents) × Runs e s (exchanges_in (before ++ x ∷ [])) t
+
+-- WHERE IT ENDED: not while the disk is honest, and in no round but one that was asked of the disk and failed, or whose rest failed. What was answered
+-- without an error until then is the array's. Where no task before it failed, the exchanges before it are those of the array.
+abbrev pub UntilLaw : {D : Type 0} → (D → Contents) → (honest calm : D → Bool) → (rests : D → Result (Unit {0}) DiskFault → D → Type 0) → Type 0
+UntilLaw {D} contents honest calm rests =
+    (e : Export) (old new : D) (xs : List Round) (until : Until contents honest calm rests e old xs new)
     → (honest new ≡ true → (until.before ≡ xs) × (new ≡ until.mid))
-    × IsFirstFailed e until.rest
-    × (AreDone e until.before → (until.before ≡ exchanges_of e (contents old).bytes (requests_in until.before))
-    × ((contents until.mid).bytes ≡ bytes_left e (contents old).bytes (requests_in until.before)))
+    × IsFirstFailed e until.after
+    × IsFirstOfRun e (contents old) until.before until.after
+    × (AreDone e (exchanges_in until.before)
+    → (exchanges_in until.before ≡ exchanges_of e (contents old).bytes (requests_in (exchanges_in until.before)))
+    × ((contents until.mid).bytes ≡ bytes_left e (contents old).bytes (requests_in (exchanges_in until.before))))
 
--- where no task fails, an honest disk stays so
-abbrev pub StaysLaw : {D : Type 0} → (D → Contents) → (honest calm : D → Bool) → Type 0
-StaysLaw {D} contents honest calm =
-    (e : Export) (old new : D) (xs : List Exchange) → ToldEach contents honest calm e old xs new → AreDone e xs → honest new ≡ honest old
+-- where no task and no rest fails, an honest disk stays so
+abbrev pub StaysLaw : {D : Type 0} → (D → Contents) → (honest calm : D → Bool) → (rests : D → Result (Unit {0}) DiskFault → D → Type 0) → Type 0
+StaysLaw {D} contents honest calm rests =
+    (e : Export) (old new : D) (xs : List Round) → ToldEach contents honest calm rests e old xs new
+    → AreDone e (exchanges_in xs) → AreRestsDone xs → honest new ≡ honest old

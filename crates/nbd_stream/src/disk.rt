@@ -11,9 +11,12 @@ use crate::task::Task;
 /// That is said where the disk is `honest` after the call: it holds what it is given. A call that is done leaves it as honest as it was. One that
 /// fails may end its honesty, as where a device under it stops and its bytes are no longer known; then it is never honest again. What a file or
 /// another machine holds no contract can name, so a disk over one is not honest, and to whoever starts it, that word is the premise.
+///
+/// Between two requests a disk may be given a rest, to tidy up in: it leaves the bytes.
 pub trait Disk {
-    ghost use Rattle.std.specs.Prelude.{◌≤◌, ◌+◌, Bool, [], length};
-    ghost use Rattle.nbd_stream.specs.Disk.{Contents, Performs, answer_from};
+    ghost use Rattle.std.specs.Prelude.{◌≤◌, ◌+◌, Bool, [], length, Result};
+    ghost use Rattle.nbd_stream.specs.declared.fault.DiskFault.{DiskFault};
+    ghost use Rattle.nbd_stream.specs.Disk.{Contents, Idles, Performs, answer_from};
 
     /// The bytes that it stands for, and those that it will stand for if the power goes now.
     ghost contents: { Self → Contents };
@@ -23,6 +26,9 @@ pub trait Disk {
 
     /// Whether it does whatever it is asked, without an error.
     ghost calm: { Self → Bool };
+
+    /// What a rest of it is, beside that it leaves the bytes: of the disk before, the answer, and the disk after.
+    ghost rests: { Self → Result (Unit {0}) DiskFault → Self → Type 0 };
 
     /// Gives the bytes from an offset on, as many as the buffer has room for.
     ///
@@ -59,4 +65,14 @@ pub trait Disk {
     /// `Failed` where the disk failed: of one that is still honest, the bytes are as they were, and may not all last.
     fn flush(&mut self) -> Result<(), DiskFault>
         ensures { Performs contents honest calm Task.Flush [] self.old (answer_from result []) self.new };
+
+    /// An idle moment between two requests, in which the disk may tidy up: one over flash frees blocks for later changes. Nothing that a client
+    /// asked is done in it, and the bytes stay.
+    ///
+    /// # Errors
+    ///
+    /// `Failed` where the disk failed: of one that is still honest, the bytes are as they were.
+    fn rest(&mut self) -> Result<(), DiskFault>
+        ensures idles { Idles contents honest calm self.old result self.new }
+        ensures rests { rests self.old result self.new };
 }

@@ -31,11 +31,11 @@ pub fn disk_laws()
     ensures done { DoneLaw }
 {}
 
-/// How long a disk is honest. Once it is not, it never is again, whatever it is asked. While no task fails it stays so. In a transmission it ends
-/// with an exchange that was asked of the disk and failed, and not before: up to that one the answers are the array's, and where none of them
-/// failed they are what it gives. (This project's.)
+/// How long a disk is honest. Once it is not, it never is again, whatever it is asked. While no task and no rest fails it stays so. In a transmission it
+/// ends with an exchange that was asked of the disk and failed, or whose rest failed, and not before: up to that one the answers are the array's, one
+/// before such a rest too, and where none of them failed they are what it gives. (This project's.)
 pub fn honesty_laws<D: Disk>()
-    ensures back { BackLaw D.contents D.honest D.calm }
-    ensures stays { StaysLaw D.contents D.honest D.calm }
-    ensures until { UntilLaw D.contents D.honest D.calm }
+    ensures back { BackLaw D.contents D.honest D.calm D.rests }
+    ensures stays { StaysLaw D.contents D.honest D.calm D.rests }
+    ensures until { UntilLaw D.contents D.honest D.calm D.rests }
 {}

@@ -1,6 +1,6 @@
 //! What a request asks of a disk, or the error that it has before the disk is asked.
 ghost use Rattle.std.specs.Prelude.{◌≡◌, IsTrue};
-ghost use Rattle.nbd_stream.specs.Tasks.{admitted, change_of, command_from, is_within, is_durable};
+ghost use Rattle.nbd_stream.specs.Tasks.{admitted, change_of, command_from, is_change, is_within, is_durable};
 
 use crate::export::Export;
 use crate::reply::RequestError;
@@ -51,6 +51,18 @@ pub enum Task {
         count: u32,
         durable: bool,
     },
+}
+
+impl Task {
+    // Whether it sets bytes.
+    pub(crate) fn is_change(self) -> bool
+        ensures { result ≡ is_change self }
+    {
+        match self {
+            Task::Write { .. } | Task::Trim { .. } | Task::WriteZeroes { .. } => true,
+            Task::Read { .. } | Task::Flush => false,
+        }
+    }
 }
 
 // The flags that may stand with a request: the first asks for bytes that last; the second, with zeroes, that they take room.

@@ -1,14 +1,16 @@
 //! Requests are asked of a disk and answered, one after another.
 ghost use Rattle.std.specs.Prelude.{◌≡◌, ◌≤◌, ◌+◌, ℕ, List, length, take};
 ghost use Rattle.nbd_stream.specs.Disk.{IsInside, Performs, answer_from, count_given, count_taken};
+ghost use Rattle.nbd_stream.specs.Exchanges.{RestsAfter};
 ghost use Rattle.nbd_stream.specs.Frames.{IsRequest, request_at};
+ghost use Rattle.nbd_stream.specs.Tasks.{admitted};
 ghost use Rattle.nbd_stream.specs.Transmission.{Replies, Serves, ServesNext, Transmits};
 
 use crate::disk::Disk;
 use crate::export::Export;
 use crate::fault::{DiskFault, error_for};
 use crate::negotiation::{Negotiated, negotiate};
-use crate::reply::send_reply;
+use crate::reply::{RequestError, send_reply};
 use crate::request::{End, Header, Next, read_request};
 use crate::task::{Task, admit};
 use request_stream::ServeFault;
@@ -59,8 +61,10 @@ fn answer<W: Write, D: Disk>(
     disk: &mut D,
     export: &Export,
     header: &Header,
+    asked: Result<Task, RequestError>,
     buffer: &mut [u8],
 ) -> Result<(), ServeFault>
+    requires asked { asked ≡ admitted export.now header.now }
     requires size { length (D.contents disk.old).bytes ≡ export.now.size }
     requires room { export.now.maximum ≤ length buffer.old }
     ensures { (body : List ℕ) → IsRequest (request_at header.now body) →
@@ -68,7 +72,7 @@ fn answer<W: Write, D: Disk>(
         Replies D.contents D.honest D.calm export.now disk.old (request_at header.now body) disk.new
         (W.contents writer.old) (W.contents writer.new) result }
 {
-    let task = match admit(export, header) {
+    let task = match asked {
         Ok(task) => task,
         Err(error) => return send_reply(writer, header.cookie, Err(error), &[]),
     };
@@ -78,7 +82,16 @@ fn answer<W: Write, D: Disk>(
     }
 }
 
-// Answers the next request, or tells why there is none.
+// Has the disk rest where a change was asked of it. A rest that fails is no request's: what it left of the disk the next request meets.
+fn rest_after<D: Disk>(disk: &mut D, asked: Result<Task, RequestError>)
+    ensures { RestsAfter D.contents D.honest D.calm D.rests asked disk.old disk.new }
+{
+    if asked.is_ok_and(Task::is_change) {
+        let _ = disk.rest();
+    }
+}
+
+// Answers the next request, or tells why there is none. Once its reply is handed on, the disk rests after a change.
 fn serve_next<R: Read, W: Write, D: Disk>(
     reader: &mut R,
     writer: &mut W,
@@ -88,13 +101,15 @@ fn serve_next<R: Read, W: Write, D: Disk>(
 ) -> Result<Option<End>, ServeFault>
     requires size { length (D.contents disk.old).bytes ≡ export.now.size }
     requires room { export.now.maximum ≤ length buffer.old }
-    ensures { ServesNext D.contents D.honest D.calm export.now disk.old disk.new (R.remaining reader.old) (R.remaining reader.new)
+    ensures { ServesNext D.contents D.honest D.calm D.rests export.now disk.old disk.new (R.remaining reader.old) (R.remaining reader.new)
         (W.contents writer.old) (W.contents writer.new) result }
 {
     match read_request(reader, buffer)? {
         Next::Ended(end) => Ok(Some(end)),
         Next::Whole(header) => {
-            answer(writer, disk, export, &header, buffer)?;
+            let asked = admit(export, &header);
+            answer(writer, disk, export, &header, asked, buffer)?;
+            rest_after(disk, asked);
             Ok(None)
         }
     }
@@ -104,11 +119,14 @@ fn serve_next<R: Read, W: Write, D: Disk>(
 /// than the request at hand, and has the writer hand on each reply before it reads the next request. The buffer has room for the
 /// greatest count that the export tells, and takes what was read: no memory is asked for.
 ///
+/// **After each change that was asked of the disk, done or failed, the disk rests once: its reply is handed on by then, so no client waits for it. After
+/// a read, a flush and a request that was refused it does not** (`rested`). A rest that fails ends nothing, and is told to nobody.
+///
 /// **Each request that was read is answered by one reply, in order, with its cookie. One that asks nothing of a disk as `admit` says is
 /// answered the error that stands there, and the disk is as it was. Each other one is asked of the disk. Where the disk is honest, the answers
 /// are those of an array of bytes: a read that is done gives the bytes of its range, a write that is done stands in the array, trims and
 /// zeroes that are done are zeros there, and a byte that a flush or a durable change made last stays, whatever fails later, until a
-/// request sets it.** `laws::disk_laws` says these of any run. A disk that was honest is so up to a task that failed (`until`), and over all
+/// request sets it.** `laws::disk_laws` says these of any run. A disk that was honest is so up to a task or a rest that failed (`until`), and over all
 /// of the transmission if it is honest at its end (`laws::honesty_laws`).
 ///
 /// What was read is these requests and what stands after the last of them, and what was written their replies, of a reader and a
@@ -118,7 +136,8 @@ fn serve_next<R: Read, W: Write, D: Disk>(
 ///
 /// - `Read` where a read failed or was interrupted, or 2^64 - 1 requests were answered: what was written answers the requests that
 ///   were read whole.
-/// - `Write` where a write failed, was interrupted or took nothing: what was written is a beginning of the replies.
+/// - `Write` where a write failed, was interrupted or took nothing: what was written is a beginning of the replies. After the last request the disk
+///   did not rest.
 ///
 /// (The NBD protocol, "Transmission".)
 pub fn transmit<R: Read, W: Write, D: Disk>(
@@ -130,7 +149,7 @@ pub fn transmit<R: Read, W: Write, D: Disk>(
 ) -> Result<End, ServeFault>
     requires size { length (D.contents disk.old).bytes ≡ export.now.size }
     requires room { export.now.maximum ≤ length buffer.old }
-    ensures { Transmits D.contents D.honest D.calm export.now disk.old disk.new (R.remaining reader.old) (R.remaining reader.new)
+    ensures { Transmits D.contents D.honest D.calm D.rests export.now disk.old disk.new (R.remaining reader.old) (R.remaining reader.new)
         (W.contents writer.old) (W.contents writer.new) result }
 {
     for _ in 0..u64::MAX {
@@ -156,7 +175,7 @@ pub fn serve<R: Read, W: Write, D: Disk>(
 ) -> Result<End, ServeFault>
     requires size { length (D.contents disk.old).bytes ≡ export.now.size }
     requires room { export.now.maximum ≤ length buffer.old }
-    ensures { Serves D.contents D.honest D.calm export.now (length buffer.new) disk.old disk.new (R.remaining reader.old) (R.remaining reader.new)
+    ensures { Serves D.contents D.honest D.calm D.rests export.now (length buffer.new) disk.old disk.new (R.remaining reader.old) (R.remaining reader.new)
         (W.contents writer.old) (W.contents writer.new) result }
 {
     match negotiate(reader, writer, export, buffer)? {

@@ -3,5 +3,6 @@ mod negotiations;
 mod pieces;
 mod replies;
 mod requests;
+mod rests;
 mod sectors;
 mod transmissions;

@@ -66,6 +66,8 @@ impl<S: Sectors> Disk for SectorDisk<S> {
 
     ghost calm = { S.calm };
 
+    ghost rests = { S.rests };
+
     fn read(&mut self, offset: u64, buffer: &mut [u8]) -> Result<(), DiskFault> {
         read_range(&mut self.sectors, &mut self.buffer, offset, buffer)
     }
@@ -86,5 +88,9 @@ impl<S: Sectors> Disk for SectorDisk<S> {
 
     fn flush(&mut self) -> Result<(), DiskFault> {
         self.sectors.flush()
+    }
+
+    fn rest(&mut self) -> Result<(), DiskFault> {
+        self.sectors.rest()
     }
 }

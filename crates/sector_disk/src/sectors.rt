@@ -3,11 +3,12 @@ use nbd_stream::{DiskFault, Task};
 
 /// A device that is read and written by whole sectors, in the order in which it is asked. (This project's.)
 ///
-/// Each method is one `Performs` of `nbd_stream`, of a task whose range is the sector: so its words, `contents`, `honest` and `calm`, are those of a
-/// `Disk`, and its honesty may end in a call that fails. Its contents are its sectors as one list of bytes, the first sector first.
+/// Each method is one `Performs` of `nbd_stream`, of a task whose range is the sector, or a rest: so its words, `contents`, `honest`, `calm` and `rests`, are
+/// those of a `Disk`, and its honesty may end in a call that fails. Its contents are its sectors as one list of bytes, the first sector first.
 pub trait Sectors {
-    ghost use Rattle.std.specs.Prelude.{◌≡◌, ◌<◌, ◌+◌, ◌*◌, ◌^◌, ℕ, Bool, false, [], length};
-    ghost use Rattle.nbd_stream.specs.Disk.{Contents, Performs, answer_from};
+    ghost use Rattle.std.specs.Prelude.{◌≡◌, ◌<◌, ◌+◌, ◌*◌, ◌^◌, ℕ, Bool, false, [], length, Result};
+    ghost use Rattle.nbd_stream.specs.declared.fault.DiskFault.{DiskFault};
+    ghost use Rattle.nbd_stream.specs.Disk.{Contents, Idles, Performs, answer_from};
 
     /// The bytes of its sectors, and those that they will have if the power goes now.
     ghost contents: { Self → Contents };
@@ -17,6 +18,9 @@ pub trait Sectors {
 
     /// Whether it does whatever it is asked, without an error.
     ghost calm: { Self → Bool };
+
+    /// What a rest of it is, beside that it leaves the sectors: of the device before, the answer, and the device after.
+    ghost rests: { Self → Result (Unit {0}) DiskFault → Self → Type 0 };
 
     /// Bytes of a sector.
     ghost size: { Self → ℕ };
@@ -69,6 +73,17 @@ pub trait Sectors {
         ensures size { size self.new ≡ size self.old }
         ensures count { count self.new ≡ count self.old }
         ensures performs { Performs contents honest calm Task.Flush [] self.old (answer_from result []) self.new };
+
+    /// An idle moment between two requests, in which the device may tidy up. The sectors stay.
+    ///
+    /// # Errors
+    ///
+    /// `Failed` where the device failed: of one that is still honest, the sectors are as they were.
+    fn rest(&mut self) -> Result<(), DiskFault>
+        ensures size { size self.new ≡ size self.old }
+        ensures count { count self.new ≡ count self.old }
+        ensures idles { Idles contents honest calm self.old result self.new }
+        ensures rests { rests self.old result self.new };
 
     /// Bytes of a sector, which are some.
     fn sector_bytes(&self) -> usize

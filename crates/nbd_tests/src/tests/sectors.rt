@@ -32,13 +32,15 @@ impl CachedSectors {
 }
 
 impl Sectors for CachedSectors {
-    ghost use Rattle.std.specs.Prelude.{true, false};
+    ghost use Rattle.std.specs.Prelude.{◌≡◌, true, false};
 
     ghost contents = { λ device. record { bytes = device.bytes; durable = device.kept } };
 
     ghost honest = { λ device. true };
 
     ghost calm = { λ device. false };
+
+    ghost rests = { λ old result new. new.bytes ≡ old.bytes };
 
     ghost size = { λ device. 4 };
 
@@ -79,6 +81,15 @@ impl Sectors for CachedSectors {
         Ok(())
     }
 
+    // What was kept back is written out.
+    fn rest(&mut self) -> Result<(), DiskFault> {
+        if self.fails() {
+            return Err(DiskFault::Failed);
+        }
+        self.kept = self.bytes;
+        Ok(())
+    }
+
     fn sector_bytes(&self) -> usize {
         SECTOR
     }
@@ -96,6 +107,7 @@ enum Step {
     Write(u64, &'static [u8], bool, Result<(), DiskFault>),
     Clear(u64, u32, bool, Result<(), DiskFault>),
     Flush(Result<(), DiskFault>),
+    Rest(Result<(), DiskFault>),
 }
 
 // The steps, and what is left: what stands, and what lasts.
@@ -153,6 +165,20 @@ const ROWS: &[Row] = &[
         ],
         bytes: b"abcXYZg\0\0\0\0\0\0nop",
         kept: b"abcXYZg\0\0\0\0\0\0nop",
+        ..QUIET
+    },
+    Row {
+        name: "a rest, and one that fails",
+        failing: 4,
+        steps: &[
+            Step::Write(4, b"WXYZ", false, Ok(())),
+            Step::Rest(Ok(())),
+            Step::Write(8, b"wxyz", false, Ok(())),
+            Step::Rest(Err(DiskFault::Failed)),
+            Step::Read(0, b"abcdWXYZwxyzmnop", Ok(())),
+        ],
+        bytes: b"abcdWXYZwxyzmnop",
+        kept: b"abcdWXYZijklmnop",
         ..QUIET
     },
     Row {
@@ -238,6 +264,7 @@ fn does(disk: &mut SectorDisk<CachedSectors>, step: &Step) -> bool {
                 && disk.clear(offset, count, durable) == answer
         }
         Step::Flush(answer) => disk.flush() == answer,
+        Step::Rest(answer) => disk.rest() == answer,
     }
 }
 

@@ -33,13 +33,15 @@ impl FailingDisk {
 }
 
 impl Disk for FailingDisk {
-    ghost use Rattle.std.specs.Prelude.{false, [], replicate};
+    ghost use Rattle.std.specs.Prelude.{◌≡◌, false, [], replicate};
 
     ghost contents = { λ disk. record { bytes = replicate 16 0; durable = [] } };
 
     ghost honest = { λ disk. false };
 
     ghost calm = { λ disk. false };
+
+    ghost rests = { λ old result new. new ≡ old };
 
     fn read(&mut self, offset: u64, buffer: &mut [u8]) -> Result<(), DiskFault> {
         if self.fails() && self.fault == DiskFault::Failed {
@@ -72,6 +74,10 @@ impl Disk for FailingDisk {
         if self.fails() && self.fault == DiskFault::Failed {
             return Err(DiskFault::Failed);
         }
+        Ok(())
+    }
+
+    fn rest(&mut self) -> Result<(), DiskFault> {
         Ok(())
     }
 }

@@ -5,14 +5,14 @@ use Rattle.nbd_stream.proofs.transmission.answer.Goals as goal
 
 pub returns-in-Err : goal.returns-in-Err
 returns-in-Err g c = λ body request stands.
-    refused g.D.Disk.contents g.D.Disk.honest g.D.Disk.calm c.args.export.now c.args.disk.now c.args.header.now body c.in-Err.error _ _ _ (sym c.admit.ensures ∙ c.in-Err.is) c.send_reply.ensures
+    refused g.D.Disk.contents g.D.Disk.honest g.D.Disk.calm c.args.export.now c.args.disk.now c.args.header.now body c.in-Err.error _ _ _ (sym c.requires.asked ∙ c.in-Err.is) c.send_reply.ensures
 
 pub returns-in-Ok-perform : goal.returns-in-Ok-perform
 returns-in-Ok-perform g c = λ body request stands.
     performed_ok g.D.Disk.contents g.D.Disk.honest g.D.Disk.calm c.args.export.now c.args.disk.now c.perform.new.disk c.args.header.now c.in-Ok.task body c.args.buffer.now _ _ _
-    (sym c.admit.ensures ∙ c.in-Ok.is) request stands c.requires.room c.perform.result _ (take (count_given c.in-Ok.task) c.perform.new.buffer) c.given_bytes.result.now c.in-Ok-perform.is c.given_bytes.ensures c.perform.ensures c.send_reply-in-Ok-perform.ensures
+    (sym c.requires.asked ∙ c.in-Ok.is) request stands c.requires.room c.perform.result _ (take (count_given c.in-Ok.task) c.perform.new.buffer) c.given_bytes.result.now c.in-Ok-perform.is c.given_bytes.ensures c.perform.ensures c.send_reply-in-Ok-perform.ensures
 
 pub returns-in-Err-perform : goal.returns-in-Err-perform
 returns-in-Err-perform g c = λ body request stands.
     performed_err g.D.Disk.contents g.D.Disk.honest g.D.Disk.calm c.args.export.now c.args.disk.now c.perform.new.disk c.args.header.now c.in-Ok.task body c.args.buffer.now _ _ _
-    (sym c.admit.ensures ∙ c.in-Ok.is) request stands c.requires.room c.perform.result c.in-Err-perform.fault (take (count_given c.in-Ok.task) c.perform.new.buffer) c.error_for.result c.in-Err-perform.is c.error_for.ensures c.perform.ensures c.send_reply-in-Err-perform.ensures
+    (sym c.requires.asked ∙ c.in-Ok.is) request stands c.requires.room c.perform.result c.in-Err-perform.fault (take (count_given c.in-Ok.task) c.perform.new.buffer) c.error_for.result c.in-Err-perform.is c.error_for.ensures c.perform.ensures c.send_reply-in-Err-perform.ensures
