@@ -59,6 +59,9 @@ impl<D: Disk, Y: Syncs> Disk for SyncedDisk<D, Y> {
 
     ghost calm = { λ _. false };
 
+    /// A rest of the disk, and nothing else.
+    ghost rests = { λ old result new. D.rests old.disk result new.disk × (new.syncs ≡ old.syncs) };
+
     fn read(&mut self, offset: u64, buffer: &mut [u8]) -> Result<(), DiskFault>
         requires { offset + length buffer.old ≤ length (D.contents self.old.disk).bytes }
         ensures performs { Performs (λ s. D.contents s.disk) (λ s. D.honest s.disk) (λ _. false) (Task.Read offset (length buffer.old)) [] self.old (answer_from result buffer.new) self.new }
@@ -97,5 +100,9 @@ impl<D: Disk, Y: Syncs> Disk for SyncedDisk<D, Y> {
     {
         self.disk.flush()?;
         self.syncs.sync()
+    }
+
+    fn rest(&mut self) -> Result<(), DiskFault> {
+        self.disk.rest()
     }
 }

@@ -1,0 +1,211 @@
+#!/usr/bin/python3
+"""Holds what `nanddisk` refuses, and what it leaves: files that are there, in use, of the wrong length or shape, read-only, shrunk while they are served, a full
+file system, and hostile streams.
+
+Usage: disk_refused.py NANDDISK [STREAMS [SEED]]
+
+Of the hostile streams (10,000 without a number) half are random bytes, and half a good session of which bytes were changed, cut or doubled; a third goes to a disk that is served
+read-only, whose file has to stay as it is to the byte. Each ends with status 0 or 3, in time and in little memory, and after each hundred the disk is mounted.
+
+The read-only and the full file system are tmpfs, so this is for root. Asks for Debian's python3-libnbd, which is for the system's Python."""
+
+import json
+import os
+import random
+import resource
+import socket
+import struct
+import subprocess
+import sys
+import tempfile
+
+import nbd
+
+GEOMETRY = "512,16,8,48,150"
+SIZE = 150 * 512
+MOST_KIB = 65536
+
+
+def told(command, **words):
+    done = subprocess.run(command, stdout=subprocess.PIPE, stderr=subprocess.PIPE, timeout=60, **words)
+    return done.returncode, done.stderr.decode()
+
+
+def hold(command, status, line):
+    found = told(command, stdin=subprocess.DEVNULL)
+    assert found == (status, line + "\n"), (command[1:], found)
+
+
+def start(command):
+    client = nbd.NBD()
+    ours, theirs = socket.socketpair()
+    server = subprocess.Popen(command, stdin=theirs, stdout=theirs, stderr=subprocess.PIPE)
+    theirs.close()
+    client.connect_socket(ours.detach())
+    return client, server
+
+
+def refused_files(program, folder):
+    """What is there is not replaced, and what is no disk is not served."""
+    path = os.path.join(folder, "a.nand")
+    told([program, "create", "--geometry", GEOMETRY, path])
+    image, shape = open(path, "rb").read(), open(path + ".json", "rb").read()
+    hold([program, "create", "--size", "1M", path], 1, f"refused: {path} exists")
+    client, server = start([program, "serve", path])
+    hold([program, "serve", path], 1, f"refused: {path} is in use")
+    hold([program, "info", path], 1, f"refused: {path} is in use")
+    client.shutdown()
+    server.wait()
+    hold([program, "serve", path + "x"], 3, f"fault read {path}x")
+    for text, why in (
+        (b"", "not JSON"),
+        (b"[]", "no object"),
+        (b'{"cache":64,"geometry":"512,16,8,48,150"}', "no member version"),
+        (b'{"cache":"64","geometry":"512,16,8,48,150","version":1}', "member cache of another type"),
+        (b'{"cache":64,"geometry":"512,16,8,48,150","version":2}', "another version"),
+        (b'{"cache":0,"geometry":"512,16,8,48,150","version":1}', "the cache has not from 1 to 65536 entries"),
+        (b'{"cache":64,"geometry":"512,16,8,48","version":1}', "the geometry is no five numbers"),
+        (b'{"cache":64,"geometry":"512,16,8,48,150","version":1,"more":1}', "a member with another name"),
+    ):
+        open(path + ".json", "wb").write(text)
+        hold([program, "serve", path], 1, f"refused: {path}.json: {why}")
+    open(path + ".json", "wb").write(b'{"cache":64,"geometry":"512,16,8,64,150","version":1}')
+    hold([program, "serve", path], 1, f"refused: {path} has {48 * 8 * 528} bytes, and its shape {64 * 8 * 528}")
+    open(path + ".json", "wb").write(b'{"cache":64,"geometry":"512,16,16,24,150","version":1}')
+    status, line = told([program, "serve", path], stdin=subprocess.DEVNULL)
+    assert status == 1 and line.startswith(f"refused: {path} is no disk: Mount "), line
+    open(path + ".json", "wb").write(shape)
+    os.remove(path + ".json")
+    hold([program, "serve", path], 3, f"fault read {path}")
+    open(path + ".json", "wb").write(shape)
+    assert open(path, "rb").read() == image, "a refusal changed the file"
+    dump = os.path.join(folder, "dump.bin")
+    open(dump, "wb").write(image[:-1])
+    hold([program, "create", "--geometry", GEOMETRY, "--from", dump, path + "2"], 1, f"refused: {dump} has {len(image) - 1} bytes, and its shape {len(image)}")
+    open(dump, "wb").write(bytes(len(image)))
+    status, line = told([program, "create", "--geometry", GEOMETRY, "--from", dump, path + "2"])
+    assert status == 1 and line.startswith(f"refused: {dump} is no disk: Mount "), line
+    assert not [name for name in os.listdir(folder) if "2" in name], os.listdir(folder)
+
+
+def shrunk(program, folder):
+    """A file that shrinks while it is served: each request has EIO from then on, and what stands is served again."""
+    path = os.path.join(folder, "b.nand")
+    told([program, "create", "--geometry", GEOMETRY, path])
+    client, server = start([program, "serve", path])
+    client.pwrite(b"\x5a" * 512, 0)
+    client.flush()
+    whole = os.path.getsize(path)
+    kept = open(path, "rb").read()
+    os.truncate(path, 0)
+    failed = 0
+    for _ in range(3):
+        try:
+            client.pread(512, 0)
+        except nbd.Error as error:
+            failed += error.errno == "EIO"
+    assert failed == 3, failed
+    client.shutdown()
+    assert server.wait() == 3
+    assert server.stderr.read().decode() == f"fault serve: {path} failed\n"
+    hold([program, "serve", path], 1, f"refused: {path} has 0 bytes, and its shape {whole}")
+    open(path, "wb").write(kept)
+    client, server = start([program, "serve", path])
+    assert client.pread(512, 0) == b"\x5a" * 512
+    client.shutdown()
+    assert server.wait() == 0
+
+
+def file_systems(program, folder):
+    """A full file system takes no disk, and one that is read-only serves it for reading alone."""
+    mounted = os.path.join(folder, "mounted")
+    os.mkdir(mounted)
+    subprocess.run(["mount", "-t", "tmpfs", "-o", "size=1m", "none", mounted], check=True)
+    try:
+        path = os.path.join(mounted, "c.nand")
+        hold([program, "create", "--size", "4M", path], 3, f"fault write {path}")
+        assert os.listdir(mounted) == []
+        told([program, "create", "--geometry", GEOMETRY, path])
+        subprocess.run(["mount", "-o", "remount,ro", mounted], check=True)
+        hold([program, "serve", path], 3, f"fault read {path}")
+        client, server = start([program, "serve", "--read-only", path])
+        assert client.is_read_only() and client.pread(512, 0) == bytes(512)
+        client.set_strict_mode(0)
+        try:
+            client.pwrite(bytes(512), 0)
+            raise AssertionError("a read-only disk was written")
+        except nbd.Error as error:
+            assert error.errno == "EPERM", error
+        client.shutdown()
+        assert server.wait() == 0
+    finally:
+        subprocess.run(["umount", mounted], check=True)
+
+
+def session(draw):
+    """A good session: the client's flags, the choice of the export, and requests."""
+    data = struct.pack(">I", 3)
+    data += b"IHAVEOPT" + struct.pack(">II", 7, 6) + struct.pack(">IH", 0, 0)
+    for cookie in range(draw.randrange(12)):
+        code = draw.choice((0, 1, 3, 4, 6))
+        count = 0 if code == 3 else draw.randrange(1, 2000)
+        offset = 0 if code == 3 else draw.randrange(SIZE - count)
+        data += struct.pack(">IHHQQI", 0x25609513, draw.randrange(2), code, cookie, offset, count)
+        if code == 1:
+            data += draw.randbytes(count)
+    return data + struct.pack(">IHHQQI", 0x25609513, 0, 2, 99, 0, 0)
+
+
+def hostile(draw):
+    if draw.randrange(2):
+        return draw.randbytes(draw.randrange(400))
+    data = bytearray(session(draw))
+    for _ in range(draw.randrange(1, 8)):
+        at = draw.randrange(len(data))
+        what = draw.randrange(3)
+        if what == 0:
+            data[at] = draw.choice((0, 1, 0x7F, 0xFF, draw.randrange(256)))
+        elif what == 1:
+            del data[at : at + draw.randrange(1, 40)]
+        else:
+            data[at:at] = data[at : at + draw.randrange(1, 40)]
+        if not data:
+            break
+    return bytes(data)
+
+
+def streams(program, folder, count, draw):
+    """Hostile streams."""
+    path = os.path.join(folder, "d.nand")
+    told([program, "create", "--geometry", GEOMETRY, path])
+    for number in range(count):
+        read_only = number % 3 == 0
+        before = open(path, "rb").read() if read_only else b""
+        words = ["--read-only"] if read_only else []
+        status, line = told([program, "serve", *words, path], input=hostile(draw))
+        assert status in (0, 3) and (status == 0) == (line == ""), (number, status, line)
+        assert not read_only or open(path, "rb").read() == before, number
+        if number % 100 == 0:
+            assert told([program, "info", path])[0] == 0, number
+    assert told([program, "info", path])[0] == 0
+    most = resource.getrusage(resource.RUSAGE_CHILDREN).ru_maxrss
+    assert most < MOST_KIB, most
+    return most
+
+
+def main():
+    if len(sys.argv) < 2:
+        sys.exit(__doc__)
+    program = os.path.realpath(sys.argv[1])
+    count = int(sys.argv[2]) if len(sys.argv) > 2 else 10000
+    draw = random.Random(int(sys.argv[3]) if len(sys.argv) > 3 else 35)
+    with tempfile.TemporaryDirectory() as folder:
+        refused_files(program, folder)
+        shrunk(program, folder)
+        file_systems(program, folder)
+        most = streams(program, folder, count, draw)
+    print(f"each refusal as said; {count} hostile streams: named ends, in at most {most} KiB")
+
+
+if __name__ == "__main__":
+    main()
