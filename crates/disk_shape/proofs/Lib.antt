@@ -1,0 +1,3 @@
+pub mod ShapeLemmas
+pub mod SizeLemmas
+pub mod TextLemmas

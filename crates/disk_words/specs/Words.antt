@@ -1,0 +1,162 @@
+-- The words of the command line, as `clap` reads them.
+use Rattle.std.specs.Prelude.{◌≡◌, ◌≢◌, ◌⊎◌, ℕ, zero, suc, Bool, true, false, List, [], codes, Option, Some, None, map, option_map, if◌then◌else◌}
+use Rattle.std.specs.Str.{bytes_eq}
+use Rattle.std.specs.Borrow.{Bor}
+use Rattle.clap.specs.declared.builder.action.ArgAction.TheVariants.{Count, Set}
+use Rattle.clap.specs.declared.error.Error.{Error}
+use Rattle.clap.specs.declared.error.kind.ErrorKind.{ErrorKind}
+use Rattle.clap.specs.declared.error.kind.ErrorKind.TheVariants.{DisplayHelp, DisplayVersion, OutOfMemory}
+use Rattle.clap.specs.Words.{App, Row, Rule, first_of, count_of, fault_of, kind_of, new_app, new_rule, subcommand_of, with_rule, with_subcommand, IsAmong}
+use Rattle.clap.specs.Simple.{on_top}
+use Rattle.disk_words.specs.declared.words.CreateWords.{CreateWords}
+use Rattle.disk_words.specs.declared.words.InfoWords.{InfoWords}
+use Rattle.disk_words.specs.declared.words.MakeWords.{MakeWords}
+use Rattle.disk_words.specs.declared.words.MakeWords.TheVariants as made_of
+use Rattle.disk_words.specs.declared.words.ServeWords.{ServeWords}
+use Rattle.disk_words.specs.declared.words.DiskWords.{DiskWords}
+use Rattle.disk_words.specs.declared.words.DiskWords.TheVariants as asked
+
+-- the texts behind references
+abbrev pub texts : List (Bor (List ℕ)) → List (List ℕ)
+texts words = map (λ word. word.now) words
+
+-- ---- what `clap` is told
+
+abbrev pub disk : Rule
+disk = record (new_rule (codes "DISK")) { action = Some Set; required = true }
+
+abbrev pub option : List ℕ → Rule
+option name = record (new_rule name) { action = Some Set; long = Some name; value_names = 1 }
+
+abbrev pub flag : List ℕ → Rule
+flag name = record (new_rule name) { action = Some Count; long = Some name }
+
+abbrev pub create_plain : App
+create_plain = with_rule (with_rule (with_rule (new_app (codes "create")) (option (codes "size"))) (option (codes "geometry"))) (option (codes "from"))
+
+abbrev pub create : App
+create = with_rule (with_rule create_plain (option (codes "cache"))) disk
+
+abbrev pub serve : App
+serve = with_rule (with_rule (with_rule (new_app (codes "serve")) (flag (codes "read-only"))) (option (codes "sync"))) disk
+
+abbrev pub info : App
+info = with_rule (with_rule (new_app (codes "info")) (flag (codes "json"))) disk
+
+abbrev pub program : App
+program = on_top (λ s. record s { has_version = true; disable_help_subcommand = true; subcommand_required = true }) (new_app (codes "nanddisk"))
+
+abbrev pub with_create : App
+with_create = with_subcommand program create.top
+
+abbrev pub with_serve : App
+with_serve = with_subcommand with_create serve.top
+
+-- the commands that the program has
+abbrev pub grammar : App
+grammar = with_subcommand with_serve info.top
+
+-- ---- what the words ask for
+
+-- whether a word that may stand once stood, by how often it did
+abbrev pub once : ℕ → Option Bool
+once zero = Some false
+once (suc zero) = Some true
+once (suc (suc n)) = None
+
+-- whether a file is to be synced always: it is not without a word
+abbrev pub always : Option (List ℕ) → Option Bool
+always None = Some false
+always (Some word) = if bytes_eq word (codes "erases") then Some false else (if bytes_eq word (codes "always") then Some true else None)
+
+-- what a disk is made of: a size alone, or a geometry with a dump or without one
+abbrev pub make : Option (Bor (List ℕ)) → Option (Bor (List ℕ)) → Option (Bor (List ℕ)) → Option MakeWords
+make (Some size) None None = Some (made_of.Size size)
+make None (Some geometry) None = Some (made_of.Geometry geometry)
+make None (Some geometry) (Some from) = Some (made_of.Dump geometry from)
+make None None from = None
+make (Some size) (Some geometry) from = None
+make (Some size) None (Some from) = None
+
+-- the entries of the words that say what a disk is made of
+pub record HasMake (rows : List Row) (size geometry from : Option (List ℕ)) : Type 0 where
+  pub size_is : first_of (codes "size") rows ≡ size
+  pub geometry_is : first_of (codes "geometry") rows ≡ geometry
+  pub from_is : first_of (codes "from") rows ≡ from
+
+abbrev pub IsMakeAt : List Row → MakeWords → Type 0
+IsMakeAt rows (made_of.Size size) = HasMake rows (Some size.now) None None
+IsMakeAt rows (made_of.Geometry geometry) = HasMake rows None (Some geometry.now) None
+IsMakeAt rows (made_of.Dump geometry from) = HasMake rows None (Some geometry.now) (Some from.now)
+
+-- the entries of the words of `create` are these
+pub record IsCreateAt (rows : List Row) (read : CreateWords) : Type 0 where
+  pub disk_is : first_of (codes "DISK") rows ≡ Some read.disk.now
+  pub make_is : IsMakeAt rows read.make
+  pub cache_is : first_of (codes "cache") rows ≡ option_map (λ word. word.now) read.cache
+
+-- those of the words of `serve` are these
+pub record IsServeAt (rows : List Row) (read : ServeWords) : Type 0 where
+  pub disk_is : first_of (codes "DISK") rows ≡ Some read.disk.now
+  pub read_only_is : once (count_of (codes "read-only") rows) ≡ Some read.read_only
+  pub sync_is : always (first_of (codes "sync") rows) ≡ Some read.sync_always
+
+-- those of the words of `info` are these
+pub record IsInfoAt (rows : List Row) (read : InfoWords) : Type 0 where
+  pub disk_is : first_of (codes "DISK") rows ≡ Some read.disk.now
+  pub json_is : once (count_of (codes "json") rows) ≡ Some read.json
+
+-- the command of this name with these entries asks for that
+abbrev pub IsAt : List ℕ → List Row → DiskWords → Type 0
+IsAt name rows (asked.Create read) = (name ≡ codes "create") × IsCreateAt rows read
+IsAt name rows (asked.Serve read) = (name ≡ codes "serve") × IsServeAt rows read
+IsAt name rows (asked.Info read) = (name ≡ codes "info") × IsInfoAt rows read
+IsAt name rows (asked.Text text) = ⊥
+
+-- the command that was met asks for that
+pub record IsCommandOf (met : Option (List ℕ × List Row)) (found : DiskWords) : Type 0 where
+  pub name : List ℕ
+  pub rows : List Row
+  pub named : option_map (λ p. p.0) met ≡ Some name
+  pub entries : option_map (λ p. p.1) met ≡ Some rows
+  pub read : IsAt name rows found
+
+-- the error is the text of help or of the version
+abbrev pub IsTextFor : Error → Type 0
+IsTextFor e = (kind_of e ≡ DisplayHelp) ⊎ (kind_of e ≡ DisplayVersion)
+
+-- no fault is found in the words as `clap` reads them, and they name a command, with these words
+abbrev pub NamesCommand : List (List ℕ) → DiskWords → Type 0
+NamesCommand words found = (fault_of grammar words ≡ []) × IsCommandOf (subcommand_of grammar words) found
+
+-- Of the words as `clap` reads them: they name a command, with these words, or they ask for help or for the version.
+abbrev pub IsAsked : List (List ℕ) → DiskWords → Type 0
+IsAsked words (asked.Create read) = NamesCommand words (asked.Create read)
+IsAsked words (asked.Serve read) = NamesCommand words (asked.Serve read)
+IsAsked words (asked.Info read) = NamesCommand words (asked.Info read)
+IsAsked words (asked.Text text) = IsAmong DisplayHelp (fault_of grammar words) ⊎ IsAmong DisplayVersion (fault_of grammar words)
+
+-- ---- what is no command
+
+-- the error is of another kind, and memory didn't run out
+pub record IsOther (k : ErrorKind) : Type 0 where
+  pub help : k ≢ DisplayHelp
+  pub version : k ≢ DisplayVersion
+  pub memory : k ≢ OutOfMemory
+
+abbrev pub IsOtherKind : Error → Type 0
+IsOtherKind e = IsOther (kind_of e)
+
+-- `clap` finds such a fault in the words
+pub record HasFault (words : List (List ℕ)) : Type 0 where
+  pub kind : ErrorKind
+  pub among : IsAmong kind (fault_of grammar words)
+  pub other : IsOther kind
+
+-- it finds none, and they name no command with its words
+pub record NamesNone (words : List (List ℕ)) : Type 0 where
+  pub taken : fault_of grammar words ≡ []
+  pub none : (found : DiskWords) → ¬ IsCommandOf (subcommand_of grammar words) found
+
+abbrev pub IsNoCommand : List (List ℕ) → Type 0
+IsNoCommand words = HasFault words ⊎ NamesNone words

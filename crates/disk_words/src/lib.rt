@@ -1,0 +1,6 @@
+//! What the words of the command line of `nanddisk` mean, as `clap` reads them. No file is looked at, and no number is read.
+#![tactic(auto)]
+
+mod words;
+
+pub use words::{CreateWords, DiskWords, InfoWords, MakeWords, ServeWords, WordsFault, parse};
