@@ -12,7 +12,7 @@ const USAGE: u8 = 2;
 const IO: u8 = 3;
 
 /// Why a command was not done. Each is one line; of the paths those that were given. (This project's.)
-#[derive(Debug, Error)]
+#[derive(Debug, Drop, Error)]
 pub enum Fault<'a> {
     /// The words are no command that the program has.
     #[error("usage: no such command")]

@@ -28,7 +28,7 @@ fn word_slices(alloc: Global, kept: &[String]) -> Result<Vec<&str>, AllocError> 
 }
 
 // Creates the disk that is asked for.
-fn create<'a, R: Files<File = File> + AllocGlobal>(
+fn create_disk<'a, R: Files<File = File> + AllocGlobal>(
     rt: &R,
     words: CreateWords<'a>,
 ) -> Result<(), Fault<'a>> {
@@ -53,14 +53,14 @@ fn terms_of(words: ServeWords<'_>) -> Terms {
 }
 
 // Does what the words ask.
-fn obey<'a, R: Files<File = File> + AllocGlobal, I: Read, O: Write>(
+fn obey<'a, R: Files<File = File> + AllocGlobal, I: Read + Drop, O: Write>(
     rt: &R,
     words: &'a [&'a str],
     input: I,
     out: &mut O,
 ) -> Result<(), Fault<'a>> {
     match parse(rt.alloc(), words) {
-        Ok(DiskWords::Create(words)) => create(rt, words),
+        Ok(DiskWords::Create(words)) => create_disk(rt, words),
         Ok(DiskWords::Serve(words)) => serve_command(rt, words.disk, terms_of(words), input, out),
         Ok(DiskWords::Info(words)) => info_command(rt, words.disk, words.json, out),
         Ok(DiskWords::Text(text)) => match out.write_all(text.as_bytes()) {
@@ -79,7 +79,7 @@ fn tell<E: Write>(fault: &Fault<'_>, err: &mut E) -> u8 {
 }
 
 // Does what the words of the command line say, over the system's files.
-fn run_over<S: Env + Files<File = File> + AllocGlobal, I: Read, O: Write, E: Write>(
+fn run_over<S: Env + Files<File = File> + AllocGlobal, I: Read + Drop, O: Write, E: Write>(
     system: &S,
     input: I,
     out: &mut O,

@@ -104,7 +104,7 @@ fn export_of(bytes: u64, geometry: &Geometry, terms: Terms) -> Export {
 }
 
 // Serves a disk to one client, and has it flushed when the client has gone.
-fn serve_client<'a, R: AllocGlobal, I: Read, O: Write>(
+fn serve_client<'a, R: AllocGlobal, I: Read + Drop, O: Write>(
     rt: &R,
     disk: &mut FileDisk,
     export: &Export,
@@ -127,7 +127,7 @@ fn serve_client<'a, R: AllocGlobal, I: Read, O: Write>(
 }
 
 /// Serves the disk at a path to the client at `input` and `out`, until it goes.
-pub fn serve_command<'a, R: Files<File = File> + AllocGlobal, I: Read, O: Write>(
+pub fn serve_command<'a, R: Files<File = File> + AllocGlobal, I: Read + Drop, O: Write>(
     rt: &R,
     path: &'a str,
     terms: Terms,
