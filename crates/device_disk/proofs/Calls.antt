@@ -1,6 +1,7 @@
 -- One call of the device as one call of a disk.
-use Rattle.std.proofs.Common.{◌≡◌, ◌≢◌, ◌*◌, ◌<◌, inl, inr, ℕ, Bool, true, false, List, [], length, replicate, Option, None, Result, Ok, Err, refl, sym, ap, ◌∙◌, subst, arith}
-use Rattle.std.specs.Prelude.{IfOk, IfErr, OnOk, OnErr}
+use Rattle.std.proofs.Common.{◌≡◌, ◌≢◌, ◌*◌, ◌<◌, inl, inr, ℕ, Bool, true, false, List, [], length, replicate, Option, Some, None, Result, Ok, Err, refl, sym, ap, ◌∙◌, subst, arith}
+use Rattle.std.specs.Prelude.{◌↔◌, slice_index, IfOk, IfErr, IsSome, OnOk, OnErr}
+use Rattle.std.specs.Option.{ForSome}
 use Rattle.page_layout.specs.declared.geometry.Geometry.{Geometry}
 use Rattle.page_layout.specs.Array.{zeros}
 use Rattle.page_layout.specs.Flash.{Flash}
@@ -8,12 +9,15 @@ use Rattle.page_layout.specs.Recording.{Recording}
 use Rattle.promises.specs.Step as step
 use Rattle.promises.specs.Step.{State, Command, Reply, ArrayStep, ReadStep, WriteStep, QuietStep}
 use Rattle.promises.proofs.StepLemmas as steps
+use Rattle.nbd_stream.specs.declared.fault.DiskFault.TheVariants as fault
 use Rattle.nbd_stream.specs.declared.reply.RequestError.{RequestError}
 use Rattle.nbd_stream.specs.declared.task.Task.{Task}
 use Rattle.nbd_stream.specs.declared.task.Task.TheVariants.{Write, Flush, Trim}
-use Rattle.nbd_stream.specs.Disk.{MayAnswer, IsOfChange, Performs, answer_from, count_given, error_for, with_bytes}
+use Rattle.nbd_stream.specs.Disk.{Idles, MayAnswer, IsOfChange, Performs, answer_from, count_given, error_for, with_bytes}
 use Rattle.sector_disk.specs.Flat.{AreSectors, flat}
 use Rattle.sector_disk.proofs.FlatLemmas.{flat_law}
+use Rattle.collection.specs.declared.fault.WriteFault.{WriteFault}
+use Rattle.collection.specs.declared.fault.WriteFault.TheVariants as engine_fault
 use Rattle.collection.specs.State.{Ram}
 use Rattle.collection.specs.Safe.{ram}
 use Rattle.ftl_device.specs.declared.device.Device.{Device}
@@ -22,7 +26,7 @@ use Rattle.ftl_device.specs.declared.fault.DeviceFault.TheVariants.{OutOfRange, 
 use Rattle.ftl_device.specs.Device.{IsDevice}
 use Rattle.ftl_device.specs.Calls.{array_in, state_in, stop_of, reply_of, reply_of_fault, IsWell, Says}
 use Rattle.ftl_device.specs.Changes.{Changes, Upkeeps, Means, Stays, Refuses}
-use Rattle.device_disk.specs.Disk.{holds, contents_of, IsDisk, LeavesBytes, KeepsOnError, change_fault, change_answer, flush_answer}
+use Rattle.device_disk.specs.Disk.{holds, contents_of, IsDisk, KeepsOnError, change_fault, change_answer, flush_answer, rest_answer}
 use Rattle.device_disk.proofs.Sizes.{zeros_long}
 use Rattle.device_disk.proofs.Tasks.{Sets, lasting, performs_by}
 use Rattle.device_disk.proofs.Holding.{parts, back, kept, bytes, held, sized, array_sectors_of, array_count}
@@ -59,9 +63,40 @@ flush_going (Err OutOfMemory) then = tt
 flush_going (Err Damaged) then = tt
 flush_going (Err BusFault) then = tt
 
-turn_going : {P : Type 0} (result : Result (Unit {0}) DeviceFault) → (result ≢ Err Damaged → result ≢ Err BusFault → P) → OnOk result P
-turn_going (Ok done) then = then (λ x. cc) (λ x. cc)
-turn_going (Err e) then = tt
+rest_going : {P : Type 0} (result : Result (Unit {0}) DeviceFault) → (result ≢ Err Damaged → result ≢ Err BusFault → P) → OnOk (rest_answer result) P
+rest_going (Ok done) then = then (λ x. cc) (λ x. cc)
+rest_going (Err OutOfRange) then = then (λ x. cc) (λ x. cc)
+rest_going (Err (ReadOnly good wanted failed)) then = then (λ x. cc) (λ x. cc)
+rest_going (Err SequenceSpent) then = then (λ x. cc) (λ x. cc)
+rest_going (Err OutOfMemory) then = then (λ x. cc) (λ x. cc)
+rest_going (Err Damaged) then = tt
+rest_going (Err BusFault) then = tt
+
+rest_fault : (result : Result (Unit {0}) DeviceFault) → IfErr (rest_answer result) (λ e. e ≡ fault.Failed)
+rest_fault (Ok done) = tt
+rest_fault (Err OutOfRange) = tt
+rest_fault (Err (ReadOnly good wanted failed)) = tt
+rest_fault (Err SequenceSpent) = tt
+rest_fault (Err OutOfMemory) = tt
+rest_fault (Err Damaged) = refl
+rest_fault (Err BusFault) = refl
+
+-- a rest fails just where the device is stopped after it
+rest_stops : (old new : Ram) (result : Result (Unit {0}) DeviceFault) → IfErr result (Says old new) → rest_answer result ≡ Err fault.Failed → IsSome (stop_of new.fault)
+rest_stops old new (Ok done) says failed = (let no : ⊥ = cc in absurd no)
+rest_stops old new (Err OutOfRange) says failed = (let no : ⊥ = cc in absurd no)
+rest_stops old new (Err (ReadOnly good wanted grown)) says failed = (let no : ⊥ = cc in absurd no)
+rest_stops old new (Err SequenceSpent) says failed = (let no : ⊥ = cc in absurd no)
+rest_stops old new (Err OutOfMemory) says failed = (let no : ⊥ = cc in absurd no)
+rest_stops old new (Err Damaged) says failed = subst (λ (o : Option DeviceFault). IsSome o) (sym says) refl
+rest_stops old new (Err BusFault) says failed = subst (λ (o : Option DeviceFault). IsSome o) (sym says) refl
+
+rest_stopped : (f : Option WriteFault) (result : Result (Unit {0}) DeviceFault) → ForSome (stop_of f) (λ fault. result ≡ Err fault) → IsSome (stop_of f) → rest_answer result ≡ Err fault.Failed
+rest_stopped None result standing some = (let no : ⊥ = cc in absurd no)
+rest_stopped (Some engine_fault.ReadOnly) result standing some = (let no : ⊥ = cc in absurd no)
+rest_stopped (Some engine_fault.SequenceSpent) result standing some = (let no : ⊥ = cc in absurd no)
+rest_stopped (Some engine_fault.Damaged) result standing some = ap rest_answer (standing Damaged refl)
+rest_stopped (Some engine_fault.Bus) result standing some = ap rest_answer (standing BusFault refl)
 
 -- ---- what a step sets
 
@@ -228,11 +263,16 @@ module _ {N : Type 0} (flash : N → Flash) (recorded : N → Option Recording) 
         let before : holds honest old ≡ true = back_here old new result command was its.stays its.refuses its.means h in
         held flash honest new h ∙ ap flat (quiet (meant old new result command was its.stays its.refuses its.means h).step) ∙ sym (held flash honest old before)
 
-    pub leaves_bytes : LeavesBytes flash honest old result new
-    leaves_bytes = record {
-      kept = turn_going result (kept_here old new result command was its.stays its.refuses its.means);
-      back = back_here old new result command was its.stays its.refuses its.means;
-      same = λ h. ap lasting (same_bytes h);
+    idled : new.engine.geometry ≡ old.engine.geometry → IsDevice flash new → Idles (contents_of flash honest) (holds honest) (λ d. false) old (rest_answer result) new
+    idled same device = record {
+      sized = sized flash honest old new was (upkept_disk device) same;
+      kept = rest_going result (kept_here old new result command was its.stays its.refuses its.means);
+      was_honest = back_here old new result command was its.stays its.refuses its.means;
+      calm_is = refl;
+      fault = rest_fault result;
+      calmly = λ never. (let no : ⊥ = cc in absurd no);
+      bytes = same_bytes;
+      stays = λ h p. inr (ap (λ (l : List ℕ). slice_index l p) (same_bytes h));
     }
 
     flushed : new.engine.geometry ≡ old.engine.geometry → IsDevice flash new
@@ -253,8 +293,15 @@ module _ {N : Type 0} (flash : N → Flash) (recorded : N → Option Recording) 
     pub flush_disk : Upkeeps flash recorded honest calm failed step.Flush old result new → IsDevice flash new → IsDisk flash honest new
     flush_disk its = upkept_disk step.Flush old new result was its (steps.quiet old.engine.geometry (state_in flash old) (state_in flash new) (reply_of result)).0
 
-    pub turn_leaves : Upkeeps flash recorded honest calm failed step.Turn old result new → LeavesBytes flash honest old result new
-    turn_leaves its = leaves_bytes step.Turn old new result was its (steps.quiet old.engine.geometry (state_in flash old) (state_in flash new) (reply_of result)).1
+    pub turn_idles : Upkeeps flash recorded honest calm failed step.Turn old result new → new.engine.geometry ≡ old.engine.geometry → IsDevice flash new
+        → Idles (contents_of flash honest) (holds honest) (λ d. false) old (rest_answer result) new
+    turn_idles its = idled step.Turn old new result was its (steps.quiet old.engine.geometry (state_in flash old) (state_in flash new) (reply_of result)).1
+
+    pub turn_stops : Upkeeps flash recorded honest calm failed step.Turn old result new → (rest_answer result ≡ Err fault.Failed) ↔ IsSome (stop_of new.engine.fault)
+    turn_stops its = (
+      rest_stops (ram old.engine) (ram new.engine) result its.refuses.says,
+      rest_stopped new.engine.fault result its.refuses.standing,
+    )
 
     pub turn_disk : Upkeeps flash recorded honest calm failed step.Turn old result new → IsDevice flash new → IsDisk flash honest new
     turn_disk its = upkept_disk step.Turn old new result was its (steps.quiet old.engine.geometry (state_in flash old) (state_in flash new) (reply_of result)).1

@@ -1,10 +1,13 @@
 -- A DEVICE AS SECTORS OF A DISK: whether it still holds its array, and the array as bytes.
-use Rattle.std.specs.Prelude.{◌≡◌, ◌&&◌, ℕ, Bool, true, List, replicate, Option, Result, Ok, Err, OnOk, OnErr, if◌then◌else◌}
+use Rattle.std.specs.Prelude.{◌≡◌, ◌≤◌, ◌&&◌, ℕ, Bool, true, List, replicate, Option, None, Result, Ok, Err, OnOk, OnErr, if◌then◌else◌}
 use Rattle.std.specs.Option.{is_none}
 use Rattle.page_layout.specs.Array.{zeros}
 use Rattle.page_layout.specs.Flash.{Flash}
 use Rattle.page_layout.specs.Recording.{Recording}
-use Rattle.promises.specs.Step.{Command, Flush}
+use Rattle.promises.specs.Step.{Command, Flush, Turn}
+use Rattle.allocation.specs.State.{free_count}
+use Rattle.collection.specs.Collect.{HasAiling, HasNoneAiling}
+use Rattle.collection.specs.Safe.{ram}
 use Rattle.nbd_stream.specs.declared.fault.DiskFault.{DiskFault}
 use Rattle.nbd_stream.specs.declared.fault.DiskFault.TheVariants as fault
 use Rattle.nbd_stream.specs.Disk.{Contents}
@@ -14,7 +17,8 @@ use Rattle.ftl_device.specs.declared.fault.DeviceFault.{DeviceFault}
 use Rattle.ftl_device.specs.declared.fault.DeviceFault.TheVariants.{OutOfRange, ReadOnly, SequenceSpent, OutOfMemory, Damaged, BusFault}
 use Rattle.ftl_device.specs.Device.{IsDevice}
 use Rattle.ftl_device.specs.Changes.{Changes, Upkeeps}
-use Rattle.ftl_device.specs.Calls.{array_in, stop_of, IsWell}
+use Rattle.ftl_device.specs.Calls.{array_in, stop_of, HasFallen, HasRescued, HasWorked, IsQuiet, IsWell}
+use Rattle.ftl_device.specs.Turn.{HasTurned}
 
 -- IT HOLDS ITS ARRAY: its die is honest, and no fault has stopped it
 abbrev pub holds : {N : Type 0} → (honest : N → Bool) → Device N → Bool
@@ -64,15 +68,17 @@ flush_answer (Err OutOfMemory) = Err fault.Failed
 flush_answer (Err Damaged) = Err fault.Failed
 flush_answer (Err BusFault) = Err fault.Failed
 
--- ---- calls
+-- a rest fails just where the device is stopped: what else it refuses a turn for leaves it its array, and no client asked for the turn
+abbrev pub rest_answer : Result (Unit {0}) DeviceFault → Result (Unit {0}) DiskFault
+rest_answer (Ok done) = Ok done
+rest_answer (Err OutOfRange) = Ok tt
+rest_answer (Err (ReadOnly good wanted failed)) = Ok tt
+rest_answer (Err SequenceSpent) = Ok tt
+rest_answer (Err OutOfMemory) = Ok tt
+rest_answer (Err Damaged) = Err fault.Failed
+rest_answer (Err BusFault) = Err fault.Failed
 
--- A CALL THAT LEAVES THE BYTES ALONE: one that is done leaves the device as it held its array; after one that failed it may hold it no more, and
--- never does again
-pub record LeavesBytes {N : Type 0} (flash : N → Flash) (honest : N → Bool) (old : Device N) (result : Result (Unit {0}) DeviceFault)
-    (new : Device N) : Type 0 where
-  pub kept : OnOk result (holds honest new ≡ holds honest old)
-  pub back : holds honest new ≡ true → holds honest old ≡ true
-  pub same : holds honest new ≡ true → contents_of flash honest new ≡ contents_of flash honest old
+-- ---- calls
 
 -- A SECTOR IS SET WHOLE OR NOT AT ALL: where the call failed and the device holds its array, the bytes are as they were
 abbrev pub KeepsOnError : {N : Type 0} → (N → Flash) → (honest : N → Bool) → Device N → Result (Unit {0}) DiskFault → Device N → Type 0
@@ -91,3 +97,17 @@ pub record AsksFlush {N : Type 0} (flash : N → Flash) (recorded : N → Option
   pub answer : Result (Unit {0}) DeviceFault
   pub told : result ≡ flush_answer answer
   pub upkeeps : Upkeeps flash recorded honest calm failed Flush old answer new
+
+-- or a turn, and where the device held its array, what the turn did
+pub record AsksTurn {N : Type 0} (flash : N → Flash) (recorded : N → Option Recording) (honest calm : N → Bool) (erases failed : N
+    → ℕ) (old : Device N) (result : Result (Unit {0}) DiskFault) (new : Device N) : Type 0 where
+  pub answer : Result (Unit {0}) DeviceFault
+  pub told : result ≡ rest_answer answer
+  pub upkeeps : Upkeeps flash recorded honest calm failed Turn old answer new
+  pub turned : OnOk answer (HasTurned (ram old.engine) (ram new.engine))
+  pub idle : HasNoneAiling (ram old.engine).blocks → old.engine.pinned ≡ None → 12 ≤ free_count (ram old.engine).blocks → OnOk answer (new.engine ≡ old.engine)
+  pub quiet : holds honest old ≡ true → OnOk answer (IsQuiet erases old.engine new.engine)
+  pub falls : holds honest old ≡ true → HasNoneAiling (ram old.engine).blocks → OnOk answer (HasFallen flash erases old.engine new.engine)
+  pub rescued : holds honest old ≡ true → OnOk answer (HasRescued (ram old.engine) (ram new.engine))
+  pub worked : holds honest old ≡ true → HasAiling (ram old.engine).blocks
+      → OnOk answer (HasWorked (ram old.engine) (ram new.engine) (erases old.engine.nand) (erases new.engine.nand))

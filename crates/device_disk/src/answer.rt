@@ -1,6 +1,6 @@
 //! What a disk answers where the device gave this answer.
 ghost use Rattle.std.specs.Prelude.{◌≡◌};
-ghost use Rattle.device_disk.specs.Disk.{change_answer, flush_answer, read_answer};
+ghost use Rattle.device_disk.specs.Disk.{change_answer, flush_answer, read_answer, rest_answer};
 
 use ftl_device::DeviceFault;
 use nbd_stream::DiskFault;
@@ -41,5 +41,21 @@ pub(crate) fn flush_answer(answer: Result<(), DeviceFault>) -> Result<(), DiskFa
             | DeviceFault::Damaged
             | DeviceFault::BusFault,
         ) => Err(DiskFault::Failed),
+    }
+}
+
+// A rest: a turn that the device refuses and is not stopped by is nothing that failed.
+pub(crate) fn rest_answer(answer: Result<(), DeviceFault>) -> Result<(), DiskFault>
+    ensures { result ≡ rest_answer answer }
+{
+    match answer {
+        Ok(())
+        | Err(
+            DeviceFault::ReadOnly { .. }
+            | DeviceFault::SequenceSpent
+            | DeviceFault::OutOfRange
+            | DeviceFault::OutOfMemory,
+        ) => Ok(()),
+        Err(DeviceFault::Damaged | DeviceFault::BusFault) => Err(DiskFault::Failed),
     }
 }

@@ -1,19 +1,13 @@
 //! The device, by its sectors.
-ghost use Rattle.std.specs.Prelude.{◌≡◌, ◌≤◌, true, None, IfOk, IfErr, OnOk};
+ghost use Rattle.std.specs.Prelude.{◌≡◌, true, IfOk, IfErr};
 ghost use Rattle.certificate.specs.Claim.{sizes_of};
-ghost use Rattle.allocation.specs.State.{free_count};
-ghost use Rattle.collection.specs.Collect.{HasAiling, HasNoneAiling};
 ghost use Rattle.collection.specs.Safe.{ram};
 ghost use Rattle.ftl_device.specs.Begin.{begun_ram};
-ghost use Rattle.ftl_device.specs.Calls.{HasFallen, HasRescued, HasWorked, IsQuiet};
-ghost use Rattle.ftl_device.specs.Changes.{Upkeeps};
 ghost use Rattle.ftl_device.specs.Device.{IsAcceptedFor};
-ghost use Rattle.ftl_device.specs.Turn.{HasTurned};
-ghost use Rattle.promises.specs.Step.{Turn};
-ghost use Rattle.device_disk.specs.Disk.{holds, IsDisk, LeavesBytes};
+ghost use Rattle.device_disk.specs.Disk.{IsDisk};
 
-use crate::answer::{change_answer, flush_answer, read_answer};
-use ftl_device::{Device, DeviceFault, StartFault};
+use crate::answer::{change_answer, flush_answer, read_answer, rest_answer};
+use ftl_device::{Device, StartFault};
 use image_check::Accepted;
 use nbd_stream::{DiskFault, Task};
 use onfi_cycles::Nand;
@@ -79,43 +73,24 @@ impl<N: Nand> DeviceDisk<N> {
     {
         self.device
     }
-
-    /// Gives the device one idle moment between two requests, as `Device::turn` does, with all that this says. The bytes stay.
-    ///
-    /// # Errors
-    ///
-    /// Those of `Device::turn`. After `Damaged` and `BusFault` the device is stopped; after the others it holds its array as before.
-    pub fn turn(&mut self) -> Result<(), DeviceFault>
-        ensures leaves { LeavesBytes N.flash N.honest self.old result self.new }
-        ensures geometry { self.new.engine.geometry ≡ self.old.engine.geometry }
-        ensures upkeeps { Upkeeps N.flash N.recorded N.honest N.calm N.failed Turn self.old result self.new }
-        ensures turned { OnOk result (HasTurned (ram self.old.engine) (ram self.new.engine)) }
-        ensures rests { HasNoneAiling (ram self.old.engine).blocks → self.old.engine.pinned ≡ None → 12 ≤ free_count (ram self.old.engine).blocks →
-            OnOk result (self.new.engine ≡ self.old.engine) }
-        ensures quiet { holds N.honest self.old ≡ true → OnOk result (IsQuiet N.erases self.old.engine self.new.engine) }
-        ensures falls { holds N.honest self.old ≡ true → HasNoneAiling (ram self.old.engine).blocks →
-            OnOk result (HasFallen N.flash N.erases self.old.engine self.new.engine) }
-        ensures rescued { holds N.honest self.old ≡ true → OnOk result (HasRescued (ram self.old.engine) (ram self.new.engine)) }
-        ensures worked { holds N.honest self.old ≡ true → HasAiling (ram self.old.engine).blocks →
-            OnOk result (HasWorked (ram self.old.engine) (ram self.new.engine) (N.erases self.old.engine.nand) (N.erases self.new.engine.nand)) }
-    {
-        self.device.turn()
-    }
 }
 
 impl<N: Nand> Sectors for DeviceDisk<N> {
-    ghost use Rattle.std.specs.Prelude.{◌≡◌, ◌<◌, ◌*◌, false, [], length, true, Err, IsOk, IsSome, OnErr};
+    ghost use Rattle.std.specs.Prelude.{◌≡◌, ◌<◌, ◌*◌, ◌↔◌, false, [], length, true, Err, IsOk, IsSome, OnErr};
     ghost use Rattle.page_layout.specs.OnlyReads.{OnlyReads};
     ghost use Rattle.promises.specs.Step.{Write, Trim};
     ghost use Rattle.ftl_device.specs.Calls.{stop_of};
-    ghost use Rattle.nbd_stream.specs.Disk.{Performs, answer_from};
-    ghost use Rattle.device_disk.specs.Disk.{contents_of, holds, AsksChange, AsksFlush, KeepsOnError};
+    ghost use Rattle.nbd_stream.specs.Disk.{Idles, Performs, answer_from};
+    ghost use Rattle.device_disk.specs.Disk.{contents_of, holds, AsksChange, AsksFlush, AsksTurn, KeepsOnError};
 
     ghost contents = { contents_of N.flash N.honest };
 
     ghost honest = { holds N.honest };
 
     ghost calm = { λ d. false };
+
+    // A rest is one turn.
+    ghost rests = { AsksTurn N.flash N.recorded N.honest N.calm N.erases N.failed };
 
     ghost size = { λ d. d.engine.geometry.data_bytes };
 
@@ -200,6 +175,24 @@ impl<N: Nand> Sectors for DeviceDisk<N> {
         ensures asked { AsksFlush N.flash N.recorded N.honest N.calm N.failed self.old result self.new }
     {
         flush_answer(self.device.flush())
+    }
+
+    /// Gives the device one turn: it moves pages out of bad blocks, or goes on with a collection, or asks the die for nothing, with all that
+    /// `Device::turn` says. The bytes stay. A device that takes no change any more has no turn, holds its array, and is answered as one that has rested.
+    ///
+    /// # Errors
+    ///
+    /// `Failed` where the device was stopped before, or is now.
+    fn rest(&mut self) -> Result<(), DiskFault>
+        ensures size { self.new.engine.geometry.data_bytes ≡ self.old.engine.geometry.data_bytes }
+        ensures count { self.new.engine.geometry.sectors ≡ self.old.engine.geometry.sectors }
+        ensures idles { Idles (contents_of N.flash N.honest) (holds N.honest) (λ d. false) self.old result self.new }
+
+        // Whatever the die does.
+        ensures rests { AsksTurn N.flash N.recorded N.honest N.calm N.erases N.failed self.old result self.new }
+        ensures stopped { (result ≡ Err DiskFault.Failed) ↔ IsSome (stop_of self.new.engine.fault) }
+    {
+        rest_answer(self.device.turn())
     }
 
     fn sector_bytes(&self) -> usize {

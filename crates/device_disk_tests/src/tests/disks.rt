@@ -25,16 +25,15 @@ enum Step {
     Write(u64, usize, u8, Answer),
     Clear(u64, u32, Answer),
     Flush(Answer),
+    Rest(Answer),
 }
 
-// A formatted die, of which these programs and erases fail, and which stops at one of them, from 1; 0 for none. Whether a turn after the steps is
-// done.
+// A formatted die, of which these programs and erases fail, and which stops at one of them, from 1; 0 for none.
 struct Row {
     name: &'static str,
     failing: &'static [u16],
     stop: u64,
     steps: &'static [Step],
-    turned: bool,
 }
 
 const QUIET: Row = Row {
@@ -42,7 +41,6 @@ const QUIET: Row = Row {
     failing: &[],
     stop: 0,
     steps: &[],
-    turned: false,
 };
 
 const CLOSED: Answer = Err(DiskFault::ReadOnly);
@@ -66,8 +64,8 @@ const ROWS: &[Row] = &[
             Step::Write(1984, 64, 0x11, Ok(())),
             Step::Read(2047, 1, 0x11, Ok(())),
             Step::Read(1920, 64, 0, Ok(())),
+            Step::Rest(Ok(())),
         ],
-        turned: true,
         ..QUIET
     },
     // Each program fails from the third on, until four blocks are free.
@@ -86,6 +84,8 @@ const ROWS: &[Row] = &[
             Step::Read(0, 128, 0x5A, Ok(())),
             Step::Read(128, 128, 0, Ok(())),
             Step::Flush(Ok(())),
+            Step::Rest(Ok(())),
+            Step::Read(0, 128, 0x5A, Ok(())),
         ],
         ..QUIET
     },
@@ -101,6 +101,7 @@ const ROWS: &[Row] = &[
             Step::Write(0, 64, 0x5A, FAILED),
             Step::Clear(0, 64, FAILED),
             Step::Flush(FAILED),
+            Step::Rest(FAILED),
         ],
         ..QUIET
     },
@@ -130,19 +131,21 @@ fn does<N: Nand>(disk: &mut SectorDisk<DeviceDisk<N>>, step: Step) -> bool {
                 && disk.clear(offset, count, true) == answer
         }
         Step::Flush(answer) => disk.flush() == answer,
+        Step::Rest(answer) => disk.rest() == answer,
     }
 }
 
-// The disk of the device on a die that is mounted and checked.
-fn disk_on<N: Nand + Drop>(
+// The disk of the device on a die that is mounted and checked, with a cache of so many sectors.
+pub fn disk_on<N: Nand + Drop>(
     alloc: Global,
     mut nand: N,
     geometry: &Geometry,
+    capacity: u32,
 ) -> Result<SectorDisk<DeviceDisk<N>>, Fail>
     requires { (N.flash nand).geometry ≡ geometry.now }
 {
-    let certificate = mounted(alloc, &mut nand, geometry, 4)?;
-    let Ok(disk) = open_checked(alloc, nand, geometry, 4, &certificate) else {
+    let certificate = mounted(alloc, &mut nand, geometry, capacity)?;
+    let Ok(disk) = open_checked(alloc, nand, geometry, capacity, &certificate) else {
         return Err("not opened")?;
     };
     match SectorDisk::new(alloc, disk) {
@@ -165,9 +168,8 @@ fn holds_row(alloc: Global, row: &Row) -> Result<bool, Fail> {
     let geometry = small()?;
     let mut die = formatted_die(alloc, geometry, row.failing, 0)?.into_bus();
     die.set_stop(row.stop, Stop::Before)?;
-    let mut disk = disk_on(alloc, driver_on(die, geometry)?, &geometry)?;
-    let all = does_all(&mut disk, row.steps);
-    Ok(all && disk.into_sectors().turn().is_ok() == row.turned)
+    let mut disk = disk_on(alloc, driver_on(die, geometry)?, &geometry, 4)?;
+    Ok(does_all(&mut disk, row.steps))
 }
 
 #[test]

@@ -1,0 +1,117 @@
+// Transmissions of disks over devices on dies in memory: the device has a turn after each change.
+use super::disks::disk_on;
+use device_bench::bench::{driver_on, formatted_die, small};
+use device_bench::cases::erases_of;
+use device_disk::DeviceDisk;
+use nand_die::Stop;
+use nbd_stream::{Disk, End, Export, transmit};
+use onfi_cycles::Nand;
+use sector_disk::SectorDisk;
+use std::alloc::Global;
+use std::test::Fail;
+
+// Bytes of a sector, and of the disk.
+const SECTOR: usize = 64;
+
+const SIZE: u64 = 2048;
+
+// What a client sends to a disk with eleven free blocks, of which one block has one live page, and what it is answered. The die stops at one of its programs
+// and erases, from 1; 0 for none. Then so many blocks are free, and so many erases were done; none where the device was stopped.
+struct Row {
+    name: &'static str,
+    stop: u64,
+    input: &'static [u8],
+    output: &'static [u8],
+    left: Option<(u32, u32)>,
+}
+
+// To fill the disk takes 153 programs. The first change then is the 154th, and the turn after it copies the live page.
+const ROWS: &[Row] = &[
+    Row {
+        name: "two changes, after which a block is collected",
+        stop: 0,
+        input: b"%`\x95\x13\x00\x00\x00\x01\x00\x00\x00\x00\x00\x00\x00\x01\x00\x00\x00\x00\x00\x00\x05\x00\x00\x00\x00\x01x%`\x95\x13\x00\x00\x00\x01\x00\x00\x00\x00\x00\x00\x00\x02\x00\x00\x00\x00\x00\x00\x05\x01\x00\x00\x00\x01y%`\x95\x13\x00\x00\x00\x00\x00\x00\x00\x00\x00\x00\x00\x03\x00\x00\x00\x00\x00\x00\x05\x00\x00\x00\x00\x02",
+        output: b"gDf\x98\x00\x00\x00\x00\x00\x00\x00\x00\x00\x00\x00\x01gDf\x98\x00\x00\x00\x00\x00\x00\x00\x00\x00\x00\x00\x02gDf\x98\x00\x00\x00\x00\x00\x00\x00\x00\x00\x00\x00\x03xy",
+        left: Some((12, 1)),
+    },
+    Row {
+        name: "two reads and a write past the end, after which none is",
+        stop: 0,
+        input: b"%`\x95\x13\x00\x00\x00\x00\x00\x00\x00\x00\x00\x00\x00\x01\x00\x00\x00\x00\x00\x00\x00\x00\x00\x00\x00\x02%`\x95\x13\x00\x00\x00\x01\x00\x00\x00\x00\x00\x00\x00\x02\x00\x00\x00\x00\x00\x00\x08\x00\x00\x00\x00\x01x%`\x95\x13\x00\x00\x00\x00\x00\x00\x00\x00\x00\x00\x00\x03\x00\x00\x00\x00\x00\x00\x00?\x00\x00\x00\x02",
+        output: b"gDf\x98\x00\x00\x00\x00\x00\x00\x00\x00\x00\x00\x00\x01ZZgDf\x98\x00\x00\x00\x1c\x00\x00\x00\x00\x00\x00\x00\x02gDf\x98\x00\x00\x00\x00\x00\x00\x00\x00\x00\x00\x00\x03ZZ",
+        left: Some((11, 0)),
+    },
+    Row {
+        name: "a die that stops in a rest, of which no reply tells until the next request",
+        stop: 155,
+        input: b"%`\x95\x13\x00\x00\x00\x01\x00\x00\x00\x00\x00\x00\x00\x01\x00\x00\x00\x00\x00\x00\x05\x00\x00\x00\x00\x01x%`\x95\x13\x00\x00\x00\x00\x00\x00\x00\x00\x00\x00\x00\x02\x00\x00\x00\x00\x00\x00\x05\x00\x00\x00\x00\x01%`\x95\x13\x00\x00\x00\x01\x00\x00\x00\x00\x00\x00\x00\x03\x00\x00\x00\x00\x00\x00\x05\x00\x00\x00\x00\x01y",
+        output: b"gDf\x98\x00\x00\x00\x00\x00\x00\x00\x00\x00\x00\x00\x01gDf\x98\x00\x00\x00\x05\x00\x00\x00\x00\x00\x00\x00\x02gDf\x98\x00\x00\x00\x05\x00\x00\x00\x00\x00\x00\x00\x03",
+        left: None,
+    },
+];
+
+// Sets a sector.
+fn set_sector<N: Nand>(disk: &mut SectorDisk<DeviceDisk<N>>, sector: u64) -> bool {
+    let offset = sector * SECTOR as u64;
+    disk.bytes() == SIZE
+        && offset < SIZE
+        && SIZE - offset >= SECTOR as u64
+        && disk.write(offset, &[b'Z'; SECTOR], false).is_ok()
+}
+
+// Sets the sectors from 0 to 19, and between two of them the last one seven times: so each block but the last has one live page. No rest is given.
+fn fill<N: Nand>(disk: &mut SectorDisk<DeviceDisk<N>>) -> bool {
+    let mut all = true;
+    for count in 0..153u64 {
+        let sector = if count % 8 == 0 { count / 8 } else { 31 };
+        all = set_sector(disk, sector) && all;
+    }
+    all
+}
+
+// Serves the disk to a client that sends this, and tells whether its stream ended between two requests.
+fn serves<N: Nand>(
+    disk: &mut SectorDisk<DeviceDisk<N>>,
+    mut input: &[u8],
+    out: &mut Vec<u8>,
+) -> bool {
+    let export = Export {
+        size: disk.bytes(),
+        read_only: false,
+        preferred: 64,
+        maximum: 64,
+    };
+    let mut buffer = [0; SECTOR];
+    transmit(&mut input, out, disk, &export, &mut buffer) == Ok(End::Boundary)
+}
+
+// Whether the device has what a row says.
+fn is_left<N: Nand + Drop>(
+    disk: SectorDisk<DeviceDisk<N>>,
+    left: Option<(u32, u32)>,
+) -> Result<bool, Fail> {
+    let engine = disk.into_sectors().into_device().into_engine();
+    let found = (engine.blocks.free(), erases_of(&engine.blocks)?);
+    Ok(left.is_none() || left == Some(found))
+}
+
+// Whether a transmission of a disk over a new die is as its row says.
+fn holds_row(alloc: Global, row: &Row) -> Result<bool, Fail> {
+    let geometry = small()?;
+    let mut die = formatted_die(alloc, geometry, &[], 0)?.into_bus();
+    die.set_stop(row.stop, Stop::Before)?;
+    let mut disk = disk_on(alloc, driver_on(die, geometry)?, &geometry, 32)?;
+    let mut out = Vec::new(alloc);
+    let served = fill(&mut disk) && serves(&mut disk, row.input, &mut out);
+    Ok(served && out.as_slice() == row.output && is_left(disk, row.left)?)
+}
+
+#[test]
+fn turns_after_changes(rt: HostRuntime) -> Result<(), Fail> {
+    for row in ROWS {
+        let holds = holds_row(rt.alloc(), row)?;
+        let name = row.name;
+        assert!(rt; holds, "{name}");
+    }
+    Ok(())
+}
