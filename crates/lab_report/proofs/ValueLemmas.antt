@@ -1,11 +1,17 @@
--- No line has a float.
-use Rattle.std.proofs.Common.{◌≡◌, ℕ, false, List, refl}
+-- Lists with a value more; and no line has a float.
+use Rattle.std.proofs.Common.{◌≡◌, ℕ, false, List, [], ◌∷◌, ◌++◌, map, refl}
+use Rattle.std.proofs.lemmas.List.{map-append}
+use Rattle.serde_json.specs.View.{view}
+use Rattle.serde_json.specs.declared.value.Value.{Value}
 use Rattle.serde_json.specs.Written.{has_float}
 use Rattle.lab_report.specs.declared.lines.Line.{Line}
 use Rattle.lab_report.specs.declared.lines.Line.TheVariants.{Pages, NumberRange, Repeated, NotFormatted, TableDamaged, LastSequence, Tied, Missing, Block, PlainBlock, Lost}
 use Rattle.lab_report.specs.declared.lines.Line.TheVariants.{Mended, MendedCount, Differ, Unsound, Merged, Age}
 use Rattle.lab_report.specs.declared.lines.Line.TheVariants as line
 use Rattle.lab_report.specs.Values.{head_data, line_data}
+
+pub view_more : (list : List Value) (v : Value) → map view (list ++ v ∷ []) ≡ map view list ++ view v ∷ []
+view_more list v = map-append view list (v ∷ [])
 
 pub no_float : (l : Line) → has_float (line_data l) ≡ false
 unfolding line_data

@@ -9,7 +9,7 @@ use lab_merge::Tally;
 use std::fmt;
 
 /// What a page is of.
-#[derive(Clone, Copy, Debug, PartialEq, Eq)]
+#[derive(Clone, Copy)]
 pub enum Label {
     Sector,
     Translation,
@@ -17,7 +17,7 @@ pub enum Label {
 }
 
 /// What a page is.
-#[derive(Clone, Copy, Debug, PartialEq, Eq)]
+#[derive(Clone, Copy)]
 pub enum Sort {
     Data,
     Trim,
@@ -28,7 +28,7 @@ pub enum Sort {
 }
 
 /// A line. (This project's.)
-#[derive(Clone, Copy, Debug, PartialEq, Eq)]
+#[derive(Clone, Copy)]
 pub enum Line {
     /// So many pages are of this sort.
     Pages(Sort, u32),

@@ -1,6 +1,7 @@
 -- The words of the command line, as `clap` reads them.
 use Rattle.std.specs.Prelude.{◌≡◌, ◌≢◌, ◌⊎◌, ◌≤◌, ℕ, zero, suc, Bool, true, false, List, [], length, codes, Option, Some, None, map, option_map}
 use Rattle.std.specs.Borrow.{Bor}
+use Rattle.clap.specs.declared.builder.action.ArgAction.{ArgAction}
 use Rattle.clap.specs.declared.builder.action.ArgAction.TheVariants.{Append, Count, Set}
 use Rattle.clap.specs.declared.error.Error.{Error}
 use Rattle.clap.specs.declared.error.kind.ErrorKind.{ErrorKind}
@@ -23,71 +24,72 @@ texts words = map (λ word. word.now) words
 
 -- ---- what `clap` is told
 
+abbrev pub place_of : ArgAction → List ℕ → Rule
+place_of action id = record (new_rule id) { action = Some action; required = true }
+
 abbrev pub place : List ℕ → Rule
-place id = record (new_rule id) { action = Some Set; required = true }
+place id = place_of Set id
 
--- a place with more of its kind behind it
-abbrev pub places : List ℕ → Rule
-places id = record (new_rule id) { action = Some Append; required = true }
+-- behind two dashes
+abbrev pub flag : List ℕ → Rule
+flag id = record (new_rule id) { action = Some Count; long = Some id }
 
-abbrev pub force : Rule
-force = record (new_rule (codes "force")) { action = Some Count; long = Some (codes "force") }
-
-abbrev pub map_file : Rule
-map_file = record (new_rule (codes "map")) { action = Some Set; long = Some (codes "map"); value_names = 1 }
-
-abbrev pub rows_word : Rule
-rows_word = record (new_rule (codes "rows")) { action = Some Set; long = Some (codes "rows"); value_names = 1 }
-
-abbrev pub json : Rule
-json = record (new_rule (codes "json")) { action = Some Count; long = Some (codes "json") }
-
-abbrev pub progress : Rule
-progress = record (new_rule (codes "progress")) { action = Some Count; long = Some (codes "progress") }
+-- with another word behind it
+abbrev pub valued : List ℕ → Rule
+valued id = record (new_rule id) { action = Some Set; long = Some id; value_names = 1 }
 
 -- with the words that all commands have
 abbrev pub with_showing : App → App
-with_showing command = with_rule (with_rule command json) progress
+with_showing command = with_rule (with_rule command (flag (codes "json"))) (flag (codes "progress"))
 
-abbrev pub geometry_plain : App
-geometry_plain = with_rule (new_app (codes "geometry")) (place (codes "DUMP"))
+-- a command whose first word is a geometry
+abbrev pub of_geometry : List ℕ → App
+of_geometry name = with_rule (new_app name) (place (codes "GEOM"))
+
+-- one on a dump of a geometry
+abbrev pub of_dump : List ℕ → App
+of_dump name = with_rule (of_geometry name) (place (codes "DUMP"))
+
+-- one that writes a file of a dump
+abbrev pub writing : List ℕ → App
+writing name = with_rule (with_rule (of_dump name) (place (codes "OUT"))) (flag (codes "force"))
 
 abbrev pub geometry : App
-geometry = with_showing geometry_plain
-
--- but for the word of the map
-abbrev pub array_plain : App
-array_plain = with_rule (with_rule (with_rule (with_rule (new_app (codes "array")) (place (codes "GEOM"))) (place (codes "DUMP"))) (place (codes "OUT"))) force
+geometry = with_showing (with_rule (new_app (codes "geometry")) (place (codes "DUMP")))
 
 abbrev pub array : App
-array = with_showing (with_rule array_plain map_file)
-
-abbrev pub survey_plain : App
-survey_plain = with_rule (with_rule (with_rule (new_app (codes "survey")) (place (codes "GEOM"))) (place (codes "DUMP"))) rows_word
+array = with_showing (with_rule (writing (codes "array")) (valued (codes "map")))
 
 abbrev pub survey : App
-survey = with_showing survey_plain
-
-abbrev pub compare_plain : App
-compare_plain = with_rule (with_rule (with_rule (new_app (codes "compare")) (place (codes "GEOM"))) (place (codes "CERT"))) (place (codes "DUMP"))
+survey = with_showing (with_rule (of_dump (codes "survey")) (valued (codes "rows")))
 
 abbrev pub compare : App
-compare = with_showing compare_plain
+compare = with_showing (with_rule (with_rule (of_geometry (codes "compare")) (place (codes "CERT"))) (place (codes "DUMP")))
 
+-- but for the words that all have
 abbrev pub merge_plain : App
-merge_plain = with_rule (with_rule (with_rule (with_rule (new_app (codes "merge")) (place (codes "GEOM"))) (place (codes "OUT"))) (places (codes "DUMP"))) force
+merge_plain = with_rule (with_rule (with_rule (of_geometry (codes "merge")) (place (codes "OUT"))) (place_of Append (codes "DUMP"))) (flag (codes "force"))
 
 abbrev pub merge : App
 merge = with_showing merge_plain
 
-abbrev pub repair_plain : App
-repair_plain = with_rule (with_rule (with_rule (with_rule (new_app (codes "repair")) (place (codes "GEOM"))) (place (codes "DUMP"))) (place (codes "OUT"))) force
-
 abbrev pub repair : App
-repair = with_showing (with_rule repair_plain rows_word)
+repair = with_showing (with_rule (writing (codes "repair")) (valued (codes "rows")))
+
+-- that tells its version
+abbrev pub versioned : App → App
+versioned app = on_top (λ s. record s { has_version = true }) app
+
+-- that has no subcommand `help`
+abbrev pub without_help : App → App
+without_help app = on_top (λ s. record s { disable_help_subcommand = true }) app
+
+-- that wants a command
+abbrev pub wanting : App → App
+wanting app = on_top (λ s. record s { subcommand_required = true }) app
 
 abbrev pub program : App
-program = on_top (λ s. record s { has_version = true; disable_help_subcommand = true; subcommand_required = true }) (new_app (codes "nandlab"))
+program = wanting (without_help (versioned (new_app (codes "nandlab"))))
 
 abbrev pub with_geometry : App
 with_geometry = with_subcommand program geometry.top

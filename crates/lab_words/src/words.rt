@@ -2,7 +2,7 @@
 ghost use Rattle.std.specs.Prelude.{◌≡◌, ◌≢◌, ◌↔◌, ◌<◌, ◌++◌, [], List, ℕ, IfOk, IfSome, IfErr, OnOk, Ok, Some, None, Err, codes, false, option_map, IsTrue};
 ghost use Rattle.std.specs.Borrow.{Bor};
 ghost use Rattle.clap.specs.declared.builder.command.Command.{out-Command};
-ghost use Rattle.clap.specs.Words.{app_of, first_of, found_of, rows_of, rule_of, fault_of, subcommand_of, subcommand_rows_of, count_of};
+ghost use Rattle.clap.specs.Words.{app_of, first_of, found_of, new_app, rows_of, rule_of, fault_of, subcommand_of, with_rule, with_subcommand, subcommand_rows_of, count_of};
 ghost use Rattle.lab_words.specs.declared.words.ArrayWords.{ArrayWords};
 ghost use Rattle.lab_words.specs.declared.words.CompareWords.{CompareWords};
 ghost use Rattle.lab_words.specs.declared.words.GeometryWords.{GeometryWords};
@@ -129,83 +129,73 @@ impl From<AllocError> for WordsFault {
     }
 }
 
+// A word that a command wants, what becomes of it, and what it is for.
+fn place_of<'a>(alloc: Global, id: &'a str, action: ArgAction, help: &'a str) -> Arg<'a>
+    ensures rule { rule_of result ≡ Rattle.lab_words.specs.Words.place_of action id.now }
+    ensures local { result.global ≡ false }
+{
+    Arg::new(alloc, id).required(true).action(action).help(help)
+}
+
 // A word that a command wants, and what it is for.
 fn place<'a>(alloc: Global, id: &'a str, help: &'a str) -> Arg<'a>
     ensures rule { rule_of result ≡ Rattle.lab_words.specs.Words.place id.now }
     ensures local { result.global ≡ false }
 {
-    Arg::new(alloc, id)
-        .required(true)
-        .action(ArgAction::Set)
-        .help(help)
+    place_of(alloc, id, ArgAction::Set, help)
 }
 
-// A word that a command wants, and that may be followed by more of its kind.
-fn places<'a>(alloc: Global, id: &'a str, help: &'a str) -> Arg<'a>
-    ensures rule { rule_of result ≡ Rattle.lab_words.specs.Words.places id.now }
+// A word that may stand after two dashes, and what it is for.
+fn flag<'a>(alloc: Global, id: &'a str, help: &'a str) -> Arg<'a>
+    ensures rule { rule_of result ≡ Rattle.lab_words.specs.Words.flag id.now }
     ensures local { result.global ≡ false }
 {
     Arg::new(alloc, id)
-        .required(true)
-        .action(ArgAction::Append)
+        .long(id)
+        .action(ArgAction::Count)
         .help(help)
 }
 
 // The word that lets a file be replaced.
 fn force<'a>(alloc: Global) -> Arg<'a>
-    ensures rule { rule_of result ≡ Rattle.lab_words.specs.Words.force }
+    ensures rule { rule_of result ≡ Rattle.lab_words.specs.Words.flag (codes "force") }
     ensures local { result.global ≡ false }
 {
-    Arg::new(alloc, "force")
-        .long("force")
-        .action(ArgAction::Count)
-        .help("Replaces a file to be written that is there already")
+    flag(
+        alloc,
+        "force",
+        "Replaces a file to be written that is there already",
+    )
 }
 
-// The word that has a map written.
-fn map_file<'a>(alloc: Global) -> Arg<'a>
-    ensures rule { rule_of result ≡ Rattle.lab_words.specs.Words.map_file }
+// A word that may stand after two dashes with another one behind it, and what it is for.
+fn valued<'a>(alloc: Global, id: &'a str, value: &'a str, help: &'a str) -> Arg<'a>
+    ensures rule { rule_of result ≡ Rattle.lab_words.specs.Words.valued id.now }
     ensures local { result.global ≡ false }
 {
-    Arg::new(alloc, "map")
-        .long("map")
-        .value_name("FILE")
-        .action(ArgAction::Set)
-        .help("Writes how each part of OUT stands to FILE, as the mapfile of GNU ddrescue")
-}
-
-// The word that names rows.
-fn rows_word<'a>(alloc: Global, help: &'a str) -> Arg<'a>
-    ensures rule { rule_of result ≡ Rattle.lab_words.specs.Words.rows_word }
-    ensures local { result.global ≡ false }
-{
-    Arg::new(alloc, "rows")
-        .long("rows")
-        .value_name("A..B")
+    Arg::new(alloc, id)
+        .long(id)
+        .value_name(value)
         .action(ArgAction::Set)
         .help(help)
 }
 
-// The word that has one JSON document printed.
-fn json<'a>(alloc: Global) -> Arg<'a>
-    ensures rule { rule_of result ≡ Rattle.lab_words.specs.Words.json }
-    ensures local { result.global ≡ false }
+// A command of this name, with no words yet.
+fn named<'a>(alloc: Global, name: &'a str, about: &'a str) -> Command<'a>
+    ensures app { app_of result ≡ new_app name.now }
+    ensures local { (out-Command result).has_globals ≡ false }
 {
-    Arg::new(alloc, "json")
-        .long("json")
-        .action(ArgAction::Count)
-        .help("Prints one JSON document")
+    Command::new(alloc, name).about(about)
 }
 
-// The word that has progress shown.
-fn progress<'a>(alloc: Global) -> Arg<'a>
-    ensures rule { rule_of result ≡ Rattle.lab_words.specs.Words.progress }
-    ensures local { result.global ≡ false }
+// A command with one word more, which is its own alone.
+fn with_word<'a>(command: Command<'a>, word: Arg<'a>) -> Result<Command<'a>, AllocError>
+    requires command { (out-Command command).has_globals ≡ false }
+    requires word { word.global ≡ false }
+    ensures app { IfOk result (λ longer. app_of longer ≡ with_rule (app_of command.entry) (rule_of word.entry)) }
+    ensures local { IfOk result (λ longer. (out-Command longer).has_globals ≡ false) }
 {
-    Arg::new(alloc, "progress")
-        .long("progress")
-        .action(ArgAction::Count)
-        .help("Shows on standard error how far it is, as it does where that is a terminal")
+    command.arg(word)
 }
 
 // A command with the words that all have.
@@ -214,41 +204,62 @@ fn with_showing<'a>(alloc: Global, command: Command<'a>) -> Result<Command<'a>, 
     ensures app { IfOk result (λ shown. app_of shown ≡ Rattle.lab_words.specs.Words.with_showing (app_of command.entry)) }
     ensures local { IfOk result (λ shown. (out-Command shown).has_globals ≡ false) }
 {
-    command.arg(json(alloc))?.arg(progress(alloc))
-}
-
-// The word of a geometry.
-fn geometry_place<'a>(alloc: Global) -> Arg<'a>
-    ensures rule { rule_of result ≡ Rattle.lab_words.specs.Words.place (codes "GEOM") }
-    ensures local { result.global ≡ false }
-{
-    place(
+    let json = flag(alloc, "json", "Prints one JSON document");
+    let progress = flag(
         alloc,
-        "GEOM",
-        "data,spare,pages,blocks,sectors: five numbers",
-    )
+        "progress",
+        "Shows on standard error how far it is, as it does where that is a terminal",
+    );
+    with_word(with_word(command, json)?, progress)
 }
 
-// The word of a dump.
-fn dump_place<'a>(alloc: Global) -> Arg<'a>
-    ensures rule { rule_of result ≡ Rattle.lab_words.specs.Words.place (codes "DUMP") }
-    ensures local { result.global ≡ false }
+// A command with the word of a dump.
+fn with_dump<'a>(alloc: Global, command: Command<'a>) -> Result<Command<'a>, AllocError>
+    requires { (out-Command command).has_globals ≡ false }
+    ensures app { IfOk result (λ longer. app_of longer ≡ with_rule (app_of command.entry) (Rattle.lab_words.specs.Words.place (codes "DUMP"))) }
+    ensures local { IfOk result (λ longer. (out-Command longer).has_globals ≡ false) }
 {
-    place(
+    let dump = place(
         alloc,
         "DUMP",
         "The dump: the pages in row order, each data area then spare area",
-    )
+    );
+    with_word(command, dump)
 }
 
-// The command `geometry`, but for the words that all have.
-fn geometry_plain<'a>(alloc: Global) -> Result<Command<'a>, AllocError>
-    ensures app { IfOk result (λ command. app_of command ≡ Rattle.lab_words.specs.Words.geometry_plain) }
+// A command whose first word is a geometry.
+fn of_geometry<'a>(alloc: Global, name: &'a str, about: &'a str) -> Result<Command<'a>, AllocError>
+    ensures app { IfOk result (λ command. app_of command ≡ Rattle.lab_words.specs.Words.of_geometry name.now) }
     ensures local { IfOk result (λ command. (out-Command command).has_globals ≡ false) }
 {
-    Command::new(alloc, "geometry")
-        .about("Tells which geometries fit a dump of unknown shape, best first")
-        .arg(dump_place(alloc))
+    let geometry = place(
+        alloc,
+        "GEOM",
+        "data,spare,pages,blocks,sectors: five numbers",
+    );
+    with_word(named(alloc, name, about), geometry)
+}
+
+// A command on a dump of a geometry.
+fn of_dump<'a>(alloc: Global, name: &'a str, about: &'a str) -> Result<Command<'a>, AllocError>
+    ensures app { IfOk result (λ command. app_of command ≡ Rattle.lab_words.specs.Words.of_dump name.now) }
+    ensures local { IfOk result (λ command. (out-Command command).has_globals ≡ false) }
+{
+    with_dump(alloc, of_geometry(alloc, name, about)?)
+}
+
+// A command that writes a file of a dump.
+fn writing<'a>(
+    alloc: Global,
+    name: &'a str,
+    about: &'a str,
+    out: &'a str,
+) -> Result<Command<'a>, AllocError>
+    ensures app { IfOk result (λ command. app_of command ≡ Rattle.lab_words.specs.Words.writing name.now) }
+    ensures local { IfOk result (λ command. (out-Command command).has_globals ≡ false) }
+{
+    let command = with_word(of_dump(alloc, name, about)?, place(alloc, "OUT", out))?;
+    with_word(command, force(alloc))
 }
 
 // The command `geometry`.
@@ -256,20 +267,12 @@ fn geometry<'a>(alloc: Global) -> Result<Command<'a>, AllocError>
     ensures app { IfOk result (λ command. app_of command ≡ Rattle.lab_words.specs.Words.geometry) }
     ensures local { IfOk result (λ command. (out-Command command).has_globals ≡ false) }
 {
-    with_showing(alloc, geometry_plain(alloc)?)
-}
-
-// The command `array`, but for the word of the map.
-fn array_plain<'a>(alloc: Global) -> Result<Command<'a>, AllocError>
-    ensures app { IfOk result (λ command. app_of command ≡ Rattle.lab_words.specs.Words.array_plain) }
-    ensures local { IfOk result (λ command. (out-Command command).has_globals ≡ false) }
-{
-    Command::new(alloc, "array")
-        .about("Writes every sector of a dump, as a disk image")
-        .arg(geometry_place(alloc))?
-        .arg(dump_place(alloc))?
-        .arg(place(alloc, "OUT", "The disk image to be written"))?
-        .arg(force(alloc))
+    let command = named(
+        alloc,
+        "geometry",
+        "Tells which geometries fit a dump of unknown shape, best first",
+    );
+    with_showing(alloc, with_dump(alloc, command)?)
 }
 
 // The command `array`.
@@ -277,22 +280,19 @@ fn array<'a>(alloc: Global) -> Result<Command<'a>, AllocError>
     ensures app { IfOk result (λ command. app_of command ≡ Rattle.lab_words.specs.Words.array) }
     ensures local { IfOk result (λ command. (out-Command command).has_globals ≡ false) }
 {
-    with_showing(alloc, array_plain(alloc)?.arg(map_file(alloc))?)
-}
-
-// The command `survey`, but for the words that all have.
-fn survey_plain<'a>(alloc: Global) -> Result<Command<'a>, AllocError>
-    ensures app { IfOk result (λ command. app_of command ≡ Rattle.lab_words.specs.Words.survey_plain) }
-    ensures local { IfOk result (λ command. (out-Command command).has_globals ≡ false) }
-{
-    Command::new(alloc, "survey")
-        .about("Tells what a dump says of its die, and each reason why the die would not mount")
-        .arg(geometry_place(alloc))?
-        .arg(dump_place(alloc))?
-        .arg(rows_word(
-            alloc,
-            "Looks at the rows A to B - 1 alone: every other page counts as erased",
-        ))
+    let command = writing(
+        alloc,
+        "array",
+        "Writes every sector of a dump, as a disk image",
+        "The disk image to be written",
+    )?;
+    let map = valued(
+        alloc,
+        "map",
+        "FILE",
+        "Writes how each part of OUT stands to FILE, as the mapfile of GNU ddrescue",
+    );
+    with_showing(alloc, with_word(command, map)?)
 }
 
 // The command `survey`.
@@ -300,23 +300,18 @@ fn survey<'a>(alloc: Global) -> Result<Command<'a>, AllocError>
     ensures app { IfOk result (λ command. app_of command ≡ Rattle.lab_words.specs.Words.survey) }
     ensures local { IfOk result (λ command. (out-Command command).has_globals ≡ false) }
 {
-    with_showing(alloc, survey_plain(alloc)?)
-}
-
-// The command `compare`, but for the words that all have.
-fn compare_plain<'a>(alloc: Global) -> Result<Command<'a>, AllocError>
-    ensures app { IfOk result (λ command. app_of command ≡ Rattle.lab_words.specs.Words.compare_plain) }
-    ensures local { IfOk result (λ command. (out-Command command).has_globals ≡ false) }
-{
-    Command::new(alloc, "compare")
-        .about("Tells which sectors have lost a page since a certificate was made")
-        .arg(geometry_place(alloc))?
-        .arg(place(
-            alloc,
-            "CERT",
-            "The certificate, as `nandctl mount` writes it",
-        ))?
-        .arg(dump_place(alloc))
+    let command = of_dump(
+        alloc,
+        "survey",
+        "Tells what a dump says of its die, and each reason why the die would not mount",
+    )?;
+    let rows = valued(
+        alloc,
+        "rows",
+        "A..B",
+        "Looks at the rows A to B - 1 alone: every other page counts as erased",
+    );
+    with_showing(alloc, with_word(command, rows)?)
 }
 
 // The command `compare`.
@@ -324,7 +319,17 @@ fn compare<'a>(alloc: Global) -> Result<Command<'a>, AllocError>
     ensures app { IfOk result (λ command. app_of command ≡ Rattle.lab_words.specs.Words.compare) }
     ensures local { IfOk result (λ command. (out-Command command).has_globals ≡ false) }
 {
-    with_showing(alloc, compare_plain(alloc)?)
+    let command = of_geometry(
+        alloc,
+        "compare",
+        "Tells which sectors have lost a page since a certificate was made",
+    )?;
+    let certificate = place(
+        alloc,
+        "CERT",
+        "The certificate, as `nandctl mount` writes it",
+    );
+    with_showing(alloc, with_dump(alloc, with_word(command, certificate)?)?)
 }
 
 // The command `merge`, but for the words that all have.
@@ -332,12 +337,20 @@ fn merge_plain<'a>(alloc: Global) -> Result<Command<'a>, AllocError>
     ensures app { IfOk result (λ command. app_of command ≡ Rattle.lab_words.specs.Words.merge_plain) }
     ensures local { IfOk result (λ command. (out-Command command).has_globals ≡ false) }
 {
-    Command::new(alloc, "merge")
-        .about("Writes one dump of two or more readings of a die")
-        .arg(geometry_place(alloc))?
-        .arg(place(alloc, "OUT", "The dump to be written"))?
-        .arg(places(alloc, "DUMP", "The readings, two or more"))?
-        .arg(force(alloc))
+    let command = of_geometry(
+        alloc,
+        "merge",
+        "Writes one dump of two or more readings of a die",
+    )?;
+    let command = with_word(command, place(alloc, "OUT", "The dump to be written"))?;
+    let dumps = place_of(
+        alloc,
+        "DUMP",
+        ArgAction::Append,
+        "The readings, two or more",
+    );
+    let command = with_word(command, dumps)?;
+    with_word(command, force(alloc))
 }
 
 // The command `merge`.
@@ -348,79 +361,106 @@ fn merge<'a>(alloc: Global) -> Result<Command<'a>, AllocError>
     with_showing(alloc, merge_plain(alloc)?)
 }
 
-// The command `repair`, but for the word of the rows and those that all have.
-fn repair_plain<'a>(alloc: Global) -> Result<Command<'a>, AllocError>
-    ensures app { IfOk result (λ command. app_of command ≡ Rattle.lab_words.specs.Words.repair_plain) }
-    ensures local { IfOk result (λ command. (out-Command command).has_globals ≡ false) }
-{
-    Command::new(alloc, "repair")
-        .about("Writes a dump with each page mended that one bit turned makes sound")
-        .arg(geometry_place(alloc))?
-        .arg(dump_place(alloc))?
-        .arg(place(alloc, "OUT", "The dump to be written"))?
-        .arg(force(alloc))
-}
-
 // The command `repair`.
 fn repair<'a>(alloc: Global) -> Result<Command<'a>, AllocError>
     ensures app { IfOk result (λ command. app_of command ≡ Rattle.lab_words.specs.Words.repair) }
     ensures local { IfOk result (λ command. (out-Command command).has_globals ≡ false) }
 {
-    let rows = rows_word(alloc, "Mends pages of the rows A to B - 1 alone");
-    with_showing(alloc, repair_plain(alloc)?.arg(rows)?)
+    let command = writing(
+        alloc,
+        "repair",
+        "Writes a dump with each page mended that one bit turned makes sound",
+        "The dump to be written",
+    )?;
+    let rows = valued(
+        alloc,
+        "rows",
+        "A..B",
+        "Mends pages of the rows A to B - 1 alone",
+    );
+    with_showing(alloc, with_word(command, rows)?)
+}
+
+// A program that tells its version.
+fn versioned<'a>(program: Command<'a>) -> Command<'a>
+    ensures { app_of result ≡ Rattle.lab_words.specs.Words.versioned (app_of program.entry) }
+{
+    program.version("0.1.0")
+}
+
+// A program with no subcommand `help`.
+fn without_help<'a>(program: Command<'a>) -> Command<'a>
+    ensures { app_of result ≡ Rattle.lab_words.specs.Words.without_help (app_of program.entry) }
+{
+    program.disable_help_subcommand(true)
+}
+
+// A program that wants a command.
+fn wanting<'a>(program: Command<'a>) -> Command<'a>
+    ensures { app_of result ≡ Rattle.lab_words.specs.Words.wanting (app_of program.entry) }
+{
+    program.subcommand_required(true)
 }
 
 // The program, with no command yet.
 fn program<'a>(alloc: Global) -> Command<'a>
     ensures { app_of result ≡ Rattle.lab_words.specs.Words.program }
 {
-    Command::new(alloc, "nandlab")
-        .version("0.1.0")
-        .about("Tools for recovery laboratories, on dumps of one NAND die")
-        .disable_help_subcommand(true)
-        .subcommand_required(true)
+    wanting(without_help(versioned(named(
+        alloc,
+        "nandlab",
+        "Tools for recovery laboratories, on dumps of one NAND die",
+    ))))
+}
+
+// A program with one command more, whose words are its own.
+fn with_command<'a>(program: Command<'a>, command: Command<'a>) -> Result<Command<'a>, AllocError>
+    requires { (out-Command command).has_globals ≡ false }
+    ensures { IfOk result (λ more. app_of more ≡ with_subcommand (app_of program.entry) (app_of command.entry).top) }
+{
+    program.subcommand(command)
 }
 
 // With the command `geometry`.
 fn with_geometry<'a>(alloc: Global) -> Result<Command<'a>, AllocError>
     ensures { IfOk result (λ command. app_of command ≡ Rattle.lab_words.specs.Words.with_geometry) }
 {
-    program(alloc).subcommand(geometry(alloc)?)
+    with_command(program(alloc), geometry(alloc)?)
 }
 
 // And `survey`.
 fn with_survey<'a>(alloc: Global) -> Result<Command<'a>, AllocError>
     ensures { IfOk result (λ command. app_of command ≡ Rattle.lab_words.specs.Words.with_survey) }
 {
-    with_geometry(alloc)?.subcommand(survey(alloc)?)
+    with_command(with_geometry(alloc)?, survey(alloc)?)
 }
 
 // And `array`.
 fn with_array<'a>(alloc: Global) -> Result<Command<'a>, AllocError>
     ensures { IfOk result (λ command. app_of command ≡ Rattle.lab_words.specs.Words.with_array) }
 {
-    with_survey(alloc)?.subcommand(array(alloc)?)
+    with_command(with_survey(alloc)?, array(alloc)?)
 }
 
 // And `compare`.
 fn with_compare<'a>(alloc: Global) -> Result<Command<'a>, AllocError>
     ensures { IfOk result (λ command. app_of command ≡ Rattle.lab_words.specs.Words.with_compare) }
 {
-    with_array(alloc)?.subcommand(compare(alloc)?)
+    with_command(with_array(alloc)?, compare(alloc)?)
 }
 
 // And `merge`.
 fn with_merge<'a>(alloc: Global) -> Result<Command<'a>, AllocError>
     ensures { IfOk result (λ command. app_of command ≡ Rattle.lab_words.specs.Words.with_merge) }
 {
-    with_compare(alloc)?.subcommand(merge(alloc)?)
+    with_command(with_compare(alloc)?, merge(alloc)?)
 }
 
 // The commands that the program has.
 fn grammar<'a>(alloc: Global) -> Result<Command<'a>, AllocError>
     ensures { IfOk result (λ command. app_of command ≡ Rattle.lab_words.specs.Words.grammar) }
 {
-    with_merge(alloc)?.subcommand(repair(alloc)?)
+    with_command(with_merge(alloc)?, repair(alloc)?)
 }
 
 // The text of help or of the version, where that was asked for.
