@@ -1,0 +1,81 @@
+//! Sizes as words write them, and the shapes for them.
+use disk_shape::{Shape, SizeFault, shape_for, size_from};
+use std::process::Abort;
+use std::test::*;
+
+// A word, and the bytes that it says.
+const SIZES: [(&str, Option<u64>); 24] = [
+    ("1", Some(1)),
+    ("4096", Some(4096)),
+    ("007", Some(7)),
+    ("1K", Some(1024)),
+    ("64M", Some(67_108_864)),
+    ("1G", Some(1_073_741_824)),
+    ("2T", Some(2_199_023_255_552)),
+    ("9223372036854775808", Some(9_223_372_036_854_775_808)),
+    ("9223372036854775809", None),
+    ("8388608T", Some(9_223_372_036_854_775_808)),
+    ("8388609T", None),
+    ("18446744073709551615", None),
+    ("18446744073709551616", None),
+    ("18446744073709551615T", None),
+    ("", None),
+    ("0", None),
+    ("0K", None),
+    ("K", None),
+    ("1k", None),
+    ("1KK", None),
+    ("K1", None),
+    ("-1", None),
+    ("+1", None),
+    ("1 M", None),
+];
+
+#[test]
+fn sizes_are_read(rt: HostRuntime) {
+    for (word, bytes) in SIZES {
+        assert!(rt; size_from(word) == bytes, "{word}");
+    }
+}
+
+// A size, and the blocks, sectors and cache of its shape.
+const SHAPES: [(u64, u32, u32, u32); 6] = [
+    (1, 13, 1, 64),
+    (4096, 13, 1, 64),
+    (4097, 13, 2, 64),
+    (64 << 20, 370, 16_384, 256),
+    (256 << 20, 2165, 65_536, 1024),
+    (509_349_888, 4095, 124_353, 1943),
+];
+
+fn is_shape(shape: &Shape, blocks: u32, sectors: u32, cache: u32) -> bool {
+    let die = shape.geometry;
+    die.data_bytes() == 4096
+        && die.spare_bytes() == 128
+        && die.pages() == 64
+        && die.blocks() == blocks
+        && die.sectors() == sectors
+        && shape.cache == cache
+}
+
+fn has_shape(bytes: u64, blocks: u32, sectors: u32, cache: u32) -> bool {
+    match shape_for(bytes) {
+        Ok(shape) => is_shape(&shape, blocks, sectors, cache),
+        Err(_) => false,
+    }
+}
+
+#[test]
+fn shapes_follow_from_sizes(rt: HostRuntime) {
+    for (bytes, blocks, sectors, cache) in SHAPES {
+        assert!(rt; has_shape(bytes, blocks, sectors, cache), "{bytes}");
+    }
+}
+
+#[test]
+fn sizes_without_a_shape(rt: HostRuntime) {
+    assert!(rt; shape_for(0) == Err(SizeFault::Zero));
+    assert!(rt; shape_for(509_349_889) == Err(SizeFault::TooLarge));
+    assert!(rt; shape_for(1 << 30) == Err(SizeFault::TooLarge));
+    assert!(rt; shape_for(u64::MAX) == Err(SizeFault::TooLarge));
+}
