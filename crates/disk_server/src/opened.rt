@@ -1,5 +1,5 @@
 //! The disk of the die that a store holds.
-ghost use Rattle.std.specs.Prelude.{◌≡◌, ◌≤◌, true, IfOk, IfErr};
+ghost use Rattle.std.specs.Prelude.{◌≡◌, ◌≤◌, ℕ, true, IfOk, IfErr};
 ghost use Rattle.mount.specs.Mounted.{IsMounted};
 ghost use Rattle.device_disk.specs.Disk.{contents_of, holds};
 ghost use Rattle.disk_server.specs.Opened.{bytes_of, flash_in, is_honest_in, IsUnopened};
@@ -74,8 +74,14 @@ pub fn mount_store<S: Store + Drop>(
     ensures fault { IfErr result (IsUnopened S.held S.honest store capacity) }
 {
     let geometry = store.geometry();
-    let mut driver = driver_over(alloc, store, SyncWhen::Erases)?;
-    mount(alloc, &mut driver, &geometry, capacity).map_err(OpenStoreFault::Mount)
+    let mut driver = match driver_over(alloc, store, SyncWhen::Erases) {
+        Ok(driver) => driver,
+        Err(fault) => return Err(fault),
+    };
+    match mount(alloc, &mut driver, &geometry, capacity) {
+        Ok(certificate) => Ok(certificate),
+        Err(refusal) => Err(OpenStoreFault::Mount(refusal)),
+    }
 }
 
 /// Opens the disk of the die that a store holds: its pages are mounted, and a device with a cache of `capacity` entries is started. **Of a store that is honest
@@ -100,7 +106,10 @@ pub fn open_store<S: Store + Drop>(
     ensures fault { IfErr result (IsUnopened S.held S.honest store capacity) }
 {
     let geometry = store.geometry();
-    let driver = driver_over(alloc, store, sync_when)?;
+    let driver = match driver_over(alloc, store, sync_when) {
+        Ok(driver) => driver,
+        Err(fault) => return Err(fault),
+    };
     let disk = match open_mounted(alloc, driver, &geometry, capacity) {
         Ok(disk) => disk,
         Err(OpenFault::Refused { refusal, .. }) => return Err(OpenStoreFault::Mount(refusal)),

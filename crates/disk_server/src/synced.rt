@@ -6,7 +6,7 @@ use nbd_stream::{Disk, DiskFault, Task};
 
 /// A way to make last what was written, beside the disk that writes it, as a second handle of one file. (This project's.)
 pub trait Syncs {
-    ghost use Rattle.std.specs.Prelude.{◌≡◌, ℕ, OnOk, OnErr};
+    ghost use Rattle.std.specs.Prelude.{◌≡◌, ℕ, IfErr, OnOk, OnErr};
     ghost use Rattle.page_layout.specs.Counter.{counted};
 
     /// How many syncs were done.
@@ -19,7 +19,8 @@ pub trait Syncs {
     /// `Failed` where that failed: not all of it may last.
     fn sync(&mut self) -> Result<(), DiskFault>
         ensures done { OnOk result (synced self.new ≡ counted (synced self.old)) }
-        ensures failed { OnErr result (synced self.new ≡ synced self.old) };
+        ensures failed { OnErr result (synced self.new ≡ synced self.old) }
+        ensures fault { IfErr result (λ e. e ≡ DiskFault.Failed) };
 }
 
 /// A disk, and a way to make last what it writes. Each flush and each durable change that is answered without an error ends with a sync. What a sync makes
@@ -48,7 +49,7 @@ impl<D: Disk, Y: Syncs> SyncedDisk<D, Y> {
 }
 
 impl<D: Disk, Y: Syncs> Disk for SyncedDisk<D, Y> {
-    ghost use Rattle.std.specs.Prelude.{◌≡◌, ◌≤◌, ◌+◌, false, [], length, OnOk};
+    ghost use Rattle.std.specs.Prelude.{◌≡◌, ◌≤◌, ◌+◌, true, false, [], length, OnOk};
     ghost use Rattle.nbd_stream.specs.Disk.{Performs, answer_from};
     ghost use Rattle.page_layout.specs.Counter.{counted};
     ghost use Rattle.disk_server.specs.Synced.{HasSynced};
@@ -99,7 +100,8 @@ impl<D: Disk, Y: Syncs> Disk for SyncedDisk<D, Y> {
         ensures synced { OnOk result (HasSynced Y.synced true self.old.syncs self.new.syncs) }
     {
         self.disk.flush()?;
-        self.syncs.sync()
+        self.syncs.sync()?;
+        Ok(())
     }
 
     fn rest(&mut self) -> Result<(), DiskFault> {
