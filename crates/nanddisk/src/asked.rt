@@ -13,14 +13,16 @@ fn geometry_of(word: &str) -> Result<Geometry, Fault<'_>> {
     let Some(numbers) = geometry_numbers(word) else {
         return Err(Fault::BadNumber(word));
     };
-    Geometry::new(
+    match Geometry::new(
         numbers.data_bytes,
         numbers.spare_bytes,
         numbers.pages,
         numbers.blocks,
         numbers.sectors,
-    )
-    .map_err(Fault::Geometry)
+    ) {
+        Ok(geometry) => Ok(geometry),
+        Err(limit) => Err(Fault::Geometry(limit)),
+    }
 }
 
 // The entries of the cache that a word asks for, from 1 to 65,536.
@@ -38,7 +40,10 @@ fn picked(make: MakeWords<'_>) -> Result<Shape, Fault<'_>> {
             let Some(bytes) = size_from(word) else {
                 return Err(Fault::BadSize(word));
             };
-            return shape_for(bytes).map_err(Fault::Size);
+            return match shape_for(bytes) {
+                Ok(shape) => Ok(shape),
+                Err(fault) => Err(Fault::Size(fault)),
+            };
         }
         MakeWords::Geometry(word) | MakeWords::Dump { geometry: word, .. } => word,
     };

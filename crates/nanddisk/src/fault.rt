@@ -81,11 +81,8 @@ impl Fault<'_> {
             | Fault::Open(..)
             | Fault::Create(..)
             | Fault::OutOfMemory => REFUSED,
-            Fault::Read(_)
-            | Fault::Write(_)
-            | Fault::BadFrame
-            | Fault::Stream
-            | Fault::Device(_) => IO,
+            Fault::Read(_) | Fault::Write(_) | Fault::BadFrame | Fault::Stream | Fault::Device(_) =>
+                IO,
         }
     }
 }

@@ -54,10 +54,7 @@ pub fn open_die<'a, R: Files<File = File> + AllocGlobal>(
     let opened = OpenOptions::new().read(true).write(writes).open(rt, path);
     let file = opened.map_err(|error| unread(path, error))?;
     lock(&file, path)?;
-    let found = file
-        .metadata()
-        .map_err(|error| unread(path, error))?
-        .len();
+    let found = file.metadata().map_err(|error| unread(path, error))?.len();
     let wanted = die_bytes(geometry);
     if found == wanted {
         Ok(file)

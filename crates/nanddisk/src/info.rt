@@ -95,7 +95,11 @@ fn write_lines<W: Write>(out: &mut W, shape: &Shape, next: u64, b: Blocks) -> io
     writeln!(out, "geometry {data},{spare},{pages},{blocks},{sectors}")?;
     writeln!(out, "cache {}", shape.cache)?;
     writeln!(out, "free {} bad {}", b.free, b.bad)?;
-    writeln!(out, "wear least {} most {} erases {}", b.least, b.most, b.erases)?;
+    writeln!(
+        out,
+        "wear least {} most {} erases {}",
+        b.least, b.most, b.erases
+    )?;
     writeln!(out, "next {next}")
 }
 
@@ -106,8 +110,15 @@ fn write_json<W: Write>(out: &mut W, shape: &Shape, next: u64, b: Blocks) -> io:
     let (blocks, sectors) = (g.blocks(), g.sectors());
     let size = u64::from(sectors) * data as u64;
     write!(out, "{{\"size\":{size},")?;
-    write!(out, "\"geometry\":\"{data},{spare},{pages},{blocks},{sectors}\",")?;
-    write!(out, "\"cache\":{},\"free\":{},\"bad\":{},", shape.cache, b.free, b.bad)?;
+    write!(
+        out,
+        "\"geometry\":\"{data},{spare},{pages},{blocks},{sectors}\","
+    )?;
+    write!(
+        out,
+        "\"cache\":{},\"free\":{},\"bad\":{},",
+        shape.cache, b.free, b.bad
+    )?;
     write!(out, "\"wear\":{{\"least\":{},\"most\":{},", b.least, b.most)?;
     writeln!(out, "\"erases\":{}}},\"next\":{next}}}", b.erases)
 }

@@ -106,10 +106,5 @@ fn run_over<S: Env + Files<File = File> + AllocGlobal, I: Read + Drop, O: Write,
 }
 
 fn main(rt: HostRuntime) -> ExitCode {
-    ExitCode::from(run_over(
-        &rt,
-        rt.stdin(),
-        &mut rt.stdout(),
-        &mut rt.stderr(),
-    ))
+    ExitCode::from(run_over(&rt, rt.stdin(), &mut rt.stdout(), &mut rt.stderr()))
 }

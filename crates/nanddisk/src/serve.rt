@@ -139,7 +139,6 @@ pub fn serve_command<'a, R: Files<File = File> + AllocGlobal, I: Read + Drop, O:
     let disk = open_stopped(rt, &file, &shape, terms).map_err(|why| Fault::Open(path, why))?;
     let export = export_of(disk.bytes(), &shape.geometry, terms);
     let mut disk = SyncedDisk::new(disk, FileSyncs { file, done: 0 });
-    let mut reader =
-        BufReader::new(rt.alloc(), input).map_err(|error| unread(path, error))?;
+    let mut reader = BufReader::new(rt.alloc(), input).map_err(|error| unread(path, error))?;
     serve_client(rt, &mut disk, &export, path, &mut reader, out)
 }
