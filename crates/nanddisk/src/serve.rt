@@ -120,8 +120,8 @@ fn serve_client<'a, R: AllocGlobal, I: Read + Drop, O: Write>(
         return Err(Fault::Device(path));
     }
     match served {
-        Ok(End::Boundary | End::Disconnected) => Ok(()),
-        Ok(End::Unfinished | End::BadFrame) => Err(Fault::BadFrame),
+        Ok(End::Boundary | End::Disconnected | End::Unfinished) => Ok(()),
+        Ok(End::BadFrame) => Err(Fault::BadFrame),
         Err(_) => Err(Fault::Stream),
     }
 }
