@@ -10,10 +10,12 @@ use sector_disk::SectorDisk;
 use std::alloc::Global;
 use std::test::Fail;
 
-// Bytes of a sector, and of the disk.
+// Bytes of a sector, and of the disk, and how many sectors it has.
 const SECTOR: usize = 64;
 
 const SIZE: u64 = 2048;
+
+const SECTORS: u64 = 32;
 
 // What a client sends to a disk with eleven free blocks, of which one block has one live page, and what it is answered. The die stops at one of its programs
 // and erases, from 1; 0 for none. Then so many blocks are free, and so many erases were done; none where the device was stopped.
@@ -52,11 +54,11 @@ const ROWS: &[Row] = &[
 
 // Sets a sector.
 fn set_sector<N: Nand>(disk: &mut SectorDisk<DeviceDisk<N>>, sector: u64) -> bool {
+    if disk.bytes() != SIZE || sector >= SECTORS {
+        return false;
+    }
     let offset = sector * SECTOR as u64;
-    disk.bytes() == SIZE
-        && offset < SIZE
-        && SIZE - offset >= SECTOR as u64
-        && disk.write(offset, &[b'Z'; SECTOR], false).is_ok()
+    disk.write(offset, &[b'Z'; SECTOR], false).is_ok()
 }
 
 // Sets the sectors from 0 to 19, and between two of them the last one seven times: so each block but the last has one live page. No rest is given.
