@@ -4,9 +4,9 @@ use crate::files::{die_bytes, shape_name};
 use disk_server::{CreateFault, OpenStoreFault, format_store, mount_store};
 use disk_shape::{Shape, write_shape};
 use file_die::{FileStore, Store};
-use page_layout::geometry::Geometry;
+use image_check::Refusal;
 use std::fs::{self, File, OpenOptions, TryLockError};
-use std::io::{self, ErrorKind, Read, Seek, SeekFrom, Write};
+use std::io::{self, ErrorKind, Seek, SeekFrom, Write};
 use std::rt::Files;
 
 // Whether nothing stands at a path, and no link either.
@@ -104,7 +104,7 @@ fn copy_dump<'a, R: Files<File = File>>(
     }
 }
 
-// A die in a file that has a dump's pages, if these are a device's.
+// A die in a file that has a dump's pages, if these are a device's. It may have been stopped: then a server makes room for what is stale.
 fn put_dump<'a, R: Files<File = File> + AllocGlobal>(
     rt: &R,
     dump: &'a str,
@@ -116,8 +116,8 @@ fn put_dump<'a, R: Files<File = File> + AllocGlobal>(
     let Ok(store) = FileStore::new(rt.alloc(), shape.geometry, file) else {
         return Err(Fault::OutOfMemory);
     };
-    match mount_store(rt.alloc(), store, shape.cache) {
-        Ok(_) => Ok(()),
+    match mount_store(rt.alloc(), store, shape.cache.max(1).min(65_536)) {
+        Ok(_) | Err(OpenStoreFault::Mount(Refusal::TooStale { .. })) => Ok(()),
         Err(fault) => Err(Fault::Open(dump, fault)),
     }
 }

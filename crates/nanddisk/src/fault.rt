@@ -2,7 +2,7 @@
 use disk_server::{CreateFault, OpenStoreFault};
 use disk_shape::{ShapeFault, SizeFault};
 use page_layout::geometry::GeometryFault;
-use std::io::{self, Error, ErrorKind, Write};
+use std::io::{Error, ErrorKind};
 use thiserror::Error;
 
 const REFUSED: u8 = 1;

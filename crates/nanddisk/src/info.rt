@@ -80,7 +80,7 @@ fn mount_at<R: AllocGlobal>(
         return Err(OpenStoreFault::Device);
     };
     match FileStore::new(rt.alloc(), shape.geometry, own) {
-        Ok(store) => mount_store(rt.alloc(), store, capacity),
+        Ok(store) => mount_store(rt.alloc(), store, capacity.max(1).min(MOST_ENTRIES)),
         Err(_) => Err(OpenStoreFault::OutOfMemory),
     }
 }

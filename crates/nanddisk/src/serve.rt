@@ -63,7 +63,12 @@ fn open_with<R: AllocGlobal>(
     let Ok(store) = FileStore::new(rt.alloc(), geometry, own) else {
         return Err(OpenStoreFault::OutOfMemory);
     };
-    open_store(rt.alloc(), store, capacity, sync_when)
+    open_store(
+        rt.alloc(),
+        store,
+        capacity.max(1).min(MOST_ENTRIES),
+        sync_when,
+    )
 }
 
 // A disk over a handle of the die's file. One that was stopped may have more stale sectors than its cache has room for: it is opened with as many
