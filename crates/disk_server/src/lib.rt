@@ -3,7 +3,7 @@
 //! - `open_mounted`: the disk of a die, started from a mount, so that each page is looked at once.
 //! - `open_store`: the same over the die that a store holds.
 //! - `format_store`: a store of erased pages becomes a die with a device on it.
-//! - `SyncedDisk`: a disk whose flushes and durable changes end with a sync of what it is kept in.
+//! - `SyncedDisk`: a disk whose flushes and durable changes end with a sync of what it is kept in; `serve_synced` serves it.
 //!
 //! All of it is this project's.
 #![tactic(auto)]
@@ -11,9 +11,11 @@
 mod format;
 mod mounted;
 mod opened;
+mod served;
 mod synced;
 
 pub use format::{CreateFault, format_store};
 pub use mounted::open_mounted;
 pub use opened::{OpenStoreFault, StoreDisk, mount_store, open_store};
+pub use served::{Offer, serve_synced};
 pub use synced::{SyncedDisk, Syncs};

@@ -1,12 +1,15 @@
 //! The command `serve`: a disk is served to one client over standard input and output.
 use crate::fault::{Fault, unread};
 use crate::files::{open_die, shape_at};
-use disk_server::{OpenStoreFault, StoreDisk, SyncedDisk, Syncs, open_store};
+use disk_server::{Offer, OpenStoreFault, StoreDisk, SyncedDisk, Syncs, open_store, serve_synced};
 use disk_shape::Shape;
 use file_die::{FileStore, SyncWhen};
 use image_check::Refusal;
-use nbd_stream::{Disk, DiskFault, End, Export, serve};
+use nbd_stream::{Disk, DiskFault, End};
 use page_layout::geometry::Geometry;
+use request_stream::ServeFault;
+use sector_disk::{SectorDisk, Sectors};
+use std::alloc::Global;
 use std::fs::File;
 use std::io::{BufReader, Read, Write};
 use std::rt::Files;
@@ -37,8 +40,6 @@ impl Syncs for FileSyncs {
         }
     }
 }
-
-type FileDisk = SyncedDisk<StoreDisk<FileStore>, FileSyncs>;
 
 /// How a disk is served.
 #[derive(Clone, Copy)]
@@ -93,12 +94,11 @@ fn open_stopped<R: AllocGlobal>(
     open_with(rt, file, geometry, cache, terms.sync_when)
 }
 
-// What a client is told of a disk.
-fn export_of(bytes: u64, geometry: &Geometry, terms: Terms) -> Export {
+// What a client is told of a disk, beside its bytes.
+fn offer_of(geometry: &Geometry, read_only: bool) -> Offer {
     let data = geometry.data_bytes() as u32;
-    Export {
-        size: bytes,
-        read_only: terms.read_only,
+    Offer {
+        read_only,
         preferred: if data.is_power_of_two() && data >= 512 {
             data
         } else {
@@ -108,27 +108,32 @@ fn export_of(bytes: u64, geometry: &Geometry, terms: Terms) -> Export {
     }
 }
 
-// Serves a disk to one client, and has it flushed when the client has gone.
-fn serve_client<'a, R: AllocGlobal, I: Read + Drop, O: Write>(
-    rt: &R,
-    disk: &mut FileDisk,
-    export: &Export,
-    path: &'a str,
-    input: &mut I,
-    out: &mut O,
-) -> Result<(), Fault<'a>> {
-    let Ok(mut buffer) = vec![in rt.alloc(); 0u8; MOST as usize] else {
-        return Err(Fault::OutOfMemory);
-    };
-    let served = serve(input, out, disk, export, &mut buffer);
-    if !export.read_only && disk.flush().is_err() {
-        return Err(Fault::Device(path));
-    }
+// Why a server ended before its client went.
+fn end_of<'a>(served: Result<End, ServeFault>) -> Result<(), Fault<'a>> {
     match served {
         Ok(End::Boundary | End::Disconnected | End::Unfinished) => Ok(()),
         Ok(End::BadFrame) => Err(Fault::BadFrame),
         Err(_) => Err(Fault::Stream),
     }
+}
+
+// Serves a disk to one client, and has it flushed when the client has gone.
+fn serve_client<'a, S: Sectors, I: Read, O: Write>(
+    alloc: Global,
+    disk: &mut SyncedDisk<SectorDisk<S>, FileSyncs>,
+    offer: Offer,
+    path: &'a str,
+    input: &mut I,
+    out: &mut O,
+) -> Result<(), Fault<'a>> {
+    let Ok(mut buffer) = vec![in alloc; 0u8; offer.maximum as usize] else {
+        return Err(Fault::OutOfMemory);
+    };
+    let served = serve_synced(disk, offer, &mut buffer, input, out);
+    if !offer.read_only && disk.flush().is_err() {
+        return Err(Fault::Device(path));
+    }
+    end_of(served)
 }
 
 /// Serves the disk at a path to the client at `input` and `out`, until it goes.
@@ -142,8 +147,8 @@ pub fn serve_command<'a, R: Files<File = File> + AllocGlobal, I: Read + Drop, O:
     let shape = shape_at(rt, path)?;
     let file = open_die(rt, path, &shape.geometry, !terms.read_only)?;
     let disk = open_stopped(rt, &file, &shape, terms).map_err(|why| Fault::Open(path, why))?;
-    let export = export_of(disk.bytes(), &shape.geometry, terms);
+    let offer = offer_of(&shape.geometry, terms.read_only);
     let mut disk = SyncedDisk::new(disk, FileSyncs { file, done: 0 });
     let mut reader = BufReader::new(rt.alloc(), input).map_err(|error| unread(path, error))?;
-    serve_client(rt, &mut disk, &export, path, &mut reader, out)
+    serve_client(rt.alloc(), &mut disk, offer, path, &mut reader, out)
 }

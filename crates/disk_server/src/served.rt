@@ -1,0 +1,48 @@
+//! A disk is served to one client.
+ghost use Rattle.std.specs.Prelude.{◌≡◌, ◌≤◌, false, length};
+ghost use Rattle.nbd_stream.specs.Transmission.{Serves};
+ghost use Rattle.disk_server.specs.Synced.{export_of};
+
+use crate::synced::{SyncedDisk, Syncs};
+use nbd_stream::{End, Export, serve};
+use request_stream::ServeFault;
+use sector_disk::{SectorDisk, Sectors};
+use std::io::{Read, Write};
+
+/// What a client is told of a disk, beside its bytes. (This project's.)
+#[derive(Clone, Copy)]
+pub struct Offer {
+    /// Nothing is written.
+    pub read_only: bool,
+    /// Bytes of the requests that cost the least.
+    pub preferred: u32,
+    /// The most bytes that one request reads or writes.
+    pub maximum: u32,
+}
+
+/// Serves all bytes of a disk to one client, until it goes: each request is answered by one reply, in order, and of a disk that is honest the answers are those of the array of its
+/// bytes. After each change the disk rests, and each flush and each durable change ends with a sync.
+///
+/// # Errors
+///
+/// As `nbd_stream::serve`. (The NBD protocol.)
+pub fn serve_synced<S: Sectors, Y: Syncs, R: Read, W: Write>(
+    disk: &mut SyncedDisk<SectorDisk<S>, Y>,
+    offer: Offer,
+    buffer: &mut [u8],
+    reader: &mut R,
+    writer: &mut W,
+) -> Result<End, ServeFault>
+    requires room { offer.maximum ≤ length buffer.old }
+    ensures { Serves (λ s. S.contents s.disk) (λ s. S.honest s.disk) (λ _. false) (λ old result new. S.rests old.disk result new.disk × (new.syncs ≡ old.syncs))
+        (export_of offer (length (S.contents disk.old.disk).bytes)) (length buffer.new) disk.old disk.new (R.remaining reader.old) (R.remaining reader.new)
+        (W.contents writer.old) (W.contents writer.new) result }
+{
+    let export = Export {
+        size: disk.disk().bytes(),
+        read_only: offer.read_only,
+        preferred: offer.preferred,
+        maximum: offer.maximum,
+    };
+    serve(reader, writer, disk, &export, buffer)
+}
