@@ -51,8 +51,11 @@ fn new_part<'a, R: Files<File = File>>(
 }
 
 // Erases all blocks of a store.
-fn erase_all(store: &mut FileStore, blocks: u32) -> bool {
-    for block in 0..blocks {
+fn erase_all(store: &mut FileStore) -> bool {
+    for block in 0..store.geometry().blocks() {
+        if block >= store.geometry().blocks() {
+            break;
+        }
         if store.clear(block).is_err() {
             return false;
         }
@@ -70,7 +73,7 @@ fn put_new<'a, R: AllocGlobal>(
     let Ok(mut store) = FileStore::new(rt.alloc(), shape.geometry, file) else {
         return Err(Fault::OutOfMemory);
     };
-    if !erase_all(&mut store, shape.geometry.blocks()) {
+    if !erase_all(&mut store) {
         return Err(Fault::Write(path));
     }
     match format_store(rt.alloc(), store) {
