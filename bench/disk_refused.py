@@ -21,7 +21,7 @@ import tempfile
 
 import nbd
 
-GEOMETRY = "512,16,8,48,150"
+GEOMETRY = "512,32,8,48,150"
 SIZE = 150 * 512
 MOST_KIB = 65536
 
@@ -49,29 +49,30 @@ def refused_files(program, folder):
     """What is there is not replaced, and what is no disk is not served."""
     path = os.path.join(folder, "a.nand")
     told([program, "create", "--geometry", GEOMETRY, path])
-    image, shape = open(path, "rb").read(), open(path + ".json", "rb").read()
+    shape = open(path + ".json", "rb").read()
     hold([program, "create", "--size", "1M", path], 1, f"refused: {path} exists")
     client, server = start([program, "serve", path])
     hold([program, "serve", path], 1, f"refused: {path} is in use")
     hold([program, "info", path], 1, f"refused: {path} is in use")
     client.shutdown()
     server.wait()
+    image = open(path, "rb").read()
     hold([program, "serve", path + "x"], 3, f"fault read {path}x")
     for text, why in (
         (b"", "not JSON"),
         (b"[]", "no object"),
-        (b'{"cache":64,"geometry":"512,16,8,48,150"}', "no member version"),
-        (b'{"cache":"64","geometry":"512,16,8,48,150","version":1}', "member cache of another type"),
-        (b'{"cache":64,"geometry":"512,16,8,48,150","version":2}', "another version"),
-        (b'{"cache":0,"geometry":"512,16,8,48,150","version":1}', "the cache has not from 1 to 65536 entries"),
-        (b'{"cache":64,"geometry":"512,16,8,48","version":1}', "the geometry is no five numbers"),
-        (b'{"cache":64,"geometry":"512,16,8,48,150","version":1,"more":1}', "a member with another name"),
+        (b'{"cache":64,"geometry":"512,32,8,48,150"}', "no member version"),
+        (b'{"cache":"64","geometry":"512,32,8,48,150","version":1}', "member cache of another type"),
+        (b'{"cache":64,"geometry":"512,32,8,48,150","version":2}', "another version"),
+        (b'{"cache":0,"geometry":"512,32,8,48,150","version":1}', "the cache has not from 1 to 65536 entries"),
+        (b'{"cache":64,"geometry":"512,32,8,48","version":1}', "the geometry is no five numbers"),
+        (b'{"cache":64,"geometry":"512,32,8,48,150","version":1,"more":1}', "a member with another name"),
     ):
         open(path + ".json", "wb").write(text)
         hold([program, "serve", path], 1, f"refused: {path}.json: {why}")
-    open(path + ".json", "wb").write(b'{"cache":64,"geometry":"512,16,8,64,150","version":1}')
-    hold([program, "serve", path], 1, f"refused: {path} has {48 * 8 * 528} bytes, and its shape {64 * 8 * 528}")
-    open(path + ".json", "wb").write(b'{"cache":64,"geometry":"512,16,16,24,150","version":1}')
+    open(path + ".json", "wb").write(b'{"cache":64,"geometry":"512,32,8,64,150","version":1}')
+    hold([program, "serve", path], 1, f"refused: {path} has {48 * 8 * 544} bytes, and its shape {64 * 8 * 544}")
+    open(path + ".json", "wb").write(b'{"cache":64,"geometry":"512,32,16,24,150","version":1}')
     status, line = told([program, "serve", path], stdin=subprocess.DEVNULL)
     assert status == 1 and line.startswith(f"refused: {path} is no disk: Mount "), line
     open(path + ".json", "wb").write(shape)

@@ -27,7 +27,7 @@ import tempfile
 
 import nbd
 
-GEOMETRY = "512,16,4,40,80"
+GEOMETRY = "512,32,4,40,80"
 SECTOR = 512
 SIZE = 80 * SECTOR
 LINE = re.compile(r"^\d+\s+(\w+)\((.*)\)\s+=\s+(\d+)$")
