@@ -1,0 +1,3 @@
+pub mod MadeLemmas
+pub mod OpenedLemmas
+pub mod StoppedLemmas

@@ -1,3 +1,4 @@
 pub mod Made
 pub mod Opened
+pub mod Stopped
 pub mod Synced

@@ -1,14 +1,26 @@
--- A STORE THAT WAS FORMATTED.
-use Rattle.std.specs.Prelude.{◌≡◌, ℕ}
+-- A STORE THAT WAS FORMATTED, and one that was not.
+use Rattle.std.specs.Prelude.{◌≡◌, ℕ, Bool, true, Result, Ok, Err}
 use Rattle.page_layout.specs.Flash.{Flash}
 use Rattle.file_die.specs.Store.{Held}
-use Rattle.mount.specs.Formatted.{IsFormatted}
+use Rattle.mount.specs.declared.format_fault.FormatFault.{FormatFault}
+use Rattle.mount.specs.Formatted.{Formats}
+use Rattle.disk_server.specs.Opened.{ComesBack, IsUnopenedAt, flash_of}
+use Rattle.disk_server.specs.declared.format.CreateFault.{CreateFault}
+use Rattle.disk_server.specs.declared.format.CreateFault.TheVariants as why
+
+-- its die was opened, and its pages are what a format with this answer has made of them
+pub record IsFormattedFrom (s t : Held) (answer : Result ℕ FormatFault) : Type 0 where
+  pub new : Flash
+  pub to : new.image ≡ t.pages
+  pub formats : Formats s.geometry (flash_of s) new answer
 
 -- its pages became those of a formatted die with so many good blocks, and all of them last
 pub record IsMade (s t : Held) (good : ℕ) : Type 0 where
-  pub old : Flash
-  pub new : Flash
-  pub from : old.image ≡ s.pages
-  pub to : new.image ≡ t.pages
-  pub formatted : IsFormatted s.geometry old new good
+  pub formatted : IsFormattedFrom s t (Ok good)
   pub lasts : t.durable ≡ t.pages
+
+-- why it was not formatted, or may not last, and what came back
+abbrev pub IsUnmade : {S : Type 0} → (S → Held) → (honest : S → Bool) → (failed : S → ℕ) → S → S → CreateFault → Type 0
+IsUnmade held honest failed store given (why.Open fault) = IsUnopenedAt held honest failed store given fault × ComesBack held honest store fault given
+IsUnmade held honest failed store given (why.Format fault) = honest store ≡ true → IsFormattedFrom (held store) (held given) (Err fault)
+IsUnmade held honest failed store given why.Sync = honest store ≡ true → (good : ℕ) × IsFormattedFrom (held store) (held given) (Ok good)

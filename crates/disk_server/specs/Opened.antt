@@ -1,11 +1,13 @@
 -- A DISK AS IT IS OPENED, and why there is none.
-use Rattle.std.specs.Prelude.{◌≡◌, ◌≢◌, ℕ, Bool, true, List}
+use Rattle.std.specs.Prelude.{◌≡◌, ◌≢◌, ℕ, Bool, true, List, []}
 use Rattle.page_layout.specs.declared.geometry.Geometry.{Geometry}
 use Rattle.page_layout.specs.Array.{array_of}
+use Rattle.page_layout.specs.Counter.{HasRisen}
 use Rattle.page_layout.specs.Flash.{Flash}
 use Rattle.onfi_cycles.specs.Driver.{DriverState, flash_by}
 use Rattle.file_die.specs.Store.{Held}
-use Rattle.file_die.specs.Die.{FileState, shown}
+use Rattle.nand_die.specs.Made.{first_turns, next_in}
+use Rattle.file_die.specs.Die.{FileState, flash_over, shown}
 use Rattle.sector_disk.specs.Flat.{flat}
 use Rattle.certificate.specs.Claim.{Claim}
 use Rattle.image_check.specs.declared.refusal.Refusal.{Refusal}
@@ -31,6 +33,11 @@ abbrev pub IsUnmounted : {N : Type 0} → (N → Flash) → (honest : N → Bool
 IsUnmounted flash honest nand g capacity (Refused why given) = IsRefused flash honest nand g capacity why given
 IsUnmounted flash honest nand g capacity (Start given) = IsUnstarted flash honest nand g capacity given
 
+-- how that is told of a store
+abbrev pub why_of : {N : Type 0} → OpenFault N → OpenStoreFault
+why_of (Refused refusal given) = why.Mount refusal
+why_of (Start given) = why.OutOfMemory
+
 -- ---- over a store
 
 -- what the driver of a die over a store shows, and whether it is honest
@@ -44,8 +51,32 @@ is_honest_in honest d = honest d.bus.store
 abbrev pub bytes_of : Held → List ℕ
 bytes_of s = flat (array_of s.geometry s.pages)
 
--- why there is none: what keeps the pages from being mounted is so of an honest store
-abbrev pub IsUnopened : {S : Type 0} → (S → Held) → (honest : S → Bool) → S → (capacity : ℕ) → OpenStoreFault → Type 0
-IsUnopened held honest store capacity why.OutOfMemory = Unit {0}
-IsUnopened held honest store capacity why.Device = Unit {0}
-IsUnopened held honest store capacity (why.Mount refusal) = honest store ≡ true → Refuses (held store).geometry capacity (held store).pages refusal
+-- the flash of its die as it is opened: the turns of the blocks are what the pages say
+abbrev pub flash_of : Held → Flash
+flash_of s = flash_over s (first_turns s.geometry (next_in s.geometry s.pages) []) 0
+
+-- ---- why there is none
+
+-- A STORE THAT COMES BACK, as honest as it was: of an honest one the geometry and the pages are the same
+pub record HasCome {S : Type 0} (held : S → Held) (honest : S → Bool) (store given : S) : Type 0 where
+  pub as_honest : honest given ≡ honest store
+  pub geometry : honest store ≡ true → (held given).geometry ≡ (held store).geometry
+  pub pages : honest store ≡ true → (held given).pages ≡ (held store).pages
+
+-- so after this fault, but that nothing is known of the pages where a page could not be read, or the die took no reset
+pub record ComesBack {S : Type 0} (held : S → Held) (honest : S → Bool) (store : S) (fault : OpenStoreFault) (given : S) : Type 0 where
+  pub as_honest : honest given ≡ honest store
+  pub geometry : honest store ≡ true → fault ≢ why.Reset → (held given).geometry ≡ (held store).geometry
+  pub pages : honest store ≡ true → fault ≢ why.Reset → fault ≢ why.Mount Source → (held given).pages ≡ (held store).pages
+
+-- whatever the store is, before it was mounted: a load failed, and was counted. No honest one refuses a reset uncounted
+abbrev pub IsUnopenedAt : {S : Type 0} → (S → Held) → (honest : S → Bool) → (failed : S → ℕ) → S → S → OpenStoreFault → Type 0
+IsUnopenedAt held honest failed store given why.OutOfMemory = Unit {0}
+IsUnopenedAt held honest failed store given why.Device = HasRisen (failed store) (failed given)
+IsUnopenedAt held honest failed store given why.Reset = honest store ≡ true → HasRisen (failed store) (failed given)
+IsUnopenedAt held honest failed store given (why.Mount refusal) = ⊥
+
+-- and after: what keeps the pages from being mounted is so of an honest store
+abbrev pub IsUnopened : {S : Type 0} → (S → Held) → (honest : S → Bool) → (failed : S → ℕ) → S → (capacity : ℕ) → S → OpenStoreFault → Type 0
+IsUnopened held honest failed store capacity given (why.Mount refusal) = honest store ≡ true → Refuses (held store).geometry capacity (held store).pages refusal
+IsUnopened held honest failed store capacity given fault = IsUnopenedAt held honest failed store given fault

@@ -1,6 +1,6 @@
 //! A store of erased pages is formatted.
-ghost use Rattle.std.specs.Prelude.{◌≡◌, true, IfOk};
-ghost use Rattle.disk_server.specs.Made.{IsMade};
+ghost use Rattle.std.specs.Prelude.{◌≡◌, true, IfOk, IfErr, MatchResult};
+ghost use Rattle.disk_server.specs.Made.{IsMade, IsUnmade};
 
 use crate::opened::{OpenStoreFault, driver_over};
 use file_die::{Store, SyncWhen};
@@ -26,23 +26,26 @@ pub enum CreateFault {
 ///
 /// # Errors
 ///
-/// `Open` where a load failed or a growth was refused, `Format` as `mount::format` has it, `Sync` where the last sync failed: the store is let go, and of its pages
-/// nothing is known.
-pub fn format_store<S: Store + Drop>(alloc: Global, store: S) -> Result<(S, u32), CreateFault>
-    ensures { IfOk result (λ made. S.honest store ≡ true → IsMade (S.held store) (S.held made.0) made.1) }
+/// With the store: `Open` where a load failed or a growth was refused, and its pages are as they were but where a load failed; `Format` as `mount::format` has it; `Sync` where the last
+/// sync failed: it is formatted, and its pages may not all last.
+pub fn format_store<S: Store + Drop>(alloc: Global, store: S) -> Result<(S, u32), (S, CreateFault)>
+    ensures made { IfOk result (λ made. S.honest store ≡ true → IsMade (S.held store) (S.held made.0) made.1) }
+    ensures unmade { IfErr result (λ e. IsUnmade S.held S.honest S.failed store e.0 e.1) }
+    ensures honest { MatchResult result (λ made. S.honest made.0 ≡ S.honest store) (λ e. S.honest e.0 ≡ S.honest store) }
 {
     let geometry = store.geometry();
     let mut driver = match driver_over(alloc, store, SyncWhen::Erases) {
         Ok(driver) => driver,
-        Err(fault) => return Err(CreateFault::Open(fault)),
+        Err((store, fault)) => return Err((store, CreateFault::Open(fault))),
     };
-    let good = match format(alloc, &mut driver, &geometry) {
-        Ok(good) => good,
-        Err(fault) => return Err(CreateFault::Format(fault)),
-    };
+    let formatted = format(alloc, &mut driver, &geometry);
     let mut die = driver.into_bus();
+    let good = match formatted {
+        Ok(good) => good,
+        Err(fault) => return Err((die.into_store(), CreateFault::Format(fault))),
+    };
     match die.sync() {
         Ok(()) => Ok((die.into_store(), good)),
-        Err(_) => Err(CreateFault::Sync),
+        Err(_) => Err((die.into_store(), CreateFault::Sync)),
     }
 }

@@ -37,6 +37,7 @@ pub fn open_mounted<N: Nand>(
     ensures geometry { IfOk result (λ d. d.engine.geometry ≡ geometry.now) }
     ensures honest { IfOk result (λ d. holds N.honest d ≡ N.honest nand) }
     ensures array { IfOk result (λ d. N.honest nand ≡ true → array_in N.flash d ≡ array_of geometry.now (N.flash nand).image) }
+    ensures pages { IfOk result (λ d. N.honest nand ≡ true → N.flash d.engine.nand ≡ N.flash nand) }
     ensures reads { IfOk result (λ d. OnlyReads N.flash N.honest N.calm N.programs N.erases N.failed nand d.engine.nand) }
     ensures unmounted { IfErr result (IsUnmounted N.flash N.honest nand geometry.now capacity) }
     ensures fault { IfErr result (λ fault. OnlyReads N.flash N.honest N.calm N.programs N.erases N.failed nand (nand_of fault)) }

@@ -2,7 +2,8 @@
 ghost use Rattle.std.specs.Prelude.{◌≡◌, ◌≤◌, ℕ, true, IfOk, IfErr};
 ghost use Rattle.mount.specs.Mounted.{IsMounted};
 ghost use Rattle.device_disk.specs.Disk.{contents_of, holds};
-ghost use Rattle.disk_server.specs.Opened.{bytes_of, flash_in, is_honest_in, IsUnopened};
+ghost use Rattle.disk_server.specs.Opened.{bytes_of, flash_in, flash_of, is_honest_in, ComesBack, HasCome, IsUnopened, IsUnopenedAt, why_of};
+ghost use Rattle.device_disk.specs.Open.{nand_of};
 
 use crate::mounted::open_mounted;
 use certificate::Certificate;
@@ -24,9 +25,12 @@ pub enum OpenStoreFault {
     /// A growth was refused.
     #[error("OutOfMemory")]
     OutOfMemory,
-    /// The store failed to load a page, or the die over it took no reset.
+    /// The store failed to load a page.
     #[error("Device")]
     Device,
+    /// The die over it took no reset.
+    #[error("Reset")]
+    Reset,
     /// Its pages are no die with a device on it that a cache of this size goes with.
     #[error("Mount {0}")]
     Mount(Refusal),
@@ -37,28 +41,54 @@ pub(crate) fn driver_over<S: Store + Drop>(
     alloc: Global,
     store: S,
     sync_when: SyncWhen,
-) -> Result<Driver<FileDie<S>>, OpenStoreFault>
+) -> Result<Driver<FileDie<S>>, (S, OpenStoreFault)>
     ensures honest { IfOk result (λ d. is_honest_in S.honest d ≡ S.honest store) }
     ensures geometry { IfOk result (λ d. d.geometry ≡ (S.held store).geometry) }
+    ensures flash { IfOk result (λ d. S.honest store ≡ true → flash_in S.held d ≡ flash_of (S.held store)) }
     ensures pages { IfOk result (λ d. S.honest store ≡ true → (flash_in S.held d).image ≡ (S.held store).pages) }
-    ensures fault { IfErr result (λ fault. (capacity : ℕ) → IsUnopened S.held S.honest store capacity fault) }
+    ensures fault { IfErr result (λ e. IsUnopenedAt S.held S.honest S.failed store e.0 e.1) }
+    ensures given { IfErr result (λ e. ComesBack S.held S.honest store e.1 e.0) }
 {
     let die = match FileDie::open(alloc, store, &[], sync_when) {
         Ok(die) => die,
-        Err((_, file_die::OpenFault::OutOfMemory)) => return Err(OpenStoreFault::OutOfMemory),
-        Err((_, file_die::OpenFault::BadBlock { .. } | file_die::OpenFault::Store)) => {
-            return Err(OpenStoreFault::Device);
+        Err((store, file_die::OpenFault::OutOfMemory)) => {
+            return Err((store, OpenStoreFault::OutOfMemory));
+        }
+        Err((store, file_die::OpenFault::BadBlock { .. } | file_die::OpenFault::Store)) => {
+            return Err((store, OpenStoreFault::Device));
         }
     };
     let geometry = die.geometry();
     match Driver::new(die, geometry) {
         Ok(driver) => Ok(driver),
-        Err(_) => Err(OpenStoreFault::Device),
+        Err((die, _)) => Err((die.into_store(), OpenStoreFault::Reset)),
     }
 }
 
-/// The certificate of the die that a store holds, and nothing is started. It is for a cache of `capacity` entries. The store is asked for
-/// loads alone.
+// The store behind a driver.
+fn store_behind<S: Store + Drop>(driver: Driver<FileDie<S>>) -> S
+    ensures store { result ≡ driver.bus.store }
+    ensures geometry { S.honest driver.bus.store ≡ true → (S.held result).geometry ≡ driver.geometry }
+{
+    driver.into_bus().into_store()
+}
+
+// Why there is no disk over a die, and the store that comes back.
+fn unopened<S: Store + Drop>(fault: OpenFault<Driver<FileDie<S>>>) -> (S, OpenStoreFault)
+    ensures store { result.0 ≡ (nand_of fault).bus.store }
+    ensures geometry { S.honest (nand_of fault).bus.store ≡ true → (S.held result.0).geometry ≡ (nand_of fault).geometry }
+    ensures why { result.1 ≡ why_of fault }
+{
+    match fault {
+        OpenFault::Refused { refusal, nand } => (
+            store_behind(nand),
+            OpenStoreFault::Mount(refusal),
+        ),
+        OpenFault::Start { nand } => (store_behind(nand), OpenStoreFault::OutOfMemory),
+    }
+}
+
+/// The certificate of the die that a store holds, and nothing is started. It is for a cache of `capacity` entries. The store comes back, its pages as they were.
 ///
 /// # Errors
 ///
@@ -67,11 +97,13 @@ pub fn mount_store<S: Store + Drop>(
     alloc: Global,
     store: S,
     capacity: u32,
-) -> Result<Certificate, OpenStoreFault>
+) -> Result<(S, Certificate), (S, OpenStoreFault)>
     requires least { 1 ≤ capacity }
     requires most { capacity ≤ 65536 }
-    ensures mounted { IfOk result (λ certificate. S.honest store ≡ true → IsMounted (S.held store).geometry capacity (S.held store).pages certificate) }
-    ensures fault { IfErr result (IsUnopened S.held S.honest store capacity) }
+    ensures mounted { IfOk result (λ made. S.honest store ≡ true → IsMounted (S.held store).geometry capacity (S.held store).pages made.1) }
+    ensures back { IfOk result (λ made. HasCome S.held S.honest store made.0) }
+    ensures fault { IfErr result (λ e. IsUnopened S.held S.honest S.failed store capacity e.0 e.1) }
+    ensures given { IfErr result (λ e. ComesBack S.held S.honest store e.1 e.0) }
 {
     let geometry = store.geometry();
     let mut driver = match driver_over(alloc, store, SyncWhen::Erases) {
@@ -79,31 +111,33 @@ pub fn mount_store<S: Store + Drop>(
         Err(fault) => return Err(fault),
     };
     match mount(alloc, &mut driver, &geometry, capacity) {
-        Ok(certificate) => Ok(certificate),
-        Err(refusal) => Err(OpenStoreFault::Mount(refusal)),
+        Ok(certificate) => Ok((store_behind(driver), certificate)),
+        Err(refusal) => Err((store_behind(driver), OpenStoreFault::Mount(refusal))),
     }
 }
 
 /// Opens the disk of the die that a store holds: its pages are mounted, and a device with a cache of `capacity` entries is started. **Of a store that is honest
-/// the disk's bytes are those of the array that its pages hold, one sector behind another, and it is honest.** The store is asked for loads alone. The die syncs it as
+/// the disk's bytes are those of the array that its pages hold, one sector behind another, and it is honest.** The pages stay. The die syncs the store as
 /// `sync_when` says.
 ///
 /// # Errors
 ///
-/// `Mount` with what keeps the pages from being mounted, which is so of an honest store. `Device` where a load failed. `OutOfMemory` where a growth was
-/// refused. The store was asked for loads alone, and is let go. (This project's.)
+/// `Mount` with what keeps the pages from being mounted, which is so of an honest store. `Device` where a load failed before that, `Reset` where the die over the store
+/// took no reset. `OutOfMemory` where a growth was refused. The store comes back, its pages as they were but where a load failed. (This project's.)
 pub fn open_store<S: Store + Drop>(
     alloc: Global,
     store: S,
     capacity: u32,
     sync_when: SyncWhen,
-) -> Result<StoreDisk<S>, OpenStoreFault>
+) -> Result<StoreDisk<S>, (S, OpenStoreFault)>
     requires least { 1 ≤ capacity }
     requires most { capacity ≤ 65536 }
     ensures geometry { IfOk result (λ d. d.engine.geometry ≡ (S.held store).geometry) }
     ensures honest { IfOk result (λ d. holds (is_honest_in S.honest) d ≡ S.honest store) }
     ensures bytes { IfOk result (λ d. S.honest store ≡ true → (contents_of (flash_in S.held) (is_honest_in S.honest) d).bytes ≡ bytes_of (S.held store)) }
-    ensures fault { IfErr result (IsUnopened S.held S.honest store capacity) }
+    ensures pages { IfOk result (λ d. S.honest store ≡ true → flash_in S.held d.engine.nand ≡ flash_of (S.held store)) }
+    ensures fault { IfErr result (λ e. IsUnopened S.held S.honest S.failed store capacity e.0 e.1) }
+    ensures given { IfErr result (λ e. ComesBack S.held S.honest store e.1 e.0) }
 {
     let geometry = store.geometry();
     let driver = match driver_over(alloc, store, sync_when) {
@@ -112,11 +146,22 @@ pub fn open_store<S: Store + Drop>(
     };
     let disk = match open_mounted(alloc, driver, &geometry, capacity) {
         Ok(disk) => disk,
-        Err(OpenFault::Refused { refusal, .. }) => return Err(OpenStoreFault::Mount(refusal)),
-        Err(OpenFault::Start { .. }) => return Err(OpenStoreFault::OutOfMemory),
+        Err(fault) => return Err(unopened(fault)),
     };
     match SectorDisk::new(alloc, disk) {
         Ok(disk) => Ok(disk),
-        Err(_) => Err(OpenStoreFault::OutOfMemory),
+        Err(disk) => Err((
+            store_behind(disk.into_device().into_nand()),
+            OpenStoreFault::OutOfMemory,
+        )),
     }
+}
+
+/// The store of a disk, as the disk has left it. What its device had not flushed stands in its pages all the same: where the disk holds its array, the pages do. (This project's.)
+pub fn close_store<S: Store + Drop>(disk: StoreDisk<S>) -> S
+    ensures store { result ≡ disk.engine.nand.bus.store }
+    ensures honest { holds (is_honest_in S.honest) disk ≡ true → S.honest result ≡ true }
+    ensures bytes { holds (is_honest_in S.honest) disk ≡ true → bytes_of (S.held result) ≡ (contents_of (flash_in S.held) (is_honest_in S.honest) disk).bytes }
+{
+    store_behind(disk.into_sectors().into_device().into_nand())
 }

@@ -23,7 +23,8 @@ pub trait Syncs {
         ensures fault { IfErr result (λ e. e ≡ DiskFault.Failed) };
 }
 
-/// A disk, and a way to make last what it writes. Each flush and each durable change that is answered without an error ends with a sync. What a sync makes
+/// A disk, and a way to make last what it writes. Each flush and each durable change that is answered without an error ends with a sync, and one that is answered with an
+/// error with none that was done. What a sync makes
 /// last no contract of the disk can say: that it is of what the disk is kept in, is for whoever joins the two. (This project's.)
 #[derive(Drop)]
 pub struct SyncedDisk<D: Disk, Y: Syncs> {
@@ -49,7 +50,7 @@ impl<D: Disk, Y: Syncs> SyncedDisk<D, Y> {
 }
 
 impl<D: Disk, Y: Syncs> Disk for SyncedDisk<D, Y> {
-    ghost use Rattle.std.specs.Prelude.{◌≡◌, ◌≤◌, ◌+◌, true, false, [], length, OnOk};
+    ghost use Rattle.std.specs.Prelude.{◌≡◌, ◌≤◌, ◌+◌, true, false, [], length, OnErr, OnOk};
     ghost use Rattle.nbd_stream.specs.Disk.{Performs, answer_from};
     ghost use Rattle.page_layout.specs.Counter.{counted};
     ghost use Rattle.disk_server.specs.Synced.{HasSynced};
@@ -75,6 +76,7 @@ impl<D: Disk, Y: Syncs> Disk for SyncedDisk<D, Y> {
         requires { offset + length bytes.now ≤ length (D.contents self.old.disk).bytes }
         ensures performs { Performs (λ s. D.contents s.disk) (λ s. D.honest s.disk) (λ _. false) (Task.Write offset (length bytes.now) durable) bytes.now self.old (answer_from result []) self.new }
         ensures synced { OnOk result (HasSynced Y.synced durable self.old.syncs self.new.syncs) }
+        ensures unsynced { OnErr result (Y.synced self.new.syncs ≡ Y.synced self.old.syncs) }
     {
         self.disk.write(offset, bytes, durable)?;
         if durable {
@@ -87,6 +89,7 @@ impl<D: Disk, Y: Syncs> Disk for SyncedDisk<D, Y> {
         requires { offset + count ≤ length (D.contents self.old.disk).bytes }
         ensures performs { Performs (λ s. D.contents s.disk) (λ s. D.honest s.disk) (λ _. false) (Task.Trim offset count durable) [] self.old (answer_from result []) self.new }
         ensures synced { OnOk result (HasSynced Y.synced durable self.old.syncs self.new.syncs) }
+        ensures unsynced { OnErr result (Y.synced self.new.syncs ≡ Y.synced self.old.syncs) }
     {
         self.disk.clear(offset, count, durable)?;
         if durable {
@@ -98,6 +101,7 @@ impl<D: Disk, Y: Syncs> Disk for SyncedDisk<D, Y> {
     fn flush(&mut self) -> Result<(), DiskFault>
         ensures performs { Performs (λ s. D.contents s.disk) (λ s. D.honest s.disk) (λ _. false) Task.Flush [] self.old (answer_from result []) self.new }
         ensures synced { OnOk result (HasSynced Y.synced true self.old.syncs self.new.syncs) }
+        ensures unsynced { OnErr result (Y.synced self.new.syncs ≡ Y.synced self.old.syncs) }
     {
         self.disk.flush()?;
         self.syncs.sync()?;

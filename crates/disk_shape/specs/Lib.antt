@@ -1,3 +1,4 @@
 pub mod Sizes
 pub mod Shapes
+pub mod Words
 pub mod Text

@@ -7,14 +7,14 @@ use Rattle.serde_json.specs.Find.{as_number, as_object, as_str, as_u64, get}
 use Rattle.serde_json.specs.Read.{read}
 use Rattle.serde_json.specs.Written.{compact_text}
 use Rattle.page_layout.specs.declared.geometry.Geometry.{Geometry}
-use Rattle.page_layout.specs.Faults.{HasNumbers, IsFirstFault}
-use Rattle.command_words.specs.declared.numbers.GeometryNumbers.{GeometryNumbers}
-use Rattle.command_words.specs.Numbers.{SpellsGeometry}
 use Rattle.disk_shape.specs.declared.shapes.Shape.{Shape}
 use Rattle.disk_shape.specs.declared.text.Member as declared
 use Rattle.disk_shape.specs.declared.text.Member.TheVariants as name
 use Rattle.disk_shape.specs.declared.text.ShapeFault.{ShapeFault}
 use Rattle.disk_shape.specs.declared.text.ShapeFault.TheVariants as fault
+use Rattle.disk_shape.specs.declared.words.GeometryWordFault.{GeometryWordFault}
+use Rattle.disk_shape.specs.declared.words.GeometryWordFault.TheVariants as word
+use Rattle.disk_shape.specs.Words.{SaysGeometry, SaysNone}
 
 -- ---- what is written
 
@@ -55,16 +55,13 @@ text_at m d = option_and_then as_str (get (member_words m) d)
 abbrev pub size_of : Data → Option ℕ
 size_of d = option_map members_len (as_object d)
 
-abbrev pub IsGeometryOf : GeometryNumbers → Geometry → Type 0
-IsGeometryOf n g = HasNumbers n.data_bytes n.spare_bytes n.pages n.blocks n.sectors g
-
--- the word of the member `geometry` writes these numbers
-abbrev pub WritesNumbers : Data → GeometryNumbers → Type 0
-WritesNumbers d numbers = (word : List ℕ) × (text_at name.Geometry d ≡ Some word) × SpellsGeometry word numbers
-
--- that word says this geometry
+-- the word of the member `geometry` says this geometry
 abbrev pub IsGeometryTold : Data → Geometry → Type 0
-IsGeometryTold d g = (numbers : GeometryNumbers) × WritesNumbers d numbers × IsGeometryOf numbers g
+IsGeometryTold d g = (word : List ℕ) × (text_at name.Geometry d ≡ Some word) × SaysGeometry word g
+
+-- it says none, for this reason
+abbrev pub HasBadGeometry : Data → GeometryWordFault → Type 0
+HasBadGeometry d why = (word : List ℕ) × (text_at name.Geometry d ≡ Some word) × SaysNone word why
 
 abbrev pub IsWithin : ℕ → Type 0
 IsWithin cache = (1 ≤ cache) × (cache ≤ 65536)
@@ -102,8 +99,8 @@ TellsNone d (fault.Missing m) = LacksMember d m
 TellsNone d (fault.WrongType m) = HasOther d m
 TellsNone d fault.Unknown = (size : ℕ) × (size_of d ≡ Some size) × (size ≢ 3)
 TellsNone d fault.Version = (version : ℕ) × (number_at name.Version d ≡ Some version) × (version ≢ 1)
-TellsNone d fault.BadGeometry = (word : List ℕ) × (text_at name.Geometry d ≡ Some word) × ((numbers : GeometryNumbers) → ¬ SpellsGeometry word numbers)
-TellsNone d (fault.Geometry limit) = (n : GeometryNumbers) × WritesNumbers d n × IsFirstFault n.data_bytes n.spare_bytes n.pages n.blocks n.sectors limit
+TellsNone d fault.BadGeometry = HasBadGeometry d word.NoNumbers
+TellsNone d (fault.Geometry limit) = HasBadGeometry d (word.Limit limit)
 TellsNone d fault.CacheRange = (cache : ℕ) × (number_at name.Cache d ≡ Some cache) × (¬ IsWithin cache)
 TellsNone d fault.OutOfMemory = ⊥
 

@@ -5,7 +5,7 @@ ghost use Rattle.disk_shape.specs.declared.text.Member.{Member};
 ghost use Rattle.disk_shape.specs.Text.{IsGeometryTold, IsNoShape, IsShapeText, IsWithin, TellsNone, TellsShape, geometry_words, number_at, shape_data, shape_text, size_of, without_feed};
 
 use crate::shapes::Shape;
-use command_words::geometry_numbers;
+use crate::words::{GeometryWordFault, geometry_from};
 use page_layout::geometry::{Geometry, GeometryFault};
 use serde_json::{Value, json};
 use std::alloc::{AllocError, Global};
@@ -141,18 +141,10 @@ fn geometry_told(value: &Value) -> Result<Geometry, ShapeFault>
     let Some(word) = found.as_str() else {
         return Err(ShapeFault::WrongType(Member::Geometry));
     };
-    let Some(numbers) = geometry_numbers(word) else {
-        return Err(ShapeFault::BadGeometry);
-    };
-    match Geometry::new(
-        numbers.data_bytes,
-        numbers.spare_bytes,
-        numbers.pages,
-        numbers.blocks,
-        numbers.sectors,
-    ) {
+    match geometry_from(word) {
         Ok(geometry) => Ok(geometry),
-        Err(limit) => Err(ShapeFault::Geometry(limit)),
+        Err(GeometryWordFault::NoNumbers) => Err(ShapeFault::BadGeometry),
+        Err(GeometryWordFault::Limit(limit)) => Err(ShapeFault::Geometry(limit)),
     }
 }
 

@@ -1,6 +1,7 @@
 //! The command `create`: a new disk, of a size, of a geometry, or from a dump.
-use crate::fault::{Fault, unread, unwritten};
+use crate::fault::{unread, unwritten};
 use crate::files::{die_bytes, shape_name};
+use disk_commands::DiskFault;
 use disk_server::{CreateFault, OpenStoreFault, format_store, mount_store};
 use disk_shape::{Shape, write_shape};
 use file_die::{FileStore, Store};
@@ -19,10 +20,10 @@ fn is_free<R: Files>(rt: &R, path: &str) -> io::Result<bool> {
 }
 
 // Refuses a path at which something stands.
-fn want_free<'a, R: Files>(rt: &R, name: &str, path: &'a str) -> Result<(), Fault<'a>> {
+fn want_free<'a, R: Files>(rt: &R, name: &str, path: &'a str) -> Result<(), DiskFault<'a>> {
     match is_free(rt, name) {
         Ok(true) => Ok(()),
-        Ok(false) => Err(Fault::Exists(path)),
+        Ok(false) => Err(DiskFault::Exists(path)),
         Err(error) => Err(unread(path, error)),
     }
 }
@@ -32,16 +33,19 @@ fn new_part<'a, R: Files<File = File>>(
     rt: &R,
     name: &str,
     path: &'a str,
-) -> Result<File, Fault<'a>> {
+) -> Result<File, DiskFault<'a>> {
     let opened = OpenOptions::new()
         .read(true)
         .write(true)
         .create(true)
         .open(rt, name);
-    let file = opened.map_err(|error| unwritten(path, error))?;
+    let file = match opened {
+        Ok(file) => file,
+        Err(error) => return Err(unwritten(path, error)),
+    };
     match file.try_lock() {
         Ok(()) => {}
-        Err(TryLockError::WouldBlock) => return Err(Fault::InUse(path)),
+        Err(TryLockError::WouldBlock) => return Err(DiskFault::InUse(path)),
         Err(TryLockError::Error(error)) => return Err(unwritten(path, error)),
     }
     match file.set_len(0) {
@@ -69,42 +73,53 @@ fn put_new<'a, R: AllocGlobal>(
     file: File,
     shape: &Shape,
     path: &'a str,
-) -> Result<(), Fault<'a>> {
+) -> Result<(), DiskFault<'a>> {
     let Ok(mut store) = FileStore::new(rt.alloc(), shape.geometry, file) else {
-        return Err(Fault::OutOfMemory);
+        return Err(DiskFault::OutOfMemory);
     };
     if !erase_all(&mut store) {
-        return Err(Fault::Write(path));
+        return Err(DiskFault::Write(path));
     }
     match format_store(rt.alloc(), store) {
         Ok(_) => Ok(()),
-        Err(CreateFault::Open(OpenStoreFault::OutOfMemory)) => Err(Fault::OutOfMemory),
-        Err(fault) => Err(Fault::Create(path, fault)),
+        Err((_, CreateFault::Open(OpenStoreFault::OutOfMemory))) => Err(DiskFault::OutOfMemory),
+        Err((_, fault)) => Err(DiskFault::Create(path, fault)),
     }
 }
 
-// Copies a dump of just so many bytes.
-fn copy_dump<'a, R: Files<File = File>>(
+// A dump of just so many bytes, to be read from its first one.
+fn open_dump<'a, R: Files<File = File>>(
     rt: &R,
     dump: &'a str,
-    file: &File,
     wanted: u64,
-    path: &'a str,
-) -> Result<(), Fault<'a>> {
-    let mut from = fs::open(rt, dump).map_err(|error| unread(dump, error))?;
-    let found = from
-        .seek(SeekFrom::End(0))
-        .map_err(|error| unread(dump, error))?;
-    if found != wanted {
-        return Err(Fault::Length(dump, found, wanted));
+) -> Result<File, DiskFault<'a>> {
+    let mut from = match fs::open(rt, dump) {
+        Ok(from) => from,
+        Err(error) => return Err(unread(dump, error)),
+    };
+    let found = match length_of(&mut from) {
+        Ok(found) => found,
+        Err(error) => return Err(unread(dump, error)),
+    };
+    if found == wanted {
+        Ok(from)
+    } else {
+        Err(DiskFault::Length(dump, found, wanted))
     }
-    from.seek(SeekFrom::Start(0))
-        .map_err(|error| unread(dump, error))?;
+}
+
+// The bytes of a file, which is left at its first one.
+fn length_of(file: &mut File) -> io::Result<u64> {
+    let found = file.seek(SeekFrom::End(0))?;
+    file.seek(SeekFrom::Start(0))?;
+    Ok(found)
+}
+
+// Copies a file into another one, and has it stored.
+fn copy_file(from: &mut File, file: &File) -> io::Result<()> {
     let mut to = file;
-    match io::copy(&mut from, &mut to) {
-        Ok(_) => file.sync_all().map_err(|error| unwritten(path, error)),
-        Err(error) => Err(unwritten(path, error)),
-    }
+    io::copy(from, &mut to)?;
+    file.sync_all()
 }
 
 // A die in a file that has a dump's pages, if these are a device's. It may have been stopped: then a server makes room for what is stale.
@@ -114,22 +129,30 @@ fn put_dump<'a, R: Files<File = File> + AllocGlobal>(
     file: File,
     shape: &Shape,
     path: &'a str,
-) -> Result<(), Fault<'a>> {
-    copy_dump(rt, dump, &file, die_bytes(&shape.geometry), path)?;
+) -> Result<(), DiskFault<'a>> {
+    let mut from = open_dump(rt, dump, die_bytes(&shape.geometry))?;
+    if let Err(error) = copy_file(&mut from, &file) {
+        return Err(unwritten(path, error));
+    }
     let Ok(store) = FileStore::new(rt.alloc(), shape.geometry, file) else {
-        return Err(Fault::OutOfMemory);
+        return Err(DiskFault::OutOfMemory);
     };
     match mount_store(rt.alloc(), store, shape.cache.max(1).min(65_536)) {
-        Ok(_) | Err(OpenStoreFault::Mount(Refusal::TooStale { .. })) => Ok(()),
-        Err(fault) => Err(Fault::Open(dump, fault)),
+        Ok(_) | Err((_, OpenStoreFault::Mount(Refusal::TooStale { .. }))) => Ok(()),
+        Err((_, fault)) => Err(DiskFault::Open(dump, fault)),
     }
+}
+
+// Writes bytes, and has them stored.
+fn put_all(file: &mut File, bytes: &[u8]) -> io::Result<()> {
+    file.write_all(bytes)?;
+    file.sync_all()
 }
 
 // Has a file's bytes stored, under a name that no file has.
 fn put_bytes<R: Files<File = File>>(rt: &R, name: &str, bytes: &[u8]) -> io::Result<()> {
     let mut file = File::create_new(rt, name)?;
-    let written = file.write_all(bytes);
-    let done = written.and_then(|()| file.sync_all());
+    let done = put_all(&mut file, bytes);
     if done.is_err() {
         let _ = fs::remove_file(rt, name);
     }
@@ -142,20 +165,23 @@ fn publish<'a, R: Files<File = File> + AllocGlobal>(
     part: &str,
     shape: &Shape,
     path: &'a str,
-) -> Result<(), Fault<'a>> {
+) -> Result<(), DiskFault<'a>> {
     let beside = shape_name(rt, path)?;
     let Ok(text) = write_shape(rt.alloc(), shape) else {
-        return Err(Fault::OutOfMemory);
+        return Err(DiskFault::OutOfMemory);
     };
-    put_bytes(rt, beside.as_str(), text.as_bytes()).map_err(|error| unwritten(path, error))?;
-    fs::hard_link(rt, part, path).map_err(|error| {
-        let _ = fs::remove_file(rt, beside.as_str());
-        if error.kind() == ErrorKind::AlreadyExists {
-            Fault::Exists(path)
-        } else {
-            unwritten(path, error)
-        }
-    })
+    if let Err(error) = put_bytes(rt, beside.as_str(), text.as_bytes()) {
+        return Err(unwritten(path, error));
+    }
+    let Err(error) = fs::hard_link(rt, part, path) else {
+        return Ok(());
+    };
+    let _ = fs::remove_file(rt, beside.as_str());
+    if error.kind() == ErrorKind::AlreadyExists {
+        Err(DiskFault::Exists(path))
+    } else {
+        Err(unwritten(path, error))
+    }
 }
 
 /// Creates the disk at a path: its die is made beside it, and has its name when it is whole. With a dump the die has the dump's pages, and else it is formatted.
@@ -164,12 +190,12 @@ pub fn create_command<'a, R: Files<File = File> + AllocGlobal>(
     path: &'a str,
     shape: &Shape,
     dump: Option<&'a str>,
-) -> Result<(), Fault<'a>> {
+) -> Result<(), DiskFault<'a>> {
     want_free(rt, path, path)?;
     let beside = shape_name(rt, path)?;
     want_free(rt, beside.as_str(), path)?;
     let Ok(part) = format!(in rt.alloc(); "{path}.part") else {
-        return Err(Fault::OutOfMemory);
+        return Err(DiskFault::OutOfMemory);
     };
     let file = new_part(rt, part.as_str(), path)?;
     let made = match dump {

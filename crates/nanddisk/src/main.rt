@@ -1,17 +1,16 @@
 //! `nanddisk`: a NAND die in a file, as a disk that outlives a killed server, for the tools that speak NBD.
 #![tactic(auto)]
 
-mod asked;
 mod create;
 mod fault;
 mod files;
 mod info;
 mod serve;
+mod syncs;
 
-use asked::shape_of;
 use create::create_command;
+use disk_commands::{DiskFault, shape_of, tell};
 use disk_words::{CreateWords, DiskWords, MakeWords, ServeWords, WordsFault, parse};
-use fault::Fault;
 use file_die::SyncWhen;
 use info::info_command;
 use serve::{Terms, serve_command};
@@ -31,7 +30,7 @@ fn word_slices(alloc: Global, kept: &[String]) -> Result<Vec<&str>, AllocError> 
 fn create_disk<'a, R: Files<File = File> + AllocGlobal>(
     rt: &R,
     words: CreateWords<'a>,
-) -> Result<(), Fault<'a>> {
+) -> Result<(), DiskFault<'a>> {
     let shape = shape_of(words)?;
     let dump = match words.make {
         MakeWords::Dump { from, .. } => Some(from),
@@ -58,24 +57,18 @@ fn obey<'a, R: Files<File = File> + AllocGlobal, I: Read + Drop, O: Write>(
     words: &'a [&'a str],
     input: I,
     out: &mut O,
-) -> Result<(), Fault<'a>> {
+) -> Result<(), DiskFault<'a>> {
     match parse(rt.alloc(), words) {
         Ok(DiskWords::Create(words)) => create_disk(rt, words),
         Ok(DiskWords::Serve(words)) => serve_command(rt, words.disk, terms_of(words), input, out),
         Ok(DiskWords::Info(words)) => info_command(rt, words.disk, words.json, out),
         Ok(DiskWords::Text(text)) => match out.write_all(text.as_bytes()) {
             Ok(()) => Ok(()),
-            Err(_) => Err(Fault::Write("-")),
+            Err(_) => Err(DiskFault::Write("-")),
         },
-        Err(WordsFault::NoSuchCommand) => Err(Fault::NoSuchCommand),
-        Err(WordsFault::OutOfMemory) => Err(Fault::OutOfMemory),
+        Err(WordsFault::NoSuchCommand) => Err(DiskFault::NoSuchCommand),
+        Err(WordsFault::OutOfMemory) => Err(DiskFault::OutOfMemory),
     }
-}
-
-// Tells why a command was not done, and answers its exit status.
-fn tell<E: Write>(fault: &Fault<'_>, err: &mut E) -> u8 {
-    let _ = writeln!(err, "{fault}");
-    fault.status()
 }
 
 // Does what the words of the command line say, over the system's files.
@@ -88,16 +81,16 @@ fn run_over<S: Env + Files<File = File> + AllocGlobal, I: Read + Drop, O: Write,
     let found = match env::args(system) {
         Ok(found) => found,
         Err(error) if error.kind() == ErrorKind::OutOfMemory => {
-            return tell(&Fault::OutOfMemory, err);
+            return tell(&DiskFault::OutOfMemory, err);
         }
-        Err(_) => return tell(&Fault::NoSuchCommand, err),
+        Err(_) => return tell(&DiskFault::NoSuchCommand, err),
     };
     let kept: Result<Vec<String>, AllocError> = found.collect(system.alloc());
     let Ok(kept) = kept else {
-        return tell(&Fault::OutOfMemory, err);
+        return tell(&DiskFault::OutOfMemory, err);
     };
     let Ok(words) = word_slices(system.alloc(), &kept) else {
-        return tell(&Fault::OutOfMemory, err);
+        return tell(&DiskFault::OutOfMemory, err);
     };
     match obey(system, &words, input, out) {
         Ok(()) => 0,

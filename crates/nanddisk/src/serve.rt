@@ -1,11 +1,11 @@
 //! The command `serve`: a disk is served to one client over standard input and output.
-use crate::fault::{Fault, unread};
-use crate::files::{open_die, shape_at};
-use disk_server::{Offer, OpenStoreFault, StoreDisk, SyncedDisk, Syncs, open_store, serve_synced};
-use disk_shape::Shape;
-use file_die::{FileStore, SyncWhen};
-use image_check::Refusal;
-use nbd_stream::{Disk, DiskFault, End};
+use crate::fault::unread;
+use crate::files::{open_store_at, shape_at};
+use crate::syncs::FileSyncs;
+use disk_commands::DiskFault;
+use disk_server::{Offer, SyncedDisk, open_stopped, serve_synced};
+use file_die::SyncWhen;
+use nbd_stream::{Disk, End};
 use page_layout::geometry::Geometry;
 use request_stream::ServeFault;
 use sector_disk::{SectorDisk, Sectors};
@@ -20,27 +20,6 @@ const MOST: u32 = 1_048_576;
 // The most entries of a cache.
 const MOST_ENTRIES: u32 = 65_536;
 
-/// A second handle of the die's file.
-#[derive(Drop)]
-struct FileSyncs {
-    file: File,
-    done: u64,
-}
-
-impl Syncs for FileSyncs {
-    ghost synced = { λ s. s.done };
-
-    fn sync(&mut self) -> Result<(), DiskFault> {
-        match self.file.sync_data() {
-            Ok(()) => {
-                self.done = self.done.saturating_add(1);
-                Ok(())
-            }
-            Err(_) => Err(DiskFault::Failed),
-        }
-    }
-}
-
 /// How a disk is served.
 #[derive(Clone, Copy)]
 pub struct Terms {
@@ -48,50 +27,6 @@ pub struct Terms {
     pub read_only: bool,
     /// When the die syncs its file.
     pub sync_when: SyncWhen,
-}
-
-// A disk over a handle of the die's file, with a cache of so many entries.
-fn open_with<R: AllocGlobal>(
-    rt: &R,
-    file: &File,
-    geometry: Geometry,
-    capacity: u32,
-    sync_when: SyncWhen,
-) -> Result<StoreDisk<FileStore>, OpenStoreFault> {
-    let Ok(own) = file.try_clone() else {
-        return Err(OpenStoreFault::Device);
-    };
-    let Ok(store) = FileStore::new(rt.alloc(), geometry, own) else {
-        return Err(OpenStoreFault::OutOfMemory);
-    };
-    open_store(
-        rt.alloc(),
-        store,
-        capacity.max(1).min(MOST_ENTRIES),
-        sync_when,
-    )
-}
-
-// A disk over a handle of the die's file. One that was stopped may have more stale sectors than its cache has room for: it is opened with as many
-// entries as it wants, flushed where it may be written, and opened again.
-fn open_stopped<R: AllocGlobal>(
-    rt: &R,
-    file: &File,
-    shape: &Shape,
-    terms: Terms,
-) -> Result<StoreDisk<FileStore>, OpenStoreFault> {
-    let (geometry, cache) = (shape.geometry, shape.cache);
-    let stale = match open_with(rt, file, geometry, cache, terms.sync_when) {
-        Err(OpenStoreFault::Mount(Refusal::TooStale { stale, .. })) if stale <= MOST_ENTRIES => {
-            stale
-        }
-        answer => return answer,
-    };
-    let mut disk = open_with(rt, file, geometry, stale, terms.sync_when)?;
-    if terms.read_only || disk.flush().is_err() {
-        return Ok(disk);
-    }
-    open_with(rt, file, geometry, cache, terms.sync_when)
 }
 
 // What a client is told of a disk, beside its bytes.
@@ -109,11 +44,11 @@ fn offer_of(geometry: &Geometry, read_only: bool) -> Offer {
 }
 
 // Why a server ended before its client went.
-fn end_of<'a>(served: Result<End, ServeFault>) -> Result<(), Fault<'a>> {
+fn end_of<'a>(served: Result<End, ServeFault>) -> Result<(), DiskFault<'a>> {
     match served {
         Ok(End::Boundary | End::Disconnected | End::Unfinished) => Ok(()),
-        Ok(End::BadFrame) => Err(Fault::BadFrame),
-        Err(_) => Err(Fault::Stream),
+        Ok(End::BadFrame) => Err(DiskFault::BadFrame),
+        Err(_) => Err(DiskFault::Stream),
     }
 }
 
@@ -125,13 +60,13 @@ fn serve_client<'a, S: Sectors, I: Read, O: Write>(
     path: &'a str,
     input: &mut I,
     out: &mut O,
-) -> Result<(), Fault<'a>> {
+) -> Result<(), DiskFault<'a>> {
     let Ok(mut buffer) = vec![in alloc; 0u8; offer.maximum as usize] else {
-        return Err(Fault::OutOfMemory);
+        return Err(DiskFault::OutOfMemory);
     };
     let served = serve_synced(disk, offer, &mut buffer, input, out);
     if !offer.read_only && disk.flush().is_err() {
-        return Err(Fault::Device(path));
+        return Err(DiskFault::Device(path));
     }
     end_of(served)
 }
@@ -143,12 +78,24 @@ pub fn serve_command<'a, R: Files<File = File> + AllocGlobal, I: Read + Drop, O:
     terms: Terms,
     input: I,
     out: &mut O,
-) -> Result<(), Fault<'a>> {
+) -> Result<(), DiskFault<'a>> {
     let shape = shape_at(rt, path)?;
-    let file = open_die(rt, path, &shape.geometry, !terms.read_only)?;
-    let disk = open_stopped(rt, &file, &shape, terms).map_err(|why| Fault::Open(path, why))?;
+    let (store, file) = open_store_at(rt, path, &shape.geometry, !terms.read_only)?;
+    let opened = open_stopped(
+        rt.alloc(),
+        store,
+        shape.cache.max(1).min(MOST_ENTRIES),
+        terms.sync_when,
+        !terms.read_only,
+    );
+    let disk = match opened {
+        Ok(disk) => disk,
+        Err(why) => return Err(DiskFault::Open(path, why)),
+    };
     let offer = offer_of(&shape.geometry, terms.read_only);
-    let mut disk = SyncedDisk::new(disk, FileSyncs { file, done: 0 });
-    let mut reader = BufReader::new(rt.alloc(), input).map_err(|error| unread(path, error))?;
-    serve_client(rt.alloc(), &mut disk, offer, path, &mut reader, out)
+    let mut disk = SyncedDisk::new(disk, FileSyncs::new(file));
+    match BufReader::new(rt.alloc(), input) {
+        Ok(mut reader) => serve_client(rt.alloc(), &mut disk, offer, path, &mut reader, out),
+        Err(error) => Err(unread(path, error)),
+    }
 }

@@ -1,27 +1,37 @@
-use Rattle.std.proofs.Common.{◌≡◌, refl, sym, ap, ◌∙◌, subst}
-use Rattle.page_layout.specs.declared.geometry.Geometry.{Geometry}
-use Rattle.page_layout.specs.Flash.{Flash}
-use Rattle.file_die.specs.Store.{Held}
-use Rattle.mount.specs.Formatted.{IsFormatted}
-use Rattle.disk_server.specs.Opened.{flash_in}
+use Rattle.std.proofs.Common.{◌≡◌, Err, Ok, refl, sym, ap, ◌∙◌, subst}
+use Rattle.disk_server.proofs.MadeLemmas.{formatted_from}
 use Rattle.disk_server.proofs.format.format_store.Goals as goal
 
-pub returns-in-Ok-sync : goal.returns-in-Ok-sync
-returns-in-Ok-sync g c = λ honest.
+pub returns-in-Err-formatted-clause-unmade : goal.returns-in-Err-formatted-clause-unmade
+returns-in-Err-formatted-clause-unmade g c = λ honest.
     let held = g.S.Store.held in
-    let before = flash_in held c.in-Ok.driver in
-    let after = flash_in held c.format.new.nand in
     let begun = c.in-Ok.ensures.honest ∙ honest in
-    let kept = c.format.ensures.honest ∙ begun in
-    let done : IsFormatted c.geometry-geometry.result before after c.in-Ok-format.good = c.in-Ok-format.ensures.formats begun in
-    let pages = ap (λ (s : Flash). s.image) (c.into_bus-die.ensures.flash kept) in
-    let synced = c.in-Ok-sync.ensures.syncs (ap (λ d. g.S.Store.honest d.store) c.into_bus-die.ensures.bus ∙ kept) in
-    let store = ap held c.into_store.ensures in
+    let pages = ap (λ d. (held d.store).pages) (sym c.into_bus-die.ensures.bus) ∙ ap (λ s. (held s).pages) (sym c.into_store.ensures) in
+    formatted_from held (held c.args.store) (held c.into_store.result) c.geometry-geometry.result c.in-Ok.driver c.format-formatted.new.nand (Err c.in-Err-formatted.fault)
+    c.geometry-geometry.ensures.geometry (c.in-Ok.ensures.flash honest) (c.in-Err-formatted.ensures.formats begun) pages
+
+pub returns-in-Ok-sync-clause-made : goal.returns-in-Ok-sync-clause-made
+returns-in-Ok-sync-clause-made g c = λ honest.
+    let held = g.S.Store.held in
+    let begun = c.in-Ok.ensures.honest ∙ honest in
+    let kept = ap (λ d. g.S.Store.honest d.store) c.into_bus-die.ensures.bus ∙ c.in-Ok-formatted.ensures.honest ∙ begun in
+    let synced = c.in-Ok-sync.ensures.syncs kept in
+    let store = sym c.into_store-in-Ok-sync.ensures in
+    let pages = ap (λ d. (held d.store).pages) (sym c.into_bus-die.ensures.bus) ∙ sym synced.same ∙ ap (λ s. (held s).pages) store in
     record {
-      old = before;
-      new = after;
-      from = c.in-Ok.ensures.pages honest;
-      to = sym pages ∙ sym synced.same ∙ sym (ap (λ (h : Held). h.pages) store);
-      formatted = subst (λ (g : Geometry). IsFormatted g before after c.in-Ok-format.good) c.geometry-geometry.ensures.geometry done;
-      lasts = subst (λ (h : Held). h.durable ≡ h.pages) (sym store) (synced.synced refl ∙ sym synced.same);
+      formatted = formatted_from held (held c.args.store) (held c.into_store-in-Ok-sync.result) c.geometry-geometry.result c.in-Ok.driver c.format-formatted.new.nand (Ok c.in-Ok-formatted.good)
+          c.geometry-geometry.ensures.geometry (c.in-Ok.ensures.flash honest) (c.in-Ok-formatted.ensures.formats begun) pages;
+      lasts = subst (λ s. (held s).durable ≡ (held s).pages) store (synced.synced refl ∙ sym synced.same);
     }
+
+pub returns-in-Err-sync-clause-unmade : goal.returns-in-Err-sync-clause-unmade
+returns-in-Err-sync-clause-unmade g c = λ honest.
+    let held = g.S.Store.held in
+    let begun = c.in-Ok.ensures.honest ∙ honest in
+    let kept = ap (λ d. g.S.Store.honest d.store) c.into_bus-die.ensures.bus ∙ c.in-Ok-formatted.ensures.honest ∙ begun in
+    let synced = c.in-Err-sync.ensures.syncs kept in
+    let pages = ap (λ d. (held d.store).pages) (sym c.into_bus-die.ensures.bus) ∙ sym synced.same ∙ ap (λ s. (held s).pages) (sym c.into_store-in-Err-sync.ensures) in (
+      c.in-Ok-formatted.good,
+      formatted_from held (held c.args.store) (held c.into_store-in-Err-sync.result) c.geometry-geometry.result c.in-Ok.driver c.format-formatted.new.nand (Ok c.in-Ok-formatted.good)
+          c.geometry-geometry.ensures.geometry (c.in-Ok.ensures.flash honest) (c.in-Ok-formatted.ensures.formats begun) pages,
+    )

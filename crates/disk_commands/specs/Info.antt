@@ -1,0 +1,63 @@
+-- What is told of a disk.
+use Rattle.std.specs.Prelude.{ℕ, ◌+◌, ◌-◌, ◌*◌, ◌^◌, ◌==◌, min, max, List, ◌++◌, codes, decimal, count_by, if◌then◌else◌, nat_le}
+use Rattle.std.specs.List.{fold}
+use Rattle.page_layout.specs.declared.geometry.Geometry.{Geometry}
+use Rattle.certificate.specs.declared.block_state.BlockState.{BlockState}
+use Rattle.certificate.specs.Claim.{Claim, is_good}
+use Rattle.disk_shape.specs.declared.shapes.Shape.{Shape}
+use Rattle.disk_shape.specs.Text.{geometry_words}
+use Rattle.disk_commands.specs.declared.printed.Info.{Info}
+use Rattle.disk_commands.specs.declared.printed.Form.{Form}
+use Rattle.disk_commands.specs.declared.printed.Form.TheVariants.{Text, Json}
+
+-- ---- the blocks
+
+abbrev pub free_count : List BlockState → ℕ
+free_count states = count_by (λ s. s.class == 0) states
+
+abbrev pub bad_count : List BlockState → ℕ
+bad_count states = count_by (λ s. nat_le 4 s.class) states
+
+-- of the good blocks the most erases, the fewest, and all together, which stay at 2 ^ 64 - 1 once there
+abbrev pub most_wear : List BlockState → ℕ
+most_wear states = fold (λ most s. if is_good s then max s.wear most else most) 0 states
+
+abbrev pub least_wear : List BlockState → ℕ
+least_wear states = fold (λ least s. if is_good s then min s.wear least else least) (most_wear states) states
+
+abbrev pub erase_sum : List BlockState → ℕ
+erase_sum states = fold (λ sum s. if is_good s then min (sum + s.wear) (2 ^ 64 - 1) else sum) 0 states
+
+abbrev pub info_of : Shape → Claim → Info
+info_of s c = record {
+  shape = s;
+  free = free_count c.blocks;
+  bad = bad_count c.blocks;
+  least = least_wear c.blocks;
+  most = most_wear c.blocks;
+  erases = erase_sum c.blocks;
+  next = c.next;
+}
+
+-- ---- the text
+
+abbrev pub size_of : Geometry → ℕ
+size_of g = g.sectors * g.data_bytes
+
+abbrev pub lines_of : Info → List ℕ
+lines_of i =
+    codes "size " ++ (decimal (size_of i.shape.geometry) ++ (codes "\ngeometry " ++ (geometry_words i.shape.geometry ++ (codes "\ncache " ++ (decimal i.shape.cache
+    ++ (codes "\nfree " ++ (decimal i.free ++ (codes " bad " ++ (decimal i.bad ++ (codes "\nwear least " ++ (decimal i.least ++ (codes " most " ++ (decimal i.most
+    ++ (codes " erases " ++ (decimal i.erases ++ (codes "\nnext " ++ (decimal i.next ++ codes "\n")))))))))))))))))
+
+abbrev pub wear_of : Info → List ℕ
+wear_of i = codes "{\"least\":" ++ (decimal i.least ++ (codes ",\"most\":" ++ (decimal i.most ++ (codes ",\"erases\":" ++ (decimal i.erases ++ codes "}")))))
+
+abbrev pub object_of : Info → List ℕ
+object_of i =
+    codes "{\"size\":" ++ (decimal (size_of i.shape.geometry) ++ (codes ",\"geometry\":\"" ++ (geometry_words i.shape.geometry ++ (codes "\",\"cache\":" ++ (decimal i.shape.cache
+    ++ (codes ",\"free\":" ++ (decimal i.free ++ (codes ",\"bad\":" ++ (decimal i.bad ++ (codes ",\"wear\":" ++ (wear_of i ++ (codes ",\"next\":" ++ (decimal i.next ++ codes "}\n")))))))))))))
+
+abbrev pub info_text : Form → Info → List ℕ
+info_text Text i = lines_of i
+info_text Json i = object_of i

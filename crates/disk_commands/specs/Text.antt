@@ -1,0 +1,108 @@
+-- What the program says of a command that ended before it was done.
+use Rattle.std.specs.Prelude.{◌≡◌, ◌⊎◌, ℕ, List, [], ◌∷◌, ◌++◌, codes, Option}
+use Rattle.std.specs.Io.KnownBytes.{Appends}
+use Rattle.std.specs.Fmt.{decimal}
+use Rattle.page_layout.specs.declared.geometry.GeometryFault.{GeometryFault}
+use Rattle.page_layout.specs.declared.geometry.GeometryFault.TheVariants as limit
+use Rattle.image_check.specs.Names.{name_of}
+use Rattle.mount.specs.declared.format_fault.FormatFault.{FormatFault}
+use Rattle.mount.specs.declared.format_fault.FormatFault.TheVariants as format
+use Rattle.disk_shape.specs.declared.shapes.SizeFault.{SizeFault}
+use Rattle.disk_shape.specs.declared.shapes.SizeFault.TheVariants as size
+use Rattle.disk_shape.specs.declared.text.ShapeFault.{ShapeFault}
+use Rattle.disk_shape.specs.declared.text.ShapeFault.TheVariants as shape
+use Rattle.disk_shape.specs.Text.{member_words}
+use Rattle.disk_server.specs.declared.opened.OpenStoreFault.{OpenStoreFault}
+use Rattle.disk_server.specs.declared.opened.OpenStoreFault.TheVariants as open_store
+use Rattle.disk_server.specs.declared.format.CreateFault.{CreateFault}
+use Rattle.disk_server.specs.declared.format.CreateFault.TheVariants as create
+use Rattle.disk_commands.specs.declared.text.DiskFault.{DiskFault}
+use Rattle.disk_commands.specs.declared.text.DiskFault.TheVariants as fault
+
+-- ---- why
+
+abbrev pub limit_words : GeometryFault → List ℕ
+limit_words limit.DataSize = codes "DataSize"
+limit_words limit.SpareSize = codes "SpareSize"
+limit_words limit.PagesPerBlock = codes "PagesPerBlock"
+limit_words limit.Blocks = codes "Blocks"
+limit_words limit.Sectors = codes "Sectors"
+
+abbrev pub size_words : SizeFault → List ℕ
+size_words size.Zero = codes "a disk has at least one byte"
+size_words size.TooLarge = codes "a disk has at most 509349888 bytes"
+
+abbrev pub format_words : FormatFault → List ℕ
+format_words (format.TooFewGood good need) = codes "TooFewGood good " ++ (decimal good ++ (codes " need " ++ decimal need))
+format_words format.Bus = codes "Bus"
+format_words format.OutOfMemory = codes "OutOfMemory"
+format_words format.WriteFailed = codes "WriteFailed"
+format_words (format.NotFresh row) = codes "NotFresh row " ++ decimal row
+
+abbrev pub open_words : OpenStoreFault → List ℕ
+open_words open_store.OutOfMemory = codes "OutOfMemory"
+open_words open_store.Device = codes "Device"
+open_words open_store.Reset = codes "Reset"
+open_words (open_store.Mount refusal) = codes "Mount " ++ name_of refusal
+
+abbrev pub create_words : CreateFault → List ℕ
+create_words (create.Open why) = open_words why
+create_words (create.Format why) = codes "Format " ++ format_words why
+create_words create.Sync = codes "Sync"
+
+abbrev pub shape_words : ShapeFault → List ℕ
+shape_words shape.NotJson = codes "not JSON"
+shape_words shape.NotObject = codes "no object"
+shape_words (shape.Missing member) = codes "no member " ++ member_words member
+shape_words (shape.WrongType member) = codes "member " ++ (member_words member ++ codes " of another type")
+shape_words shape.Unknown = codes "a member with another name"
+shape_words shape.Version = codes "another version"
+shape_words shape.BadGeometry = codes "the geometry is no five numbers"
+shape_words (shape.Geometry broken) = codes "the geometry breaks a limit: " ++ limit_words broken
+shape_words shape.CacheRange = codes "the cache has not from 1 to 65536 entries"
+shape_words shape.OutOfMemory = codes "out of memory"
+
+-- ---- the line, without its line feed
+
+unfoldable pub line_of : DiskFault → List ℕ
+line_of fault.NoSuchCommand = codes "usage: no such command"
+line_of (fault.BadSize word) = codes "usage: bad size " ++ word.now
+line_of (fault.BadNumber word) = codes "usage: bad number " ++ word.now
+line_of (fault.Size why) = codes "refused size: " ++ size_words why
+line_of (fault.Geometry why) = codes "refused geometry " ++ limit_words why
+line_of (fault.Exists path) = codes "refused: " ++ (path.now ++ codes " exists")
+line_of (fault.InUse path) = codes "refused: " ++ (path.now ++ codes " is in use")
+line_of (fault.Shape path why) = codes "refused: " ++ (path.now ++ (codes ".json: " ++ shape_words why))
+line_of (fault.Length path found wanted) = codes "refused: " ++ (path.now ++ (codes " has " ++ (decimal found ++ (codes " bytes, and its shape " ++ decimal wanted))))
+line_of (fault.Open path why) = codes "refused: " ++ (path.now ++ (codes " is no disk: " ++ open_words why))
+line_of (fault.Create path why) = codes "refused: " ++ (path.now ++ (codes " was not formatted: " ++ create_words why))
+line_of fault.OutOfMemory = codes "refused: no memory"
+line_of (fault.Read path) = codes "fault read " ++ path.now
+line_of (fault.Write path) = codes "fault write " ++ path.now
+line_of fault.BadFrame = codes "fault serve: the client's bytes are no requests"
+line_of fault.Stream = codes "fault serve: standard input or output failed"
+line_of (fault.Device path) = codes "fault serve: " ++ (path.now ++ codes " failed")
+
+-- the exit status: 1 refused, 2 usage, 3 input or output
+abbrev pub status_of : DiskFault → ℕ
+status_of fault.NoSuchCommand = 2
+status_of (fault.BadSize word) = 2
+status_of (fault.BadNumber word) = 2
+status_of (fault.Size why) = 1
+status_of (fault.Geometry why) = 1
+status_of (fault.Exists path) = 1
+status_of (fault.InUse path) = 1
+status_of (fault.Shape path why) = 1
+status_of (fault.Length path found wanted) = 1
+status_of (fault.Open path why) = 1
+status_of (fault.Create path why) = 1
+status_of fault.OutOfMemory = 1
+status_of (fault.Read path) = 3
+status_of (fault.Write path) = 3
+status_of fault.BadFrame = 3
+status_of fault.Stream = 3
+status_of (fault.Device path) = 3
+
+-- The fault's line was written, and the status is the fault's. Or it could not be written, and the status is 3.
+abbrev pub IsTold : DiskFault → Option (List ℕ) → Option (List ℕ) → ℕ → Type 0
+IsTold fault before after status = ((status ≡ status_of fault) × Appends before after (line_of fault ++ (10 ∷ []))) ⊎ (status ≡ 3)

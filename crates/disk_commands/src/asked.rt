@@ -1,0 +1,87 @@
+//! The shape that the words of `create` ask for.
+ghost use Rattle.std.specs.Prelude.{◌≡◌, IfOk, IfErr, Some};
+ghost use Rattle.disk_shape.specs.Text.{IsWithin};
+ghost use Rattle.disk_shape.specs.Words.{SaysGeometry};
+ghost use Rattle.disk_commands.specs.Asked.{IsCacheAsked, IsCacheAt, IsGeometryAsked, IsGeometryFor, IsNoCacheAsked, IsNoGeometryAsked, IsNoGeometryAt, IsNoGeometryFor, IsNoShapeAsked, IsShapeAsked};
+
+use crate::text::DiskFault;
+use command_words::number;
+use disk_shape::{GeometryWordFault, Shape, cache_for, geometry_from, shape_for, size_from};
+use disk_words::{CreateWords, MakeWords};
+use page_layout::geometry::Geometry;
+
+// The most entries of a cache.
+const MOST_ENTRIES: u32 = 65_536;
+
+// The geometry of a word.
+fn geometry_at<'a>(word: &'a str) -> Result<Geometry, DiskFault<'a>>
+    ensures ok { IfOk result (SaysGeometry word.now) }
+    ensures fault { IfErr result (IsNoGeometryAt word.now) }
+{
+    match geometry_from(word) {
+        Ok(geometry) => Ok(geometry),
+        Err(GeometryWordFault::NoNumbers) => Err(DiskFault::BadNumber(word)),
+        Err(GeometryWordFault::Limit(limit)) => Err(DiskFault::Geometry(limit)),
+    }
+}
+
+// The geometry for the size of a word.
+fn geometry_for<'a>(word: &'a str) -> Result<Geometry, DiskFault<'a>>
+    ensures ok { IfOk result (IsGeometryFor word.now) }
+    ensures fault { IfErr result (IsNoGeometryFor word.now) }
+{
+    let Some(bytes) = size_from(word) else {
+        return Err(DiskFault::BadSize(word));
+    };
+    match shape_for(bytes) {
+        Ok(shape) => Ok(shape.geometry),
+        Err(fault) => Err(DiskFault::Size(fault)),
+    }
+}
+
+// The geometry that is asked for.
+fn geometry_asked<'a>(make: MakeWords<'a>) -> Result<Geometry, DiskFault<'a>>
+    ensures ok { IfOk result (IsGeometryAsked make.entry) }
+    ensures fault { IfErr result (IsNoGeometryAsked make.entry) }
+{
+    match make {
+        MakeWords::Size(word) => geometry_for(word),
+        MakeWords::Geometry(word) | MakeWords::Dump { geometry: word, .. } => geometry_at(word),
+    }
+}
+
+// The entries of the cache that are asked for, or those for the geometry.
+fn cache_asked<'a>(word: Option<&'a str>, geometry: &Geometry) -> Result<u32, DiskFault<'a>>
+    ensures ok { IfOk result (IsCacheAsked word.entry geometry.now) }
+    ensures within { IfOk result IsWithin }
+    ensures fault { IfErr result (IsNoCacheAsked word.entry) }
+{
+    let Some(word) = word else {
+        return Ok(cache_for(geometry));
+    };
+    match number(word) {
+        Some(cache) if cache >= 1 && cache <= MOST_ENTRIES => Ok(cache),
+        _ => Err(DiskFault::BadNumber(word)),
+    }
+}
+
+/// The shape that the words of `create` ask for: the geometry that is named or the one for the size, and the cache that is named or the one for the geometry.
+///
+/// # Errors
+///
+/// The first of this order: `BadSize`, or `Size` where no die is of the size; `BadNumber` where the geometry is not five numbers, or `Geometry` with the first
+/// limit that they break; `BadNumber` where the cache is no number from 1 to 65,536. (This project's.)
+pub fn shape_of<'a>(words: CreateWords<'a>) -> Result<Shape, DiskFault<'a>>
+    ensures ok { IfOk result (IsShapeAsked words.entry) }
+    ensures within { IfOk result (λ shape. IsWithin shape.cache) }
+    ensures fault { IfErr result (IsNoShapeAsked words.entry) }
+{
+    let geometry = match geometry_asked(words.make) {
+        Ok(geometry) => geometry,
+        Err(fault) => return Err(fault),
+    };
+    match cache_asked(words.cache, &geometry) {
+        Ok(cache) => Ok(Shape { geometry, cache }),
+        Err(fault) => Err(fault),
+    }
+}

@@ -1,0 +1,235 @@
+//! What is told of a disk.
+ghost use Rattle.std.specs.Prelude.{◌≡◌, ◌≤◌, length, IfOk, OnOk};
+ghost use Rattle.std.specs.Io.KnownBytes.{Appends};
+ghost use Rattle.disk_commands.specs.Info.{bad_count, erase_sum, free_count, info_of, info_text, least_wear, most_wear};
+
+use certificate::{BlockState, Certificate};
+use disk_shape::Shape;
+use page_layout::geometry::Geometry;
+use std::alloc::{AllocError, Global};
+use std::fmt;
+use std::io::{self, Write};
+
+// The least class of a bad block.
+const LEAST_BAD: u8 = 4;
+
+/// The form of what is told.
+#[derive(Clone, Copy, Debug, PartialEq, Eq)]
+pub enum Form {
+    /// Plain text, a line each.
+    Text,
+    /// One JSON object.
+    Json,
+}
+
+/// What is told of a disk. (This project's.)
+#[derive(Clone, Copy, Debug, PartialEq, Eq)]
+pub struct Info {
+    /// Its geometry and the entries of its cache.
+    pub shape: Shape,
+    /// The free blocks, those of class 0.
+    pub free: u32,
+    /// The bad blocks.
+    pub bad: u32,
+    /// The fewest erases of a good block, and the most.
+    pub least: u32,
+    pub most: u32,
+    /// The erases of all good blocks together.
+    pub erases: u64,
+    /// The sequence that the next program takes.
+    pub next: u64,
+}
+
+// The states of all blocks.
+fn states_of(alloc: Global, certificate: &Certificate) -> Result<Vec<BlockState>, AllocError>
+    ensures all { IfOk result (λ states. states.items ≡ certificate.now.blocks) }
+    ensures few { IfOk result (λ states. length states.items ≤ 4096) }
+{
+    let blocks = certificate.geometry().blocks();
+    let mut states = Vec::with_capacity(alloc, blocks as usize)?;
+    for block in 0..blocks {
+        states.push(certificate.block(block))?;
+    }
+    Ok(states)
+}
+
+// The free blocks.
+fn free(states: &[BlockState]) -> u32
+    requires { length states.now ≤ 4096 }
+    ensures { result ≡ free_count states.now }
+{
+    states.iter().filter(|state| state.class == 0).count() as u32
+}
+
+// The bad blocks.
+fn bad(states: &[BlockState]) -> u32
+    requires { length states.now ≤ 4096 }
+    ensures { result ≡ bad_count states.now }
+{
+    states
+        .iter()
+        .filter(|state| state.class >= LEAST_BAD)
+        .count() as u32
+}
+
+// The most erases of a good block.
+fn most(states: &[BlockState]) -> u32
+    ensures { result ≡ most_wear states.now }
+{
+    states.iter().fold(0, |most, state| {
+        if state.class < LEAST_BAD {
+            state.wear.max(most)
+        } else {
+            most
+        }
+    })
+}
+
+// The fewest.
+fn least(states: &[BlockState]) -> u32
+    ensures { result ≡ least_wear states.now }
+{
+    states.iter().fold(most(states), |least, state| {
+        if state.class < LEAST_BAD {
+            state.wear.min(least)
+        } else {
+            least
+        }
+    })
+}
+
+// All together.
+fn erases(states: &[BlockState]) -> u64
+    ensures { result ≡ erase_sum states.now }
+{
+    states.iter().fold(0u64, |sum, state| {
+        if state.class < LEAST_BAD {
+            sum.saturating_add(u64::from(state.wear))
+        } else {
+            sum
+        }
+    })
+}
+
+impl Info {
+    /// What a certificate and the shape of its disk tell.
+    ///
+    /// # Errors
+    ///
+    /// Where a growth was refused.
+    pub fn new(alloc: Global, shape: &Shape, certificate: &Certificate) -> Result<Info, AllocError>
+        ensures { IfOk result (λ info. info ≡ info_of shape.now certificate.now) }
+    {
+        let states = states_of(alloc, certificate)?;
+        Ok(Info {
+            shape: *shape,
+            free: free(&states),
+            bad: bad(&states),
+            least: least(&states),
+            most: most(&states),
+            erases: erases(&states),
+            next: certificate.next_sequence(),
+        })
+    }
+
+    /// Prints it.
+    ///
+    /// # Errors
+    ///
+    /// Where a write failed: a beginning of the text may stand there.
+    pub fn print<W: Write>(&self, form: Form, out: &mut W) -> io::Result<()>
+        ensures { OnOk result (Appends (W.contents out.old) (W.contents out.new) (info_text form self.now)) }
+    {
+        match form {
+            Form::Text => write!(out, "{}", Lines(self)),
+            Form::Json => write!(out, "{}", Object(self)),
+        }
+    }
+}
+
+// A geometry, as the words of a command write it.
+#[derive(Clone, Copy)]
+struct GeometryText<'a>(&'a Geometry);
+
+impl fmt::Display for GeometryText<'_> {
+    ghost use Rattle.std.specs.Prelude.{Some};
+    ghost use Rattle.disk_shape.specs.Text.{geometry_words};
+
+    ghost output = { λ text. Some (geometry_words text.0.now) };
+
+    fn fmt<W: fmt::Write>(&self, f: &mut fmt::Formatter<W>) -> fmt::Result {
+        let g = self.0;
+        let (data, spare, pages) = (g.data_bytes(), g.spare_bytes(), g.pages());
+        let (blocks, sectors) = (g.blocks(), g.sectors());
+        write!(f, "{data},{spare},{pages},{blocks},{sectors}")
+    }
+}
+
+// The bytes of a disk.
+fn size_of(geometry: &Geometry) -> u64
+    ensures { result ≡ Rattle.disk_commands.specs.Info.size_of geometry.now }
+{
+    u64::from(geometry.sectors()) * geometry.data_bytes() as u64
+}
+
+// What is told, as lines.
+#[derive(Clone, Copy)]
+struct Lines<'a>(&'a Info);
+
+impl fmt::Display for Lines<'_> {
+    ghost use Rattle.std.specs.Prelude.{Some};
+    ghost use Rattle.disk_commands.specs.Info.{lines_of};
+
+    ghost output = { λ text. Some (lines_of text.0.now) };
+
+    fn fmt<W: fmt::Write>(&self, f: &mut fmt::Formatter<W>) -> fmt::Result {
+        let i = self.0;
+        let (size, geometry) = (size_of(&i.shape.geometry), GeometryText(&i.shape.geometry));
+        let (cache, free, bad) = (i.shape.cache, i.free, i.bad);
+        let (least, most, erases, next) = (i.least, i.most, i.erases, i.next);
+        write!(
+            f,
+            "size {size}\ngeometry {geometry}\ncache {cache}\nfree {free} bad {bad}\nwear least {least} most {most} erases {erases}\nnext {next}\n"
+        )
+    }
+}
+
+// The erases of the good blocks, as a JSON object.
+#[derive(Clone, Copy)]
+struct Wear<'a>(&'a Info);
+
+impl fmt::Display for Wear<'_> {
+    ghost use Rattle.std.specs.Prelude.{Some};
+    ghost use Rattle.disk_commands.specs.Info.{wear_of};
+
+    ghost output = { λ text. Some (wear_of text.0.now) };
+
+    fn fmt<W: fmt::Write>(&self, f: &mut fmt::Formatter<W>) -> fmt::Result {
+        let (least, most, erases) = (self.0.least, self.0.most, self.0.erases);
+        write!(
+            f,
+            "{{\"least\":{least},\"most\":{most},\"erases\":{erases}}}"
+        )
+    }
+}
+
+// All as a JSON object.
+#[derive(Clone, Copy)]
+struct Object<'a>(&'a Info);
+
+impl fmt::Display for Object<'_> {
+    ghost use Rattle.std.specs.Prelude.{Some};
+    ghost use Rattle.disk_commands.specs.Info.{object_of};
+
+    ghost output = { λ text. Some (object_of text.0.now) };
+
+    fn fmt<W: fmt::Write>(&self, f: &mut fmt::Formatter<W>) -> fmt::Result {
+        let i = self.0;
+        let (size, geometry) = (size_of(&i.shape.geometry), GeometryText(&i.shape.geometry));
+        let (cache, free, bad, wear, next) = (i.shape.cache, i.free, i.bad, Wear(i), i.next);
+        write!(
+            f,
+            "{{\"size\":{size},\"geometry\":\"{geometry}\",\"cache\":{cache},\"free\":{free},\"bad\":{bad},\"wear\":{wear},\"next\":{next}}}\n"
+        )
+    }
+}

@@ -1,0 +1,266 @@
+//! What the program says when a command ends before it is done: one line, and the exit status.
+ghost use Rattle.std.specs.Prelude.{◌≡◌};
+ghost use Rattle.disk_commands.specs.Text.{IsTold};
+
+use disk_server::{CreateFault, OpenStoreFault};
+use disk_shape::{ShapeFault, SizeFault};
+use mount::FormatFault;
+use page_layout::geometry::GeometryFault;
+use std::error::Error;
+use std::fmt;
+use std::io::Write;
+
+const REFUSED: u8 = 1;
+
+const USAGE: u8 = 2;
+
+const IO: u8 = 3;
+
+/// Why a command was not done. Each is one line; of the paths those that were given. (This project's.)
+#[derive(Clone, Copy, Debug, PartialEq, Eq)]
+pub enum DiskFault<'a> {
+    /// The words are no command that the program has.
+    NoSuchCommand,
+    /// The word is no size.
+    BadSize(&'a str),
+    /// The word is not the numbers that are wanted.
+    BadNumber(&'a str),
+    /// No die is of this size.
+    Size(SizeFault),
+    /// The numbers are no geometry.
+    Geometry(GeometryFault),
+    /// There is a file of that path already.
+    Exists(&'a str),
+    /// The file is served by another program, or being made.
+    InUse(&'a str),
+    /// The file beside the disk does not tell its shape.
+    Shape(&'a str, ShapeFault),
+    /// The file has so many bytes, and not as many as its shape says.
+    Length(&'a str, u64, u64),
+    /// The die holds no device that may be started.
+    Open(&'a str, OpenStoreFault),
+    /// The die was not formatted.
+    Create(&'a str, CreateFault),
+    /// A growth was refused.
+    OutOfMemory,
+    /// A file could not be read or opened.
+    Read(&'a str),
+    /// A file, or standard output where it is `-`, could not be written.
+    Write(&'a str),
+    /// The client sent what is no request.
+    BadFrame,
+    /// Standard input or output failed.
+    Stream,
+    /// The die failed while it was served: what was answered without an error stands.
+    Device(&'a str),
+}
+
+impl Error for DiskFault<'_> {}
+
+impl DiskFault<'_> {
+    ghost use Rattle.std.specs.Prelude.{◌≡◌};
+    ghost use Rattle.disk_commands.specs.Text.{status_of};
+
+    /// The exit status: 2 where the words are no command, a size or numbers, 3 where a file or a stream failed, else 1.
+    pub fn status(&self) -> u8
+        ensures { result ≡ status_of self.now }
+    {
+        match self {
+            DiskFault::NoSuchCommand | DiskFault::BadSize(_) | DiskFault::BadNumber(_) => USAGE,
+            DiskFault::Size(_)
+            | DiskFault::Geometry(_)
+            | DiskFault::Exists(_)
+            | DiskFault::InUse(_)
+            | DiskFault::Shape(..)
+            | DiskFault::Length(..)
+            | DiskFault::Open(..)
+            | DiskFault::Create(..)
+            | DiskFault::OutOfMemory => REFUSED,
+            DiskFault::Read(_)
+            | DiskFault::Write(_)
+            | DiskFault::BadFrame
+            | DiskFault::Stream
+            | DiskFault::Device(_) => IO,
+        }
+    }
+}
+
+// The name of a limit that is broken.
+fn limit(fault: GeometryFault) -> &'static str
+    ensures { result.now ≡ Rattle.disk_commands.specs.Text.limit_words fault }
+{
+    match fault {
+        GeometryFault::DataSize => "DataSize",
+        GeometryFault::SpareSize => "SpareSize",
+        GeometryFault::PagesPerBlock => "PagesPerBlock",
+        GeometryFault::Blocks => "Blocks",
+        GeometryFault::Sectors => "Sectors",
+    }
+}
+
+// Why there is no shape for a size.
+fn size(fault: SizeFault) -> &'static str
+    ensures { result.now ≡ Rattle.disk_commands.specs.Text.size_words fault }
+{
+    match fault {
+        SizeFault::Zero => "a disk has at least one byte",
+        SizeFault::TooLarge => "a disk has at most 509349888 bytes",
+    }
+}
+
+// Why a die was not formatted.
+#[derive(Clone, Copy)]
+struct FormatText(FormatFault);
+
+impl fmt::Display for FormatText {
+    ghost use Rattle.std.specs.Prelude.{Some};
+    ghost use Rattle.disk_commands.specs.Text.{format_words};
+
+    ghost output = { λ text. Some (format_words text.0) };
+
+    fn fmt<W: fmt::Write>(&self, f: &mut fmt::Formatter<W>) -> fmt::Result {
+        match self.0 {
+            FormatFault::TooFewGood { good, need } => write!(
+                f,
+                "TooFewGood good {good} need {need}"
+            ),
+            FormatFault::Bus => f.write_str("Bus"),
+            FormatFault::OutOfMemory => f.write_str("OutOfMemory"),
+            FormatFault::WriteFailed => f.write_str("WriteFailed"),
+            FormatFault::NotFresh { row } => write!(f, "NotFresh row {row}"),
+        }
+    }
+}
+
+// Why a store has no disk.
+#[derive(Clone, Copy)]
+struct OpenText(OpenStoreFault);
+
+impl fmt::Display for OpenText {
+    ghost use Rattle.std.specs.Prelude.{Some};
+    ghost use Rattle.disk_commands.specs.Text.{open_words};
+
+    ghost output = { λ text. Some (open_words text.0) };
+
+    fn fmt<W: fmt::Write>(&self, f: &mut fmt::Formatter<W>) -> fmt::Result {
+        match self.0 {
+            OpenStoreFault::OutOfMemory => f.write_str("OutOfMemory"),
+            OpenStoreFault::Device => f.write_str("Device"),
+            OpenStoreFault::Reset => f.write_str("Reset"),
+            OpenStoreFault::Mount(refusal) => write!(f, "Mount {refusal}"),
+        }
+    }
+}
+
+// Why a store was not formatted.
+#[derive(Clone, Copy)]
+struct CreateText(CreateFault);
+
+impl fmt::Display for CreateText {
+    ghost use Rattle.std.specs.Prelude.{Some};
+    ghost use Rattle.disk_commands.specs.Text.{create_words};
+
+    ghost output = { λ text. Some (create_words text.0) };
+
+    fn fmt<W: fmt::Write>(&self, f: &mut fmt::Formatter<W>) -> fmt::Result {
+        match self.0 {
+            CreateFault::Open(fault) => {
+                let why = OpenText(fault);
+                write!(f, "{why}")
+            }
+            CreateFault::Format(fault) => {
+                let why = FormatText(fault);
+                write!(f, "Format {why}")
+            }
+            CreateFault::Sync => f.write_str("Sync"),
+        }
+    }
+}
+
+// Why a text tells no shape.
+#[derive(Clone, Copy)]
+struct ShapeText(ShapeFault);
+
+impl fmt::Display for ShapeText {
+    ghost use Rattle.std.specs.Prelude.{Some};
+    ghost use Rattle.disk_commands.specs.Text.{shape_words};
+
+    ghost output = { λ text. Some (shape_words text.0) };
+
+    fn fmt<W: fmt::Write>(&self, f: &mut fmt::Formatter<W>) -> fmt::Result {
+        match self.0 {
+            ShapeFault::NotJson => f.write_str("not JSON"),
+            ShapeFault::NotObject => f.write_str("no object"),
+            ShapeFault::Missing(member) => write!(f, "no member {}", member.name()),
+            ShapeFault::WrongType(member) => write!(f, "member {} of another type", member.name()),
+            ShapeFault::Unknown => f.write_str("a member with another name"),
+            ShapeFault::Version => f.write_str("another version"),
+            ShapeFault::BadGeometry => f.write_str("the geometry is no five numbers"),
+            ShapeFault::Geometry(fault) => write!(
+                f,
+                "the geometry breaks a limit: {}",
+                limit(fault)
+            ),
+            ShapeFault::CacheRange => f.write_str("the cache has not from 1 to 65536 entries"),
+            ShapeFault::OutOfMemory => f.write_str("out of memory"),
+        }
+    }
+}
+
+/// The line, without its line feed.
+impl fmt::Display for DiskFault<'_> {
+    ghost use Rattle.std.specs.Prelude.{Some};
+    ghost use Rattle.disk_commands.specs.Text.{line_of};
+
+    ghost output = { λ fault. Some (line_of fault) };
+
+    #[tactic(auto, unfolding(crate::specs::Text::line_of))]
+    fn fmt<W: fmt::Write>(&self, f: &mut fmt::Formatter<W>) -> fmt::Result {
+        match *self {
+            DiskFault::NoSuchCommand => f.write_str("usage: no such command"),
+            DiskFault::BadSize(word) => write!(f, "usage: bad size {word}"),
+            DiskFault::BadNumber(word) => write!(f, "usage: bad number {word}"),
+            DiskFault::Size(fault) => write!(f, "refused size: {}", size(fault)),
+            DiskFault::Geometry(fault) => write!(f, "refused geometry {}", limit(fault)),
+            DiskFault::Exists(path) => write!(f, "refused: {path} exists"),
+            DiskFault::InUse(path) => write!(f, "refused: {path} is in use"),
+            DiskFault::Shape(path, fault) => {
+                write!(f, "refused: {path}.json: {}", ShapeText(fault))
+            }
+            DiskFault::Length(path, found, wanted) => {
+                write!(
+                    f,
+                    "refused: {path} has {found} bytes, and its shape {wanted}"
+                )
+            }
+            DiskFault::Open(path, fault) => {
+                let why = OpenText(fault);
+                write!(f, "refused: {path} is no disk: {why}")
+            }
+            DiskFault::Create(path, fault) => {
+                write!(
+                    f,
+                    "refused: {path} was not formatted: {}",
+                    CreateText(fault)
+                )
+            }
+            DiskFault::OutOfMemory => f.write_str("refused: no memory"),
+            DiskFault::Read(path) => write!(f, "fault read {path}"),
+            DiskFault::Write(path) => write!(f, "fault write {path}"),
+            DiskFault::BadFrame => f.write_str("fault serve: the client's bytes are no requests"),
+            DiskFault::Stream => f.write_str("fault serve: standard input or output failed"),
+            DiskFault::Device(path) => write!(f, "fault serve: {path} failed"),
+        }
+    }
+}
+
+/// Writes the fault's line to `err`, with a line feed, and answers its exit status. Where a write failed it answers 3, and a beginning of the line may stand
+/// there. (The lines and the statuses are this project's.)
+pub fn tell<E: Write>(fault: &DiskFault<'_>, err: &mut E) -> u8
+    ensures { IsTold fault.now (E.contents err.old) (E.contents err.new) result }
+{
+    match writeln!(err, "{fault}") {
+        Ok(()) => fault.status(),
+        Err(_) => IO,
+    }
+}

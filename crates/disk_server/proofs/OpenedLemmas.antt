@@ -1,0 +1,87 @@
+-- The store behind a driver, once the driver was asked for reads alone.
+use Rattle.std.proofs.Common.{◌≡◌, ◌≢◌, ℕ, Bool, true, Result, Err, sym, ap, ◌∙◌, subst}
+use Rattle.page_layout.specs.declared.geometry.Geometry.{Geometry}
+use Rattle.page_layout.specs.Flash.{Flash}
+use Rattle.onfi_cycles.specs.Driver.{DriverState}
+use Rattle.file_die.specs.Store.{Held}
+use Rattle.file_die.specs.Die.{FileState}
+use Rattle.image_check.specs.declared.refusal.Refusal.{Refusal}
+use Rattle.image_check.specs.declared.refusal.Refusal.TheVariants.{Source}
+use Rattle.disk_server.specs.declared.opened.OpenStoreFault.{OpenStoreFault}
+use Rattle.disk_server.specs.declared.opened.OpenStoreFault.TheVariants as why
+use Rattle.device_disk.specs.declared.open.OpenFault.{OpenFault}
+use Rattle.device_disk.specs.declared.open.OpenFault.TheVariants.{Refused, Start}
+use Rattle.device_disk.specs.Open.{nand_of}
+use Rattle.mount.specs.Mounted.{Refuses}
+use Rattle.disk_server.specs.Opened.{ComesBack, HasCome, IsUnmounted, IsUnopened, IsUnopenedAt, flash_in, is_honest_in, why_of}
+
+-- a driver that was made over a store
+pub record IsOver {S : Type 0} (held : S → Held) (honest : S → Bool) (store : S) (d : DriverState (FileState S)) : Type 0 where
+  pub as_honest : is_honest_in honest d ≡ honest store
+  pub geometry : d.geometry ≡ (held store).geometry
+  pub pages : honest store ≡ true → (flash_in held d).image ≡ (held store).pages
+
+-- what was asked of it was reads, and this store stood behind it then
+pub record IsBehind {S : Type 0} (held : S → Held) (honest : S → Bool) (d e : DriverState (FileState S)) (given : S) : Type 0 where
+  pub as_honest : is_honest_in honest e ≡ is_honest_in honest d
+  pub geometry : (flash_in held e).geometry ≡ (flash_in held d).geometry
+  pub store : given ≡ e.bus.store
+  pub its : honest e.bus.store ≡ true → (held given).geometry ≡ e.geometry
+
+as_honest_back : {S : Type 0} (held : S → Held) (honest : S → Bool) (store : S) (d e : DriverState (FileState S)) (given : S)
+    → IsOver held honest store d → IsBehind held honest d e given → honest given ≡ honest store
+as_honest_back held honest store d e given over behind = ap honest behind.store ∙ behind.as_honest ∙ over.as_honest
+
+geometry_back : {S : Type 0} (held : S → Held) (honest : S → Bool) (store : S) (d e : DriverState (FileState S)) (given : S)
+    → IsOver held honest store d → IsBehind held honest d e given → honest store ≡ true → (held given).geometry ≡ (held store).geometry
+geometry_back held honest store d e given over behind true_is =
+    behind.its (behind.as_honest ∙ over.as_honest ∙ true_is) ∙ behind.geometry ∙ over.geometry
+
+pages_back : {S : Type 0} (held : S → Held) (honest : S → Bool) (store : S) (d e : DriverState (FileState S)) (given : S)
+    → IsOver held honest store d → IsBehind held honest d e given → honest store ≡ true → flash_in held e ≡ flash_in held d → (held given).pages ≡ (held store).pages
+pages_back held honest store d e given over behind true_is same =
+    ap (λ s. (held s).pages) behind.store ∙ ap (λ (f : Flash). f.image) same ∙ over.pages true_is
+
+-- it comes back as it was
+pub come : {S : Type 0} (held : S → Held) (honest : S → Bool) (store : S) (d e : DriverState (FileState S)) (given : S)
+    → IsOver held honest store d → IsBehind held honest d e given → (is_honest_in honest d ≡ true → flash_in held e ≡ flash_in held d) → HasCome held honest store given
+come held honest store d e given over behind same = record {
+  as_honest = as_honest_back held honest store d e given over behind;
+  geometry = λ is. geometry_back held honest store d e given over behind is;
+  pages = λ is. pages_back held honest store d e given over behind is (same (over.as_honest ∙ is));
+}
+
+pub comes : {S : Type 0} (held : S → Held) (honest : S → Bool) (store : S) (d e : DriverState (FileState S)) (given : S) (fault : OpenStoreFault)
+    → IsOver held honest store d → IsBehind held honest d e given
+    → (fault ≢ why.Mount Source → is_honest_in honest d ≡ true → flash_in held e ≡ flash_in held d) → ComesBack held honest store fault given
+comes held honest store d e given fault over behind same = record {
+  as_honest = as_honest_back held honest store d e given over behind;
+  geometry = λ is set. geometry_back held honest store d e given over behind is;
+  pages = λ is set read. pages_back held honest store d e given over behind is (same read (over.as_honest ∙ is));
+}
+
+-- the store of a die that was not mounted, or on which no device was started
+pub unopened_come : {S : Type 0} (held : S → Held) (honest : S → Bool) (store : S) (d : DriverState (FileState S)) (g : Geometry) (capacity : ℕ) (fault : OpenFault (DriverState (FileState S))) (given : S)
+    → IsOver held honest store d → IsBehind held honest d (nand_of fault) given → IsUnmounted (flash_in held) (is_honest_in honest) d g capacity fault → ComesBack held honest store (why_of fault) given
+unopened_come held honest store d g capacity (Refused refusal e) given over behind unmounted =
+    comes held honest store d e given (why.Mount refusal) over behind (λ other is. unmounted.same (λ source. other (ap why.Mount source)) is)
+unopened_come held honest store d g capacity (Start e) given over behind unmounted =
+    comes held honest store d e given why.OutOfMemory over behind (λ other is. unmounted.same is)
+
+pub unopened_so : {S : Type 0} (held : S → Held) (honest : S → Bool) (failed : S → ℕ) (store : S) (d : DriverState (FileState S)) (capacity : ℕ) (fault : OpenFault (DriverState (FileState S))) (given : S)
+    → IsOver held honest store d → IsUnmounted (flash_in held) (is_honest_in honest) d (held store).geometry capacity fault → IsUnopened held honest failed store capacity given (why_of fault)
+unopened_so held honest failed store d capacity (Refused refusal e) given over unmounted = λ is.
+    subst (λ image. Refuses (held store).geometry capacity image refusal) (over.pages is) (unmounted.refuses (over.as_honest ∙ is))
+unopened_so held honest failed store d capacity (Start e) given over unmounted = tt
+
+-- what kept a store from being a die is told as it is
+pub before : {S : Type 0} (held : S → Held) (honest : S → Bool) (failed : S → ℕ) (store : S) (capacity : ℕ) (given : S) (fault : OpenStoreFault)
+    → IsUnopenedAt held honest failed store given fault → IsUnopened held honest failed store capacity given fault
+before held honest failed store capacity given why.OutOfMemory is = is
+before held honest failed store capacity given why.Device is = is
+before held honest failed store capacity given why.Reset is = is
+before held honest failed store capacity given (why.Mount refusal) is = absurd is
+
+-- another refusal than that a page could not be read
+pub another : {A : Type 0} (answer : Result A Refusal) (refusal : Refusal) → answer ≡ Err refusal → why.Mount refusal ≢ why.Mount Source → answer ≢ Err Source
+another answer refusal is other source = let both : Err refusal ≡ Err Source = sym is ∙ source in other (cc)
