@@ -77,7 +77,8 @@ def fio(uri, what):
         if done.returncode == 0:
             break
         time.sleep(0.2)
-    job = json.loads(done.stdout)["jobs"][0]["write" if "write" in what else "read"]
+    # a line of its own stands before the document
+    job = json.loads(done.stdout[done.stdout.index(b"{") :])["jobs"][0]["write" if "write" in what else "read"]
     latency = job["clat_ns"]["percentile"]
     return job["iops"], latency["50.000000"] / 1e6, latency["99.000000"] / 1e6
 
