@@ -1,4 +1,7 @@
 //! The files of a disk: the die, and the one beside it that tells its shape.
+ghost use Rattle.std.specs.Prelude.{◌≡◌, ◌*◌};
+ghost use Rattle.page_layout.specs.Geometry.{page_bytes, row_count};
+
 use crate::fault::unread;
 use disk_commands::DiskFault;
 use disk_shape::{Shape, read_shape};
@@ -12,7 +15,9 @@ use std::rt::Files;
 const MOST_BYTES: u64 = 65_536;
 
 /// The bytes of a die's pages together.
-pub fn die_bytes(geometry: &Geometry) -> u64 {
+pub fn die_bytes(geometry: &Geometry) -> u64
+    ensures { result ≡ row_count geometry.now * page_bytes geometry.now }
+{
     u64::from(geometry.rows()) * (geometry.data_bytes() + geometry.spare_bytes()) as u64
 }
 

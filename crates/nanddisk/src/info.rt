@@ -1,36 +1,15 @@
 //! The command `info`: what is told of a disk.
 use crate::fault::unwritten;
 use crate::files::{open_store_at, shape_at};
-use certificate::Certificate;
 use disk_commands::{DiskFault, Form, Info};
-use disk_server::{OpenStoreFault, mount_store};
+use disk_server::mount_stopped;
 use disk_shape::Shape;
-use file_die::Store;
-use image_check::Refusal;
-use std::alloc::Global;
 use std::fs::File;
 use std::io::Write;
 use std::rt::Files;
 
 // The most entries of a cache.
 const MOST_ENTRIES: u32 = 65_536;
-
-// The certificate of the die that a store holds, for the cache of its shape, or for one with room for all that is stale.
-fn certificate_of<S: Store + Drop>(
-    alloc: Global,
-    store: S,
-    cache: u32,
-) -> Result<Certificate, OpenStoreFault> {
-    let second = match mount_store(alloc, store, cache.max(1).min(MOST_ENTRIES)) {
-        Err((store, OpenStoreFault::Mount(Refusal::TooStale { stale, .. })))
-            if stale >= 1 && stale <= MOST_ENTRIES => { mount_store(alloc, store, stale) }
-        answer => answer,
-    };
-    match second {
-        Ok((_, certificate)) => Ok(certificate),
-        Err((_, fault)) => Err(fault),
-    }
-}
 
 // What is told of a disk of a shape, by its die.
 fn info_of<'a, R: Files<File = File> + AllocGlobal>(
@@ -39,7 +18,8 @@ fn info_of<'a, R: Files<File = File> + AllocGlobal>(
     shape: &Shape,
 ) -> Result<Info, DiskFault<'a>> {
     let (store, _file) = open_store_at(rt, path, &shape.geometry, false)?;
-    let certificate = match certificate_of(rt.alloc(), store, shape.cache) {
+    let cache = shape.cache.max(1).min(MOST_ENTRIES);
+    let certificate = match mount_stopped(rt.alloc(), store, cache) {
         Ok(certificate) => certificate,
         Err(why) => return Err(DiskFault::Open(path, why)),
     };
