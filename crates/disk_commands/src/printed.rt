@@ -31,10 +31,11 @@ pub struct Info {
     pub free: u32,
     /// The bad blocks.
     pub bad: u32,
-    /// The fewest erases of a good block, and the most.
+    /// The fewest erases of a good block.
     pub least: u32,
+    /// The most.
     pub most: u32,
-    /// The erases of all good blocks together.
+    /// The erases of all good blocks together. They stay at 2^64 - 1 once there.
     pub erases: u64,
     /// The sequence that the next program takes.
     pub next: u64,

@@ -147,6 +147,7 @@ impl fmt::Display for OpenText {
             OpenStoreFault::OutOfMemory => f.write_str("OutOfMemory"),
             OpenStoreFault::Device => f.write_str("Device"),
             OpenStoreFault::Reset => f.write_str("Reset"),
+            OpenStoreFault::Flush => f.write_str("Flush"),
             OpenStoreFault::Mount(refusal) => write!(f, "Mount {refusal}"),
         }
     }

@@ -80,6 +80,7 @@ pub before : {S : Type 0} (held : S → Held) (honest : S → Bool) (failed : S 
 before held honest failed store capacity given why.OutOfMemory is = is
 before held honest failed store capacity given why.Device is = is
 before held honest failed store capacity given why.Reset is = is
+before held honest failed store capacity given why.Flush is = absurd is
 before held honest failed store capacity given (why.Mount refusal) is = absurd is
 
 -- another refusal than that a page could not be read

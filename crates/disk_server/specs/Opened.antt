@@ -74,6 +74,7 @@ abbrev pub IsUnopenedAt : {S : Type 0} → (S → Held) → (honest : S → Bool
 IsUnopenedAt held honest failed store given why.OutOfMemory = Unit {0}
 IsUnopenedAt held honest failed store given why.Device = HasRisen (failed store) (failed given)
 IsUnopenedAt held honest failed store given why.Reset = honest store ≡ true → HasRisen (failed store) (failed given)
+IsUnopenedAt held honest failed store given why.Flush = ⊥
 IsUnopenedAt held honest failed store given (why.Mount refusal) = ⊥
 
 -- and after: what keeps the pages from being mounted is so of an honest store

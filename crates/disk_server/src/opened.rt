@@ -31,6 +31,9 @@ pub enum OpenStoreFault {
     /// The die over it took no reset.
     #[error("Reset")]
     Reset,
+    /// The device over the die failed to flush what a stop had left. Only `open_stopped` answers so.
+    #[error("Flush")]
+    Flush,
     /// Its pages are no die with a device on it that a cache of this size goes with.
     #[error("Mount {0}")]
     Mount(Refusal),

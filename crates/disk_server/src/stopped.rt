@@ -1,9 +1,9 @@
 //! The disk of a die that may have been stopped.
-ghost use Rattle.std.specs.Prelude.{◌≡◌, ◌≤◌, true, IfOk, IfSome};
+ghost use Rattle.std.specs.Prelude.{◌≡◌, ◌≤◌, true, IfOk, IfErr, IfSome};
 ghost use Rattle.device_disk.specs.Disk.{contents_of, holds};
 ghost use Rattle.mount.specs.Mounted.{IsMounted};
 ghost use Rattle.disk_server.specs.Opened.{bytes_of, flash_in, is_honest_in};
-ghost use Rattle.disk_server.specs.Stopped.{HasRoomFor};
+ghost use Rattle.disk_server.specs.Stopped.{HasRoomFor, IsUnopenedLater};
 
 use crate::opened::{OpenStoreFault, StoreDisk, close_store, mount_store, open_store};
 use certificate::Certificate;
@@ -74,27 +74,28 @@ fn open_stale<S: Store + Drop>(
 ) -> Result<StoreDisk<S>, OpenStoreFault>
     requires least { (1 ≤ capacity) × (1 ≤ stale) }
     requires most { (capacity ≤ 65536) × (stale ≤ 65536) }
-    ensures bytes { IfOk result (λ d. S.honest store ≡ true → holds (is_honest_in S.honest) d ≡ true → (contents_of (flash_in S.held) (is_honest_in S.honest) d).bytes ≡ bytes_of (S.held store)) }
+    ensures honest { IfOk result (λ d. S.honest store ≡ true → holds (is_honest_in S.honest) d ≡ true) }
+    ensures bytes { IfOk result (λ d. S.honest store ≡ true → (contents_of (flash_in S.held) (is_honest_in S.honest) d).bytes ≡ bytes_of (S.held store)) }
 {
     let mut disk = match open_store(alloc, store, stale, sync_when) {
         Ok(disk) => disk,
         Err((_, fault)) => return Err(fault),
     };
     if !flushed(&mut disk) {
-        return Ok(disk);
+        return Err(OpenStoreFault::Flush);
     }
     open_either(alloc, close_store(disk), capacity, stale, sync_when)
 }
 
 /// Opens the disk of a die that may have been stopped, as `open_store` does. One that was may have more stale sectors than a cache of `capacity` entries has room for:
 /// then it is opened with as many entries as it wants, flushed, and opened again. One that takes no change any more keeps that larger cache. **Of a store that is
-/// honest the disk's bytes are those of the array that its pages held**, as long as the disk holds it: a flush that fails may end that.
+/// honest the disk holds its array, and its bytes are those of the array that its pages held.**
 ///
 /// With `writes` false nothing is flushed, and the larger cache stays.
 ///
 /// # Errors
 ///
-/// As `open_store`, of the last time that the store was opened; it is let go. (This project's.)
+/// As `open_store`, of the last time that the store was opened, and `Flush` where the device failed its flush. The store is let go. (This project's.)
 pub fn open_stopped<S: Store + Drop>(
     alloc: Global,
     store: S,
@@ -104,7 +105,9 @@ pub fn open_stopped<S: Store + Drop>(
 ) -> Result<StoreDisk<S>, OpenStoreFault>
     requires least { 1 ≤ capacity }
     requires most { capacity ≤ 65536 }
-    ensures bytes { IfOk result (λ d. S.honest store ≡ true → holds (is_honest_in S.honest) d ≡ true → (contents_of (flash_in S.held) (is_honest_in S.honest) d).bytes ≡ bytes_of (S.held store)) }
+    ensures honest { IfOk result (λ d. S.honest store ≡ true → holds (is_honest_in S.honest) d ≡ true) }
+    ensures bytes { IfOk result (λ d. S.honest store ≡ true → (contents_of (flash_in S.held) (is_honest_in S.honest) d).bytes ≡ bytes_of (S.held store)) }
+    ensures fault { IfErr result (IsUnopenedLater S.held S.honest S.failed store capacity) }
 {
     let (store, fault) = match open_store(alloc, store, capacity, sync_when) {
         Ok(disk) => return Ok(disk),
@@ -133,6 +136,7 @@ pub fn mount_stopped<S: Store + Drop>(
 ) -> Result<Certificate, OpenStoreFault>
     requires least { 1 ≤ capacity }
     requires most { capacity ≤ 65536 }
+    ensures fault { IfErr result (IsUnopenedLater S.held S.honest S.failed store capacity) }
     ensures mounted { IfOk result (λ certificate. S.honest store ≡ true → IsMounted (S.held store).geometry certificate.capacity (S.held store).pages certificate) }
 {
     let (store, fault) = match mount_store(alloc, store, capacity) {
