@@ -1,5 +1,5 @@
 -- The shape of a disk of a size.
-use Rattle.std.specs.Prelude.{◌≡◌, ℕ, ◌+◌, ◌*◌, ◌/◌, ◌<◌, ◌≤◌, max}
+use Rattle.std.specs.Prelude.{◌≡◌, ℕ, ◌+◌, ◌*◌, ◌<◌, ◌≤◌, min, max}
 use Rattle.std.specs.Int.{div_ceil}
 use Rattle.page_layout.specs.declared.geometry.Geometry.{Geometry}
 use Rattle.page_layout.specs.Faults.{HasNumbers}
@@ -12,9 +12,9 @@ use Rattle.disk_shape.specs.declared.shapes.SizeFault.TheVariants.{Zero, TooLarg
 abbrev pub most_bytes : ℕ
 most_bytes = 124353 * 4096
 
--- a sixty-fourth of the sectors, and at least 64
+-- an entry for each sector, but from 64 to 65280
 abbrev pub cache_of : Geometry → ℕ
-cache_of g = max (g.sectors / 64) 64
+cache_of g = max (min g.sectors 65280) 64
 
 -- a die with pages of 4096 and 128 bytes, 64 a block, with so many blocks and sectors
 abbrev pub IsDie : ℕ → ℕ → Geometry → Type 0

@@ -13,6 +13,11 @@ const SPARE_BYTES: u32 = 128;
 
 const PAGES: u32 = 64;
 
+// The fewest and the most entries of a cache that is picked.
+const LEAST_CACHED: u32 = 64;
+
+const MOST_CACHED: u32 = 65_280;
+
 // The most blocks of any die.
 const MOST_BLOCKS: u32 = 4096;
 
@@ -34,8 +39,8 @@ pub enum SizeFault {
     TooLarge,
 }
 
-/// The entries of the cache of a device on a die of this geometry: a sixty-fourth of its sectors, and at least 64. A die that was stopped mounts with
-/// as many entries more as a block has pages, and these are within the 65,536 that a cache may have.
+/// The entries of the cache of a device on a die of this geometry: one for each of its sectors, so that no change waits for a translation page, but at least 64 and at
+/// most 65,280. A die that was stopped mounts with as many entries more as a block has pages, and these are within the 65,536 that a cache may have.
 ///
 /// (This project's rule.)
 pub fn cache_for(geometry: &Geometry) -> u32
@@ -43,7 +48,7 @@ pub fn cache_for(geometry: &Geometry) -> u32
     ensures least { 1 ≤ result }
     ensures most { result + geometry.now.pages ≤ 65536 }
 {
-    (geometry.sectors() / 64).max(64)
+    geometry.sectors().min(MOST_CACHED).max(LEAST_CACHED)
 }
 
 fn die(blocks: u32, sectors: u32) -> Result<Geometry, GeometryFault>

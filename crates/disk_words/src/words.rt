@@ -2,7 +2,7 @@
 ghost use Rattle.std.specs.Prelude.{◌≡◌, [], IfOk, IfSome, OnOk, Ok, Some, None, Err, codes, false, option_map};
 ghost use Rattle.std.specs.Borrow.{Bor};
 ghost use Rattle.clap.specs.declared.builder.command.Command.{out-Command};
-ghost use Rattle.clap.specs.Words.{app_of, found_of, rows_of, rule_of, subcommand_rows_of};
+ghost use Rattle.clap.specs.Words.{app_of, found_of, new_app, rows_of, rule_of, subcommand_rows_of, with_rule};
 ghost use Rattle.disk_words.specs.declared.words.CreateWords.{CreateWords};
 ghost use Rattle.disk_words.specs.declared.words.DiskWords.{DiskWords};
 ghost use Rattle.disk_words.specs.declared.words.InfoWords.{InfoWords};
@@ -118,31 +118,53 @@ fn flag<'a>(alloc: Global, name: &'a str, help: &'a str) -> Arg<'a>
         .help(help)
 }
 
+// A command of this name, with no words yet.
+fn named<'a>(alloc: Global, name: &'a str, about: &'a str) -> Command<'a>
+    ensures app { app_of result ≡ new_app name.now }
+    ensures local { (out-Command result).has_globals ≡ false }
+{
+    Command::new(alloc, name).about(about)
+}
+
+// A command with one word more, which is its own alone.
+fn with_word<'a>(command: Command<'a>, word: Arg<'a>) -> Result<Command<'a>, AllocError>
+    requires command { (out-Command command).has_globals ≡ false }
+    requires word { word.global ≡ false }
+    ensures app { IfOk result (λ longer. app_of longer ≡ with_rule (app_of command.entry) (rule_of word.entry)) }
+    ensures local { IfOk result (λ longer. (out-Command longer).has_globals ≡ false) }
+{
+    command.arg(word)
+}
+
 // The command `create`, but for its last two words.
 fn create_plain<'a>(alloc: Global) -> Result<Command<'a>, AllocError>
     ensures app { IfOk result (λ command. app_of command ≡ Rattle.disk_words.specs.Words.create_plain) }
     ensures local { IfOk result (λ command. (out-Command command).has_globals ≡ false) }
 {
-    Command::new(alloc, "create")
-        .about("Makes a disk of a size, or on a die of a geometry")
-        .arg(option(
-            alloc,
-            "size",
-            "SIZE",
-            "So many bytes, or with K, M, G or T behind the number",
-        ))?
-        .arg(option(
-            alloc,
-            "geometry",
-            "GEOM",
-            "data,spare,pages,blocks,sectors: five numbers",
-        ))?
-        .arg(option(
-            alloc,
-            "from",
-            "DUMP",
-            "The die as this dump of it says, with --geometry",
-        ))
+    let create = named(
+        alloc,
+        "create",
+        "Makes a disk of a size, or on a die of a geometry",
+    );
+    let size = option(
+        alloc,
+        "size",
+        "SIZE",
+        "So many bytes, or with K, M, G or T behind the number",
+    );
+    let geometry = option(
+        alloc,
+        "geometry",
+        "GEOM",
+        "data,spare,pages,blocks,sectors: five numbers",
+    );
+    let from = option(
+        alloc,
+        "from",
+        "DUMP",
+        "The die as this dump of it says, with --geometry",
+    );
+    with_word(with_word(with_word(create, size)?, geometry)?, from)
 }
 
 // The command `create`.
@@ -150,14 +172,13 @@ fn create<'a>(alloc: Global) -> Result<Command<'a>, AllocError>
     ensures app { IfOk result (λ command. app_of command ≡ Rattle.disk_words.specs.Words.create) }
     ensures local { IfOk result (λ command. (out-Command command).has_globals ≡ false) }
 {
-    create_plain(alloc)?
-        .arg(option(
-            alloc,
-            "cache",
-            "C",
-            "The entries of the cache, from 1 to 65536",
-        ))?
-        .arg(disk(alloc))
+    let cache = option(
+        alloc,
+        "cache",
+        "C",
+        "The entries of the cache, from 1 to 65536",
+    );
+    with_word(with_word(create_plain(alloc)?, cache)?, disk(alloc))
 }
 
 // The command `serve`.
@@ -165,16 +186,19 @@ fn serve<'a>(alloc: Global) -> Result<Command<'a>, AllocError>
     ensures app { IfOk result (λ command. app_of command ≡ Rattle.disk_words.specs.Words.serve) }
     ensures local { IfOk result (λ command. (out-Command command).has_globals ≡ false) }
 {
-    Command::new(alloc, "serve")
-        .about("Serves a disk by NBD over standard input and output")
-        .arg(flag(alloc, "read-only", "Lets no client change the disk"))?
-        .arg(option(
-            alloc,
-            "sync",
-            "WHEN",
-            "Syncs the file about `erases` alone, or `always`, after each page too",
-        ))?
-        .arg(disk(alloc))
+    let serve = named(
+        alloc,
+        "serve",
+        "Serves a disk by NBD over standard input and output",
+    );
+    let read_only = flag(alloc, "read-only", "Lets no client change the disk");
+    let sync = option(
+        alloc,
+        "sync",
+        "WHEN",
+        "Syncs the file about `erases` alone, or `always`, after each page too",
+    );
+    with_word(with_word(with_word(serve, read_only)?, sync)?, disk(alloc))
 }
 
 // The command `info`.
@@ -182,19 +206,17 @@ fn info<'a>(alloc: Global) -> Result<Command<'a>, AllocError>
     ensures app { IfOk result (λ command. app_of command ≡ Rattle.disk_words.specs.Words.info) }
     ensures local { IfOk result (λ command. (out-Command command).has_globals ≡ false) }
 {
-    Command::new(alloc, "info")
-        .about("Tells what a disk is")
-        .arg(flag(alloc, "json", "Prints one JSON document"))?
-        .arg(disk(alloc))
+    let info = named(alloc, "info", "Tells what a disk is");
+    let json = flag(alloc, "json", "Prints one JSON document");
+    with_word(with_word(info, json)?, disk(alloc))
 }
 
 // The program, with no command yet.
 fn program<'a>(alloc: Global) -> Command<'a>
     ensures { app_of result ≡ Rattle.disk_words.specs.Words.program }
 {
-    Command::new(alloc, "nanddisk")
+    named(alloc, "nanddisk", "A NAND die in a file, served as a disk")
         .version("0.1.0")
-        .about("A NAND die in a file, served as a disk")
         .disable_help_subcommand(true)
         .subcommand_required(true)
 }

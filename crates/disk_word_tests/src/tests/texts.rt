@@ -22,7 +22,7 @@ fn goes_round(alloc: Global, bytes: u64, wanted: &str) -> bool {
 fn shapes_are_written_and_read(rt: HostRuntime) {
     let alloc = rt.alloc();
     assert!(rt; goes_round(alloc, 1, SMALL));
-    let large = "{\"cache\":1943,\"geometry\":\"4096,128,64,4095,124353\",\"version\":1}\n";
+    let large = "{\"cache\":65280,\"geometry\":\"4096,128,64,4095,124353\",\"version\":1}\n";
     assert!(rt; goes_round(alloc, 509_349_888, large));
 }
 
