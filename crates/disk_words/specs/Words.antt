@@ -1,13 +1,11 @@
 -- The words of the command line, as `clap` reads them.
-use Rattle.std.specs.Prelude.{◌≡◌, ◌≢◌, ◌⊎◌, ℕ, zero, suc, Bool, true, false, List, [], codes, Option, Some, None, map, option_map, if◌then◌else◌}
+use Rattle.std.specs.Prelude.{◌≡◌, ℕ, Bool, true, false, List, codes, Option, Some, None, option_map, if◌then◌else◌}
 use Rattle.std.specs.Str.{bytes_eq}
 use Rattle.std.specs.Borrow.{Bor}
-use Rattle.clap.specs.declared.builder.action.ArgAction.TheVariants.{Count, Set}
-use Rattle.clap.specs.declared.error.Error.{Error}
-use Rattle.clap.specs.declared.error.kind.ErrorKind.{ErrorKind}
-use Rattle.clap.specs.declared.error.kind.ErrorKind.TheVariants.{DisplayHelp, DisplayVersion, OutOfMemory}
-use Rattle.clap.specs.Words.{App, Row, Rule, first_of, count_of, fault_of, kind_of, new_app, new_rule, subcommand_of, with_rule, with_subcommand, IsAmong}
-use Rattle.clap.specs.Simple.{on_top}
+use Rattle.clap.specs.Words.{App, Row, Rule, first_of, count_of, new_app, with_rule, with_subcommand}
+use Rattle.program_words.specs.Grammar.{flag, option, place, program}
+use Rattle.program_words.specs.Met.{AsksText, NamesCommand, once}
+use Rattle.program_words.specs.Met as met
 use Rattle.disk_words.specs.declared.words.CreateWords.{CreateWords}
 use Rattle.disk_words.specs.declared.words.InfoWords.{InfoWords}
 use Rattle.disk_words.specs.declared.words.MakeWords.{MakeWords}
@@ -16,20 +14,10 @@ use Rattle.disk_words.specs.declared.words.ServeWords.{ServeWords}
 use Rattle.disk_words.specs.declared.words.DiskWords.{DiskWords}
 use Rattle.disk_words.specs.declared.words.DiskWords.TheVariants as asked
 
--- the texts behind references
-abbrev pub texts : List (Bor (List ℕ)) → List (List ℕ)
-texts words = map (λ word. word.now) words
-
 -- ---- what `clap` is told
 
 abbrev pub disk : Rule
-disk = record (new_rule (codes "DISK")) { action = Some Set; required = true }
-
-abbrev pub option : List ℕ → Rule
-option name = record (new_rule name) { action = Some Set; long = Some name; value_names = 1 }
-
-abbrev pub flag : List ℕ → Rule
-flag name = record (new_rule name) { action = Some Count; long = Some name }
+disk = place (codes "DISK")
 
 abbrev pub create_plain : App
 create_plain = with_rule (with_rule (with_rule (new_app (codes "create")) (option (codes "size"))) (option (codes "geometry"))) (option (codes "from"))
@@ -43,11 +31,8 @@ serve = with_rule (with_rule (with_rule (new_app (codes "serve")) (flag (codes "
 abbrev pub info : App
 info = with_rule (with_rule (new_app (codes "info")) (flag (codes "json"))) disk
 
-abbrev pub program : App
-program = on_top (λ s. record s { has_version = true; disable_help_subcommand = true; subcommand_required = true }) (new_app (codes "nanddisk"))
-
 abbrev pub with_create : App
-with_create = with_subcommand program create.top
+with_create = with_subcommand (program (codes "nanddisk")) create.top
 
 abbrev pub with_serve : App
 with_serve = with_subcommand with_create serve.top
@@ -57,12 +42,6 @@ abbrev pub grammar : App
 grammar = with_subcommand with_serve info.top
 
 -- ---- what the words ask for
-
--- whether a word that may stand once stood, by how often it did
-abbrev pub once : ℕ → Option Bool
-once zero = Some false
-once (suc zero) = Some true
-once (suc (suc n)) = None
 
 -- whether a file is to be synced always: it is not without a word
 abbrev pub always : Option (List ℕ) → Option Bool
@@ -113,50 +92,13 @@ IsAt name rows (asked.Serve read) = (name ≡ codes "serve") × IsServeAt rows r
 IsAt name rows (asked.Info read) = (name ≡ codes "info") × IsInfoAt rows read
 IsAt name rows (asked.Text text) = ⊥
 
--- the command that was met asks for that
-pub record IsCommandOf (met : Option (List ℕ × List Row)) (found : DiskWords) : Type 0 where
-  pub name : List ℕ
-  pub rows : List Row
-  pub named : option_map (λ p. p.0) met ≡ Some name
-  pub entries : option_map (λ p. p.1) met ≡ Some rows
-  pub read : IsAt name rows found
-
--- the error is the text of help or of the version
-abbrev pub IsTextFor : Error → Type 0
-IsTextFor e = (kind_of e ≡ DisplayHelp) ⊎ (kind_of e ≡ DisplayVersion)
-
--- no fault is found in the words as `clap` reads them, and they name a command, with these words
-abbrev pub NamesCommand : List (List ℕ) → DiskWords → Type 0
-NamesCommand words found = (fault_of grammar words ≡ []) × IsCommandOf (subcommand_of grammar words) found
-
 -- Of the words as `clap` reads them: they name a command, with these words, or they ask for help or for the version.
 abbrev pub IsAsked : List (List ℕ) → DiskWords → Type 0
-IsAsked words (asked.Create read) = NamesCommand words (asked.Create read)
-IsAsked words (asked.Serve read) = NamesCommand words (asked.Serve read)
-IsAsked words (asked.Info read) = NamesCommand words (asked.Info read)
-IsAsked words (asked.Text text) = IsAmong DisplayHelp (fault_of grammar words) ⊎ IsAmong DisplayVersion (fault_of grammar words)
+IsAsked words (asked.Create read) = NamesCommand IsAt grammar words (asked.Create read)
+IsAsked words (asked.Serve read) = NamesCommand IsAt grammar words (asked.Serve read)
+IsAsked words (asked.Info read) = NamesCommand IsAt grammar words (asked.Info read)
+IsAsked words (asked.Text text) = AsksText grammar words
 
--- ---- what is no command
-
--- the error is of another kind, and memory didn't run out
-pub record IsOther (k : ErrorKind) : Type 0 where
-  pub help : k ≢ DisplayHelp
-  pub version : k ≢ DisplayVersion
-  pub memory : k ≢ OutOfMemory
-
-abbrev pub IsOtherKind : Error → Type 0
-IsOtherKind e = IsOther (kind_of e)
-
--- `clap` finds such a fault in the words
-pub record HasFault (words : List (List ℕ)) : Type 0 where
-  pub kind : ErrorKind
-  pub among : IsAmong kind (fault_of grammar words)
-  pub other : IsOther kind
-
--- it finds none, and they name no command with its words
-pub record NamesNone (words : List (List ℕ)) : Type 0 where
-  pub taken : fault_of grammar words ≡ []
-  pub none : (found : DiskWords) → ¬ IsCommandOf (subcommand_of grammar words) found
-
+-- `clap` finds another fault in them, or they name no command with its words
 abbrev pub IsNoCommand : List (List ℕ) → Type 0
-IsNoCommand words = HasFault words ⊎ NamesNone words
+IsNoCommand words = met.IsNoCommand IsAt grammar words

@@ -3,4 +3,5 @@
 
 mod words;
 
-pub use words::{CreateWords, DiskWords, InfoWords, MakeWords, ServeWords, WordsFault, parse};
+pub use program_words::WordsFault;
+pub use words::{CreateWords, DiskWords, InfoWords, MakeWords, ServeWords, parse};

@@ -1,17 +1,19 @@
 //! The words of the command line: one level of subcommands, with help and a version.
-ghost use Rattle.std.specs.Prelude.{◌≡◌, [], IfOk, IfSome, OnOk, Ok, Some, None, Err, codes, false, option_map};
-ghost use Rattle.std.specs.Borrow.{Bor};
+ghost use Rattle.std.specs.Prelude.{◌≡◌, IfOk, IfSome, None, Err, false, option_map};
 ghost use Rattle.clap.specs.declared.builder.command.Command.{out-Command};
-ghost use Rattle.clap.specs.Words.{app_of, found_of, new_app, rows_of, rule_of, subcommand_rows_of, with_rule};
+ghost use Rattle.clap.specs.Words.{app_of, found_of, rows_of, rule_of, subcommand_rows_of};
+ghost use Rattle.program_words.specs.Met.{IsCommandOf, texts};
 ghost use Rattle.disk_words.specs.declared.words.CreateWords.{CreateWords};
 ghost use Rattle.disk_words.specs.declared.words.DiskWords.{DiskWords};
 ghost use Rattle.disk_words.specs.declared.words.InfoWords.{InfoWords};
 ghost use Rattle.disk_words.specs.declared.words.MakeWords.{MakeWords};
 ghost use Rattle.disk_words.specs.declared.words.ServeWords.{ServeWords};
-ghost use Rattle.disk_words.specs.Words.{IsAsked, IsAt, IsCommandOf, IsCreateAt, IsInfoAt, IsMakeAt, IsNoCommand, IsOtherKind, IsServeAt, IsTextFor, texts};
+ghost use Rattle.disk_words.specs.Words.{IsAsked, IsAt, IsCreateAt, IsInfoAt, IsMakeAt, IsNoCommand, IsServeAt};
 
-use clap::error::ErrorKind;
-use clap::{Arg, ArgAction, ArgMatches, Command, Error};
+use clap::{Arg, ArgMatches, Command};
+use program_words::{
+    Met, WordsFault, flag, named, once, option, place, program, read_words, with_command, with_word,
+};
 use std::alloc::{AllocError, Global};
 
 /// What a disk is made of.
@@ -64,76 +66,16 @@ pub enum DiskWords<'a> {
     Text(String),
 }
 
-/// Why the words ask for nothing.
-#[derive(Clone, Copy, Debug, PartialEq, Eq)]
-pub enum WordsFault {
-    /// They are no command that the program has.
-    NoSuchCommand,
-    /// A growth was refused.
-    OutOfMemory,
-}
-
-impl From<AllocError> for WordsFault {
-    ghost use Rattle.std.specs.Prelude.{◌≡◌};
-    ghost use Rattle.disk_words.specs.declared.words.WordsFault.{WordsFault};
-
-    ghost from_gives = { λ _ fault. fault ≡ WordsFault.OutOfMemory };
-
-    fn from(_error: AllocError) -> WordsFault {
-        WordsFault::OutOfMemory
-    }
-}
-
 // The word of the disk.
 fn disk<'a>(alloc: Global) -> Arg<'a>
     ensures rule { rule_of result ≡ Rattle.disk_words.specs.Words.disk }
     ensures local { result.global ≡ false }
 {
-    Arg::new(alloc, "DISK")
-        .required(true)
-        .action(ArgAction::Set)
-        .help("The file of the disk; its shape stands beside it, in DISK.json")
-}
-
-// An option with a value.
-fn option<'a>(alloc: Global, name: &'a str, value: &'a str, help: &'a str) -> Arg<'a>
-    ensures rule { rule_of result ≡ Rattle.disk_words.specs.Words.option name.now }
-    ensures local { result.global ≡ false }
-{
-    Arg::new(alloc, name)
-        .long(name)
-        .value_name(value)
-        .action(ArgAction::Set)
-        .help(help)
-}
-
-// An option without one.
-fn flag<'a>(alloc: Global, name: &'a str, help: &'a str) -> Arg<'a>
-    ensures rule { rule_of result ≡ Rattle.disk_words.specs.Words.flag name.now }
-    ensures local { result.global ≡ false }
-{
-    Arg::new(alloc, name)
-        .long(name)
-        .action(ArgAction::Count)
-        .help(help)
-}
-
-// A command of this name, with no words yet.
-fn named<'a>(alloc: Global, name: &'a str, about: &'a str) -> Command<'a>
-    ensures app { app_of result ≡ new_app name.now }
-    ensures local { (out-Command result).has_globals ≡ false }
-{
-    Command::new(alloc, name).about(about)
-}
-
-// A command with one word more, which is its own alone.
-fn with_word<'a>(command: Command<'a>, word: Arg<'a>) -> Result<Command<'a>, AllocError>
-    requires command { (out-Command command).has_globals ≡ false }
-    requires word { word.global ≡ false }
-    ensures app { IfOk result (λ longer. app_of longer ≡ with_rule (app_of command.entry) (rule_of word.entry)) }
-    ensures local { IfOk result (λ longer. (out-Command longer).has_globals ≡ false) }
-{
-    command.arg(word)
+    place(
+        alloc,
+        "DISK",
+        "The file of the disk; its shape stands beside it, in DISK.json",
+    )
 }
 
 // The command `create`, but for its last two words.
@@ -211,58 +153,26 @@ fn info<'a>(alloc: Global) -> Result<Command<'a>, AllocError>
     with_word(with_word(info, json)?, disk(alloc))
 }
 
-// The program, with no command yet.
-fn program<'a>(alloc: Global) -> Command<'a>
-    ensures { app_of result ≡ Rattle.disk_words.specs.Words.program }
-{
-    named(alloc, "nanddisk", "A NAND die in a file, served as a disk")
-        .version("0.1.0")
-        .disable_help_subcommand(true)
-        .subcommand_required(true)
-}
-
 // With the command `create`.
 fn with_create<'a>(alloc: Global) -> Result<Command<'a>, AllocError>
     ensures { IfOk result (λ command. app_of command ≡ Rattle.disk_words.specs.Words.with_create) }
 {
-    program(alloc).subcommand(create(alloc)?)
+    let program = program(alloc, "nanddisk", "A NAND die in a file, served as a disk");
+    with_command(program, create(alloc)?)
 }
 
 // And `serve`.
 fn with_serve<'a>(alloc: Global) -> Result<Command<'a>, AllocError>
     ensures { IfOk result (λ command. app_of command ≡ Rattle.disk_words.specs.Words.with_serve) }
 {
-    with_create(alloc)?.subcommand(serve(alloc)?)
+    with_command(with_create(alloc)?, serve(alloc)?)
 }
 
 // The commands that the program has.
 fn grammar<'a>(alloc: Global) -> Result<Command<'a>, AllocError>
     ensures { IfOk result (λ command. app_of command ≡ Rattle.disk_words.specs.Words.grammar) }
 {
-    with_serve(alloc)?.subcommand(info(alloc)?)
-}
-
-// The text of help or of the version, where that was asked for.
-fn text_of(alloc: Global, error: &Error) -> Result<String, WordsFault>
-    ensures asked { OnOk result (IsTextFor error.now) }
-    ensures other { result ≡ Err WordsFault.NoSuchCommand → IsOtherKind error.now }
-{
-    match error.kind() {
-        ErrorKind::DisplayHelp | ErrorKind::DisplayVersion => Ok(error.to_string(alloc)?),
-        ErrorKind::OutOfMemory => Err(WordsFault::OutOfMemory),
-        _ => Err(WordsFault::NoSuchCommand),
-    }
-}
-
-// Whether a word that may stand once stood, by how often it did.
-fn once(count: u8) -> Option<bool>
-    ensures { result ≡ Rattle.disk_words.specs.Words.once count }
-{
-    match count {
-        0 => Some(false),
-        1 => Some(true),
-        _ => None,
-    }
+    with_command(with_serve(alloc)?, info(alloc)?)
 }
 
 // Whether the file is to be synced always, by the word of `--sync`.
@@ -354,8 +264,8 @@ fn asked_at<'a>(name: &str, found: &ArgMatches<'a>) -> Option<DiskWords<'a>>
 
 // What the command asks for that was met.
 fn command_asked<'a>(matches: &ArgMatches<'a>) -> Option<DiskWords<'a>>
-    ensures some { IfSome result (IsCommandOf (subcommand_rows_of matches.now)) }
-    ensures none { result ≡ None → (asked : DiskWords) → ¬ IsCommandOf (subcommand_rows_of matches.now) asked }
+    ensures some { IfSome result (IsCommandOf IsAt (subcommand_rows_of matches.now)) }
+    ensures none { result ≡ None → (asked : DiskWords) → ¬ IsCommandOf IsAt (subcommand_rows_of matches.now) asked }
 {
     let (name, found) = matches.subcommand()?;
     asked_at(name, found)
@@ -372,11 +282,12 @@ pub fn parse<'a>(alloc: Global, words: &'a [&'a str]) -> Result<DiskWords<'a>, W
     ensures ok { IfOk result (IsAsked (texts words.now)) }
     ensures none { result ≡ Err WordsFault.NoSuchCommand → IsNoCommand (texts words.now) }
 {
-    match grammar(alloc)?.try_get_matches_from(words) {
-        Ok(matches) => match command_asked(&matches) {
+    let grammar = grammar(alloc)?;
+    match read_words(alloc, grammar, words)? {
+        Met::Command(matches) => match command_asked(&matches) {
             Some(asked) => Ok(asked),
             None => Err(WordsFault::NoSuchCommand),
         },
-        Err(error) => Ok(DiskWords::Text(text_of(alloc, &error)?)),
+        Met::Text(text) => Ok(DiskWords::Text(text)),
     }
 }

@@ -9,7 +9,7 @@ use Rattle.lab_merge.specs.declared.merge.MergeFault.TheVariants as merge
 use Rattle.lab_merge.specs.InStep.{Tell}
 use Rattle.lab_merge.specs.Merged.{IsOfReading, IsUnmerged}
 use Rattle.lab_words.specs.declared.words.MergeWords.{MergeWords}
-use Rattle.lab_words.specs.Words.{texts}
+use Rattle.program_words.specs.Met.{texts}
 use Rattle.lab_commands.specs.declared.text.LabFault.{LabFault}
 use Rattle.lab_commands.specs.declared.text.LabFault.TheVariants as fault
 use Rattle.lab_commands.specs.Files.{Answers, AnswersNoMore, IsOpened, Kept}

@@ -10,7 +10,7 @@ use Rattle.lab_merge.specs.InStep.{Tell}
 use Rattle.lab_merge.specs.Merged.{IsMerged, IsOwnMerge}
 use Rattle.lab_report.specs.Reports.{merge_text}
 use Rattle.lab_words.specs.declared.words.MergeWords.{MergeWords}
-use Rattle.lab_words.specs.Words.{texts}
+use Rattle.program_words.specs.Met.{texts}
 use Rattle.lab_commands.specs.declared.text.LabFault.{LabFault}
 use Rattle.lab_commands.specs.declared.text.LabFault.TheVariants as fault
 use Rattle.lab_commands.specs.Files.{Answers, IsOpened, Kept, with_kept}

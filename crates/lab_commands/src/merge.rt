@@ -1,7 +1,7 @@
 //! The command `merge GEOM OUT DUMP DUMP..`.
 ghost use Rattle.std.specs.Prelude.{◌≡◌, ◌<◌, ℕ, List, [], get_or, length, map, OnOk, IfOk, IfErr};
 ghost use Rattle.lab_merge.specs.Merged.{IsOfReading};
-ghost use Rattle.lab_words.specs.Words.{texts};
+ghost use Rattle.program_words.specs.Met.{texts};
 ghost use Rattle.lab_commands.specs.Files.{AnswersNoMore};
 ghost use Rattle.lab_commands.specs.Merge.{AreOpened, HasSame, IsJoined, IsMergeFault, IsSomeUnread, IsUnjoined, IsUnopened, MayMerge, MayNotMerge, TellsFault, WroteMerge};
 ghost use Rattle.lab_commands.specs.Merge.{dumps_of};

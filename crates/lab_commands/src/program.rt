@@ -1,6 +1,6 @@
 //! The program's commands.
 ghost use Rattle.std.specs.Prelude.{OnOk, IfErr};
-ghost use Rattle.lab_words.specs.Words.{texts};
+ghost use Rattle.program_words.specs.Met.{texts};
 ghost use Rattle.lab_commands.specs.Program.{IsRefused, Obeyed, Runs};
 
 use crate::array::array_command;

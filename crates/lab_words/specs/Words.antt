@@ -1,13 +1,11 @@
 -- The words of the command line, as `clap` reads them.
-use Rattle.std.specs.Prelude.{◌≡◌, ◌≢◌, ◌⊎◌, ◌≤◌, ℕ, zero, suc, Bool, true, false, List, [], length, codes, Option, Some, None, map, option_map}
+use Rattle.std.specs.Prelude.{◌≡◌, ◌≤◌, ℕ, List, length, codes, Some, option_map}
 use Rattle.std.specs.Borrow.{Bor}
-use Rattle.clap.specs.declared.builder.action.ArgAction.{ArgAction}
-use Rattle.clap.specs.declared.builder.action.ArgAction.TheVariants.{Append, Count, Set}
-use Rattle.clap.specs.declared.error.Error.{Error}
-use Rattle.clap.specs.declared.error.kind.ErrorKind.{ErrorKind}
-use Rattle.clap.specs.declared.error.kind.ErrorKind.TheVariants.{DisplayHelp, DisplayVersion, OutOfMemory}
-use Rattle.clap.specs.Words.{App, Row, Rule, all_of, first_of, count_of, fault_of, kind_of, new_app, new_rule, subcommand_of, with_rule, with_subcommand, IsAmong}
-use Rattle.clap.specs.Simple.{on_top}
+use Rattle.clap.specs.declared.builder.action.ArgAction.TheVariants.{Append}
+use Rattle.clap.specs.Words.{App, Row, all_of, first_of, count_of, new_app, with_rule, with_subcommand}
+use Rattle.program_words.specs.Grammar.{flag, option, place, place_of, program}
+use Rattle.program_words.specs.Met.{AsksText, NamesCommand, once, texts}
+use Rattle.program_words.specs.Met as met
 use Rattle.lab_words.specs.declared.words.ArrayWords.{ArrayWords}
 use Rattle.lab_words.specs.declared.words.CompareWords.{CompareWords}
 use Rattle.lab_words.specs.declared.words.GeometryWords.{GeometryWords}
@@ -18,25 +16,7 @@ use Rattle.lab_words.specs.declared.words.SurveyWords.{SurveyWords}
 use Rattle.lab_words.specs.declared.words.Asked.{Asked}
 use Rattle.lab_words.specs.declared.words.Asked.TheVariants as asked
 
--- the texts behind references
-abbrev pub texts : List (Bor (List ℕ)) → List (List ℕ)
-texts words = map (λ word. word.now) words
-
 -- ---- what `clap` is told
-
-abbrev pub place_of : ArgAction → List ℕ → Rule
-place_of action id = record (new_rule id) { action = Some action; required = true }
-
-abbrev pub place : List ℕ → Rule
-place id = place_of Set id
-
--- behind two dashes
-abbrev pub flag : List ℕ → Rule
-flag id = record (new_rule id) { action = Some Count; long = Some id }
-
--- with another word behind it
-abbrev pub valued : List ℕ → Rule
-valued id = record (new_rule id) { action = Some Set; long = Some id; value_names = 1 }
 
 -- with the words that all commands have
 abbrev pub with_showing : App → App
@@ -58,10 +38,10 @@ abbrev pub geometry : App
 geometry = with_showing (with_rule (new_app (codes "geometry")) (place (codes "DUMP")))
 
 abbrev pub array : App
-array = with_showing (with_rule (writing (codes "array")) (valued (codes "map")))
+array = with_showing (with_rule (writing (codes "array")) (option (codes "map")))
 
 abbrev pub survey : App
-survey = with_showing (with_rule (of_dump (codes "survey")) (valued (codes "rows")))
+survey = with_showing (with_rule (of_dump (codes "survey")) (option (codes "rows")))
 
 abbrev pub compare : App
 compare = with_showing (with_rule (with_rule (of_geometry (codes "compare")) (place (codes "CERT"))) (place (codes "DUMP")))
@@ -74,25 +54,10 @@ abbrev pub merge : App
 merge = with_showing merge_plain
 
 abbrev pub repair : App
-repair = with_showing (with_rule (writing (codes "repair")) (valued (codes "rows")))
-
--- that tells its version
-abbrev pub versioned : App → App
-versioned app = on_top (λ s. record s { has_version = true }) app
-
--- that has no subcommand `help`
-abbrev pub without_help : App → App
-without_help app = on_top (λ s. record s { disable_help_subcommand = true }) app
-
--- that wants a command
-abbrev pub wanting : App → App
-wanting app = on_top (λ s. record s { subcommand_required = true }) app
-
-abbrev pub program : App
-program = wanting (without_help (versioned (new_app (codes "nandlab"))))
+repair = with_showing (with_rule (writing (codes "repair")) (option (codes "rows")))
 
 abbrev pub with_geometry : App
-with_geometry = with_subcommand program geometry.top
+with_geometry = with_subcommand (program (codes "nandlab")) geometry.top
 
 abbrev pub with_survey : App
 with_survey = with_subcommand with_geometry survey.top
@@ -111,12 +76,6 @@ abbrev pub grammar : App
 grammar = with_subcommand with_merge repair.top
 
 -- ---- what the words ask for
-
--- whether a word that may stand once stood, by how often it did
-abbrev pub once : ℕ → Option Bool
-once zero = Some false
-once (suc zero) = Some true
-once (suc (suc n)) = None
 
 -- how a command tells what it does is so
 pub record IsShowingAt (rows : List Row) (read : Showing) : Type 0 where
@@ -183,53 +142,16 @@ IsAt name rows (asked.Merge read) = (name ≡ codes "merge") × IsMergeAt rows r
 IsAt name rows (asked.Repair read) = (name ≡ codes "repair") × IsRepairAt rows read
 IsAt name rows (asked.Text text) = ⊥
 
--- the command that was met asks for that
-pub record IsCommandOf (met : Option (List ℕ × List Row)) (found : Asked) : Type 0 where
-  pub name : List ℕ
-  pub rows : List Row
-  pub named : option_map (λ p. p.0) met ≡ Some name
-  pub entries : option_map (λ p. p.1) met ≡ Some rows
-  pub read : IsAt name rows found
-
--- the error is the text of help or of the version
-abbrev pub IsTextFor : Error → Type 0
-IsTextFor e = (kind_of e ≡ DisplayHelp) ⊎ (kind_of e ≡ DisplayVersion)
-
--- no fault is found in the words as `clap` reads them, and they name a command, with these words
-abbrev pub NamesCommand : List (List ℕ) → Asked → Type 0
-NamesCommand words found = (fault_of grammar words ≡ []) × IsCommandOf (subcommand_of grammar words) found
-
 -- Of the words as `clap` reads them: they name a command, with these words, or they ask for help or for the version.
 abbrev pub IsAsked : List (List ℕ) → Asked → Type 0
-IsAsked words (asked.Geometry read) = NamesCommand words (asked.Geometry read)
-IsAsked words (asked.Array read) = NamesCommand words (asked.Array read)
-IsAsked words (asked.Survey read) = NamesCommand words (asked.Survey read)
-IsAsked words (asked.Compare read) = NamesCommand words (asked.Compare read)
-IsAsked words (asked.Merge read) = NamesCommand words (asked.Merge read)
-IsAsked words (asked.Repair read) = NamesCommand words (asked.Repair read)
-IsAsked words (asked.Text text) = IsAmong DisplayHelp (fault_of grammar words) ⊎ IsAmong DisplayVersion (fault_of grammar words)
+IsAsked words (asked.Geometry read) = NamesCommand IsAt grammar words (asked.Geometry read)
+IsAsked words (asked.Array read) = NamesCommand IsAt grammar words (asked.Array read)
+IsAsked words (asked.Survey read) = NamesCommand IsAt grammar words (asked.Survey read)
+IsAsked words (asked.Compare read) = NamesCommand IsAt grammar words (asked.Compare read)
+IsAsked words (asked.Merge read) = NamesCommand IsAt grammar words (asked.Merge read)
+IsAsked words (asked.Repair read) = NamesCommand IsAt grammar words (asked.Repair read)
+IsAsked words (asked.Text text) = AsksText grammar words
 
--- ---- what is no command
-
--- the error is of another kind, and memory didn't run out
-pub record IsOther (k : ErrorKind) : Type 0 where
-  pub help : k ≢ DisplayHelp
-  pub version : k ≢ DisplayVersion
-  pub memory : k ≢ OutOfMemory
-
-abbrev pub IsOtherKind : Error → Type 0
-IsOtherKind e = IsOther (kind_of e)
-
--- `clap` finds such a fault in the words
-pub record HasFault (words : List (List ℕ)) : Type 0 where
-  pub kind : ErrorKind
-  pub among : IsAmong kind (fault_of grammar words)
-  pub other : IsOther kind
-
--- it finds none, and they name no command with its words
-pub record NamesNone (words : List (List ℕ)) : Type 0 where
-  pub taken : fault_of grammar words ≡ []
-  pub none : (found : Asked) → ¬ IsCommandOf (subcommand_of grammar words) found
-
+-- `clap` finds another fault in them, or they name no command with its words
 abbrev pub IsNoCommand : List (List ℕ) → Type 0
-IsNoCommand words = HasFault words ⊎ NamesNone words
+IsNoCommand words = met.IsNoCommand IsAt grammar words

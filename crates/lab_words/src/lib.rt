@@ -3,7 +3,8 @@
 
 mod words;
 
+pub use program_words::WordsFault;
 pub use words::{
     ArrayWords, Asked, CompareWords, GeometryWords, MergeWords, RepairWords, Showing, SurveyWords,
-    WordsFault, parse,
+    parse,
 };

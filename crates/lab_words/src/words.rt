@@ -1,8 +1,10 @@
 //! The words of the command line: one level of subcommands, with help and a version.
-ghost use Rattle.std.specs.Prelude.{◌≡◌, ◌≢◌, ◌↔◌, ◌<◌, ◌++◌, [], List, ℕ, IfOk, IfSome, IfErr, OnOk, Ok, Some, None, Err, codes, false, option_map, IsTrue};
+ghost use Rattle.std.specs.Prelude.{◌≡◌, ◌≢◌, List, ℕ, IfOk, IfSome, Ok, None, Err, codes, false};
 ghost use Rattle.std.specs.Borrow.{Bor};
 ghost use Rattle.clap.specs.declared.builder.command.Command.{out-Command};
-ghost use Rattle.clap.specs.Words.{app_of, first_of, found_of, new_app, rows_of, rule_of, fault_of, subcommand_of, with_rule, with_subcommand, subcommand_rows_of, count_of};
+ghost use Rattle.clap.specs.Words.{app_of, found_of, rows_of, rule_of, subcommand_rows_of, with_rule};
+ghost use Rattle.program_words.specs.Grammar.{place};
+ghost use Rattle.program_words.specs.Met.{IsCommandOf, texts};
 ghost use Rattle.lab_words.specs.declared.words.ArrayWords.{ArrayWords};
 ghost use Rattle.lab_words.specs.declared.words.CompareWords.{CompareWords};
 ghost use Rattle.lab_words.specs.declared.words.GeometryWords.{GeometryWords};
@@ -11,10 +13,13 @@ ghost use Rattle.lab_words.specs.declared.words.RepairWords.{RepairWords};
 ghost use Rattle.lab_words.specs.declared.words.Showing.{Showing};
 ghost use Rattle.lab_words.specs.declared.words.SurveyWords.{SurveyWords};
 ghost use Rattle.lab_words.specs.declared.words.Asked.{Asked};
-ghost use Rattle.lab_words.specs.Words.{AreDumpsAt, IsArrayAt, IsAsked, IsAt, IsCommandOf, IsCompareAt, IsGeometryAt, IsMergeAt, IsNoCommand, IsOtherKind, IsRepairAt, IsShowingAt, IsSurveyAt, IsTextFor, texts};
+ghost use Rattle.lab_words.specs.Words.{AreDumpsAt, IsArrayAt, IsAsked, IsAt, IsCompareAt, IsGeometryAt, IsMergeAt, IsNoCommand, IsRepairAt, IsShowingAt, IsSurveyAt};
 
-use clap::error::ErrorKind;
-use clap::{Arg, ArgAction, ArgMatches, Command, Error};
+use clap::{Arg, ArgAction, ArgMatches, Command};
+use program_words::{
+    Met, WordsFault, flag, named, once, option, place, place_of, program, read_words, with_command,
+    with_word,
+};
 use std::alloc::{AllocError, Global};
 
 /// How a command tells what it does.
@@ -109,56 +114,9 @@ pub enum Asked<'a> {
     Text(String),
 }
 
-/// Why the words ask for nothing.
-#[derive(Clone, Copy, Debug, PartialEq, Eq)]
-pub enum WordsFault {
-    /// They are no command that the program has.
-    NoSuchCommand,
-    /// A growth was refused.
-    OutOfMemory,
-}
-
-impl From<AllocError> for WordsFault {
-    ghost use Rattle.std.specs.Prelude.{◌≡◌};
-    ghost use Rattle.lab_words.specs.declared.words.WordsFault.{WordsFault};
-
-    ghost from_gives = { λ _ fault. fault ≡ WordsFault.OutOfMemory };
-
-    fn from(_error: AllocError) -> WordsFault {
-        WordsFault::OutOfMemory
-    }
-}
-
-// A word that a command wants, what becomes of it, and what it is for.
-fn place_of<'a>(alloc: Global, id: &'a str, action: ArgAction, help: &'a str) -> Arg<'a>
-    ensures rule { rule_of result ≡ Rattle.lab_words.specs.Words.place_of action id.now }
-    ensures local { result.global ≡ false }
-{
-    Arg::new(alloc, id).required(true).action(action).help(help)
-}
-
-// A word that a command wants, and what it is for.
-fn place<'a>(alloc: Global, id: &'a str, help: &'a str) -> Arg<'a>
-    ensures rule { rule_of result ≡ Rattle.lab_words.specs.Words.place id.now }
-    ensures local { result.global ≡ false }
-{
-    place_of(alloc, id, ArgAction::Set, help)
-}
-
-// A word that may stand after two dashes, and what it is for.
-fn flag<'a>(alloc: Global, id: &'a str, help: &'a str) -> Arg<'a>
-    ensures rule { rule_of result ≡ Rattle.lab_words.specs.Words.flag id.now }
-    ensures local { result.global ≡ false }
-{
-    Arg::new(alloc, id)
-        .long(id)
-        .action(ArgAction::Count)
-        .help(help)
-}
-
 // The word that lets a file be replaced.
 fn force<'a>(alloc: Global) -> Arg<'a>
-    ensures rule { rule_of result ≡ Rattle.lab_words.specs.Words.flag (codes "force") }
+    ensures rule { rule_of result ≡ Rattle.program_words.specs.Grammar.flag (codes "force") }
     ensures local { result.global ≡ false }
 {
     flag(
@@ -166,36 +124,6 @@ fn force<'a>(alloc: Global) -> Arg<'a>
         "force",
         "Replaces a file to be written that is there already",
     )
-}
-
-// A word that may stand after two dashes with another one behind it, and what it is for.
-fn valued<'a>(alloc: Global, id: &'a str, value: &'a str, help: &'a str) -> Arg<'a>
-    ensures rule { rule_of result ≡ Rattle.lab_words.specs.Words.valued id.now }
-    ensures local { result.global ≡ false }
-{
-    Arg::new(alloc, id)
-        .long(id)
-        .value_name(value)
-        .action(ArgAction::Set)
-        .help(help)
-}
-
-// A command of this name, with no words yet.
-fn named<'a>(alloc: Global, name: &'a str, about: &'a str) -> Command<'a>
-    ensures app { app_of result ≡ new_app name.now }
-    ensures local { (out-Command result).has_globals ≡ false }
-{
-    Command::new(alloc, name).about(about)
-}
-
-// A command with one word more, which is its own alone.
-fn with_word<'a>(command: Command<'a>, word: Arg<'a>) -> Result<Command<'a>, AllocError>
-    requires command { (out-Command command).has_globals ≡ false }
-    requires word { word.global ≡ false }
-    ensures app { IfOk result (λ longer. app_of longer ≡ with_rule (app_of command.entry) (rule_of word.entry)) }
-    ensures local { IfOk result (λ longer. (out-Command longer).has_globals ≡ false) }
-{
-    command.arg(word)
 }
 
 // A command with the words that all have.
@@ -216,7 +144,7 @@ fn with_showing<'a>(alloc: Global, command: Command<'a>) -> Result<Command<'a>, 
 // A command with the word of a dump.
 fn with_dump<'a>(alloc: Global, command: Command<'a>) -> Result<Command<'a>, AllocError>
     requires { (out-Command command).has_globals ≡ false }
-    ensures app { IfOk result (λ longer. app_of longer ≡ with_rule (app_of command.entry) (Rattle.lab_words.specs.Words.place (codes "DUMP"))) }
+    ensures app { IfOk result (λ longer. app_of longer ≡ with_rule (app_of command.entry) (Rattle.program_words.specs.Grammar.place (codes "DUMP"))) }
     ensures local { IfOk result (λ longer. (out-Command longer).has_globals ≡ false) }
 {
     let dump = place(
@@ -286,7 +214,7 @@ fn array<'a>(alloc: Global) -> Result<Command<'a>, AllocError>
         "Writes every sector of a dump, as a disk image",
         "The disk image to be written",
     )?;
-    let map = valued(
+    let map = option(
         alloc,
         "map",
         "FILE",
@@ -305,7 +233,7 @@ fn survey<'a>(alloc: Global) -> Result<Command<'a>, AllocError>
         "survey",
         "Tells what a dump says of its die, and each reason why the die would not mount",
     )?;
-    let rows = valued(
+    let rows = option(
         alloc,
         "rows",
         "A..B",
@@ -372,7 +300,7 @@ fn repair<'a>(alloc: Global) -> Result<Command<'a>, AllocError>
         "Writes a dump with each page mended that one bit turned makes sound",
         "The dump to be written",
     )?;
-    let rows = valued(
+    let rows = option(
         alloc,
         "rows",
         "A..B",
@@ -381,51 +309,16 @@ fn repair<'a>(alloc: Global) -> Result<Command<'a>, AllocError>
     with_showing(alloc, with_word(command, rows)?)
 }
 
-// A program that tells its version.
-fn versioned<'a>(program: Command<'a>) -> Command<'a>
-    ensures { app_of result ≡ Rattle.lab_words.specs.Words.versioned (app_of program.entry) }
-{
-    program.version("0.1.0")
-}
-
-// A program with no subcommand `help`.
-fn without_help<'a>(program: Command<'a>) -> Command<'a>
-    ensures { app_of result ≡ Rattle.lab_words.specs.Words.without_help (app_of program.entry) }
-{
-    program.disable_help_subcommand(true)
-}
-
-// A program that wants a command.
-fn wanting<'a>(program: Command<'a>) -> Command<'a>
-    ensures { app_of result ≡ Rattle.lab_words.specs.Words.wanting (app_of program.entry) }
-{
-    program.subcommand_required(true)
-}
-
-// The program, with no command yet.
-fn program<'a>(alloc: Global) -> Command<'a>
-    ensures { app_of result ≡ Rattle.lab_words.specs.Words.program }
-{
-    wanting(without_help(versioned(named(
-        alloc,
-        "nandlab",
-        "Tools for recovery laboratories, on dumps of one NAND die",
-    ))))
-}
-
-// A program with one command more, whose words are its own.
-fn with_command<'a>(program: Command<'a>, command: Command<'a>) -> Result<Command<'a>, AllocError>
-    requires { (out-Command command).has_globals ≡ false }
-    ensures { IfOk result (λ more. app_of more ≡ with_subcommand (app_of program.entry) (app_of command.entry).top) }
-{
-    program.subcommand(command)
-}
-
 // With the command `geometry`.
 fn with_geometry<'a>(alloc: Global) -> Result<Command<'a>, AllocError>
     ensures { IfOk result (λ command. app_of command ≡ Rattle.lab_words.specs.Words.with_geometry) }
 {
-    with_command(program(alloc), geometry(alloc)?)
+    let program = program(
+        alloc,
+        "nandlab",
+        "Tools for recovery laboratories, on dumps of one NAND die",
+    );
+    with_command(program, geometry(alloc)?)
 }
 
 // And `survey`.
@@ -461,29 +354,6 @@ fn grammar<'a>(alloc: Global) -> Result<Command<'a>, AllocError>
     ensures { IfOk result (λ command. app_of command ≡ Rattle.lab_words.specs.Words.grammar) }
 {
     with_command(with_merge(alloc)?, repair(alloc)?)
-}
-
-// The text of help or of the version, where that was asked for.
-fn text_of(alloc: Global, error: &Error) -> Result<String, WordsFault>
-    ensures asked { OnOk result (IsTextFor error.now) }
-    ensures other { result ≡ Err WordsFault.NoSuchCommand → IsOtherKind error.now }
-{
-    match error.kind() {
-        ErrorKind::DisplayHelp | ErrorKind::DisplayVersion => Ok(error.to_string(alloc)?),
-        ErrorKind::OutOfMemory => Err(WordsFault::OutOfMemory),
-        _ => Err(WordsFault::NoSuchCommand),
-    }
-}
-
-// Whether a word that may stand once stood, by how often it did.
-fn once(count: u8) -> Option<bool>
-    ensures { result ≡ Rattle.lab_words.specs.Words.once count }
-{
-    match count {
-        0 => Some(false),
-        1 => Some(true),
-        _ => None,
-    }
 }
 
 // How a command tells what it does, where its matches say so.
@@ -650,8 +520,8 @@ fn command_asked<'a>(
     alloc: Global,
     matches: &ArgMatches<'a>,
 ) -> Result<Option<Asked<'a>>, AllocError>
-    ensures some { IfOk result (λ asked. IfSome asked (IsCommandOf (subcommand_rows_of matches.now))) }
-    ensures none { result ≡ Ok None → (asked : Asked) → ¬ IsCommandOf (subcommand_rows_of matches.now) asked }
+    ensures some { IfOk result (λ asked. IfSome asked (IsCommandOf IsAt (subcommand_rows_of matches.now))) }
+    ensures none { result ≡ Ok None → (asked : Asked) → ¬ IsCommandOf IsAt (subcommand_rows_of matches.now) asked }
 {
     match matches.subcommand() {
         Some((name, found)) => asked_at(alloc, name, found),
@@ -669,11 +539,12 @@ pub fn parse<'a>(alloc: Global, words: &'a [&'a str]) -> Result<Asked<'a>, Words
     ensures ok { IfOk result (IsAsked (texts words.now)) }
     ensures none { result ≡ Err WordsFault.NoSuchCommand → IsNoCommand (texts words.now) }
 {
-    match grammar(alloc)?.try_get_matches_from(words) {
-        Ok(matches) => match command_asked(alloc, &matches)? {
+    let grammar = grammar(alloc)?;
+    match read_words(alloc, grammar, words)? {
+        Met::Command(matches) => match command_asked(alloc, &matches)? {
             Some(asked) => Ok(asked),
             None => Err(WordsFault::NoSuchCommand),
         },
-        Err(error) => Ok(Asked::Text(text_of(alloc, &error)?)),
+        Met::Text(text) => Ok(Asked::Text(text)),
     }
 }

@@ -1,6 +1,6 @@
 use Rattle.std.proofs.Common.{codes}
 use Rattle.clap.specs.Words.{found_of}
-use Rattle.disk_words.proofs.GrammarLemmas.{option_at, word_at, lacks}
+use Rattle.program_words.proofs.MatchLemmas.{option_at, word_at, lacks}
 use Rattle.disk_words.proofs.words.create_words.Goals as goal
 
 pub returns-in_err-get_str-clause-none : goal.returns-in_err-get_str-clause-none

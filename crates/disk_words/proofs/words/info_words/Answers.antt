@@ -1,7 +1,7 @@
 use Rattle.std.proofs.Common.{codes, ap, sym, ◌∙◌}
 use Rattle.clap.specs.Words.{found_of}
-use Rattle.disk_words.specs.Words.{once}
-use Rattle.disk_words.proofs.GrammarLemmas.{word_at, lacks}
+use Rattle.program_words.specs.Met.{once}
+use Rattle.program_words.proofs.MatchLemmas.{word_at, lacks}
 use Rattle.disk_words.proofs.words.info_words.Goals as goal
 
 pub returns-in_err-get_str-clause-none : goal.returns-in_err-get_str-clause-none

@@ -1,6 +1,7 @@
 use Rattle.std.proofs.Common.{codes, sym, ◌∙◌}
 use Rattle.clap.specs.Words.{found_of, rows_of}
-use Rattle.disk_words.proofs.GrammarLemmas.{made, option_at, unmade}
+use Rattle.program_words.proofs.MatchLemmas.{option_at}
+use Rattle.disk_words.proofs.GrammarLemmas.{made, unmade}
 use Rattle.disk_words.proofs.words.make_words.Goals as goal
 
 pub returns-clause-some : goal.returns-clause-some

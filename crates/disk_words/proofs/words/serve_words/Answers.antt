@@ -1,7 +1,9 @@
 use Rattle.std.proofs.Common.{codes, ap, sym, ◌∙◌}
 use Rattle.clap.specs.Words.{found_of}
-use Rattle.disk_words.specs.Words.{always, once}
-use Rattle.disk_words.proofs.GrammarLemmas.{clash, option_at, word_at, lacks}
+use Rattle.program_words.specs.Met.{once}
+use Rattle.disk_words.specs.Words.{always}
+use Rattle.program_words.proofs.MatchLemmas.{option_at, word_at, lacks}
+use Rattle.disk_words.proofs.GrammarLemmas.{clash}
 use Rattle.disk_words.proofs.words.serve_words.Goals as goal
 
 pub returns-in_err-get_str-clause-none : goal.returns-in_err-get_str-clause-none

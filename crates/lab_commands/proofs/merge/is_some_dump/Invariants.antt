@@ -1,5 +1,5 @@
 use Rattle.std.proofs.Common.{◌≡◌}
-use Rattle.lab_words.specs.Words.{texts}
+use Rattle.program_words.specs.Met.{texts}
 use Rattle.lab_commands.specs.Merge.{AreOthersBelow}
 use Rattle.lab_commands.proofs.merge.is_some_dump.Given as goal
 

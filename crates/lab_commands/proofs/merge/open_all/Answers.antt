@@ -1,5 +1,5 @@
 use Rattle.std.proofs.Common.{◌∙◌, arith}
-use Rattle.lab_words.specs.Words.{texts}
+use Rattle.program_words.specs.Met.{texts}
 use Rattle.lab_commands.specs.Merge.{IsUnopened}
 use Rattle.lab_commands.proofs.MergeLemmas.{opened_more, unopened_at}
 use Rattle.lab_commands.proofs.UndoneLemmas.{handed_on, no_more_then}

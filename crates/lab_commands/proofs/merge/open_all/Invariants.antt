@@ -1,5 +1,5 @@
 use Rattle.std.proofs.Common.{◌≡◌, map}
-use Rattle.lab_words.specs.Words.{texts}
+use Rattle.program_words.specs.Met.{texts}
 use Rattle.lab_commands.specs.Files.{AnswersNoMore}
 use Rattle.lab_commands.specs.Merge.{AreOpenedBelow}
 use Rattle.lab_commands.proofs.merge.open_all.Given as goal

@@ -1,8 +1,8 @@
 use Rattle.std.proofs.Common.{codes, ap, sym, ◌∙◌}
 use Rattle.clap.specs.Words.{found_of}
 use Rattle.clap.proofs.WalkLemmas.{first_value-rows}
-use Rattle.lab_words.specs.Words.{once}
-use Rattle.lab_words.proofs.GrammarLemmas.{word_at, lacks}
+use Rattle.program_words.specs.Met.{once}
+use Rattle.program_words.proofs.MatchLemmas.{word_at, lacks}
 use Rattle.lab_words.proofs.words.array_words.Goals as goal
 
 pub returns-in_err-get_str-clause-none : goal.returns-in_err-get_str-clause-none

@@ -1,6 +1,6 @@
 use Rattle.std.proofs.Common.{codes}
 use Rattle.clap.specs.Words.{found_of}
-use Rattle.lab_words.proofs.GrammarLemmas.{word_at, lacks}
+use Rattle.program_words.proofs.MatchLemmas.{word_at, lacks}
 use Rattle.lab_words.proofs.words.compare_words.Goals as goal
 
 pub returns-in_err-get_str-clause-none : goal.returns-in_err-get_str-clause-none

@@ -1,6 +1,6 @@
 use Rattle.std.proofs.Common.{codes, arith}
 use Rattle.clap.specs.Words.{all_of, found_of, rows_of}
-use Rattle.lab_words.proofs.GrammarLemmas.{as_many, lacks_words, words_at}
+use Rattle.program_words.proofs.MatchLemmas.{as_many, lacks_words, words_at}
 use Rattle.lab_words.proofs.words.dump_words.Goals as goal
 
 pub returns-in_err-dumps-clause-none : goal.returns-in_err-dumps-clause-none

@@ -1,0 +1,2 @@
+pub mod MatchLemmas
+pub mod MetLemmas
