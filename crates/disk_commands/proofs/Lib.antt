@@ -1,0 +1,4 @@
+pub mod CreateLemmas
+pub mod OpeningLemmas
+pub mod ProgramLemmas
+pub mod ServeLemmas

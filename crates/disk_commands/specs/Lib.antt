@@ -1,3 +1,9 @@
-pub mod Text
 pub mod Asked
+pub mod Created
+pub mod Files
 pub mod Info
+pub mod Opening
+pub mod Program
+pub mod Serve
+pub mod Text
+pub mod Told

@@ -2,29 +2,29 @@
 ghost use Rattle.std.specs.Prelude.{◌≡◌, ◌≢◌};
 ghost use Rattle.std.specs.IoError.{error_kind};
 
-use disk_commands::DiskFault;
+use disk_commands::FileFault;
 use std::io::{Error, ErrorKind};
 
 /// Why a file was not read, by the system's error.
-pub fn unread(path: &str, error: Error) -> DiskFault<'_>
-    ensures memory { error_kind error ≡ ErrorKind.OutOfMemory → result ≡ DiskFault.OutOfMemory }
-    ensures other { error_kind error ≢ ErrorKind.OutOfMemory → result ≡ DiskFault.Read path.entry }
+pub fn unread(error: Error) -> FileFault
+    ensures memory { error_kind error ≡ ErrorKind.OutOfMemory → result ≡ FileFault.OutOfMemory }
+    ensures other { error_kind error ≢ ErrorKind.OutOfMemory → result ≡ FileFault.Read }
 {
     if error.kind() == ErrorKind::OutOfMemory {
-        DiskFault::OutOfMemory
+        FileFault::OutOfMemory
     } else {
-        DiskFault::Read(path)
+        FileFault::Read
     }
 }
 
 /// Why a file was not written.
-pub fn unwritten(path: &str, error: Error) -> DiskFault<'_>
-    ensures memory { error_kind error ≡ ErrorKind.OutOfMemory → result ≡ DiskFault.OutOfMemory }
-    ensures other { error_kind error ≢ ErrorKind.OutOfMemory → result ≡ DiskFault.Write path.entry }
+pub fn unwritten(error: Error) -> FileFault
+    ensures memory { error_kind error ≡ ErrorKind.OutOfMemory → result ≡ FileFault.OutOfMemory }
+    ensures other { error_kind error ≢ ErrorKind.OutOfMemory → result ≡ FileFault.Write }
 {
     if error.kind() == ErrorKind::OutOfMemory {
-        DiskFault::OutOfMemory
+        FileFault::OutOfMemory
     } else {
-        DiskFault::Write(path)
+        FileFault::Write
     }
 }

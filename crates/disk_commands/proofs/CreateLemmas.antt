@@ -1,0 +1,63 @@
+-- Why a die was not made.
+use Rattle.std.proofs.Common.{◌≡◌, inl, inr, ℕ, Bool, true, false, List, Option, refl, subst, ◌∙◌}
+use Rattle.std.specs.Prelude.{Result, Ok, Err, IfErr, OnOk}
+use Rattle.std.specs.Borrow.{Bor}
+use Rattle.page_layout.specs.declared.geometry.Geometry.{Geometry}
+use Rattle.file_die.specs.Store.{Held, blank}
+use Rattle.disk_server.specs.declared.format.CreateFault.{CreateFault}
+use Rattle.disk_server.specs.declared.format.CreateFault.TheVariants as create
+use Rattle.disk_server.specs.declared.opened.OpenStoreFault.TheVariants as open_store
+use Rattle.disk_server.specs.Made.{IsUnmade}
+use Rattle.disk_shape.specs.declared.shapes.Shape.{Shape}
+use Rattle.disk_shape.specs.Text.{shape_text}
+use Rattle.disk_words.specs.declared.words.CreateWords.{CreateWords}
+use Rattle.disk_commands.specs.declared.files.FileFault.TheVariants as file
+use Rattle.disk_commands.specs.declared.text.DiskFault.{DiskFault}
+use Rattle.disk_commands.specs.declared.text.DiskFault.TheVariants as fault
+use Rattle.disk_commands.specs.Asked.{IsShapeAsked}
+use Rattle.disk_commands.specs.Created.{HasCreated, IsDieFor, IsUncreated, IsUnformatted, IsUnkept, IsUnmadeFor, unformatted}
+use Rattle.disk_commands.specs.Files.{Answers, FailsNoMore, Kept, with_kept}
+
+-- erased pages were not formatted, for this
+pub not_formatted : {S : Type 0} (held : S → Held) (honest : S → Bool) (failed : S → ℕ) (a : Answers) (path : Bor (List ℕ)) (g : Geometry) (store given : S) (why : CreateFault)
+    → honest store ≡ a.honest → (honest store ≡ true → held store ≡ blank g) → IsUnmade held honest failed store given why
+    → IsUnformatted held honest failed a path.now g (unformatted path why)
+not_formatted held honest failed a path g store given (create.Open open_store.OutOfMemory) is erased un = tt
+not_formatted held honest failed a path g store given (create.Open open_store.Device) is erased un = (refl, (store, given, is, erased, un))
+not_formatted held honest failed a path g store given (create.Open open_store.Reset) is erased un = (refl, (store, given, is, erased, un))
+not_formatted held honest failed a path g store given (create.Open open_store.Flush) is erased un = (refl, (store, given, is, erased, un))
+not_formatted held honest failed a path g store given (create.Open (open_store.Mount refusal)) is erased un = (refl, (store, given, is, erased, un))
+not_formatted held honest failed a path g store given (create.Format fault) is erased un = (refl, (store, given, is, erased, un))
+not_formatted held honest failed a path g store given create.Sync is erased un = (refl, (store, given, is, erased, un))
+
+-- a die that was made was put in its place
+pub created : {S : Type 0} (held : S → Held) (honest : S → Bool) (a : Answers) (words : CreateWords) (shape : Shape) (before between after : Option (List Kept)) (store : S) (result : Result (Unit {0}) DiskFault)
+    → IsShapeAsked words shape → a.says_there words.disk.now false → (honest store ≡ true → IsDieFor a words.make shape (held store)) → honest store ≡ a.honest → between ≡ before
+    → OnOk result (after ≡ with_kept between (record { path = words.disk.now; held = held store; text = shape_text shape }))
+    → OnOk result (HasCreated held honest a words before after)
+created held honest a words shape before between after store (Ok done) asked free die is same kept =
+    record {
+      shape = shape;
+      asked = asked;
+      free = free;
+      store = store;
+      die = die;
+      is_honest = is;
+      kept = subst (λ b. after ≡ with_kept b (record { path = words.disk.now; held = held store; text = shape_text shape })) same kept;
+    }
+created held honest a words shape before between after store (Err told) asked free die is same kept = tt
+
+-- or was not
+unkept_before : (a b : Answers) (path : List ℕ) (told : DiskFault) → FailsNoMore a b → IsUnkept b path told → IsUnkept a path told
+unkept_before a b path (fault.Read word) no_more h = (h.0, no_more path file.Read h.1)
+unkept_before a b path (fault.Write word) no_more h = (h.0, no_more path file.Write h.1)
+unkept_before a b path (fault.InUse word) no_more h = (h.0, no_more path file.InUse h.1)
+unkept_before a b path (fault.Exists word) no_more h = (h.0, no_more path file.Exists h.1)
+unkept_before a b path (fault.Length word found wanted) no_more h = (h.0, h.1, no_more path (file.Length found) h.2)
+unkept_before a b path fault.OutOfMemory no_more h = tt
+unkept_before a b path _ no_more h = absurd h
+
+pub not_kept : {S : Type 0} (held : S → Held) (honest : S → Bool) (failed : S → ℕ) (a b : Answers) (words : CreateWords) (shape : Shape) (result : Result (Unit {0}) DiskFault)
+    → IsShapeAsked words shape → a.says_there words.disk.now false → FailsNoMore a b → IfErr result (IsUnkept b words.disk.now) → IfErr result (IsUncreated held honest failed a words)
+not_kept held honest failed a b words shape (Ok done) asked free no_more h = tt
+not_kept held honest failed a b words shape (Err told) asked free no_more h = inr (inr (shape, asked, free, inr (unkept_before a b words.disk.now told no_more h)))

@@ -1,0 +1,64 @@
+-- How a fault of a file is told.
+use Rattle.std.proofs.Common.{◌≡◌, inl, inr, ℕ, Bool, List, refl, subst, sym}
+use Rattle.std.specs.Borrow.{Bor}
+use Rattle.disk_commands.specs.declared.files.FileFault.{FileFault}
+use Rattle.disk_commands.specs.declared.files.FileFault.TheVariants as file
+use Rattle.disk_commands.specs.declared.text.DiskFault.{DiskFault}
+use Rattle.disk_commands.specs.declared.text.DiskFault.TheVariants as fault
+use Rattle.disk_commands.specs.Files.{Answers, FailsCopy, FailsNoMore}
+use Rattle.file_die.specs.Store.{Held}
+use Rattle.disk_shape.specs.declared.shapes.Shape.{Shape}
+use Rattle.disk_server.specs.declared.opened.OpenStoreFault.{OpenStoreFault}
+use Rattle.disk_server.specs.Stopped.{IsUnopenedLater}
+use Rattle.disk_commands.specs.Opening.{IsCopyFault, IsFaultAt, IsNotFree, IsShapeAt, IsShapeFault, IsStoreAt, IsUnopenedAt, told_at, told_of_copy}
+
+pub fault_at : (a : Answers) (f : FileFault) (path : Bor (List ℕ)) (wanted : ℕ) → a.fails path.now f → IsFaultAt a path.now wanted (told_at f path wanted)
+fault_at a file.Read path wanted h = (refl, h)
+fault_at a file.Write path wanted h = (refl, h)
+fault_at a file.InUse path wanted h = (refl, h)
+fault_at a file.Exists path wanted h = (refl, h)
+fault_at a (file.Length found) path wanted h = (refl, refl, h)
+fault_at a file.OutOfMemory path wanted h = h
+
+pub copy_fault : (a : Answers) (f : FileFault) (path dump : Bor (List ℕ)) (wanted : ℕ) → FailsCopy a path.now dump.now f → IsCopyFault a path.now dump.now wanted (told_of_copy f path dump wanted)
+copy_fault a file.Read path dump wanted h = inl (refl, h)
+copy_fault a file.Write path dump wanted h = inr (refl, h)
+copy_fault a file.InUse path dump wanted h = inr (refl, h)
+copy_fault a file.Exists path dump wanted h = inr (refl, h)
+copy_fault a (file.Length found) path dump wanted h = inl (refl, refl, h)
+copy_fault a file.OutOfMemory path dump wanted h = inr h
+
+-- a file of the shape could not be read
+pub shape_fault : (a : Answers) (f : FileFault) (path : Bor (List ℕ)) → a.fails path.now f → IsShapeFault a path.now (told_at f path 0)
+shape_fault a file.Read path h = (refl, h)
+shape_fault a file.Write path h = (refl, h)
+shape_fault a file.InUse path h = (refl, h)
+shape_fault a file.Exists path h = (refl, h)
+shape_fault a (file.Length found) path h = (refl, refl, h)
+shape_fault a file.OutOfMemory path h = h
+
+-- what stands at a path could not be asked
+pub not_free : (a : Answers) (f : FileFault) (path : Bor (List ℕ)) → a.fails path.now f → IsNotFree a path.now (told_at f path 0)
+not_free a file.Read path h = (refl, h)
+not_free a file.Write path h = (refl, h)
+not_free a file.InUse path h = (refl, h)
+not_free a file.Exists path h = (refl, inr h)
+not_free a (file.Length found) path h = (refl, refl, h)
+not_free a file.OutOfMemory path h = h
+
+-- ---- why a disk was not opened
+
+pub no_file : {S : Type 0} (held : S → Held) (honest : S → Bool) (failed : S → ℕ) (a b : Answers) (f : FileFault) (path : Bor (List ℕ)) (wanted : ℕ) (shape : Shape) (told : DiskFault)
+    → b ≡ a → IsShapeAt a path.now shape → b.fails path.now f → told ≡ told_at f path wanted → IsUnopenedAt held honest failed a path.now told
+no_file held honest failed a b f path wanted shape told same at fails is =
+    inr (inl (shape, at, (wanted, subst (IsFaultAt a path.now wanted) (sym is) (fault_at a f path wanted (subst (λ x. x.fails path.now f) same fails)))))
+
+-- what holds of a store that was opened
+pub store_at : {S : Type 0} (held : S → Held) (honest : S → Bool) (a b : Answers) (path : List ℕ) (shape : Shape) (store : S)
+    → b ≡ a → IsShapeAt a path shape → b.holds path (held store) → (held store).geometry ≡ shape.geometry → honest store ≡ b.honest → IsStoreAt held honest a path shape store
+store_at held honest a b path shape store same at holds geometry is =
+    record { shape = at; holds = subst (λ x. x.holds path (held store)) same holds; geometry = geometry; is_honest = subst (λ x. honest store ≡ x.honest) same is }
+
+pub no_disk : {S : Type 0} (held : S → Held) (honest : S → Bool) (failed : S → ℕ) (a : Answers) (path : Bor (List ℕ)) (shape : Shape) (store : S) (why : OpenStoreFault)
+    → IsStoreAt held honest a path.now shape store → IsUnopenedLater held honest failed store shape.cache why → IsUnopenedAt held honest failed a path.now (fault.Open path why)
+no_disk held honest failed a path shape store why at un = inr (inr (refl, (shape, store, at, un)))

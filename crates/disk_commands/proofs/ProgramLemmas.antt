@@ -1,0 +1,28 @@
+-- What each command comes to, by its answer.
+use Rattle.std.proofs.Common.{◌≡◌, ℕ, Bool, List, Option}
+use Rattle.std.specs.Prelude.{Result, Ok, Err, OnOk, OnErr, IfErr}
+use Rattle.std.specs.Io.KnownBytes.{Appends}
+use Rattle.file_die.specs.Store.{Held}
+use Rattle.disk_words.specs.declared.words.CreateWords.{CreateWords}
+use Rattle.disk_words.specs.declared.words.InfoWords.{InfoWords}
+use Rattle.disk_commands.specs.declared.text.DiskFault.{DiskFault}
+use Rattle.disk_commands.specs.Created.{HasCreated, IsUncreated}
+use Rattle.disk_commands.specs.Files.{Answers}
+use Rattle.disk_commands.specs.Program.{Around, Creates, Prints, Tells}
+use Rattle.disk_commands.specs.Told.{HasTold, IsUnprinted, IsUntold}
+
+pub creates : {S : Type 0} (held : S → Held) (honest : S → Bool) (failed : S → ℕ) (a : Answers) (words : CreateWords) (old new : Around) (result : Result (Unit {0}) DiskFault)
+    → OnOk result (HasCreated held honest a words old.kept new.kept) → IfErr result (IsUncreated held honest failed a words) → OnErr result (new.kept ≡ old.kept)
+    → Creates held honest failed a words old new result
+creates held honest failed a words old new (Ok done) made fault kept = made
+creates held honest failed a words old new (Err told) made fault kept = (fault, kept)
+
+pub tells : {S : Type 0} (held : S → Held) (honest : S → Bool) (failed : S → ℕ) (a : Answers) (words : InfoWords) (old new : Around) (result : Result (Unit {0}) DiskFault)
+    → OnOk result (HasTold held honest a words old.out new.out) → IfErr result (IsUntold held honest failed a words old.out new.out) → Tells held honest failed a words old new result
+tells held honest failed a words old new (Ok done) printed fault = printed
+tells held honest failed a words old new (Err told) printed fault = fault
+
+pub prints : (text : List ℕ) (old new : Around) (result : Result (Unit {0}) DiskFault)
+    → OnOk result (Appends old.out new.out text) → IfErr result IsUnprinted → Prints text old new result
+prints text old new (Ok done) printed fault = printed
+prints text old new (Err told) printed fault = fault

@@ -1,0 +1,13 @@
+use Rattle.std.proofs.Common.{refl}
+use Rattle.disk_commands.proofs.ServeLemmas.{flushed}
+use Rattle.disk_commands.proofs.serve.end_session.Goals as goal
+
+pub returns-in-Ok : goal.returns-in-Ok
+returns-in-Ok g c =
+    flushed g.S.Sectors.contents g.S.Sectors.honest g.Y.Syncs.synced c.args.read_only c.args.path c.args.disk.now c.flush.new.self c.args.served c.flush.result _ c.end_of-in-Ok.result
+    c.if-read_only.false c.flush.ensures.performs c.flush.ensures.synced c.in-Ok.is c.end_of-in-Ok.ensures
+
+pub returns-in-Err : goal.returns-in-Err
+returns-in-Err g c =
+    flushed g.S.Sectors.contents g.S.Sectors.honest g.Y.Syncs.synced c.args.read_only c.args.path c.args.disk.now c.flush.new.self c.args.served c.flush.result _ _
+    c.if-read_only.false c.flush.ensures.performs c.flush.ensures.synced c.in-Err.is refl

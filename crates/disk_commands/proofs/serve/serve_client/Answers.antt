@@ -1,0 +1,14 @@
+use Rattle.std.proofs.Common.{inl, sym, subst, ◌∙◌}
+use Rattle.disk_commands.proofs.ServeLemmas.{limited}
+use Rattle.disk_commands.proofs.serve.serve_client.Goals as goal
+
+pub returns : goal.returns
+returns g c = inl (record {
+  first = c.new-disk.result;
+  disk_is = c.new-disk.ensures.disk;
+  syncs_is = c.new-disk.ensures.syncs;
+  last = c.serve_synced-served.new.disk;
+  answer = c.serve_synced-served.result;
+  serves = limited _ _ _ _ _ _ _ _ _ _ _ _ _ c.serve_synced-served.result (c.serve_synced-served.auto.buffer ∙ c.deref_mut.ensures.len ∙ c.in-Ok.ensures.len) c.serve_synced-served.ensures;
+  ends = c.end_session.ensures;
+})

@@ -1,0 +1,87 @@
+-- The disk at a path: its shape, its die, and how a fault of its files is told.
+use Rattle.std.specs.Prelude.{◌≡◌, ◌⊎◌, ℕ, Bool, true, List}
+use Rattle.std.specs.Borrow.{Bor}
+use Rattle.file_die.specs.Store.{Held}
+use Rattle.disk_shape.specs.declared.shapes.Shape.{Shape}
+use Rattle.disk_shape.specs.Text.{IsNoShape, IsShapeText}
+use Rattle.disk_server.specs.Stopped.{IsUnopenedLater}
+use Rattle.disk_commands.specs.declared.files.FileFault.{FileFault}
+use Rattle.disk_commands.specs.declared.files.FileFault.TheVariants as file
+use Rattle.disk_commands.specs.declared.text.DiskFault.{DiskFault}
+use Rattle.disk_commands.specs.declared.text.DiskFault.TheVariants as fault
+use Rattle.disk_commands.specs.Files.{Answers}
+
+-- ---- a fault
+
+-- how a fault of a file is told, of a path that so many bytes were wanted of
+abbrev pub told_at : FileFault → Bor (List ℕ) → (wanted : ℕ) → DiskFault
+told_at file.Read path wanted = fault.Read path
+told_at file.Write path wanted = fault.Write path
+told_at file.InUse path wanted = fault.InUse path
+told_at file.Exists path wanted = fault.Exists path
+told_at (file.Length found) path wanted = fault.Length path found wanted
+told_at file.OutOfMemory path wanted = fault.OutOfMemory
+
+-- and one of a copy of a dump
+abbrev pub told_of_copy : FileFault → (path dump : Bor (List ℕ)) → (wanted : ℕ) → DiskFault
+told_of_copy file.Read path dump wanted = fault.Read dump
+told_of_copy file.Write path dump wanted = fault.Write path
+told_of_copy file.InUse path dump wanted = fault.InUse path
+told_of_copy file.Exists path dump wanted = fault.Exists path
+told_of_copy (file.Length found) path dump wanted = fault.Length dump found wanted
+told_of_copy file.OutOfMemory path dump wanted = fault.OutOfMemory
+
+-- a call that names this path failed, and that is told of the path
+abbrev pub IsFaultAt : Answers → (path : List ℕ) → (wanted : ℕ) → DiskFault → Type 0
+IsFaultAt a path wanted (fault.Read told) = (told.now ≡ path) × a.fails path file.Read
+IsFaultAt a path wanted (fault.Write told) = (told.now ≡ path) × a.fails path file.Write
+IsFaultAt a path wanted (fault.InUse told) = (told.now ≡ path) × a.fails path file.InUse
+IsFaultAt a path wanted (fault.Exists told) = (told.now ≡ path) × a.fails path file.Exists
+IsFaultAt a path wanted (fault.Length told found due) = (told.now ≡ path) × (due ≡ wanted) × a.fails path (file.Length found)
+IsFaultAt a path wanted fault.OutOfMemory = a.fails path file.OutOfMemory
+IsFaultAt a path wanted _ = ⊥
+
+-- a copy failed, for the dump or for what was made
+abbrev pub IsCopyFault : Answers → (path dump : List ℕ) → (wanted : ℕ) → DiskFault → Type 0
+IsCopyFault a path dump wanted told = IsFaultAt a dump wanted told ⊎ IsFaultAt a path wanted told
+
+-- something stands at the path, or they could not be asked
+abbrev pub IsNotFree : Answers → List ℕ → DiskFault → Type 0
+IsNotFree a path (fault.Exists told) = (told.now ≡ path) × (a.says_there path true ⊎ a.fails path file.Exists)
+IsNotFree a path told = IsFaultAt a path 0 told
+
+-- ---- its shape
+
+-- the file beside the disk tells it
+pub record IsShapeAt (a : Answers) (path : List ℕ) (s : Shape) : Type 0 where
+  pub text : List ℕ
+  pub tells : a.tells path text
+  pub says : IsShapeText text s
+
+-- that file could not be read, or it tells none
+abbrev pub IsShapeFault : Answers → List ℕ → DiskFault → Type 0
+IsShapeFault a path (fault.Shape told why) = (told.now ≡ path) × ((text : List ℕ) × a.tells path text × IsNoShape text why)
+IsShapeFault a path told = IsFaultAt a path 0 told
+
+-- ---- its die
+
+-- THE STORE OF THE DISK AT A PATH: it holds what the file of the path does, with the geometry of the shape that is told beside it
+pub record IsStoreAt {S : Type 0} (held : S → Held) (honest : S → Bool) (a : Answers) (path : List ℕ) (s : Shape) (store : S) : Type 0 where
+  pub shape : IsShapeAt a path s
+  pub holds : a.holds path (held store)
+  pub geometry : (held store).geometry ≡ s.geometry
+  pub is_honest : honest store ≡ a.honest
+
+-- of a store that was opened at the path there is no disk, for this reason; or a growth was refused
+abbrev pub IsNoDisk : {S : Type 0} → (S → Held) → (honest : S → Bool) → (failed : S → ℕ) → Answers → List ℕ → DiskFault → Type 0
+IsNoDisk {S} held honest failed a path (fault.Open told why) =
+    (told.now ≡ path) × ((shape : Shape) × (store : S) × IsStoreAt held honest a path shape store × IsUnopenedLater held honest failed store shape.cache why)
+IsNoDisk held honest failed a path fault.OutOfMemory = Unit {0}
+IsNoDisk held honest failed a path _ = ⊥
+
+-- why the disk at a path was not opened: for its shape, for its file, or for what the file holds
+abbrev pub IsUnopenedAt : {S : Type 0} → (S → Held) → (honest : S → Bool) → (failed : S → ℕ) → Answers → List ℕ → DiskFault → Type 0
+IsUnopenedAt held honest failed a path told =
+    IsShapeFault a path told
+    ⊎ ((shape : Shape) × IsShapeAt a path shape × ((wanted : ℕ) × IsFaultAt a path wanted told))
+    ⊎ IsNoDisk held honest failed a path told

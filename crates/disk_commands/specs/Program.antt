@@ -1,0 +1,73 @@
+-- What a run of the program comes to.
+use Rattle.std.specs.Prelude.{◌≡◌, ◌⊎◌, ℕ, Bool, List, Option, Result, Ok, Err, string_bytes}
+use Rattle.std.specs.Io.KnownBytes.{Appends}
+use Rattle.file_die.specs.Store.{Held}
+use Rattle.disk_words.specs.declared.words.CreateWords.{CreateWords}
+use Rattle.disk_words.specs.declared.words.InfoWords.{InfoWords}
+use Rattle.disk_words.specs.declared.words.DiskWords.{DiskWords}
+use Rattle.disk_words.specs.declared.words.DiskWords.TheVariants as asked
+use Rattle.disk_words.specs.Words.{IsAsked, IsNoCommand}
+use Rattle.disk_commands.specs.declared.text.DiskFault.{DiskFault}
+use Rattle.disk_commands.specs.declared.text.DiskFault.TheVariants as fault
+use Rattle.disk_commands.specs.Created.{HasCreated, IsUncreated}
+use Rattle.disk_commands.specs.Files.{Answers, Kept}
+use Rattle.disk_commands.specs.Serve.{HasNotServed, HasServedAt}
+use Rattle.disk_commands.specs.Text.{IsTold}
+use Rattle.disk_commands.specs.Told.{HasTold, IsUnprinted, IsUntold}
+
+-- WHAT A RUN MEETS AND LEAVES: the disks that were put in their places, what is left to be read, and what was printed
+pub record Around : Type 0 where
+  pub kept : Option (List Kept)
+  pub input : Option (List ℕ)
+  pub out : Option (List ℕ)
+
+-- ---- each command, by its answer
+
+-- a text was printed, or that failed
+abbrev pub Prints : (text : List ℕ) → (old new : Around) → Result (Unit {0}) DiskFault → Type 0
+Prints text old new (Ok done) = Appends old.out new.out text
+Prints text old new (Err told) = IsUnprinted told
+
+-- a disk was made, or none
+abbrev pub Creates : {S : Type 0} → (S → Held) → (honest : S → Bool) → (failed : S → ℕ) → Answers → CreateWords → (old new : Around) → Result (Unit {0}) DiskFault → Type 0
+Creates held honest failed a words old new (Ok done) = HasCreated held honest a words old.kept new.kept
+Creates held honest failed a words old new (Err told) = IsUncreated held honest failed a words told × (new.kept ≡ old.kept)
+
+-- it was told what a disk is, or not
+abbrev pub Tells : {S : Type 0} → (S → Held) → (honest : S → Bool) → (failed : S → ℕ) → Answers → InfoWords → (old new : Around) → Result (Unit {0}) DiskFault → Type 0
+Tells held honest failed a words old new (Ok done) = HasTold held honest a words old.out new.out
+Tells held honest failed a words old new (Err told) = IsUntold held honest failed a words old.out new.out told
+
+-- WHAT THE WORDS ASK FOR WAS DONE, or not for the reason that is answered. Of what it does not name nothing changes
+abbrev pub DoesAsked : {S Y : Type 0} → (S → Held) → (honest : S → Bool) → (failed : S → ℕ) → (synced : Y → ℕ) → Answers → DiskWords → (old new : Around)
+    → Result (Unit {0}) DiskFault → Type 0
+DoesAsked held honest failed synced a (asked.Create words) old new result = Creates held honest failed a words old new result × (new.out ≡ old.out) × (new.input ≡ old.input)
+DoesAsked held honest failed synced a (asked.Serve words) old new result =
+    (HasServedAt held honest synced a words old.input new.input old.out new.out result ⊎ HasNotServed held honest failed a words old.out new.out result) × (new.kept ≡ old.kept)
+DoesAsked held honest failed synced a (asked.Info words) old new result = Tells held honest failed a words old new result × (new.kept ≡ old.kept) × (new.input ≡ old.input)
+DoesAsked held honest failed synced a (asked.Text text) old new result = Prints (string_bytes text) old new result × (new.kept ≡ old.kept) × (new.input ≡ old.input)
+
+-- THE WORDS ARE NO COMMAND, or memory for them was refused: nothing was done
+pub record AsksNothing (words : List (List ℕ)) (old new : Around) (result : Result (Unit {0}) DiskFault) : Type 0 where
+  pub told : DiskFault
+  pub is : result ≡ Err told
+  pub why : ((told ≡ fault.NoSuchCommand) × IsNoCommand words) ⊎ (told ≡ fault.OutOfMemory)
+  pub same : new ≡ old
+
+-- ---- all of it
+
+abbrev pub Obeys : {S Y : Type 0} → (S → Held) → (honest : S → Bool) → (failed : S → ℕ) → (synced : Y → ℕ) → Answers → (words : List (List ℕ)) → (old new : Around)
+    → Result (Unit {0}) DiskFault → Type 0
+Obeys held honest failed synced a words old new result =
+    AsksNothing words old new result
+    ⊎ ((found : DiskWords) × IsAsked words found × DoesAsked held honest failed synced a found old new result)
+
+-- status 0 where it was done, with nothing on standard error; else the fault's line there, and its status
+abbrev pub IsAnswered : Result (Unit {0}) DiskFault → (told telling : Option (List ℕ)) → (status : ℕ) → Type 0
+IsAnswered (Ok done) told telling status = (status ≡ 0) × (telling ≡ told)
+IsAnswered (Err why) told telling status = IsTold why told telling status
+
+abbrev pub Runs : {S Y : Type 0} → (S → Held) → (honest : S → Bool) → (failed : S → ℕ) → (synced : Y → ℕ) → Answers → (words : List (List ℕ)) → (old new : Around)
+    → (told telling : Option (List ℕ)) → (status : ℕ) → Type 0
+Runs held honest failed synced a words old new told telling status =
+    (result : Result (Unit {0}) DiskFault) × Obeys held honest failed synced a words old new result × IsAnswered result told telling status

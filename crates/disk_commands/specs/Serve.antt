@@ -1,0 +1,111 @@
+-- A disk that was served to one client.
+use Rattle.std.specs.Prelude.{◌≡◌, ◌⊎◌, ℕ, nat_le, Bool, true, false, List, [], length, Option, None, Result, Ok, Err, OnOk, if◌then◌else◌}
+use Rattle.std.specs.Borrow.{Bor}
+use Rattle.std.specs.Io.KnownBytes.{Keeps}
+use Rattle.page_layout.specs.declared.geometry.Geometry.{Geometry}
+use Rattle.onfi_cycles.specs.Driver.{DriverState}
+use Rattle.request_stream.specs.declared.reply.ServeFault.{ServeFault}
+use Rattle.file_die.specs.Store.{Held}
+use Rattle.file_die.specs.Die.{FileState}
+use Rattle.ftl_device.specs.declared.device.Device.{Device}
+use Rattle.device_disk.specs.Disk.{AsksTurn, contents_of, holds}
+use Rattle.nbd_stream.specs.declared.fault.DiskFault.{DiskFault as NbdFault}
+use Rattle.nbd_stream.specs.declared.request.End.{End}
+use Rattle.nbd_stream.specs.declared.request.End.TheVariants as end
+use Rattle.nbd_stream.specs.declared.task.Task.TheVariants.{Flush}
+use Rattle.nbd_stream.specs.Disk.{Contents, Performs, answer_from}
+use Rattle.nbd_stream.specs.Transmission.{Serves}
+use Rattle.disk_shape.specs.declared.shapes.Shape.{Shape}
+use Rattle.disk_words.specs.declared.words.ServeWords.{ServeWords}
+use Rattle.disk_server.specs.declared.served.Offer.{Offer}
+use Rattle.disk_server.specs.declared.synced.SyncedDisk.{SyncedDisk}
+use Rattle.disk_server.specs.Opened.{bytes_of, flash_in, is_honest_in}
+use Rattle.disk_server.specs.Synced.{HasSynced, export_of}
+use Rattle.disk_commands.specs.declared.text.DiskFault.{DiskFault}
+use Rattle.disk_commands.specs.declared.text.DiskFault.TheVariants as fault
+use Rattle.disk_commands.specs.Files.{Answers}
+use Rattle.disk_commands.specs.Opening.{IsStoreAt, IsUnopenedAt}
+
+-- ---- what the client is told
+
+-- the requests that cost the least are those of a sector, where a sector has 512 bytes or more; none has more than a megabyte
+abbrev pub offer_of : Geometry → (read_only : Bool) → Offer
+offer_of g read_only = record { read_only = read_only; preferred = if nat_le 512 g.data_bytes then g.data_bytes else 4096; maximum = 1048576 }
+
+-- ---- how it ended
+
+-- by how the session did: the client's bytes are no requests, or a stream failed
+abbrev pub end_of : Result End ServeFault → Result (Unit {0}) DiskFault
+end_of (Ok end.Boundary) = Ok tt
+end_of (Ok end.Disconnected) = Ok tt
+end_of (Ok end.Unfinished) = Ok tt
+end_of (Ok end.BadFrame) = Err fault.BadFrame
+end_of (Err e) = Err fault.Stream
+
+-- but the device that failed its last flush is told first
+abbrev pub told_at_end : Result (Unit {0}) NbdFault → Bor (List ℕ) → Result End ServeFault → Result (Unit {0}) DiskFault
+told_at_end (Ok done) path answer = end_of answer
+told_at_end (Err e) path answer = Err (fault.Device path)
+
+-- THE LAST FLUSH, and a sync with it. A disk that is read-only has none
+pub record IsFlushed {D Y : Type 0} (contents : D → Contents) (honest : D → Bool) (synced : Y → ℕ) (path : Bor (List ℕ)) (last : SyncedDisk D Y)
+    (answer : Result End ServeFault) (result : Result (Unit {0}) DiskFault) : Type 0 where
+  pub done : Result (Unit {0}) NbdFault
+  pub left : SyncedDisk D Y
+  pub performs : Performs (λ s. contents s.disk) (λ s. honest s.disk) (λ _. false) Flush [] last (answer_from done []) left
+  pub synced_once : OnOk done (HasSynced synced true last.syncs left.syncs)
+  pub told : result ≡ told_at_end done path answer
+
+abbrev pub Ends : {D Y : Type 0} → (D → Contents) → (honest : D → Bool) → (synced : Y → ℕ) → (read_only : Bool) → Bor (List ℕ) → SyncedDisk D Y
+    → Result End ServeFault → Result (Unit {0}) DiskFault → Type 0
+Ends contents honest synced true path last answer result = result ≡ end_of answer
+Ends contents honest synced false path last answer result = IsFlushed contents honest synced path last answer result
+
+-- ---- all of it
+
+-- A DISK THAT WAS SERVED to one client on these terms, and then flushed
+pub record HasServedDisk {D Y : Type 0} (contents : D → Contents) (honest : D → Bool) (rests : D → Result (Unit {0}) NbdFault → D → Type 0) (synced : Y → ℕ)
+    (offer : Offer) (path : Bor (List ℕ)) (disk : D) (syncs : Y) (unread left before after : Option (List ℕ)) (result : Result (Unit {0}) DiskFault) : Type 0 where
+  pub first : SyncedDisk D Y
+  pub disk_is : first.disk ≡ disk
+  pub syncs_is : first.syncs ≡ syncs
+  pub last : SyncedDisk D Y
+  pub answer : Result End ServeFault
+  pub serves : Serves (λ s. contents s.disk) (λ s. honest s.disk) (λ _. false) (λ old done new. rests old.disk done new.disk × (new.syncs ≡ old.syncs))
+      (export_of offer (length (contents first.disk).bytes)) offer.maximum first last unread left before after answer
+  pub ends : Ends contents honest synced offer.read_only path last answer result
+
+-- ---- the disk at a path
+
+-- what a rest of such a disk is
+abbrev pub rests_in : {S : Type 0} → (S → Held) → (honest : S → Bool) → Device (DriverState (FileState S)) → Result (Unit {0}) NbdFault → Device (DriverState (FileState S)) → Type 0
+rests_in held honest = AsksTurn (flash_in held) (λ d. None) (is_honest_in honest) (λ d. false) (λ d. d.erases) (λ d. d.failures)
+
+-- THE DISK OF THE STORE AT A PATH: of a store that is honest it holds its array, and its bytes are those of the array that the store's pages hold
+pub record IsDiskAt {S : Type 0} (held : S → Held) (honest : S → Bool) (a : Answers) (path : List ℕ) (g : Geometry) (d : Device (DriverState (FileState S))) : Type 0 where
+  pub shape : Shape
+  pub is : shape.geometry ≡ g
+  pub store : S
+  pub at : IsStoreAt held honest a path shape store
+  pub held_array : honest store ≡ true → holds (is_honest_in honest) d ≡ true
+  pub bytes : honest store ≡ true → (contents_of (flash_in held) (is_honest_in honest) d).bytes ≡ bytes_of (held store)
+
+-- ---- the command
+
+-- IT SERVED: the disk at the path was opened and served
+pub record HasServedAt {S Y : Type 0} (held : S → Held) (honest : S → Bool) (synced : Y → ℕ) (a : Answers) (words : ServeWords)
+    (unread left before after : Option (List ℕ)) (result : Result (Unit {0}) DiskFault) : Type 0 where
+  pub geometry : Geometry
+  pub disk : Device (DriverState (FileState S))
+  pub at : IsDiskAt held honest a words.disk.now geometry disk
+  pub syncs : Y
+  pub served : HasServedDisk (contents_of (flash_in held) (is_honest_in honest)) (holds (is_honest_in honest)) (rests_in held honest) synced
+      (offer_of geometry words.read_only) words.disk disk syncs unread left before after result
+
+-- or it did not, and nothing was sent: the disk was not opened
+pub record HasNotServed {S : Type 0} (held : S → Held) (honest : S → Bool) (failed : S → ℕ) (a : Answers) (words : ServeWords) (before after : Option (List ℕ))
+    (result : Result (Unit {0}) DiskFault) : Type 0 where
+  pub told : DiskFault
+  pub is : result ≡ Err told
+  pub why : IsUnopenedAt held honest failed a words.disk.now told
+  pub silent : Keeps before after

@@ -1,0 +1,43 @@
+-- What is told of the disk at a path.
+use Rattle.std.specs.Prelude.{◌≡◌, ◌⊎◌, Bool, ℕ, true, List, codes, Option, if◌then◌else◌}
+use Rattle.std.specs.Io.KnownBytes.{Appends, Keeps}
+use Rattle.certificate.specs.Claim.{Claim}
+use Rattle.file_die.specs.Store.{Held}
+use Rattle.mount.specs.Mounted.{IsMounted}
+use Rattle.disk_shape.specs.declared.shapes.Shape.{Shape}
+use Rattle.disk_words.specs.declared.words.InfoWords.{InfoWords}
+use Rattle.disk_commands.specs.declared.printed.Form.{Form}
+use Rattle.disk_commands.specs.declared.printed.Form.TheVariants.{Text, Json}
+use Rattle.disk_commands.specs.declared.printed.Info.{Info}
+use Rattle.disk_commands.specs.declared.text.DiskFault.{DiskFault}
+use Rattle.disk_commands.specs.declared.text.DiskFault.TheVariants as fault
+use Rattle.disk_commands.specs.Files.{Answers}
+use Rattle.disk_commands.specs.Info.{info_of, info_text}
+use Rattle.disk_commands.specs.Opening.{IsStoreAt, IsUnopenedAt}
+
+-- the form that was asked for
+abbrev pub form_of : (json : Bool) → Form
+form_of json = if json then Json else Text
+
+-- WHAT IS TOLD OF THE DISK AT A PATH: what its shape and a certificate tell, which is one of a mount of the pages of an honest store
+pub record IsInfoAt {S : Type 0} (held : S → Held) (honest : S → Bool) (a : Answers) (path : List ℕ) (info : Info) : Type 0 where
+  pub shape : Shape
+  pub store : S
+  pub at : IsStoreAt held honest a path shape store
+  pub certificate : Claim
+  pub mounted : honest store ≡ true → IsMounted (held store).geometry certificate.capacity (held store).pages certificate
+  pub is : info ≡ info_of shape certificate
+
+-- it was printed
+abbrev pub HasTold : {S : Type 0} → (S → Held) → (honest : S → Bool) → Answers → InfoWords → (before after : Option (List ℕ)) → Type 0
+HasTold held honest a words before after = (info : Info) × IsInfoAt held honest a words.disk.now info × Appends before after (info_text (form_of words.json) info)
+
+-- standard output failed, or memory was refused
+abbrev pub IsUnprinted : DiskFault → Type 0
+IsUnprinted (fault.Write told) = told.now ≡ codes "-"
+IsUnprinted fault.OutOfMemory = Unit {0}
+IsUnprinted _ = ⊥
+
+-- why it was not: the disk was not opened, and nothing was printed; or that failed
+abbrev pub IsUntold : {S : Type 0} → (S → Held) → (honest : S → Bool) → (failed : S → ℕ) → Answers → InfoWords → (before after : Option (List ℕ)) → DiskFault → Type 0
+IsUntold held honest failed a words before after told = (IsUnopenedAt held honest failed a words.disk.now told × Keeps before after) ⊎ IsUnprinted told

@@ -1,0 +1,171 @@
+//! The command `create`: a new disk, of a size, of a geometry, or from a dump.
+ghost use Rattle.std.specs.Prelude.{◌≡◌, ◌≤◌, true, IfOk, IfErr, OnOk, OnErr};
+ghost use Rattle.disk_shape.specs.Text.{IsWithin, shape_text};
+ghost use Rattle.disk_commands.specs.Created.{HasCreated, IsDieFor, IsDieOf, IsNewDie, IsNoDump, IsUncreated, IsUnformatted, IsUnkept, IsUnmadeFor, Mounts};
+ghost use Rattle.disk_server.specs.Opened.{IsUnopened};
+ghost use Rattle.disk_commands.specs.Files.{FailsNoMore, with_kept};
+
+use crate::asked::shape_of;
+use crate::files::DiskFiles;
+use crate::opening::{die_bytes, told_at, told_of_copy, want_free};
+use crate::text::DiskFault;
+use disk_server::{CreateFault, OpenStoreFault, format_store, mount_store};
+use disk_shape::{Shape, write_shape};
+use disk_words::{CreateWords, MakeWords};
+use file_die::Store;
+use image_check::Refusal;
+use std::alloc::Global;
+
+// How it is told that a die was not formatted.
+fn unformatted<'a>(path: &'a str, fault: CreateFault) -> DiskFault<'a>
+    ensures { result ≡ Rattle.disk_commands.specs.Created.unformatted path.entry fault }
+{
+    match fault {
+        CreateFault::Open(OpenStoreFault::OutOfMemory) => DiskFault::OutOfMemory,
+        fault => DiskFault::Create(path, fault),
+    }
+}
+
+// A formatted die beside a path.
+fn make_new<'a, F: DiskFiles>(
+    alloc: Global,
+    files: &mut F,
+    path: &'a str,
+    shape: &Shape,
+) -> Result<F::Store, DiskFault<'a>>
+    ensures made { IfOk result (λ store. F.Store.honest store ≡ true → IsNewDie shape.now.geometry (F.Store.held store)) }
+    ensures honest { IfOk result (λ store. F.Store.honest store ≡ (F.answers files.old).honest) }
+    ensures fault { IfErr result (IsUnformatted F.Store.held F.Store.honest F.Store.failed (F.answers files.old) path.now shape.now.geometry) }
+    ensures no_more { OnOk result (FailsNoMore (F.answers files.old) (F.answers files.new)) }
+    ensures kept { F.kept files.new ≡ F.kept files.old }
+{
+    let store = match files.create(alloc, path, &shape.geometry) {
+        Ok(store) => store,
+        Err(fault) => return Err(told_at(fault, path, 0)),
+    };
+    match format_store(alloc, store) {
+        Ok((store, _)) => Ok(store),
+        Err((_, fault)) => {
+            files.discard(path);
+            Err(unformatted(path, fault))
+        }
+    }
+}
+
+// A store whose pages mount, or do with a larger cache.
+fn mountable<S: Store + Drop>(alloc: Global, store: S, capacity: u32) -> Result<S, OpenStoreFault>
+    requires least { 1 ≤ capacity }
+    requires most { capacity ≤ 65536 }
+    ensures mounts { IfOk result (λ same. S.honest store ≡ true → Mounts (S.held store) capacity (S.held same)) }
+    ensures honest { IfOk result (λ same. S.honest same ≡ S.honest store) }
+    ensures fault { IfErr result (λ why. (given : S) × IsUnopened S.held S.honest S.failed store capacity given why) }
+{
+    match mount_store(alloc, store, capacity) {
+        Ok((store, _)) => Ok(store),
+        Err((store, OpenStoreFault::Mount(Refusal::TooStale { .. }))) => Ok(store),
+        Err((_, fault)) => Err(fault),
+    }
+}
+
+// A die with the pages of a dump beside a path. It may have been stopped: then a server makes room for what is stale.
+fn make_copy<'a, F: DiskFiles>(
+    alloc: Global,
+    files: &mut F,
+    path: &'a str,
+    shape: &Shape,
+    dump: &'a str,
+) -> Result<F::Store, DiskFault<'a>>
+    requires { IsWithin shape.now.cache }
+    ensures made { IfOk result (λ store. F.Store.honest store ≡ true → IsDieOf (F.answers files.old) dump.now shape.now (F.Store.held store)) }
+    ensures honest { IfOk result (λ store. F.Store.honest store ≡ (F.answers files.old).honest) }
+    ensures fault { IfErr result (IsNoDump F.Store.held F.Store.honest F.Store.failed (F.answers files.old) path.now dump.now shape.now) }
+    ensures no_more { OnOk result (FailsNoMore (F.answers files.old) (F.answers files.new)) }
+    ensures kept { F.kept files.new ≡ F.kept files.old }
+{
+    let store = match files.copy(alloc, path, &shape.geometry, dump) {
+        Ok(store) => store,
+        Err(fault) => return Err(told_of_copy(fault, path, dump, die_bytes(&shape.geometry))),
+    };
+    match mountable(alloc, store, shape.cache) {
+        Ok(store) => Ok(store),
+        Err(fault) => {
+            files.discard(path);
+            Err(DiskFault::Open(dump, fault))
+        }
+    }
+}
+
+// The die that the words ask for, beside its path.
+fn make<'a, F: DiskFiles>(
+    alloc: Global,
+    files: &mut F,
+    words: &CreateWords<'a>,
+    shape: &Shape,
+) -> Result<F::Store, DiskFault<'a>>
+    requires { IsWithin shape.now.cache }
+    ensures made { IfOk result (λ store. F.Store.honest store ≡ true → IsDieFor (F.answers files.old) words.now.make shape.now (F.Store.held store)) }
+    ensures honest { IfOk result (λ store. F.Store.honest store ≡ (F.answers files.old).honest) }
+    ensures fault { IfErr result (IsUnmadeFor F.Store.held F.Store.honest F.Store.failed (F.answers files.old) words.now.disk.now words.now.make shape.now) }
+    ensures no_more { OnOk result (FailsNoMore (F.answers files.old) (F.answers files.new)) }
+    ensures kept { F.kept files.new ≡ F.kept files.old }
+{
+    match words.make {
+        MakeWords::Dump { from, .. } => make_copy(alloc, files, words.disk, shape, from),
+        MakeWords::Size(_) | MakeWords::Geometry(_) => make_new(alloc, files, words.disk, shape),
+    }
+}
+
+// Puts a die that was made beside a path in its place, with the text that tells its shape.
+fn put<'a, F: DiskFiles>(
+    alloc: Global,
+    files: &mut F,
+    path: &'a str,
+    shape: &Shape,
+    store: F::Store,
+) -> Result<(), DiskFault<'a>>
+    ensures ok { OnOk result (F.kept files.new ≡ with_kept (F.kept files.old) (record { path = path.now; held = F.Store.held store; text = shape_text shape.now })) }
+    ensures fault { IfErr result (IsUnkept (F.answers files.old) path.now) }
+    ensures kept { OnErr result (F.kept files.new ≡ F.kept files.old) }
+{
+    let Ok(text) = write_shape(alloc, shape) else {
+        files.discard(path);
+        return Err(DiskFault::OutOfMemory);
+    };
+    let done = files.keep(path, store, text.as_bytes());
+    files.discard(path);
+    match done {
+        Ok(()) => Ok(()),
+        Err(fault) => Err(told_at(fault, path, 0)),
+    }
+}
+
+/// The command `create`: makes the disk DISK, a die and the file beside it that tells its shape. The die is formatted, or with `--from` has the pages of a raw dump.
+///
+/// # Errors
+///
+/// The first of this order: as `shape_of` where the words ask for no shape; `Exists` where something stands at DISK or beside it; `Read` or `Length` of the dump; `Write`, `InUse`
+/// or `OutOfMemory` where no die could be made there; `Open` where the dump mounts with no cache, or `Create` where the die was not formatted; `Exists`, `Write` or `OutOfMemory`
+/// where it could not be put in its place. After each of these no disk is at DISK that was not there before. (This project's.)
+pub(crate) fn create_command<'a, F: DiskFiles>(
+    alloc: Global,
+    words: CreateWords<'a>,
+    files: &mut F,
+) -> Result<(), DiskFault<'a>>
+    ensures ok { OnOk result (HasCreated F.Store.held F.Store.honest (F.answers files.old) words.entry (F.kept files.old) (F.kept files.new)) }
+    ensures fault { IfErr result (IsUncreated F.Store.held F.Store.honest F.Store.failed (F.answers files.old) words.entry) }
+    ensures kept { OnErr result (F.kept files.new ≡ F.kept files.old) }
+{
+    let shape = match shape_of(words) {
+        Ok(shape) => shape,
+        Err(fault) => return Err(fault),
+    };
+    match want_free(files, words.disk) {
+        Ok(()) => {}
+        Err(fault) => return Err(fault),
+    }
+    let store = match make(alloc, files, &words, &shape) {
+        Ok(store) => store,
+        Err(fault) => return Err(fault),
+    };
+    put(alloc, files, words.disk, &shape, store)
+}

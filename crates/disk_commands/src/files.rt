@@ -1,0 +1,112 @@
+//! The files that disks are: of each the die, and the one beside it that tells its shape.
+use disk_server::Syncs;
+use file_die::Store;
+use page_layout::geometry::Geometry;
+use std::alloc::Global;
+use thiserror::Error;
+
+/// Why a file of a disk was not opened, made, read or put in its place. (This project's.)
+#[derive(Clone, Copy, Debug, PartialEq, Eq, Error)]
+pub enum FileFault {
+    /// It could not be opened or read.
+    #[error("a file could not be read")]
+    Read,
+    /// It could not be made or written.
+    #[error("a file could not be written")]
+    Write,
+    /// Another program serves it, or makes it.
+    #[error("a file is in use")]
+    InUse,
+    /// Something stands at its path.
+    #[error("there is such a file already")]
+    Exists,
+    /// It has so many bytes, and not as many as a die of the geometry.
+    #[error("a file has {0} bytes")]
+    Length(u64),
+    /// A growth was refused.
+    #[error("out of memory")]
+    OutOfMemory,
+}
+
+/// The files that the words name, by their paths as written: those of the system, or some in memory. (This project's.)
+pub trait DiskFiles {
+    ghost use Rattle.std.specs.Prelude.{◌≡◌, true, List, Option, IfOk, IfErr};
+    ghost use Rattle.file_die.specs.Store.{blank};
+    ghost use Rattle.disk_commands.specs.Files.{Answers, FailsCopy, FailsNoMore, Kept, kept_after};
+
+    /// The pages of a die in a file. While it is there no other program opens or makes the disk.
+    type Store: Store + Drop;
+
+    /// A second handle of such a file.
+    type Syncs: Syncs + Drop;
+
+    /// What they may answer. Of the system's files it may be anything.
+    ghost answers: { Self → Answers };
+
+    /// The disks that were put in their places so far, in order. Of the system's files it isn't known.
+    ghost kept: { Self → Option (List Kept) };
+
+    /// Whether something stands at the path of a disk, or beside it where its shape is told.
+    fn has(&mut self, path: &str) -> Result<bool, FileFault>
+        ensures said { IfOk result ((answers self.old).says_there path.now) }
+        ensures failed { IfErr result ((answers self.old).fails path.now) }
+        ensures same { self.new ≡ self.old };
+
+    /// The bytes of the file that tells the shape of the disk at a path, or the first 65,536 of them.
+    fn shape_text(&mut self, alloc: Global, path: &str) -> Result<Vec<u8>, FileFault>
+        ensures bytes { IfOk result (λ text. (answers self.old).tells path.now text.items) }
+        ensures failed { IfErr result ((answers self.old).fails path.now) }
+        ensures same { self.new ≡ self.old };
+
+    /// The store of the die at a path, and a second handle of its file: a file of as many bytes as the geometry's pages have. With `writes` false it is opened for
+    /// reading alone.
+    fn open(
+        &mut self,
+        alloc: Global,
+        path: &str,
+        geometry: &Geometry,
+        writes: bool,
+    ) -> Result<(Self::Store, Self::Syncs), FileFault>
+        ensures held { IfOk result (λ opened. (answers self.old).holds path.now (Self.Store.held opened.0)) }
+        ensures geometry { IfOk result (λ opened. (Self.Store.held opened.0).geometry ≡ geometry.now) }
+        ensures honest { IfOk result (λ opened. Self.Store.honest opened.0 ≡ (answers self.old).honest) }
+        ensures failed { IfErr result ((answers self.old).fails path.now) }
+        ensures kept { kept self.new ≡ kept self.old };
+
+    /// The store of a die to be made beside a path, of erased pages that last.
+    fn create(
+        &mut self,
+        alloc: Global,
+        path: &str,
+        geometry: &Geometry,
+    ) -> Result<Self::Store, FileFault>
+        ensures erased { IfOk result (λ store. Self.Store.honest store ≡ true → Self.Store.held store ≡ blank geometry.now) }
+        ensures honest { IfOk result (λ store. Self.Store.honest store ≡ (answers self.old).honest) }
+        ensures failed { IfErr result ((answers self.old).fails path.now) }
+        ensures no_more { FailsNoMore (answers self.old) (answers self.new) }
+        ensures kept { kept self.new ≡ kept self.old };
+
+    /// The store of a die to be made beside a path, with the pages of a raw dump, which last. A fault is of the dump where it is `Read` or `Length`, else of what is made.
+    fn copy(
+        &mut self,
+        alloc: Global,
+        path: &str,
+        geometry: &Geometry,
+        dump: &str,
+    ) -> Result<Self::Store, FileFault>
+        ensures held { IfOk result (λ store. (answers self.old).holds dump.now (Self.Store.held store)) }
+        ensures geometry { IfOk result (λ store. (Self.Store.held store).geometry ≡ geometry.now) }
+        ensures honest { IfOk result (λ store. Self.Store.honest store ≡ (answers self.old).honest) }
+        ensures failed { IfErr result (FailsCopy (answers self.old) path.now dump.now) }
+        ensures no_more { FailsNoMore (answers self.old) (answers self.new) }
+        ensures kept { kept self.new ≡ kept self.old };
+
+    /// Puts the die that was made beside a path in its place, with a file of this text beside it, once all is stored. What stands there is never replaced.
+    fn keep(&mut self, path: &str, store: Self::Store, text: &[u8]) -> Result<(), FileFault>
+        ensures done { kept self.new ≡ kept_after (kept self.old) (record { path = path.now; held = Self.Store.held store; text = text.now }) result }
+        ensures failed { IfErr result ((answers self.old).fails path.now) };
+
+    /// Removes what was made beside a path.
+    fn discard(&mut self, path: &str)
+        ensures kept { kept self.new ≡ kept self.old };
+}

@@ -1,0 +1,70 @@
+//! The program's commands.
+ghost use Rattle.std.specs.Prelude.{◌≡◌, OnOk, IfErr};
+ghost use Rattle.std.specs.Io.KnownBytes.{Appends};
+ghost use Rattle.program_words.specs.Met.{texts};
+ghost use Rattle.disk_commands.specs.Program.{Obeys, Runs};
+ghost use Rattle.disk_commands.specs.Told.{IsUnprinted};
+
+use crate::create::create_command;
+use crate::files::DiskFiles;
+use crate::info::{info_command, unprinted};
+use crate::serve::serve_command;
+use crate::text::{DiskFault, tell};
+use disk_words::{DiskWords, WordsFault, parse};
+use std::alloc::Global;
+use std::io::{Read, Write};
+
+// Prints a text of help or of the version.
+fn print<'a, O: Write>(text: &str, out: &mut O) -> Result<(), DiskFault<'a>>
+    ensures printed { OnOk result (Appends (O.contents out.old) (O.contents out.new) text.now) }
+    ensures fault { IfErr result IsUnprinted }
+{
+    match out.write_all(text.as_bytes()) {
+        Ok(()) => Ok(()),
+        Err(error) => Err(unprinted(error)),
+    }
+}
+
+// Does what the words ask.
+fn obey<'a, F: DiskFiles, I: Read, O: Write>(
+    alloc: Global,
+    words: &'a [&'a str],
+    files: &mut F,
+    input: &mut I,
+    out: &mut O,
+) -> Result<(), DiskFault<'a>>
+    ensures { Obeys F.Store.held F.Store.honest F.Store.failed F.Syncs.synced (F.answers files.old) (texts words.now)
+        (record { kept = F.kept files.old; input = I.remaining input.old; out = O.contents out.old })
+        (record { kept = F.kept files.new; input = I.remaining input.new; out = O.contents out.new }) result }
+{
+    match parse(alloc, words) {
+        Ok(DiskWords::Create(words)) => create_command(alloc, words, files),
+        Ok(DiskWords::Serve(words)) => serve_command(alloc, words, files, input, out),
+        Ok(DiskWords::Info(words)) => info_command(alloc, words, files, out),
+        Ok(DiskWords::Text(text)) => print(text.as_str(), out),
+        Err(WordsFault::NoSuchCommand) => Err(DiskFault::NoSuchCommand),
+        Err(WordsFault::OutOfMemory) => Err(DiskFault::OutOfMemory),
+    }
+}
+
+/// Does what the words say, and answers the exit status: 0 done, 1 refused, 2 usage, 3 input or output. `words` begins with the program's name. Of a command that was not
+/// done one line goes to `err`.
+///
+/// (The words, the lines and the statuses are this project's.)
+pub fn run<F: DiskFiles, I: Read, O: Write, E: Write>(
+    alloc: Global,
+    words: &[&str],
+    files: &mut F,
+    input: &mut I,
+    out: &mut O,
+    err: &mut E,
+) -> u8
+    ensures { Runs F.Store.held F.Store.honest F.Store.failed F.Syncs.synced (F.answers files.old) (texts words.now)
+        (record { kept = F.kept files.old; input = I.remaining input.old; out = O.contents out.old })
+        (record { kept = F.kept files.new; input = I.remaining input.new; out = O.contents out.new }) (E.contents err.old) (E.contents err.new) result }
+{
+    match obey(alloc, words, files, input, out) {
+        Ok(()) => 0,
+        Err(fault) => tell(&fault, err),
+    }
+}
