@@ -6,14 +6,19 @@ Usage: disk_time.py NANDDISK [FOLDER]
 All files stand in a folder of their own in FOLDER, or in the system's for such. Told are:
 
 - the start of a server over a written die of 64 MiB, from its start to the first byte that it gives, beside `sha256sum` of the die's file;
+- 4 KiB writes and reads at random without a socket, from a file on standard input: what one takes, and which part of that its hashes are. A hash is what a page
+  takes at a start, which looks at each page once; how many a request has are the pages that the server reads and writes for it, as `strace` counts them;
 - 4 KiB writes and reads at random by fio, 16 at a time, over socat: how many a second, and how long one takes (middle and 99 of 100), with a chart.
 
-Asks for Debian's fio, socat, nbdkit, libnbd-bin and python3-libnbd, which is for the system's Python."""
+Asks for Debian's fio, socat, strace, nbdkit, libnbd-bin and python3-libnbd, which is for the system's Python."""
 
 import json
 import os
+import random
+import shutil
 import socket
 import statistics
+import struct
 import subprocess
 import sys
 import tempfile
@@ -22,6 +27,9 @@ import time
 import nbd
 
 SIZE = "64M"
+SECTORS = 15360
+PAGE = 4096 + 128
+ASKED = 40_000
 TIMES = 5
 
 
@@ -68,6 +76,50 @@ def starts(program, path):
     ours = statistics.median(one() for _ in range(TIMES))
     hashed = statistics.median(seconds(lambda: subprocess.run(["sha256sum", path], check=True, stdout=subprocess.DEVNULL)) for _ in range(TIMES))
     print(f"start {ours:.3f} s, sha256sum of the file {hashed:.3f} s: {ours / hashed:.2f} times")
+
+
+def asked(path, kind, count):
+    """Writes what a client sends that asks for so many sectors at random, and then goes."""
+    pick = random.Random(7)
+    with open(path, "wb") as file:
+        file.write(struct.pack(">I", 3) + b"IHAVEOPT" + struct.pack(">III", 7, 6, 0) + b"\0\0")
+        for cookie in range(count):
+            offset = pick.randrange(SECTORS) * 4096
+            file.write(struct.pack(">IHHQQI", 0x25609513, 0, kind, cookie, offset, 4096) + (os.urandom(4096) if kind == 1 else b""))
+        file.write(struct.pack(">IHHQQI", 0x25609513, 0, 2, count, 0, 0))
+
+
+def answered(program, disk, stream, before=()):
+    with open(stream, "rb") as file:
+        subprocess.run([*before, program, "serve", disk], stdin=file, stdout=subprocess.DEVNULL, check=True)
+
+
+def pages_moved(program, folder, disk, stream):
+    """The pages that the server reads and writes while it answers this stream."""
+    told = os.path.join(folder, "calls")
+    answered(program, disk, stream, ("strace", "-c", "-o", told))
+    with open(told) as file:
+        return sum(int(line.split()[3]) for line in file if line.split()[-1:] in (["pread64"], ["pwrite64"]))
+
+
+def alone(program, folder, disk):
+    """What a request takes with no socket between, beside its hashes."""
+    none, stream = os.path.join(folder, "none"), os.path.join(folder, "stream")
+    asked(none, 0, 0)
+    pages = os.path.getsize(disk) // PAGE
+    print("\n| 4 KiB at random | Hashes | One takes, µs | Its hashes, µs | Part |\n|---|---|---|---|---|")
+    for name, kind in (("write", 1), ("read", 0)):
+        asked(stream, kind, ASKED)
+        used = os.path.join(folder, "used.nand")
+        shutil.copy(disk, used)
+        shutil.copy(disk + ".json", used + ".json")
+        # the second time its blocks are collected all the time
+        answered(program, used, stream)
+        start = statistics.median(seconds(lambda: answered(program, used, none)) for _ in range(TIMES))
+        took = seconds(lambda: answered(program, used, stream)) - start
+        hashes = (pages_moved(program, folder, used, stream) - pages_moved(program, folder, used, none)) / ASKED
+        one, hashed = took / ASKED * 1e6, start / pages * 1e6
+        print(f"| {name} | {hashes:.2f} | {one:.1f} | {hashes * hashed:.1f} | {hashes * hashed / one:.2f} |")
 
 
 def fio(uri, what):
@@ -120,6 +172,7 @@ def main():
         disk = os.path.join(folder, "disk.nand")
         written(program, disk)
         starts(program, disk)
+        alone(program, folder, disk)
         rates(program, folder, disk)
 
 
