@@ -83,7 +83,10 @@ pub fn program<'a>(alloc: Global, name: &'a str, about: &'a str) -> Command<'a>
 /// # Errors
 ///
 /// `AllocError` where a growth was refused.
-pub fn with_command<'a>(program: Command<'a>, command: Command<'a>) -> Result<Command<'a>, AllocError>
+pub fn with_command<'a>(
+    program: Command<'a>,
+    command: Command<'a>,
+) -> Result<Command<'a>, AllocError>
     requires { (out-Command command).has_globals ≡ false }
     ensures { IfOk result (λ more. app_of more ≡ with_subcommand (app_of program.entry) (app_of command.entry).top) }
 {
