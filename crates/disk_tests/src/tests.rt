@@ -1,7 +1,9 @@
+//! - `commands`: the commands of `nanddisk` over files in memory that can fail.
 //! - `die`: the die over a store beside the die in memory, cycle by cycle, and over a store that fails each call in turn.
 //! - `nbd`: the NBD protocol over byte lists, worked out by hand from the protocol's document.
 //! - `device`: the block device as a disk of bytes, over dies in memory.
 //! - `words`: the shape of a disk, the file that tells it, and the words of `nanddisk`.
+mod commands;
 mod device;
 mod die;
 mod nbd;

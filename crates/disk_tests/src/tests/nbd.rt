@@ -1,6 +1,6 @@
 // Byte lists in pieces of several lengths.
 mod negotiations;
-mod pieces;
+pub mod pieces;
 mod replies;
 mod requests;
 mod rests;

@@ -1,0 +1,247 @@
+//! Files of disks in memory, which can fail. Their stores are honest.
+ghost use Rattle.std.specs.Prelude.{◌≡◌, ◌<◌, IfOk};
+ghost use Rattle.page_layout.specs.Geometry.{row_count};
+ghost use Rattle.page_layout.specs.Raw.{raw_image};
+
+use disk_commands::{DiskFiles, FileFault, die_bytes};
+use disk_server::Syncs;
+use file_die::{MemoryStore, Store};
+use nbd_stream::DiskFault;
+use page_layout::geometry::Geometry;
+use std::alloc::{AllocError, Global};
+
+/// What goes wrong with the files.
+#[derive(Clone, Copy, Debug, PartialEq, Eq)]
+pub enum Trouble {
+    /// Nothing.
+    Calm,
+    /// What stands at a path cannot be asked.
+    Unasked,
+    /// Each disk is in use.
+    Busy,
+    /// No die can be made.
+    Full,
+    /// No die can be put in its place.
+    Unkept,
+}
+
+// A disk that was put in its place.
+#[derive(Drop)]
+struct MemoryDisk {
+    path: String,
+    pages: Vec<u8>,
+    text: Vec<u8>,
+}
+
+/// The disks, and a dump of erased pages at the path `dump`.
+#[derive(Drop)]
+pub struct MemoryFiles {
+    alloc: Global,
+    disks: Vec<MemoryDisk>,
+    dump: Vec<u8>,
+    trouble: Trouble,
+}
+
+/// Syncs of what is in memory.
+#[derive(Drop)]
+pub struct MemorySyncs {
+    done: u64,
+}
+
+impl Syncs for MemorySyncs {
+    ghost synced = { λ s. s.done };
+
+    fn sync(&mut self) -> Result<(), DiskFault> {
+        self.done = self.done.saturating_add(1);
+        Ok(())
+    }
+}
+
+// The bytes of 256 pages of 64 and 32 bytes.
+const DUMP_BYTES: usize = 24_576;
+
+impl MemoryFiles {
+    /// No disk, and a dump of erased pages.
+    pub fn new(alloc: Global) -> Result<MemoryFiles, AllocError> {
+        Ok(MemoryFiles {
+            alloc,
+            disks: Vec::new(alloc),
+            dump: vec![in alloc; 0xFF; DUMP_BYTES]?,
+            trouble: Trouble::Calm,
+        })
+    }
+
+    /// What takes memory for them.
+    pub fn alloc(&self) -> Global {
+        self.alloc
+    }
+
+    /// From now on this goes wrong.
+    pub fn get_into(&mut self, trouble: Trouble) {
+        self.trouble = trouble;
+    }
+
+    fn find(&self, path: &str) -> Option<&MemoryDisk> {
+        self.disks.iter().find(|disk| disk.path.as_str() == path)
+    }
+}
+
+// A copy of bytes.
+fn copied(alloc: Global, bytes: &[u8]) -> Result<Vec<u8>, FileFault> {
+    let mut copy = Vec::new(alloc);
+    match copy.extend_from_slice(bytes) {
+        Ok(()) => Ok(copy),
+        Err(_) => Err(FileFault::OutOfMemory),
+    }
+}
+
+// A store of these bytes, where they are as many as the die's pages have.
+fn store_of(geometry: &Geometry, bytes: Vec<u8>) -> Result<MemoryStore, FileFault>
+    ensures { IfOk result (λ store. store ≡ record { geometry = geometry.now; pages = raw_image geometry.now bytes.items }) }
+{
+    let length = bytes.len() as u64;
+    match MemoryStore::new(*geometry, bytes) {
+        Some(store) => Ok(store),
+        None => Err(FileFault::Length(length)),
+    }
+}
+
+// Adds the bytes of a page of a store.
+fn add_page(
+    alloc: Global,
+    store: &mut MemoryStore,
+    row: u32,
+    pages: &mut Vec<u8>,
+) -> Result<(), AllocError>
+    requires { row < row_count store.old.geometry }
+{
+    let geometry = store.geometry();
+    let mut page = vec![in alloc; 0; geometry.data_bytes() + geometry.spare_bytes()]?;
+    if store.load(row, &mut page).is_ok() {
+        pages.extend_from_slice(&page)?;
+    }
+    Ok(())
+}
+
+// The bytes of a store's pages, one after another.
+fn pages_of(alloc: Global, mut store: MemoryStore) -> Result<Vec<u8>, AllocError> {
+    let mut pages = Vec::new(alloc);
+    for row in 0..store.geometry().rows() {
+        if row >= store.geometry().rows() {
+            break;
+        }
+        add_page(alloc, &mut store, row, &mut pages)?;
+    }
+    Ok(pages)
+}
+
+impl DiskFiles for MemoryFiles {
+    ghost use Rattle.std.specs.Prelude.{None, true};
+    ghost use Rattle.disk_commands.specs.Files.{unknown};
+
+    type Store = MemoryStore;
+
+    type Syncs = MemorySyncs;
+
+    ghost answers = { λ _. record unknown { honest = true } };
+
+    ghost kept = { λ _. None };
+
+    fn has(&mut self, path: &str) -> Result<bool, FileFault> {
+        if self.trouble == Trouble::Unasked {
+            return Err(FileFault::Read);
+        }
+        Ok(self.find(path).is_some())
+    }
+
+    fn shape_text(&mut self, alloc: Global, path: &str) -> Result<Vec<u8>, FileFault> {
+        match self.find(path) {
+            Some(disk) => copied(alloc, &disk.text),
+            None => Err(FileFault::Read),
+        }
+    }
+
+    fn open(
+        &mut self,
+        alloc: Global,
+        path: &str,
+        geometry: &Geometry,
+        _writes: bool,
+    ) -> Result<(MemoryStore, MemorySyncs), FileFault> {
+        if self.trouble == Trouble::Busy {
+            return Err(FileFault::InUse);
+        }
+        let Some(disk) = self.find(path) else {
+            return Err(FileFault::Read);
+        };
+        let pages = match copied(alloc, &disk.pages) {
+            Ok(pages) => pages,
+            Err(fault) => return Err(fault),
+        };
+        match store_of(geometry, pages) {
+            Ok(store) => Ok((store, MemorySyncs { done: 0 })),
+            Err(fault) => Err(fault),
+        }
+    }
+
+    fn create(
+        &mut self,
+        alloc: Global,
+        _path: &str,
+        geometry: &Geometry,
+    ) -> Result<MemoryStore, FileFault> {
+        if self.trouble == Trouble::Full {
+            return Err(FileFault::Write);
+        }
+        let Ok(pages) = vec![in alloc; 0xFF; die_bytes(geometry) as usize] else {
+            return Err(FileFault::OutOfMemory);
+        };
+        store_of(geometry, pages)
+    }
+
+    fn copy(
+        &mut self,
+        alloc: Global,
+        _path: &str,
+        geometry: &Geometry,
+        dump: &str,
+    ) -> Result<MemoryStore, FileFault> {
+        if dump != "dump" {
+            return Err(FileFault::Read);
+        }
+        match copied(alloc, &self.dump) {
+            Ok(pages) => store_of(geometry, pages),
+            Err(fault) => Err(fault),
+        }
+    }
+
+    fn keep(&mut self, path: &str, store: MemoryStore, text: &[u8]) -> Result<(), FileFault> {
+        if self.trouble == Trouble::Unkept {
+            return Err(FileFault::Write);
+        }
+        match kept_disk(self.alloc, path, store, text) {
+            Ok(disk) => match self.disks.push(disk) {
+                Ok(()) => Ok(()),
+                Err(_) => Err(FileFault::OutOfMemory),
+            },
+            Err(_) => Err(FileFault::OutOfMemory),
+        }
+    }
+
+    fn discard(&mut self, _path: &str) {}
+}
+
+fn kept_disk(
+    alloc: Global,
+    path: &str,
+    store: MemoryStore,
+    text: &[u8],
+) -> Result<MemoryDisk, AllocError> {
+    let mut beside = Vec::new(alloc);
+    beside.extend_from_slice(text)?;
+    Ok(MemoryDisk {
+        path: path.to_string(alloc)?,
+        pages: pages_of(alloc, store)?,
+        text: beside,
+    })
+}

@@ -1,0 +1,94 @@
+//! What is asked, and what has to come of it. The die has 256 pages of 64 and 32 bytes, 8 a block, and 32 sectors.
+use super::Step::{self, Run, Serve, Trouble};
+use super::files::Trouble as trouble;
+
+/// A disk is made, told of and served.
+pub const DONE: [Step; 7] = [
+    Run("nanddisk --version", 0, "nanddisk 0.1.0\n"),
+    Run("nanddisk create --geometry 64,32,8,32,32 d", 0, ""),
+    Run(
+        "nanddisk info d",
+        0,
+        "size 2048\ngeometry 64,32,8,32,32\ncache 64\nfree 31 bad 0\nwear least 0 most 0 erases 0\nnext 3\n",
+    ),
+    Run(
+        "nanddisk info --json d",
+        0,
+        "{\"size\":2048,\"geometry\":\"64,32,8,32,32\",\"cache\":64,\"free\":31,\"bad\":0,\"wear\":{\"least\":0,\"most\":0,\"erases\":0},\"next\":3}\n",
+    ),
+    Run("nanddisk create --size 1 s", 0, ""),
+    Serve("nanddisk serve d", b"", 0, b"NBDMAGICIHAVEOPT\x00\x03"),
+    Serve(
+        "nanddisk serve --read-only d",
+        b"",
+        0,
+        b"NBDMAGICIHAVEOPT\x00\x03",
+    ),
+];
+
+/// What the words ask for cannot be done.
+pub const REFUSED: [Step; 12] = [
+    Run("nanddisk", 2, "usage: no such command\n"),
+    Run("nanddisk info d", 3, "fault read d\n"),
+    Run("nanddisk serve d", 3, "fault read d\n"),
+    Run("nanddisk create --size 1X d", 2, "usage: bad size 1X\n"),
+    Run("nanddisk create --size 0 d", 2, "usage: bad size 0\n"),
+    Run(
+        "nanddisk create --geometry 64,32,8 d",
+        2,
+        "usage: bad number 64,32,8\n",
+    ),
+    Run(
+        "nanddisk create --geometry 64,32,8,32,3000 d",
+        1,
+        "refused: d was not formatted: Format TooFewGood good 32 need 808\n",
+    ),
+    Run(
+        "nanddisk create --geometry 64,32,8,32,32 --from none d",
+        3,
+        "fault read none\n",
+    ),
+    Run(
+        "nanddisk create --geometry 64,32,8,32,32 --from dump d",
+        1,
+        "refused: dump is no disk: Mount NotFormatted\n",
+    ),
+    Run(
+        "nanddisk create --geometry 64,32,8,33,32 --from dump d",
+        1,
+        "refused: dump has 24576 bytes, and its shape 25344\n",
+    ),
+    Run("nanddisk create --geometry 64,32,8,32,32 d", 0, ""),
+    Run(
+        "nanddisk create --geometry 64,32,8,32,32 d",
+        1,
+        "refused: d exists\n",
+    ),
+];
+
+/// Files fail.
+pub const TROUBLED: [Step; 11] = [
+    Trouble(trouble::Unasked),
+    Run(
+        "nanddisk create --geometry 64,32,8,32,32 d",
+        3,
+        "fault read d\n",
+    ),
+    Trouble(trouble::Full),
+    Run(
+        "nanddisk create --geometry 64,32,8,32,32 d",
+        3,
+        "fault write d\n",
+    ),
+    Trouble(trouble::Unkept),
+    Run(
+        "nanddisk create --geometry 64,32,8,32,32 d",
+        3,
+        "fault write d\n",
+    ),
+    Run("nanddisk info d", 3, "fault read d\n"),
+    Trouble(trouble::Calm),
+    Run("nanddisk create --geometry 64,32,8,32,32 d", 0, ""),
+    Trouble(trouble::Busy),
+    Run("nanddisk info d", 1, "refused: d is in use\n"),
+];
