@@ -47,12 +47,20 @@ pub trait DiskFiles {
     ghost kept: { Self → Option (List Kept) };
 
     /// Whether something stands at the path of a disk, or beside it where its shape is told.
+    ///
+    /// # Errors
+    ///
+    /// One that these files may answer of the path, where that could not be asked. They are as they were.
     fn has(&mut self, path: &str) -> Result<bool, FileFault>
         ensures said { IfOk result ((answers self.old).says_there path.now) }
         ensures failed { IfErr result ((answers self.old).fails path.now) }
         ensures same { self.new ≡ self.old };
 
     /// The bytes of the file that tells the shape of the disk at a path, or the first 65,536 of them.
+    ///
+    /// # Errors
+    ///
+    /// One that these files may answer of the path, where there is no such file or it could not be read. They are as they were.
     fn shape_text(&mut self, alloc: Global, path: &str) -> Result<Vec<u8>, FileFault>
         ensures bytes { IfOk result (λ text. (answers self.old).tells path.now text.items) }
         ensures failed { IfErr result ((answers self.old).fails path.now) }
@@ -60,6 +68,10 @@ pub trait DiskFiles {
 
     /// The store of the die at a path, and a second handle of its file: a file of as many bytes as the geometry's pages have. With `writes` false it is opened for
     /// reading alone.
+    ///
+    /// # Errors
+    ///
+    /// One that these files may answer of the path: `Length` where it has another number of bytes. The disks in their places are as they were.
     fn open(
         &mut self,
         alloc: Global,
@@ -74,6 +86,10 @@ pub trait DiskFiles {
         ensures kept { kept self.new ≡ kept self.old };
 
     /// The store of a die to be made beside a path, of erased pages that last.
+    ///
+    /// # Errors
+    ///
+    /// One that these files may answer of the path, where it could not be made. The disks in their places are as they were.
     fn create(
         &mut self,
         alloc: Global,
@@ -86,7 +102,11 @@ pub trait DiskFiles {
         ensures no_more { FailsNoMore (answers self.old) (answers self.new) }
         ensures kept { kept self.new ≡ kept self.old };
 
-    /// The store of a die to be made beside a path, with the pages of a raw dump, which last. A fault is of the dump where it is `Read` or `Length`, else of what is made.
+    /// The store of a die to be made beside a path, with the pages of a raw dump, which last.
+    ///
+    /// # Errors
+    ///
+    /// One that these files may answer: of the dump where it is `Read` or `Length`, else of what is made. The disks in their places are as they were.
     fn copy(
         &mut self,
         alloc: Global,
@@ -102,6 +122,10 @@ pub trait DiskFiles {
         ensures kept { kept self.new ≡ kept self.old };
 
     /// Puts the die that was made beside a path in its place, with a file of this text beside it, once all is stored. What stands there is never replaced.
+    ///
+    /// # Errors
+    ///
+    /// One that these files may answer of the path: `Exists` where something stands there. The disks in their places are as they were.
     fn keep(&mut self, path: &str, store: Self::Store, text: &[u8]) -> Result<(), FileFault>
         ensures done { kept self.new ≡ kept_after (kept self.old) (record { path = path.now; held = Self.Store.held store; text = text.now }) result }
         ensures failed { IfErr result ((answers self.old).fails path.now) };

@@ -39,7 +39,7 @@ pub enum SizeFault {
     TooLarge,
 }
 
-/// The entries of the cache of a device on a die of this geometry: one for each of its sectors, so that no change waits for a translation page, but at least 64 and at
+/// The entries of the cache of a device on a die of this geometry: one for each of its sectors, so that one that was met once stays in the cache, but at least 64 and at
 /// most 65,280. A die that was stopped mounts with as many entries more as a block has pages, and these are within the 65,536 that a cache may have.
 ///
 /// (This project's rule.)
