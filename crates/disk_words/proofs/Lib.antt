@@ -1,1 +1,2 @@
 pub mod GrammarLemmas
+pub mod MakeLemmas

@@ -1,9 +1,9 @@
 -- The words of the command line, as `clap` reads them.
-use Rattle.std.specs.Prelude.{◌≡◌, ℕ, Bool, true, false, List, codes, Option, Some, None, option_map, if◌then◌else◌}
+use Rattle.std.specs.Prelude.{◌≡◌, ℕ, Bool, true, false, List, [], ◌∷◌, codes, Option, Some, None, option_map, if◌then◌else◌}
 use Rattle.std.specs.Str.{bytes_eq}
 use Rattle.std.specs.Borrow.{Bor}
-use Rattle.clap.specs.Words.{App, Row, Rule, first_of, count_of, new_app, with_rule, with_subcommand}
-use Rattle.program_words.specs.Grammar.{flag, option, place, program}
+use Rattle.clap.specs.Words.{App, Row, Shape, first_of, count_of}
+use Rattle.program_words.specs.Grammar.{command_of, flag, option, place, program_of}
 use Rattle.program_words.specs.Met.{AsksText, NamesCommand, once}
 use Rattle.program_words.specs.Met as met
 use Rattle.disk_words.specs.declared.words.CreateWords.{CreateWords}
@@ -16,30 +16,18 @@ use Rattle.disk_words.specs.declared.words.DiskWords.TheVariants as asked
 
 -- ---- what `clap` is told
 
-abbrev pub disk : Rule
-disk = place (codes "DISK")
+abbrev pub create : Shape
+create = command_of (codes "create") (option (codes "size") ∷ option (codes "geometry") ∷ option (codes "from") ∷ option (codes "cache") ∷ place (codes "DISK") ∷ [])
 
-abbrev pub create_plain : App
-create_plain = with_rule (with_rule (with_rule (new_app (codes "create")) (option (codes "size"))) (option (codes "geometry"))) (option (codes "from"))
+abbrev pub serve : Shape
+serve = command_of (codes "serve") (flag (codes "read-only") ∷ option (codes "sync") ∷ place (codes "DISK") ∷ [])
 
-abbrev pub create : App
-create = with_rule (with_rule create_plain (option (codes "cache"))) disk
-
-abbrev pub serve : App
-serve = with_rule (with_rule (with_rule (new_app (codes "serve")) (flag (codes "read-only"))) (option (codes "sync"))) disk
-
-abbrev pub info : App
-info = with_rule (with_rule (new_app (codes "info")) (flag (codes "json"))) disk
-
-abbrev pub with_create : App
-with_create = with_subcommand (program (codes "nanddisk")) create.top
-
-abbrev pub with_serve : App
-with_serve = with_subcommand with_create serve.top
+abbrev pub info : Shape
+info = command_of (codes "info") (flag (codes "json") ∷ place (codes "DISK") ∷ [])
 
 -- the commands that the program has
 abbrev pub grammar : App
-grammar = with_subcommand with_serve info.top
+grammar = program_of (codes "nanddisk") (create ∷ serve ∷ info ∷ [])
 
 -- ---- what the words ask for
 

@@ -1,8 +1,6 @@
 //! The words of the command line: one level of subcommands, with help and a version.
-ghost use Rattle.std.specs.Prelude.{◌≡◌, IfOk, IfSome, None, Err, false, option_map};
-ghost use Rattle.clap.specs.declared.builder.command.Command.{out-Command};
-ghost use Rattle.clap.specs.Words.{app_of, found_of, rows_of, rule_of, subcommand_rows_of};
-ghost use Rattle.program_words.specs.Met.{IsCommandOf, texts};
+ghost use Rattle.std.specs.Prelude.{◌≡◌, IfOk, IfSome, None, Err, option_map};
+ghost use Rattle.program_words.specs.Met.{entries_of, texts};
 ghost use Rattle.disk_words.specs.declared.words.CreateWords.{CreateWords};
 ghost use Rattle.disk_words.specs.declared.words.DiskWords.{DiskWords};
 ghost use Rattle.disk_words.specs.declared.words.InfoWords.{InfoWords};
@@ -10,11 +8,9 @@ ghost use Rattle.disk_words.specs.declared.words.MakeWords.{MakeWords};
 ghost use Rattle.disk_words.specs.declared.words.ServeWords.{ServeWords};
 ghost use Rattle.disk_words.specs.Words.{IsAsked, IsAt, IsCreateAt, IsInfoAt, IsMakeAt, IsNoCommand, IsServeAt};
 
-use clap::{Arg, ArgMatches, Command};
-use program_words::{
-    Met, WordsFault, flag, named, once, option, place, program, read_words, with_command, with_word,
-};
-use std::alloc::{AllocError, Global};
+use crate::grammar::grammar;
+use program_words::{CommandWords, Met, WordsFault, read_words};
+use std::alloc::Global;
 
 /// What a disk is made of.
 #[derive(Clone, Copy)]
@@ -66,115 +62,6 @@ pub enum DiskWords<'a> {
     Text(String),
 }
 
-// The word of the disk.
-fn disk<'a>(alloc: Global) -> Arg<'a>
-    ensures rule { rule_of result ≡ Rattle.disk_words.specs.Words.disk }
-    ensures local { result.global ≡ false }
-{
-    place(
-        alloc,
-        "DISK",
-        "The file of the disk; its shape stands beside it, in DISK.json",
-    )
-}
-
-// The command `create`, but for its last two words.
-fn create_plain<'a>(alloc: Global) -> Result<Command<'a>, AllocError>
-    ensures app { IfOk result (λ command. app_of command ≡ Rattle.disk_words.specs.Words.create_plain) }
-    ensures local { IfOk result (λ command. (out-Command command).has_globals ≡ false) }
-{
-    let create = named(
-        alloc,
-        "create",
-        "Makes a disk of a size, or on a die of a geometry",
-    );
-    let size = option(
-        alloc,
-        "size",
-        "SIZE",
-        "So many bytes, or with K, M, G or T behind the number",
-    );
-    let geometry = option(
-        alloc,
-        "geometry",
-        "GEOM",
-        "data,spare,pages,blocks,sectors: five numbers",
-    );
-    let from = option(
-        alloc,
-        "from",
-        "DUMP",
-        "The die as this dump of it says, with --geometry",
-    );
-    with_word(with_word(with_word(create, size)?, geometry)?, from)
-}
-
-// The command `create`.
-fn create<'a>(alloc: Global) -> Result<Command<'a>, AllocError>
-    ensures app { IfOk result (λ command. app_of command ≡ Rattle.disk_words.specs.Words.create) }
-    ensures local { IfOk result (λ command. (out-Command command).has_globals ≡ false) }
-{
-    let cache = option(
-        alloc,
-        "cache",
-        "C",
-        "The entries of the cache, from 1 to 65536",
-    );
-    with_word(with_word(create_plain(alloc)?, cache)?, disk(alloc))
-}
-
-// The command `serve`.
-fn serve<'a>(alloc: Global) -> Result<Command<'a>, AllocError>
-    ensures app { IfOk result (λ command. app_of command ≡ Rattle.disk_words.specs.Words.serve) }
-    ensures local { IfOk result (λ command. (out-Command command).has_globals ≡ false) }
-{
-    let serve = named(
-        alloc,
-        "serve",
-        "Serves a disk by NBD over standard input and output",
-    );
-    let read_only = flag(alloc, "read-only", "Lets no client change the disk");
-    let sync = option(
-        alloc,
-        "sync",
-        "WHEN",
-        "Syncs the file about `erases` alone, or `always`, after each page too",
-    );
-    with_word(with_word(with_word(serve, read_only)?, sync)?, disk(alloc))
-}
-
-// The command `info`.
-fn info<'a>(alloc: Global) -> Result<Command<'a>, AllocError>
-    ensures app { IfOk result (λ command. app_of command ≡ Rattle.disk_words.specs.Words.info) }
-    ensures local { IfOk result (λ command. (out-Command command).has_globals ≡ false) }
-{
-    let info = named(alloc, "info", "Tells what a disk is");
-    let json = flag(alloc, "json", "Prints one JSON document");
-    with_word(with_word(info, json)?, disk(alloc))
-}
-
-// With the command `create`.
-fn with_create<'a>(alloc: Global) -> Result<Command<'a>, AllocError>
-    ensures { IfOk result (λ command. app_of command ≡ Rattle.disk_words.specs.Words.with_create) }
-{
-    let program = program(alloc, "nanddisk", "A NAND die in a file, served as a disk");
-    with_command(program, create(alloc)?)
-}
-
-// And `serve`.
-fn with_serve<'a>(alloc: Global) -> Result<Command<'a>, AllocError>
-    ensures { IfOk result (λ command. app_of command ≡ Rattle.disk_words.specs.Words.with_serve) }
-{
-    with_command(with_create(alloc)?, serve(alloc)?)
-}
-
-// The commands that the program has.
-fn grammar<'a>(alloc: Global) -> Result<Command<'a>, AllocError>
-    ensures { IfOk result (λ command. app_of command ≡ Rattle.disk_words.specs.Words.grammar) }
-{
-    with_command(with_serve(alloc)?, info(alloc)?)
-}
-
 // Whether the file is to be synced always, by the word of `--sync`.
 fn always(word: Option<&str>) -> Option<bool>
     ensures { result ≡ Rattle.disk_words.specs.Words.always (option_map (λ word. word.now) word.entry) }
@@ -202,57 +89,57 @@ fn make<'a>(
     }
 }
 
-// What the command `create` makes a disk of, where its matches say so.
-fn make_words<'a>(found: &ArgMatches<'a>) -> Option<MakeWords<'a>>
-    ensures some { IfSome result (IsMakeAt (rows_of (found_of found.now))) }
-    ensures none { result ≡ None → (read : MakeWords) → ¬ IsMakeAt (rows_of (found_of found.now)) read }
+// What the command `create` makes a disk of, where its words say so.
+fn make_words<'a>(found: &CommandWords<'a>) -> Option<MakeWords<'a>>
+    ensures some { IfSome result (IsMakeAt (entries_of found.now)) }
+    ensures none { result ≡ None → (read : MakeWords) → ¬ IsMakeAt (entries_of found.now) read }
 {
     make(
-        found.get_str("size"),
-        found.get_str("geometry"),
-        found.get_str("from"),
+        found.word("size"),
+        found.word("geometry"),
+        found.word("from"),
     )
 }
 
-// The words of the command `create`, where its matches give them.
-fn create_words<'a>(found: &ArgMatches<'a>) -> Option<CreateWords<'a>>
-    ensures some { IfSome result (IsCreateAt (rows_of (found_of found.now))) }
-    ensures none { result ≡ None → (read : CreateWords) → ¬ IsCreateAt (rows_of (found_of found.now)) read }
+// The words of the command `create`, where they are given.
+fn create_words<'a>(found: &CommandWords<'a>) -> Option<CreateWords<'a>>
+    ensures some { IfSome result (IsCreateAt (entries_of found.now)) }
+    ensures none { result ≡ None → (read : CreateWords) → ¬ IsCreateAt (entries_of found.now) read }
 {
     Some(CreateWords {
-        disk: found.get_str("DISK")?,
+        disk: found.word("DISK")?,
         make: make_words(found)?,
-        cache: found.get_str("cache"),
+        cache: found.word("cache"),
     })
 }
 
-// The words of the command `serve`, where its matches give them.
-fn serve_words<'a>(found: &ArgMatches<'a>) -> Option<ServeWords<'a>>
-    ensures some { IfSome result (IsServeAt (rows_of (found_of found.now))) }
-    ensures none { result ≡ None → (read : ServeWords) → ¬ IsServeAt (rows_of (found_of found.now)) read }
+// The words of the command `serve`, where they are given.
+fn serve_words<'a>(found: &CommandWords<'a>) -> Option<ServeWords<'a>>
+    ensures some { IfSome result (IsServeAt (entries_of found.now)) }
+    ensures none { result ≡ None → (read : ServeWords) → ¬ IsServeAt (entries_of found.now) read }
 {
     Some(ServeWords {
-        disk: found.get_str("DISK")?,
-        read_only: once(found.get_count("read-only"))?,
-        sync_always: always(found.get_str("sync"))?,
+        disk: found.word("DISK")?,
+        read_only: found.once("read-only")?,
+        sync_always: always(found.word("sync"))?,
     })
 }
 
-// The words of the command `info`, where its matches give them.
-fn info_words<'a>(found: &ArgMatches<'a>) -> Option<InfoWords<'a>>
-    ensures some { IfSome result (IsInfoAt (rows_of (found_of found.now))) }
-    ensures none { result ≡ None → (read : InfoWords) → ¬ IsInfoAt (rows_of (found_of found.now)) read }
+// The words of the command `info`, where they are given.
+fn info_words<'a>(found: &CommandWords<'a>) -> Option<InfoWords<'a>>
+    ensures some { IfSome result (IsInfoAt (entries_of found.now)) }
+    ensures none { result ≡ None → (read : InfoWords) → ¬ IsInfoAt (entries_of found.now) read }
 {
     Some(InfoWords {
-        disk: found.get_str("DISK")?,
-        json: once(found.get_count("json"))?,
+        disk: found.word("DISK")?,
+        json: found.once("json")?,
     })
 }
 
-// What the command of this name asks for, with these matches.
-fn asked_at<'a>(name: &str, found: &ArgMatches<'a>) -> Option<DiskWords<'a>>
-    ensures some { IfSome result (IsAt name.now (rows_of (found_of found.now))) }
-    ensures none { result ≡ None → (asked : DiskWords) → ¬ IsAt name.now (rows_of (found_of found.now)) asked }
+// What the command of this name asks for, with these words.
+fn asked_at<'a>(name: &str, found: &CommandWords<'a>) -> Option<DiskWords<'a>>
+    ensures some { IfSome result (IsAt name.now (entries_of found.now)) }
+    ensures none { result ≡ None → (asked : DiskWords) → ¬ IsAt name.now (entries_of found.now) asked }
 {
     match name {
         "create" => Some(DiskWords::Create(create_words(found)?)),
@@ -260,15 +147,6 @@ fn asked_at<'a>(name: &str, found: &ArgMatches<'a>) -> Option<DiskWords<'a>>
         "info" => Some(DiskWords::Info(info_words(found)?)),
         _ => None,
     }
-}
-
-// What the command asks for that was met.
-fn command_asked<'a>(matches: &ArgMatches<'a>) -> Option<DiskWords<'a>>
-    ensures some { IfSome result (IsCommandOf IsAt (subcommand_rows_of matches.now)) }
-    ensures none { result ≡ None → (asked : DiskWords) → ¬ IsCommandOf IsAt (subcommand_rows_of matches.now) asked }
-{
-    let (name, found) = matches.subcommand()?;
-    asked_at(name, found)
 }
 
 /// What the words ask for, of which the first is the program's name: as `clap` reads them. No option may stand twice. `create` takes `--size`, or
@@ -282,12 +160,12 @@ pub fn parse<'a>(alloc: Global, words: &'a [&'a str]) -> Result<DiskWords<'a>, W
     ensures ok { IfOk result (IsAsked (texts words.now)) }
     ensures none { result ≡ Err WordsFault.NoSuchCommand → IsNoCommand (texts words.now) }
 {
-    let grammar = grammar(alloc)?;
-    match read_words(alloc, grammar, words)? {
-        Met::Command(matches) => match command_asked(&matches) {
+    match read_words(alloc, &grammar(), words) {
+        Ok(Met::Command { name, words }) => match asked_at(name, &words) {
             Some(asked) => Ok(asked),
             None => Err(WordsFault::NoSuchCommand),
         },
-        Met::Text(text) => Ok(DiskWords::Text(text)),
+        Ok(Met::Text(text)) => Ok(DiskWords::Text(text)),
+        Err(fault) => Err(fault),
     }
 }

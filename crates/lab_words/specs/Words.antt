@@ -1,9 +1,9 @@
 -- The words of the command line, as `clap` reads them.
-use Rattle.std.specs.Prelude.{◌≡◌, ◌≤◌, ℕ, List, length, codes, Some, option_map}
+use Rattle.std.specs.Prelude.{◌≡◌, ◌≤◌, ℕ, List, [], ◌∷◌, length, codes, Some, option_map}
 use Rattle.std.specs.Borrow.{Bor}
 use Rattle.clap.specs.declared.builder.action.ArgAction.TheVariants.{Append}
-use Rattle.clap.specs.Words.{App, Row, all_of, first_of, count_of, new_app, with_rule, with_subcommand}
-use Rattle.program_words.specs.Grammar.{flag, option, place, place_of, program}
+use Rattle.clap.specs.Words.{App, Row, Rule, Shape, all_of, first_of, count_of}
+use Rattle.program_words.specs.Grammar.{command_of, flag, option, place, place_of, program_of}
 use Rattle.program_words.specs.Met.{AsksText, NamesCommand, once, texts}
 use Rattle.program_words.specs.Met as met
 use Rattle.lab_words.specs.declared.words.ArrayWords.{ArrayWords}
@@ -18,62 +18,31 @@ use Rattle.lab_words.specs.declared.words.Asked.TheVariants as asked
 
 -- ---- what `clap` is told
 
--- with the words that all commands have
-abbrev pub with_showing : App → App
-with_showing command = with_rule (with_rule command (flag (codes "json"))) (flag (codes "progress"))
+-- the words that all commands have
+abbrev pub showing : List Rule
+showing = flag (codes "json") ∷ flag (codes "progress") ∷ []
 
--- a command whose first word is a geometry
-abbrev pub of_geometry : List ℕ → App
-of_geometry name = with_rule (new_app name) (place (codes "GEOM"))
+abbrev pub geometry : Shape
+geometry = command_of (codes "geometry") (place (codes "DUMP") ∷ showing)
 
--- one on a dump of a geometry
-abbrev pub of_dump : List ℕ → App
-of_dump name = with_rule (of_geometry name) (place (codes "DUMP"))
+abbrev pub survey : Shape
+survey = command_of (codes "survey") (place (codes "GEOM") ∷ place (codes "DUMP") ∷ option (codes "rows") ∷ showing)
 
--- one that writes a file of a dump
-abbrev pub writing : List ℕ → App
-writing name = with_rule (with_rule (of_dump name) (place (codes "OUT"))) (flag (codes "force"))
+abbrev pub array : Shape
+array = command_of (codes "array") (place (codes "GEOM") ∷ place (codes "DUMP") ∷ place (codes "OUT") ∷ flag (codes "force") ∷ option (codes "map") ∷ showing)
 
-abbrev pub geometry : App
-geometry = with_showing (with_rule (new_app (codes "geometry")) (place (codes "DUMP")))
+abbrev pub compare : Shape
+compare = command_of (codes "compare") (place (codes "GEOM") ∷ place (codes "CERT") ∷ place (codes "DUMP") ∷ showing)
 
-abbrev pub array : App
-array = with_showing (with_rule (writing (codes "array")) (option (codes "map")))
+abbrev pub merge : Shape
+merge = command_of (codes "merge") (place (codes "GEOM") ∷ place (codes "OUT") ∷ place_of Append (codes "DUMP") ∷ flag (codes "force") ∷ showing)
 
-abbrev pub survey : App
-survey = with_showing (with_rule (of_dump (codes "survey")) (option (codes "rows")))
-
-abbrev pub compare : App
-compare = with_showing (with_rule (with_rule (of_geometry (codes "compare")) (place (codes "CERT"))) (place (codes "DUMP")))
-
--- but for the words that all have
-abbrev pub merge_plain : App
-merge_plain = with_rule (with_rule (with_rule (of_geometry (codes "merge")) (place (codes "OUT"))) (place_of Append (codes "DUMP"))) (flag (codes "force"))
-
-abbrev pub merge : App
-merge = with_showing merge_plain
-
-abbrev pub repair : App
-repair = with_showing (with_rule (writing (codes "repair")) (option (codes "rows")))
-
-abbrev pub with_geometry : App
-with_geometry = with_subcommand (program (codes "nandlab")) geometry.top
-
-abbrev pub with_survey : App
-with_survey = with_subcommand with_geometry survey.top
-
-abbrev pub with_array : App
-with_array = with_subcommand with_survey array.top
-
-abbrev pub with_compare : App
-with_compare = with_subcommand with_array compare.top
-
-abbrev pub with_merge : App
-with_merge = with_subcommand with_compare merge.top
+abbrev pub repair : Shape
+repair = command_of (codes "repair") (place (codes "GEOM") ∷ place (codes "DUMP") ∷ place (codes "OUT") ∷ flag (codes "force") ∷ option (codes "rows") ∷ showing)
 
 -- the commands that the program has
 abbrev pub grammar : App
-grammar = with_subcommand with_merge repair.top
+grammar = program_of (codes "nandlab") (geometry ∷ survey ∷ array ∷ compare ∷ merge ∷ repair ∷ [])
 
 -- ---- what the words ask for
 

@@ -1,2 +1,3 @@
-pub mod MatchLemmas
+pub mod GrammarLemmas
 pub mod MetLemmas
+pub mod WordLemmas

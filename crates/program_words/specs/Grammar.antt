@@ -1,9 +1,14 @@
--- The parts that a grammar is made of, as `clap` is told them.
-use Rattle.std.specs.Prelude.{ℕ, true, List, Some}
+-- A grammar as `clap` is told it.
+use Rattle.std.specs.Prelude.{ℕ, Bool, true, false, List, [], ◌∷◌, map, Some}
 use Rattle.clap.specs.declared.builder.action.ArgAction.{ArgAction}
-use Rattle.clap.specs.declared.builder.action.ArgAction.TheVariants.{Count, Set}
-use Rattle.clap.specs.Words.{App, Rule, new_app, new_rule}
-use Rattle.clap.specs.Simple.{on_top}
+use Rattle.clap.specs.declared.builder.action.ArgAction.TheVariants.{Append, Count, Set}
+use Rattle.clap.specs.Simple.{new_shape}
+use Rattle.clap.specs.Words.{App, Rule, Shape, new_rule}
+use Rattle.program_words.specs.declared.grammar.CommandRule.{CommandRule}
+use Rattle.program_words.specs.declared.grammar.Grammar.{Grammar}
+use Rattle.program_words.specs.declared.grammar.WordKind.{WordKind}
+use Rattle.program_words.specs.declared.grammar.WordKind.TheVariants as kind
+use Rattle.program_words.specs.declared.grammar.WordRule.{WordRule}
 
 -- a word that a command wants, and what becomes of it
 abbrev pub place_of : ArgAction → List ℕ → Rule
@@ -20,6 +25,39 @@ flag id = record (new_rule id) { action = Some Count; long = Some id }
 abbrev pub option : List ℕ → Rule
 option id = record (new_rule id) { action = Some Set; long = Some id; value_names = 1 }
 
--- a program that tells its version, has no subcommand `help`, and wants a command
-abbrev pub program : List ℕ → App
-program name = on_top (λ s. record s { has_version = true; disable_help_subcommand = true; subcommand_required = true }) (new_app name)
+-- a command of these words
+abbrev pub command_of : List ℕ → List Rule → Shape
+command_of name words = record (new_shape name) { rules = words }
+
+abbrev pub are_none : List Shape → Bool
+are_none [] = true
+are_none (command ∷ rest) = false
+
+-- a program of these commands, which tells its version, has no subcommand `help`, and wants a command
+abbrev pub program_of : List ℕ → List Shape → App
+program_of name commands = record {
+  top = record (new_shape name) { is_leaf = are_none commands; has_version = true; disable_help_subcommand = true; subcommand_required = true };
+  subs = commands;
+}
+
+-- ---- from what the program says of them
+
+-- a word of this name and kind
+abbrev pub rule_of_kind : List ℕ → WordKind → Rule
+rule_of_kind id kind.Place = place id
+rule_of_kind id kind.Places = place_of Append id
+rule_of_kind id kind.Flag = flag id
+rule_of_kind id (kind.Valued value) = option id
+
+abbrev pub word_rule : WordRule → Rule
+word_rule word = rule_of_kind word.id.now word.kind
+
+abbrev pub command_shape : CommandRule → Shape
+command_shape rule = command_of rule.name.now (map word_rule rule.words.now)
+
+abbrev pub program_app : Grammar → App
+program_app grammar = program_of grammar.name.now (map command_shape grammar.commands.now)
+
+-- a command alone
+abbrev pub alone : Shape → App
+alone command = record { top = command; subs = [] }

@@ -4,7 +4,8 @@ use Rattle.std.specs.Borrow.{Bor}
 use Rattle.clap.specs.declared.error.Error.{Error}
 use Rattle.clap.specs.declared.error.kind.ErrorKind.{ErrorKind}
 use Rattle.clap.specs.declared.error.kind.ErrorKind.TheVariants.{DisplayHelp, DisplayVersion, OutOfMemory}
-use Rattle.clap.specs.Words.{App, Row, fault_of, kind_of, subcommand_of, subcommand_rows_of, IsAmong}
+use Rattle.clap.specs.Words.{App, Row, fault_of, found_of, kind_of, rows_of, subcommand_of, IsAmong}
+use Rattle.program_words.specs.declared.met.CommandWords.{CommandWords}
 use Rattle.program_words.specs.declared.met.Met.{Met}
 use Rattle.program_words.specs.declared.met.Met.TheVariants as met
 
@@ -45,10 +46,23 @@ pub record HasFault (g : App) (words : List (List ℕ)) : Type 0 where
   pub among : IsAmong kind (fault_of g words)
   pub other : IsOther kind
 
--- WHAT THEY CAME TO: no fault is found in them, and their command and its words are these; or they ask for a text
+-- the entries of the words of a command
+abbrev pub entries_of : CommandWords → List Row
+entries_of words = rows_of (found_of words.matches)
+
+-- the command that was met has this name, and its words these entries
+pub record Names (met : Option (List ℕ × List Row)) (name : List ℕ) (rows : List Row) : Type 0 where
+  pub named : option_map (λ p. p.0) met ≡ Some name
+  pub entries : option_map (λ p. p.1) met ≡ Some rows
+
+-- WHAT THEY CAME TO: no fault is found in them, and they name this command with these words; or they ask for a text
 abbrev pub IsMet : App → List (List ℕ) → Met → Type 0
-IsMet g words (met.Command matches) = (fault_of g words ≡ []) × (subcommand_rows_of matches ≡ subcommand_of g words)
+IsMet g words (met.Command name given) = (fault_of g words ≡ []) × Names (subcommand_of g words) name.now (entries_of given)
 IsMet g words (met.Text text) = AsksText g words
+
+-- a fault is found in them, or they name no command
+abbrev pub IsUnmet : App → List (List ℕ) → Type 0
+IsUnmet g words = HasFault g words ⊎ (fault_of g words ≡ []) × (subcommand_of g words ≡ None)
 
 -- ---- what they ask for, where a command with such words asks for such a thing
 
@@ -56,8 +70,7 @@ IsMet g words (met.Text text) = AsksText g words
 pub record IsCommandOf {A : Type 0} (at : List ℕ → List Row → A → Type 0) (met : Option (List ℕ × List Row)) (found : A) : Type 0 where
   pub name : List ℕ
   pub rows : List Row
-  pub named : option_map (λ p. p.0) met ≡ Some name
-  pub entries : option_map (λ p. p.1) met ≡ Some rows
+  pub names : Names met name rows
   pub read : at name rows found
 
 -- no fault is found in the words, and they name a command that asks for it

@@ -1,94 +1,94 @@
-//! The parts that a grammar is made of. (This project's.)
+//! A grammar as data, and how `clap` is told it. (This project's.)
 ghost use Rattle.std.specs.Prelude.{◌≡◌, IfOk, false};
 ghost use Rattle.clap.specs.declared.builder.command.Command.{out-Command};
+ghost use Rattle.clap.specs.Words.{app_of, rule_of};
 ghost use Rattle.program_words.specs.Grammar as told;
-ghost use Rattle.clap.specs.Words.{app_of, new_app, rule_of, with_rule, with_subcommand};
 
+use crate::parts::{flag, named, option, place, place_of, program, with_command, with_word};
 use clap::{Arg, ArgAction, Command};
 use std::alloc::{AllocError, Global};
 
-/// A word that a command wants, what becomes of it, and what it is for.
-pub fn place_of<'a>(alloc: Global, id: &'a str, action: ArgAction, help: &'a str) -> Arg<'a>
-    ensures rule { rule_of result ≡ told.place_of action id.now }
+/// How a word stands in a command line.
+#[derive(Clone, Copy)]
+pub enum WordKind<'a> {
+    /// In its place, once. The command wants it.
+    Place,
+    /// In its place, once or more often. The command wants it.
+    Places,
+    /// Behind two dashes.
+    Flag,
+    /// Behind two dashes, with another word behind it, which help calls this.
+    Valued(&'a str),
+}
+
+/// One word of a command.
+#[derive(Clone, Copy)]
+pub struct WordRule<'a> {
+    /// What it is called: what stands behind the two dashes, where it has these.
+    pub id: &'a str,
+    pub kind: WordKind<'a>,
+    /// What it is for, as help says it.
+    pub help: &'a str,
+}
+
+/// One command of a program.
+#[derive(Clone, Copy)]
+pub struct CommandRule<'a> {
+    pub name: &'a str,
+    /// What it does, as help says it.
+    pub about: &'a str,
+    /// Its words; those that stand in their place in the order in which they do.
+    pub words: &'a [WordRule<'a>],
+}
+
+/// The commands of a program, of version 0.1.0, which wants one of them.
+#[derive(Clone, Copy)]
+pub struct Grammar<'a> {
+    pub name: &'a str,
+    /// What the program is, as help says it.
+    pub about: &'a str,
+    pub commands: &'a [CommandRule<'a>],
+}
+
+// A word, as `clap` is told it.
+fn word_of<'a>(alloc: Global, rule: &WordRule<'a>) -> Arg<'a>
+    ensures rule { rule_of result ≡ told.word_rule rule.now }
     ensures local { result.global ≡ false }
 {
-    Arg::new(alloc, id).required(true).action(action).help(help)
+    match rule.kind {
+        WordKind::Place => place(alloc, rule.id, rule.help),
+        WordKind::Places => place_of(alloc, rule.id, ArgAction::Append, rule.help),
+        WordKind::Flag => flag(alloc, rule.id, rule.help),
+        WordKind::Valued(value) => option(alloc, rule.id, value, rule.help),
+    }
 }
 
-/// A word that a command wants once, and what it is for.
-pub fn place<'a>(alloc: Global, id: &'a str, help: &'a str) -> Arg<'a>
-    ensures rule { rule_of result ≡ told.place id.now }
-    ensures local { result.global ≡ false }
+// A command, as `clap` is told it.
+fn command_of<'a>(alloc: Global, rule: &CommandRule<'a>) -> Result<Command<'a>, AllocError>
+    ensures app { IfOk result (λ command. app_of command ≡ told.alone (told.command_shape rule.now)) }
+    ensures local { IfOk result (λ command. (out-Command command).has_globals ≡ false) }
 {
-    place_of(alloc, id, ArgAction::Set, help)
+    let mut command = named(alloc, rule.name, rule.about);
+    for place in 0..rule.words.len() {
+        command = with_word(command, word_of(alloc, &rule.words[place]))?;
+    }
+    Ok(command)
 }
 
-/// A word that may stand after two dashes, and what it is for.
-pub fn flag<'a>(alloc: Global, id: &'a str, help: &'a str) -> Arg<'a>
-    ensures rule { rule_of result ≡ told.flag id.now }
-    ensures local { result.global ≡ false }
-{
-    Arg::new(alloc, id)
-        .long(id)
-        .action(ArgAction::Count)
-        .help(help)
-}
-
-/// A word that may stand after two dashes with another one behind it, how that is called, and what it is for.
-pub fn option<'a>(alloc: Global, id: &'a str, value: &'a str, help: &'a str) -> Arg<'a>
-    ensures rule { rule_of result ≡ told.option id.now }
-    ensures local { result.global ≡ false }
-{
-    Arg::new(alloc, id)
-        .long(id)
-        .value_name(value)
-        .action(ArgAction::Set)
-        .help(help)
-}
-
-/// A command of this name, with no words yet, and what it does.
-pub fn named<'a>(alloc: Global, name: &'a str, about: &'a str) -> Command<'a>
-    ensures app { app_of result ≡ new_app name.now }
-    ensures local { (out-Command result).has_globals ≡ false }
-{
-    Command::new(alloc, name).about(about)
-}
-
-/// A command with one word more, which is its own alone.
+/// A program, as `clap` is told it.
 ///
 /// # Errors
 ///
 /// `AllocError` where a growth was refused.
-pub fn with_word<'a>(command: Command<'a>, word: Arg<'a>) -> Result<Command<'a>, AllocError>
-    requires command { (out-Command command).has_globals ≡ false }
-    requires word { word.global ≡ false }
-    ensures app { IfOk result (λ longer. app_of longer ≡ with_rule (app_of command.entry) (rule_of word.entry)) }
-    ensures local { IfOk result (λ longer. (out-Command longer).has_globals ≡ false) }
-{
-    command.arg(word)
-}
-
-/// A program of this name, version 0.1.0, which wants a command and has none yet, and what it is.
-pub fn program<'a>(alloc: Global, name: &'a str, about: &'a str) -> Command<'a>
-    ensures { app_of result ≡ told.program name.now }
-{
-    named(alloc, name, about)
-        .version("0.1.0")
-        .disable_help_subcommand(true)
-        .subcommand_required(true)
-}
-
-/// A program with one command more, whose words are its own.
-///
-/// # Errors
-///
-/// `AllocError` where a growth was refused.
-pub fn with_command<'a>(
-    program: Command<'a>,
-    command: Command<'a>,
+pub(crate) fn program_of<'a>(
+    alloc: Global,
+    grammar: &Grammar<'a>,
 ) -> Result<Command<'a>, AllocError>
-    requires { (out-Command command).has_globals ≡ false }
-    ensures { IfOk result (λ more. app_of more ≡ with_subcommand (app_of program.entry) (app_of command.entry).top) }
+    ensures { IfOk result (λ whole. app_of whole ≡ told.program_app grammar.now) }
 {
-    program.subcommand(command)
+    let mut whole = program(alloc, grammar.name, grammar.about);
+    for place in 0..grammar.commands.len() {
+        whole = with_command(whole, command_of(alloc, &grammar.commands[place])?)?;
+    }
+    Ok(whole)
 }

@@ -1,13 +1,14 @@
-//! The words of a program, as `clap` reads them: the parts that the grammars of the programs share, and what becomes of the words of a command line.
+//! The words of a program, as `clap` reads them: a grammar as data, and what becomes of the words of a command line by it.
 //!
-//! - `place`, `flag`, `option`: the words of a command. `named`, `with_word`: a command of them. `program`, `with_command`: a program of such commands.
-//! - `read_words`: what `clap` makes of the words. `once`: a word that may stand once.
+//! - `Grammar`, `CommandRule`, `WordRule`, `WordKind`: the commands of a program and their words.
+//! - `read_words`: what `clap` makes of the words. `CommandWords`: those of the command that they name.
 //!
-//! All of it is this project's, over the kit's `clap`.
+//! All of it is this project's, over the kit's `clap`. No crate above hands a value of `clap` on.
 #![tactic(auto)]
 
 mod grammar;
 mod met;
+mod parts;
 
-pub use grammar::{flag, named, option, place, place_of, program, with_command, with_word};
-pub use met::{Met, WordsFault, once, read_words};
+pub use grammar::{CommandRule, Grammar, WordKind, WordRule};
+pub use met::{CommandWords, Met, WordsFault, read_words};

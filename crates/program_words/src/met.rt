@@ -1,17 +1,55 @@
 //! What `clap` makes of the words of a command line. (This project's.)
-ghost use Rattle.std.specs.Prelude.{◌≡◌, IfOk, OnOk, Err, true};
-ghost use Rattle.clap.specs.Words.{app_of, is_simple, is_simple_and_free};
-ghost use Rattle.program_words.specs.Met.{HasFault, IsMet, IsOtherKind, IsTextFor, texts};
+ghost use Rattle.std.specs.Prelude.{◌≡◌, IfOk, IfSome, OnOk, Err, None, option_map, true};
+ghost use Rattle.clap.specs.Words.{all_of, count_of, first_of, is_simple_and_free, subcommand_rows_of};
+ghost use Rattle.program_words.specs.Grammar.{program_app};
+ghost use Rattle.program_words.specs.Met.{IsMet, IsOtherKind, IsTextFor, IsUnmet, Names, entries_of, texts};
 
+use crate::grammar::{Grammar, program_of};
 use clap::error::ErrorKind;
-use clap::{ArgMatches, Command, Error};
+use clap::{ArgMatches, Error};
 use std::alloc::{AllocError, Global};
+
+/// The words of a command, under what its rules call them.
+#[derive(Drop)]
+pub struct CommandWords<'a> {
+    matches: ArgMatches<'a>,
+}
+
+impl<'a> CommandWords<'a> {
+    /// Whether a flag stands: not known where it stands twice or more.
+    pub fn once(&self, id: &str) -> Option<bool>
+        ensures { result ≡ Rattle.program_words.specs.Met.once (count_of id.now (entries_of self.now)) }
+    {
+        match self.matches.get_count(id) {
+            0 => Some(false),
+            1 => Some(true),
+            _ => None,
+        }
+    }
+
+    /// The word in a place, or the one behind an option.
+    pub fn word(&self, id: &str) -> Option<&'a str>
+        ensures { option_map (λ word. word.now) result ≡ first_of id.now (entries_of self.now) }
+    {
+        self.matches.get_str(id)
+    }
+
+    /// The words in a place that stands more than once.
+    pub fn words(&self, id: &str) -> Option<&[&'a str]>
+        ensures { option_map (λ words. texts words.now) result ≡ all_of id.now (entries_of self.now) }
+    {
+        self.matches.get_strs(id)
+    }
+}
 
 /// What the words of a command line came to.
 #[derive(Drop)]
 pub enum Met<'a> {
-    /// `clap` takes them: what it found.
-    Command(ArgMatches<'a>),
+    /// They name this command, with these words.
+    Command {
+        name: &'a str,
+        words: CommandWords<'a>,
+    },
     /// They ask for help or for the version: this text.
     Text(String),
 }
@@ -36,17 +74,6 @@ impl From<AllocError> for WordsFault {
     }
 }
 
-/// Whether a word that may stand once stood, by how often it did: not known where it stood twice or more.
-pub fn once(count: u8) -> Option<bool>
-    ensures { result ≡ Rattle.program_words.specs.Met.once count }
-{
-    match count {
-        0 => Some(false),
-        1 => Some(true),
-        _ => None,
-    }
-}
-
 // The text of help or of the version, where that was asked for.
 fn text_of(alloc: Global, error: &Error) -> Result<String, WordsFault>
     ensures asked { OnOk result (IsTextFor error.now) }
@@ -59,23 +86,35 @@ fn text_of(alloc: Global, error: &Error) -> Result<String, WordsFault>
     }
 }
 
+// The name of the command that was met, and its words.
+fn command_of<'a>(mut matches: ArgMatches<'a>) -> Option<(&'a str, CommandWords<'a>)>
+    ensures some { IfSome result (λ named. Names (subcommand_rows_of matches.entry) named.0.now (entries_of named.1)) }
+    ensures none { result ≡ None → subcommand_rows_of matches.entry ≡ None }
+{
+    let (name, matches) = matches.remove_subcommand()?;
+    Some((name, CommandWords { matches }))
+}
+
 /// What `clap` makes of the words by a grammar, where the first word is the program's name.
 ///
 /// # Errors
 ///
-/// `NoSuchCommand` where it refuses them for another reason than that they ask for help or the version. `OutOfMemory` where a growth was refused.
+/// `NoSuchCommand` where it refuses them for another reason than that they ask for help or the version, or where they name no command.
+/// `OutOfMemory` where a growth was refused.
 pub fn read_words<'a>(
     alloc: Global,
-    grammar: Command<'a>,
+    grammar: &Grammar<'a>,
     words: &'a [&'a str],
 ) -> Result<Met<'a>, WordsFault>
-    requires simple { is_simple (app_of grammar) ≡ true }
-    requires free { is_simple_and_free (app_of grammar) ≡ true }
-    ensures ok { IfOk result (IsMet (app_of grammar.entry) (texts words.now)) }
-    ensures none { result ≡ Err WordsFault.NoSuchCommand → HasFault (app_of grammar.entry) (texts words.now) }
+    ensures ok { is_simple_and_free (program_app grammar.now) ≡ true → IfOk result (IsMet (program_app grammar.now) (texts words.now)) }
+    ensures none { is_simple_and_free (program_app grammar.now) ≡ true → result ≡ Err WordsFault.NoSuchCommand → IsUnmet (program_app grammar.now) (texts words.now) }
 {
-    match grammar.try_get_matches_from(words) {
-        Ok(matches) => Ok(Met::Command(matches)),
+    let program = program_of(alloc, grammar)?;
+    match program.try_get_matches_from(words) {
+        Ok(matches) => match command_of(matches) {
+            Some((name, words)) => Ok(Met::Command { name, words }),
+            None => Err(WordsFault::NoSuchCommand),
+        },
         Err(error) => match text_of(alloc, &error) {
             Ok(text) => Ok(Met::Text(text)),
             Err(fault) => Err(fault),

@@ -1,16 +1,15 @@
-use Rattle.std.proofs.Common.{codes}
-use Rattle.clap.specs.Words.{found_of}
-use Rattle.program_words.proofs.MatchLemmas.{option_at, word_at, lacks}
+use Rattle.std.proofs.Common.{sym}
+use Rattle.std.specs.Borrow.{Bor}
+use Rattle.clap.specs.Walk.{Text}
+use Rattle.program_words.proofs.WordLemmas.{entry_of, lacks}
 use Rattle.disk_words.proofs.words.create_words.Goals as goal
 
-pub returns-in_err-get_str-clause-none : goal.returns-in_err-get_str-clause-none
-returns-in_err-get_str-clause-none c = λ none read is. lacks (found_of c.args.found.now) (codes "DISK") _ c.get_str.result c.get_str.ensures c.in_err-get_str.was is.disk_is
+pub returns-in_err-word-clause-none : goal.returns-in_err-word-clause-none
+returns-in_err-word-clause-none c = λ none read is. lacks (λ (w : Bor Text). w.now) _ _ _ c.word.ensures c.in_err-word.was is.disk_is
 
 pub returns-clause-some : goal.returns-clause-some
-returns-clause-some c =
-    let f = found_of c.args.found.now in
-    record {
-      disk_is = word_at f (codes "DISK") c.get_str.result _ c.get_str.ensures c.in_ok-get_str.was;
-      make_is = c.in_ok-make_words.ensures.some;
-      cache_is = option_at f (codes "cache") c.get_str-2.result c.get_str-2.ensures;
-    }
+returns-clause-some c = record {
+  disk_is = entry_of (λ (w : Bor Text). w.now) _ _ _ c.word.ensures c.in_ok-word.was;
+  make_is = c.in_ok-make_words.ensures.some;
+  cache_is = sym c.word-2.ensures;
+}

@@ -1,21 +1,20 @@
-use Rattle.std.proofs.Common.{codes, sym, ◌∙◌}
-use Rattle.clap.specs.Words.{found_of}
-use Rattle.clap.proofs.WalkLemmas.{first_value-rows}
-use Rattle.program_words.proofs.MatchLemmas.{word_at, lacks}
+use Rattle.std.proofs.Common.{sym}
+use Rattle.std.specs.Borrow.{Bor}
+use Rattle.clap.specs.Walk.{Text}
+use Rattle.program_words.proofs.WordLemmas.{entry_of, lacks}
 use Rattle.lab_words.proofs.words.survey_words.Goals as goal
 
-pub returns-in_err-get_str-clause-none : goal.returns-in_err-get_str-clause-none
-returns-in_err-get_str-clause-none c = λ none read is. lacks (found_of c.args.found.now) (codes "GEOM") _ c.get_str.result c.get_str.ensures c.in_err-get_str.was is.geometry_is
+pub returns-in_err-word-clause-none : goal.returns-in_err-word-clause-none
+returns-in_err-word-clause-none c = λ none read is. lacks (λ (w : Bor Text). w.now) _ _ _ c.word.ensures c.in_err-word.was is.geometry_is
 
-pub returns-in_err-get_str-2-clause-none : goal.returns-in_err-get_str-2-clause-none
-returns-in_err-get_str-2-clause-none c = λ none read is. lacks (found_of c.args.found.now) (codes "DUMP") _ c.get_str-2.result c.get_str-2.ensures c.in_err-get_str-2.was is.dump_is
+pub returns-in_err-word-2-clause-none : goal.returns-in_err-word-2-clause-none
+returns-in_err-word-2-clause-none c = λ none read is. lacks (λ (w : Bor Text). w.now) _ _ _ c.word-2.ensures c.in_err-word-2.was is.dump_is
 
 pub returns-clause-some : goal.returns-clause-some
 returns-clause-some c =
-    let f = found_of c.args.found.now in
     record {
-      geometry_is = word_at f (codes "GEOM") c.get_str.result _ c.get_str.ensures c.in_ok-get_str.was;
-      dump_is = word_at f (codes "DUMP") c.get_str-2.result _ c.get_str-2.ensures c.in_ok-get_str-2.was;
-      rows_are = sym (c.get_str-3.ensures ∙ first_value-rows f (codes "rows"));
+      geometry_is = entry_of (λ (w : Bor Text). w.now) _ _ _ c.word.ensures c.in_ok-word.was;
+      dump_is = entry_of (λ (w : Bor Text). w.now) _ _ _ c.word-2.ensures c.in_ok-word-2.was;
+      rows_are = sym c.word-3.ensures;
       showing = c.in_ok-showing_words.ensures.some;
     }
