@@ -5,3 +5,4 @@ mod SectorLemmas
 mod TableLemmas
 mod KeptLemmas
 mod FormatLemmas
+mod PowerLemmas

@@ -2,10 +2,9 @@
 use Rattle.std.proofs.Common.{◌≡◌, ℕ, ◌≤◌, List, Option, Some, None, get_or, take, drop, inl, inr, sym, ap, ◌∙◌, arith}
 use Rattle.page_layout.specs.declared.record.Record.{Record}
 use Rattle.page_layout.specs.declared.record.Key.{Key}
-use Rattle.page_layout.specs.Page.{Page, page}
+use Rattle.page_layout.specs.Page.{page}
 use Rattle.page_layout.specs.Sound.{record_of}
-use Rattle.page_layout.specs.Key.{key_of}
-use Rattle.page_layout.specs.Newest.{sequence_at, AreTied}
+use Rattle.page_layout.specs.Newest.{sequence_at}
 use Rattle.page_layout.proofs.NewestLemmas.{sequence_at-is, sequence_at-key}
 use Rattle.image_check.specs.Sector.{ShowsSector, HoldsSector}
 use Rattle.image_laws.specs.Sectors.{OneTieLaw, TopTieLaw, ShownLaw, HeldLaw, ShownReadLaw}

@@ -4,3 +4,4 @@ pub mod Sectors
 pub mod Tables
 pub mod Formats
 pub mod Kept
+pub mod Power

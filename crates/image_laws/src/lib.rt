@@ -9,6 +9,7 @@ ghost use Rattle.image_laws.specs.Sectors.{OneTieLaw, TopTieLaw, ShownLaw, HeldL
 ghost use Rattle.image_laws.specs.Tables.{WrongWordLaw, SameLengthLaw, EraseCountLaw, WordLaw, RightLaw, TableWordLaw, EntryLaw};
 ghost use Rattle.image_laws.specs.Formats.{UntouchedLaw, LostLaw, EnoughLaw, AloneLaw, NoFailureLaw, TablePageLaw, LowSequenceLaw};
 ghost use Rattle.image_laws.specs.Kept.{OtherRowsLaw, OtherPagesLaw, LowestTableLaw};
+ghost use Rattle.image_laws.specs.Power.{FoundOneLaw, StoredLaw, SinceLaw, EitherLaw, UnwrittenLaw, AllStoredLaw, ProgramGrowsLaw, NoneLostLaw, AllLostLaw, OneMoreLostLaw};
 
 /// What a refusal says is one: the part of a certificate that fails first, the rows that share a sequence first, and what is wrong first
 /// with a table page. And an image that has a certificate is refused by a mount for want of memory or a failed page read alone. (This
@@ -86,4 +87,21 @@ pub fn kept_laws()
     ensures rows { OtherRowsLaw }
     ensures pages { OtherPagesLaw }
     ensures table { LowestTableLaw }
+{}
+
+/// What a loss of power leaves of an image of which pages were programmed since it was stored, each page found as it was left or without a
+/// record: one array; nothing that was stored is lost; each sector reads as when the image was stored or as a page of it that was programmed
+/// since, and as it did where none was; and where all was stored the array is as it was. Any of the pages that were programmed where none was
+/// stored may be missing or torn: none, all, and one more. (This project.)
+pub fn power_laws()
+    ensures program { ProgramGrowsLaw }
+    ensures none_lost { NoneLostLaw }
+    ensures all_lost { AllLostLaw }
+    ensures one_more { OneMoreLostLaw }
+    ensures one { FoundOneLaw }
+    ensures stored { StoredLaw }
+    ensures since { SinceLaw }
+    ensures sector { EitherLaw }
+    ensures unwritten { UnwrittenLaw }
+    ensures all { AllStoredLaw }
 {}

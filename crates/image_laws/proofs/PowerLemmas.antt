@@ -1,0 +1,182 @@
+-- What a loss of power leaves.
+use Rattle.std.proofs.Common.{◌≡◌, ◌≢◌, ◌⊎◌, inl, inr, ℕ, length, get_or, set, slice_get, Option, Some, None, IsSome, refl, sym, ap, subst, ◌∙◌, arith}
+use Rattle.std.proofs.lemmas.Bool.{cases_eq, cases_lt}
+use Rattle.std.proofs.lemmas.List.{get_or-set_same, get_or_past, length-set}
+use Rattle.page_layout.specs.declared.geometry.Geometry.{Geometry}
+use Rattle.page_layout.specs.declared.record.Key.{Key}
+use Rattle.page_layout.specs.declared.record.Key.TheVariants.{Sector}
+use Rattle.page_layout.specs.declared.record.Record.{Record}
+use Rattle.page_layout.specs.Page.{Page, Image}
+use Rattle.page_layout.specs.Sound.{record_of}
+use Rattle.page_layout.specs.Newest.{newest, sequence_at, IsNewest}
+use Rattle.page_layout.specs.Array.{marks, content, content_at, sector_of}
+use Rattle.page_layout.specs.Change.{IsUnsoundAt}
+use Rattle.page_layout.proofs.ArrayLemmas.{array-same, mark-same, marks-set, sector-same, slice_get-set_other}
+use Rattle.page_layout.proofs.NewestLemmas.{Forgets, newest-is, newest-record, newest_forgets, newest_from, newest_some, sequence_at-is, sequence_at-same}
+use Rattle.image_laws.specs.Power.{LosesPower, LosesSince, IsPageSince, FoundOneLaw, StoredLaw, SinceLaw, EitherLaw, UnwrittenLaw, AllStoredLaw, ProgramGrowsLaw, NoneLostLaw, AllLostLaw, OneMoreLostLaw}
+
+-- ---- marks
+
+-- a mark is there or not
+which : {A : Type 0} (o : Option A) → (o ≡ None) ⊎ ((x : A) × (o ≡ Some x))
+which None = inl refl
+which (Some x) = inr (x, refl)
+
+both : {A : Type 0} (o : Option A) (x : A) → o ≡ None → o ≡ Some x → ⊥
+both o x none some = let clash : None ≡ Some x = sym none ∙ some in cc
+
+of_some : {A : Type 0} (o : Option A) → IsSome o → (x : A) × (o ≡ Some x)
+of_some None never = absurd (cc)
+of_some (Some x) is = (x, refl)
+
+forgets_since : (stored left found : Image) → LosesSince stored left found → Forgets (marks left) (marks found)
+forgets_since stored left found loses = record {
+  at = λ row. elim (loses.rows row) [
+    | inl same ↦ inl (mark-same found left row same)
+    | inr gone ↦ inr gone.1
+  ];
+}
+
+-- a page that is found with a record is as it was left
+as_left : (stored left found : Image) (row : ℕ) (r : Record) → LosesSince stored left found → get_or (marks found) row None ≡ Some r → slice_get found row ≡ slice_get left row
+as_left stored left found row r loses has = elim (loses.rows row) [
+  | inl same ↦ same
+  | inr gone ↦ absurd (both _ r gone.1 has)
+]
+
+had : (stored left found : Image) (row : ℕ) (r : Record) → LosesSince stored left found → get_or (marks found) row None ≡ Some r → get_or (marks left) row None ≡ Some r
+had stored left found row r loses has = sym (mark-same found left row (as_left stored left found row r loses has)) ∙ has
+
+-- one that had a record when the image was stored is as it was then
+stays : (g : Geometry) (stored left found : Image) (row : ℕ) (r : Record) → LosesPower g stored left found → get_or (marks stored) row None ≡ Some r → slice_get found row ≡ slice_get stored row
+stays g stored left found row r power has = elim (power.loses.rows row) [
+  | inl same ↦ same ∙ power.grows.kept row r has
+  | inr gone ↦ absurd (both _ r gone.0 has)
+]
+
+-- ---- what may be
+
+pub program_grows : ProgramGrowsLaw
+program_grows stored left row p grows none = record {
+  size = length-set left row p ∙ grows.size;
+  kept = λ q r has.
+      let apart : q ≢ row = λ same. both _ r (subst (λ k. get_or (marks stored) k None ≡ None) (sym same) none) has in
+      slice_get-set_other left row q p apart ∙ grows.kept q r has;
+}
+
+pub none_lost : NoneLostLaw
+none_lost stored left = record { size = refl; rows = λ row. inl refl }
+
+pub all_lost : AllLostLaw
+all_lost stored left grows = record {
+  size = sym grows.size;
+  rows = λ row. elim (which (get_or (marks stored) row None)) [
+    | inl none ↦ inr (none, none)
+    | inr some ↦ inl (sym (grows.kept row some.0 some.1))
+  ];
+}
+
+-- the page that is torn has no record
+torn_here : (found : Image) (row : ℕ) (p : Page) → record_of p ≡ None → IsUnsoundAt (set found row p) row
+torn_here found row p none = ap (λ ms. get_or ms row None) (marks-set found row p) ∙ (elim (cases_lt row (length (marks found))) [
+  | inl within ↦ get_or-set_same (marks found) row (record_of p) None within ∙ none
+  | inr past ↦ get_or_past (set (marks found) row (record_of p)) row None (omega (arith, length-set (marks found) row (record_of p)))
+])
+
+pub one_more_lost : OneMoreLostLaw
+one_more_lost stored left found row p loses none torn = record {
+  size = length-set found row p ∙ loses.size;
+  rows = λ q. elim (cases_eq q row) [
+    | inl same ↦ subst (λ k. (slice_get (set found row p) k ≡ slice_get left k) ⊎ (IsUnsoundAt stored k × IsUnsoundAt (set found row p) k)) (sym same) (inr (none, torn_here found row p torn))
+    | inr apart ↦ elim (loses.rows q) [
+      | inl as_was ↦ inl (slice_get-set_other found row q p apart ∙ as_was)
+      | inr gone ↦ inr (gone.0, mark-same (set found row p) found q (slice_get-set_other found row q p apart) ∙ gone.1)
+    ]
+  ];
+}
+
+-- ---- the laws
+
+pub found_one : FoundOneLaw
+found_one g stored left found power =
+    let back : (row : ℕ) (r : Record) → get_or (marks found) row None ≡ Some r → get_or (marks left) row None ≡ Some r = λ row r has. had stored left found row r power.loses has in
+    record {
+      distinct = record { apart = λ a b x y at_a at_b same. power.one.distinct.apart a b x y (back a x at_a) (back b y at_b) same };
+      in_range = λ row r has. power.one.in_range row r (back row r has);
+    }
+
+pub stored_stays : StoredLaw
+stored_stays g stored left found key q power is =
+    let its = newest-record (marks stored) key q is in
+    let here : get_or (marks found) q None ≡ Some its.0 = mark-same found stored q (stays g stored left found q its.0 power its.1) ∙ its.1 in
+    let some = newest_some (marks found) q its.0 (found_one g stored left found power).distinct here in
+    of_some (newest (marks found) key) (subst (λ k. IsSome (newest (marks found) k)) its.2 some)
+
+-- a newest page that had its record when the image was stored was the newest one then
+newest_then : (g : Geometry) (stored left found : Image) (key : Key) (row : ℕ) (r : Record) → LosesPower g stored left found → newest (marks found) key ≡ Some row → get_or (marks stored) row None ≡ Some r
+    → newest (marks stored) key ≡ Some row
+newest_then g stored left found key row r power is has =
+    let now : IsNewest (marks found) key row = newest-is (marks found) key row is in
+    let same : (q : ℕ) (x : Record) → get_or (marks stored) q None ≡ Some x → sequence_at (marks stored) key q ≡ sequence_at (marks found) key q =
+    λ q x at. sequence_at-same (marks stored) (marks found) key q (sym (mark-same found stored q (stays g stored left found q x power at))) in
+    let then : IsNewest (marks stored) key row = record {
+      value = now.value;
+      here = same row r has ∙ now.here;
+      others = λ q s apart at.
+          let its = sequence_at-is (marks stored) key q s at in
+          now.others q s apart (sym (same q its.its its.is) ∙ at);
+    } in
+    newest_from (marks stored) key row then
+
+pub since : SinceLaw
+since g stored left found key row power is =
+    let its = newest-record (marks found) key row is in (
+      as_left stored left found row its.0 power.loses its.1,
+      elim (which (get_or (marks stored) row None)) [
+        | inl none ↦ inr none
+        | inr some ↦ inl (newest_then g stored left found key row some.0 power is some.1)
+      ],
+    )
+
+-- ---- sectors
+
+-- the newest page is the one that it was
+unmoved : (g : Geometry) (stored left found : Image) (n : ℕ) → LosesPower g stored left found → newest (marks found) (Sector n) ≡ newest (marks stored) (Sector n) → sector_of g found n ≡ sector_of g stored n
+unmoved g stored left found n power same = sector-same g stored found n same (λ row is.
+    let its = newest-record (marks stored) (Sector n) row is in
+    stays g stored left found row its.0 power its.1)
+
+by_page : (g : Geometry) (left found : Image) (n row : ℕ) → newest (marks found) (Sector n) ≡ Some row → slice_get found row ≡ slice_get left row → sector_of g found n ≡ content_at g left (Some row)
+unfolding sector_of
+by_page g left found n row is same = ap (content_at g found) is ∙ ap (content g) same
+
+none_then : (g : Geometry) (stored left found : Image) (n : ℕ) → LosesPower g stored left found → newest (marks found) (Sector n) ≡ None → newest (marks stored) (Sector n) ≡ None
+none_then g stored left found n power none = elim (which (newest (marks stored) (Sector n))) [
+  | inl was ↦ was
+  | inr some ↦
+      let kept = stored_stays g stored left found (Sector n) some.0 power some.1 in
+      absurd (both (newest (marks found) (Sector n)) kept.0 none kept.1)
+]
+
+pub either : EitherLaw
+either g stored left found n power = elim (which (newest (marks found) (Sector n))) [
+  | inl none ↦ inl (unmoved g stored left found n power (none ∙ sym (none_then g stored left found n power none)))
+  | inr some ↦ elim ((since g stored left found (Sector n) some.0 power some.1).1) [
+    | inl was ↦ inl (unmoved g stored left found n power (some.1 ∙ sym was))
+    | inr new ↦
+        let its = newest-record (marks found) (Sector n) some.0 some.1 in
+        let page : IsPageSince stored left n some.0 = record { none = new; its = its.0; has = had stored left found some.0 its.0 power.loses its.1; of = its.2 } in
+        inr (some.0, page, by_page g left found n some.0 some.1 (since g stored left found (Sector n) some.0 power some.1).0)
+  ]
+]
+
+pub unwritten : UnwrittenLaw
+unwritten g stored left found n power same =
+    let found_is : newest (marks found) (Sector n) ≡ newest (marks left) (Sector n) =
+    newest_forgets (marks left) (marks found) (Sector n) power.one.distinct (forgets_since stored left found power.loses) (λ q is.
+    let its = newest-record (marks stored) (Sector n) q (sym same ∙ is) in
+    mark-same found left q (stays g stored left found q its.0 power its.1 ∙ sym (power.grows.kept q its.0 its.1))) in
+    unmoved g stored left found n power (found_is ∙ same)
+
+pub all_stored : AllStoredLaw
+all_stored g stored found power = array-same g stored found (λ n. unwritten g stored stored found n power refl)

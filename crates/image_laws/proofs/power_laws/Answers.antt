@@ -1,0 +1,32 @@
+use Rattle.image_laws.proofs.PowerLemmas.{all_lost, all_stored, either, found_one, none_lost, one_more_lost, program_grows, since, stored_stays, unwritten}
+use Rattle.image_laws.proofs.power_laws.Goals as goal
+
+pub returns-clause-one : goal.returns-clause-one
+returns-clause-one c = found_one
+
+pub returns-clause-stored : goal.returns-clause-stored
+returns-clause-stored c = stored_stays
+
+pub returns-clause-since : goal.returns-clause-since
+returns-clause-since c = since
+
+pub returns-clause-sector : goal.returns-clause-sector
+returns-clause-sector c = either
+
+pub returns-clause-unwritten : goal.returns-clause-unwritten
+returns-clause-unwritten c = unwritten
+
+pub returns-clause-all : goal.returns-clause-all
+returns-clause-all c = all_stored
+
+pub returns-clause-program : goal.returns-clause-program
+returns-clause-program c = program_grows
+
+pub returns-clause-none_lost : goal.returns-clause-none_lost
+returns-clause-none_lost c = none_lost
+
+pub returns-clause-all_lost : goal.returns-clause-all_lost
+returns-clause-all_lost c = all_lost
+
+pub returns-clause-one_more : goal.returns-clause-one_more
+returns-clause-one_more c = one_more_lost

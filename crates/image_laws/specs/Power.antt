@@ -1,0 +1,82 @@
+-- What a loss of power leaves of an image of which pages were programmed since it was stored, as those of a file that was not synced since.
+use Rattle.std.specs.Prelude.{◌≡◌, ◌⊎◌, ℕ, length, get_or, slice_get, slice_set, Some, None}
+use Rattle.page_layout.specs.declared.geometry.Geometry.{Geometry}
+use Rattle.page_layout.specs.declared.record.Key.{Key}
+use Rattle.page_layout.specs.declared.record.Key.TheVariants.{Sector}
+use Rattle.page_layout.specs.declared.record.Record.{Record}
+use Rattle.page_layout.specs.Page.{Page, Image}
+use Rattle.page_layout.specs.Sound.{record_of}
+use Rattle.page_layout.specs.Key.{key_of}
+use Rattle.page_layout.specs.Newest.{newest}
+use Rattle.page_layout.specs.Array.{marks, content_at, sector_of, array_of, HasOneArray}
+use Rattle.page_layout.specs.Change.{IsUnsoundAt}
+
+-- SINCE IT WAS STORED pages were programmed alone: each that had a record is as it was
+pub record Grows (stored left : Image) : Type 0 where
+  pub size : length left ≡ length stored
+  pub kept : (row : ℕ) (r : Record) → get_or (marks stored) row None ≡ Some r → slice_get left row ≡ slice_get stored row
+
+-- WHAT IS FOUND: each page as it was left, or without a record where it had none when the image was stored
+pub record LosesSince (stored left found : Image) : Type 0 where
+  pub size : length found ≡ length left
+  pub rows : (row : ℕ) → (slice_get found row ≡ slice_get left row) ⊎ (IsUnsoundAt stored row × IsUnsoundAt found row)
+
+-- an image that was stored, what was made of it, and what a loss of power left of that
+pub record LosesPower (g : Geometry) (stored left found : Image) : Type 0 where
+  pub one : HasOneArray g left
+  pub grows : Grows stored left
+  pub loses : LosesSince stored left found
+
+-- a page of the sector that was programmed since
+pub record IsPageSince (stored left : Image) (n row : ℕ) : Type 0 where
+  pub none : IsUnsoundAt stored row
+  pub its : Record
+  pub has : get_or (marks left) row None ≡ Some its
+  pub of : key_of its ≡ Sector n
+
+-- ---- what may be
+
+-- a page programmed where none was stored
+abbrev pub ProgramGrowsLaw : Type 0
+ProgramGrowsLaw = (stored left : Image) (row : ℕ) (p : Page) → Grows stored left → IsUnsoundAt stored row → Grows stored (slice_set left row p)
+
+-- nothing may be missing, or all that was programmed since
+abbrev pub NoneLostLaw : Type 0
+NoneLostLaw = (stored left : Image) → LosesSince stored left left
+
+abbrev pub AllLostLaw : Type 0
+AllLostLaw = (stored left : Image) → Grows stored left → LosesSince stored left stored
+
+-- or one page more, torn in whatever way
+abbrev pub OneMoreLostLaw : Type 0
+OneMoreLostLaw = (stored left found : Image) (row : ℕ) (p : Page) → LosesSince stored left found → IsUnsoundAt stored row → record_of p ≡ None → LosesSince stored left (slice_set found row p)
+
+-- ---- what is found
+
+-- what is found is one array
+abbrev pub FoundOneLaw : Type 0
+FoundOneLaw = (g : Geometry) (stored left found : Image) → LosesPower g stored left found → HasOneArray g found
+
+-- NOTHING THAT WAS STORED IS LOST: a key that had a newest page has one
+abbrev pub StoredLaw : Type 0
+StoredLaw = (g : Geometry) (stored left found : Image) (key : Key) (q : ℕ) → LosesPower g stored left found → newest (marks stored) key ≡ Some q
+    → (row : ℕ) × (newest (marks found) key ≡ Some row)
+
+-- and its newest page is the one that it had, or one that was programmed since; it is as it was left
+abbrev pub SinceLaw : Type 0
+SinceLaw = (g : Geometry) (stored left found : Image) (key : Key) (row : ℕ) → LosesPower g stored left found → newest (marks found) key ≡ Some row
+    → (slice_get found row ≡ slice_get left row) × ((newest (marks stored) key ≡ Some row) ⊎ IsUnsoundAt stored row)
+
+-- EACH SECTOR reads as when the image was stored, or as a page of it that was programmed since
+abbrev pub EitherLaw : Type 0
+EitherLaw = (g : Geometry) (stored left found : Image) (n : ℕ) → LosesPower g stored left found
+    → (sector_of g found n ≡ sector_of g stored n) ⊎ ((row : ℕ) × IsPageSince stored left n row × (sector_of g found n ≡ content_at g left (Some row)))
+
+-- a sector of which no newer page was programmed since reads as it did
+abbrev pub UnwrittenLaw : Type 0
+UnwrittenLaw = (g : Geometry) (stored left found : Image) (n : ℕ) → LosesPower g stored left found → newest (marks left) (Sector n) ≡ newest (marks stored) (Sector n)
+    → sector_of g found n ≡ sector_of g stored n
+
+-- so where all was stored the array is as it was
+abbrev pub AllStoredLaw : Type 0
+AllStoredLaw = (g : Geometry) (stored found : Image) → LosesPower g stored stored found → array_of g found ≡ array_of g stored
