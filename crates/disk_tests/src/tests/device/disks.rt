@@ -7,7 +7,7 @@ use nand_die::Stop;
 use nbd_stream::{Disk, DiskFault};
 use onfi_cycles::Nand;
 use page_layout::geometry::Geometry;
-use sector_disk::SectorDisk;
+use sector_disk::{SectorDisk, Sectors};
 use std::alloc::Global;
 use std::test::Fail;
 
@@ -108,7 +108,7 @@ const ROWS: &[Row] = &[
 ];
 
 // Whether the disk does a step. Each range is one of the disk.
-fn does<N: Nand>(disk: &mut SectorDisk<DeviceDisk<N>>, step: Step) -> bool {
+fn does<S: Sectors>(disk: &mut SectorDisk<S>, step: Step) -> bool {
     let size = disk.bytes();
     let mut buffer = [0; MOST];
     match step {
@@ -135,6 +135,14 @@ fn does<N: Nand>(disk: &mut SectorDisk<DeviceDisk<N>>, step: Step) -> bool {
     }
 }
 
+// The disk of bytes over a device of sectors.
+fn over<S: Sectors + Drop>(alloc: Global, sectors: S) -> Result<SectorDisk<S>, Fail> {
+    match SectorDisk::new(alloc, sectors) {
+        Ok(disk) => Ok(disk),
+        Err(_) => Err("no memory")?,
+    }
+}
+
 // The disk of the device on a die that is mounted and checked, with a cache of so many sectors.
 pub fn disk_on<N: Nand + Drop>(
     alloc: Global,
@@ -145,17 +153,14 @@ pub fn disk_on<N: Nand + Drop>(
     requires { (N.flash nand).geometry ≡ geometry.now }
 {
     let certificate = mounted(alloc, &mut nand, geometry, capacity)?;
-    let Ok(disk) = open_checked(alloc, nand, geometry, capacity, &certificate) else {
-        return Err("not opened")?;
-    };
-    match SectorDisk::new(alloc, disk) {
-        Ok(disk) => Ok(disk),
-        Err(_) => Err("no memory")?,
+    match open_checked(alloc, nand, geometry, capacity, &certificate) {
+        Ok(disk) => over(alloc, disk),
+        Err(_) => Err("not opened")?,
     }
 }
 
 // Whether the disk is of the die's sectors and does all steps.
-fn does_all<N: Nand>(disk: &mut SectorDisk<DeviceDisk<N>>, steps: &[Step]) -> bool {
+fn does_all<S: Sectors>(disk: &mut SectorDisk<S>, steps: &[Step]) -> bool {
     let mut all = disk.bytes() == SIZE;
     for step in steps {
         all = does(disk, *step) && all;

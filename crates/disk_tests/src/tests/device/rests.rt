@@ -6,7 +6,7 @@ use device_disk::DeviceDisk;
 use nand_die::Stop;
 use nbd_stream::{Disk, End, Export, transmit};
 use onfi_cycles::Nand;
-use sector_disk::SectorDisk;
+use sector_disk::{SectorDisk, Sectors};
 use std::alloc::Global;
 use std::test::Fail;
 
@@ -53,7 +53,7 @@ const ROWS: &[Row] = &[
 ];
 
 // Sets a sector.
-fn set_sector<N: Nand>(disk: &mut SectorDisk<DeviceDisk<N>>, sector: u64) -> bool {
+fn set_sector<S: Sectors>(disk: &mut SectorDisk<S>, sector: u64) -> bool {
     if disk.bytes() != SIZE || sector >= SECTORS {
         return false;
     }
@@ -62,7 +62,7 @@ fn set_sector<N: Nand>(disk: &mut SectorDisk<DeviceDisk<N>>, sector: u64) -> boo
 }
 
 // Sets the sectors from 0 to 19, and between two of them the last one seven times: so each block but the last has one live page. No rest is given.
-fn fill<N: Nand>(disk: &mut SectorDisk<DeviceDisk<N>>) -> bool {
+fn fill<S: Sectors>(disk: &mut SectorDisk<S>) -> bool {
     let mut all = true;
     for count in 0..153u64 {
         let sector = if count % 8 == 0 { count / 8 } else { 31 };
@@ -72,11 +72,7 @@ fn fill<N: Nand>(disk: &mut SectorDisk<DeviceDisk<N>>) -> bool {
 }
 
 // Serves the disk to a client that sends this, and tells whether its stream ended between two requests.
-fn serves<N: Nand>(
-    disk: &mut SectorDisk<DeviceDisk<N>>,
-    mut input: &[u8],
-    out: &mut Vec<u8>,
-) -> bool {
+fn serves<S: Sectors>(disk: &mut SectorDisk<S>, mut input: &[u8], out: &mut Vec<u8>) -> bool {
     let export = Export {
         size: disk.bytes(),
         read_only: false,
