@@ -4,6 +4,9 @@ use std::alloc::{AllocError, Global};
 use std::test::Fail;
 use test_images::{Claim, FORMATTED, Said, Written, certificate_bytes, image_of};
 
+// The bytes of a page.
+const PAGE: usize = 96;
+
 // What a file is of bytes that are changed: a place and the byte there.
 type Changes = &'static [(usize, u8)];
 
@@ -18,7 +21,9 @@ pub enum Made {
     Dump(&'static [Written]),
     /// The same with other bytes in these places.
     Changed(&'static [Written], Changes),
-    /// The same cut, or made longer by 00h bytes, to so many bytes.
+    /// The same, with the page of this row of 00h bytes.
+    Zeroed(&'static [Written], usize, Changes),
+    /// The dump of these pages cut, or made longer by 00h bytes, to so many bytes.
     Cut(&'static [Written], usize),
     /// The disk image of 32 sectors of zeros, but for these, each filled with one byte.
     Disk(&'static [(usize, u8)]),
@@ -35,6 +40,14 @@ fn changed(alloc: Global, pages: &[Written], changes: Changes) -> Result<Vec<u8>
     let mut bytes = dump(alloc, pages)?;
     for (at, byte) in changes {
         *bytes.get_mut(*at).ok_or("no such byte")? = *byte;
+    }
+    Ok(bytes)
+}
+
+fn zeroed(alloc: Global, pages: &[Written], row: usize, changes: Changes) -> Result<Vec<u8>, Fail> {
+    let mut bytes = changed(alloc, pages, changes)?;
+    for at in row.saturating_mul(PAGE)..row.saturating_add(1).saturating_mul(PAGE) {
+        *bytes.get_mut(at).ok_or("no such row")? = 0;
     }
     Ok(bytes)
 }
@@ -72,6 +85,7 @@ pub fn bytes_of(alloc: Global, made: &Made) -> Result<Vec<u8>, Fail> {
         Made::Text(text) => Vec::from_slice(alloc, text.as_bytes())?,
         Made::Dump(pages) => dump(alloc, pages)?,
         Made::Changed(pages, changes) => changed(alloc, pages, changes)?,
+        Made::Zeroed(pages, row, changes) => zeroed(alloc, pages, *row, changes)?,
         Made::Cut(pages, length) => cut(alloc, pages, *length)?,
         Made::Disk(sectors) => disk(alloc, sectors)?,
         Made::Certificate(claimed) => certificate(alloc, claimed)?,

@@ -33,6 +33,19 @@ const B: Made = Made::Changed(&PAGES, &[(870, 0x00)]);
 
 const C: Made = Made::Changed(&PAGES, &[(6, 0x03), (880, 0x00), (1925, 0x00)]);
 
+// Row 1 is sound in none, but by the majority; row 9 in the second alone; row 20 is erased in the third alone; and the majority of row 21 is erased, not sound.
+const FIRST: Made = Made::Changed(
+    &PAGES,
+    &[(103, 0x03), (871, 0x03), (1920, 0x00), (2016, 0x00)],
+);
+
+const SECOND: Made = Made::Changed(&OTHERS, &[(105, 0x03), (1923, 0x07), (2019, 0x07)]);
+
+const THIRD: Made = Made::Changed(&PAGES, &[(107, 0x03), (871, 0x03), (2106, 0x07)]);
+
+const EACH: &str =
+    "differ row 17\nunsound row 21\nsound 2 differ 1 majority 1 erased 251 unsound 1\n";
+
 const TROUBLES: [Step; 17] = [
     Step::Trouble(Trouble::ReadsEnd(24575)),
     Step::Run(TWO, 3, "fault read a.bin\n"),
@@ -96,7 +109,7 @@ const DOCUMENT: &str = r#"[{"command":"merge","line":"command","program":"nandla
 ]
 "#;
 
-const CASES: [Case; 4] = [
+const CASES: [Case; 5] = [
     Case {
         name: "three readings",
         files: &[("a.bin", A), ("b.bin", B), ("c.bin", C)],
@@ -109,7 +122,15 @@ const CASES: [Case; 4] = [
             Step::Holds("out.bin", Made::Dump(&PAGES)),
         ],
     },
-    // where nothing is taken the first reading's page is written
+    // of a row that differs nothing is taken, and of one that is sound in none the first reading's page
+    Case {
+        name: "a row of each kind",
+        files: &[("a.bin", FIRST), ("b.bin", SECOND), ("c.bin", THIRD)],
+        steps: &[
+            Step::Run(THREE, 0, EACH),
+            Step::Holds("out.bin", Made::Zeroed(&PAGES, 17, &[(2016, 0x00)])),
+        ],
+    },
     Case {
         name: "two that differ",
         files: &[("a.bin", A), ("b.bin", Made::Dump(&OTHERS))],

@@ -35,7 +35,7 @@ const DOCUMENT: &str = r#"[{"command":"repair","line":"command","program":"nandl
 ]
 "#;
 
-const ROWS: [Step; 14] = [
+const ROWS: [Step; 20] = [
     Step::Run(
         "nandlab repair 64,32,8,32,32 dump.bin out.bin --rows 9..17",
         0,
@@ -54,6 +54,24 @@ const ROWS: [Step; 14] = [
         DOCUMENT,
     ),
     Step::Holds("all.bin", MENDED),
+    Step::Run(
+        "nandlab repair 64,32,8,32,32 dump.bin both.bin --rows 9..18",
+        0,
+        SAID,
+    ),
+    Step::Holds("both.bin", MENDED),
+    Step::Run(
+        "nandlab repair 64,32,8,32,32 dump.bin before.bin --rows 0..17",
+        0,
+        "mended row 9 bit 16\nmended 1\n",
+    ),
+    Step::Holds("before.bin", ROW_9),
+    Step::Run(
+        "nandlab repair 64,32,8,32,32 dump.bin after.bin --rows 18..256",
+        0,
+        "mended 0\n",
+    ),
+    Step::Holds("after.bin", SPOILED),
     Step::Run(
         "nandlab repair 64,32,8,32,32 none.bin out.bin --rows 17..16",
         1,
