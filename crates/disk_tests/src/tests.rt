@@ -7,4 +7,5 @@ mod commands;
 mod device;
 mod die;
 mod nbd;
+mod steps;
 mod words;

@@ -1,6 +1,7 @@
 // Disks over four sectors of four bytes, which are kept back until a flush.
 ghost use Rattle.std.specs.Prelude.{◌≡◌};
 
+use crate::tests::steps::{Step, does_all};
 use nbd_stream::{Disk, DiskFault};
 use sector_disk::{SectorDisk, Sectors};
 use std::alloc::Global;
@@ -97,17 +98,6 @@ impl Sectors for CachedSectors {
     fn sector_count(&self) -> u64 {
         4
     }
-}
-
-// What a disk is asked, and its answer.
-#[derive(Clone, Copy)]
-enum Step {
-    // These bytes are given from an offset on.
-    Read(u64, &'static [u8], Result<(), DiskFault>),
-    Write(u64, &'static [u8], bool, Result<(), DiskFault>),
-    Clear(u64, u32, bool, Result<(), DiskFault>),
-    Flush(Result<(), DiskFault>),
-    Rest(Result<(), DiskFault>),
 }
 
 // The steps, and what is left: what stands, and what lasts.
@@ -239,37 +229,8 @@ const ROWS: &[Row] = &[
     },
 ];
 
-// Whether a disk of sixteen bytes does this.
-fn does(disk: &mut SectorDisk<CachedSectors>, step: &Step) -> bool {
-    if disk.bytes() != 16 {
-        return false;
-    }
-    let mut out = [0; SIZE];
-    match *step {
-        Step::Read(offset, bytes, answer) => {
-            if offset > 16 || bytes.len() > SIZE - offset as usize {
-                return false;
-            }
-            let done = disk.read(offset, &mut out[..bytes.len()]);
-            done == answer && (done.is_err() || &out[..bytes.len()] == bytes)
-        }
-        Step::Write(offset, bytes, durable, answer) => {
-            offset <= 16
-                && bytes.len() <= SIZE - offset as usize
-                && disk.write(offset, bytes, durable) == answer
-        }
-        Step::Clear(offset, count, durable, answer) => {
-            offset <= 16
-                && count <= 16 - offset as u32
-                && disk.clear(offset, count, durable) == answer
-        }
-        Step::Flush(answer) => disk.flush() == answer,
-        Step::Rest(answer) => disk.rest() == answer,
-    }
-}
-
 // Whether a disk does all of a row, and what is left of its device.
-fn does_all(alloc: Global, row: &Row) -> (bool, Option<CachedSectors>) {
+fn done(alloc: Global, row: &Row) -> (bool, Option<CachedSectors>) {
     let device = CachedSectors {
         bytes: *FIRST,
         kept: *FIRST,
@@ -280,10 +241,7 @@ fn does_all(alloc: Global, row: &Row) -> (bool, Option<CachedSectors>) {
     let Ok(mut disk) = SectorDisk::new(alloc, device) else {
         return (false, None);
     };
-    let mut all = true;
-    for step in row.steps {
-        all = does(&mut disk, step) && all;
-    }
+    let all = does_all(&mut disk, SIZE as u64, row.steps);
     (all, Some(disk.into_sectors()))
 }
 
@@ -291,7 +249,7 @@ fn does_all(alloc: Global, row: &Row) -> (bool, Option<CachedSectors>) {
 fn sectors_by_hand(rt: HostRuntime) -> Result<(), Fail> {
     for row in ROWS {
         let name = row.name;
-        let (all, device) = does_all(rt.alloc(), row);
+        let (all, device) = done(rt.alloc(), row);
         assert!(rt; all, "{name}");
         let same = match device {
             Some(device) => device.bytes == *row.bytes && device.kept == *row.kept,
@@ -303,8 +261,8 @@ fn sectors_by_hand(rt: HostRuntime) -> Result<(), Fail> {
 }
 
 // Sets a range of the disk and of a list of bytes, clears the first half of it in both, and tells whether they are the same then.
-fn set_both(
-    disk: &mut SectorDisk<CachedSectors>,
+fn set_both<S: Sectors>(
+    disk: &mut SectorDisk<S>,
     plain: &mut [u8; SIZE],
     start: usize,
     bytes: &[u8],
