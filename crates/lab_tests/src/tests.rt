@@ -1,10 +1,11 @@
-//! Runs of whole commands, with files in memory that can fail.
+//! Runs of whole commands, with files in memory that can fail, and pages of dumps that are mended or picked from readings.
 mod array_rows;
 mod compare_rows;
 mod dumps;
 mod files;
 mod geometry_rows;
 mod merge_rows;
+mod pages;
 mod repair_rows;
 mod runs;
 mod survey_rows;

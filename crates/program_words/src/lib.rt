@@ -3,7 +3,7 @@
 //! - `Grammar`, `CommandRule`, `WordRule`, `WordKind`: the commands of a program and their words.
 //! - `read_words`: what `clap` makes of the words. `CommandWords`: those of the command that they name.
 //!
-//! All of it is this project's, over the kit's `clap`. No crate above hands a value of `clap` on.
+//! All of it is this project's, over the kit's `clap`. No crate above names a type of `clap` in its code.
 #![tactic(auto)]
 
 mod grammar;

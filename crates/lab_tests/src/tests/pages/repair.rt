@@ -1,0 +1,134 @@
+//! A dump with pages that are one bit and two bits away from sound ones, of which all are mended or those of some rows.
+use super::{PAGE, PAGES, Pages};
+use lab_repair::{Mend, repair_dump};
+use lab_scan::Rows;
+use page_layout::geometry::Geometry;
+use std::alloc::Global;
+use std::process::Abort;
+use std::test::Fail;
+use test_images::image_of;
+
+// The bits that are turned of the dump, each byte with its bits. Row 8 loses one of its data area, row 9 one of its spare area; rows 1 and 20 have
+// two turned, and row 21 is an erased page that lost a bit, which is no sound one away.
+const TURNED: [(usize, u8); 5] = [
+    (PAGE + 7, 0x03),
+    (PAGE * 8 + 5, 0x10),
+    (PAGE * 9 + 64 + 9, 0x01),
+    (PAGE * 20 + 7, 0x03),
+    (PAGE * 21, 0x80),
+];
+
+const ROW_8: Mend = Mend { row: 8, bit: 44 };
+
+const ROW_9: Mend = Mend { row: 9, bit: 584 };
+
+// The rows that are asked for, and the pages that are mended then.
+struct Case {
+    name: &'static str,
+    rows: Option<Rows>,
+    mends: &'static [Mend],
+}
+
+const CASES: [Case; 8] = [
+    Case {
+        name: "no rows named",
+        rows: None,
+        mends: &[ROW_8, ROW_9],
+    },
+    Case {
+        name: "every row",
+        rows: Some(Rows { first: 0, end: 256 }),
+        mends: &[ROW_8, ROW_9],
+    },
+    Case {
+        name: "both rows",
+        rows: Some(Rows { first: 8, end: 10 }),
+        mends: &[ROW_8, ROW_9],
+    },
+    Case {
+        name: "the rows before row 9",
+        rows: Some(Rows { first: 0, end: 9 }),
+        mends: &[ROW_8],
+    },
+    Case {
+        name: "row 9 and the rows past the die",
+        rows: Some(Rows {
+            first: 9,
+            end: 0xFFFF_FFFF,
+        }),
+        mends: &[ROW_9],
+    },
+    Case {
+        name: "the rows after row 9",
+        rows: Some(Rows {
+            first: 10,
+            end: 256,
+        }),
+        mends: &[],
+    },
+    Case {
+        name: "the empty range",
+        rows: Some(Rows { first: 8, end: 8 }),
+        mends: &[],
+    },
+    Case {
+        name: "an end before the first row",
+        rows: Some(Rows { first: 10, end: 8 }),
+        mends: &[],
+    },
+];
+
+// Turns bits of a byte.
+fn turn(bytes: &mut [u8], at: usize, bits: u8) {
+    if let Some(byte) = bytes.get_mut(at) {
+        *byte ^= bits;
+    }
+}
+
+// Turns the bits of these pages back.
+fn turn_back(bytes: &mut [u8], mends: &[Mend]) {
+    for mend in mends {
+        turn(
+            bytes,
+            PAGE * mend.row as usize + mend.bit as usize / 8,
+            1 << (mend.bit % 8),
+        );
+    }
+}
+
+// Repairs the dump of these rows, and holds what is listed and written to what is said.
+fn hold_case(
+    rt: &impl Abort,
+    alloc: Global,
+    geometry: &Geometry,
+    dump: &[u8],
+    case: &Case,
+) -> Result<(), Fail> {
+    let mut want = Vec::from_slice(alloc, dump)?;
+    turn_back(&mut want, case.mends);
+    let target = Pages {
+        bytes: vec![in alloc; 0u8; dump.len()]?,
+    };
+    let mut reader = dump;
+    let told = repair_dump(alloc, &mut reader, geometry, case.rows, target)?;
+    assert!(rt;
+        told.mends.as_slice() == case.mends,
+        "{}: the list",
+        case.name
+    );
+    assert!(rt; told.target.bytes == want, "{}: the pages", case.name);
+    Ok(())
+}
+
+#[test]
+fn one_bit_is_mended_and_two_are_not(rt: HostRuntime) -> Result<(), Fail> {
+    let geometry = Geometry::new(64, 40, 8, 32, 32)?;
+    let mut dump = image_of(rt.alloc(), &geometry, &PAGES)?;
+    for (at, bits) in TURNED {
+        turn(&mut dump, at, bits);
+    }
+    for case in &CASES {
+        hold_case(&rt, rt.alloc(), &geometry, &dump, case)?;
+    }
+    Ok(())
+}
