@@ -1,5 +1,6 @@
 //! What the program says when a command ends before it is done: one line, and the exit status.
-ghost use Rattle.std.specs.Prelude.{◌≡◌};
+ghost use Rattle.std.specs.Prelude.{◌≡◌, ◌++◌};
+ghost use Rattle.std.specs.Fmt.{WritesOnOk};
 ghost use Rattle.disk_commands.specs.Text.{IsTold};
 
 use disk_server::{CreateFault, OpenStoreFault};
@@ -17,7 +18,7 @@ const USAGE: u8 = 2;
 const IO: u8 = 3;
 
 /// Why a command was not done. Each is one line; of the paths those that were given. (This project's.)
-#[derive(Clone, Copy, Debug, PartialEq, Eq)]
+#[derive(Clone, Copy, Debug)]
 pub enum DiskFault<'a> {
     /// The words are no command that the program has.
     NoSuchCommand,
@@ -108,6 +109,25 @@ fn size(fault: SizeFault) -> &'static str
     }
 }
 
+// Words, and a word behind them.
+fn told<W: fmt::Write>(f: &mut fmt::Formatter<W>, words: &str, word: &str) -> fmt::Result
+    ensures { WritesOnOk W.write_str_gives f.old result (words.now ++ word.now) f.new }
+{
+    write!(f, "{words}{word}")
+}
+
+// Words, a word behind them, and more.
+fn told_of<W: fmt::Write>(
+    f: &mut fmt::Formatter<W>,
+    words: &str,
+    word: &str,
+    more: &str,
+) -> fmt::Result
+    ensures { WritesOnOk W.write_str_gives f.old result (words.now ++ (word.now ++ more.now)) f.new }
+{
+    write!(f, "{words}{word}{more}")
+}
+
 // Why a die was not formatted.
 #[derive(Clone, Copy)]
 struct FormatText(FormatFault);
@@ -192,16 +212,16 @@ impl fmt::Display for ShapeText {
         match self.0 {
             ShapeFault::NotJson => f.write_str("not JSON"),
             ShapeFault::NotObject => f.write_str("no object"),
-            ShapeFault::Missing(member) => write!(f, "no member {}", member.name()),
-            ShapeFault::WrongType(member) => write!(f, "member {} of another type", member.name()),
+            ShapeFault::Missing(member) => told(f, "no member ", member.name()),
+            ShapeFault::WrongType(member) => {
+                told_of(f, "member ", member.name(), " of another type")
+            }
             ShapeFault::Unknown => f.write_str("a member with another name"),
             ShapeFault::Version => f.write_str("another version"),
             ShapeFault::BadGeometry => f.write_str("the geometry is no five numbers"),
-            ShapeFault::Geometry(fault) => write!(
-                f,
-                "the geometry breaks a limit: {}",
-                limit(fault)
-            ),
+            ShapeFault::Geometry(fault) => {
+                told(f, "the geometry breaks a limit: ", limit(fault))
+            }
             ShapeFault::CacheRange => f.write_str("the cache has not from 1 to 65536 entries"),
             ShapeFault::OutOfMemory => f.write_str("out of memory"),
         }
@@ -219,12 +239,12 @@ impl fmt::Display for DiskFault<'_> {
     fn fmt<W: fmt::Write>(&self, f: &mut fmt::Formatter<W>) -> fmt::Result {
         match *self {
             DiskFault::NoSuchCommand => f.write_str("usage: no such command"),
-            DiskFault::BadSize(word) => write!(f, "usage: bad size {word}"),
-            DiskFault::BadNumber(word) => write!(f, "usage: bad number {word}"),
-            DiskFault::Size(fault) => write!(f, "refused size: {}", size(fault)),
-            DiskFault::Geometry(fault) => write!(f, "refused geometry {}", limit(fault)),
-            DiskFault::Exists(path) => write!(f, "refused: {path} exists"),
-            DiskFault::InUse(path) => write!(f, "refused: {path} is in use"),
+            DiskFault::BadSize(word) => told(f, "usage: bad size ", word),
+            DiskFault::BadNumber(word) => told(f, "usage: bad number ", word),
+            DiskFault::Size(fault) => told(f, "refused size: ", size(fault)),
+            DiskFault::Geometry(fault) => told(f, "refused geometry ", limit(fault)),
+            DiskFault::Exists(path) => told_of(f, "refused: ", path, " exists"),
+            DiskFault::InUse(path) => told_of(f, "refused: ", path, " is in use"),
             DiskFault::Shape(path, fault) => {
                 write!(f, "refused: {path}.json: {}", ShapeText(fault))
             }
@@ -246,11 +266,11 @@ impl fmt::Display for DiskFault<'_> {
                 )
             }
             DiskFault::OutOfMemory => f.write_str("refused: no memory"),
-            DiskFault::Read(path) => write!(f, "fault read {path}"),
-            DiskFault::Write(path) => write!(f, "fault write {path}"),
+            DiskFault::Read(path) => told(f, "fault read ", path),
+            DiskFault::Write(path) => told(f, "fault write ", path),
             DiskFault::BadFrame => f.write_str("fault serve: the client's bytes are no requests"),
             DiskFault::Stream => f.write_str("fault serve: standard input or output failed"),
-            DiskFault::Device(path) => write!(f, "fault serve: {path} failed"),
+            DiskFault::Device(path) => told_of(f, "fault serve: ", path, " failed"),
         }
     }
 }

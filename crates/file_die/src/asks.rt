@@ -16,7 +16,10 @@ pub fn load<S: Store>(store: &mut S, row: u32, page: &mut [u8]) -> Result<(), Bu
     ensures asks { Asks S.held S.honest S.failed store.old store.new result }
     ensures loads { S.honest store.old ≡ true → Loads (S.held store.old) row (page_of (S.held store.old).geometry page.new) (is_ok result) (S.held store.new) }
 {
-    store.load(row, page).map_err(|_| BusFault::Device)
+    match store.load(row, page) {
+        Ok(()) => Ok(()),
+        Err(_) => Err(BusFault::Device),
+    }
 }
 
 // Makes all pages last.
@@ -24,7 +27,10 @@ pub fn sync<S: Store>(store: &mut S) -> Result<(), BusFault>
     ensures asks { Asks S.held S.honest S.failed store.old store.new result }
     ensures syncs { S.honest store.old ≡ true → Syncs (S.held store.old) (is_ok result) (S.held store.new) }
 {
-    store.sync().map_err(|_| BusFault::Device)
+    match store.sync() {
+        Ok(()) => Ok(()),
+        Err(_) => Err(BusFault::Device),
+    }
 }
 
 // Puts a page at a row, and makes it last where that is asked after each program.
@@ -40,7 +46,9 @@ pub fn program<S: Store>(
     ensures asks { Asks S.held S.honest S.failed store.old store.new result }
     ensures programs { S.honest store.old ≡ true → ProgramsIn (S.held store.old) row (page_of (S.held store.old).geometry page.now) sync_when (is_ok result) (S.held store.new) }
 {
-    store.put(row, page).map_err(|_| BusFault::Device)?;
+    if store.put(row, page).is_err() {
+        return Err(BusFault::Device);
+    }
     match sync_when {
         SyncWhen::Always => sync(store),
         SyncWhen::Erases => Ok(()),
@@ -56,6 +64,8 @@ pub fn erase<S: Store>(store: &mut S, block: u32) -> Result<(), BusFault>
     ensures erases { S.honest store.old ≡ true → ErasesIn (S.held store.old) block (is_ok result) (S.held store.new) }
 {
     sync(store)?;
-    store.clear(block).map_err(|_| BusFault::Device)?;
+    if store.clear(block).is_err() {
+        return Err(BusFault::Device);
+    }
     sync(store)
 }

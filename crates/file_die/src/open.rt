@@ -42,7 +42,10 @@ fn blank(alloc: Global, geometry: &Geometry) -> Result<Vec<u8>, OpenFault>
     ensures ok { IfOk result (λ bytes. bytes.items ≡ replicate (page_bytes geometry.now) 255) }
     ensures err { IfErr result (λ fault. fault ≡ OpenFault.OutOfMemory) }
 {
-    vec![in alloc; 0xFF; page_length(geometry)].map_err(|_| OpenFault::OutOfMemory)
+    match vec![in alloc; 0xFF; page_length(geometry)] {
+        Ok(page) => Ok(page),
+        Err(_) => Err(OpenFault::OutOfMemory),
+    }
 }
 
 // The turn of a block of which nothing was asked.
@@ -84,7 +87,9 @@ fn is_row_erased<S: Store>(
     ensures counts { Counts result (S.failed store.old) (S.failed store.new) }
     ensures err { IfErr result (λ fault. fault ≡ OpenFault.Store) }
 {
-    load(store, row, page).map_err(|_| OpenFault::Store)?;
+    if load(store, row, page).is_err() {
+        return Err(OpenFault::Store);
+    }
     let (body, spare) = page.split_at(geometry.data_bytes());
     Ok(is_erased(body, spare))
 }

@@ -1,2 +1,3 @@
 pub mod WritingLemmas
 pub mod WrittenLemmas
+pub mod MapLemmas

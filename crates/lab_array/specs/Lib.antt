@@ -4,3 +4,5 @@ pub mod Held
 pub mod Writing
 -- what they are in the end
 pub mod Written
+-- the map of the array
+pub mod Map

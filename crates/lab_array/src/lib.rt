@@ -1,13 +1,20 @@
 //! Every sector of a dump, in one pass over its pages: each page that is newer than what was seen of its sector is put in the sector's
-//! place of a target, so that in the end the target holds the array of the image, sector by sector.
+//! place of a target, so that in the end the target holds the array of the image, sector by sector. And the map of the array: how each part
+//! of it stands, as the mapfile of GNU ddrescue says it, so that tools that read such maps can tell a sector that was found from one that
+//! was not.
 #![tactic(auto)]
 
+mod area;
 mod array;
 mod held;
+mod laws;
+mod map;
 mod target;
 mod writing;
 
 pub use array::{ArrayFault, Written, write_array};
 pub use held::{Held, State};
+pub use laws::areas_law;
+pub use map::print_map;
 pub use target::{Target, TargetFault};
 pub use writing::Writing;

@@ -8,7 +8,7 @@ use Rattle.lab_array.specs.declared.array.ArrayFault.TheVariants as array
 use Rattle.lab_array.specs.declared.held.Held.{Held}
 use Rattle.lab_array.specs.Held.{state_in}
 use Rattle.lab_array.specs.Written.{IsWritten}
-use Rattle.lab_map.specs.Map.{map_text}
+use Rattle.lab_array.specs.Map.{map_text}
 use Rattle.lab_report.specs.Reports.{array_text}
 use Rattle.lab_words.specs.declared.words.ArrayWords.{ArrayWords}
 use Rattle.lab_commands.specs.declared.text.LabFault.{LabFault}

@@ -18,7 +18,7 @@ const USAGE: u8 = 2;
 const IO: u8 = 3;
 
 /// Why a command ended before it was done. (This project's.)
-#[derive(Clone, Copy, Debug, PartialEq, Eq)]
+#[derive(Clone, Copy, Debug)]
 pub enum LabFault<'a> {
     /// The words are no command that the program has.
     NoSuchCommand,

@@ -7,7 +7,7 @@ ghost use Rattle.lab_compare.specs.Trace.{Tells, lost_in};
 
 /// What is known of the newest page of a sector once some rows were looked at: what `Latest` says, but for the rows of a tie. A sequence stands
 /// lowest byte first: as a number it would be padded.
-#[derive(Clone, Copy, Debug, PartialEq, Eq)]
+#[derive(Clone, Copy)]
 pub enum Trace {
     /// No sound page of it so far.
     Never,

@@ -6,14 +6,14 @@ use lab_scan::{Cut, ScanFault, expect_end, fill};
 use std::io::Read;
 
 // Why a page was not read: of which reader, counted from 0, and why.
-#[derive(Clone, Copy, Debug, PartialEq, Eq)]
+#[derive(Clone, Copy)]
 pub(crate) struct ReadingCut {
     pub(crate) reading: usize,
     pub(crate) cut: Cut,
 }
 
 // Why a reader is not at its end.
-#[derive(Clone, Copy, Debug, PartialEq, Eq)]
+#[derive(Clone, Copy)]
 pub(crate) struct ReadingFault {
     pub(crate) reading: usize,
     pub(crate) fault: ScanFault,

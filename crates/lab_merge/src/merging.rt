@@ -24,7 +24,7 @@ pub struct Tally {
 }
 
 // Why a row was not written.
-#[derive(Clone, Copy, Debug, PartialEq, Eq)]
+#[derive(Clone, Copy)]
 pub(crate) enum RowFault {
     // it could not be
     Target,

@@ -1,5 +1,5 @@
 -- What each command says.
-use Rattle.std.specs.Prelude.{ℕ, ◌+◌, Bool, false, List, [], ◌∷◌, ◌++◌, length, get_or, slice_get, codes, Option, Some, None, option_map, option_and_then, map}
+use Rattle.std.specs.Prelude.{ℕ, ◌+◌, Bool, false, List, [], ◌∷◌, ◌++◌, length, get_or, slice_get, codes, Option, Some, None, option_map}
 use Rattle.page_layout.specs.declared.geometry.Geometry.{Geometry}
 use Rattle.page_layout.specs.Geometry.{translation_pages, table_pages}
 use Rattle.certificate.specs.declared.block_state.BlockState.{BlockState}
@@ -16,7 +16,7 @@ use Rattle.lab_report.specs.declared.lines.Sort.TheVariants as sort
 use Rattle.lab_report.specs.declared.lines.Line.{Line}
 use Rattle.lab_report.specs.declared.lines.Line.TheVariants as line
 use Rattle.lab_report.specs.declared.printing.Form.{Form}
-use Rattle.lab_report.specs.Document.{head_text, if_text, line_text, tail_text, text_below}
+use Rattle.lab_report.specs.Document.{head_text, line_text, tail_text, text_below}
 use Rattle.lab_report.specs.Lines.{block_line, key_line, last_line, lost_line, outside_line, repeated_line, table_line, tie_line}
 
 -- ---- lists

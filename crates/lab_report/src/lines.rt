@@ -1,5 +1,6 @@
 //! The lines of the reports.
-ghost use Rattle.std.specs.Prelude.{◌≡◌};
+ghost use Rattle.std.specs.Prelude.{◌≡◌, ◌++◌, codes};
+ghost use Rattle.std.specs.Fmt.{WritesOnOk, decimal};
 ghost use Rattle.lab_report.specs.Lines.{block_line, class_words, key_line, label_words, last_line, lost_line, outside_line, repeated_line, says_words, sort_words, table_line, tie_line};
 
 use certificate::BlockState;
@@ -240,6 +241,38 @@ impl fmt::Display for AgeText {
     }
 }
 
+// A line of words and a number.
+fn one<W: fmt::Write>(f: &mut fmt::Formatter<W>, words: &str, number: u64) -> fmt::Result
+    ensures { WritesOnOk W.write_str_gives f.old result (words.now ++ decimal number) f.new }
+{
+    write!(f, "{words}{number}")
+}
+
+// One of words and a number, twice.
+fn two<W: fmt::Write>(
+    f: &mut fmt::Formatter<W>,
+    words: &str,
+    first: u32,
+    others: &str,
+    second: u32,
+) -> fmt::Result
+    ensures { WritesOnOk W.write_str_gives f.old result (words.now ++ (decimal first ++ (others.now ++ decimal second))) f.new }
+{
+    write!(f, "{words}{first}{others}{second}")
+}
+
+// One of words, a name and its number.
+fn named<W: fmt::Write>(
+    f: &mut fmt::Formatter<W>,
+    words: &str,
+    name: &str,
+    number: u32,
+) -> fmt::Result
+    ensures { WritesOnOk W.write_str_gives f.old result (words.now ++ (name.now ++ (codes " " ++ decimal number))) f.new }
+{
+    write!(f, "{words}{name} {number}")
+}
+
 /// The line, without its line feed.
 impl fmt::Display for Line {
     ghost use Rattle.std.specs.Prelude.{Some};
@@ -250,28 +283,26 @@ impl fmt::Display for Line {
     #[tactic(auto, unfolding(crate::specs::Lines::line_words))]
     fn fmt<W: fmt::Write>(&self, f: &mut fmt::Formatter<W>) -> fmt::Result {
         match *self {
-            Line::Pages(sort, count) => write!(f, "pages {} {count}", sort.text()),
-            Line::NumberRange(pages) => write!(f, "reason NumberRange pages {pages}"),
+            Line::Pages(sort, count) => named(f, "pages ", sort.text(), count),
+            Line::NumberRange(pages) => one(f, "reason NumberRange pages ", u64::from(pages)),
             Line::Repeated(first, second) => {
-                write!(f, "reason SequenceRepeated row {first} row {second}")
+                two(f, "reason SequenceRepeated row ", first, " row ", second)
             }
-            Line::NotFormatted(page) => write!(f, "reason NotFormatted table {page}"),
-            Line::TableDamaged(page) => write!(f, "reason TableDamaged table {page}"),
-            Line::LastSequence(pages) => write!(f, "reason NextSequence pages {pages}"),
-            Line::Tied(of, number) => write!(f, "tied {} {number}", of.text()),
-            Line::Missing(of, number) => write!(f, "missing {} {number}", of.text()),
-            Line::Block(block, state, unsound) => {
-                write!(f, "{}", BlockText(block, state, unsound))
-            }
-            Line::PlainBlock(block, unsound) => write!(f, "block {block} unsound {unsound}"),
-            Line::Lost(sector) => write!(f, "lost sector {sector}"),
+            Line::NotFormatted(page) => one(f, "reason NotFormatted table ", u64::from(page)),
+            Line::TableDamaged(page) => one(f, "reason TableDamaged table ", u64::from(page)),
+            Line::LastSequence(pages) => one(f, "reason NextSequence pages ", u64::from(pages)),
+            Line::Tied(of, number) => named(f, "tied ", of.text(), number),
+            Line::Missing(of, number) => named(f, "missing ", of.text(), number),
+            Line::Block(block, state, unsound) => BlockText(block, state, unsound).fmt(f),
+            Line::PlainBlock(block, unsound) => two(f, "block ", block, " unsound ", unsound),
+            Line::Lost(sector) => one(f, "lost sector ", u64::from(sector)),
             Line::Fit(fit) => write!(f, "geometry {}{}{}", Shape(fit), Looked(fit), Told(fit)),
-            Line::Mended(row, bit) => write!(f, "mended row {row} bit {bit}"),
-            Line::MendedCount(count) => write!(f, "mended {count}"),
-            Line::Differ(row) => write!(f, "differ row {row}"),
-            Line::Unsound(row) => write!(f, "unsound row {row}"),
-            Line::Merged(differ, tally) => write!(f, "{}", TallyText(differ, tally)),
-            Line::Age(unsound) => write!(f, "{}", AgeText(unsound)),
+            Line::Mended(row, bit) => two(f, "mended row ", row, " bit ", bit),
+            Line::MendedCount(count) => one(f, "mended ", count),
+            Line::Differ(row) => one(f, "differ row ", u64::from(row)),
+            Line::Unsound(row) => one(f, "unsound row ", u64::from(row)),
+            Line::Merged(differ, tally) => TallyText(differ, tally).fmt(f),
+            Line::Age(unsound) => AgeText(unsound).fmt(f),
         }
     }
 }

@@ -7,6 +7,7 @@ use lab_scan::{PageFault, PageTarget};
 use std::fs::{self, File, OpenFile};
 use std::io::{self, BufReader, Error, ErrorKind, Read, Seek, SeekFrom, Write};
 use std::os::unix::fs::FileExt;
+use std::path::PathBuf;
 use std::rt::Files;
 
 // How many names beside a file are tried: a run that was killed may have left some.
@@ -142,16 +143,22 @@ fn put_new<R: Files + AllocGlobal>(
 }
 
 // The path that a path leads to: of one that no file has, that of its folder, and its name.
-fn real_path<R: Files + AllocGlobal>(rt: &R, path: &str) -> io::Result<String> {
+fn real_path<R: Files + AllocGlobal>(rt: &R, path: &str) -> io::Result<PathBuf<R::A>> {
     match fs::canonicalize(rt, path) {
-        Ok(found) => Ok(format!(in rt.alloc(); "{}", found.as_str())?),
         Err(error) if error.kind() == ErrorKind::NotFound => {
             let (folder, name) = path.rsplit_once('/').unwrap_or((".", path));
-            let folder = fs::canonicalize(rt, if folder.is_empty() { "/" } else { folder })?;
-            Ok(format!(in rt.alloc(); "{}/{name}", folder.as_str())?)
+            let mut found = fs::canonicalize(rt, if folder.is_empty() { "/" } else { folder })?;
+            found.push(name)?;
+            Ok(found)
         }
-        Err(error) => Err(error),
+        found => found,
     }
+}
+
+// Reads as many bytes as the buffer has, from this one on.
+fn read_from<F: Read + Seek>(file: &mut F, at: u64, buffer: &mut [u8]) -> io::Result<()> {
+    file.seek(SeekFrom::Start(at))?;
+    file.read_exact(buffer)
 }
 
 impl<F: Read + Seek, E: Write> Dump for DumpFile<F, E> {
@@ -162,12 +169,15 @@ impl<F: Read + Seek, E: Write> Dump for DumpFile<F, E> {
     ghost failed = { λ _. true };
 
     fn size(&mut self) -> Result<u64, DumpFault> {
-        self.file.seek(SeekFrom::End(0)).map_err(|_| DumpFault)
+        match self.file.seek(SeekFrom::End(0)) {
+            Ok(size) => Ok(size),
+            Err(_) => Err(DumpFault),
+        }
     }
 
     fn read_at(&mut self, at: u64, buffer: &mut [u8]) -> Result<(), DumpFault> {
-        match self.file.seek(SeekFrom::Start(at)) {
-            Ok(_) => self.file.read_exact(buffer).map_err(|_| DumpFault)?,
+        match read_from(&mut self.file, at, buffer) {
+            Ok(()) => {}
             Err(_) => return Err(DumpFault),
         }
         if let Some(meter) = &mut self.meter {
@@ -178,10 +188,10 @@ impl<F: Read + Seek, E: Write> Dump for DumpFile<F, E> {
 }
 
 impl<F: FileExt> PieceFile<F> {
-    // Writes the bytes of a piece.
-    fn write_piece(&mut self, number: u32, bytes: &[u8]) -> io::Result<()> {
+    // Writes the bytes of a piece, and tells whether they were written.
+    fn writes_piece(&mut self, number: u32, bytes: &[u8]) -> bool {
         let at = u64::from(number) * u64::from(self.size);
-        self.file.write_all_at(bytes, at)
+        self.file.write_all_at(bytes, at).is_ok()
     }
 }
 
@@ -191,11 +201,19 @@ impl<F: FileExt> Target for PieceFile<F> {
     ghost pieces = { λ _. None };
 
     fn put(&mut self, number: u32, body: &[u8], _spare: &[u8]) -> Result<(), TargetFault> {
-        self.write_piece(number, body).map_err(|_| TargetFault)
+        if self.writes_piece(number, body) {
+            Ok(())
+        } else {
+            Err(TargetFault)
+        }
     }
 
     fn blank(&mut self, number: u32, zeros: &[u8]) -> Result<(), TargetFault> {
-        self.write_piece(number, zeros).map_err(|_| TargetFault)
+        if self.writes_piece(number, zeros) {
+            Ok(())
+        } else {
+            Err(TargetFault)
+        }
     }
 }
 
@@ -205,7 +223,11 @@ impl<F: FileExt> PageTarget for PieceFile<F> {
     ghost pieces = { λ _. None };
 
     fn put(&mut self, row: u32, bytes: &[u8]) -> Result<(), PageFault> {
-        self.write_piece(row, bytes).map_err(|_| PageFault)
+        if self.writes_piece(row, bytes) {
+            Ok(())
+        } else {
+            Err(PageFault)
+        }
     }
 }
 
@@ -295,10 +317,13 @@ where
 
     fn store(&mut self, path: &str, bytes: &[u8]) -> Result<(), FileFault> {
         let (mut file, name) = new_beside(self.rt, path).map_err(fault_of)?;
-        put_new(self.rt, &mut file, name.as_str(), path, bytes).map_err(|error| {
-            let _ = fs::remove_file(self.rt, name.as_str());
-            fault_of(error)
-        })
+        match put_new(self.rt, &mut file, name.as_str(), path, bytes) {
+            Ok(()) => Ok(()),
+            Err(error) => {
+                let _ = fs::remove_file(self.rt, name.as_str());
+                Err(fault_of(error))
+            }
+        }
     }
 
     fn discard(&mut self, _path: &str) {

@@ -11,7 +11,7 @@ use request_stream::ServeFault;
 use std::io::Write;
 
 /// The options that are answered with more than that they are not supported. (The NBD protocol, "Option types".)
-#[derive(Clone, Copy, Debug, PartialEq, Eq)]
+#[derive(Clone, Copy)]
 pub enum OptionCode {
     /// Chooses an export, in the old way.
     ExportName,
@@ -26,7 +26,7 @@ pub enum OptionCode {
 }
 
 /// What is answered to an option. (This project's.)
-#[derive(Clone, Copy, Debug, PartialEq, Eq)]
+#[derive(Clone, Copy)]
 pub enum Answer {
     /// A reply of this kind, with no data.
     Short(u32),
@@ -41,7 +41,7 @@ pub enum Answer {
 }
 
 /// What follows an answer. (This project's.)
-#[derive(Clone, Copy, Debug, PartialEq, Eq)]
+#[derive(Clone, Copy)]
 pub enum Step {
     /// Another option.
     More,

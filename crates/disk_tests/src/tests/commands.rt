@@ -29,7 +29,7 @@ struct Ran {
 }
 
 fn run_line(files: &mut MemoryFiles, line: &str, sent: &[u8]) -> Result<Ran, AllocError> {
-    let alloc = files.alloc();
+    let alloc = files.alloc;
     let mut words = Vec::new(alloc);
     for word in line.split(' ') {
         words.push(word)?;
@@ -54,7 +54,7 @@ fn is_as_said(ran: &Ran, status: u8, said: &str) -> bool {
 fn holds(files: &mut MemoryFiles, step: &Step) -> Result<bool, AllocError> {
     match step {
         Step::Trouble(trouble) => {
-            files.get_into(*trouble);
+            files.trouble = *trouble;
             Ok(true)
         }
         Step::Run(line, status, said) => Ok(is_as_said(
@@ -71,7 +71,7 @@ fn holds(files: &mut MemoryFiles, step: &Step) -> Result<bool, AllocError> {
 
 // Holds steps over files of their own.
 fn hold_all(rt: &impl Abort, alloc: Global, steps: &[Step]) -> Result<(), Fail> {
-    let mut files = MemoryFiles::new(alloc)?;
+    let mut files = MemoryFiles::new(alloc);
     for (at, step) in steps.iter().enumerate() {
         let held = holds(&mut files, step)?;
         assert!(rt; held, "step {at}");
@@ -81,7 +81,7 @@ fn hold_all(rt: &impl Abort, alloc: Global, steps: &[Step]) -> Result<(), Fail> 
 
 #[test]
 fn commands_are_done_over_files(rt: HostRuntime) -> Result<(), Fail> {
-    hold_all(&rt, rt.alloc(), &rows::DONE)?;
-    hold_all(&rt, rt.alloc(), &rows::REFUSED)?;
-    hold_all(&rt, rt.alloc(), &rows::TROUBLED)
+    hold_all(&rt, rt.alloc(), rows::DONE)?;
+    hold_all(&rt, rt.alloc(), rows::REFUSED)?;
+    hold_all(&rt, rt.alloc(), rows::TROUBLED)
 }

@@ -1,6 +1,7 @@
-//! Steps of a disk over sectors.
+//! Steps of a disk.
+ghost use Rattle.std.specs.Prelude.{◌≡◌, length};
+
 use nbd_stream::{Disk, DiskFault};
-use sector_disk::{SectorDisk, Sectors};
 
 pub type Answer = Result<(), DiskFault>;
 
@@ -17,28 +18,47 @@ pub enum Step {
     Rest(Answer),
 }
 
-// Whether the disk does a step. Each range is one of the disk.
-fn does<S: Sectors>(disk: &mut SectorDisk<S>, step: Step) -> bool {
-    let size = disk.bytes();
+// Whether a read of a range is answered so, and gives these bytes where it is done.
+fn reads<D: Disk>(disk: &mut D, size: u64, offset: u64, bytes: &[u8], answer: Answer) -> bool
+    requires { length (D.contents disk.old).bytes ≡ size }
+    ensures { length (D.contents disk.new).bytes ≡ size }
+{
+    let count = bytes.len();
+    if offset > size || count > MOST || count as u64 > size - offset {
+        return false;
+    }
     let mut buffer = [0; MOST];
+    let done = disk.read(offset, &mut buffer[..count]);
+    done == answer && (done.is_err() || &buffer[..count] == bytes)
+}
+
+// What a change of a range is answered, where it is one of the disk.
+fn changed<D: Disk>(disk: &mut D, size: u64, step: Step) -> Option<Answer>
+    requires { length (D.contents disk.old).bytes ≡ size }
+    ensures { length (D.contents disk.new).bytes ≡ size }
+{
     match step {
-        Step::Read(offset, bytes, answer) => {
-            let count = bytes.len();
-            if offset > size || count > MOST || count as u64 > size - offset {
-                return false;
-            }
-            let done = disk.read(offset, &mut buffer[..count]);
-            done == answer && (done.is_err() || &buffer[..count] == bytes)
+        Step::Write(offset, bytes, durable, _)
+            if offset <= size && bytes.len() as u64 <= size - offset => {
+            Some(disk.write(offset, bytes, durable))
         }
-        Step::Write(offset, bytes, durable, answer) => {
-            offset <= size
-                && bytes.len() as u64 <= size - offset
-                && disk.write(offset, bytes, durable) == answer
+        Step::Clear(offset, count, durable, _)
+            if offset <= size && u64::from(count) <= size - offset => {
+            Some(disk.clear(offset, count, durable))
         }
-        Step::Clear(offset, count, durable, answer) => {
-            offset <= size
-                && u64::from(count) <= size - offset
-                && disk.clear(offset, count, durable) == answer
+        _ => None,
+    }
+}
+
+// Whether the disk does a step. Each range is one of the disk.
+fn does<D: Disk>(disk: &mut D, size: u64, step: Step) -> bool
+    requires { length (D.contents disk.old).bytes ≡ size }
+    ensures { length (D.contents disk.new).bytes ≡ size }
+{
+    match step {
+        Step::Read(offset, bytes, answer) => reads(disk, size, offset, bytes, answer),
+        Step::Write(_, _, _, answer) | Step::Clear(_, _, _, answer) => {
+            changed(disk, size, step) == Some(answer)
         }
         Step::Flush(answer) => disk.flush() == answer,
         Step::Rest(answer) => disk.rest() == answer,
@@ -46,10 +66,12 @@ fn does<S: Sectors>(disk: &mut SectorDisk<S>, step: Step) -> bool {
 }
 
 /// Whether a disk of so many bytes does all steps.
-pub fn does_all<S: Sectors>(disk: &mut SectorDisk<S>, size: u64, steps: &[Step]) -> bool {
-    let mut all = disk.bytes() == size;
-    for step in steps {
-        all = does(disk, *step) && all;
+pub fn does_all<D: Disk>(disk: &mut D, size: u64, steps: &[Step]) -> bool
+    requires { length (D.contents disk.old).bytes ≡ size }
+{
+    let mut all = true;
+    for place in 0..steps.len() {
+        all = does(disk, size, steps[place]) && all;
     }
     all
 }

@@ -7,6 +7,9 @@ use test_images::{Claim, FORMATTED, Said, Written, certificate_bytes, image_of};
 // The bytes of a page.
 const PAGE: usize = 96;
 
+// Those of a sector.
+const SECTOR: usize = 64;
+
 // What a file is of bytes that are changed: a place and the byte there.
 type Changes = &'static [(usize, u8)];
 
@@ -31,6 +34,15 @@ pub enum Made {
     Certificate(Claimed),
 }
 
+/// Sets so many bytes from a place on, as far as there are any.
+pub fn set(bytes: &mut [u8], first: usize, count: usize, byte: u8) {
+    for place in first..first.saturating_add(count) {
+        if let Some(found) = bytes.get_mut(place) {
+            *found = byte;
+        }
+    }
+}
+
 fn dump(alloc: Global, pages: &[Written]) -> Result<Vec<u8>, Fail> {
     let geometry = Geometry::new(64, 32, 8, 32, 32)?;
     Ok(image_of(alloc, &geometry, pages)?)
@@ -46,9 +58,7 @@ fn changed(alloc: Global, pages: &[Written], changes: Changes) -> Result<Vec<u8>
 
 fn zeroed(alloc: Global, pages: &[Written], row: usize, changes: Changes) -> Result<Vec<u8>, Fail> {
     let mut bytes = changed(alloc, pages, changes)?;
-    for at in row.saturating_mul(PAGE)..row.saturating_add(1).saturating_mul(PAGE) {
-        *bytes.get_mut(at).ok_or("no such row")? = 0;
-    }
+    set(&mut bytes, row.saturating_mul(PAGE), PAGE, 0);
     Ok(bytes)
 }
 
@@ -60,10 +70,9 @@ fn cut(alloc: Global, pages: &[Written], length: usize) -> Result<Vec<u8>, Fail>
 
 fn disk(alloc: Global, sectors: &[(usize, u8)]) -> Result<Vec<u8>, AllocError> {
     let mut bytes = Vec::new(alloc);
-    for number in 0..32 {
-        let found = sectors.iter().find(|sector| sector.0 == number);
-        let fill = found.map_or(0, |sector| sector.1);
-        bytes.extend_from_slice(&[fill; 64])?;
+    bytes.resize(32 * SECTOR, 0)?;
+    for (number, fill) in sectors {
+        set(&mut bytes, number.saturating_mul(SECTOR), SECTOR, *fill);
     }
     Ok(bytes)
 }

@@ -202,6 +202,14 @@ impl MemoryFiles {
         Some(file.bytes.as_slice())
     }
 
+    // How many bytes a file holds; none where there is no such file.
+    fn length(&self, path: &str) -> usize {
+        match self.contents(path) {
+            Some(all) => all.len(),
+            None => 0,
+        }
+    }
+
     // The bytes that a reader of a file gives before it ends or fails.
     fn given(&self, path: &str) -> Result<Vec<u8>, FileFault> {
         let Some(all) = self.contents(path) else {
@@ -211,7 +219,10 @@ impl MemoryFiles {
             Trouble::ReadsEnd(n) | Trouble::Ends(n) => n.min(all.len()),
             _ => all.len(),
         };
-        Vec::from_slice(self.alloc, &all[..end]).map_err(|_| FileFault::OutOfMemory)
+        match Vec::from_slice(self.alloc, &all[..end]) {
+            Ok(given) => Ok(given),
+            Err(_) => Err(FileFault::OutOfMemory),
+        }
     }
 
     // A file of so many pieces of zeros.
@@ -235,7 +246,10 @@ impl MemoryFiles {
             return Err(FileFault::Failed);
         }
         self.kept = self.kept.saturating_add(1);
-        self.put(path, bytes).map_err(|_| FileFault::OutOfMemory)
+        match self.put(path, bytes) {
+            Ok(()) => Ok(()),
+            Err(_) => Err(FileFault::OutOfMemory),
+        }
     }
 }
 
@@ -278,7 +292,7 @@ impl LabFiles for MemoryFiles {
             _ => usize::MAX,
         };
         let fails = match self.trouble {
-            Trouble::ReadsEnd(n) => self.contents(path).is_some_and(|all| n < all.len()),
+            Trouble::ReadsEnd(n) => n < self.length(path),
             _ => false,
         };
         match self.given(path) {
@@ -296,7 +310,7 @@ impl LabFiles for MemoryFiles {
         if self.trouble == Trouble::NoMemory {
             return Err(FileFault::OutOfMemory);
         }
-        let size = self.contents(path).map_or(0, |all| all.len() as u64);
+        let size = self.length(path) as u64;
         match self.given(path) {
             Ok(bytes) => Ok(MemoryDump { bytes, size }),
             Err(fault) => Err(fault),

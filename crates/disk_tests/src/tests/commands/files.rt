@@ -33,13 +33,12 @@ struct MemoryDisk {
     text: Vec<u8>,
 }
 
-/// The disks, and a dump of erased pages at the path `dump`.
+/// The disks, what goes wrong with them, and a dump of erased pages at the path `dump`.
 #[derive(Drop)]
 pub struct MemoryFiles {
-    alloc: Global,
+    pub alloc: Global,
+    pub trouble: Trouble,
     disks: Vec<MemoryDisk>,
-    dump: Vec<u8>,
-    trouble: Trouble,
 }
 
 /// Syncs of what is in memory.
@@ -62,23 +61,12 @@ const DUMP_BYTES: usize = 24_576;
 
 impl MemoryFiles {
     /// No disk, and a dump of erased pages.
-    pub fn new(alloc: Global) -> Result<MemoryFiles, AllocError> {
-        Ok(MemoryFiles {
+    pub fn new(alloc: Global) -> MemoryFiles {
+        MemoryFiles {
             alloc,
-            disks: Vec::new(alloc),
-            dump: vec![in alloc; 0xFF; DUMP_BYTES]?,
             trouble: Trouble::Calm,
-        })
-    }
-
-    /// What takes memory for them.
-    pub fn alloc(&self) -> Global {
-        self.alloc
-    }
-
-    /// From now on this goes wrong.
-    pub fn get_into(&mut self, trouble: Trouble) {
-        self.trouble = trouble;
+            disks: Vec::new(alloc),
+        }
     }
 
     fn find(&self, path: &str) -> Option<&MemoryDisk> {
@@ -209,10 +197,10 @@ impl DiskFiles for MemoryFiles {
         if dump != "dump" {
             return Err(FileFault::Read);
         }
-        match copied(alloc, &self.dump) {
-            Ok(pages) => store_of(geometry, pages),
-            Err(fault) => Err(fault),
-        }
+        let Ok(pages) = vec![in alloc; 0xFF; DUMP_BYTES] else {
+            return Err(FileFault::OutOfMemory);
+        };
+        store_of(geometry, pages)
     }
 
     fn keep(&mut self, path: &str, store: MemoryStore, text: &[u8]) -> Result<(), FileFault> {

@@ -3,7 +3,7 @@ use super::Step::{self, Run, Serve, Trouble};
 use super::files::Trouble as trouble;
 
 /// A disk is made, told of and served.
-pub const DONE: [Step; 7] = [
+pub const DONE: &[Step] = &[
     Run("nanddisk --version", 0, "nanddisk 0.1.0\n"),
     Run("nanddisk create --geometry 64,32,8,32,32 d", 0, ""),
     Run(
@@ -27,7 +27,7 @@ pub const DONE: [Step; 7] = [
 ];
 
 /// What the words ask for cannot be done.
-pub const REFUSED: [Step; 12] = [
+pub const REFUSED: &[Step] = &[
     Run("nanddisk", 2, "usage: no such command\n"),
     Run("nanddisk info d", 3, "fault read d\n"),
     Run("nanddisk serve d", 3, "fault read d\n"),
@@ -67,7 +67,7 @@ pub const REFUSED: [Step; 12] = [
 ];
 
 /// Files fail.
-pub const TROUBLED: [Step; 11] = [
+pub const TROUBLED: &[Step] = &[
     Trouble(trouble::Unasked),
     Run(
         "nanddisk create --geometry 64,32,8,32,32 d",

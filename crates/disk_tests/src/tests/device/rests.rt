@@ -1,12 +1,12 @@
 // Transmissions of disks over devices on dies in memory: the device has a turn after each change.
-use super::disks::disk_on;
-use device_bench::bench::{driver_on, formatted_die, small};
+ghost use Rattle.std.specs.Prelude.{◌≡◌, length};
+
+use super::disks::new_disk;
 use device_bench::cases::erases_of;
 use device_disk::DeviceDisk;
-use nand_die::Stop;
 use nbd_stream::{Disk, End, Export, transmit};
 use onfi_cycles::Nand;
-use sector_disk::{SectorDisk, Sectors};
+use sector_disk::SectorDisk;
 use std::alloc::Global;
 use std::test::Fail;
 
@@ -16,6 +16,13 @@ const SECTOR: usize = 64;
 const SIZE: u64 = 2048;
 
 const SECTORS: u64 = 32;
+
+const EXPORT: Export = Export {
+    size: SIZE,
+    read_only: false,
+    preferred: 64,
+    maximum: 64,
+};
 
 // What a client sends to a disk with eleven free blocks, of which one block has one live page, and what it is answered. The die stops at one of its programs
 // and erases, from 1; 0 for none. Then so many blocks are free, and so many erases were done; none where the device was stopped.
@@ -53,8 +60,11 @@ const ROWS: &[Row] = &[
 ];
 
 // Sets a sector.
-fn set_sector<S: Sectors>(disk: &mut SectorDisk<S>, sector: u64) -> bool {
-    if disk.bytes() != SIZE || sector >= SECTORS {
+fn set_sector<D: Disk>(disk: &mut D, sector: u64) -> bool
+    requires { length (D.contents disk.old).bytes ≡ 2048 }
+    ensures { length (D.contents disk.new).bytes ≡ 2048 }
+{
+    if sector >= SECTORS {
         return false;
     }
     let offset = sector * SECTOR as u64;
@@ -62,7 +72,10 @@ fn set_sector<S: Sectors>(disk: &mut SectorDisk<S>, sector: u64) -> bool {
 }
 
 // Sets the sectors from 0 to 19, and between two of them the last one seven times: so each block but the last has one live page. No rest is given.
-fn fill<S: Sectors>(disk: &mut SectorDisk<S>) -> bool {
+fn fill<D: Disk>(disk: &mut D) -> bool
+    requires { length (D.contents disk.old).bytes ≡ 2048 }
+    ensures { length (D.contents disk.new).bytes ≡ 2048 }
+{
     let mut all = true;
     for count in 0..153u64 {
         let sector = if count % 8 == 0 { count / 8 } else { 31 };
@@ -72,15 +85,11 @@ fn fill<S: Sectors>(disk: &mut SectorDisk<S>) -> bool {
 }
 
 // Serves the disk to a client that sends this, and tells whether its stream ended between two requests.
-fn serves<S: Sectors>(disk: &mut SectorDisk<S>, mut input: &[u8], out: &mut Vec<u8>) -> bool {
-    let export = Export {
-        size: disk.bytes(),
-        read_only: false,
-        preferred: 64,
-        maximum: 64,
-    };
+fn serves<D: Disk>(disk: &mut D, mut input: &[u8], out: &mut Vec<u8>) -> bool
+    requires { length (D.contents disk.old).bytes ≡ 2048 }
+{
     let mut buffer = [0; SECTOR];
-    transmit(&mut input, out, disk, &export, &mut buffer) == Ok(End::Boundary)
+    transmit(&mut input, out, disk, &EXPORT, &mut buffer) == Ok(End::Boundary)
 }
 
 // Whether the device has what a row says.
@@ -95,12 +104,9 @@ fn is_left<N: Nand + Drop>(
 
 // Whether a transmission of a disk over a new die is as its row says.
 fn holds_row(alloc: Global, row: &Row) -> Result<bool, Fail> {
-    let geometry = small()?;
-    let mut die = formatted_die(alloc, geometry, &[], 0)?.into_bus();
-    die.set_stop(row.stop, Stop::Before)?;
-    let mut disk = disk_on(alloc, driver_on(die, geometry)?, &geometry, 32)?;
+    let mut disk = new_disk(alloc, &[], row.stop, 32)?;
     let mut out = Vec::new(alloc);
-    let served = fill(&mut disk) && serves(&mut disk, row.input, &mut out);
+    let served = disk.bytes() == SIZE && fill(&mut disk) && serves(&mut disk, row.input, &mut out);
     Ok(served && out.as_slice() == row.output && is_left(disk, row.left)?)
 }
 

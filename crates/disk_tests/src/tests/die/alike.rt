@@ -16,7 +16,7 @@ const PUT_OUT: Open = (0x30, &[]);
 const PROGRAM: Open = (0x80, &[0; 5]);
 
 // How a die comes to each phase from its Reset on.
-const PHASES: [&[Open]; 22] = [
+const PHASES: &[&[Open]] = &[
     &[],
     &[(0x00, &[])],
     &[(0x00, &[0; 2])],
@@ -50,7 +50,7 @@ enum Before {
     PastTheEnd,
 }
 
-const BEFORE: [Before; 4] = [Before::Nothing, Before::In, Before::Out, Before::PastTheEnd];
+const BEFORE: &[Before] = &[Before::Nothing, Before::In, Before::Out, Before::PastTheEnd];
 
 // The answers of a bus after its Reset: to the phase's cycles, to what is sent before, and to the cycle; and what it put out.
 type Answers = (
@@ -141,7 +141,7 @@ fn each_cycle_in_each_phase(rt: HostRuntime) {
     for (number, phase) in PHASES.iter().enumerate() {
         for before in BEFORE {
             assert!(rt;
-                are_alike(&mut die, &mut over, phase, before),
+                are_alike(&mut die, &mut over, phase, *before),
                 "phase {number}"
             );
         }

@@ -11,18 +11,20 @@ const PASSED: Answer = Answer::Status(0xE0);
 const FAILED: Answer = Answer::Status(0xE1);
 
 // Rows 8 and 10, with row 9 erased between them, and one byte of row 16.
+const WRITTEN: &[(usize, u8)] = &[(8 * 96, 0x11), (10 * 96 + 95, 0x22), (16 * 96 + 64, 0x33)];
+
 fn written(rt: &impl Abort, alloc: Global) -> Vec<u8> {
     let mut image = erased(rt, alloc);
-    for (place, byte) in [(8 * 96, 0x11), (10 * 96 + 95, 0x22), (16 * 96 + 64, 0x33)] {
-        if let Some(byte_there) = image.get_mut(place) {
-            *byte_there = byte;
+    for (place, byte) in WRITTEN {
+        if let Some(byte_there) = image.get_mut(*place) {
+            *byte_there = *byte;
         }
     }
     image
 }
 
 // The next pages are 0 of block 0, 3 of block 1 and 1 of block 2, which is bad, as block 31.
-const ASKED: [(Ask, Answer); 7] = [
+const ASKED: &[(Ask, Answer)] = &[
     (Ask::Program(9, 0x11), FAILED),
     (Ask::Program(11, 0x11), PASSED),
     (Ask::Read(11), Answer::Filled(0x11)),
@@ -39,14 +41,14 @@ fn a_die_goes_on_where_it_stopped(rt: HostRuntime) {
         Ok(mut die) => {
             assert!(rt; die.command(0x00) == Err(BusFault::NoReset), "no Reset yet");
             assert!(rt; die.command(0xFF) == Ok(()), "a Reset");
-            hold(&rt, &mut die, "a die that goes on", &ASKED);
+            hold(&rt, &mut die, "a die that goes on", ASKED);
         }
         Err(_) => panic!(rt; "no die"),
     }
 }
 
 // Each block is read from its last page down to one that is not erased.
-const LOADED: [Call; 7] = [
+const LOADED: &[Call] = &[
     Call::Load(15),
     Call::Load(14),
     Call::Load(13),
@@ -63,7 +65,7 @@ fn pages_that_are_looked_at(rt: HostRuntime) {
         Ok(die) => {
             let store = die.into_store();
             assert!(rt;
-                store.calls().get(8..15) == Some(&LOADED),
+                store.calls().get(8..15) == Some(LOADED),
                 "the blocks' ends"
             );
             assert!(rt; store.calls().len() == 254, "each page once");
@@ -73,7 +75,7 @@ fn pages_that_are_looked_at(rt: HostRuntime) {
 }
 
 // The call at which the store fails, the blocks named bad, the fault, the calls and the failures.
-const REFUSED: [(usize, &[u32], OpenFault, usize, u64); 5] = [
+const REFUSED: &[(usize, &[u32], OpenFault, usize, u64)] = &[
     (0, &[3, 3], OpenFault::BadBlock { block: 3 }, 0, 0),
     (0, &[31, 32, 31], OpenFault::BadBlock { block: 32 }, 0, 0),
     (1, &[], OpenFault::Store, 1, 1),

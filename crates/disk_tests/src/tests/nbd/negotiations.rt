@@ -2,7 +2,7 @@
 use super::pieces::Pieces;
 use nbd_stream::{End, Export, Negotiated, negotiate};
 use request_stream::ServeFault;
-use std::process::Abort;
+use std::alloc::Global;
 use std::test::Fail;
 
 const DISK: Export = Export {
@@ -109,23 +109,21 @@ const ROWS: &[Row] = &[
     },
 ];
 
-// Holds a row, its input in pieces of this length.
-fn hold_row(rt: &(impl Abort + AllocGlobal), row: &Row, piece: usize) {
-    let name = row.name;
+// Whether a negotiation is as its row says, its input in pieces of this length.
+fn holds(alloc: Global, row: &Row, piece: usize) -> bool {
     let mut body = [0; 16];
     let mut reader = Pieces::new(row.input, piece, 0);
-    let mut out = Vec::new(rt.alloc());
+    let mut out = Vec::new(alloc);
     let answer = negotiate(&mut reader, &mut out, &DISK, &mut body);
-    assert!(rt; answer == row.answer, "{name}");
-    assert!(rt; out.as_slice() == row.output, "{name}");
-    assert!(rt; reader.left.len() == row.left, "{name}");
+    answer == row.answer && out.as_slice() == row.output && reader.left.len() == row.left
 }
 
 #[test]
 fn negotiations_by_hand(rt: HostRuntime) -> Result<(), Fail> {
     for row in ROWS {
+        let name = row.name;
         for piece in [1, 7, 512] {
-            hold_row(&rt, row, piece);
+            assert!(rt; holds(rt.alloc(), row, piece), "{name}");
         }
     }
     Ok(())

@@ -1,6 +1,6 @@
 // Replies, and what a request asks.
 use nbd_stream::{Export, Header, RequestError, Task, admit, send_reply};
-use std::process::Abort;
+use std::alloc::Global;
 use std::test::Fail;
 
 const COOKIE: u64 = 0x0102_0304_0506_0708;
@@ -29,13 +29,15 @@ const REPLIES: &[(Result<(), RequestError>, &[u8])] = &[
     ),
 ];
 
+fn is_reply(alloc: Global, done: Result<(), RequestError>, bytes: &[u8]) -> bool {
+    let mut out = Vec::new(alloc);
+    send_reply(&mut out, COOKIE, done, b"ab").is_ok() && out.as_slice() == bytes
+}
+
 #[test]
 fn replies_by_hand(rt: HostRuntime) -> Result<(), Fail> {
-    for (done, bytes) in REPLIES {
-        let mut out = Vec::new(rt.alloc());
-        let sent = send_reply(&mut out, COOKIE, *done, b"ab");
-        assert!(rt; sent.is_ok());
-        assert!(rt; out.as_slice() == *bytes);
+    for (number, (done, bytes)) in REPLIES.iter().enumerate() {
+        assert!(rt; is_reply(rt.alloc(), *done, bytes), "row {number}");
     }
     Ok(())
 }
@@ -159,8 +161,8 @@ const ROWS: &[Row] = &[
     },
 ];
 
-// Holds a row.
-fn hold_row(rt: &impl Abort, row: &Row) {
+// Whether a disk, and one that is read-only, are asked what a row says.
+fn holds(row: &Row) -> bool {
     let (code, flags, offset, count) = row.asked;
     let header = Header {
         flags,
@@ -173,20 +175,13 @@ fn hold_row(rt: &impl Abort, row: &Row) {
         read_only: true,
         ..DISK
     };
-    assert!(rt;
-        admit(&DISK, &header) == row.answer,
-        "{code} {flags} {offset} {count}"
-    );
-    assert!(rt;
-        admit(&read_only, &header) == row.read_only,
-        "{code} {flags} {offset} {count}"
-    );
+    admit(&DISK, &header) == row.answer && admit(&read_only, &header) == row.read_only
 }
 
 #[test]
 fn requests_of_a_disk(rt: HostRuntime) -> Result<(), Fail> {
-    for row in ROWS {
-        hold_row(&rt, row);
+    for (number, row) in ROWS.iter().enumerate() {
+        assert!(rt; holds(row), "row {number}");
     }
     Ok(())
 }

@@ -1,5 +1,5 @@
 // Disks over four sectors of four bytes, which are kept back until a flush.
-ghost use Rattle.std.specs.Prelude.{◌≡◌};
+ghost use Rattle.std.specs.Prelude.{◌≡◌, length};
 
 use crate::tests::steps::{Step, does_all};
 use nbd_stream::{Disk, DiskFault};
@@ -229,8 +229,8 @@ const ROWS: &[Row] = &[
     },
 ];
 
-// Whether a disk does all of a row, and what is left of its device.
-fn done(alloc: Global, row: &Row) -> (bool, Option<CachedSectors>) {
+// Whether a disk does all of a row, and has left its device so.
+fn holds(alloc: Global, row: &Row) -> bool {
     let device = CachedSectors {
         bytes: *FIRST,
         kept: *FIRST,
@@ -239,35 +239,28 @@ fn done(alloc: Global, row: &Row) -> (bool, Option<CachedSectors>) {
         asked: 0,
     };
     let Ok(mut disk) = SectorDisk::new(alloc, device) else {
-        return (false, None);
+        return false;
     };
-    let all = does_all(&mut disk, SIZE as u64, row.steps);
-    (all, Some(disk.into_sectors()))
+    let size = SIZE as u64;
+    let all = disk.bytes() == size && does_all(&mut disk, size, row.steps);
+    let left = disk.into_sectors();
+    all && left.bytes == *row.bytes && left.kept == *row.kept
 }
 
 #[test]
 fn sectors_by_hand(rt: HostRuntime) -> Result<(), Fail> {
     for row in ROWS {
         let name = row.name;
-        let (all, device) = done(rt.alloc(), row);
-        assert!(rt; all, "{name}");
-        let same = match device {
-            Some(device) => device.bytes == *row.bytes && device.kept == *row.kept,
-            None => false,
-        };
-        assert!(rt; same, "{name}");
+        assert!(rt; holds(rt.alloc(), row), "{name}");
     }
     Ok(())
 }
 
 // Sets a range of the disk and of a list of bytes, clears the first half of it in both, and tells whether they are the same then.
-fn set_both<S: Sectors>(
-    disk: &mut SectorDisk<S>,
-    plain: &mut [u8; SIZE],
-    start: usize,
-    bytes: &[u8],
-) -> bool {
-    if disk.bytes() != 16 || start > SIZE || bytes.len() > SIZE - start {
+fn set_both<D: Disk>(disk: &mut D, plain: &mut [u8; SIZE], start: usize, bytes: &[u8]) -> bool
+    requires { length (D.contents disk.old).bytes ≡ 16 }
+{
+    if start > SIZE || bytes.len() > SIZE - start {
         return false;
     }
     let half = bytes.len() / 2;
@@ -298,7 +291,7 @@ fn ranges_hold(alloc: Global) -> bool {
         for count in 0..=SIZE - start {
             let letters = if count % 2 == 0 { OTHERS } else { FIRST };
             let bytes = &letters[start..start + count];
-            holds = set_both(&mut disk, &mut plain, start, bytes) && holds;
+            holds = disk.bytes() == 16 && set_both(&mut disk, &mut plain, start, bytes) && holds;
         }
     }
     holds

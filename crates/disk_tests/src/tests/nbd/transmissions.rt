@@ -2,7 +2,7 @@
 use super::pieces::Pieces;
 use nbd_stream::{Disk, DiskFault, End, Export, transmit};
 use request_stream::ServeFault;
-use std::process::Abort;
+use std::alloc::Global;
 use std::test::Fail;
 
 const SIZE: usize = 16;
@@ -200,9 +200,8 @@ const ROWS: &[Row] = &[
     },
 ];
 
-// Holds a row, its input in pieces of this length.
-fn hold_row(rt: &(impl Abort + AllocGlobal), row: &Row, piece: usize) {
-    let name = row.name;
+// Whether a transmission is as its row says, its input in pieces of this length.
+fn holds(alloc: Global, row: &Row, piece: usize) -> bool {
     let mut buffer = [0; 8];
     let mut disk = FailingDisk {
         bytes: [0; SIZE],
@@ -211,18 +210,17 @@ fn hold_row(rt: &(impl Abort + AllocGlobal), row: &Row, piece: usize) {
         asked: 0,
     };
     let mut reader = Pieces::new(row.input, piece, 0);
-    let mut out = Vec::new(rt.alloc());
+    let mut out = Vec::new(alloc);
     let answer = transmit(&mut reader, &mut out, &mut disk, &EXPORT, &mut buffer);
-    assert!(rt; answer == row.answer, "{name}");
-    assert!(rt; out.as_slice() == row.output, "{name}");
-    assert!(rt; disk.bytes == row.disk, "{name}");
+    answer == row.answer && out.as_slice() == row.output && disk.bytes == row.disk
 }
 
 #[test]
 fn transmissions_by_hand(rt: HostRuntime) -> Result<(), Fail> {
     for row in ROWS {
+        let name = row.name;
         for piece in [1, 9, 512] {
-            hold_row(&rt, row, piece);
+            assert!(rt; holds(rt.alloc(), row, piece), "{name}");
         }
     }
     Ok(())

@@ -4,7 +4,7 @@ use std::process::Abort;
 use std::test::*;
 
 // A word, and the bytes that it says.
-const SIZES: [(&str, Option<u64>); 24] = [
+const SIZES: &[(&str, Option<u64>)] = &[
     ("1", Some(1)),
     ("4096", Some(4096)),
     ("007", Some(7)),
@@ -34,12 +34,12 @@ const SIZES: [(&str, Option<u64>); 24] = [
 #[test]
 fn sizes_are_read(rt: HostRuntime) {
     for (word, bytes) in SIZES {
-        assert!(rt; size_from(word) == bytes, "{word}");
+        assert!(rt; size_from(word) == *bytes, "{word}");
     }
 }
 
 // A size, and the blocks, sectors and cache of its shape.
-const SHAPES: [(u64, u32, u32, u32); 6] = [
+const SHAPES: &[(u64, u32, u32, u32)] = &[
     (1, 13, 1, 64),
     (4096, 13, 1, 64),
     (4097, 13, 2, 64),
@@ -68,14 +68,21 @@ fn has_shape(bytes: u64, blocks: u32, sectors: u32, cache: u32) -> bool {
 #[test]
 fn shapes_follow_from_sizes(rt: HostRuntime) {
     for (bytes, blocks, sectors, cache) in SHAPES {
-        assert!(rt; has_shape(bytes, blocks, sectors, cache), "{bytes}");
+        assert!(rt; has_shape(*bytes, *blocks, *sectors, *cache), "{bytes}");
     }
 }
 
+// Sizes that no shape is for.
+const REFUSED: &[(u64, SizeFault)] = &[
+    (0, SizeFault::Zero),
+    (509_349_889, SizeFault::TooLarge),
+    (1 << 30, SizeFault::TooLarge),
+    (u64::MAX, SizeFault::TooLarge),
+];
+
 #[test]
 fn sizes_without_a_shape(rt: HostRuntime) {
-    assert!(rt; shape_for(0) == Err(SizeFault::Zero));
-    assert!(rt; shape_for(509_349_889) == Err(SizeFault::TooLarge));
-    assert!(rt; shape_for(1 << 30) == Err(SizeFault::TooLarge));
-    assert!(rt; shape_for(u64::MAX) == Err(SizeFault::TooLarge));
+    for (bytes, fault) in REFUSED {
+        assert!(rt; shape_for(*bytes) == Err(*fault), "{bytes}");
+    }
 }

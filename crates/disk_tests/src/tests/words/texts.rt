@@ -5,7 +5,17 @@ use std::alloc::Global;
 use std::process::Abort;
 use std::test::*;
 
-const SMALL: &str = "{\"cache\":64,\"geometry\":\"4096,128,64,13,1\",\"version\":1}\n";
+// A size, and the text of its shape.
+const TEXTS: &[(u64, &str)] = &[
+    (
+        1,
+        "{\"cache\":64,\"geometry\":\"4096,128,64,13,1\",\"version\":1}\n",
+    ),
+    (
+        509_349_888,
+        "{\"cache\":65280,\"geometry\":\"4096,128,64,4095,124353\",\"version\":1}\n",
+    ),
+];
 
 // Whether the text of the shape for a size is this, and tells that shape.
 fn goes_round(alloc: Global, bytes: u64, wanted: &str) -> bool {
@@ -20,14 +30,13 @@ fn goes_round(alloc: Global, bytes: u64, wanted: &str) -> bool {
 
 #[test]
 fn shapes_are_written_and_read(rt: HostRuntime) {
-    let alloc = rt.alloc();
-    assert!(rt; goes_round(alloc, 1, SMALL));
-    let large = "{\"cache\":65280,\"geometry\":\"4096,128,64,4095,124353\",\"version\":1}\n";
-    assert!(rt; goes_round(alloc, 509_349_888, large));
+    for (bytes, text) in TEXTS {
+        assert!(rt; goes_round(rt.alloc(), *bytes, text), "{text}");
+    }
 }
 
 // Other texts of the small shape.
-const SAME: [&str; 3] = [
+const SAME: &[&str] = &[
     "{\"cache\":64,\"geometry\":\"4096,128,64,13,1\",\"version\":1}",
     " { \"version\" : 1,\n\"geometry\":\"04096,128,64,13,1\", \"cache\": 64 } \n\n",
     "{\"cache\":1,\"version\":1,\"geometry\":\"4096,128,64,13,1\",\"cache\":64}",
@@ -47,56 +56,54 @@ fn other_texts_of_a_shape(rt: HostRuntime) {
     }
 }
 
-const FAULTS: [(&str, ShapeFault); 17] = [
-    ("", ShapeFault::NotJson),
-    ("{", ShapeFault::NotJson),
-    ("{} {}", ShapeFault::NotJson),
-    ("[]", ShapeFault::NotObject),
-    ("{}", ShapeFault::Missing(Member::Version)),
-    ("{\"version\":1}", ShapeFault::Missing(Member::Cache)),
+const FAULTS: &[(&[u8], ShapeFault)] = &[
+    (b"", ShapeFault::NotJson),
+    (b"{", ShapeFault::NotJson),
+    (b"{} {}", ShapeFault::NotJson),
+    (b"[]", ShapeFault::NotObject),
+    (b"{}", ShapeFault::Missing(Member::Version)),
+    (b"{\"version\":1}", ShapeFault::Missing(Member::Cache)),
     (
-        "{\"version\":1,\"cache\":64}",
+        b"{\"version\":1,\"cache\":64}",
         ShapeFault::Missing(Member::Geometry),
     ),
     (
-        "{\"version\":\"1\"}",
+        b"{\"version\":\"1\"}",
         ShapeFault::WrongType(Member::Version),
     ),
     (
-        "{\"version\":1,\"cache\":64.0}",
+        b"{\"version\":1,\"cache\":64.0}",
         ShapeFault::WrongType(Member::Cache),
     ),
     (
-        "{\"version\":1,\"cache\":64,\"geometry\":1}",
+        b"{\"version\":1,\"cache\":64,\"geometry\":1}",
         ShapeFault::WrongType(Member::Geometry),
     ),
-    ("{\"version\":2}", ShapeFault::Version),
-    ("{\"version\":1,\"cache\":0}", ShapeFault::CacheRange),
-    ("{\"version\":1,\"cache\":65537}", ShapeFault::CacheRange),
+    (b"{\"version\":2}", ShapeFault::Version),
+    (b"{\"version\":1,\"cache\":0}", ShapeFault::CacheRange),
+    (b"{\"version\":1,\"cache\":65537}", ShapeFault::CacheRange),
     (
-        "{\"version\":1,\"cache\":4294967297}",
+        b"{\"version\":1,\"cache\":4294967297}",
         ShapeFault::CacheRange,
     ),
     (
-        "{\"version\":1,\"cache\":64,\"geometry\":\"4096,128,64,13\"}",
+        b"{\"version\":1,\"cache\":64,\"geometry\":\"4096,128,64,13\"}",
         ShapeFault::BadGeometry,
     ),
     (
-        "{\"version\":1,\"cache\":64,\"geometry\":\"4096,128,64,11,1\"}",
+        b"{\"version\":1,\"cache\":64,\"geometry\":\"4096,128,64,11,1\"}",
         ShapeFault::Geometry(GeometryFault::Blocks),
     ),
     (
-        "{\"cache\":64,\"geometry\":\"4096,128,64,13,1\",\"name\":\"\",\"version\":1}",
+        b"{\"cache\":64,\"geometry\":\"4096,128,64,13,1\",\"name\":\"\",\"version\":1}",
         ShapeFault::Unknown,
     ),
+    (b"{\"\xff\":1}", ShapeFault::NotJson),
 ];
 
 #[test]
 fn each_fault_is_named(rt: HostRuntime) {
-    for (text, fault) in FAULTS {
-        let told = read_shape(rt.alloc(), text.as_bytes());
-        assert!(rt; told == Err(fault), "{text}");
+    for (number, (text, fault)) in FAULTS.iter().enumerate() {
+        assert!(rt; read_shape(rt.alloc(), text) == Err(*fault), "row {number}");
     }
-    let no_text = read_shape(rt.alloc(), b"{\"\xff\":1}");
-    assert!(rt; no_text == Err(ShapeFault::NotJson));
 }

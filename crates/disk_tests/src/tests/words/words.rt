@@ -5,7 +5,7 @@ use std::process::Abort;
 use std::test::*;
 
 // Words, and what they ask for, word by word; of a text how it begins. The disk is `d`.
-const ROWS: [(&[&str], &[&str]); 30] = [
+const ROWS: &[(&[&str], &[&str])] = &[
     (
         &["create", "--size", "64M", "d"],
         &["size", "64M", "-", "-"],
@@ -72,14 +72,13 @@ const ROWS: [(&[&str], &[&str]); 30] = [
 ];
 
 fn is_create(words: &CreateWords<'_>, told: &[&str]) -> bool {
+    let (kind, made, from) = match words.make {
+        MakeWords::Size(size) => ("size", size, "-"),
+        MakeWords::Geometry(geometry) => ("geometry", geometry, "-"),
+        MakeWords::Dump { geometry, from } => ("geometry", geometry, from),
+    };
     let cache = words.cache.unwrap_or("-");
-    words.disk == "d"
-        && match words.make {
-            MakeWords::Size(size) => told == ["size", size, "-", cache].as_slice(),
-            MakeWords::Geometry(geometry) => told == ["geometry", geometry, "-", cache].as_slice(),
-            MakeWords::Dump { geometry, from } => told
-                == ["geometry", geometry, from, cache].as_slice(),
-        }
+    words.disk == "d" && told == [kind, made, from, cache].as_slice()
 }
 
 fn is_serve(words: ServeWords<'_>, told: &[&str]) -> bool {

@@ -1,16 +1,14 @@
 use Rattle.std.proofs.Common.{rules, true, false}
-use Rattle.std.proofs.lemmas.Result.{err_from_is_err_and}
 use Rattle.file_die.specs.Store.{Syncs, Clears}
 use Rattle.file_die.proofs.AskLemmas.{erases_failed, erases_synced}
 use Rattle.file_die.proofs.asks.erase.Goals as goal
 
-pub returns-in_err-map_err-clause-erases : goal.returns-in_err-map_err-clause-erases
-returns-in_err-map_err-clause-erases g c h =
+pub returns-then-is_err-clause-erases : goal.returns-then-is_err-clause-erases
+returns-then-is_err-clause-erases g c h =
     let held = g.S.Store.held in
     let one : Syncs (held c.args.store.now) true (held c.sync.new.store) = search rules in
     let two : Clears (held c.sync.new.store) c.args.block false (held c.clear.new.self) = search rules in
-    let e = err_from_is_err_and c.from_residual-in_err-map_err.result c.from_residual-in_err-map_err.ensures.1 in
-    rw (e.1) (erases_failed _ _ _ c.args.block (c.requires.images h) one c.sync.ensures.asks.geometry two)
+    erases_failed _ _ _ c.args.block (c.requires.images h) one c.sync.ensures.asks.geometry two
 
 pub returns-clause-erases : goal.returns-clause-erases
 returns-clause-erases g c h =

@@ -3,7 +3,7 @@ use Rattle.std.specs.Io.KnownBytes.{Appends}
 use Rattle.std.proofs.KnownBytes.{Keeps-refl}
 use Rattle.lab_array.specs.Held.{state_in}
 use Rattle.lab_array.specs.declared.held.Held.{Held}
-use Rattle.lab_map.specs.Map.{map_text}
+use Rattle.lab_array.specs.Map.{map_text}
 use Rattle.lab_commands.specs.Undone.{IsUnmade}
 use Rattle.lab_commands.specs.Array.{IsArrayFault, IsMade, MadeArray, PutArray, with_map}
 use Rattle.lab_commands.specs.Files.{AnswersNoMore, with_kept}

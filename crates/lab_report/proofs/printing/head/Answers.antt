@@ -1,4 +1,4 @@
-use Rattle.std.proofs.Common.{◌≡◌, false, string_bytes, ap, ◌∙◌, refl, rules}
+use Rattle.std.proofs.Common.{◌≡◌, false, string_bytes, ap, ◌∙◌, rules}
 use Rattle.serde_json.specs.View.{view}
 use Rattle.serde_json.specs.Written.{compact_text, has_float}
 use Rattle.lab_report.specs.Values.{head_data}

@@ -1,87 +1,109 @@
 //! Three readings of one die, each with pages of its own that are wrong.
 use super::{PAGE, PAGES, Pages};
+use crate::tests::dumps::set;
 use lab_merge::{MergeFault, Tally, merge_dumps};
 use page_layout::geometry::Geometry;
+use std::alloc::Global;
 use std::test::Fail;
 use test_images::{TABLE_0, TABLE_1, Written, image_of, page};
 
 // The same die with another page in row 8.
-const OTHERS: [Written; 4] = [
+const OTHERS: &[Written] = &[
     TABLE_0,
     TABLE_1,
     page!(8, Sector 3, sequence 7, fill 0x33),
     page!(9, Sector 4, sequence 6, fill 0x44),
 ];
 
-// What is put at these bytes of a dump.
-fn put(dump: &mut [u8], changes: &[(usize, u8)]) {
+// What is changed of each reading: row 1 by the majority, row 9 from the second, row 20 erased in the third, row 21 in none.
+const FIRST: &[(usize, u8)] = &[
+    (PAGE + 7, 3),
+    (PAGE * 9 + 7, 3),
+    (PAGE * 20, 0),
+    (PAGE * 21, 0),
+];
+
+const SECOND: &[(usize, u8)] = &[(PAGE + 9, 3), (PAGE * 20 + 3, 7), (PAGE * 21 + 3, 7)];
+
+const THIRD: &[(usize, u8)] = &[(PAGE + 11, 3), (PAGE * 9 + 7, 3), (PAGE * 21 + 99, 7)];
+
+const TALLY: Tally = Tally {
+    sound: 2,
+    majority: 1,
+    erased: 251,
+    unsound: 1,
+};
+
+// A dump of these pages with bytes changed.
+fn reading(
+    alloc: Global,
+    geometry: &Geometry,
+    pages: &[Written],
+    changes: &[(usize, u8)],
+) -> Result<Vec<u8>, Fail> {
+    let mut dump = image_of(alloc, geometry, pages)?;
     for (at, byte) in changes {
-        if let Some(place) = dump.get_mut(*at) {
-            *place = *byte;
-        }
+        *dump.get_mut(*at).ok_or("no such byte")? = *byte;
     }
+    Ok(dump)
+}
+
+// What the readings come to: row 8, of which two sound pages differ, of 00h bytes.
+fn merged(alloc: Global, geometry: &Geometry) -> Result<Vec<u8>, Fail> {
+    let mut want = reading(alloc, geometry, PAGES, &[(PAGE * 21, 0)])?;
+    set(&mut want, PAGE * 8, PAGE, 0);
+    Ok(want)
+}
+
+// Whether these readings are merged as wanted.
+fn are_merged(
+    alloc: Global,
+    geometry: &Geometry,
+    mut readers: [&[u8]; 3],
+    want: &[u8],
+) -> Result<bool, Fail> {
+    let target = Pages {
+        bytes: vec![in alloc; 0u8; want.len()]?,
+    };
+    let told = merge_dumps(alloc, &mut readers, geometry, target)?;
+    Ok(
+        told.conflicts.as_slice() == [8u32].as_slice()
+            && told.unsound.as_slice() == [21u32].as_slice()
+            && told.tally == TALLY
+            && told.target.bytes.as_slice() == want,
+    )
 }
 
 #[test]
 fn each_origin(rt: HostRuntime) -> Result<(), Fail> {
     let geometry = Geometry::new(64, 40, 8, 32, 32)?;
-    let mut first = image_of(rt.alloc(), &geometry, &PAGES)?;
-    let mut second = image_of(rt.alloc(), &geometry, &OTHERS)?;
-    let mut third = image_of(rt.alloc(), &geometry, &PAGES)?;
-    let mut want = image_of(rt.alloc(), &geometry, &PAGES)?;
-    for i in PAGE * 8..PAGE * 9 {
-        put(&mut want, &[(i, 0)]);
-    }
-    put(&mut want, &[(PAGE * 21, 0)]);
-    // row 1 by the majority, row 9 from the second, row 20 erased in the third, row 21 in none
-    put(
-        &mut first,
-        &[
-            (PAGE + 7, 3),
-            (PAGE * 9 + 7, 3),
-            (PAGE * 20, 0),
-            (PAGE * 21, 0),
-        ],
-    );
-    put(
-        &mut second,
-        &[(PAGE + 9, 3), (PAGE * 20 + 3, 7), (PAGE * 21 + 3, 7)],
-    );
-    put(
-        &mut third,
-        &[(PAGE + 11, 3), (PAGE * 9 + 7, 3), (PAGE * 21 + 99, 7)],
-    );
-    let target = Pages {
-        bytes: vec![in rt.alloc(); 0u8; first.len()]?,
-    };
-    let mut readers = [first.as_slice(), second.as_slice(), third.as_slice()];
-    let told = merge_dumps(rt.alloc(), &mut readers, &geometry, target)?;
-    let tally = Tally {
-        sound: 2,
-        majority: 1,
-        erased: 251,
-        unsound: 1,
-    };
-    assert_eq!(rt; told.conflicts.as_slice(), [8u32].as_slice());
-    assert_eq!(rt; told.unsound.as_slice(), [21u32].as_slice());
-    assert_eq!(rt; told.tally, tally);
-    assert!(rt; told.target.bytes == want, "the pages");
+    let first = reading(rt.alloc(), &geometry, PAGES, FIRST)?;
+    let second = reading(rt.alloc(), &geometry, OTHERS, SECOND)?;
+    let third = reading(rt.alloc(), &geometry, PAGES, THIRD)?;
+    let want = merged(rt.alloc(), &geometry)?;
+    let readers = [first.as_slice(), second.as_slice(), third.as_slice()];
+    let same = are_merged(rt.alloc(), &geometry, readers, &want)?;
+    assert!(rt; same);
     Ok(())
+}
+
+// Whether the second of two readings is named, which has no byte.
+fn is_second_named(alloc: Global, geometry: &Geometry, dump: &[u8]) -> Result<bool, Fail> {
+    let target = Pages {
+        bytes: vec![in alloc; 0u8; dump.len()]?,
+    };
+    let mut readers = [dump, &[]];
+    match merge_dumps(alloc, &mut readers, geometry, target) {
+        Ok(_) => Ok(false),
+        Err(fault) => Ok(fault == MergeFault::WrongLength(1)),
+    }
 }
 
 #[test]
 fn the_shorter_reading_is_named(rt: HostRuntime) -> Result<(), Fail> {
     let geometry = Geometry::new(64, 40, 8, 32, 32)?;
-    let dump = image_of(rt.alloc(), &geometry, &PAGES)?;
-    let target = Pages {
-        bytes: vec![in rt.alloc(); 0u8; dump.len()]?,
-    };
-    let mut readers = [dump.as_slice(), &[]];
-    match merge_dumps(rt.alloc(), &mut readers, &geometry, target) {
-        Ok(_) => Err("merged".into()),
-        Err(fault) => {
-            assert!(rt; fault == MergeFault::WrongLength(1), "the fault");
-            Ok(())
-        }
-    }
+    let dump = image_of(rt.alloc(), &geometry, PAGES)?;
+    let named = is_second_named(rt.alloc(), &geometry, &dump)?;
+    assert!(rt; named);
+    Ok(())
 }

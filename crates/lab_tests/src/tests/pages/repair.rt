@@ -4,13 +4,12 @@ use lab_repair::{Mend, repair_dump};
 use lab_scan::Rows;
 use page_layout::geometry::Geometry;
 use std::alloc::Global;
-use std::process::Abort;
 use std::test::Fail;
 use test_images::image_of;
 
 // The bits that are turned of the dump, each byte with its bits. Row 8 loses one of its data area, row 9 one of its spare area; rows 1 and 20 have
 // two turned, and row 21 is an erased page that lost a bit, which is no sound one away.
-const TURNED: [(usize, u8); 5] = [
+const TURNED: &[(usize, u8)] = &[
     (PAGE + 7, 0x03),
     (PAGE * 8 + 5, 0x10),
     (PAGE * 9 + 64 + 9, 0x01),
@@ -29,7 +28,7 @@ struct Case {
     mends: &'static [Mend],
 }
 
-const CASES: [Case; 8] = [
+const CASES: &[Case] = &[
     Case {
         name: "no rows named",
         rows: None,
@@ -96,14 +95,8 @@ fn turn_back(bytes: &mut [u8], mends: &[Mend]) {
     }
 }
 
-// Repairs the dump of these rows, and holds what is listed and written to what is said.
-fn hold_case(
-    rt: &impl Abort,
-    alloc: Global,
-    geometry: &Geometry,
-    dump: &[u8],
-    case: &Case,
-) -> Result<(), Fail> {
+// Whether the pages that a case names are mended of a dump, and no others.
+fn holds(alloc: Global, geometry: &Geometry, dump: &[u8], case: &Case) -> Result<bool, Fail> {
     let mut want = Vec::from_slice(alloc, dump)?;
     turn_back(&mut want, case.mends);
     let target = Pages {
@@ -111,24 +104,26 @@ fn hold_case(
     };
     let mut reader = dump;
     let told = repair_dump(alloc, &mut reader, geometry, case.rows, target)?;
-    assert!(rt;
-        told.mends.as_slice() == case.mends,
-        "{}: the list",
-        case.name
-    );
-    assert!(rt; told.target.bytes == want, "{}: the pages", case.name);
-    Ok(())
+    Ok(told.mends.as_slice() == case.mends && told.target.bytes == want)
+}
+
+// The dump with its bits turned.
+fn turned(alloc: Global, geometry: &Geometry) -> Result<Vec<u8>, Fail> {
+    let mut dump = image_of(alloc, geometry, PAGES)?;
+    for (at, bits) in TURNED {
+        turn(&mut dump, *at, *bits);
+    }
+    Ok(dump)
 }
 
 #[test]
 fn one_bit_is_mended_and_two_are_not(rt: HostRuntime) -> Result<(), Fail> {
     let geometry = Geometry::new(64, 40, 8, 32, 32)?;
-    let mut dump = image_of(rt.alloc(), &geometry, &PAGES)?;
-    for (at, bits) in TURNED {
-        turn(&mut dump, at, bits);
-    }
-    for case in &CASES {
-        hold_case(&rt, rt.alloc(), &geometry, &dump, case)?;
+    let dump = turned(rt.alloc(), &geometry)?;
+    for case in CASES {
+        let holds = holds(rt.alloc(), &geometry, &dump, case)?;
+        let name = case.name;
+        assert!(rt; holds, "{name}");
     }
     Ok(())
 }

@@ -1,8 +1,8 @@
 //! A part of the array whose sectors stand alike.
 ghost use Rattle.std.specs.Prelude.{◌≡◌, ◌+◌, ◌-◌, ◌*◌, ◌<◌, ◌≤◌};
-ghost use Rattle.lab_map.specs.Map.{status_words};
+ghost use Rattle.lab_array.specs.Map.{status_words};
 
-use lab_array::State;
+use crate::held::State;
 use page_layout::geometry::Geometry;
 use std::fmt;
 
@@ -31,7 +31,7 @@ fn status_text(state: State) -> &'static str
 /// The line, without its line feed.
 impl fmt::Display for Area {
     ghost use Rattle.std.specs.Prelude.{Some};
-    ghost use Rattle.lab_map.specs.Map.{area_words};
+    ghost use Rattle.lab_array.specs.Map.{area_words};
 
     ghost output = { λ area. Some (area_words area.position area.size area.state) };
 

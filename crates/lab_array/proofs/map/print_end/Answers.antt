@@ -1,10 +1,10 @@
-use Rattle.std.proofs.Common.{◌≡◌, true, false, map, sym, subst, ◌∙◌, arith}
+use Rattle.std.proofs.Common.{◌≡◌, true, map, sym, subst, ◌∙◌, arith}
 use Rattle.std.specs.Io.KnownBytes.{Appends}
 use Rattle.std.proofs.KnownBytes.{Appends-nil}
 use Rattle.lab_array.specs.Held.{state_in}
-use Rattle.lab_map.specs.Map.{ends_at}
-use Rattle.lab_map.proofs.MapLemmas.{first_after, first_low, first_still, line_is, line_none}
-use Rattle.lab_map.proofs.map.print_end.Goals as goal
+use Rattle.lab_array.specs.Map.{ends_at}
+use Rattle.lab_array.proofs.MapLemmas.{first_after, first_low, first_still, line_is, line_none}
+use Rattle.lab_array.proofs.map.print_end.Goals as goal
 
 pub returns-then-not-ends_at-clause-next : goal.returns-then-not-ends_at-clause-next
 returns-then-not-ends_at-clause-next g c =

@@ -8,7 +8,7 @@ use Rattle.std.proofs.lemmas.Bool.Decides.{Decides-eqb}
 use Rattle.page_layout.specs.declared.geometry.Geometry.{Geometry}
 use Rattle.lab_array.specs.declared.held.State.{State}
 use Rattle.lab_array.specs.declared.held.State.TheVariants.{Absent, Found, Tied}
-use Rattle.lab_map.specs.Map.{AreAreas, IsAreaTo, area_line, area_words, areas_below, ends_at, first_of, is_like}
+use Rattle.lab_array.specs.Map.{AreAreas, IsAreaTo, area_line, area_words, areas_below, ends_at, first_of, is_like}
 
 -- ---- sectors that stand alike
 

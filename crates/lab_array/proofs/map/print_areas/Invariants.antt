@@ -1,8 +1,8 @@
 use Rattle.std.proofs.Common.{◌≡◌, map}
 use Rattle.std.specs.Io.KnownBytes.{Appends}
 use Rattle.lab_array.specs.Held.{state_in}
-use Rattle.lab_map.specs.Map.{areas_below, first_of}
-use Rattle.lab_map.proofs.map.print_areas.Given as goal
+use Rattle.lab_array.specs.Map.{areas_below, first_of}
+use Rattle.lab_array.proofs.map.print_areas.Given as goal
 
 abbrev pub invariant-loop-sector : goal.invariant-loop-sector
 invariant-loop-sector g l = record {

@@ -2,10 +2,10 @@
 ghost use Rattle.std.specs.Prelude.{◌≡◌, ◌+◌, ◌<◌, ◌++◌, ◌∷◌, [], IfOk, OnOk, map, length, get_or};
 ghost use Rattle.std.specs.Io.KnownBytes.{Appends};
 ghost use Rattle.lab_array.specs.Held.{state_in};
-ghost use Rattle.lab_map.specs.Map.{area_line, area_words, areas_below, ends_at, first_of, is_like, map_head, map_text, remark_line, status_line};
+ghost use Rattle.lab_array.specs.Map.{area_line, area_words, areas_below, ends_at, first_of, is_like, map_head, map_text, remark_line, status_line};
 
 use crate::area::{Area, area_between};
-use lab_array::{Held, State};
+use crate::held::{Held, State};
 use page_layout::geometry::Geometry;
 use std::io::{self, Write};
 

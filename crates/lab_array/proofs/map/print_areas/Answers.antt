@@ -2,9 +2,9 @@ use Rattle.std.proofs.Common.{◌≡◌, ℕ, map, sym, subst, arith}
 use Rattle.std.specs.Io.KnownBytes.{Appends}
 use Rattle.std.proofs.KnownBytes.{Appends-trans}
 use Rattle.lab_array.specs.Held.{state_in}
-use Rattle.lab_map.specs.Map.{areas_below}
-use Rattle.lab_map.proofs.MapLemmas.{below_more, below_none, first_zero}
-use Rattle.lab_map.proofs.map.print_areas.Goals as goal
+use Rattle.lab_array.specs.Map.{areas_below}
+use Rattle.lab_array.proofs.MapLemmas.{below_more, below_none, first_zero}
+use Rattle.lab_array.proofs.map.print_areas.Goals as goal
 
 pub loop-sector-init : goal.loop-sector-init
 loop-sector-init g c =

@@ -2,9 +2,9 @@ use Rattle.std.proofs.Common.{◌≡◌, ℕ, OnOk, length, map, sym, subst, ◌
 use Rattle.std.specs.Io.KnownBytes.{Appends}
 use Rattle.std.proofs.lemmas.List.{length-map}
 use Rattle.lab_array.specs.Held.{state_in}
-use Rattle.lab_map.specs.Map.{areas_below}
-use Rattle.lab_map.proofs.MapLemmas.{then_last}
-use Rattle.lab_map.proofs.map.print_map.Goals as goal
+use Rattle.lab_array.specs.Map.{areas_below}
+use Rattle.lab_array.proofs.MapLemmas.{then_last}
+use Rattle.lab_array.proofs.map.print_map.Goals as goal
 
 pub returns : goal.returns
 returns g c =
