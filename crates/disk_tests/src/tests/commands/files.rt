@@ -74,6 +74,14 @@ impl MemoryFiles {
     }
 }
 
+// The dump. A caller's proof need not know its bytes.
+fn dump_bytes(alloc: Global) -> Result<Vec<u8>, FileFault> {
+    match vec![in alloc; 0xFF; DUMP_BYTES] {
+        Ok(bytes) => Ok(bytes),
+        Err(_) => Err(FileFault::OutOfMemory),
+    }
+}
+
 // A copy of bytes.
 fn copied(alloc: Global, bytes: &[u8]) -> Result<Vec<u8>, FileFault> {
     let mut copy = Vec::new(alloc);
@@ -197,10 +205,10 @@ impl DiskFiles for MemoryFiles {
         if dump != "dump" {
             return Err(FileFault::Read);
         }
-        let Ok(pages) = vec![in alloc; 0xFF; DUMP_BYTES] else {
-            return Err(FileFault::OutOfMemory);
-        };
-        store_of(geometry, pages)
+        match dump_bytes(alloc) {
+            Ok(pages) => store_of(geometry, pages),
+            Err(fault) => Err(fault),
+        }
     }
 
     fn keep(&mut self, path: &str, store: MemoryStore, text: &[u8]) -> Result<(), FileFault> {
