@@ -12,7 +12,7 @@ const FORCED: &str = "nandlab array 64,32,8,32,32 dump.bin out.bin --force";
 const SURE: &str = "unsound 0: the array is that of every page that was programmed\n";
 
 // The newest pages first: a sector twice, one that is trimmed, one in the last row.
-const PAGES: &[Written] = &[
+const PAGES: [Written; 6] = [
     TABLE_0,
     TABLE_1,
     page!(8, Sector 3, sequence 9, fill 0x33),
@@ -23,7 +23,7 @@ const PAGES: &[Written] = &[
 
 const SHOWN: Made = Made::Disk(&[(3, 0x33), (31, 0x99)]);
 
-const TIED: &[Written] = &[
+const TIED: [Written; 5] = [
     page!(8, Sector 3, sequence 9, fill 0x33),
     page!(9, Sector 3, sequence 9, fill 0x34),
     page!(10, Sector 0, sequence 6, fill 0x10),
@@ -32,7 +32,7 @@ const TIED: &[Written] = &[
 ];
 
 // OUT is there already, and is replaced where that is asked for; the dump never is.
-const OTHERS: &[Step] = &[
+const OTHERS: [Step; 8] = [
     Step::Run(ARRAY, 1, "refused out 2 Exists\n"),
     Step::Holds("out.bin", Made::Text("other")),
     Step::Run(FORCED, 0, SURE),
@@ -52,11 +52,11 @@ const OTHERS: &[Step] = &[
         1,
         "refused out 2 Exists\n",
     ),
-    Step::Holds("dump.bin", Made::Dump(PAGES)),
+    Step::Holds("dump.bin", Made::Dump(&PAGES)),
 ];
 
 // A read in pieces changes nothing; each failure has its line, and leaves no file.
-const TROUBLES: &[Step] = &[
+const TROUBLES: [Step; 20] = [
     Step::Trouble(Trouble::ReadsEnd(24575)),
     Step::Run(ARRAY, 3, "fault read dump.bin\n"),
     Step::Trouble(Trouble::ReadsEnd(0)),
@@ -79,7 +79,7 @@ const TROUBLES: &[Step] = &[
     Step::Trouble(Trouble::Calm),
 ];
 
-const PIECES: &[Step] = &[
+const PIECES: [Step; 4] = [
     Step::Trouble(Trouble::Pieces(7)),
     Step::Run(ARRAY, 0, SURE),
     Step::Holds("out.bin", SHOWN),
@@ -87,7 +87,7 @@ const PIECES: &[Step] = &[
 ];
 
 // Where several faults hold, the first is told. Here there is no dump.
-const FIRST: &[Step] = &[
+const FIRST: [Step; 5] = [
     Step::Run(
         "nandlab array 63,32,8,32 dump.bin out.bin",
         2,
@@ -114,15 +114,15 @@ const DOCUMENT: &str = r#"[{"command":"array","line":"command","program":"nandla
 ]
 "#;
 
-const CASES: &[Case] = &[
+const CASES: [Case; 8] = [
     Case {
         name: "sectors",
-        files: &[("dump.bin", Made::Dump(PAGES))],
+        files: &[("dump.bin", Made::Dump(&PAGES))],
         steps: &[Step::Run(ARRAY, 0, SURE), Step::Holds("out.bin", SHOWN)],
     },
     Case {
         name: "ties",
-        files: &[("dump.bin", Made::Dump(TIED))],
+        files: &[("dump.bin", Made::Dump(&TIED))],
         steps: &[
             Step::Run(
                 ARRAY,
@@ -140,7 +140,7 @@ const CASES: &[Case] = &[
     // the newest page of sector 3 is lost, and so is an erased one
     Case {
         name: "unsound pages",
-        files: &[("dump.bin", Made::Changed(PAGES, &[(768, 0), (9600, 0)]))],
+        files: &[("dump.bin", Made::Changed(&PAGES, &[(768, 0), (9600, 0)]))],
         steps: &[
             Step::Run(
                 ARRAY,
@@ -153,8 +153,8 @@ const CASES: &[Case] = &[
     Case {
         name: "lengths",
         files: &[
-            ("dump.bin", Made::Cut(PAGES, 24577)),
-            ("short.bin", Made::Cut(PAGES, 24480)),
+            ("dump.bin", Made::Cut(&PAGES, 24577)),
+            ("short.bin", Made::Cut(&PAGES, 24480)),
             ("empty.bin", Made::Text("")),
         ],
         steps: &[
@@ -175,37 +175,37 @@ const CASES: &[Case] = &[
     Case {
         name: "other files",
         files: &[
-            ("dump.bin", Made::Dump(PAGES)),
+            ("dump.bin", Made::Dump(&PAGES)),
             ("out.bin", Made::Text("other")),
         ],
-        steps: OTHERS,
+        steps: &OTHERS,
     },
     Case {
         name: "failures",
-        files: &[("dump.bin", Made::Dump(PAGES))],
-        steps: TROUBLES,
+        files: &[("dump.bin", Made::Dump(&PAGES))],
+        steps: &TROUBLES,
     },
     Case {
         name: "pieces",
-        files: &[("dump.bin", Made::Dump(PAGES))],
-        steps: PIECES,
+        files: &[("dump.bin", Made::Dump(&PAGES))],
+        steps: &PIECES,
     },
     Case {
         name: "the first fault",
         files: &[("out.bin", Made::Text("other"))],
-        steps: FIRST,
+        steps: &FIRST,
     },
 ];
 
 #[test]
 fn array_writes_what_the_dump_holds(rt: HostRuntime) -> Result<(), Fail> {
-    expect_cases(&rt, rt.alloc(), CASES)
+    expect_cases(&rt, rt.alloc(), &CASES)
 }
 
 const MAPPED: &str = "nandlab array 64,32,8,32,32 dump.bin out.bin --map map";
 
 // The map beside OUT: what it holds, and each refusal of its path.
-const MAPS: &[Step] = &[
+const MAPS: [Step; 15] = [
     Step::Run(MAPPED, 0, SURE),
     Step::Holds("out.bin", SHOWN),
     Step::Holds("map", Made::Text(MAP)),
@@ -256,13 +256,13 @@ const MAPS: &[Step] = &[
 const MAP: &str =
     "# Mapfile of an array, made by nandlab\n0x0 + 1\n0x0 0xc0 ?\n0xc0 0x80 +\n0x140 0x680 ?\n0x7c0 0x40 +\n";
 
-const MAP_CASES: &[Case] = &[Case {
+const MAP_CASES: [Case; 1] = [Case {
     name: "maps",
-    files: &[("dump.bin", Made::Dump(PAGES))],
-    steps: MAPS,
+    files: &[("dump.bin", Made::Dump(&PAGES))],
+    steps: &MAPS,
 }];
 
 #[test]
 fn array_writes_its_map(rt: HostRuntime) -> Result<(), Fail> {
-    expect_cases(&rt, rt.alloc(), MAP_CASES)
+    expect_cases(&rt, rt.alloc(), &MAP_CASES)
 }

@@ -13,7 +13,7 @@ const SURE: &str = "unsound 0: the array is that of every page that was programm
 const BEFORE: Made = Made::Certificate((10, &[META, (1, 1, 3, 3, 0)], &[(3, 8), (4, 9), (5, 10)]));
 
 // Since then sector 3 was written again and its old page erased, sector 6 was written; sector 4 stands, and 5 has an older page alone.
-const SINCE: &[Written] = &[
+const SINCE: [Written; 6] = [
     TABLE_0,
     TABLE_1,
     page!(9, Sector 4, sequence 8, fill 0x44),
@@ -22,13 +22,13 @@ const SINCE: &[Written] = &[
     page!(18, Sector 5, sequence 4, fill 0x51),
 ];
 
-const LATER: &[Written] = &[
+const LATER: [Written; 3] = [
     page!(8, Sector 3, sequence 7, fill 0x33),
     page!(9, Sector 4, sequence 8, fill 0x44),
     page!(10, Sector 5, sequence 9, fill 0x55),
 ];
 
-const TROUBLES: &[Step] = &[
+const TROUBLES: [Step; 13] = [
     Step::Trouble(Trouble::ReadsEnd(471)),
     Step::Run(COMPARE, 3, "fault read cert.bin\n"),
     Step::Trouble(Trouble::Ends(471)),
@@ -50,10 +50,10 @@ const DOCUMENT: &str = r#"[{"command":"compare","line":"command","program":"nand
 ]
 "#;
 
-const CASES: &[Case] = &[
+const CASES: [Case; 3] = [
     Case {
         name: "since",
-        files: &[("cert.bin", BEFORE), ("dump.bin", Made::Dump(SINCE))],
+        files: &[("cert.bin", BEFORE), ("dump.bin", Made::Dump(&SINCE))],
         steps: &[
             Step::Run(
                 COMPARE,
@@ -69,12 +69,12 @@ const CASES: &[Case] = &[
     },
     Case {
         name: "failures",
-        files: &[("cert.bin", BEFORE), ("dump.bin", Made::Dump(LATER))],
-        steps: TROUBLES,
+        files: &[("cert.bin", BEFORE), ("dump.bin", Made::Dump(&LATER))],
+        steps: &TROUBLES,
     },
     Case {
         name: "refusals",
-        files: &[("cert.bin", BEFORE), ("dump.bin", Made::Dump(LATER))],
+        files: &[("cert.bin", BEFORE), ("dump.bin", Made::Dump(&LATER))],
         steps: &[
             Step::Run(
                 "nandlab compare 64,32,8,32 cert.bin dump.bin",
@@ -112,5 +112,5 @@ const CASES: &[Case] = &[
 
 #[test]
 fn compare_tells_what_was_lost(rt: HostRuntime) -> Result<(), Fail> {
-    expect_cases(&rt, rt.alloc(), CASES)
+    expect_cases(&rt, rt.alloc(), &CASES)
 }

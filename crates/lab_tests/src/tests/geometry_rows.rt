@@ -7,7 +7,7 @@ use test_images::{TABLE_0, TABLE_1, Written, page};
 
 const GEOMETRY: &str = "nandlab geometry dump.bin";
 
-const PAGES: &[Written] = &[
+const PAGES: [Written; 4] = [
     TABLE_0,
     TABLE_1,
     page!(9, Sector 3, sequence 5, fill 0x31),
@@ -27,7 +27,7 @@ const DOCUMENT: &str = r#"[{"command":"geometry","line":"command","program":"nan
 ]
 "#;
 
-const TROUBLES: &[Step] = &[
+const TROUBLES: [Step; 9] = [
     Step::Trouble(Trouble::ReadsEnd(24575)),
     Step::Run(GEOMETRY, 3, "fault read dump.bin\n"),
     Step::Trouble(Trouble::NoMemory),
@@ -51,10 +51,10 @@ const TROUBLES: &[Step] = &[
     ),
 ];
 
-const CASES: &[Case] = &[
+const CASES: [Case; 2] = [
     Case {
         name: "the shapes",
-        files: &[("dump.bin", Made::Changed(PAGES, &[(1632, 0)]))],
+        files: &[("dump.bin", Made::Changed(&PAGES, &[(1632, 0)]))],
         steps: &[
             Step::Run(GEOMETRY, 0, TOLD),
             Step::Run("nandlab geometry --json dump.bin --progress", 0, DOCUMENT),
@@ -64,15 +64,15 @@ const CASES: &[Case] = &[
     Case {
         name: "refusals",
         files: &[
-            ("dump.bin", Made::Dump(PAGES)),
+            ("dump.bin", Made::Dump(&PAGES)),
             ("empty.bin", Made::Text("")),
             ("erased.bin", Made::Dump(&[])),
         ],
-        steps: TROUBLES,
+        steps: &TROUBLES,
     },
 ];
 
 #[test]
 fn geometry_tells_the_shapes(rt: HostRuntime) -> Result<(), Fail> {
-    expect_cases(&rt, rt.alloc(), CASES)
+    expect_cases(&rt, rt.alloc(), &CASES)
 }

@@ -11,7 +11,7 @@ const TWO: &str = "nandlab merge 64,32,8,32,32 out.bin a.bin b.bin";
 
 const FORCED: &str = "nandlab merge 64,32,8,32,32 out.bin a.bin b.bin --force";
 
-const PAGES: &[Written] = &[
+const PAGES: [Written; 4] = [
     TABLE_0,
     TABLE_1,
     page!(9, Sector 3, sequence 5, fill 0x31),
@@ -19,7 +19,7 @@ const PAGES: &[Written] = &[
 ];
 
 // Another page in row 17.
-const OTHERS: &[Written] = &[
+const OTHERS: [Written; 4] = [
     TABLE_0,
     TABLE_1,
     page!(9, Sector 3, sequence 5, fill 0x31),
@@ -27,26 +27,26 @@ const OTHERS: &[Written] = &[
 ];
 
 // Row 0 is sound in the second alone, row 9 in none, but by the majority of all three; row 20 is erased in the second alone.
-const A: Made = Made::Changed(PAGES, &[(5, 0x03), (866, 0x00), (1920, 0x00)]);
+const A: Made = Made::Changed(&PAGES, &[(5, 0x03), (866, 0x00), (1920, 0x00)]);
 
-const B: Made = Made::Changed(PAGES, &[(870, 0x00)]);
+const B: Made = Made::Changed(&PAGES, &[(870, 0x00)]);
 
-const C: Made = Made::Changed(PAGES, &[(6, 0x03), (880, 0x00), (1925, 0x00)]);
+const C: Made = Made::Changed(&PAGES, &[(6, 0x03), (880, 0x00), (1925, 0x00)]);
 
 // Row 1 is sound in none, but by the majority; row 9 in the second alone; row 20 is erased in the third alone; and the majority of row 21 is erased, not sound.
 const FIRST: Made = Made::Changed(
-    PAGES,
+    &PAGES,
     &[(103, 0x03), (871, 0x03), (1920, 0x00), (2016, 0x00)],
 );
 
-const SECOND: Made = Made::Changed(OTHERS, &[(105, 0x03), (1923, 0x07), (2019, 0x07)]);
+const SECOND: Made = Made::Changed(&OTHERS, &[(105, 0x03), (1923, 0x07), (2019, 0x07)]);
 
-const THIRD: Made = Made::Changed(PAGES, &[(107, 0x03), (871, 0x03), (2106, 0x07)]);
+const THIRD: Made = Made::Changed(&PAGES, &[(107, 0x03), (871, 0x03), (2106, 0x07)]);
 
 const EACH: &str =
     "differ row 17\nunsound row 21\nsound 2 differ 1 majority 1 erased 251 unsound 1\n";
 
-const TROUBLES: &[Step] = &[
+const TROUBLES: [Step; 17] = [
     Step::Trouble(Trouble::ReadsEnd(24575)),
     Step::Run(TWO, 3, "fault read a.bin\n"),
     Step::Trouble(Trouble::Ends(96)),
@@ -66,7 +66,7 @@ const TROUBLES: &[Step] = &[
     Step::Lacks("out.bin"),
 ];
 
-const WORDS: &[Step] = &[
+const WORDS: [Step; 10] = [
     Step::Run(TWO, 1, "refused out 2 Exists\n"),
     Step::Run(
         "nandlab merge 64,32,8,32,32 b.bin a.bin ./b.bin --force",
@@ -109,7 +109,7 @@ const DOCUMENT: &str = r#"[{"command":"merge","line":"command","program":"nandla
 ]
 "#;
 
-const CASES: &[Case] = &[
+const CASES: [Case; 5] = [
     Case {
         name: "three readings",
         files: &[("a.bin", A), ("b.bin", B), ("c.bin", C)],
@@ -119,7 +119,7 @@ const CASES: &[Case] = &[
                 0,
                 "sound 3 differ 0 majority 1 erased 252 unsound 0\n",
             ),
-            Step::Holds("out.bin", Made::Dump(PAGES)),
+            Step::Holds("out.bin", Made::Dump(&PAGES)),
         ],
     },
     // of a row that differs nothing is taken, and of one that is sound in none the first reading's page
@@ -128,12 +128,12 @@ const CASES: &[Case] = &[
         files: &[("a.bin", FIRST), ("b.bin", SECOND), ("c.bin", THIRD)],
         steps: &[
             Step::Run(THREE, 0, EACH),
-            Step::Holds("out.bin", Made::Zeroed(PAGES, 17, &[(2016, 0x00)])),
+            Step::Holds("out.bin", Made::Zeroed(&PAGES, 17, &[(2016, 0x00)])),
         ],
     },
     Case {
         name: "two that differ",
-        files: &[("a.bin", A), ("b.bin", Made::Dump(OTHERS))],
+        files: &[("a.bin", A), ("b.bin", Made::Dump(&OTHERS))],
         steps: &[
             Step::Trouble(Trouble::Pieces(31)),
             Step::Run(
@@ -151,7 +151,7 @@ const CASES: &[Case] = &[
     Case {
         name: "failures",
         files: &[("a.bin", A), ("b.bin", B)],
-        steps: TROUBLES,
+        steps: &TROUBLES,
     },
     Case {
         name: "other files",
@@ -159,13 +159,13 @@ const CASES: &[Case] = &[
             ("a.bin", A),
             ("b.bin", B),
             ("out.bin", Made::Text("other")),
-            ("short.bin", Made::Cut(PAGES, 24575)),
+            ("short.bin", Made::Cut(&PAGES, 24575)),
         ],
-        steps: WORDS,
+        steps: &WORDS,
     },
 ];
 
 #[test]
 fn merge_joins_readings(rt: HostRuntime) -> Result<(), Fail> {
-    expect_cases(&rt, rt.alloc(), CASES)
+    expect_cases(&rt, rt.alloc(), &CASES)
 }

@@ -9,7 +9,7 @@ const REPAIR: &str = "nandlab repair 64,32,8,32,32 dump.bin out.bin";
 
 const FORCED: &str = "nandlab repair 64,32,8,32,32 dump.bin out.bin --force";
 
-const PAGES: &[Written] = &[
+const PAGES: [Written; 4] = [
     TABLE_0,
     TABLE_1,
     page!(9, Sector 3, sequence 5, fill 0x31),
@@ -17,13 +17,16 @@ const PAGES: &[Written] = &[
 ];
 
 // One bit of the data area of row 9, one of the sequence of row 17, two of row 0; and a page that was erased lost a bit.
-const SPOILED: Made = Made::Changed(PAGES, &[(866, 0x30), (1704, 0x06), (5, 0x03), (4800, 0xFE)]);
+const SPOILED: Made = Made::Changed(
+    &PAGES,
+    &[(866, 0x30), (1704, 0x06), (5, 0x03), (4800, 0xFE)],
+);
 
-const MENDED: Made = Made::Changed(PAGES, &[(5, 0x03), (4800, 0xFE)]);
+const MENDED: Made = Made::Changed(&PAGES, &[(5, 0x03), (4800, 0xFE)]);
 
 const SAID: &str = "mended row 9 bit 16\nmended row 17 bit 576\nmended 2\n";
 
-const ROW_9: Made = Made::Changed(PAGES, &[(1704, 0x06), (5, 0x03), (4800, 0xFE)]);
+const ROW_9: Made = Made::Changed(&PAGES, &[(1704, 0x06), (5, 0x03), (4800, 0xFE)]);
 
 const DOCUMENT: &str = r#"[{"command":"repair","line":"command","program":"nandlab"},
 {"bit":16,"line":"mended","row":9},
@@ -32,7 +35,7 @@ const DOCUMENT: &str = r#"[{"command":"repair","line":"command","program":"nandl
 ]
 "#;
 
-const ROWS: &[Step] = &[
+const ROWS: [Step; 20] = [
     Step::Run(
         "nandlab repair 64,32,8,32,32 dump.bin out.bin --rows 9..17",
         0,
@@ -103,7 +106,7 @@ const ROWS: &[Step] = &[
     Step::Closed("nandlab repair 64,32,8,32,32 dump.bin new.bin --json", 1),
 ];
 
-const TROUBLES: &[Step] = &[
+const TROUBLES: [Step; 17] = [
     Step::Trouble(Trouble::ReadsEnd(24575)),
     Step::Run(REPAIR, 3, "fault read dump.bin\n"),
     Step::Trouble(Trouble::Ends(96)),
@@ -123,7 +126,7 @@ const TROUBLES: &[Step] = &[
     Step::Lacks("out.bin"),
 ];
 
-const OTHERS: &[Step] = &[
+const OTHERS: [Step; 8] = [
     Step::Run(REPAIR, 1, "refused out 2 Exists\n"),
     Step::Run(
         "nandlab repair 64,32,8,32,32 dump.bin ./dump.bin --force",
@@ -150,7 +153,7 @@ const OTHERS: &[Step] = &[
     Step::Holds("out.bin", MENDED),
 ];
 
-const CASES: &[Case] = &[
+const CASES: [Case; 4] = [
     Case {
         name: "mends",
         files: &[("dump.bin", SPOILED)],
@@ -164,21 +167,21 @@ const CASES: &[Case] = &[
     Case {
         name: "rows",
         files: &[("dump.bin", SPOILED)],
-        steps: ROWS,
+        steps: &ROWS,
     },
     Case {
         name: "failures",
         files: &[("dump.bin", SPOILED)],
-        steps: TROUBLES,
+        steps: &TROUBLES,
     },
     Case {
         name: "other files",
         files: &[("dump.bin", SPOILED), ("out.bin", Made::Text("other"))],
-        steps: OTHERS,
+        steps: &OTHERS,
     },
 ];
 
 #[test]
 fn repair_mends_one_bit(rt: HostRuntime) -> Result<(), Fail> {
-    expect_cases(&rt, rt.alloc(), CASES)
+    expect_cases(&rt, rt.alloc(), &CASES)
 }

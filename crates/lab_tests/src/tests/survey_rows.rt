@@ -8,7 +8,7 @@ use test_images::{TABLE_0, Written, page};
 const SURVEY: &str = "nandlab survey 64,32,8,32,32 dump.bin";
 
 // A sector that the die has not, a sequence that two pages share, one that none follows, no second table page.
-const PAGES: &[Written] = &[
+const PAGES: [Written; 5] = [
     TABLE_0,
     page!(8, Sector 32, sequence 9, fill 0x33),
     page!(9, Sector 3, sequence 5, fill 0x31),
@@ -91,10 +91,10 @@ block 21 unsound 0\nblock 22 unsound 0\nblock 23 unsound 0\nblock 24 unsound 0\n
 block 28 unsound 0\nblock 29 unsound 0\nblock 30 unsound 0\nblock 31 unsound 0
 unsound 1: at most 1 sectors may be older than the last write\n";
 
-const CASES: &[Case] = &[
+const CASES: [Case; 2] = [
     Case {
         name: "reasons",
-        files: &[("dump.bin", Made::Changed(PAGES, &[(1600, 0)]))],
+        files: &[("dump.bin", Made::Changed(&PAGES, &[(1600, 0)]))],
         steps: &[
             Step::Run(SURVEY, 0, TOLD),
             Step::Trouble(Trouble::Pieces(13)),
@@ -106,7 +106,7 @@ const CASES: &[Case] = &[
     },
     Case {
         name: "refusals",
-        files: &[("dump.bin", Made::Dump(PAGES))],
+        files: &[("dump.bin", Made::Dump(&PAGES))],
         steps: &[
             Step::Run(
                 "nandlab survey 64,32,8,32,x dump.bin",
@@ -150,5 +150,5 @@ const CASES: &[Case] = &[
 
 #[test]
 fn survey_tells_what_the_dump_holds(rt: HostRuntime) -> Result<(), Fail> {
-    expect_cases(&rt, rt.alloc(), CASES)
+    expect_cases(&rt, rt.alloc(), &CASES)
 }

@@ -5,7 +5,7 @@ use std::test::Fail;
 
 const NONE: &str = "usage: no such command\n";
 
-const CASES: &[Case] = &[Case {
+const CASES: [Case; 1] = [Case {
     name: "words",
     files: &[("dump.bin", Made::Dump(&[]))],
     steps: &[
@@ -38,5 +38,5 @@ const CASES: &[Case] = &[Case {
 
 #[test]
 fn words_are_those_of_the_program(rt: HostRuntime) -> Result<(), Fail> {
-    expect_cases(&rt, rt.alloc(), CASES)
+    expect_cases(&rt, rt.alloc(), &CASES)
 }

@@ -4,9 +4,9 @@ ghost use Rattle.std.specs.Prelude.{◌≡◌};
 use crate::tests::steps::{Answer, Step, does_all};
 use device_bench::bench::{driver_on, formatted_die, mounted, small};
 use device_disk::{DeviceDisk, open_checked};
-use nand_die::{Die, Stop};
+use nand_die::Stop;
 use nbd_stream::DiskFault;
-use onfi_cycles::{Driver, Nand};
+use onfi_cycles::Nand;
 use page_layout::geometry::Geometry;
 use sector_disk::{SectorDisk, Sectors};
 use std::alloc::Global;
@@ -103,7 +103,7 @@ fn over<S: Sectors + Drop>(alloc: Global, sectors: S) -> Result<SectorDisk<S>, F
 }
 
 // The disk of the device on a die that is mounted and checked, with a cache of so many sectors.
-fn disk_on<N: Nand + Drop>(
+pub fn disk_on<N: Nand + Drop>(
     alloc: Global,
     mut nand: N,
     geometry: &Geometry,
@@ -118,22 +118,12 @@ fn disk_on<N: Nand + Drop>(
     }
 }
 
-// The disk of the device on a new formatted die, of which these programs and erases fail, and which stops at one of them, with a cache of so many sectors.
-pub fn new_disk(
-    alloc: Global,
-    failing: &[u16],
-    stop: u64,
-    capacity: u32,
-) -> Result<SectorDisk<DeviceDisk<Driver<Die>>>, Fail> {
-    let geometry = small()?;
-    let mut die = formatted_die(alloc, geometry, failing, 0)?.into_bus();
-    die.set_stop(stop, Stop::Before)?;
-    disk_on(alloc, driver_on(die, geometry)?, &geometry, capacity)
-}
-
 // Whether a disk over a new die does all of a row.
 fn holds_row(alloc: Global, row: &Row) -> Result<bool, Fail> {
-    let mut disk = new_disk(alloc, row.failing, row.stop, 4)?;
+    let geometry = small()?;
+    let mut die = formatted_die(alloc, geometry, row.failing, 0)?.into_bus();
+    die.set_stop(row.stop, Stop::Before)?;
+    let mut disk = disk_on(alloc, driver_on(die, geometry)?, &geometry, 4)?;
     Ok(disk.bytes() == SIZE && does_all(&mut disk, SIZE, row.steps))
 }
 

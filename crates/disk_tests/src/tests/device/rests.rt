@@ -1,9 +1,11 @@
 // Transmissions of disks over devices on dies in memory: the device has a turn after each change.
 ghost use Rattle.std.specs.Prelude.{◌≡◌, length};
 
-use super::disks::new_disk;
+use super::disks::disk_on;
+use device_bench::bench::{driver_on, formatted_die, small};
 use device_bench::cases::erases_of;
 use device_disk::DeviceDisk;
+use nand_die::Stop;
 use nbd_stream::{Disk, End, Export, transmit};
 use onfi_cycles::Nand;
 use sector_disk::SectorDisk;
@@ -104,7 +106,10 @@ fn is_left<N: Nand + Drop>(
 
 // Whether a transmission of a disk over a new die is as its row says.
 fn holds_row(alloc: Global, row: &Row) -> Result<bool, Fail> {
-    let mut disk = new_disk(alloc, &[], row.stop, 32)?;
+    let geometry = small()?;
+    let mut die = formatted_die(alloc, geometry, &[], 0)?.into_bus();
+    die.set_stop(row.stop, Stop::Before)?;
+    let mut disk = disk_on(alloc, driver_on(die, geometry)?, &geometry, 32)?;
     let mut out = Vec::new(alloc);
     let served = disk.bytes() == SIZE && fill(&mut disk) && serves(&mut disk, row.input, &mut out);
     Ok(served && out.as_slice() == row.output && is_left(disk, row.left)?)
