@@ -1,12 +1,12 @@
 // Disks over devices on dies in memory.
-ghost use Rattle.std.specs.Prelude.{◌≡◌};
+ghost use Rattle.std.specs.Prelude.{◌≡◌, IfOk};
 
 use crate::tests::steps::{Answer, Step, does_all};
 use device_bench::bench::{driver_on, formatted_die, mounted, small};
 use device_disk::{DeviceDisk, open_checked};
-use nand_die::Stop;
+use nand_die::{Die, Stop};
 use nbd_stream::DiskFault;
-use onfi_cycles::Nand;
+use onfi_cycles::{Driver, Nand};
 use page_layout::geometry::Geometry;
 use sector_disk::{SectorDisk, Sectors};
 use std::alloc::Global;
@@ -95,36 +95,55 @@ const ROWS: &[Row] = &[
 ];
 
 // The disk of bytes over a device of sectors.
-fn over<S: Sectors + Drop>(alloc: Global, sectors: S) -> Result<SectorDisk<S>, Fail> {
+pub fn over<S: Sectors + Drop>(alloc: Global, sectors: S) -> Result<SectorDisk<S>, Fail> {
     match SectorDisk::new(alloc, sectors) {
         Ok(disk) => Ok(disk),
         Err(_) => Err("no memory")?,
     }
 }
 
-// The disk of the device on a die that is mounted and checked, with a cache of so many sectors.
-pub fn disk_on<N: Nand + Drop>(
+// The device on a die that is mounted and checked, with a cache of so many sectors.
+pub fn device_on<N: Nand + Drop>(
     alloc: Global,
     mut nand: N,
     geometry: &Geometry,
     capacity: u32,
-) -> Result<SectorDisk<DeviceDisk<N>>, Fail>
+) -> Result<DeviceDisk<N>, Fail>
     requires { (N.flash nand).geometry ≡ geometry.now }
 {
     let certificate = mounted(alloc, &mut nand, geometry, capacity)?;
     match open_checked(alloc, nand, geometry, capacity, &certificate) {
-        Ok(disk) => over(alloc, disk),
+        Ok(device) => Ok(device),
         Err(_) => Err("not opened")?,
     }
+}
+
+// A die, formatted, of which these programs and erases fail, and which stops at one of them; 0 for none.
+pub fn die_of(
+    alloc: Global,
+    geometry: Geometry,
+    failing: &[u16],
+    stop: u64,
+) -> Result<Driver<Die>, Fail>
+    ensures { IfOk result (λ driver. driver.geometry ≡ geometry) }
+{
+    let mut die = formatted_die(alloc, geometry, failing, 0)?.into_bus();
+    die.set_stop(stop, Stop::Before)?;
+    driver_on(die, geometry)
+}
+
+// Whether a disk over sectors does all steps.
+fn does_steps<S: Sectors + Drop>(alloc: Global, sectors: S, steps: &[Step]) -> Result<bool, Fail> {
+    let mut disk = over(alloc, sectors)?;
+    Ok(disk.bytes() == SIZE && does_all(&mut disk, SIZE, steps))
 }
 
 // Whether a disk over a new die does all of a row.
 fn holds_row(alloc: Global, row: &Row) -> Result<bool, Fail> {
     let geometry = small()?;
-    let mut die = formatted_die(alloc, geometry, row.failing, 0)?.into_bus();
-    die.set_stop(row.stop, Stop::Before)?;
-    let mut disk = disk_on(alloc, driver_on(die, geometry)?, &geometry, 4)?;
-    Ok(disk.bytes() == SIZE && does_all(&mut disk, SIZE, row.steps))
+    let die = die_of(alloc, geometry, row.failing, row.stop)?;
+    let device = device_on(alloc, die, &geometry, 4)?;
+    does_steps(alloc, device, row.steps)
 }
 
 #[test]

@@ -1,14 +1,13 @@
 // Transmissions of disks over devices on dies in memory: the device has a turn after each change.
 ghost use Rattle.std.specs.Prelude.{◌≡◌, length};
 
-use super::disks::disk_on;
-use device_bench::bench::{driver_on, formatted_die, small};
+use super::disks::{device_on, die_of, over};
+use device_bench::bench::small;
 use device_bench::cases::erases_of;
 use device_disk::DeviceDisk;
-use nand_die::Stop;
 use nbd_stream::{Disk, End, Export, transmit};
 use onfi_cycles::Nand;
-use sector_disk::SectorDisk;
+use sector_disk::Sectors;
 use std::alloc::Global;
 use std::test::Fail;
 
@@ -91,28 +90,35 @@ fn serves<D: Disk>(disk: &mut D, mut input: &[u8], out: &mut Vec<u8>) -> bool
     requires { length (D.contents disk.old).bytes ≡ 2048 }
 {
     let mut buffer = [0; SECTOR];
-    transmit(&mut input, out, disk, &EXPORT, &mut buffer) == Ok(End::Boundary)
+    matches!(
+        transmit(&mut input, out, disk, &EXPORT, &mut buffer),
+        Ok(End::Boundary)
+    )
 }
 
-// Whether the device has what a row says.
-fn is_left<N: Nand + Drop>(
-    disk: SectorDisk<DeviceDisk<N>>,
-    left: Option<(u32, u32)>,
-) -> Result<bool, Fail> {
-    let engine = disk.into_sectors().into_device().into_engine();
-    let found = (engine.blocks.free(), erases_of(&engine.blocks)?);
+// Whether so many blocks of a device are free, and so many erases were done; any, where none are said.
+fn is_left<N: Nand + Drop>(sectors: DeviceDisk<N>, left: Option<(u32, u32)>) -> Result<bool, Fail> {
+    let device = sectors.into_device();
+    let blocks = &device.engine.blocks;
+    let found = (blocks.free(), erases_of(blocks)?);
     Ok(left.is_none() || left == Some(found))
 }
 
-// Whether a transmission of a disk over a new die is as its row says.
-fn holds_row(alloc: Global, row: &Row) -> Result<bool, Fail> {
-    let geometry = small()?;
-    let mut die = formatted_die(alloc, geometry, &[], 0)?.into_bus();
-    die.set_stop(row.stop, Stop::Before)?;
-    let mut disk = disk_on(alloc, driver_on(die, geometry)?, &geometry, 32)?;
+// Whether a transmission of a disk over sectors is as its row says, and the sectors.
+fn transmits<S: Sectors + Drop>(alloc: Global, sectors: S, row: &Row) -> Result<(bool, S), Fail> {
+    let mut disk = over(alloc, sectors)?;
     let mut out = Vec::new(alloc);
     let served = disk.bytes() == SIZE && fill(&mut disk) && serves(&mut disk, row.input, &mut out);
-    Ok(served && out.as_slice() == row.output && is_left(disk, row.left)?)
+    let same = out.as_slice() == row.output;
+    Ok((served && same, disk.into_sectors()))
+}
+
+// Whether one of a disk over a new die is, and its device has then what the row says.
+fn holds_row(alloc: Global, row: &Row) -> Result<bool, Fail> {
+    let geometry = small()?;
+    let die = die_of(alloc, geometry, &[], row.stop)?;
+    let (served, device) = transmits(alloc, device_on(alloc, die, &geometry, 32)?, row)?;
+    Ok(is_left(device, row.left)? && served)
 }
 
 #[test]
