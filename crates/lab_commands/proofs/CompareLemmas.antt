@@ -14,7 +14,7 @@ use Rattle.lab_commands.specs.declared.text.LabFault.TheVariants as fault
 use Rattle.lab_commands.specs.Files.{Answers, AnswersNoMore, Kept}
 use Rattle.lab_commands.specs.Undone.{IsGeometryAt, IsNoGeometry, IsUnread}
 use Rattle.lab_commands.specs.Compare.{HasNone, IsBroken, IsCertificateAt, IsCompareFault, IsUnheld, looked_at}
-use Rattle.lab_compare.specs.declared.compare.Compared.{Compared}
+use Rattle.lab_array.specs.declared.compare.Compared.{Compared}
 use Rattle.lab_commands.specs.Compare.{IsCompared}
 use Rattle.lab_commands.proofs.UndoneLemmas.{left_all, opened_before, opens_before, unread_before, untaken_before}
 

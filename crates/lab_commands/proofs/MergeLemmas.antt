@@ -4,10 +4,10 @@ use Rattle.std.proofs.lemmas.Bool.{cases_eq}
 use Rattle.std.proofs.lemmas.List.{get_or-map, get_or_append_left, get_or_push, length-map, length_push, map-append}
 use Rattle.std.specs.Borrow.{Bor}
 use Rattle.page_layout.specs.declared.geometry.Geometry.{Geometry}
-use Rattle.lab_merge.specs.declared.merge.MergeFault.{MergeFault}
-use Rattle.lab_merge.specs.declared.merge.MergeFault.TheVariants as merge
-use Rattle.lab_merge.specs.InStep.{Tell}
-use Rattle.lab_merge.specs.Merged.{IsOfReading, IsUnmerged}
+use Rattle.lab_mend.specs.declared.merge.MergeFault.{MergeFault}
+use Rattle.lab_mend.specs.declared.merge.MergeFault.TheVariants as merge
+use Rattle.lab_mend.specs.InStep.{Tell}
+use Rattle.lab_mend.specs.Merged.{IsOfReading, IsUnmerged}
 use Rattle.lab_words.specs.declared.words.MergeWords.{MergeWords}
 use Rattle.program_words.specs.Met.{texts}
 use Rattle.lab_commands.specs.declared.text.LabFault.{LabFault}

@@ -9,7 +9,7 @@ use crate::opening::{geometry_at, open_file, progress_of};
 use crate::printing::{printer, unprinted};
 use crate::text::LabFault;
 use certificate::{Certificate, read_certificate};
-use lab_compare::{CompareFault, Compared, compare_dump};
+use lab_array::{CompareFault, Compared, compare_dump};
 use lab_report::print_compared;
 use lab_words::{CompareWords, Showing};
 use page_layout::geometry::Geometry;

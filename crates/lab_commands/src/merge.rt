@@ -1,6 +1,6 @@
 //! The command `merge GEOM OUT DUMP DUMP..`.
 ghost use Rattle.std.specs.Prelude.{◌≡◌, ◌<◌, ℕ, List, [], get_or, length, map, OnOk, IfOk, IfErr};
-ghost use Rattle.lab_merge.specs.Merged.{IsOfReading};
+ghost use Rattle.lab_mend.specs.Merged.{IsOfReading};
 ghost use Rattle.program_words.specs.Met.{texts};
 ghost use Rattle.lab_commands.specs.Files.{AnswersNoMore};
 ghost use Rattle.lab_commands.specs.Merge.{AreOpened, HasSame, IsJoined, IsMergeFault, IsSomeUnread, IsUnjoined, IsUnopened, MayMerge, MayNotMerge, TellsFault, WroteMerge};
@@ -12,7 +12,7 @@ use crate::opening::{
 };
 use crate::printing::{printer, unprinted};
 use crate::text::LabFault;
-use lab_merge::{MergeFault, Merged, merge_dumps};
+use lab_mend::{MergeFault, Merged, merge_dumps};
 use lab_report::print_merged;
 use lab_words::MergeWords;
 use page_layout::geometry::Geometry;

@@ -9,7 +9,7 @@ use crate::opening::{allow, create_pages, geometry_at, keep_pages, open_file, pr
 use crate::printing::{printer, unprinted};
 use crate::rows::rows_at;
 use crate::text::LabFault;
-use lab_repair::{RepairFault, Repaired, repair_dump};
+use lab_mend::{RepairFault, Repaired, repair_dump};
 use lab_report::print_repaired;
 use lab_scan::Rows;
 use lab_words::RepairWords;

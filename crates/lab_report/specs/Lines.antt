@@ -7,7 +7,7 @@ use Rattle.lab_array.specs.declared.held.State.TheVariants as state
 use Rattle.lab_geometry.specs.declared.fit.Fit.{Fit}
 use Rattle.lab_geometry.specs.declared.fit.TableSays.{TableSays}
 use Rattle.lab_geometry.specs.declared.fit.TableSays.TheVariants.{Agrees, Silent, Differs}
-use Rattle.lab_merge.specs.declared.merging.Tally.{Tally}
+use Rattle.lab_mend.specs.declared.merging.Tally.{Tally}
 use Rattle.lab_report.specs.declared.lines.Label.{Label}
 use Rattle.lab_report.specs.declared.lines.Label.TheVariants as label
 use Rattle.lab_report.specs.declared.lines.Sort.{Sort}

@@ -5,10 +5,10 @@ use Rattle.page_layout.specs.Geometry.{translation_pages, table_pages}
 use Rattle.certificate.specs.declared.block_state.BlockState.{BlockState}
 use Rattle.lab_array.specs.declared.held.State.{State}
 use Rattle.lab_array.specs.declared.held.State.TheVariants as state
-use Rattle.lab_compare.specs.declared.compare.Compared.{Compared}
+use Rattle.lab_array.specs.declared.compare.Compared.{Compared}
 use Rattle.lab_geometry.specs.declared.fit.Fit.{Fit}
-use Rattle.lab_merge.specs.declared.merging.Tally.{Tally}
-use Rattle.lab_repair.specs.declared.repairing.Mend.{Mend}
+use Rattle.lab_mend.specs.declared.merging.Tally.{Tally}
+use Rattle.lab_mend.specs.declared.repairing.Mend.{Mend}
 use Rattle.lab_survey.specs.declared.survey.DieSurvey.{DieSurvey}
 use Rattle.lab_report.specs.declared.lines.Label.{Label}
 use Rattle.lab_report.specs.declared.lines.Label.TheVariants as label

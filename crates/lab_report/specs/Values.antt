@@ -4,7 +4,7 @@ use Rattle.serde_json.specs.Data.{Data, Members, number, unsigned, string, array
 use Rattle.serde_json.specs.View.{items_of}
 use Rattle.certificate.specs.declared.block_state.BlockState.{BlockState}
 use Rattle.lab_geometry.specs.declared.fit.Fit.{Fit}
-use Rattle.lab_merge.specs.declared.merging.Tally.{Tally}
+use Rattle.lab_mend.specs.declared.merging.Tally.{Tally}
 use Rattle.lab_report.specs.declared.lines.Label.{Label}
 use Rattle.lab_report.specs.declared.lines.Sort.{Sort}
 use Rattle.lab_report.specs.declared.lines.Line.{Line}

@@ -6,7 +6,7 @@ ghost use Rattle.lab_report.specs.Lines.{block_line, class_words, key_line, labe
 use certificate::BlockState;
 use lab_array::State;
 use lab_geometry::{Fit, TableSays};
-use lab_merge::Tally;
+use lab_mend::Tally;
 use std::fmt;
 
 /// What a page is of.

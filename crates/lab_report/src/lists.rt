@@ -8,7 +8,7 @@ use crate::lines::{Label, Line, block_line, key_line, lost_line, table_line, tie
 use certificate::BlockState;
 use lab_array::{Held, State};
 use lab_geometry::Fit;
-use lab_repair::Mend;
+use lab_mend::Mend;
 use lab_survey::DieSurvey;
 
 /// Lines, one for each number below their count, or none for a number that has nothing to say.

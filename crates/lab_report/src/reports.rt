@@ -7,11 +7,9 @@ ghost use Rattle.lab_report.specs.Reports.{array_text, blocks_text, compare_text
 use crate::lines::{Label, Line, Sort, last_line, outside_line, repeated_line};
 use crate::lists::{Blocks, Conflicts, Fits, Fixed, Keys, Losses, Mends, Tables, Ties, Unsound};
 use crate::printing::{PrintFault, Printer};
-use lab_array::{Held, State};
-use lab_compare::Compared;
+use lab_array::{Compared, Held, State};
 use lab_geometry::Fit;
-use lab_merge::Tally;
-use lab_repair::Mend;
+use lab_mend::{Mend, Tally};
 use lab_survey::DieSurvey;
 use page_layout::geometry::Geometry;
 use std::io::Write;

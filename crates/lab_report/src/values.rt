@@ -8,7 +8,7 @@ ghost use Rattle.lab_report.specs.Values.{reason_pages_data, reason_table_data, 
 use crate::lines::{Label, Line, Sort, class_text, says_text};
 use certificate::BlockState;
 use lab_geometry::Fit;
-use lab_merge::Tally;
+use lab_mend::Tally;
 use serde_json::{Map, Value, push, put};
 use std::alloc::{AllocError, Global};
 

@@ -43,27 +43,39 @@ pub fn set(bytes: &mut [u8], first: usize, count: usize, byte: u8) {
     }
 }
 
-fn dump(alloc: Global, pages: &[Written]) -> Result<Vec<u8>, Fail> {
-    let geometry = Geometry::new(64, 32, 8, 32, 32)?;
-    Ok(image_of(alloc, &geometry, pages)?)
-}
-
-fn changed(alloc: Global, pages: &[Written], changes: Changes) -> Result<Vec<u8>, Fail> {
-    let mut bytes = dump(alloc, pages)?;
+/// A dump of these pages, with other bytes in these places.
+pub fn changed(
+    alloc: Global,
+    geometry: &Geometry,
+    pages: &[Written],
+    changes: &[(usize, u8)],
+) -> Result<Vec<u8>, Fail> {
+    let mut bytes = image_of(alloc, geometry, pages)?;
     for (at, byte) in changes {
         *bytes.get_mut(*at).ok_or("no such byte")? = *byte;
     }
     Ok(bytes)
 }
 
-fn zeroed(alloc: Global, pages: &[Written], row: usize, changes: Changes) -> Result<Vec<u8>, Fail> {
-    let mut bytes = changed(alloc, pages, changes)?;
+fn zeroed(
+    alloc: Global,
+    geometry: &Geometry,
+    pages: &[Written],
+    row: usize,
+    changes: Changes,
+) -> Result<Vec<u8>, Fail> {
+    let mut bytes = changed(alloc, geometry, pages, changes)?;
     set(&mut bytes, row.saturating_mul(PAGE), PAGE, 0);
     Ok(bytes)
 }
 
-fn cut(alloc: Global, pages: &[Written], length: usize) -> Result<Vec<u8>, Fail> {
-    let mut bytes = dump(alloc, pages)?;
+fn cut(
+    alloc: Global,
+    geometry: &Geometry,
+    pages: &[Written],
+    length: usize,
+) -> Result<Vec<u8>, Fail> {
+    let mut bytes = image_of(alloc, geometry, pages)?;
     bytes.resize(length, 0)?;
     Ok(bytes)
 }
@@ -90,12 +102,13 @@ fn certificate(alloc: Global, claimed: &Claimed) -> Result<Vec<u8>, AllocError> 
 
 /// The bytes of a file.
 pub fn bytes_of(alloc: Global, made: &Made) -> Result<Vec<u8>, Fail> {
+    let geometry = Geometry::new(64, 32, 8, 32, 32)?;
     Ok(match made {
         Made::Text(text) => Vec::from_slice(alloc, text.as_bytes())?,
-        Made::Dump(pages) => dump(alloc, pages)?,
-        Made::Changed(pages, changes) => changed(alloc, pages, changes)?,
-        Made::Zeroed(pages, row, changes) => zeroed(alloc, pages, *row, changes)?,
-        Made::Cut(pages, length) => cut(alloc, pages, *length)?,
+        Made::Dump(pages) => image_of(alloc, &geometry, pages)?,
+        Made::Changed(pages, changes) => changed(alloc, &geometry, pages, changes)?,
+        Made::Zeroed(pages, row, changes) => zeroed(alloc, &geometry, pages, *row, changes)?,
+        Made::Cut(pages, length) => cut(alloc, &geometry, pages, *length)?,
         Made::Disk(sectors) => disk(alloc, sectors)?,
         Made::Certificate(claimed) => certificate(alloc, claimed)?,
     })

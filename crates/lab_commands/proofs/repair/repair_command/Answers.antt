@@ -1,6 +1,6 @@
 use Rattle.std.proofs.Common.{inl, inr, List, ap, subst, ◌∙◌}
 use Rattle.std.specs.Io.KnownBytes.{Appends}
-use Rattle.lab_repair.specs.declared.repairing.Mend.{Mend}
+use Rattle.lab_mend.specs.declared.repairing.Mend.{Mend}
 use Rattle.lab_commands.specs.Undone.{IsUnmade}
 use Rattle.request_stream.specs.Frames.{AppendsFront}
 use Rattle.lab_report.specs.Reports.{repair_text}

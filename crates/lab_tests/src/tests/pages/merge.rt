@@ -1,7 +1,7 @@
 //! Three readings of one die, each with pages of its own that are wrong.
 use super::{PAGE, PAGES, Pages};
-use crate::tests::dumps::set;
-use lab_merge::{MergeFault, Tally, merge_dumps};
+use crate::tests::dumps::{changed, set};
+use lab_mend::{MergeFault, Tally, merge_dumps};
 use page_layout::geometry::Geometry;
 use std::alloc::Global;
 use std::test::Fail;
@@ -34,23 +34,9 @@ const TALLY: Tally = Tally {
     unsound: 1,
 };
 
-// A dump of these pages with bytes changed.
-fn reading(
-    alloc: Global,
-    geometry: &Geometry,
-    pages: &[Written],
-    changes: &[(usize, u8)],
-) -> Result<Vec<u8>, Fail> {
-    let mut dump = image_of(alloc, geometry, pages)?;
-    for (at, byte) in changes {
-        *dump.get_mut(*at).ok_or("no such byte")? = *byte;
-    }
-    Ok(dump)
-}
-
 // What the readings come to: row 8, of which two sound pages differ, of 00h bytes.
 fn merged(alloc: Global, geometry: &Geometry) -> Result<Vec<u8>, Fail> {
-    let mut want = reading(alloc, geometry, PAGES, &[(PAGE * 21, 0)])?;
+    let mut want = changed(alloc, geometry, PAGES, &[(PAGE * 21, 0)])?;
     set(&mut want, PAGE * 8, PAGE, 0);
     Ok(want)
 }
@@ -77,9 +63,9 @@ fn are_merged(
 #[test]
 fn each_origin(rt: HostRuntime) -> Result<(), Fail> {
     let geometry = Geometry::new(64, 40, 8, 32, 32)?;
-    let first = reading(rt.alloc(), &geometry, PAGES, FIRST)?;
-    let second = reading(rt.alloc(), &geometry, OTHERS, SECOND)?;
-    let third = reading(rt.alloc(), &geometry, PAGES, THIRD)?;
+    let first = changed(rt.alloc(), &geometry, PAGES, FIRST)?;
+    let second = changed(rt.alloc(), &geometry, OTHERS, SECOND)?;
+    let third = changed(rt.alloc(), &geometry, PAGES, THIRD)?;
     let want = merged(rt.alloc(), &geometry)?;
     let readers = [first.as_slice(), second.as_slice(), third.as_slice()];
     let same = are_merged(rt.alloc(), &geometry, readers, &want)?;

@@ -1,2 +1,0 @@
-pub mod LostLemmas
-pub mod ComparingLemmas

@@ -1,0 +1,210 @@
+-- Which page is written of a row.
+use Rattle.std.proofs.Common.{◌≡◌, ◌⊎◌, inl, inr, ℕ, zero, suc, ◌<◌, Bool, true, false, cond, List, [], ◌∷◌, length, get_or, replicate, Option, Some, None, refl, sym, ap, ◌∙◌, subst, arith}
+use Rattle.std.specs.Prelude.{All, IsSome, is_some, nat_le, ◌&&◌}
+use Rattle.std.specs.List.{filter, list_all, Contains}
+use Rattle.std.proofs.lemmas.Bool.{and_parts, and_cases, leb-true, cases_Bool, true≢false}
+use Rattle.std.proofs.lemmas.List.{get_or_default}
+use Rattle.std.proofs.lemmas.List.Elements.{All-nil, All-cons, All-contains}
+use Rattle.std.proofs.lemmas.Slice.Eq.{bytes_eq-Decides}
+use Rattle.page_layout.specs.declared.geometry.Geometry.{Geometry}
+use Rattle.page_layout.specs.declared.record.Record.{Record}
+use Rattle.page_layout.specs.Page.{Page, page}
+use Rattle.page_layout.specs.Raw.{bytes_of_page}
+use Rattle.page_layout.specs.Sound.{record_of, is_filled, is_erased_page}
+use Rattle.lab_scan.specs.PageBytes.{page_of, is_sound}
+use Rattle.lab_scan.proofs.PageLemmas.{page_again}
+use Rattle.lab_mend.specs.declared.choice.Origin.{Origin}
+use Rattle.lab_mend.specs.declared.choice.Origin.TheVariants.{Sound, Conflict, Majority, Erased, Unsound}
+use Rattle.lab_mend.specs.Majority.{majority}
+use Rattle.lab_mend.specs.Choice.{is_same, zero_page, chosen, by_erased, by_majority, by_sound, choice, NoneSound, Means, AreSized, ChoiceLaw, AreAmong, OrderLaw, ZeroLaw}
+
+-- ---- pages of a list
+
+contains_first : (p : Page) (ps : List Page) → Contains (p ∷ ps) p
+contains_first p ps = (0, omega arith, refl)
+
+contains_later : (p q : Page) (ps : List Page) → Contains ps q → Contains (p ∷ ps) q
+contains_later p q ps h = (suc h.0, (let l = h.1 in omega arith), h.2)
+
+contains_at : (p q : Page) (ps : List Page) (k : ℕ) → k < length (p ∷ ps) → get_or (p ∷ ps) k q ≡ q → (p ≡ q) ⊎ Contains ps q
+contains_at p q ps zero l e = inl e
+contains_at p q ps (suc k) l e = inr (k, omega arith, e)
+
+contains_cases : (p q : Page) (ps : List Page) → Contains (p ∷ ps) q → (p ≡ q) ⊎ Contains ps q
+contains_cases p q ps h = contains_at p q ps h.0 h.1 h.2
+
+-- ---- those that pass a test
+
+-- the page is one of the list, and passes
+record IsKept (f : Page → Bool) (ps : List Page) (q : Page) : Type 0 where
+  in_list : Contains ps q
+  passes : f q ≡ true
+
+kept_later : (f : Page → Bool) (p : Page) (ps : List Page) (q : Page) → IsKept f ps q → IsKept f (p ∷ ps) q
+kept_later f p ps q k = record { in_list = contains_later p q ps k.in_list; passes = k.passes }
+
+kept_from : (f : Page → Bool) (ps : List Page) (q : Page) → Contains (filter f ps) q → IsKept f ps q
+kept_from f [] q h = absurd (let l = h.1 in omega arith)
+kept_from f (p ∷ ps) q h = elim (cases_Bool (f p)) [
+  | inl is ↦ elim (contains_cases p q (filter f ps) (subst (λ b. Contains (cond b (p ∷ filter f ps) (filter f ps)) q) is h)) [
+    | inl same ↦ record { in_list = subst (Contains (p ∷ ps)) same (contains_first p ps); passes = ap f (sym same) ∙ is }
+    | inr more ↦ kept_later f p ps q (kept_from f ps q more)
+  ]
+  | inr is ↦ kept_later f p ps q (kept_from f ps q (subst (λ b. Contains (cond b (p ∷ filter f ps) (filter f ps)) q) is h))
+]
+
+kept_in : (f : Page → Bool) (ps : List Page) (q : Page) → Contains ps q → f q ≡ true → Contains (filter f ps) q
+kept_in f [] q h e = absurd (let l = h.1 in omega arith)
+kept_in f (p ∷ ps) q h e = elim (cases_Bool (f p)) [
+  | inl is ↦ subst (λ b. Contains (cond b (p ∷ filter f ps) (filter f ps)) q) (sym is) (elim (contains_cases p q ps h) [
+    | inl same ↦ subst (Contains (p ∷ filter f ps)) same (contains_first p (filter f ps))
+    | inr more ↦ contains_later p q (filter f ps) (kept_in f ps q more e)
+  ])
+  | inr is ↦ subst (λ b. Contains (cond b (p ∷ filter f ps) (filter f ps)) q) (sym is) (elim (contains_cases p q ps h) [
+    | inl same ↦ absurd (true≢false (sym e ∙ (ap f (sym same) ∙ is)))
+    | inr more ↦ kept_in f ps q more e
+  ])
+]
+
+none_kept : (f : Page → Bool) (ps : List Page) → filter f ps ≡ [] → All (λ p. f p ≡ false) ps
+none_kept f [] e = All-nil (λ p. f p ≡ false)
+none_kept f (p ∷ ps) e = elim (cases_Bool (f p)) [
+  | inl is ↦ absurd (let none : p ∷ filter f ps ≡ [] = sym (ap (λ b. cond b (p ∷ filter f ps) (filter f ps)) is) ∙ e in cc)
+  | inr is ↦ All-cons (λ q. f q ≡ false) p ps is (none_kept f ps (sym (ap (λ b. cond b (p ∷ filter f ps) (filter f ps)) is) ∙ e))
+]
+
+-- the first of them
+first_kept : (f : Page → Bool) (ps : List Page) (p : Page) (more : List Page) → filter f ps ≡ p ∷ more → IsKept f ps p
+first_kept f ps p more e = kept_from f ps p (subst (λ xs. Contains xs p) (sym e) (contains_first p more))
+
+later_kept : (f : Page → Bool) (ps : List Page) (p q : Page) (more : List Page) → filter f ps ≡ p ∷ more → Contains more q → IsKept f ps q
+later_kept f ps p q more e h = kept_from f ps q (subst (λ xs. Contains xs q) (sym e) (contains_later p q more h))
+
+-- ---- pages that pass for the same
+
+same_to_itself : (p : Page) → is_same p p ≡ true
+same_to_itself p = (bytes_eq-Decides (bytes_of_page p) (bytes_of_page p)).1 refl
+
+same_page : (p q : Page) → length p.body ≡ length q.body → is_same p q ≡ true → p ≡ q
+same_page p q size e =
+    sym (page_again p) ∙ (ap (λ n. page_of n (bytes_of_page p)) size ∙ (ap (page_of (length q.body)) ((bytes_eq-Decides (bytes_of_page p) (bytes_of_page q)).0 e) ∙ page_again q))
+
+all_same : (p q : Page) (more : List Page) → list_all (is_same p) more ≡ true → Contains more q → is_same p q ≡ true
+all_same p q [] e h = absurd (let l = h.1 in omega arith)
+all_same p q (x ∷ xs) e h =
+    let both = and_parts (is_same p x) (list_all (is_same p) xs) e in
+    elim (contains_cases x q xs h) [ inl same ↦ ap (is_same p) (sym same) ∙ both.0 | inr more ↦ all_same p q xs both.1 more ]
+
+-- one of the list is another page
+record HasOther (p : Page) (more : List Page) : Type 0 where
+  its : Page
+  in_list : Contains more its
+  apart : is_same p its ≡ false
+
+other_of : (p : Page) (more : List Page) → list_all (is_same p) more ≡ false → HasOther p more
+other_of p [] e = absurd (true≢false e)
+other_of p (x ∷ xs) e = elim (and_cases (is_same p x) (list_all (is_same p) xs) e) [
+  | inl here ↦ record { its = x; in_list = contains_first x xs; apart = here }
+  | inr later ↦ let o = other_of p xs later in record { its = o.its; in_list = contains_later x o.its xs o.in_list; apart = o.apart }
+]
+
+-- ---- tests of pages
+
+none_of : (o : Option Record) → is_some o ≡ false → o ≡ None
+none_of None e = refl
+none_of (Some r) e = absurd (true≢false e)
+
+none_sound : (ps : List Page) → All (λ p. is_sound p ≡ false) ps → NoneSound ps
+none_sound ps h k d l = none_of (record_of (get_or ps k d)) (h k d l)
+
+same_size : (g : Geometry) (ps : List Page) (p q : Page) → AreSized g ps → Contains ps p → Contains ps q → length p.body ≡ length q.body
+same_size g ps p q sized a b =
+    let left = All-contains (λ (x : Page). (length x.body ≡ g.data_bytes) × (length x.spare ≡ g.spare_bytes)) ps p sized a in
+    let right = All-contains (λ (x : Page). (length x.body ≡ g.data_bytes) × (length x.spare ≡ g.spare_bytes)) ps q sized b in
+    left.0 ∙ sym right.0
+
+-- ---- the law of the choice
+
+erased_means : (g : Geometry) (ps : List Page) → NoneSound ps → (erased : List Page) → filter is_erased_page ps ≡ erased → Means g ps (by_erased g ps erased).its (by_erased g ps erased).origin
+erased_means g ps none [] e = (none, none_kept is_erased_page ps e, refl)
+erased_means g ps none (p ∷ more) e = let k = first_kept is_erased_page ps p more e in (none, k.in_list, k.passes)
+
+majority_means : (g : Geometry) (ps : List Page) → NoneSound ps → Means g ps (by_majority g ps).its (by_majority g ps).origin
+unfolding by_majority
+majority_means g ps none = by (nat_le 3 (length ps) && is_sound (majority g ps)) refl
+  where
+    by : (b : Bool) → (nat_le 3 (length ps) && is_sound (majority g ps)) ≡ b → Means g ps (cond b (chosen (majority g ps) Majority) (by_erased g ps (filter is_erased_page ps))).its (cond b (chosen (majority g ps) Majority) (by_erased g ps (filter is_erased_page ps))).origin
+    by true is =
+        let both = and_parts (nat_le 3 (length ps)) (is_sound (majority g ps)) is in
+        (none, leb-true 3 (length ps) both.0, refl, both.1)
+    by false is = erased_means g ps none (filter is_erased_page ps) refl
+
+sound_means : (g : Geometry) (ps : List Page) → AreSized g ps → (sound : List Page) → filter is_sound ps ≡ sound → Means g ps (by_sound g ps sound).its (by_sound g ps sound).origin
+sound_means g ps sized [] e = majority_means g ps (none_sound ps (none_kept is_sound ps e))
+sound_means g ps sized (p ∷ more) e = by (list_all (is_same p) more) refl
+  where
+    first : IsKept is_sound ps p
+    first = first_kept is_sound ps p more e
+
+    same : list_all (is_same p) more ≡ true → (q : Page) → Contains ps q → IsSome (record_of q) → q ≡ p
+    same all q at sound = elim (contains_cases p q more (subst (λ xs. Contains xs q) e (kept_in is_sound ps q at sound))) [
+      | inl here ↦ sym here
+      | inr later ↦ sym (same_page p q (same_size g ps p q sized first.in_list at) (all_same p q more all later))
+    ]
+
+    by : (b : Bool) → list_all (is_same p) more ≡ b → Means g ps (cond b (chosen p Sound) (chosen (zero_page g) Conflict)).its (cond b (chosen p Sound) (chosen (zero_page g) Conflict)).origin
+    by true all = (first.in_list, first.passes, same all)
+    by false apart =
+        let o = other_of p more apart in
+        let k = later_kept is_sound ps p o.its more e o.in_list in (
+          refl,
+          p,
+          o.its,
+          first.in_list,
+          k.in_list,
+          first.passes,
+          k.passes,
+          λ same. true≢false (sym (same_to_itself p) ∙ (ap (is_same p) same ∙ o.apart)),
+        )
+
+pub choice_law : ChoiceLaw
+unfolding choice
+choice_law g ps sized = sound_means g ps sized (filter is_sound ps) refl
+
+-- ---- the law of the order
+
+sound_there : (ps : List Page) (p : Page) → NoneSound ps → Contains ps p → IsSome (record_of p) → ⊥
+sound_there ps p none at sound = true≢false (sym sound ∙ ap is_some (All-contains (λ q. record_of q ≡ None) ps p none at))
+
+ordered : (g : Geometry) (ps qs : List Page) (p x y : Page) (a b : Origin) → AreAmong ps qs → AreAmong qs ps → Contains ps p → IsSome (record_of p) → Means g ps x a → Means g qs y b → chosen x a ≡ chosen y b
+ordered g ps qs p x y Majority b to from at sound h k = absurd (sound_there ps p h.0 at sound)
+ordered g ps qs p x y Erased b to from at sound h k = absurd (sound_there ps p h.0 at sound)
+ordered g ps qs p x y Unsound b to from at sound h k = absurd (sound_there ps p h.0 at sound)
+ordered g ps qs p x y Sound Majority to from at sound h k = absurd (sound_there qs p k.0 (to p at) sound)
+ordered g ps qs p x y Sound Erased to from at sound h k = absurd (sound_there qs p k.0 (to p at) sound)
+ordered g ps qs p x y Sound Unsound to from at sound h k = absurd (sound_there qs p k.0 (to p at) sound)
+ordered g ps qs p x y Conflict Majority to from at sound h k = absurd (sound_there qs p k.0 (to p at) sound)
+ordered g ps qs p x y Conflict Erased to from at sound h k = absurd (sound_there qs p k.0 (to p at) sound)
+ordered g ps qs p x y Conflict Unsound to from at sound h k = absurd (sound_there qs p k.0 (to p at) sound)
+ordered g ps qs p x y Sound Sound to from at sound h k = ap (λ z. chosen z Sound) (k.2 x (to x h.0) h.1)
+ordered g ps qs p x y Conflict Conflict to from at sound h k = ap (λ z. chosen z Conflict) (h.0 ∙ sym k.0)
+ordered g ps qs p x y Sound Conflict to from at sound h k = absurd (k.7 (h.2 k.1 (from k.1 k.3) k.5 ∙ sym (h.2 k.2 (from k.2 k.4) k.6)))
+ordered g ps qs p x y Conflict Sound to from at sound h k = absurd (h.7 (k.2 h.1 (to h.1 h.3) h.5 ∙ sym (k.2 h.2 (to h.2 h.4) h.6)))
+
+sized_among : (g : Geometry) (ps qs : List Page) → AreSized g ps → AreAmong qs ps → AreSized g qs
+sized_among g ps qs sized from k d l =
+    All-contains (λ (x : Page). (length x.body ≡ g.data_bytes) × (length x.spare ≡ g.spare_bytes)) ps (get_or qs k d) sized (from (get_or qs k d) (k, l, get_or_default qs k (get_or qs k d) d l))
+
+pub order_law : OrderLaw
+order_law g ps qs p sized to from at sound =
+    ordered g ps qs p (choice g ps).its (choice g qs).its (choice g ps).origin (choice g qs).origin to from at sound (choice_law g ps sized) (choice_law g qs (sized_among g ps qs sized from))
+
+-- ---- zeros
+
+zero_spare : (d s : ℕ) → record_of (page (replicate d 0) (replicate s 0)) ≡ None
+unfolding record_of is_filled
+zero_spare d zero = refl
+zero_spare d (suc s) = refl
+
+pub zero_law : ZeroLaw
+zero_law g = zero_spare g.data_bytes g.spare_bytes

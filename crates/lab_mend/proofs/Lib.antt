@@ -1,0 +1,11 @@
+pub mod BitLemmas
+pub mod SealLemmas
+pub mod MendLemmas
+pub mod RepairingLemmas
+pub mod RepairedLemmas
+pub mod MajorityLemmas
+pub mod ChoiceLemmas
+pub mod FoundLemmas
+pub mod MergingLemmas
+pub mod InStepLemmas
+pub mod MergedLemmas

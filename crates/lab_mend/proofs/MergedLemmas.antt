@@ -1,0 +1,104 @@
+-- What the pieces, the rows and the counts are once all rows were taken.
+use Rattle.std.proofs.Common.{◌≡◌, ℕ, suc, ◌+◌, ◌-◌, ◌*◌, ◌<◌, ◌≤◌, List, [], length, get_or, map, take, drop, Option, sym, ap, ◌∙◌, subst, arith}
+use Rattle.std.specs.Prelude.{slice_range}
+use Rattle.std.specs.List.{range_with_len}
+use Rattle.std.proofs.Math.Nat.{mul-le-mul_right}
+use Rattle.std.proofs.lemmas.List.{same_lists, length-map, get_or-map, take-take, drop-take, drop-drop}
+use Rattle.std.proofs.lemmas.List.FromFn.{length-map-range_with_len, get_or-map-range_with_len, fill_by_all}
+use Rattle.page_layout.specs.declared.geometry.Geometry.{Geometry}
+use Rattle.page_layout.specs.Geometry.{row_count, page_bytes}
+use Rattle.page_layout.specs.Page.{Page, page}
+use Rattle.page_layout.specs.Raw.{page_from}
+use Rattle.lab_scan.specs.Scan.{image_bytes}
+use Rattle.lab_scan.specs.PageBytes.{page_of}
+use Rattle.lab_scan.specs.declared.pages.Cut.{Cut}
+use Rattle.lab_scan.specs.declared.pages.Cut.TheVariants as cut
+use Rattle.lab_scan.specs.declared.pages.ScanFault.{ScanFault}
+use Rattle.lab_scan.specs.declared.pages.ScanFault.TheVariants as scan
+use Rattle.lab_scan.proofs.ScanLemmas.{if_both}
+use Rattle.lab_mend.specs.declared.merging.RowFault.{RowFault}
+use Rattle.lab_mend.specs.declared.merging.RowFault.TheVariants as row
+use Rattle.lab_mend.specs.declared.merging.Tally.{Tally}
+use Rattle.lab_mend.specs.declared.merge.MergeFault.{MergeFault}
+use Rattle.lab_mend.specs.declared.merge.MergeFault.TheVariants as fault
+use Rattle.lab_mend.specs.Pages.{page_in, pages_in}
+use Rattle.lab_mend.specs.InStep.{AreAt, AreRead, CutAt, LongAt, HaveEnded}
+use Rattle.lab_mend.specs.Merging.{unsound_below, piece_of, Shows, AreOwn, Stands}
+use Rattle.lab_mend.specs.Merged.{row_of, IsMerged, IsUnmerged, fault_of_cut, fault_of_end, fault_of_row}
+
+-- ---- the pages of a row
+
+page_sliced : (g : Geometry) (file : List ℕ) (at : ℕ) → page_of g.data_bytes (slice_range file at (at + page_bytes g)) ≡ page_from g file at
+page_sliced g file at =
+    let d : ℕ = g.data_bytes in
+    let s : ℕ = g.spare_bytes in
+    let all : at + page_bytes g - at ≡ d + s = omega arith in
+    let first : at + d - at ≡ d = omega arith in
+    let second : at + page_bytes g - (at + d) ≡ s = omega arith in
+    let whole : slice_range file at (at + page_bytes g) ≡ take (d + s) (drop at file) = ap (λ n. take n (drop at file)) all in
+    let body : take d (slice_range file at (at + page_bytes g)) ≡ slice_range file at (at + d) =
+    ap (take d) whole ∙ (take-take d (d + s) (drop at file) (omega arith) ∙ sym (ap (λ n. take n (drop at file)) first)) in
+    let spare : drop d (slice_range file at (at + page_bytes g)) ≡ slice_range file (at + d) (at + page_bytes g) =
+    ap (drop d) whole ∙ (drop-take d s (drop at file) ∙ (ap (take s) (drop-drop d at file) ∙ sym (ap (λ n. take n (drop (at + d) file)) second))) in
+    ap (λ b. page b (drop d (slice_range file at (at + page_bytes g)))) body ∙ ap (page (slice_range file at (at + d))) spare
+
+pub row_read : (g : Geometry) (known : List (Option (List ℕ))) (files : List (List ℕ)) (row count size : ℕ) (pieces : List ℕ) → size ≡ page_bytes g → count ≡ length known → AreRead known files (row * page_bytes g) size pieces → row_of g files row ≡ pages_in g pieces count
+unfolding pages_in
+row_read g known files row count size pieces one all read =
+    let f : List ℕ → Page = λ file. page_from g file (row * page_bytes g) in
+    let h : AreRead known files (row * page_bytes g) (page_bytes g) pieces = subst (λ n. AreRead known files (row * page_bytes g) n pieces) one read in
+    let few : length files ≡ count = (let n = h.now.size in omega arith) in
+    same_lists (map f files) (map (page_in g pieces) (range_with_len 0 count)) (length-map files f ∙ (few ∙ sym (length-map-range_with_len (page_in g pieces) 0 count))) (λ i d l.
+    let within : i < length files = omega (arith, length-map files f) in
+    get_or-map f files i [] d within
+    ∙ (sym (page_sliced g (get_or files i []) (row * page_bytes g))
+    ∙ (ap (page_of g.data_bytes) (sym (h.are i within)) ∙ sym (get_or-map-range_with_len (page_in g pieces) 0 count i i d (omega arith) (omega arith)))))
+
+next_at : (row size : ℕ) → row * size + size ≡ (row + 1) * size
+next_at row size = omega arith
+
+-- each reader is at the next row
+pub row_next : (g : Geometry) (known : List (Option (List ℕ))) (files : List (List ℕ)) (row size : ℕ) (pieces : List ℕ) → size ≡ page_bytes g → AreRead known files (row * page_bytes g) size pieces → AreAt known files ((row + 1) * page_bytes g)
+row_next g known files row size pieces one h =
+    subst (λ at. AreAt known files at) (ap (λ n. row * page_bytes g + n) one ∙ next_at row (page_bytes g)) h.now
+
+-- ---- all of them
+
+pub merged : (g : Geometry) (files : List (List ℕ)) (conflicts unsound : List ℕ) (tally : Tally) (scratch : List ℕ) (pieces : Option (List (List ℕ))) → Stands g (row_count g) conflicts tally scratch pieces
+    → Shows g (row_of g files) (row_count g) conflicts tally pieces → unsound ≡ unsound_below g (row_of g files) (row_count g) → HaveEnded files (image_bytes g) → IsMerged g files conflicts unsound tally pieces
+merged g files conflicts unsound tally scratch pieces stands h are ended = record {
+  whole = ended;
+  pages = if_both pieces (AreOwn g (row_count g) conflicts) (λ ps. (n : ℕ) → n < row_count g → get_or ps n [] ≡ piece_of g (row_of g files n)) (λ ps. ps ≡ map (λ n. piece_of g (row_of g files n)) (range_with_len 0 (row_count g))) stands.own h.pieces_are
+      (λ ps own each. fill_by_all (λ n. piece_of g (row_of g files n)) ps (row_count g) [] own.size each);
+  conflicts_are = h.conflicts_are;
+  unsound_are = are;
+  tally_is = h.tally_is;
+}
+
+-- ---- why nothing was written
+
+row_end : (n rows size : ℕ) → n < rows → n * size + size ≤ rows * size
+row_end n rows size l = let m : suc n * size ≤ rows * size = mul-le-mul_right size l in omega (arith, m)
+
+pub unmerged_cut : (g : Geometry) (files : List (List ℕ)) (n i : ℕ) (c : Cut) (f : MergeFault) → n < row_count g → CutAt files (n * page_bytes g + page_bytes g) i c → f ≡ fault_of_cut i c → IsUnmerged g files f
+unmerged_cut g files n i cut.Ended f within h e =
+    let room : n * page_bytes g + page_bytes g ≤ image_bytes g = row_end n (row_count g) (page_bytes g) within in
+    let short = h.short in
+    subst (IsUnmerged g files) (sym e) (h.within, λ whole. (omega arith))
+unmerged_cut g files n i cut.Failed f within h e = subst (IsUnmerged g files) (sym e) h
+
+pub unmerged_end : (g : Geometry) (files : List (List ℕ)) (i : ℕ) (s : ScanFault) (f : MergeFault) → LongAt files (image_bytes g) i s → f ≡ fault_of_end i s → IsUnmerged g files f
+unmerged_end g files i scan.WrongLength f h e = let long = h.long in subst (IsUnmerged g files) (sym e) (h.within, λ whole. (omega arith))
+unmerged_end g files i scan.Source f h e = subst (IsUnmerged g files) (sym e) h
+unmerged_end g files i scan.Stopped f h e = absurd h
+
+pub unmerged_row : (g : Geometry) (files : List (List ℕ)) (r : RowFault) (f : MergeFault) → f ≡ fault_of_row r → IsUnmerged g files f
+unmerged_row g files row.Target f e = subst (IsUnmerged g files) (sym e) tt
+unmerged_row g files row.OutOfMemory f e = subst (IsUnmerged g files) (sym e) tt
+
+pub unmerged_memory : (g : Geometry) (files : List (List ℕ)) (f : MergeFault) → f ≡ fault.OutOfMemory → IsUnmerged g files f
+unmerged_memory g files f e = subst (IsUnmerged g files) (sym e) tt
+
+-- by the size that the code has
+pub unmerged_row_cut : (g : Geometry) (files : List (List ℕ)) (n size i : ℕ) (c : Cut) (f : MergeFault) → size ≡ page_bytes g → n < row_count g → CutAt files (n * page_bytes g + size) i c → f ≡ fault_of_cut i c → IsUnmerged g files f
+unmerged_row_cut g files n size i c f one within h e = unmerged_cut g files n i c f within (subst (λ k. CutAt files (n * page_bytes g + k) i c) one h) e

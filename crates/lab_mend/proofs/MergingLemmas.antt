@@ -1,0 +1,283 @@
+-- What one row more makes of what is written and told.
+use Rattle.std.proofs.Common.{◌≡◌, ◌≢◌, ◌⊎◌, inl, inr, ℕ, ◌+◌, ◌<◌, Bool, true, false, cond, eqb, List, [], ◌∷◌, ◌++◌, length, get_or, set, replicate, Option, Some, None, IfSome, refl, sym, ap, ◌∙◌, subst, arith, append-nil, add-zero}
+use Rattle.std.specs.Prelude.{All, count_by, option_map, nat_le, ◌&&◌}
+use Rattle.std.specs.List.{range_with_len, filter, list_all, Contains}
+use Rattle.std.proofs.lemmas.Bool.{cases_eq, cases_lt}
+use Rattle.std.proofs.lemmas.List.{get_or-set_same, get_or-set_other, length-set, length_push, get_or_push, get_or_append_left, replicate-append-replicate}
+use Rattle.std.proofs.lemmas.List.Elements.{All-nil, All-push, All-weaker, All-contains, filter-append}
+use Rattle.std.proofs.lemmas.List.Quantifiers.{all_pairs_push}
+use Rattle.std.proofs.lemmas.List.Sums.{sum_by_push}
+use Rattle.page_layout.specs.declared.geometry.Geometry.{Geometry}
+use Rattle.page_layout.specs.Geometry.{row_count, page_bytes}
+use Rattle.page_layout.specs.Page.{Page}
+use Rattle.page_layout.specs.Raw.{bytes_of_page}
+use Rattle.page_layout.specs.Sound.{is_erased_page}
+use Rattle.lab_scan.specs.PageBytes.{is_sound}
+use Rattle.lab_scan.proofs.ScanLemmas.{if_more}
+use Rattle.lab_mend.specs.declared.choice.Origin.{Origin}
+use Rattle.lab_mend.specs.declared.choice.Origin.TheVariants.{Sound, Conflict, Majority, Erased, Unsound}
+use Rattle.lab_mend.specs.declared.merging.Tally.{Tally}
+use Rattle.lab_mend.specs.Majority.{majority}
+use Rattle.lab_mend.specs.Choice.{is_same, zero_page, chosen, by_erased, by_majority, by_sound, choice}
+use Rattle.lab_mend.specs.Found.{WritesChoice}
+use Rattle.lab_mend.specs.Merging.{named, counted, place_of, is_from, with_unsound, conflicts_below, unsound_below, tally_below, piece_of, Shows, AreOwn, AreListed, AreFew, Stands}
+use Rattle.lab_mend.proofs.MajorityLemmas.{range_more}
+
+-- ---- the rows that are named
+
+named_is : (rows : List ℕ) (n : ℕ) (o : Origin) → rows ++ cond (eqb (place_of o) 1) (n ∷ []) [] ≡ named rows n o
+named_is rows n Sound = append-nil rows
+named_is rows n Conflict = refl
+named_is rows n Majority = append-nil rows
+named_is rows n Erased = append-nil rows
+named_is rows n Unsound = append-nil rows
+
+pub conflicts_more : (g : Geometry) (rows : ℕ → List Page) (n : ℕ) → conflicts_below g rows (n + 1) ≡ named (conflicts_below g rows n) n (choice g (rows n)).origin
+unfolding conflicts_below
+conflicts_more g rows n =
+    ap (filter (is_from g rows Conflict)) (range_more n)
+    ∙ (filter-append (is_from g rows Conflict) (range_with_len 0 n) (n ∷ []) ∙ named_is (filter (is_from g rows Conflict) (range_with_len 0 n)) n (choice g (rows n)).origin)
+
+unsound_is : (rows : List ℕ) (n : ℕ) (o : Origin) → rows ++ cond (eqb (place_of o) 4) (n ∷ []) [] ≡ with_unsound rows n o
+unsound_is rows n Sound = append-nil rows
+unsound_is rows n Conflict = append-nil rows
+unsound_is rows n Majority = append-nil rows
+unsound_is rows n Erased = append-nil rows
+unsound_is rows n Unsound = refl
+
+unsound_more : (g : Geometry) (rows : ℕ → List Page) (n : ℕ) → unsound_below g rows (n + 1) ≡ with_unsound (unsound_below g rows n) n (choice g (rows n)).origin
+unfolding unsound_below
+unsound_more g rows n =
+    ap (filter (is_from g rows Unsound)) (range_more n)
+    ∙ (filter-append (is_from g rows Unsound) (range_with_len 0 n) (n ∷ []) ∙ unsound_is (filter (is_from g rows Unsound) (range_with_len 0 n)) n (choice g (rows n)).origin)
+
+pub none_unsound : (g : Geometry) (rows : ℕ → List Page) → [] ≡ unsound_below g rows 0
+unfolding unsound_below
+none_unsound g rows = refl
+
+-- the same, of what the code holds after it
+pub unsound_next : (g : Geometry) (rows : ℕ → List Page) (n : ℕ) (pages : List Page) (o : Origin) (old new out : List ℕ) → rows n ≡ pages → WritesChoice (choice g pages) o out → old ≡ unsound_below g rows n → new ≡ with_unsound old n o → new ≡ unsound_below g rows (n + 1)
+unsound_next g rows n pages o old new out are written before after =
+    let origin : o ≡ (choice g (rows n)).origin = written.origin_is ∙ ap (λ ps. (choice g ps).origin) (sym are) in
+    after ∙ (ap (λ xs. with_unsound xs n o) before ∙ (ap (with_unsound (unsound_below g rows n) n) origin ∙ sym (unsound_more g rows n)))
+
+-- ---- the counts
+
+abbrev pub the_tally : ℕ → ℕ → ℕ → ℕ → Tally
+the_tally s a b c = record { sound = s; majority = a; erased = b; unsound = c }
+
+tally_same : (s a b c w x y z : ℕ) → s ≡ w → a ≡ x → b ≡ y → c ≡ z → the_tally s a b c ≡ the_tally w x y z
+tally_same s a b c w x y z d e f h = ap (λ k. the_tally k a b c) d ∙ (ap (λ k. the_tally w k b c) e ∙ (ap (λ k. the_tally w x k c) f ∙ ap (the_tally w x y) h))
+
+counted_is : (t : Tally) (o : Origin) → the_tally (t.sound + cond (eqb (place_of o) 0) 1 0) (t.majority + cond (eqb (place_of o) 2) 1 0) (t.erased + cond (eqb (place_of o) 3) 1 0) (t.unsound + cond (eqb (place_of o) 4) 1 0) ≡ counted t o
+counted_is t Sound = tally_same (t.sound + 1) (t.majority + 0) (t.erased + 0) (t.unsound + 0) (t.sound + 1) t.majority t.erased t.unsound refl (add-zero t.majority) (add-zero t.erased) (add-zero t.unsound)
+counted_is t Conflict = tally_same (t.sound + 0) (t.majority + 0) (t.erased + 0) (t.unsound + 0) t.sound t.majority t.erased t.unsound (add-zero t.sound) (add-zero t.majority) (add-zero t.erased) (add-zero t.unsound)
+counted_is t Majority = tally_same (t.sound + 0) (t.majority + 1) (t.erased + 0) (t.unsound + 0) t.sound (t.majority + 1) t.erased t.unsound (add-zero t.sound) refl (add-zero t.erased) (add-zero t.unsound)
+counted_is t Erased = tally_same (t.sound + 0) (t.majority + 0) (t.erased + 1) (t.unsound + 0) t.sound t.majority (t.erased + 1) t.unsound (add-zero t.sound) (add-zero t.majority) refl (add-zero t.unsound)
+counted_is t Unsound = tally_same (t.sound + 0) (t.majority + 0) (t.erased + 0) (t.unsound + 1) t.sound t.majority t.erased (t.unsound + 1) (add-zero t.sound) (add-zero t.majority) (add-zero t.erased) refl
+
+count_more : (p : ℕ → Bool) (n : ℕ) → count_by p (range_with_len 0 (n + 1)) ≡ count_by p (range_with_len 0 n) + cond (p n) 1 0
+count_more p n = ap (count_by p) (range_more n) ∙ sum_by_push (λ x. cond (p x) 1 0) (range_with_len 0 n) n
+
+pub tally_more : (g : Geometry) (rows : ℕ → List Page) (n : ℕ) → tally_below g rows (n + 1) ≡ counted (tally_below g rows n) (choice g (rows n)).origin
+unfolding tally_below
+tally_more g rows n =
+    let o : Origin = (choice g (rows n)).origin in
+    let s : ℕ = count_by (is_from g rows Sound) (range_with_len 0 n) in
+    let m : ℕ = count_by (is_from g rows Majority) (range_with_len 0 n) in
+    let e : ℕ = count_by (is_from g rows Erased) (range_with_len 0 n) in
+    let u : ℕ = count_by (is_from g rows Unsound) (range_with_len 0 n) in
+    tally_same _ _ _ _ (s + cond (eqb (place_of o) 0) 1 0) (m + cond (eqb (place_of o) 2) 1 0) (e + cond (eqb (place_of o) 3) 1 0) (u + cond (eqb (place_of o) 4) 1 0)
+    (count_more (is_from g rows Sound) n) (count_more (is_from g rows Majority) n) (count_more (is_from g rows Erased) n) (count_more (is_from g rows Unsound) n)
+    ∙ counted_is (the_tally s m e u) o
+
+few_more : (n : ℕ) (t : Tally) (o : Origin) → AreFew n t → AreFew (n + 1) (counted t o)
+few_more n t Sound h = let d = h.sound in let a = h.majority in let b = h.erased in let c = h.unsound in record { sound = omega arith; majority = omega arith; erased = omega arith; unsound = omega arith }
+few_more n t Conflict h = let d = h.sound in let a = h.majority in let b = h.erased in let c = h.unsound in record { sound = omega arith; majority = omega arith; erased = omega arith; unsound = omega arith }
+few_more n t Majority h = let d = h.sound in let a = h.majority in let b = h.erased in let c = h.unsound in record { sound = omega arith; majority = omega arith; erased = omega arith; unsound = omega arith }
+few_more n t Erased h = let d = h.sound in let a = h.majority in let b = h.erased in let c = h.unsound in record { sound = omega arith; majority = omega arith; erased = omega arith; unsound = omega arith }
+few_more n t Unsound h = let d = h.sound in let a = h.majority in let b = h.erased in let c = h.unsound in record { sound = omega arith; majority = omega arith; erased = omega arith; unsound = omega arith }
+
+-- ---- the list
+
+wider : (n : ℕ) (rows : List ℕ) → All (λ r. r < n) rows → All (λ r. r < n + 1) rows
+wider n rows h = All-weaker (λ r. r < n) (λ r. r < n + 1) (λ r l. (omega arith)) rows h
+
+stays : (n : ℕ) (rows : List ℕ) → AreListed n rows → AreListed (n + 1) rows
+stays n rows h = record { within = wider n rows h.within; rising = h.rising }
+
+listed_more : (n : ℕ) (rows : List ℕ) (o : Origin) → AreListed n rows → AreListed (n + 1) (named rows n o)
+listed_more n rows Sound h = stays n rows h
+listed_more n rows Conflict h = record {
+  within = All-push (λ r. r < n + 1) rows n (wider n rows h.within) (omega arith);
+  rising = all_pairs_push (λ a b. a < b) rows n h.rising h.within;
+}
+listed_more n rows Majority h = stays n rows h
+listed_more n rows Erased h = stays n rows h
+listed_more n rows Unsound h = stays n rows h
+
+unsound_listed_more : (n : ℕ) (rows : List ℕ) (o : Origin) → AreListed n rows → AreListed (n + 1) (with_unsound rows n o)
+unsound_listed_more n rows Sound h = stays n rows h
+unsound_listed_more n rows Conflict h = stays n rows h
+unsound_listed_more n rows Majority h = stays n rows h
+unsound_listed_more n rows Erased h = stays n rows h
+unsound_listed_more n rows Unsound h = record {
+  within = All-push (λ r. r < n + 1) rows n (wider n rows h.within) (omega arith);
+  rising = all_pairs_push (λ a b. a < b) rows n h.rising h.within;
+}
+
+pub unsound_listed_next : (n : ℕ) (old new : List ℕ) (o : Origin) → new ≡ with_unsound old n o → AreListed n old → AreListed (n + 1) new
+unsound_listed_next n old new o is h = subst (AreListed (n + 1)) (sym is) (unsound_listed_more n old o h)
+
+pub none_listed : AreListed 0 []
+none_listed = record { within = All-nil (λ (r : ℕ). r < 0); rising = λ i j d l k. absurd (omega arith) }
+
+contains_push : (xs : List ℕ) (x y : ℕ) → Contains (xs ++ x ∷ []) y → Contains xs y ⊎ (x ≡ y)
+contains_push xs x y h = elim (cases_lt h.0 (length xs)) [
+  | inl l ↦ inl (h.0, l, sym (get_or_append_left xs (x ∷ []) y h.0 l) ∙ h.2)
+  | inr le ↦
+      let last : length xs ≡ h.0 = (let l = h.1 in let size = length_push xs x in omega arith) in
+      inr (sym (get_or_push xs x y h.0 last) ∙ h.2)
+]
+
+named_from : (rows : List ℕ) (n r : ℕ) (o : Origin) → Contains (named rows n o) r → Contains rows r ⊎ ((o ≡ Conflict) × (n ≡ r))
+named_from rows n r Sound h = inl h
+named_from rows n r Conflict h = elim (contains_push rows n r h) [ inl at ↦ inl at | inr e ↦ inr (refl, e) ]
+named_from rows n r Majority h = inl h
+named_from rows n r Erased h = inl h
+named_from rows n r Unsound h = inl h
+
+-- ---- the pieces
+
+own_more : (g : Geometry) (n : ℕ) (rows : List ℕ) (o : Origin) (piece : List ℕ) (ps : List (List ℕ)) → n < row_count g → AreListed n rows → length piece ≡ page_bytes g → (o ≡ Conflict → piece ≡ replicate (page_bytes g) 0)
+    → AreOwn g n rows ps → AreOwn g (n + 1) (named rows n o) (set ps n piece)
+own_more g n rows o piece ps within listed size zero h =
+    let inside : n < length ps = (let all = h.size in omega arith) in
+    let here : get_or (set ps n piece) n [] ≡ piece = get_or-set_same ps n piece [] inside in
+    record {
+      size = length-set ps n piece ∙ h.size;
+      sized = λ row l. elim (cases_eq row n) [
+        | inl same ↦ subst (λ k. length (get_or (set ps n piece) k []) ≡ page_bytes g) (sym same) (ap length here ∙ size)
+        | inr ne ↦ ap length (get_or-set_other ps n row piece [] ne) ∙ h.sized row (omega arith)
+      ];
+      zeros = λ row at. elim (named_from rows n row o at) [
+        | inl old ↦
+            let before : row < n = All-contains (λ r. r < n) rows row listed.within old in
+            let ne : row ≢ n = λ e. (omega arith) in
+            get_or-set_other ps n row piece [] ne ∙ h.zeros row old
+        | inr new ↦ subst (λ k. get_or (set ps n piece) k [] ≡ replicate (page_bytes g) 0) new.1 (here ∙ zero new.0)
+      ];
+    }
+
+if_set : (pieces : Option (List (List ℕ))) (P Q : List (List ℕ) → Type 0) (n : ℕ) (piece : List ℕ) → IfSome pieces P → ((ps : List (List ℕ)) → P ps → Q (set ps n piece)) → IfSome (option_map (λ ps. set ps n piece) pieces) Q
+if_set None P Q n piece h more = tt
+if_set (Some ps) P Q n piece h more = more ps h
+
+both_set : (pieces : Option (List (List ℕ))) (P Q R : List (List ℕ) → Type 0) (n : ℕ) (piece : List ℕ) → IfSome pieces P → IfSome pieces Q → ((ps : List (List ℕ)) → P ps → Q ps → R (set ps n piece)) → IfSome (option_map (λ ps. set ps n piece) pieces) R
+both_set None P Q R n piece p q more = tt
+both_set (Some ps) P Q R n piece p q more = more ps p q
+
+pub stands_more : (g : Geometry) (n : ℕ) (rows : List ℕ) (t : Tally) (o : Origin) (old scratch : List ℕ) (pieces : Option (List (List ℕ))) → n < row_count g → Stands g n rows t old pieces → length scratch ≡ page_bytes g
+    → (o ≡ Conflict → scratch ≡ replicate (page_bytes g) 0) → Stands g (n + 1) (named rows n o) (counted t o) scratch (option_map (λ ps. set ps n scratch) pieces)
+stands_more g n rows t o old scratch pieces within h size zero = record {
+  scratch_size = size;
+  few = few_more n t o h.few;
+  listed = listed_more n rows o h.listed;
+  own = if_set pieces (AreOwn g n rows) (AreOwn g (n + 1) (named rows n o)) n scratch h.own (λ ps own. own_more g n rows o scratch ps within h.listed size zero own);
+}
+
+written_more : (g : Geometry) (of : ℕ → List Page) (n : ℕ) (piece : List ℕ) (ps : List (List ℕ)) → n < length ps → piece ≡ piece_of g (of n) → ((row : ℕ) → row < n → get_or ps row [] ≡ piece_of g (of row))
+    → (row : ℕ) → row < n + 1 → get_or (set ps n piece) row [] ≡ piece_of g (of row)
+written_more g of n piece ps inside is h row l = elim (cases_eq row n) [
+  | inl same ↦ subst (λ k. get_or (set ps n piece) k [] ≡ piece_of g (of k)) (sym same) (get_or-set_same ps n piece [] inside ∙ is)
+  | inr ne ↦ get_or-set_other ps n row piece [] ne ∙ h row (omega arith)
+]
+
+pub shows_more : (g : Geometry) (of : ℕ → List Page) (n : ℕ) (rows : List ℕ) (t : Tally) (pages : List Page) (o : Origin) (old scratch : List ℕ) (pieces : Option (List (List ℕ))) → n < row_count g → Stands g n rows t old pieces
+    → Shows g of n rows t pieces → of n ≡ pages → WritesChoice (choice g pages) o scratch → Shows g of (n + 1) (named rows n o) (counted t o) (option_map (λ ps. set ps n scratch) pieces)
+shows_more g of n rows t pages o old scratch pieces within stands h are written =
+    let origin : o ≡ (choice g (of n)).origin = written.origin_is ∙ ap (λ ps. (choice g ps).origin) (sym are) in
+    let piece : scratch ≡ piece_of g (of n) = written.bytes_are ∙ ap (piece_of g) (sym are) in
+    record {
+      conflicts_are = ap (λ xs. named xs n o) h.conflicts_are ∙ (ap (named (conflicts_below g of n) n) origin ∙ sym (conflicts_more g of n));
+      tally_is = ap (λ x. counted x o) h.tally_is ∙ (ap (counted (tally_below g of n)) origin ∙ sym (tally_more g of n));
+      pieces_are = both_set pieces (AreOwn g n rows) (λ ps. (row : ℕ) → row < n → get_or ps row [] ≡ piece_of g (of row)) (λ ps. (row : ℕ) → row < n + 1 → get_or ps row [] ≡ piece_of g (of row)) n scratch stands.own h.pieces_are
+          (λ ps own each. written_more g of n scratch ps (let size = own.size in omega arith) piece each);
+    }
+
+-- ---- a row of which two sound pages differ
+
+not_conflict : (g : Geometry) (pages erased : List Page) → (by_erased g pages erased).origin ≡ Conflict → ⊥
+not_conflict g pages [] e = cc
+not_conflict g pages (p ∷ more) e = cc
+
+no_conflict : (g : Geometry) (pages : List Page) → (by_majority g pages).origin ≡ Conflict → ⊥
+unfolding by_majority
+no_conflict g pages e = by (nat_le 3 (length pages) && is_sound (majority g pages)) e
+  where
+    by : (b : Bool) → (cond b (chosen (majority g pages) Majority) (by_erased g pages (filter is_erased_page pages))).origin ≡ Conflict → ⊥
+    by true is = cc
+    by false is = not_conflict g pages (filter is_erased_page pages) is
+
+conflict_page : (g : Geometry) (pages : List Page) → (choice g pages).origin ≡ Conflict → (choice g pages).its ≡ zero_page g
+unfolding choice
+conflict_page g pages e = over (filter is_sound pages) e
+  where
+    either : (p : Page) (b : Bool) → (cond b (chosen p Sound) (chosen (zero_page g) Conflict)).origin ≡ Conflict → (cond b (chosen p Sound) (chosen (zero_page g) Conflict)).its ≡ zero_page g
+    either p true is = absurd (cc)
+    either p false is = refl
+
+    over : (sound : List Page) → (by_sound g pages sound).origin ≡ Conflict → (by_sound g pages sound).its ≡ zero_page g
+    over [] is = absurd (no_conflict g pages is)
+    over (p ∷ more) is = either p (list_all (is_same p) more) is
+
+pub conflict_zero : (g : Geometry) (pages : List Page) (o : Origin) (scratch : List ℕ) → WritesChoice (choice g pages) o scratch → o ≡ Conflict → scratch ≡ replicate (page_bytes g) 0
+conflict_zero g pages o scratch h e = h.bytes_are ∙ (ap bytes_of_page (conflict_page g pages (sym h.origin_is ∙ e)) ∙ replicate-append-replicate g.data_bytes g.spare_bytes 0)
+
+-- the same, of what the code holds after it
+pub stands_next : (g : Geometry) (n : ℕ) (rows : List ℕ) (t : Tally) (pages : List Page) (o : Origin) (old out : List ℕ) (pieces : Option (List (List ℕ))) → n < row_count g → Stands g n rows t old pieces → length out ≡ page_bytes g
+    → WritesChoice (choice g pages) o out → (rows' : List ℕ) (t' : Tally) (scratch : List ℕ) (pieces' : Option (List (List ℕ))) → rows' ≡ named rows n o → t' ≡ counted t o → scratch ≡ out
+    → pieces' ≡ option_map (λ ps. set ps n scratch) pieces → Stands g (n + 1) rows' t' scratch pieces'
+stands_next g n rows t pages o old out pieces within h size written rows' t' scratch pieces' a b c d =
+    let whole : length scratch ≡ page_bytes g = ap length c ∙ size in
+    let zero : o ≡ Conflict → scratch ≡ replicate (page_bytes g) 0 = λ e. c ∙ conflict_zero g pages o out written e in
+    let next : Stands g (n + 1) (named rows n o) (counted t o) scratch (option_map (λ ps. set ps n scratch) pieces) = stands_more g n rows t o old scratch pieces within h whole zero in
+    let first : Stands g (n + 1) rows' (counted t o) scratch (option_map (λ ps. set ps n scratch) pieces) =
+    subst (λ (x : List ℕ). Stands g (n + 1) x (counted t o) scratch (option_map (λ ps. set ps n scratch) pieces)) (sym a) next in
+    let second : Stands g (n + 1) rows' t' scratch (option_map (λ ps. set ps n scratch) pieces) =
+    subst (λ (x : Tally). Stands g (n + 1) rows' x scratch (option_map (λ ps. set ps n scratch) pieces)) (sym b) first in
+    subst (λ (x : Option (List (List ℕ))). Stands g (n + 1) rows' t' scratch x) (sym d) second
+
+pub shows_next : (g : Geometry) (of : ℕ → List Page) (n : ℕ) (rows : List ℕ) (t : Tally) (pages : List Page) (o : Origin) (old out : List ℕ) (pieces : Option (List (List ℕ))) → n < row_count g → Stands g n rows t old pieces
+    → Shows g of n rows t pieces → of n ≡ pages → WritesChoice (choice g pages) o out → (rows' : List ℕ) (t' : Tally) (scratch : List ℕ) (pieces' : Option (List (List ℕ))) → rows' ≡ named rows n o → t' ≡ counted t o → scratch ≡ out
+    → pieces' ≡ option_map (λ ps. set ps n scratch) pieces → Shows g of (n + 1) rows' t' pieces'
+shows_next g of n rows t pages o old out pieces within stands h are written rows' t' scratch pieces' a b c d =
+    let its : WritesChoice (choice g pages) o scratch = subst (λ (x : List ℕ). WritesChoice (choice g pages) o x) (sym c) written in
+    let next : Shows g of (n + 1) (named rows n o) (counted t o) (option_map (λ ps. set ps n scratch) pieces) = shows_more g of n rows t pages o old scratch pieces within stands h are its in
+    let first : Shows g of (n + 1) rows' (counted t o) (option_map (λ ps. set ps n scratch) pieces) =
+    subst (λ (x : List ℕ). Shows g of (n + 1) x (counted t o) (option_map (λ ps. set ps n scratch) pieces)) (sym a) next in
+    let second : Shows g of (n + 1) rows' t' (option_map (λ ps. set ps n scratch) pieces) =
+    subst (λ (x : Tally). Shows g of (n + 1) rows' x (option_map (λ ps. set ps n scratch) pieces)) (sym b) first in
+    subst (λ (x : Option (List (List ℕ))). Shows g of (n + 1) rows' t' x) (sym d) second
+
+-- ---- before the first row
+
+pub stands_first : (g : Geometry) (scratch : List ℕ) (pieces : Option (List (List ℕ))) → length scratch ≡ page_bytes g → IfSome pieces (λ ps. length ps ≡ row_count g) → Stands g 0 [] (the_tally 0 0 0 0) scratch pieces
+stands_first g scratch pieces size whole = record {
+  scratch_size = size;
+  few = record { sound = omega arith; majority = omega arith; erased = omega arith; unsound = omega arith };
+  listed = none_listed;
+  own = if_more pieces (λ ps. length ps ≡ row_count g) (AreOwn g 0 []) whole (λ ps all. record {
+    size = all;
+    sized = λ row l. absurd (omega arith);
+    zeros = λ row at. absurd (let l = at.1 in omega arith);
+  });
+}
+
+pub shows_first : (g : Geometry) (of : ℕ → List Page) (pieces : Option (List (List ℕ))) → Shows g of 0 [] (the_tally 0 0 0 0) pieces
+unfolding conflicts_below tally_below
+shows_first g of pieces = record { conflicts_are = refl; tally_is = refl; pieces_are = all pieces }
+  where
+    all : (o : Option (List (List ℕ))) → IfSome o (λ ps. (row : ℕ) → row < 0 → get_or ps row [] ≡ piece_of g (of row))
+    all None = tt
+    all (Some ps) = λ row l. absurd (omega arith)

@@ -1,0 +1,5 @@
+use Rattle.lab_mend.proofs.MendLemmas.{again_law}
+use Rattle.lab_mend.proofs.laws.again_law.Goals as goal
+
+pub returns : goal.returns
+returns c = again_law

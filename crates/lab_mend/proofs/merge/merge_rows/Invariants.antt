@@ -1,0 +1,18 @@
+use Rattle.std.proofs.Common.{◌≡◌, ℕ, ◌*◌, List, length, map}
+use Rattle.page_layout.specs.Geometry.{page_bytes}
+use Rattle.lab_mend.specs.InStep.{AreAt}
+use Rattle.lab_mend.specs.Merging.{AreListed, Shows, Stands, unsound_below}
+use Rattle.lab_mend.specs.Merged.{row_of}
+use Rattle.lab_mend.proofs.merge.merge_rows.Given as goal
+
+abbrev pub invariant-loop-row : goal.invariant-loop-row
+invariant-loop-row g l =
+    record {
+      count : length l.readers ≡ length l.initial.readers;
+      room : length l.pages ≡ length l.initial.pages;
+      stands : Stands l.geometry l.row l.merging.conflicts.items l.merging.tally l.merging.scratch.items (g.T.PageTarget.pieces l.merging.target);
+      shows : (files : List (List ℕ)) → AreAt (map g.R.Read.remaining l.initial.readers) files 0 → Shows l.geometry (row_of l.geometry files) l.row l.merging.conflicts.items l.merging.tally (g.T.PageTarget.pieces l.merging.target);
+      unsound : (files : List (List ℕ)) → AreAt (map g.R.Read.remaining l.initial.readers) files 0 → l.merging.unsound.items ≡ unsound_below l.geometry (row_of l.geometry files) l.row;
+      listed : AreListed l.row l.merging.unsound.items;
+      read : (files : List (List ℕ)) → AreAt (map g.R.Read.remaining l.initial.readers) files 0 → AreAt (map g.R.Read.remaining l.readers) files (l.row * page_bytes l.geometry);
+    }

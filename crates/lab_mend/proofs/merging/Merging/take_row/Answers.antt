@@ -1,0 +1,31 @@
+use Rattle.std.proofs.Common.{◌∙◌, length, drop, set, ap, arith}
+use Rattle.std.specs.Prelude.{option_map}
+use Rattle.std.proofs.lemmas.List.{take_at}
+use Rattle.lab_mend.specs.Pages.{pages_in}
+use Rattle.lab_mend.proofs.MergingLemmas.{stands_next, shows_next, unsound_next, unsound_listed_next}
+use Rattle.lab_mend.proofs.merging.Merging.take_row.Goals as goal
+
+pub returns-in-Ok-clause-stands : goal.returns-in-Ok-clause-stands
+returns-in-Ok-clause-stands g c =
+    let geo = c.args.geometry.now in
+    let s = c.args.self.now in
+    let out = c.choose-origin.new.out in
+    let back = take_at out (drop (length out) s.scratch.items) s.scratch.len (omega arith) in
+    stands_next geo c.args.row s.conflicts.items s.tally (pages_in geo c.args.pages.now c.args.count) c.choose-origin.result s.scratch.items out (g.T.PageTarget.pieces s.target) c.requires.row_in c.requires.stands (omega arith)
+    c.choose-origin.ensures _ _ _ _ c.in_ok-name_conflict.ensures c.count-self.ensures back (c.in-Ok.ensures ∙ ap (λ bytes. option_map (λ ps. set ps c.args.row bytes) (g.T.PageTarget.pieces s.target)) c.deref.ensures.value)
+
+pub returns-in-Ok-clause-shows : goal.returns-in-Ok-clause-shows
+returns-in-Ok-clause-shows g c = λ rows are shown.
+    let geo = c.args.geometry.now in
+    let s = c.args.self.now in
+    let out = c.choose-origin.new.out in
+    let back = take_at out (drop (length out) s.scratch.items) s.scratch.len (omega arith) in
+    shows_next geo rows c.args.row s.conflicts.items s.tally (pages_in geo c.args.pages.now c.args.count) c.choose-origin.result s.scratch.items out (g.T.PageTarget.pieces s.target) c.requires.row_in c.requires.stands shown are
+    c.choose-origin.ensures _ _ _ _ c.in_ok-name_conflict.ensures c.count-self.ensures back (c.in-Ok.ensures ∙ ap (λ bytes. option_map (λ ps. set ps c.args.row bytes) (g.T.PageTarget.pieces s.target)) c.deref.ensures.value)
+
+pub returns-in-Ok-clause-unsound : goal.returns-in-Ok-clause-unsound
+returns-in-Ok-clause-unsound g c = λ rows are before.
+    unsound_next c.args.geometry.now rows c.args.row (pages_in c.args.geometry.now c.args.pages.now c.args.count) c.choose-origin.result c.args.self.now.unsound.items _ c.choose-origin.new.out are c.choose-origin.ensures before c.in_ok-name_unsound.ensures
+
+pub returns-in-Ok-clause-listed : goal.returns-in-Ok-clause-listed
+returns-in-Ok-clause-listed g c = λ before. unsound_listed_next c.args.row c.args.self.now.unsound.items _ c.choose-origin.result c.in_ok-name_unsound.ensures before

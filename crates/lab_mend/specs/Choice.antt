@@ -1,0 +1,82 @@
+-- Which page is written of a row of which several readings of one die have a page each.
+use Rattle.std.specs.Prelude.{◌≡◌, ◌≢◌, ◌≤◌, nat_le, ◌&&◌, if◌then◌else◌, Bool, true, false, All, List, [], ◌∷◌, length, replicate, get_or, None, IsSome}
+use Rattle.std.specs.List.{filter, list_all, Contains}
+use Rattle.std.specs.Str.{bytes_eq}
+use Rattle.page_layout.specs.declared.geometry.Geometry.{Geometry}
+use Rattle.page_layout.specs.Page.{Page, page}
+use Rattle.page_layout.specs.Raw.{bytes_of_page}
+use Rattle.page_layout.specs.Sound.{record_of, is_erased_page}
+use Rattle.lab_scan.specs.PageBytes.{is_sound}
+use Rattle.lab_mend.specs.declared.choice.Origin.{Origin}
+use Rattle.lab_mend.specs.declared.choice.Origin.TheVariants.{Sound, Conflict, Majority, Erased, Unsound}
+use Rattle.lab_mend.specs.Majority.{majority}
+
+-- whether the two pages, which have areas of the same lengths, are one
+abbrev pub is_same : Page → Page → Bool
+is_same p q = bytes_eq (bytes_of_page p) (bytes_of_page q)
+
+-- what is written of a row whose sound pages differ: 00h bytes alone
+abbrev pub zero_page : Geometry → Page
+zero_page g = page (replicate g.data_bytes 0) (replicate g.spare_bytes 0)
+
+-- a page that is written, and where it is from
+pub record Choice : Type 0 where
+  pub its : Page
+  pub origin : Origin
+
+abbrev pub chosen : Page → Origin → Choice
+chosen p origin = record { its = p; origin = origin }
+
+-- an erased page, if one of these is, else the first one as it is
+abbrev pub by_erased : Geometry → List Page → List Page → Choice
+by_erased g pages [] = chosen (get_or pages 0 (zero_page g)) Unsound
+by_erased g pages (e ∷ more) = chosen e Erased
+
+-- of three or more the majority of each bit, where that is sound
+unfoldable pub by_majority : Geometry → List Page → Choice
+by_majority g pages = if nat_le 3 (length pages) && is_sound (majority g pages) then chosen (majority g pages) Majority else by_erased g pages (filter is_erased_page pages)
+
+-- the sound one, where all that are sound are one page
+abbrev pub by_sound : Geometry → List Page → List Page → Choice
+by_sound g pages [] = by_majority g pages
+by_sound g pages (p ∷ more) = if list_all (is_same p) more then chosen p Sound else chosen (zero_page g) Conflict
+
+-- what is written of a row with these pages, one of each reading
+unfoldable pub choice : Geometry → List Page → Choice
+choice g pages = by_sound g pages (filter is_sound pages)
+
+-- ---- laws
+
+abbrev pub NoneSound : List Page → Type 0
+NoneSound pages = All (λ p. record_of p ≡ None) pages
+
+abbrev pub NoneErased : List Page → Type 0
+NoneErased pages = All (λ p. is_erased_page p ≡ false) pages
+
+-- what each origin says of a page that is written
+abbrev pub Means : Geometry → List Page → Page → Origin → Type 0
+Means g pages p Sound = Contains pages p × IsSome (record_of p) × ((q : Page) → Contains pages q → IsSome (record_of q) → q ≡ p)
+Means g pages p Conflict = (p ≡ zero_page g) × (a : Page) × (b : Page) × Contains pages a × Contains pages b × IsSome (record_of a) × IsSome (record_of b) × (a ≢ b)
+Means g pages p Majority = NoneSound pages × (3 ≤ length pages) × (p ≡ majority g pages) × IsSome (record_of p)
+Means g pages p Erased = NoneSound pages × Contains pages p × (is_erased_page p ≡ true)
+Means g pages p Unsound = NoneSound pages × NoneErased pages × (p ≡ get_or pages 0 (zero_page g))
+
+-- the areas of these pages have the die's lengths
+abbrev pub AreSized : Geometry → List Page → Type 0
+AreSized g pages = All (λ p. (length p.body ≡ g.data_bytes) × (length p.spare ≡ g.spare_bytes)) pages
+
+-- Of any pages of the die the origin that is told is true.
+abbrev pub ChoiceLaw : Type 0
+ChoiceLaw = (g : Geometry) (pages : List Page) → AreSized g pages → Means g pages (choice g pages).its (choice g pages).origin
+
+-- each page of the one list is a page of the other
+abbrev pub AreAmong : List Page → List Page → Type 0
+AreAmong pages others = (p : Page) → Contains pages p → Contains others p
+
+-- Where some page is sound, it doesn't matter in which order the readings come, nor how often one comes.
+abbrev pub OrderLaw : Type 0
+OrderLaw = (g : Geometry) (pages others : List Page) (p : Page) → AreSized g pages → AreAmong pages others → AreAmong others pages → Contains pages p → IsSome (record_of p) → choice g pages ≡ choice g others
+
+-- A page of 00h bytes is never sound.
+abbrev pub ZeroLaw : Type 0
+ZeroLaw = (g : Geometry) → record_of (zero_page g) ≡ None

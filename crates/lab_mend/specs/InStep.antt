@@ -1,0 +1,66 @@
+-- Readers that are read in step.
+use Rattle.std.specs.Prelude.{◌≡◌, ℕ, ◌+◌, ◌<◌, ◌≤◌, List, [], length, get_or, map, drop, slice_range, Option, Some, None}
+use Rattle.lab_scan.specs.declared.pages.Cut.{Cut}
+use Rattle.lab_scan.specs.declared.pages.Cut.TheVariants.{Ended, Failed}
+use Rattle.lab_scan.specs.declared.pages.ScanFault.{ScanFault}
+use Rattle.lab_scan.specs.declared.pages.ScanFault.TheVariants as fault
+use Rattle.lab_mend.specs.declared.in_step.ReadingCut.{ReadingCut}
+use Rattle.lab_mend.specs.declared.in_step.ReadingFault.{ReadingFault}
+use Rattle.lab_mend.specs.Pages.{piece_at}
+
+-- what is known of a reader that has read so many bytes of this file, and no more
+pub record IsAt (known : Option (List ℕ)) (file : List ℕ) (at : ℕ) : Type 0 where
+  pub left : known ≡ Some (drop at file)
+  pub within : at ≤ length file
+
+-- each reader tells its bytes, and has read so many of its own file
+pub record AreAt (known : List (Option (List ℕ))) (files : List (List ℕ)) (at : ℕ) : Type 0 where
+  pub size : length known ≡ length files
+  pub each : (i : ℕ) → i < length files → IsAt (get_or known i None) (get_or files i []) at
+
+-- the readers tell their bytes, which are those of these files
+abbrev pub Tell : List (Option (List ℕ)) → List (List ℕ) → Type 0
+Tell known files = known ≡ map Some files
+
+-- the first readers have read a piece of this size more, which stands among the pieces; the others have not
+pub record AreBetween (known : List (Option (List ℕ))) (files : List (List ℕ)) (at size : ℕ) (pieces : List ℕ) (first : ℕ) : Type 0 where
+  pub count : length known ≡ length files
+  pub read : (i : ℕ) → i < first → IsAt (get_or known i None) (get_or files i []) (at + size)
+  pub are : (i : ℕ) → i < first → piece_at pieces size i ≡ slice_range (get_or files i []) at (at + size)
+  pub unread : (i : ℕ) → first ≤ i → i < length files → IsAt (get_or known i None) (get_or files i []) at
+
+-- each has read a piece of this size more, and these are the pieces
+pub record AreRead (known : List (Option (List ℕ))) (files : List (List ℕ)) (at size : ℕ) (pieces : List ℕ) : Type 0 where
+  pub now : AreAt known files (at + size)
+  pub are : (i : ℕ) → i < length files → piece_at pieces size i ≡ slice_range (get_or files i []) at (at + size)
+
+-- the file of this number has fewer bytes than so many
+pub record EndsEarly (files : List (List ℕ)) (i before : ℕ) : Type 0 where
+  pub within : i < length files
+  pub short : length (get_or files i []) < before
+
+abbrev pub CutAt : List (List ℕ) → ℕ → ℕ → Cut → Type 0
+CutAt files before i Ended = EndsEarly files i before
+CutAt files before i Failed = i < length files
+
+-- why a piece was not read that ends at this byte
+abbrev pub IsShortAt : List (List ℕ) → ℕ → ReadingCut → Type 0
+IsShortAt files before r = CutAt files before r.reading r.cut
+
+-- each file has just so many bytes
+abbrev pub HaveEnded : List (List ℕ) → ℕ → Type 0
+HaveEnded files at = (i : ℕ) → i < length files → length (get_or files i []) ≡ at
+
+-- the file of this number has more bytes than so many
+pub record EndsLate (files : List (List ℕ)) (i at : ℕ) : Type 0 where
+  pub within : i < length files
+  pub long : at < length (get_or files i [])
+
+abbrev pub LongAt : List (List ℕ) → ℕ → ℕ → ScanFault → Type 0
+LongAt files at i fault.WrongLength = EndsLate files i at
+LongAt files at i fault.Source = i < length files
+LongAt files at i fault.Stopped = ⊥
+
+-- why a reader is not at its end
+abbrev pub IsLongAt : List (List ℕ) → ℕ → ReadingFault → Type 0
+IsLongAt files at r = LongAt files at r.reading r.fault

@@ -1,0 +1,24 @@
+-- pages with a bit turned
+pub mod Bits
+-- which bit of a page is mended
+pub mod Mend
+-- what was hashed of a page whose bits are tried
+pub mod Seal
+-- what is written while the pages are taken
+pub mod Repairing
+-- what was written in the end
+pub mod Repaired
+-- the pages of a row
+pub mod Pages
+-- what more than half of them say
+pub mod Majority
+-- which page is written
+pub mod Choice
+-- what is found while it is chosen
+pub mod Found
+-- what is written while the rows are taken
+pub mod Merging
+-- readers that are read in step
+pub mod InStep
+-- what was written in the end
+pub mod Merged

@@ -1,0 +1,68 @@
+-- What was written of several readings in the end, and why nothing was.
+use Rattle.std.specs.Prelude.{◌≡◌, ℕ, ◌*◌, ◌<◌, List, [], length, get_or, map, Option, IfSome}
+use Rattle.std.specs.List.{range_with_len}
+use Rattle.page_layout.specs.declared.geometry.Geometry.{Geometry}
+use Rattle.page_layout.specs.Geometry.{row_count, page_bytes}
+use Rattle.page_layout.specs.Page.{Page}
+use Rattle.page_layout.specs.Raw.{page_from}
+use Rattle.lab_scan.specs.Scan.{image_bytes}
+use Rattle.lab_scan.specs.declared.pages.Cut.{Cut}
+use Rattle.lab_scan.specs.declared.pages.Cut.TheVariants as cut
+use Rattle.lab_scan.specs.declared.pages.ScanFault.{ScanFault}
+use Rattle.lab_scan.specs.declared.pages.ScanFault.TheVariants as scan
+use Rattle.lab_mend.specs.declared.merging.RowFault.{RowFault}
+use Rattle.lab_mend.specs.declared.merging.RowFault.TheVariants as row
+use Rattle.lab_mend.specs.declared.merging.Tally.{Tally}
+use Rattle.lab_mend.specs.declared.merge.MergeFault.{MergeFault}
+use Rattle.lab_mend.specs.declared.merge.MergeFault.TheVariants as fault
+use Rattle.lab_mend.specs.Merging.{piece_of, conflicts_below, unsound_below, tally_below, AreListed, AreOwn}
+
+-- the pages of a row, one of each reading
+abbrev pub row_of : Geometry → List (List ℕ) → ℕ → List Page
+row_of g files row = map (λ file. page_from g file (row * page_bytes g)) files
+
+-- Each reading has as many bytes as an image. The pieces are the pages that are written of the rows, in order; the rows that are named are those of
+-- which two sound pages differ, and those of which the first reading's page was written as it is, by rising row; and the others are counted by
+-- what was written of them.
+pub record IsMerged (g : Geometry) (files : List (List ℕ)) (conflicts unsound : List ℕ) (tally : Tally) (pieces : Option (List (List ℕ))) : Type 0 where
+  pub whole : (i : ℕ) → i < length files → length (get_or files i []) ≡ image_bytes g
+  pub pages : IfSome pieces (λ ps. ps ≡ map (λ row. piece_of g (row_of g files row)) (range_with_len 0 (row_count g)))
+  pub conflicts_are : conflicts ≡ conflicts_below g (row_of g files) (row_count g)
+  pub unsound_are : unsound ≡ unsound_below g (row_of g files) (row_count g)
+  pub tally_is : tally ≡ tally_below g (row_of g files) (row_count g)
+
+-- whatever the readers gave
+pub record IsOwnMerge (g : Geometry) (conflicts unsound : List ℕ) (pieces : Option (List (List ℕ))) : Type 0 where
+  pub listed : AreListed (row_count g) conflicts
+  pub unsound_listed : AreListed (row_count g) unsound
+  pub own : IfSome pieces (AreOwn g (row_count g) conflicts)
+
+-- `WrongLength` says of the reading of that number that its bytes aren't as many as an image has
+abbrev pub IsUnmerged : Geometry → List (List ℕ) → MergeFault → Type 0
+IsUnmerged g files (fault.WrongLength i) = (i < length files) × (¬ (length (get_or files i []) ≡ image_bytes g))
+IsUnmerged g files (fault.Source i) = i < length files
+IsUnmerged g files fault.Target = Unit {0}
+IsUnmerged g files fault.OutOfMemory = Unit {0}
+
+-- a fault that names a reading names one of so many
+abbrev pub IsOfReading : ℕ → MergeFault → Type 0
+IsOfReading count (fault.WrongLength i) = i < count
+IsOfReading count (fault.Source i) = i < count
+IsOfReading count fault.Target = Unit {0}
+IsOfReading count fault.OutOfMemory = Unit {0}
+
+-- the fault of a reading that ended early or failed
+abbrev pub fault_of_cut : ℕ → Cut → MergeFault
+fault_of_cut i cut.Ended = fault.WrongLength i
+fault_of_cut i cut.Failed = fault.Source i
+
+-- of one that is not at its end
+abbrev pub fault_of_end : ℕ → ScanFault → MergeFault
+fault_of_end i scan.WrongLength = fault.WrongLength i
+fault_of_end i scan.Source = fault.Source i
+fault_of_end i scan.Stopped = fault.Source i
+
+-- of a row that was not written
+abbrev pub fault_of_row : RowFault → MergeFault
+fault_of_row row.Target = fault.Target
+fault_of_row row.OutOfMemory = fault.OutOfMemory

@@ -1,0 +1,102 @@
+-- What is written and told while the rows are taken.
+use Rattle.std.specs.Prelude.{◌≡◌, ℕ, ◌+◌, ◌<◌, ◌≤◌, ◌==◌, Bool, All, List, [], ◌∷◌, ◌++◌, length, get_or, replicate, count_by, Option, IfSome}
+use Rattle.std.specs.List.{range_with_len, filter, AllPairs, Contains}
+use Rattle.page_layout.specs.declared.geometry.Geometry.{Geometry}
+use Rattle.page_layout.specs.Geometry.{row_count, page_bytes}
+use Rattle.page_layout.specs.Page.{Page}
+use Rattle.page_layout.specs.Raw.{bytes_of_page}
+use Rattle.lab_mend.specs.declared.choice.Origin.{Origin}
+use Rattle.lab_mend.specs.declared.choice.Origin.TheVariants.{Sound, Conflict, Majority, Erased, Unsound}
+use Rattle.lab_mend.specs.declared.merging.Tally.{Tally}
+use Rattle.lab_mend.specs.Choice.{choice}
+
+-- ---- one row more
+
+-- the rows that are named, with one more
+abbrev pub named : List ℕ → ℕ → Origin → List ℕ
+named rows row Sound = rows
+named rows row Conflict = rows ++ (row ∷ [])
+named rows row Majority = rows
+named rows row Erased = rows
+named rows row Unsound = rows
+
+-- the rows of which the first reading's page is written as it is, with one more
+abbrev pub with_unsound : List ℕ → ℕ → Origin → List ℕ
+with_unsound rows row Sound = rows
+with_unsound rows row Conflict = rows
+with_unsound rows row Majority = rows
+with_unsound rows row Erased = rows
+with_unsound rows row Unsound = rows ++ (row ∷ [])
+
+abbrev pub counted : Tally → Origin → Tally
+counted t Sound = record { sound = t.sound + 1; majority = t.majority; erased = t.erased; unsound = t.unsound }
+counted t Conflict = t
+counted t Majority = record { sound = t.sound; majority = t.majority + 1; erased = t.erased; unsound = t.unsound }
+counted t Erased = record { sound = t.sound; majority = t.majority; erased = t.erased + 1; unsound = t.unsound }
+counted t Unsound = record { sound = t.sound; majority = t.majority; erased = t.erased; unsound = t.unsound + 1 }
+
+-- ---- of rows whose pages are known
+
+-- the place of an origin among the five
+abbrev pub place_of : Origin → ℕ
+place_of Sound = 0
+place_of Conflict = 1
+place_of Majority = 2
+place_of Erased = 3
+place_of Unsound = 4
+
+-- whether a row's page is of this origin
+abbrev pub is_from : Geometry → (ℕ → List Page) → Origin → ℕ → Bool
+is_from g rows origin row = place_of (choice g (rows row)).origin == place_of origin
+
+-- the first rows of which two sound pages differ
+unfoldable pub conflicts_below : Geometry → (ℕ → List Page) → ℕ → List ℕ
+conflicts_below g rows n = filter (is_from g rows Conflict) (range_with_len 0 n)
+
+-- the first rows of which no page is sound or erased, nor the majority sound
+unfoldable pub unsound_below : Geometry → (ℕ → List Page) → ℕ → List ℕ
+unsound_below g rows n = filter (is_from g rows Unsound) (range_with_len 0 n)
+
+-- how many of the first rows are of each origin but `Conflict`
+unfoldable pub tally_below : Geometry → (ℕ → List Page) → ℕ → Tally
+tally_below g rows n = record {
+  sound = count_by (is_from g rows Sound) (range_with_len 0 n);
+  majority = count_by (is_from g rows Majority) (range_with_len 0 n);
+  erased = count_by (is_from g rows Erased) (range_with_len 0 n);
+  unsound = count_by (is_from g rows Unsound) (range_with_len 0 n);
+}
+
+-- the bytes of the page that is written of these pages of a row
+abbrev pub piece_of : Geometry → List Page → List ℕ
+piece_of g pages = bytes_of_page (choice g pages).its
+
+-- what the first rows come to
+pub record Shows (g : Geometry) (rows : ℕ → List Page) (n : ℕ) (conflicts : List ℕ) (tally : Tally) (pieces : Option (List (List ℕ))) : Type 0 where
+  pub conflicts_are : conflicts ≡ conflicts_below g rows n
+  pub tally_is : tally ≡ tally_below g rows n
+  pub pieces_are : IfSome pieces (λ ps. (row : ℕ) → row < n → get_or ps row [] ≡ piece_of g (rows row))
+
+-- ---- whatever the pages were
+
+-- each of the first pieces has as many bytes as a page, and those of the rows that are named are 00h bytes
+pub record AreOwn (g : Geometry) (n : ℕ) (conflicts : List ℕ) (pieces : List (List ℕ)) : Type 0 where
+  pub size : length pieces ≡ row_count g
+  pub sized : (row : ℕ) → row < n → length (get_or pieces row []) ≡ page_bytes g
+  pub zeros : (row : ℕ) → Contains conflicts row → get_or pieces row [] ≡ replicate (page_bytes g) 0
+
+-- rows among the first ones, each once, by rising row
+pub record AreListed (n : ℕ) (conflicts : List ℕ) : Type 0 where
+  pub within : All (λ row. row < n) conflicts
+  pub rising : AllPairs (λ a b. a < b) conflicts
+
+pub record AreFew (n : ℕ) (tally : Tally) : Type 0 where
+  pub sound : tally.sound ≤ n
+  pub majority : tally.majority ≤ n
+  pub erased : tally.erased ≤ n
+  pub unsound : tally.unsound ≤ n
+
+pub record Stands (g : Geometry) (n : ℕ) (conflicts : List ℕ) (tally : Tally) (scratch : List ℕ) (pieces : Option (List (List ℕ))) : Type 0 where
+  pub scratch_size : length scratch ≡ page_bytes g
+  pub few : AreFew n tally
+  pub listed : AreListed n conflicts
+  pub own : IfSome pieces (AreOwn g n conflicts)

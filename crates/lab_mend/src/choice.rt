@@ -1,0 +1,242 @@
+//! Which page is written of a row. Its pages, one of each reading, stand one behind another.
+ghost use Rattle.std.specs.Prelude.{◌≡◌, ◌<◌, ◌≤◌, ◌+◌, ◌*◌, ◌&&◌, nat_le, true, [], ◌∷◌, ◌++◌, length, replicate};
+ghost use Rattle.std.specs.Str.{bytes_eq};
+ghost use Rattle.page_layout.specs.Geometry.{page_bytes};
+ghost use Rattle.page_layout.specs.Raw.{bytes_of_page};
+ghost use Rattle.page_layout.specs.Sound.{is_erased_page};
+ghost use Rattle.lab_scan.specs.PageBytes.{is_sound};
+ghost use Rattle.lab_mend.specs.Choice;
+ghost use Rattle.lab_mend.specs.Choice.{by_erased, by_majority};
+ghost use Rattle.lab_mend.specs.Majority.{majority};
+ghost use Rattle.lab_mend.specs.Pages.{page_in, pages_in, piece_at};
+ghost use Rattle.lab_mend.specs.Found.{IsAgreed, IsFirstErased, WritesChoice, erased_below, sound_below};
+
+use crate::majority::write_majority;
+use lab_scan::is_sound;
+use page_layout::geometry::Geometry;
+use page_layout::record::is_erased;
+
+/// Where a page that is written is from.
+#[derive(Clone, Copy, Debug, PartialEq, Eq)]
+pub enum Origin {
+    /// A reading whose page is sound; so is no other page of the row.
+    Sound,
+    /// Two sound pages differ: 00h bytes are written.
+    Conflict,
+    /// No page is sound, and of three or more readings the majority of each bit is.
+    Majority,
+    /// No page is sound, nor the majority; the page is erased.
+    Erased,
+    /// No page is sound or erased, nor is the majority sound: the first reading's page as it is.
+    Unsound,
+}
+
+// What the sound pages of a row come to.
+#[derive(Clone, Copy)]
+pub(crate) enum Agreed {
+    // there is none
+    Never,
+    // all are one page, which is that of this reading
+    One(usize),
+    // two differ
+    Apart,
+}
+
+// The bytes of a page.
+fn page_at<'a>(pages: &'a [u8], size: usize, i: usize) -> &'a [u8]
+    requires { i * size + size ≤ length pages.now }
+    ensures { result.now ≡ piece_at pages.now size i }
+{
+    &pages[i * size..i * size + size]
+}
+
+// Whether two pages have the same bytes.
+fn is_same(pages: &[u8], size: usize, i: usize, j: usize) -> bool
+    requires first { i * size + size ≤ length pages.now }
+    requires second { j * size + size ≤ length pages.now }
+    ensures { result ≡ bytes_eq (piece_at pages.now size i) (piece_at pages.now size j) }
+{
+    page_at(pages, size, i) == page_at(pages, size, j)
+}
+
+// Whether a page is sound, where it is known whether the first one is: the same bytes are not hashed again.
+fn is_sound_at(geometry: &Geometry, pages: &[u8], i: usize, first: bool) -> bool
+    requires first_in { page_bytes geometry.now ≤ length pages.now }
+    requires page_in { i * page_bytes geometry.now + page_bytes geometry.now ≤ length pages.now }
+    requires first_is { first ≡ is_sound (page_in geometry.now pages.now 0) }
+    ensures { result ≡ is_sound (page_in geometry.now pages.now i) }
+{
+    let size = geometry.data_bytes() + geometry.spare_bytes();
+    if is_same(pages, size, 0, i) {
+        first
+    } else {
+        is_sound(geometry, page_at(pages, size, i))
+    }
+}
+
+// What the sound pages come to with one page more, which is sound.
+fn meet(geometry: &Geometry, pages: &[u8], count: usize, agreed: Agreed, i: usize) -> Agreed
+    requires whole { length pages.now ≡ count * page_bytes geometry.now }
+    requires page_in { i < count }
+    requires agreed { IsAgreed geometry.now pages.now count (sound_below geometry.now pages.now i) agreed }
+    ensures { IsAgreed geometry.now pages.now count (sound_below geometry.now pages.now i ++ (page_in geometry.now pages.now i ∷ [])) result }
+{
+    let size = geometry.data_bytes() + geometry.spare_bytes();
+    match agreed {
+        Agreed::Never => Agreed::One(i),
+        Agreed::One(kept) => {
+            if is_same(pages, size, kept, i) {
+                Agreed::One(kept)
+            } else {
+                Agreed::Apart
+            }
+        }
+        Agreed::Apart => Agreed::Apart,
+    }
+}
+
+// What they come to with one page more, which may be sound.
+fn with_page(
+    geometry: &Geometry,
+    pages: &[u8],
+    count: usize,
+    agreed: Agreed,
+    i: usize,
+    sound: bool,
+) -> Agreed
+    requires whole { length pages.now ≡ count * page_bytes geometry.now }
+    requires page_in { i < count }
+    requires agreed { IsAgreed geometry.now pages.now count (sound_below geometry.now pages.now i) agreed }
+    requires sound_is { sound ≡ is_sound (page_in geometry.now pages.now i) }
+    ensures { IsAgreed geometry.now pages.now count (sound_below geometry.now pages.now (i + 1)) result }
+{
+    if sound {
+        meet(geometry, pages, count, agreed, i)
+    } else {
+        agreed
+    }
+}
+
+// What the sound pages come to.
+fn agree(geometry: &Geometry, pages: &[u8], count: usize) -> Agreed
+    requires some { 0 < count }
+    requires whole { length pages.now ≡ count * page_bytes geometry.now }
+    ensures { IsAgreed geometry.now pages.now count (sound_below geometry.now pages.now count) result }
+{
+    let size = geometry.data_bytes() + geometry.spare_bytes();
+    let first = is_sound(geometry, page_at(pages, size, 0));
+    let mut agreed = Agreed::Never;
+    for i in 0..count {
+        let sound = is_sound_at(geometry, pages, i, first);
+        agreed = with_page(geometry, pages, count, agreed, i, sound);
+    }
+    agreed
+}
+
+// Whether a page is erased.
+fn is_erased_at(geometry: &Geometry, pages: &[u8], i: usize) -> bool
+    requires { i * page_bytes geometry.now + page_bytes geometry.now ≤ length pages.now }
+    ensures { result ≡ is_erased_page (page_in geometry.now pages.now i) }
+{
+    let size = geometry.data_bytes() + geometry.spare_bytes();
+    let (body, spare) = page_at(pages, size, i).split_at(geometry.data_bytes());
+    is_erased(body, spare)
+}
+
+// The first erased page, if there is one.
+fn find_erased(geometry: &Geometry, pages: &[u8], count: usize) -> Option<usize>
+    requires { length pages.now ≡ count * page_bytes geometry.now }
+    ensures { IsFirstErased geometry.now pages.now count (erased_below geometry.now pages.now count) result }
+{
+    for i in 0..count {
+        if is_erased_at(geometry, pages, i) {
+            return Some(i);
+        }
+    }
+    None
+}
+
+// Writes a page of the row.
+fn copy_page(geometry: &Geometry, pages: &[u8], i: usize, out: &mut [u8])
+    requires within { i * page_bytes geometry.now + page_bytes geometry.now ≤ length pages.now }
+    requires room { length out.old ≡ page_bytes geometry.now }
+    ensures { out.new ≡ piece_at pages.now (page_bytes geometry.now) i }
+{
+    let size = geometry.data_bytes() + geometry.spare_bytes();
+    out.copy_from_slice(page_at(pages, size, i));
+}
+
+// Writes 00h bytes.
+fn blank_page(geometry: &Geometry, out: &mut [u8])
+    requires { length out.old ≡ page_bytes geometry.now }
+    ensures { out.new ≡ replicate (page_bytes geometry.now) 0 }
+{
+    out.fill(0);
+}
+
+// Writes the page that is chosen where no page is sound, nor the majority.
+fn choose_erased(geometry: &Geometry, pages: &[u8], count: usize, out: &mut [u8]) -> Origin
+    requires some { 0 < count }
+    requires whole { length pages.now ≡ count * page_bytes geometry.now }
+    requires room { length out.old ≡ page_bytes geometry.now }
+    ensures { WritesChoice (by_erased geometry.now (pages_in geometry.now pages.now count) (erased_below geometry.now pages.now count)) result out.new }
+{
+    match find_erased(geometry, pages, count) {
+        Some(i) => {
+            copy_page(geometry, pages, i, out);
+            Origin::Erased
+        }
+        None => {
+            copy_page(geometry, pages, 0, out);
+            Origin::Unsound
+        }
+    }
+}
+
+// Writes the majority of each bit, of three or more pages, and answers whether it is sound.
+fn has_majority(geometry: &Geometry, pages: &[u8], count: usize, out: &mut [u8]) -> bool
+    requires whole { length pages.now ≡ count * page_bytes geometry.now }
+    requires room { length out.old ≡ page_bytes geometry.now }
+    ensures is { result ≡ (nat_le 3 count && is_sound (majority geometry.now (pages_in geometry.now pages.now count))) }
+    ensures page { result ≡ true → out.new ≡ bytes_of_page (majority geometry.now (pages_in geometry.now pages.now count)) }
+{
+    if count < 3 {
+        return false;
+    }
+    write_majority(geometry, pages, count, out);
+    is_sound(geometry, out)
+}
+
+// Writes the page that is chosen where no page is sound.
+fn choose_majority(geometry: &Geometry, pages: &[u8], count: usize, out: &mut [u8]) -> Origin
+    requires some { 0 < count }
+    requires whole { length pages.now ≡ count * page_bytes geometry.now }
+    requires room { length out.old ≡ page_bytes geometry.now }
+    ensures { WritesChoice (by_majority geometry.now (pages_in geometry.now pages.now count)) result out.new }
+{
+    if has_majority(geometry, pages, count, out) {
+        Origin::Majority
+    } else {
+        choose_erased(geometry, pages, count, out)
+    }
+}
+
+/// Writes the page that is chosen of a row, and answers where it is from.
+pub(crate) fn choose(geometry: &Geometry, pages: &[u8], count: usize, out: &mut [u8]) -> Origin
+    requires some { 0 < count }
+    requires whole { length pages.now ≡ count * page_bytes geometry.now }
+    requires room { length out.old ≡ page_bytes geometry.now }
+    ensures { WritesChoice (Rattle.lab_mend.specs.Choice.choice geometry.now (pages_in geometry.now pages.now count)) result out.new }
+{
+    match agree(geometry, pages, count) {
+        Agreed::One(i) => {
+            copy_page(geometry, pages, i, out);
+            Origin::Sound
+        }
+        Agreed::Apart => {
+            blank_page(geometry, out);
+            Origin::Conflict
+        }
+        Agreed::Never => choose_majority(geometry, pages, count, out),
+    }
+}

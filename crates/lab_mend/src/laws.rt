@@ -1,0 +1,62 @@
+//! What the definitions come to.
+ghost use Rattle.lab_mend.specs.Bits.{TurnedLaw};
+ghost use Rattle.lab_mend.specs.Choice.{ChoiceLaw, OrderLaw, ZeroLaw};
+ghost use Rattle.lab_mend.specs.Majority.{MajorityLaw};
+ghost use Rattle.lab_mend.specs.Mend.{AgainLaw, KeptLaw, MendLaw, MendedLaw};
+ghost use Rattle.lab_mend.specs.Repaired.{RowsLaw};
+ghost use Rattle.lab_mend.specs.Repairing.{OwnLaw};
+
+/// A page with a bit turned differs in that bit and in no other.
+pub fn turned_law()
+    ensures { TurnedLaw }
+{}
+
+/// The bit that is turned is of a page that is neither erased nor sound the lowest one whose turning makes it sound, and else there is none.
+pub fn mend_law()
+    ensures { MendLaw }
+{}
+
+/// A mended page is the page as it was, or sound and one bit away from it.
+pub fn mended_law()
+    ensures { MendedLaw }
+{}
+
+/// A sound page and an erased one stay as they are.
+pub fn kept_law()
+    ensures { KeptLaw }
+{}
+
+/// A mended page is mended no further.
+pub fn again_law()
+    ensures { AgainLaw }
+{}
+
+/// Whatever the reader gave, a row that the list names was asked for, and its page is sound.
+pub fn own_law()
+    ensures { OwnLaw }
+{}
+
+/// Each row that is asked for gets the mended page, each other one its own page byte for byte, and only rows that are asked for are listed.
+pub fn rows_law()
+    ensures { RowsLaw }
+{}
+
+/// A bit of the majority's page is set just where more than half of the pages have it set.
+pub fn majority_law()
+    ensures { MajorityLaw }
+{}
+
+/// Of any pages of the die the origin that is told of the page that is written is true.
+pub fn choice_law()
+    ensures { ChoiceLaw }
+{}
+
+/// Where some page is sound, it does not matter in which order the readings come, nor how often one comes.
+pub fn order_law()
+    ensures { OrderLaw }
+{}
+
+/// A page of 00h bytes is never sound.
+pub fn zero_law()
+    ensures { ZeroLaw }
+{}

@@ -1,0 +1,135 @@
+//! The rows as they are written.
+ghost use Rattle.std.specs.Prelude.{◌≡◌, ◌<◌, ◌+◌, ◌*◌, ◌^◌, ℕ, List, length, OnOk};
+ghost use Rattle.page_layout.specs.Geometry.{page_bytes, row_count};
+ghost use Rattle.page_layout.specs.Page.{Page};
+ghost use Rattle.lab_mend.specs.Pages.{pages_in};
+ghost use Rattle.lab_mend.specs.Merging.{AreListed, Shows, Stands, counted, named, unsound_below, with_unsound};
+
+use crate::choice::{Origin, choose};
+use lab_scan::PageTarget;
+use page_layout::geometry::Geometry;
+use std::alloc::AllocError;
+
+/// How many rows there are whose sound pages do not differ, by what was written of them.
+#[derive(Clone, Copy, Debug, PartialEq, Eq)]
+pub struct Tally {
+    /// The page that is sound in some reading.
+    pub sound: u32,
+    /// The majority of each bit, which is sound.
+    pub majority: u32,
+    /// An erased page.
+    pub erased: u32,
+    /// The first reading's page as it is, which is neither erased nor sound.
+    pub unsound: u32,
+}
+
+// Why a row was not written.
+#[derive(Clone, Copy)]
+pub(crate) enum RowFault {
+    // it could not be
+    Target,
+    // it was to be named, and a growth was refused
+    OutOfMemory,
+}
+
+impl From<AllocError> for RowFault {
+    ghost use Rattle.std.specs.Prelude.{◌≡◌};
+    ghost use Rattle.lab_mend.specs.declared.merging.RowFault.{RowFault};
+
+    ghost from_gives = { λ _ fault. fault ≡ RowFault.OutOfMemory };
+
+    fn from(_error: AllocError) -> RowFault {
+        RowFault::OutOfMemory
+    }
+}
+
+// What was written so far.
+#[derive(Drop)]
+pub(crate) struct Merging<T> {
+    // the rows of which two sound pages differ
+    pub(crate) conflicts: Vec<u32>,
+    // those of which the first reading's page was written as it is
+    pub(crate) unsound: Vec<u32>,
+    pub(crate) tally: Tally,
+    // the page at hand
+    pub(crate) scratch: Vec<u8>,
+    pub(crate) target: T,
+}
+
+impl Tally {
+    // With one row more.
+    fn count(self, origin: Origin) -> Tally
+        requires sound { self.sound + 1 < 2 ^ 32 }
+        requires majority { self.majority + 1 < 2 ^ 32 }
+        requires erased { self.erased + 1 < 2 ^ 32 }
+        requires unsound { self.unsound + 1 < 2 ^ 32 }
+        ensures { result ≡ counted self origin }
+    {
+        let mut tally = self;
+        match origin {
+            Origin::Conflict => (),
+            Origin::Sound => tally.sound += 1,
+            Origin::Majority => tally.majority += 1,
+            Origin::Erased => tally.erased += 1,
+            Origin::Unsound => tally.unsound += 1,
+        }
+        tally
+    }
+}
+
+// Names a row of which two sound pages differ.
+fn name_conflict(conflicts: &mut Vec<u32>, row: u32, origin: Origin) -> Result<(), AllocError>
+    ensures { OnOk result (conflicts.new.items ≡ named conflicts.old.items row origin) }
+{
+    match origin {
+        Origin::Conflict => {
+            conflicts.push(row)?;
+            Ok(())
+        }
+        Origin::Sound | Origin::Majority | Origin::Erased | Origin::Unsound => Ok(()),
+    }
+}
+
+// Names a row of which the first reading's page is written as it is.
+fn name_unsound(unsound: &mut Vec<u32>, row: u32, origin: Origin) -> Result<(), AllocError>
+    ensures { OnOk result (unsound.new.items ≡ with_unsound unsound.old.items row origin) }
+{
+    match origin {
+        Origin::Unsound => {
+            unsound.push(row)?;
+            Ok(())
+        }
+        Origin::Sound | Origin::Conflict | Origin::Majority | Origin::Erased => Ok(()),
+    }
+}
+
+impl<T: PageTarget> Merging<T> {
+    // Writes the page that is chosen of a row, whose pages stand one behind another.
+    pub(crate) fn take_row(
+        &mut self,
+        geometry: &Geometry,
+        row: u32,
+        pages: &[u8],
+        count: usize,
+    ) -> Result<(), RowFault>
+        requires row_in { row < row_count geometry.now }
+        requires some { 0 < count }
+        requires whole { length pages.now ≡ count * page_bytes geometry.now }
+        requires stands { Stands geometry.now row self.old.conflicts.items self.old.tally self.old.scratch.items (T.pieces self.old.target) }
+        ensures stands { OnOk result (Stands geometry.now (row + 1) self.new.conflicts.items self.new.tally self.new.scratch.items (T.pieces self.new.target)) }
+        ensures unsound { OnOk result ((rows : ℕ → List Page) → rows row ≡ pages_in geometry.now pages.now count
+            → self.old.unsound.items ≡ unsound_below geometry.now rows row → self.new.unsound.items ≡ unsound_below geometry.now rows (row + 1)) }
+        ensures listed { OnOk result (AreListed row self.old.unsound.items → AreListed (row + 1) self.new.unsound.items) }
+        ensures shows { OnOk result ((rows : ℕ → List Page) → rows row ≡ pages_in geometry.now pages.now count → Shows geometry.now rows row self.old.conflicts.items self.old.tally (T.pieces self.old.target)
+            → Shows geometry.now rows (row + 1) self.new.conflicts.items self.new.tally (T.pieces self.new.target)) }
+    {
+        let origin = choose(geometry, pages, count, &mut self.scratch);
+        name_conflict(&mut self.conflicts, row, origin)?;
+        name_unsound(&mut self.unsound, row, origin)?;
+        self.tally = self.tally.count(origin);
+        match self.target.put(row, &self.scratch) {
+            Ok(()) => Ok(()),
+            Err(_) => Err(RowFault::Target),
+        }
+    }
+}

@@ -1,6 +1,0 @@
-pub mod MajorityLemmas
-pub mod ChoiceLemmas
-pub mod FoundLemmas
-pub mod MergingLemmas
-pub mod InStepLemmas
-pub mod MergedLemmas

@@ -1,5 +1,0 @@
-use Rattle.lab_merge.proofs.MajorityLemmas.{majority_law}
-use Rattle.lab_merge.proofs.laws.majority_law.Goals as goal
-
-pub returns : goal.returns
-returns c = majority_law

@@ -1,5 +1,0 @@
-use Rattle.lab_merge.proofs.ChoiceLemmas.{order_law}
-use Rattle.lab_merge.proofs.laws.order_law.Goals as goal
-
-pub returns : goal.returns
-returns c = order_law

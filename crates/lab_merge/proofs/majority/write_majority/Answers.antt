@@ -1,6 +1,0 @@
-use Rattle.std.proofs.Common.{arith}
-use Rattle.lab_merge.proofs.MajorityLemmas.{majority_written}
-use Rattle.lab_merge.proofs.majority.write_majority.Goals as goal
-
-pub returns : goal.returns
-returns c = majority_written c.args.geometry.now c.args.pages.now c.loop-place.out c.args.count (omega arith) (λ j l. c.loop-place.invariant j (omega arith))

@@ -1,5 +1,0 @@
-use Rattle.lab_repair.proofs.MendLemmas.{again_law}
-use Rattle.lab_repair.proofs.laws.again_law.Goals as goal
-
-pub returns : goal.returns
-returns c = again_law

@@ -1,5 +1,0 @@
-use Rattle.lab_repair.proofs.MendLemmas.{kept_law}
-use Rattle.lab_repair.proofs.laws.kept_law.Goals as goal
-
-pub returns : goal.returns
-returns c = kept_law

@@ -1,5 +1,0 @@
-use Rattle.lab_repair.proofs.MendLemmas.{mend_law}
-use Rattle.lab_repair.proofs.laws.mend_law.Goals as goal
-
-pub returns : goal.returns
-returns c = mend_law
