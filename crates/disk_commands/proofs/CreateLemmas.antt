@@ -1,5 +1,5 @@
 -- Why a die was not made.
-use Rattle.std.proofs.Common.{◌≡◌, inl, inr, ℕ, Bool, true, false, List, Option, refl, subst, ◌∙◌}
+use Rattle.std.proofs.Common.{◌≡◌, inr, ℕ, Bool, true, false, List, Option, refl, subst}
 use Rattle.std.specs.Prelude.{Result, Ok, Err, IfErr, OnOk}
 use Rattle.std.specs.Borrow.{Bor}
 use Rattle.page_layout.specs.declared.geometry.Geometry.{Geometry}
@@ -8,14 +8,14 @@ use Rattle.disk_server.specs.declared.format.CreateFault.{CreateFault}
 use Rattle.disk_server.specs.declared.format.CreateFault.TheVariants as create
 use Rattle.disk_server.specs.declared.opened.OpenStoreFault.TheVariants as open_store
 use Rattle.disk_server.specs.Made.{IsUnmade}
-use Rattle.disk_shape.specs.declared.shapes.Shape.{Shape}
-use Rattle.disk_shape.specs.Text.{shape_text}
-use Rattle.disk_words.specs.declared.words.CreateWords.{CreateWords}
+use Rattle.disk_commands.specs.declared.shapes.Shape.{Shape}
+use Rattle.disk_commands.specs.ShapeText.{shape_text}
+use Rattle.disk_commands.specs.declared.words.CreateWords.{CreateWords}
 use Rattle.disk_commands.specs.declared.files.FileFault.TheVariants as file
 use Rattle.disk_commands.specs.declared.text.DiskFault.{DiskFault}
 use Rattle.disk_commands.specs.declared.text.DiskFault.TheVariants as fault
 use Rattle.disk_commands.specs.Asked.{IsShapeAsked}
-use Rattle.disk_commands.specs.Created.{HasCreated, IsDieFor, IsUncreated, IsUnformatted, IsUnkept, IsUnmadeFor, unformatted}
+use Rattle.disk_commands.specs.Created.{HasCreated, IsDieFor, IsUncreated, IsUnformatted, IsUnkept, unformatted}
 use Rattle.disk_commands.specs.Files.{Answers, FailsNoMore, Kept, with_kept}
 
 -- erased pages were not formatted, for this

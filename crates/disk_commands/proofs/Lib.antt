@@ -1,3 +1,8 @@
+pub mod GrammarLemmas
+pub mod MakeLemmas
+pub mod ShapeLemmas
+pub mod SizeLemmas
+pub mod ShapeTextLemmas
 pub mod CreateLemmas
 pub mod OpeningLemmas
 pub mod ProgramLemmas

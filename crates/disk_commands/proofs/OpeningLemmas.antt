@@ -5,9 +5,9 @@ use Rattle.disk_commands.specs.declared.files.FileFault.{FileFault}
 use Rattle.disk_commands.specs.declared.files.FileFault.TheVariants as file
 use Rattle.disk_commands.specs.declared.text.DiskFault.{DiskFault}
 use Rattle.disk_commands.specs.declared.text.DiskFault.TheVariants as fault
-use Rattle.disk_commands.specs.Files.{Answers, FailsCopy, FailsNoMore}
+use Rattle.disk_commands.specs.Files.{Answers, FailsCopy}
 use Rattle.file_die.specs.Store.{Held}
-use Rattle.disk_shape.specs.declared.shapes.Shape.{Shape}
+use Rattle.disk_commands.specs.declared.shapes.Shape.{Shape}
 use Rattle.disk_server.specs.declared.opened.OpenStoreFault.{OpenStoreFault}
 use Rattle.disk_server.specs.Stopped.{IsUnopenedLater}
 use Rattle.disk_commands.specs.Opening.{IsCopyFault, IsFaultAt, IsNotFree, IsShapeAt, IsShapeFault, IsStoreAt, IsUnopenedAt, told_at, told_of_copy}

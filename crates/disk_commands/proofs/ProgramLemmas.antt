@@ -1,10 +1,10 @@
 -- What each command comes to, by its answer.
-use Rattle.std.proofs.Common.{◌≡◌, ℕ, Bool, List, Option}
+use Rattle.std.proofs.Common.{◌≡◌, ℕ, Bool, List}
 use Rattle.std.specs.Prelude.{Result, Ok, Err, OnOk, OnErr, IfErr}
 use Rattle.std.specs.Io.KnownBytes.{Appends}
 use Rattle.file_die.specs.Store.{Held}
-use Rattle.disk_words.specs.declared.words.CreateWords.{CreateWords}
-use Rattle.disk_words.specs.declared.words.InfoWords.{InfoWords}
+use Rattle.disk_commands.specs.declared.words.CreateWords.{CreateWords}
+use Rattle.disk_commands.specs.declared.words.InfoWords.{InfoWords}
 use Rattle.disk_commands.specs.declared.text.DiskFault.{DiskFault}
 use Rattle.disk_commands.specs.Created.{HasCreated, IsUncreated}
 use Rattle.disk_commands.specs.Files.{Answers}

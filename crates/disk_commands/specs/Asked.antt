@@ -3,15 +3,15 @@ use Rattle.std.specs.Prelude.{◌≡◌, ◌⊎◌, ℕ, List, Option, Some, Non
 use Rattle.std.specs.Borrow.{Bor}
 use Rattle.page_layout.specs.declared.geometry.Geometry.{Geometry}
 use Rattle.command_words.specs.Numbers.{number_of}
-use Rattle.disk_shape.specs.declared.shapes.Shape.{Shape}
-use Rattle.disk_shape.specs.declared.words.GeometryWordFault.TheVariants as word
-use Rattle.disk_shape.specs.Shapes.{IsNoSize, IsShapeFor, cache_of}
-use Rattle.disk_shape.specs.Sizes.{SpellsSize}
-use Rattle.disk_shape.specs.Text.{IsWithin}
-use Rattle.disk_shape.specs.Words.{SaysGeometry, SaysNone}
-use Rattle.disk_words.specs.declared.words.CreateWords.{CreateWords}
-use Rattle.disk_words.specs.declared.words.MakeWords.{MakeWords}
-use Rattle.disk_words.specs.declared.words.MakeWords.TheVariants as make
+use Rattle.disk_commands.specs.declared.shapes.Shape.{Shape}
+use Rattle.disk_commands.specs.declared.shape_words.GeometryWordFault.TheVariants as word
+use Rattle.disk_commands.specs.Shapes.{IsNoSize, IsShapeFor, cache_of}
+use Rattle.disk_commands.specs.Sizes.{SpellsSize}
+use Rattle.disk_commands.specs.ShapeText.{IsWithin}
+use Rattle.disk_commands.specs.ShapeWords.{SaysGeometry, SaysNone}
+use Rattle.disk_commands.specs.declared.words.CreateWords.{CreateWords}
+use Rattle.disk_commands.specs.declared.words.MakeWords.{MakeWords}
+use Rattle.disk_commands.specs.declared.words.MakeWords.TheVariants as make
 use Rattle.disk_commands.specs.declared.text.DiskFault.{DiskFault}
 use Rattle.disk_commands.specs.declared.text.DiskFault.TheVariants as fault
 

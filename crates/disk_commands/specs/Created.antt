@@ -1,16 +1,16 @@
 -- A disk that was created.
-use Rattle.std.specs.Prelude.{◌≡◌, ◌⊎◌, ℕ, Bool, true, false, List, Option, Some}
+use Rattle.std.specs.Prelude.{◌≡◌, ◌⊎◌, ℕ, Bool, true, false, List, Option}
 use Rattle.std.specs.Borrow.{Bor}
 use Rattle.page_layout.specs.declared.geometry.Geometry.{Geometry}
 use Rattle.file_die.specs.Store.{Held, blank}
 use Rattle.image_check.specs.declared.refusal.Refusal.TheVariants.{TooStale}
 use Rattle.certificate.specs.Claim.{Claim}
 use Rattle.mount.specs.Mounted.{IsMounted, Refuses}
-use Rattle.disk_shape.specs.declared.shapes.Shape.{Shape}
-use Rattle.disk_shape.specs.Text.{shape_text}
-use Rattle.disk_words.specs.declared.words.CreateWords.{CreateWords}
-use Rattle.disk_words.specs.declared.words.MakeWords.{MakeWords}
-use Rattle.disk_words.specs.declared.words.MakeWords.TheVariants as make
+use Rattle.disk_commands.specs.declared.shapes.Shape.{Shape}
+use Rattle.disk_commands.specs.ShapeText.{shape_text}
+use Rattle.disk_commands.specs.declared.words.CreateWords.{CreateWords}
+use Rattle.disk_commands.specs.declared.words.MakeWords.{MakeWords}
+use Rattle.disk_commands.specs.declared.words.MakeWords.TheVariants as make
 use Rattle.disk_server.specs.declared.opened.OpenStoreFault.TheVariants as open_store
 use Rattle.disk_server.specs.declared.format.CreateFault.{CreateFault}
 use Rattle.disk_server.specs.declared.format.CreateFault.TheVariants as create

@@ -1,5 +1,5 @@
 -- What the files of disks may answer, and the disks that were put in their places.
-use Rattle.std.specs.Prelude.{◌≡◌, ℕ, Bool, false, List, [], ◌∷◌, ◌++◌, Option, Result, Ok, Err}
+use Rattle.std.specs.Prelude.{ℕ, Bool, false, List, [], ◌∷◌, ◌++◌, Option, Result, Ok, Err}
 use Rattle.std.specs.Option.{option_map}
 use Rattle.file_die.specs.Store.{Held}
 use Rattle.disk_commands.specs.declared.files.FileFault.{FileFault}

@@ -4,8 +4,8 @@ use Rattle.std.specs.List.{fold}
 use Rattle.page_layout.specs.declared.geometry.Geometry.{Geometry}
 use Rattle.certificate.specs.declared.block_state.BlockState.{BlockState}
 use Rattle.certificate.specs.Claim.{Claim, is_good}
-use Rattle.disk_shape.specs.declared.shapes.Shape.{Shape}
-use Rattle.disk_shape.specs.Text.{geometry_words}
+use Rattle.disk_commands.specs.declared.shapes.Shape.{Shape}
+use Rattle.disk_commands.specs.ShapeText.{geometry_words}
 use Rattle.disk_commands.specs.declared.printed.Info.{Info}
 use Rattle.disk_commands.specs.declared.printed.Form.{Form}
 use Rattle.disk_commands.specs.declared.printed.Form.TheVariants.{Text, Json}

@@ -1,3 +1,11 @@
+-- what the words of the command line mean
+pub mod Words
+-- a disk's shape: sizes, the shape for a size, its words and its file
+pub mod Sizes
+pub mod Shapes
+pub mod ShapeWords
+pub mod ShapeText
+-- the commands
 pub mod Asked
 pub mod Created
 pub mod Files

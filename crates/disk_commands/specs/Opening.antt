@@ -2,8 +2,8 @@
 use Rattle.std.specs.Prelude.{◌≡◌, ◌⊎◌, ℕ, Bool, true, List}
 use Rattle.std.specs.Borrow.{Bor}
 use Rattle.file_die.specs.Store.{Held}
-use Rattle.disk_shape.specs.declared.shapes.Shape.{Shape}
-use Rattle.disk_shape.specs.Text.{IsNoShape, IsShapeText}
+use Rattle.disk_commands.specs.declared.shapes.Shape.{Shape}
+use Rattle.disk_commands.specs.ShapeText.{IsNoShape, IsShapeText}
 use Rattle.disk_server.specs.Stopped.{IsUnopenedLater}
 use Rattle.disk_commands.specs.declared.files.FileFault.{FileFault}
 use Rattle.disk_commands.specs.declared.files.FileFault.TheVariants as file

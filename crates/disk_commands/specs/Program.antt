@@ -2,11 +2,11 @@
 use Rattle.std.specs.Prelude.{◌≡◌, ◌⊎◌, ℕ, Bool, List, Option, Result, Ok, Err, string_bytes}
 use Rattle.std.specs.Io.KnownBytes.{Appends}
 use Rattle.file_die.specs.Store.{Held}
-use Rattle.disk_words.specs.declared.words.CreateWords.{CreateWords}
-use Rattle.disk_words.specs.declared.words.InfoWords.{InfoWords}
-use Rattle.disk_words.specs.declared.words.DiskWords.{DiskWords}
-use Rattle.disk_words.specs.declared.words.DiskWords.TheVariants as asked
-use Rattle.disk_words.specs.Words.{IsAsked, IsNoCommand}
+use Rattle.disk_commands.specs.declared.words.CreateWords.{CreateWords}
+use Rattle.disk_commands.specs.declared.words.InfoWords.{InfoWords}
+use Rattle.disk_commands.specs.declared.words.DiskWords.{DiskWords}
+use Rattle.disk_commands.specs.declared.words.DiskWords.TheVariants as asked
+use Rattle.disk_commands.specs.Words.{IsAsked, IsNoCommand}
 use Rattle.disk_commands.specs.declared.text.DiskFault.{DiskFault}
 use Rattle.disk_commands.specs.declared.text.DiskFault.TheVariants as fault
 use Rattle.disk_commands.specs.Created.{HasCreated, IsUncreated}

@@ -1,5 +1,5 @@
 -- A disk that was served to one client.
-use Rattle.std.specs.Prelude.{◌≡◌, ◌⊎◌, ℕ, nat_le, Bool, true, false, List, [], length, Option, None, Result, Ok, Err, OnOk, if◌then◌else◌}
+use Rattle.std.specs.Prelude.{◌≡◌, ℕ, nat_le, Bool, true, false, List, [], length, Option, None, Result, Ok, Err, OnOk, if◌then◌else◌}
 use Rattle.std.specs.Borrow.{Bor}
 use Rattle.std.specs.Io.KnownBytes.{Keeps}
 use Rattle.page_layout.specs.declared.geometry.Geometry.{Geometry}
@@ -8,15 +8,15 @@ use Rattle.request_stream.specs.declared.reply.ServeFault.{ServeFault}
 use Rattle.file_die.specs.Store.{Held}
 use Rattle.file_die.specs.Die.{FileState}
 use Rattle.ftl_device.specs.declared.device.Device.{Device}
-use Rattle.device_disk.specs.Disk.{AsksTurn, contents_of, holds}
+use Rattle.disk_server.specs.Disk.{AsksTurn, contents_of, holds}
 use Rattle.nbd_stream.specs.declared.fault.DiskFault.{DiskFault as NbdFault}
 use Rattle.nbd_stream.specs.declared.request.End.{End}
 use Rattle.nbd_stream.specs.declared.request.End.TheVariants as end
 use Rattle.nbd_stream.specs.declared.task.Task.TheVariants.{Flush}
 use Rattle.nbd_stream.specs.Disk.{Contents, Performs, answer_from}
 use Rattle.nbd_stream.specs.Transmission.{Serves}
-use Rattle.disk_shape.specs.declared.shapes.Shape.{Shape}
-use Rattle.disk_words.specs.declared.words.ServeWords.{ServeWords}
+use Rattle.disk_commands.specs.declared.shapes.Shape.{Shape}
+use Rattle.disk_commands.specs.declared.words.ServeWords.{ServeWords}
 use Rattle.disk_server.specs.declared.served.Offer.{Offer}
 use Rattle.disk_server.specs.declared.synced.SyncedDisk.{SyncedDisk}
 use Rattle.disk_server.specs.Opened.{bytes_of, flash_in, is_honest_in}

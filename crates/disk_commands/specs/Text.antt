@@ -4,18 +4,12 @@ use Rattle.std.specs.Io.KnownBytes.{Appends}
 use Rattle.std.specs.Fmt.{decimal}
 use Rattle.page_layout.specs.declared.geometry.GeometryFault.{GeometryFault}
 use Rattle.page_layout.specs.declared.geometry.GeometryFault.TheVariants as limit
-use Rattle.image_check.specs.Names.{name_of}
-use Rattle.mount.specs.declared.format_fault.FormatFault.{FormatFault}
-use Rattle.mount.specs.declared.format_fault.FormatFault.TheVariants as format
-use Rattle.disk_shape.specs.declared.shapes.SizeFault.{SizeFault}
-use Rattle.disk_shape.specs.declared.shapes.SizeFault.TheVariants as size
-use Rattle.disk_shape.specs.declared.text.ShapeFault.{ShapeFault}
-use Rattle.disk_shape.specs.declared.text.ShapeFault.TheVariants as shape
-use Rattle.disk_shape.specs.Text.{member_words}
-use Rattle.disk_server.specs.declared.opened.OpenStoreFault.{OpenStoreFault}
-use Rattle.disk_server.specs.declared.opened.OpenStoreFault.TheVariants as open_store
-use Rattle.disk_server.specs.declared.format.CreateFault.{CreateFault}
-use Rattle.disk_server.specs.declared.format.CreateFault.TheVariants as create
+use Rattle.disk_commands.specs.declared.shapes.SizeFault.{SizeFault}
+use Rattle.disk_commands.specs.declared.shapes.SizeFault.TheVariants as size
+use Rattle.disk_commands.specs.declared.shape_text.ShapeFault.{ShapeFault}
+use Rattle.disk_commands.specs.declared.shape_text.ShapeFault.TheVariants as shape
+use Rattle.disk_commands.specs.ShapeText.{member_words}
+use Rattle.disk_server.specs.Words.{create_words, open_words}
 use Rattle.disk_commands.specs.declared.text.DiskFault.{DiskFault}
 use Rattle.disk_commands.specs.declared.text.DiskFault.TheVariants as fault
 
@@ -31,25 +25,6 @@ limit_words limit.Sectors = codes "Sectors"
 abbrev pub size_words : SizeFault → List ℕ
 size_words size.Zero = codes "a disk has at least one byte"
 size_words size.TooLarge = codes "a disk has at most 509349888 bytes"
-
-abbrev pub format_words : FormatFault → List ℕ
-format_words (format.TooFewGood good need) = codes "TooFewGood good " ++ (decimal good ++ (codes " need " ++ decimal need))
-format_words format.Bus = codes "Bus"
-format_words format.OutOfMemory = codes "OutOfMemory"
-format_words format.WriteFailed = codes "WriteFailed"
-format_words (format.NotFresh row) = codes "NotFresh row " ++ decimal row
-
-abbrev pub open_words : OpenStoreFault → List ℕ
-open_words open_store.OutOfMemory = codes "OutOfMemory"
-open_words open_store.Device = codes "Device"
-open_words open_store.Reset = codes "Reset"
-open_words open_store.Flush = codes "Flush"
-open_words (open_store.Mount refusal) = codes "Mount " ++ name_of refusal
-
-abbrev pub create_words : CreateFault → List ℕ
-create_words (create.Open why) = open_words why
-create_words (create.Format why) = codes "Format " ++ format_words why
-create_words create.Sync = codes "Sync"
 
 abbrev pub shape_words : ShapeFault → List ℕ
 shape_words shape.NotJson = codes "not JSON"

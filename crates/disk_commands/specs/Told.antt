@@ -4,8 +4,8 @@ use Rattle.std.specs.Io.KnownBytes.{Appends, Keeps}
 use Rattle.certificate.specs.Claim.{Claim}
 use Rattle.file_die.specs.Store.{Held}
 use Rattle.mount.specs.Mounted.{IsMounted}
-use Rattle.disk_shape.specs.declared.shapes.Shape.{Shape}
-use Rattle.disk_words.specs.declared.words.InfoWords.{InfoWords}
+use Rattle.disk_commands.specs.declared.shapes.Shape.{Shape}
+use Rattle.disk_commands.specs.declared.words.InfoWords.{InfoWords}
 use Rattle.disk_commands.specs.declared.printed.Form.{Form}
 use Rattle.disk_commands.specs.declared.printed.Form.TheVariants.{Text, Json}
 use Rattle.disk_commands.specs.declared.printed.Info.{Info}

@@ -1,13 +1,15 @@
 //! The shape that the words of `create` ask for.
 ghost use Rattle.std.specs.Prelude.{◌≡◌, IfOk, IfErr, Some};
-ghost use Rattle.disk_shape.specs.Text.{IsWithin};
-ghost use Rattle.disk_shape.specs.Words.{SaysGeometry};
+ghost use Rattle.disk_commands.specs.ShapeText.{IsWithin};
+ghost use Rattle.disk_commands.specs.ShapeWords.{SaysGeometry};
 ghost use Rattle.disk_commands.specs.Asked.{IsCacheAsked, IsCacheAt, IsGeometryAsked, IsGeometryFor, IsNoCacheAsked, IsNoGeometryAsked, IsNoGeometryAt, IsNoGeometryFor, IsNoShapeAsked, IsShapeAsked};
 
+use crate::shape_words::{GeometryWordFault, geometry_from};
+use crate::shapes::{Shape, cache_for, shape_for};
+use crate::sizes::size_from;
 use crate::text::DiskFault;
+use crate::words::{CreateWords, MakeWords};
 use command_words::number;
-use disk_shape::{GeometryWordFault, Shape, cache_for, geometry_from, shape_for, size_from};
-use disk_words::{CreateWords, MakeWords};
 use page_layout::geometry::Geometry;
 
 // The most entries of a cache.

@@ -1,6 +1,6 @@
 //! The command `create`: a new disk, of a size, of a geometry, or from a dump.
 ghost use Rattle.std.specs.Prelude.{◌≡◌, ◌≤◌, true, IfOk, IfErr, OnOk, OnErr};
-ghost use Rattle.disk_shape.specs.Text.{IsWithin, shape_text};
+ghost use Rattle.disk_commands.specs.ShapeText.{IsWithin, shape_text};
 ghost use Rattle.disk_commands.specs.Created.{HasCreated, IsDieFor, IsDieOf, IsNewDie, IsNoDump, IsUncreated, IsUnformatted, IsUnkept, IsUnmadeFor, Mounts};
 ghost use Rattle.disk_server.specs.Opened.{IsUnopened};
 ghost use Rattle.disk_commands.specs.Files.{FailsNoMore, with_kept};
@@ -8,10 +8,11 @@ ghost use Rattle.disk_commands.specs.Files.{FailsNoMore, with_kept};
 use crate::asked::shape_of;
 use crate::files::DiskFiles;
 use crate::opening::{die_bytes, told_at, told_of_copy, want_free};
+use crate::shape_text::write_shape;
+use crate::shapes::Shape;
 use crate::text::DiskFault;
+use crate::words::{CreateWords, MakeWords};
 use disk_server::{CreateFault, OpenStoreFault, format_store, mount_store};
-use disk_shape::{Shape, write_shape};
-use disk_words::{CreateWords, MakeWords};
 use file_die::Store;
 use image_check::Refusal;
 use std::alloc::Global;

@@ -8,8 +8,8 @@ use crate::files::DiskFiles;
 use crate::opening::{die_bytes, shape_at, told_at};
 use crate::printed::{Form, Info};
 use crate::text::DiskFault;
+use crate::words::InfoWords;
 use disk_server::mount_stopped;
-use disk_words::InfoWords;
 use std::alloc::Global;
 use std::io::{Error, ErrorKind, Write};
 

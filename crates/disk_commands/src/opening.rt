@@ -4,8 +4,9 @@ ghost use Rattle.page_layout.specs.Geometry.{page_bytes, row_count};
 ghost use Rattle.disk_commands.specs.Opening.{IsNotFree, IsShapeAt, IsShapeFault, told_at, told_of_copy};
 
 use crate::files::{DiskFiles, FileFault};
+use crate::shape_text::read_shape;
+use crate::shapes::Shape;
 use crate::text::DiskFault;
-use disk_shape::{Shape, read_shape};
 use page_layout::geometry::Geometry;
 use std::alloc::Global;
 

@@ -3,8 +3,9 @@ ghost use Rattle.std.specs.Prelude.{◌≡◌, ◌≤◌, length, IfOk, OnOk};
 ghost use Rattle.std.specs.Io.KnownBytes.{Appends};
 ghost use Rattle.disk_commands.specs.Info.{bad_count, erase_sum, free_count, info_of, info_text, least_wear, most_wear};
 
+use crate::shape_words::GeometryText;
+use crate::shapes::Shape;
 use certificate::{BlockState, Certificate};
-use disk_shape::Shape;
 use page_layout::geometry::Geometry;
 use std::alloc::{AllocError, Global};
 use std::fmt;
@@ -145,24 +146,6 @@ impl Info {
             Form::Text => write!(out, "{}", Lines(self)),
             Form::Json => write!(out, "{}", Object(self)),
         }
-    }
-}
-
-// A geometry, as the words of a command write it.
-#[derive(Clone, Copy)]
-struct GeometryText<'a>(&'a Geometry);
-
-impl fmt::Display for GeometryText<'_> {
-    ghost use Rattle.std.specs.Prelude.{Some};
-    ghost use Rattle.disk_shape.specs.Text.{geometry_words};
-
-    ghost output = { λ text. Some (geometry_words text.0.now) };
-
-    fn fmt<W: fmt::Write>(&self, f: &mut fmt::Formatter<W>) -> fmt::Result {
-        let g = self.0;
-        let (data, spare, pages) = (g.data_bytes(), g.spare_bytes(), g.pages());
-        let (blocks, sectors) = (g.blocks(), g.sectors());
-        write!(f, "{data},{spare},{pages},{blocks},{sectors}")
     }
 }
 

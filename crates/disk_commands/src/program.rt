@@ -10,7 +10,8 @@ use crate::files::DiskFiles;
 use crate::info::{info_command, unprinted};
 use crate::serve::serve_command;
 use crate::text::{DiskFault, tell};
-use disk_words::{DiskWords, WordsFault, parse};
+use crate::words::{DiskWords, parse};
+use program_words::WordsFault;
 use std::alloc::Global;
 use std::io::{Read, Write};
 

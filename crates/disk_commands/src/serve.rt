@@ -8,13 +8,14 @@ ghost use Rattle.disk_commands.specs.Serve.{Ends, HasNotServed, HasServedAt, Has
 use crate::files::DiskFiles;
 use crate::opening::{die_bytes, shape_at, told_at};
 use crate::text::DiskFault;
-use disk_server::{Offer, StoreDisk, SyncedDisk, Syncs, open_stopped, serve_synced};
-use disk_words::ServeWords;
+use crate::words::ServeWords;
+use disk_server::{
+    Offer, SectorDisk, Sectors, StoreDisk, SyncedDisk, Syncs, open_stopped, serve_synced,
+};
 use file_die::SyncWhen;
 use nbd_stream::{Disk, End};
 use page_layout::geometry::Geometry;
 use request_stream::ServeFault;
-use sector_disk::{SectorDisk, Sectors};
 use std::alloc::Global;
 use std::io::{Read, Write};
 

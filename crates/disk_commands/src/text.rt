@@ -3,9 +3,9 @@ ghost use Rattle.std.specs.Prelude.{◌≡◌, ◌++◌};
 ghost use Rattle.std.specs.Fmt.{WritesOnOk};
 ghost use Rattle.disk_commands.specs.Text.{IsTold};
 
+use crate::shape_text::ShapeFault;
+use crate::shapes::SizeFault;
 use disk_server::{CreateFault, OpenStoreFault};
-use disk_shape::{ShapeFault, SizeFault};
-use mount::FormatFault;
 use page_layout::geometry::GeometryFault;
 use std::error::Error;
 use std::fmt;
@@ -86,8 +86,8 @@ impl DiskFault<'_> {
     }
 }
 
-// The name of a limit that is broken.
-fn limit(fault: GeometryFault) -> &'static str
+/// The name of a limit that is broken.
+pub(crate) fn limit(fault: GeometryFault) -> &'static str
     ensures { result.now ≡ Rattle.disk_commands.specs.Text.limit_words fault }
 {
     match fault {
@@ -99,25 +99,15 @@ fn limit(fault: GeometryFault) -> &'static str
     }
 }
 
-// Why there is no shape for a size.
-fn size(fault: SizeFault) -> &'static str
-    ensures { result.now ≡ Rattle.disk_commands.specs.Text.size_words fault }
-{
-    match fault {
-        SizeFault::Zero => "a disk has at least one byte",
-        SizeFault::TooLarge => "a disk has at most 509349888 bytes",
-    }
-}
-
-// Words, and a word behind them.
-fn told<W: fmt::Write>(f: &mut fmt::Formatter<W>, words: &str, word: &str) -> fmt::Result
+/// Words, and a word behind them.
+pub(crate) fn told<W: fmt::Write>(f: &mut fmt::Formatter<W>, words: &str, word: &str) -> fmt::Result
     ensures { WritesOnOk W.write_str_gives f.old result (words.now ++ word.now) f.new }
 {
     write!(f, "{words}{word}")
 }
 
-// Words, a word behind them, and more.
-fn told_of<W: fmt::Write>(
+/// Words, a word behind them, and more.
+pub(crate) fn told_of<W: fmt::Write>(
     f: &mut fmt::Formatter<W>,
     words: &str,
     word: &str,
@@ -126,106 +116,6 @@ fn told_of<W: fmt::Write>(
     ensures { WritesOnOk W.write_str_gives f.old result (words.now ++ (word.now ++ more.now)) f.new }
 {
     write!(f, "{words}{word}{more}")
-}
-
-// Why a die was not formatted.
-#[derive(Clone, Copy)]
-struct FormatText(FormatFault);
-
-impl fmt::Display for FormatText {
-    ghost use Rattle.std.specs.Prelude.{Some};
-    ghost use Rattle.disk_commands.specs.Text.{format_words};
-
-    ghost output = { λ text. Some (format_words text.0) };
-
-    fn fmt<W: fmt::Write>(&self, f: &mut fmt::Formatter<W>) -> fmt::Result {
-        match self.0 {
-            FormatFault::TooFewGood { good, need } => write!(
-                f,
-                "TooFewGood good {good} need {need}"
-            ),
-            FormatFault::Bus => f.write_str("Bus"),
-            FormatFault::OutOfMemory => f.write_str("OutOfMemory"),
-            FormatFault::WriteFailed => f.write_str("WriteFailed"),
-            FormatFault::NotFresh { row } => write!(f, "NotFresh row {row}"),
-        }
-    }
-}
-
-// Why a store has no disk.
-#[derive(Clone, Copy)]
-struct OpenText(OpenStoreFault);
-
-impl fmt::Display for OpenText {
-    ghost use Rattle.std.specs.Prelude.{Some};
-    ghost use Rattle.disk_commands.specs.Text.{open_words};
-
-    ghost output = { λ text. Some (open_words text.0) };
-
-    fn fmt<W: fmt::Write>(&self, f: &mut fmt::Formatter<W>) -> fmt::Result {
-        match self.0 {
-            OpenStoreFault::OutOfMemory => f.write_str("OutOfMemory"),
-            OpenStoreFault::Device => f.write_str("Device"),
-            OpenStoreFault::Reset => f.write_str("Reset"),
-            OpenStoreFault::Flush => f.write_str("Flush"),
-            OpenStoreFault::Mount(refusal) => write!(f, "Mount {refusal}"),
-        }
-    }
-}
-
-// Why a store was not formatted.
-#[derive(Clone, Copy)]
-struct CreateText(CreateFault);
-
-impl fmt::Display for CreateText {
-    ghost use Rattle.std.specs.Prelude.{Some};
-    ghost use Rattle.disk_commands.specs.Text.{create_words};
-
-    ghost output = { λ text. Some (create_words text.0) };
-
-    fn fmt<W: fmt::Write>(&self, f: &mut fmt::Formatter<W>) -> fmt::Result {
-        match self.0 {
-            CreateFault::Open(fault) => {
-                let why = OpenText(fault);
-                write!(f, "{why}")
-            }
-            CreateFault::Format(fault) => {
-                let why = FormatText(fault);
-                write!(f, "Format {why}")
-            }
-            CreateFault::Sync => f.write_str("Sync"),
-        }
-    }
-}
-
-// Why a text tells no shape.
-#[derive(Clone, Copy)]
-struct ShapeText(ShapeFault);
-
-impl fmt::Display for ShapeText {
-    ghost use Rattle.std.specs.Prelude.{Some};
-    ghost use Rattle.disk_commands.specs.Text.{shape_words};
-
-    ghost output = { λ text. Some (shape_words text.0) };
-
-    fn fmt<W: fmt::Write>(&self, f: &mut fmt::Formatter<W>) -> fmt::Result {
-        match self.0 {
-            ShapeFault::NotJson => f.write_str("not JSON"),
-            ShapeFault::NotObject => f.write_str("no object"),
-            ShapeFault::Missing(member) => told(f, "no member ", member.name()),
-            ShapeFault::WrongType(member) => {
-                told_of(f, "member ", member.name(), " of another type")
-            }
-            ShapeFault::Unknown => f.write_str("a member with another name"),
-            ShapeFault::Version => f.write_str("another version"),
-            ShapeFault::BadGeometry => f.write_str("the geometry is no five numbers"),
-            ShapeFault::Geometry(fault) => {
-                told(f, "the geometry breaks a limit: ", limit(fault))
-            }
-            ShapeFault::CacheRange => f.write_str("the cache has not from 1 to 65536 entries"),
-            ShapeFault::OutOfMemory => f.write_str("out of memory"),
-        }
-    }
 }
 
 /// The line, without its line feed.
@@ -241,29 +131,20 @@ impl fmt::Display for DiskFault<'_> {
             DiskFault::NoSuchCommand => f.write_str("usage: no such command"),
             DiskFault::BadSize(word) => told(f, "usage: bad size ", word),
             DiskFault::BadNumber(word) => told(f, "usage: bad number ", word),
-            DiskFault::Size(fault) => told(f, "refused size: ", size(fault)),
+            DiskFault::Size(fault) => write!(f, "refused size: {fault}"),
             DiskFault::Geometry(fault) => told(f, "refused geometry ", limit(fault)),
             DiskFault::Exists(path) => told_of(f, "refused: ", path, " exists"),
             DiskFault::InUse(path) => told_of(f, "refused: ", path, " is in use"),
-            DiskFault::Shape(path, fault) => {
-                write!(f, "refused: {path}.json: {}", ShapeText(fault))
-            }
+            DiskFault::Shape(path, fault) => { write!(f, "refused: {path}.json: {fault}") }
             DiskFault::Length(path, found, wanted) => {
                 write!(
                     f,
                     "refused: {path} has {found} bytes, and its shape {wanted}"
                 )
             }
-            DiskFault::Open(path, fault) => {
-                let why = OpenText(fault);
-                write!(f, "refused: {path} is no disk: {why}")
-            }
+            DiskFault::Open(path, fault) => { write!(f, "refused: {path} is no disk: {fault}") }
             DiskFault::Create(path, fault) => {
-                write!(
-                    f,
-                    "refused: {path} was not formatted: {}",
-                    CreateText(fault)
-                )
+                write!(f, "refused: {path} was not formatted: {fault}")
             }
             DiskFault::OutOfMemory => f.write_str("refused: no memory"),
             DiskFault::Read(path) => told(f, "fault read ", path),

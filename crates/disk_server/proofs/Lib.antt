@@ -1,3 +1,14 @@
+pub mod Bytes
+pub mod Joining
+pub mod Fronts
+pub mod FlatLemmas
+pub mod Sizes
+pub mod Tasks
+pub mod Holding
+pub mod Calls
+pub mod ReadCalls
+pub mod LawLemmas
+pub mod Starting
 pub mod MadeLemmas
 pub mod OpenedLemmas
 pub mod StoppedLemmas

@@ -9,9 +9,9 @@ use Rattle.image_check.specs.declared.refusal.Refusal.{Refusal}
 use Rattle.image_check.specs.declared.refusal.Refusal.TheVariants.{Source}
 use Rattle.disk_server.specs.declared.opened.OpenStoreFault.{OpenStoreFault}
 use Rattle.disk_server.specs.declared.opened.OpenStoreFault.TheVariants as why
-use Rattle.device_disk.specs.declared.open.OpenFault.{OpenFault}
-use Rattle.device_disk.specs.declared.open.OpenFault.TheVariants.{Refused, Start}
-use Rattle.device_disk.specs.Open.{nand_of}
+use Rattle.disk_server.specs.declared.open.OpenFault.{OpenFault}
+use Rattle.disk_server.specs.declared.open.OpenFault.TheVariants.{Refused, Start}
+use Rattle.disk_server.specs.Open.{nand_of}
 use Rattle.mount.specs.Mounted.{Refuses}
 use Rattle.disk_server.specs.Opened.{ComesBack, HasCome, IsUnmounted, IsUnopened, IsUnopenedAt, flash_in, is_honest_in, why_of}
 

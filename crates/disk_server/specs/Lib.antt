@@ -1,4 +1,12 @@
+-- a device of sectors as bytes
+pub mod Flat
+-- the block device as a device of sectors
+pub mod Disk
+pub mod Laws
+pub mod Open
+-- the disk in a store
 pub mod Made
 pub mod Opened
 pub mod Stopped
 pub mod Synced
+pub mod Words

@@ -8,13 +8,13 @@ use Rattle.onfi_cycles.specs.Driver.{DriverState, flash_by}
 use Rattle.file_die.specs.Store.{Held}
 use Rattle.nand_die.specs.Made.{first_turns, next_in}
 use Rattle.file_die.specs.Die.{FileState, flash_over, shown}
-use Rattle.sector_disk.specs.Flat.{flat}
+use Rattle.disk_server.specs.Flat.{flat}
 use Rattle.certificate.specs.Claim.{Claim}
 use Rattle.image_check.specs.declared.refusal.Refusal.{Refusal}
 use Rattle.image_check.specs.declared.refusal.Refusal.TheVariants.{Source}
 use Rattle.mount.specs.Mounted.{IsMounted, Refuses}
-use Rattle.device_disk.specs.declared.open.OpenFault.{OpenFault}
-use Rattle.device_disk.specs.declared.open.OpenFault.TheVariants.{Refused, Start}
+use Rattle.disk_server.specs.declared.open.OpenFault.{OpenFault}
+use Rattle.disk_server.specs.declared.open.OpenFault.TheVariants.{Refused, Start}
 use Rattle.disk_server.specs.declared.opened.OpenStoreFault.{OpenStoreFault}
 use Rattle.disk_server.specs.declared.opened.OpenStoreFault.TheVariants as why
 

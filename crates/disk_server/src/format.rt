@@ -6,20 +6,62 @@ use crate::opened::{OpenStoreFault, driver_over};
 use file_die::{Store, SyncWhen};
 use mount::{FormatFault, format};
 use std::alloc::Global;
-use thiserror::Error;
+use std::error::Error;
+use std::fmt;
 
 /// Why a store was not formatted. (This project's.)
-#[derive(Clone, Copy, Debug, PartialEq, Eq, Error)]
+#[derive(Clone, Copy, Debug, PartialEq, Eq)]
 pub enum CreateFault {
     /// There is no die over the store.
-    #[error("{0}")]
     Open(OpenStoreFault),
     /// The die was not formatted.
-    #[error("Format {0}")]
     Format(FormatFault),
     /// The store failed to make its pages last.
-    #[error("Sync")]
     Sync,
+}
+
+// Why a die was not formatted.
+#[derive(Clone, Copy)]
+struct FormatText(FormatFault);
+
+impl fmt::Display for FormatText {
+    ghost use Rattle.std.specs.Prelude.{Some};
+    ghost use Rattle.disk_server.specs.Words.{format_words};
+
+    ghost output = { λ text. Some (format_words text.0) };
+
+    fn fmt<W: fmt::Write>(&self, f: &mut fmt::Formatter<W>) -> fmt::Result {
+        match self.0 {
+            FormatFault::TooFewGood { good, need } => write!(
+                f,
+                "TooFewGood good {good} need {need}"
+            ),
+            FormatFault::Bus => f.write_str("Bus"),
+            FormatFault::OutOfMemory => f.write_str("OutOfMemory"),
+            FormatFault::WriteFailed => f.write_str("WriteFailed"),
+            FormatFault::NotFresh { row } => write!(f, "NotFresh row {row}"),
+        }
+    }
+}
+
+impl Error for CreateFault {}
+
+impl fmt::Display for CreateFault {
+    ghost use Rattle.std.specs.Prelude.{Some};
+    ghost use Rattle.disk_server.specs.Words.{create_words};
+
+    ghost output = { λ fault. Some (create_words fault) };
+
+    fn fmt<W: fmt::Write>(&self, f: &mut fmt::Formatter<W>) -> fmt::Result {
+        match *self {
+            CreateFault::Open(why) => write!(f, "{why}"),
+            CreateFault::Format(fault) => {
+                let why = FormatText(fault);
+                write!(f, "Format {why}")
+            }
+            CreateFault::Sync => f.write_str("Sync"),
+        }
+    }
 }
 
 /// Formats the die that a store holds, has all its pages last, and answers its good blocks. None of its blocks is bad but those that their pages show. (This project's.)

@@ -1,5 +1,8 @@
-//! A disk over a store of pages: the store is formatted, mounted and served.
+//! A disk of bytes over a block device, and the disk in a store of pages: formatted, mounted and served.
 //!
+//! - `SectorDisk`: a disk of bytes over a device of whole sectors. A range of bytes is whole sectors and at most two parts of one, which
+//!   are read, changed and written.
+//! - `DeviceDisk`: the block device as such a device of whole sectors; `open_checked` starts one.
 //! - `open_mounted`: the disk of a die, started from a mount, so that each page is looked at once.
 //! - `open_store`: the same over the die that a store holds; `close_store` gives the store back.
 //! - `open_stopped`, `mount_stopped`: the same where the die may have been stopped, with more that is stale than the cache has room for.
@@ -9,16 +12,28 @@
 //! All of it is this project's.
 #![tactic(auto)]
 
+mod answer;
+mod device_disk;
 mod format;
+pub mod laws;
 mod mounted;
+mod open;
 mod opened;
+mod pieces;
+mod ranges;
+mod sector_disk;
+mod sectors;
 mod served;
 mod stopped;
 mod synced;
 
+pub use device_disk::DeviceDisk;
 pub use format::{CreateFault, format_store};
 pub use mounted::open_mounted;
+pub use open::{OpenFault, open_checked};
 pub use opened::{OpenStoreFault, StoreDisk, close_store, mount_store, open_store};
+pub use sector_disk::SectorDisk;
+pub use sectors::Sectors;
 pub use served::{Offer, serve_synced};
 pub use stopped::{mount_stopped, open_stopped};
 pub use synced::{SyncedDisk, Syncs};

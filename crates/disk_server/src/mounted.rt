@@ -3,11 +3,14 @@ ghost use Rattle.std.specs.Prelude.{◌≡◌, ◌≤◌, true, IfOk, IfErr};
 ghost use Rattle.page_layout.specs.Array.{array_of};
 ghost use Rattle.page_layout.specs.OnlyReads.{OnlyReads};
 ghost use Rattle.ftl_device.specs.Calls.{array_in};
-ghost use Rattle.device_disk.specs.Disk.{holds};
-ghost use Rattle.device_disk.specs.Open.{nand_of};
+ghost use Rattle.disk_server.specs.Disk.{contents_of, holds};
+ghost use Rattle.disk_server.specs.Flat.{flat};
+ghost use Rattle.disk_server.specs.Open.{nand_of};
 ghost use Rattle.disk_server.specs.Opened.{IsUnmounted};
 
-use device_disk::{DeviceDisk, OpenFault};
+use crate::device_disk::DeviceDisk;
+use crate::open::OpenFault;
+use crate::sector_disk::SectorDisk;
 use ftl_device::StartFault;
 use image_check::Accepted;
 use mount::{Mounted, mount_counted};
@@ -30,7 +33,7 @@ pub fn open_mounted<N: Nand>(
     mut nand: N,
     geometry: &Geometry,
     capacity: u32,
-) -> Result<DeviceDisk<N>, OpenFault<N>>
+) -> Result<SectorDisk<DeviceDisk<N>>, OpenFault<N>>
     requires same_geometry { (N.flash nand).geometry ≡ geometry.now }
     requires least { 1 ≤ capacity }
     requires most { capacity ≤ 65536 }
@@ -51,5 +54,21 @@ pub fn open_mounted<N: Nand>(
         Ok(disk) => disk,
         Err(StartFault::OutOfMemory { nand, .. }) => return Err(OpenFault::Start { nand }),
     };
+    let disk = match SectorDisk::new(alloc, disk) {
+        Ok(disk) => disk,
+        Err(disk) => {
+            let nand = disk.into_device().into_nand();
+            return Err(OpenFault::Start { nand });
+        }
+    };
     Ok(disk)
+}
+
+/// The die behind a disk. That of one which holds its array holds it too.
+pub(crate) fn nand_behind<N: Nand>(disk: SectorDisk<DeviceDisk<N>>) -> N
+    ensures nand { result ≡ disk.engine.nand }
+    ensures honest { holds N.honest disk ≡ true → N.honest result ≡ true }
+    ensures bytes { holds N.honest disk ≡ true → flat (array_of (N.flash result).geometry (N.flash result).image) ≡ (contents_of N.flash N.honest disk).bytes }
+{
+    disk.into_sectors().into_device().into_nand()
 }

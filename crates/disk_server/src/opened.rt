@@ -1,42 +1,58 @@
 //! The disk of the die that a store holds.
 ghost use Rattle.std.specs.Prelude.{◌≡◌, ◌≤◌, ℕ, true, IfOk, IfErr};
 ghost use Rattle.mount.specs.Mounted.{IsMounted};
-ghost use Rattle.device_disk.specs.Disk.{contents_of, holds};
+ghost use Rattle.disk_server.specs.Disk.{contents_of, holds};
 ghost use Rattle.disk_server.specs.Opened.{bytes_of, flash_in, flash_of, is_honest_in, ComesBack, HasCome, IsUnopened, IsUnopenedAt, why_of};
-ghost use Rattle.device_disk.specs.Open.{nand_of};
+ghost use Rattle.disk_server.specs.Open.{nand_of};
 
-use crate::mounted::open_mounted;
+use crate::device_disk::DeviceDisk;
+use crate::mounted::{nand_behind, open_mounted};
+use crate::open::OpenFault;
+use crate::sector_disk::SectorDisk;
 use certificate::Certificate;
-use device_disk::{DeviceDisk, OpenFault};
 use file_die::{FileDie, Store, SyncWhen};
 use image_check::Refusal;
 use mount::mount;
 use onfi_cycles::Driver;
-use sector_disk::SectorDisk;
 use std::alloc::Global;
-use thiserror::Error;
+use std::error::Error;
+use std::fmt;
 
 /// The disk of a device over the die that a store holds.
 pub type StoreDisk<S> = SectorDisk<DeviceDisk<Driver<FileDie<S>>>>;
 
 /// Why a store has no disk. (This project's.)
-#[derive(Clone, Copy, Debug, PartialEq, Eq, Error)]
+#[derive(Clone, Copy, Debug, PartialEq, Eq)]
 pub enum OpenStoreFault {
     /// A growth was refused.
-    #[error("OutOfMemory")]
     OutOfMemory,
     /// The store failed to load a page.
-    #[error("Device")]
     Device,
     /// The die over it took no reset.
-    #[error("Reset")]
     Reset,
     /// The device over the die failed to flush what a stop had left. Only `open_stopped` answers so.
-    #[error("Flush")]
     Flush,
     /// Its pages are no die with a device on it that a cache of this size goes with.
-    #[error("Mount {0}")]
     Mount(Refusal),
+}
+
+impl Error for OpenStoreFault {}
+
+impl fmt::Display for OpenStoreFault {
+    ghost use Rattle.std.specs.Prelude.{Some};
+    ghost use Rattle.disk_server.specs.Words.{open_words};
+
+    ghost output = { λ fault. Some (open_words fault) };
+
+    fn fmt<W: fmt::Write>(&self, f: &mut fmt::Formatter<W>) -> fmt::Result {
+        match *self {
+            OpenStoreFault::OutOfMemory => f.write_str("OutOfMemory"),
+            OpenStoreFault::Device => f.write_str("Device"),
+            OpenStoreFault::Reset => f.write_str("Reset"),
+            OpenStoreFault::Flush => f.write_str("Flush"),
+            OpenStoreFault::Mount(refusal) => write!(f, "Mount {refusal}"),
+        }
+    }
 }
 
 // A driver of the die that a store holds. None of its blocks is bad to the die: those that are bad to the device stand in its table.
@@ -147,16 +163,9 @@ pub fn open_store<S: Store + Drop>(
         Ok(driver) => driver,
         Err(fault) => return Err(fault),
     };
-    let disk = match open_mounted(alloc, driver, &geometry, capacity) {
-        Ok(disk) => disk,
-        Err(fault) => return Err(unopened(fault)),
-    };
-    match SectorDisk::new(alloc, disk) {
+    match open_mounted(alloc, driver, &geometry, capacity) {
         Ok(disk) => Ok(disk),
-        Err(disk) => Err((
-            store_behind(disk.into_device().into_nand()),
-            OpenStoreFault::OutOfMemory,
-        )),
+        Err(fault) => Err(unopened(fault)),
     }
 }
 
@@ -166,5 +175,5 @@ pub fn close_store<S: Store + Drop>(disk: StoreDisk<S>) -> S
     ensures honest { holds (is_honest_in S.honest) disk ≡ true → S.honest result ≡ true }
     ensures bytes { holds (is_honest_in S.honest) disk ≡ true → bytes_of (S.held result) ≡ (contents_of (flash_in S.held) (is_honest_in S.honest) disk).bytes }
 {
-    store_behind(disk.into_sectors().into_device().into_nand())
+    store_behind(nand_behind(disk))
 }

@@ -3,10 +3,11 @@ ghost use Rattle.std.specs.Prelude.{◌≡◌, ◌≤◌, false, length};
 ghost use Rattle.nbd_stream.specs.Transmission.{Serves};
 ghost use Rattle.disk_server.specs.Synced.{export_of};
 
+use crate::sector_disk::SectorDisk;
+use crate::sectors::Sectors;
 use crate::synced::{SyncedDisk, Syncs};
 use nbd_stream::{End, Export, serve};
 use request_stream::ServeFault;
-use sector_disk::{SectorDisk, Sectors};
 use std::io::{Read, Write};
 
 /// What a client is told of a disk, beside its bytes. (This project's.)

@@ -1,6 +1,6 @@
 //! The disk of a die that may have been stopped.
 ghost use Rattle.std.specs.Prelude.{◌≡◌, ◌≤◌, true, IfOk, IfErr, IfSome};
-ghost use Rattle.device_disk.specs.Disk.{contents_of, holds};
+ghost use Rattle.disk_server.specs.Disk.{contents_of, holds};
 ghost use Rattle.mount.specs.Mounted.{IsMounted};
 ghost use Rattle.disk_server.specs.Opened.{bytes_of, flash_in, is_honest_in};
 ghost use Rattle.disk_server.specs.Stopped.{HasRoomFor, IsUnopenedLater};

@@ -3,10 +3,10 @@ use Rattle.std.proofs.Common.{◌≡◌, inl, inr, ℕ, List, Option, Some, None
 use Rattle.std.specs.Prelude.{◌⊎◌, IsSomeAnd}
 use Rattle.std.specs.Borrow.{Bor}
 use Rattle.page_layout.specs.declared.geometry.Geometry.{Geometry}
-use Rattle.lab_array.specs.declared.array.ArrayFault.{ArrayFault}
-use Rattle.lab_array.specs.declared.array.ArrayFault.TheVariants as array
-use Rattle.lab_array.specs.Written.{IsUnwritten as IsArrayUnwritten}
-use Rattle.lab_words.specs.declared.words.ArrayWords.{ArrayWords}
+use Rattle.lab_dump.specs.declared.array.ArrayFault.{ArrayFault}
+use Rattle.lab_dump.specs.declared.array.ArrayFault.TheVariants as array
+use Rattle.lab_dump.specs.Written.{IsUnwritten as IsArrayUnwritten}
+use Rattle.lab_commands.specs.declared.words.ArrayWords.{ArrayWords}
 use Rattle.lab_commands.specs.declared.text.LabFault.{LabFault}
 use Rattle.lab_commands.specs.declared.text.LabFault.TheVariants as fault
 use Rattle.lab_commands.specs.Files.{Answers, AnswersNoMore, IsOpened, Kept}

@@ -8,13 +8,13 @@ use Rattle.certificate.specs.declared.fault.CertFault.{CertFault}
 use Rattle.certificate.specs.Claim.{Claim, Sizes}
 use Rattle.certificate.specs.Faults.{IsFirstFault}
 use Rattle.certificate.specs.Spelling.{certificate_bytes}
-use Rattle.lab_words.specs.declared.words.CompareWords.{CompareWords}
+use Rattle.lab_commands.specs.declared.words.CompareWords.{CompareWords}
 use Rattle.lab_commands.specs.declared.text.LabFault.{LabFault}
 use Rattle.lab_commands.specs.declared.text.LabFault.TheVariants as fault
 use Rattle.lab_commands.specs.Files.{Answers, AnswersNoMore, Kept}
 use Rattle.lab_commands.specs.Undone.{IsGeometryAt, IsNoGeometry, IsUnread}
 use Rattle.lab_commands.specs.Compare.{HasNone, IsBroken, IsCertificateAt, IsCompareFault, IsUnheld, looked_at}
-use Rattle.lab_array.specs.declared.compare.Compared.{Compared}
+use Rattle.lab_dump.specs.declared.compare.Compared.{Compared}
 use Rattle.lab_commands.specs.Compare.{IsCompared}
 use Rattle.lab_commands.proofs.UndoneLemmas.{left_all, opened_before, opens_before, unread_before, untaken_before}
 

@@ -3,8 +3,8 @@ use Rattle.std.proofs.Common.{◌≡◌, ℕ, List, [], length, Option, Some, No
 use Rattle.std.specs.List.Sorted.{IsPermutation}
 use Rattle.std.proofs.lemmas.List.{nil_from_length}
 use Rattle.std.proofs.lemmas.List.Sorted.{length_permutation}
-use Rattle.lab_geometry.specs.declared.fit.Fit.{Fit}
-use Rattle.lab_geometry.specs.Fits.{fits_of}
+use Rattle.lab_dump.specs.declared.fit.Fit.{Fit}
+use Rattle.lab_dump.specs.Fits.{fits_of}
 
 -- where none was found none fits
 pub none_fit : (known : Option (List ℕ)) (items : List Fit) → ((all : List ℕ) → known ≡ Some all → IsPermutation (fits_of all) items) → length items ≡ 0 → IfSome known (λ bytes. fits_of bytes ≡ [])

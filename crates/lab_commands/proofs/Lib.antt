@@ -1,3 +1,6 @@
+pub mod GrammarLemmas
+pub mod PrintLemmas
+pub mod ValueLemmas
 pub mod TextLemmas
 pub mod UndoneLemmas
 pub mod ArrayLemmas

@@ -8,7 +8,7 @@ use Rattle.lab_mend.specs.declared.merge.MergeFault.{MergeFault}
 use Rattle.lab_mend.specs.declared.merge.MergeFault.TheVariants as merge
 use Rattle.lab_mend.specs.InStep.{Tell}
 use Rattle.lab_mend.specs.Merged.{IsOfReading, IsUnmerged}
-use Rattle.lab_words.specs.declared.words.MergeWords.{MergeWords}
+use Rattle.lab_commands.specs.declared.words.MergeWords.{MergeWords}
 use Rattle.program_words.specs.Met.{texts}
 use Rattle.lab_commands.specs.declared.text.LabFault.{LabFault}
 use Rattle.lab_commands.specs.declared.text.LabFault.TheVariants as fault

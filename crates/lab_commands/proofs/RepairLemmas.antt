@@ -1,11 +1,11 @@
 -- What the command `repair` comes to where it isn't done.
 use Rattle.std.proofs.Common.{◌≡◌, inl, inr, ℕ, List, Option, IfSome, refl}
 use Rattle.page_layout.specs.declared.geometry.Geometry.{Geometry}
-use Rattle.lab_scan.specs.declared.rows.Rows.{Rows}
+use Rattle.lab_dump.specs.declared.rows.Rows.{Rows}
 use Rattle.lab_mend.specs.declared.repair.RepairFault.{RepairFault}
 use Rattle.lab_mend.specs.declared.repair.RepairFault.TheVariants as repair
 use Rattle.lab_mend.specs.Repaired.{IsUnrepaired}
-use Rattle.lab_words.specs.declared.words.RepairWords.{RepairWords}
+use Rattle.lab_commands.specs.declared.words.RepairWords.{RepairWords}
 use Rattle.lab_commands.specs.declared.text.LabFault.{LabFault}
 use Rattle.lab_commands.specs.Files.{Answers, IsOpened, Kept}
 use Rattle.lab_commands.specs.Rows.{AreNoRows, AreRowsAt}

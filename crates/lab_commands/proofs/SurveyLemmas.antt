@@ -1,8 +1,8 @@
 -- What the command `survey` comes to where it isn't done.
 use Rattle.std.proofs.Common.{◌≡◌, inl, inr, ℕ, List, Option, refl}
 use Rattle.page_layout.specs.declared.geometry.Geometry.{Geometry}
-use Rattle.lab_scan.specs.declared.rows.Rows.{Rows}
-use Rattle.lab_words.specs.declared.words.SurveyWords.{SurveyWords}
+use Rattle.lab_dump.specs.declared.rows.Rows.{Rows}
+use Rattle.lab_commands.specs.declared.words.SurveyWords.{SurveyWords}
 use Rattle.lab_commands.specs.declared.text.LabFault.{LabFault}
 use Rattle.lab_commands.specs.Files.{Answers, Kept}
 use Rattle.lab_commands.specs.Rows.{AreNoRows, AreRowsAt}

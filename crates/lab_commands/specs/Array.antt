@@ -3,14 +3,14 @@ use Rattle.std.specs.Prelude.{◌≡◌, ◌⊎◌, ℕ, true, false, List, [], 
 use Rattle.std.specs.Option.{option_map_or}
 use Rattle.std.specs.Io.KnownBytes.{Appends, Keeps}
 use Rattle.page_layout.specs.declared.geometry.Geometry.{Geometry}
-use Rattle.lab_array.specs.declared.array.ArrayFault.{ArrayFault}
-use Rattle.lab_array.specs.declared.array.ArrayFault.TheVariants as array
-use Rattle.lab_array.specs.declared.held.Held.{Held}
-use Rattle.lab_array.specs.Held.{state_in}
-use Rattle.lab_array.specs.Written.{IsWritten}
-use Rattle.lab_array.specs.Map.{map_text}
-use Rattle.lab_report.specs.Reports.{array_text}
-use Rattle.lab_words.specs.declared.words.ArrayWords.{ArrayWords}
+use Rattle.lab_dump.specs.declared.array.ArrayFault.{ArrayFault}
+use Rattle.lab_dump.specs.declared.array.ArrayFault.TheVariants as array
+use Rattle.lab_dump.specs.declared.held.Held.{Held}
+use Rattle.lab_dump.specs.Held.{state_in}
+use Rattle.lab_dump.specs.Written.{IsWritten}
+use Rattle.lab_dump.specs.Map.{map_text}
+use Rattle.lab_commands.specs.Reports.{array_text}
+use Rattle.lab_commands.specs.declared.words.ArrayWords.{ArrayWords}
 use Rattle.lab_commands.specs.declared.text.LabFault.{LabFault}
 use Rattle.lab_commands.specs.declared.text.LabFault.TheVariants as fault
 use Rattle.lab_commands.specs.Files.{Answers, IsOpened, Kept, with_kept}

@@ -5,10 +5,10 @@ use Rattle.page_layout.specs.declared.geometry.Geometry.{Geometry}
 use Rattle.certificate.specs.Claim.{Claim, sizes_of}
 use Rattle.certificate.specs.Faults.{IsFirstFault}
 use Rattle.certificate.specs.Spelling.{Fits, certificate_bytes}
-use Rattle.lab_array.specs.declared.compare.Compared.{Compared}
-use Rattle.lab_array.specs.Compared.{IsComparedTo}
-use Rattle.lab_report.specs.Reports.{compare_text}
-use Rattle.lab_words.specs.declared.words.CompareWords.{CompareWords}
+use Rattle.lab_dump.specs.declared.compare.Compared.{Compared}
+use Rattle.lab_dump.specs.Compared.{IsComparedTo}
+use Rattle.lab_commands.specs.Reports.{compare_text}
+use Rattle.lab_commands.specs.declared.words.CompareWords.{CompareWords}
 use Rattle.lab_commands.specs.declared.text.LabFault.{LabFault}
 use Rattle.lab_commands.specs.declared.text.LabFault.TheVariants as fault
 use Rattle.lab_commands.specs.Files.{Answers, IsOpened, Kept}

@@ -2,10 +2,10 @@
 use Rattle.std.specs.Prelude.{◌≡◌, ◌⊎◌, ◌<◌, ℕ, All, List, [], length, Option, IfSome, IsPermutation}
 use Rattle.std.specs.List.Sorted.{IsSorted}
 use Rattle.std.specs.Io.KnownBytes.{Appends}
-use Rattle.lab_geometry.specs.declared.fit.Fit.{Fit}
-use Rattle.lab_geometry.specs.Fits.{IsPossible, fits_of, rank}
-use Rattle.lab_report.specs.Reports.{fits_text}
-use Rattle.lab_words.specs.declared.words.GeometryWords.{GeometryWords}
+use Rattle.lab_dump.specs.declared.fit.Fit.{Fit}
+use Rattle.lab_dump.specs.Fits.{IsPossible, fits_of, rank}
+use Rattle.lab_commands.specs.Reports.{fits_text}
+use Rattle.lab_commands.specs.declared.words.GeometryWords.{GeometryWords}
 use Rattle.lab_commands.specs.declared.text.LabFault.{LabFault}
 use Rattle.lab_commands.specs.declared.text.LabFault.TheVariants as fault
 use Rattle.lab_commands.specs.Files.{Answers, IsOpened, Kept}

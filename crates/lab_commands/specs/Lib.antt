@@ -1,5 +1,18 @@
+-- what the caller gives
 pub mod Files
+-- what the words of the command line mean
+pub mod Words
+-- the lines, in words
+pub mod Lines
+-- the lines, as JSON values
+pub mod Values
+-- a document of lines, in either form
+pub mod Document
+-- what each command says
+pub mod Reports
+-- how a refusal is told
 pub mod Text
+-- where a command ends before its work
 pub mod Undone
 pub mod Rows
 pub mod Array

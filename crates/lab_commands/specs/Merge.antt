@@ -2,14 +2,14 @@
 use Rattle.std.specs.Prelude.{◌≡◌, ◌⊎◌, ℕ, ◌<◌, Bool, true, false, List, [], length, get_or, Option, None}
 use Rattle.std.specs.Io.KnownBytes.{Appends}
 use Rattle.page_layout.specs.declared.geometry.Geometry.{Geometry}
-use Rattle.lab_scan.specs.Scan.{image_bytes}
+use Rattle.lab_dump.specs.Scan.{image_bytes}
 use Rattle.lab_mend.specs.declared.merge.MergeFault.{MergeFault}
 use Rattle.lab_mend.specs.declared.merge.MergeFault.TheVariants as merge
 use Rattle.lab_mend.specs.declared.merging.Tally.{Tally}
 use Rattle.lab_mend.specs.InStep.{Tell}
 use Rattle.lab_mend.specs.Merged.{IsMerged, IsOwnMerge}
-use Rattle.lab_report.specs.Reports.{merge_text}
-use Rattle.lab_words.specs.declared.words.MergeWords.{MergeWords}
+use Rattle.lab_commands.specs.Reports.{merge_text}
+use Rattle.lab_commands.specs.declared.words.MergeWords.{MergeWords}
 use Rattle.program_words.specs.Met.{texts}
 use Rattle.lab_commands.specs.declared.text.LabFault.{LabFault}
 use Rattle.lab_commands.specs.declared.text.LabFault.TheVariants as fault

@@ -1,9 +1,9 @@
 -- What a run of the program comes to.
 use Rattle.std.specs.Prelude.{◌≡◌, ◌⊎◌, ℕ, List, Option, string_bytes}
 use Rattle.std.specs.Io.KnownBytes.{Appends, Keeps}
-use Rattle.lab_words.specs.declared.words.Asked.{Asked}
-use Rattle.lab_words.specs.declared.words.Asked.TheVariants as asked
-use Rattle.lab_words.specs.Words.{IsAsked, IsNoCommand}
+use Rattle.lab_commands.specs.declared.words.Asked.{Asked}
+use Rattle.lab_commands.specs.declared.words.Asked.TheVariants as asked
+use Rattle.lab_commands.specs.Words.{IsAsked, IsNoCommand}
 use Rattle.lab_commands.specs.declared.text.LabFault.{LabFault}
 use Rattle.lab_commands.specs.declared.text.LabFault.TheVariants.{NoSuchCommand, OutOfMemory}
 use Rattle.lab_commands.specs.Files.{Answers, Kept}

@@ -2,13 +2,13 @@
 use Rattle.std.specs.Prelude.{◌≡◌, ◌⊎◌, ℕ, List, Option, IfSome}
 use Rattle.std.specs.Io.KnownBytes.{Appends}
 use Rattle.page_layout.specs.declared.geometry.Geometry.{Geometry}
-use Rattle.lab_scan.specs.declared.rows.Rows.{Rows}
+use Rattle.lab_dump.specs.declared.rows.Rows.{Rows}
 use Rattle.lab_mend.specs.declared.repair.RepairFault.{RepairFault}
 use Rattle.lab_mend.specs.declared.repair.RepairFault.TheVariants as repair
 use Rattle.lab_mend.specs.declared.repairing.Mend.{Mend}
 use Rattle.lab_mend.specs.Repaired.{IsOwnRepair, IsRepaired}
-use Rattle.lab_report.specs.Reports.{repair_text}
-use Rattle.lab_words.specs.declared.words.RepairWords.{RepairWords}
+use Rattle.lab_commands.specs.Reports.{repair_text}
+use Rattle.lab_commands.specs.declared.words.RepairWords.{RepairWords}
 use Rattle.lab_commands.specs.declared.text.LabFault.{LabFault}
 use Rattle.lab_commands.specs.declared.text.LabFault.TheVariants as fault
 use Rattle.lab_commands.specs.Files.{Answers, IsOpened, Kept, with_kept}

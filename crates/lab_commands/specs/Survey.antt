@@ -2,11 +2,11 @@
 use Rattle.std.specs.Prelude.{◌≡◌, ◌⊎◌, ℕ, List, Option, IfSome}
 use Rattle.std.specs.Io.KnownBytes.{Appends}
 use Rattle.page_layout.specs.declared.geometry.Geometry.{Geometry}
-use Rattle.lab_scan.specs.declared.rows.Rows.{Rows}
-use Rattle.lab_survey.specs.declared.survey.DieSurvey.{DieSurvey}
-use Rattle.lab_survey.specs.Surveyed.{IsSurveyOf}
-use Rattle.lab_report.specs.Reports.{survey_text}
-use Rattle.lab_words.specs.declared.words.SurveyWords.{SurveyWords}
+use Rattle.lab_dump.specs.declared.rows.Rows.{Rows}
+use Rattle.lab_dump.specs.declared.survey.DieSurvey.{DieSurvey}
+use Rattle.lab_dump.specs.Surveyed.{IsSurveyOf}
+use Rattle.lab_commands.specs.Reports.{survey_text}
+use Rattle.lab_commands.specs.declared.words.SurveyWords.{SurveyWords}
 use Rattle.lab_commands.specs.declared.text.LabFault.{LabFault}
 use Rattle.lab_commands.specs.Files.{Answers, IsOpened, Kept}
 use Rattle.lab_commands.specs.Rows.{AreNoRows, AreRowsAt}

@@ -6,10 +6,10 @@ use Rattle.page_layout.specs.Faults.{HasNumbers, IsFirstFault}
 use Rattle.request_stream.specs.Frames.{AppendsFront}
 use Rattle.command_words.specs.declared.numbers.GeometryNumbers.{GeometryNumbers}
 use Rattle.command_words.specs.Numbers.{SpellsGeometry}
-use Rattle.lab_scan.specs.Scan.{image_bytes}
-use Rattle.lab_report.specs.declared.printing.Form.{Form}
-use Rattle.lab_report.specs.declared.printing.Form.TheVariants.{Text, Json}
-use Rattle.lab_words.specs.declared.words.Showing.{Showing}
+use Rattle.lab_dump.specs.Scan.{image_bytes}
+use Rattle.lab_commands.specs.declared.document.Form.{Form}
+use Rattle.lab_commands.specs.declared.document.Form.TheVariants.{Text, Json}
+use Rattle.lab_commands.specs.declared.words.Showing.{Showing}
 use Rattle.lab_commands.specs.declared.files.FileFault.TheVariants as file
 use Rattle.lab_commands.specs.declared.text.LabFault.{LabFault}
 use Rattle.lab_commands.specs.declared.text.LabFault.TheVariants as fault

@@ -1,7 +1,7 @@
 //! The command `array GEOM DUMP OUT [--map FILE]`.
 ghost use Rattle.std.specs.Prelude.{◌≡◌, OnOk, OnErr, IfOk, IfErr, false, length, map};
-ghost use Rattle.lab_array.specs.Held.{state_in};
-ghost use Rattle.lab_array.specs.Map.{map_text};
+ghost use Rattle.lab_dump.specs.Held.{state_in};
+ghost use Rattle.lab_dump.specs.Map.{map_text};
 ghost use Rattle.lab_commands.specs.Files.{AnswersNoMore};
 ghost use Rattle.lab_commands.specs.Undone.{IsUnmade, MayWrite};
 ghost use Rattle.lab_commands.specs.Array.{AreAllowed, AreNotAllowed, IsArrayFault, IsMade, IsMapNotAllowed, IsUnmapped, WroteArray, told_as, with_map};
@@ -12,10 +12,10 @@ use crate::opening::{
     store_file,
 };
 use crate::printing::{printer, unprinted};
+use crate::reports::print_array;
 use crate::text::LabFault;
-use lab_array::{ArrayFault, Held, Written, print_map, write_array};
-use lab_report::print_array;
-use lab_words::ArrayWords;
+use crate::words::ArrayWords;
+use lab_dump::{ArrayFault, Held, Written, print_map, write_array};
 use page_layout::geometry::Geometry;
 use std::alloc::{AllocError, Global};
 use std::io::Write;

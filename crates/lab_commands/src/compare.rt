@@ -7,11 +7,11 @@ ghost use Rattle.lab_commands.specs.Compare.{HasNone, IsCertificateAt, IsCompare
 use crate::files::{LabFiles, Progress};
 use crate::opening::{geometry_at, open_file, progress_of};
 use crate::printing::{printer, unprinted};
+use crate::reports::print_compared;
 use crate::text::LabFault;
+use crate::words::{CompareWords, Showing};
 use certificate::{Certificate, read_certificate};
-use lab_array::{CompareFault, Compared, compare_dump};
-use lab_report::print_compared;
-use lab_words::{CompareWords, Showing};
+use lab_dump::{CompareFault, Compared, compare_dump};
 use page_layout::geometry::Geometry;
 use std::alloc::Global;
 use std::io::{self, Read, Write};

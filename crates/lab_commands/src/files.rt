@@ -1,7 +1,5 @@
 //! Where a dump comes from, and where a file of sectors or pages is put.
-use lab_array::Target;
-use lab_geometry::Dump;
-use lab_scan::PageTarget;
+use lab_dump::{Dump, PageTarget, Target};
 use std::io::Read;
 use thiserror::Error;
 

@@ -5,10 +5,10 @@ ghost use Rattle.lab_commands.specs.Geometry.{AreFound, IsGeometryFault, IsUnfou
 use crate::files::LabFiles;
 use crate::opening::{open_dump, progress_of};
 use crate::printing::{printer, unprinted};
+use crate::reports::print_fits;
 use crate::text::LabFault;
-use lab_geometry::{FindFault, Fit, find_geometries};
-use lab_report::print_fits;
-use lab_words::{GeometryWords, Showing};
+use crate::words::{GeometryWords, Showing};
+use lab_dump::{FindFault, Fit, find_geometries};
 use std::alloc::Global;
 use std::io::Write;
 

@@ -1,19 +1,26 @@
-//! The commands of the program `nandlab`, on dumps of one NAND die: what each writes and prints, and the line and the exit status of
-//! each refusal. The caller gives the files and the writers.
+//! The commands of the program `nandlab`, on dumps of one NAND die: what the words of its command line mean, what each command writes and
+//! prints, as lines or as one JSON document, and the line and the exit status of each refusal. The caller gives the files and the writers.
 #![tactic(auto)]
 
 mod array;
 mod compare;
+mod document;
 mod files;
 mod geometry;
+mod grammar;
+mod lines;
+mod lists;
 mod merge;
 mod opening;
 mod printing;
 mod program;
 mod repair;
+mod reports;
 mod rows;
 mod survey;
 mod text;
+mod values;
+mod words;
 
 pub use files::{FileFault, LabFiles, Progress};
 pub use program::run;

@@ -11,10 +11,10 @@ use crate::opening::{
     create_pages, geometry_at, has_file, is_dump, keep_pages, open_file, progress_of,
 };
 use crate::printing::{printer, unprinted};
+use crate::reports::print_merged;
 use crate::text::LabFault;
+use crate::words::MergeWords;
 use lab_mend::{MergeFault, Merged, merge_dumps};
-use lab_report::print_merged;
-use lab_words::MergeWords;
 use page_layout::geometry::Geometry;
 use std::alloc::Global;
 use std::io::Write;

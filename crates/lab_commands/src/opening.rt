@@ -7,8 +7,8 @@ ghost use Rattle.lab_commands.specs.Undone.{IsGeometryAt, IsNoGeometry, IsUnread
 
 use crate::files::{FileFault, LabFiles, Progress};
 use crate::text::LabFault;
+use crate::words::Showing;
 use command_words::geometry_numbers;
-use lab_words::Showing;
 use page_layout::geometry::Geometry;
 
 /// The geometry that a word says.

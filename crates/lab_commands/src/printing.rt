@@ -2,9 +2,9 @@
 ghost use Rattle.std.specs.Prelude.{◌≡◌};
 ghost use Rattle.lab_commands.specs.Undone.{IsUnprinted, form_of};
 
+use crate::document::{Form, PrintFault, Printer};
 use crate::text::LabFault;
-use lab_report::{Form, PrintFault, Printer};
-use lab_words::Showing;
+use crate::words::Showing;
 use std::alloc::Global;
 
 /// What prints in the form that is asked for.

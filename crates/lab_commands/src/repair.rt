@@ -7,12 +7,12 @@ ghost use Rattle.lab_commands.specs.Repair.{IsMended, IsRepairFault, WroteRepair
 use crate::files::LabFiles;
 use crate::opening::{allow, create_pages, geometry_at, keep_pages, open_file, progress_of};
 use crate::printing::{printer, unprinted};
+use crate::reports::print_repaired;
 use crate::rows::rows_at;
 use crate::text::LabFault;
+use crate::words::RepairWords;
+use lab_dump::Rows;
 use lab_mend::{RepairFault, Repaired, repair_dump};
-use lab_report::print_repaired;
-use lab_scan::Rows;
-use lab_words::RepairWords;
 use page_layout::geometry::Geometry;
 use std::alloc::Global;
 use std::io::Write;

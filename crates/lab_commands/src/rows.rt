@@ -1,11 +1,11 @@
 //! The rows that a command is to look at.
 ghost use Rattle.std.specs.Prelude.{◌≡◌, Some, IfSome, IfOk, IfErr};
-ghost use Rattle.lab_scan.specs.declared.rows.Rows.{Rows};
+ghost use Rattle.lab_dump.specs.declared.rows.Rows.{Rows};
 ghost use Rattle.lab_commands.specs.Rows.{AreNoRows, AreRowsAt, SpellsRows};
 
 use crate::text::LabFault;
 use command_words::number;
-use lab_scan::Rows;
+use lab_dump::Rows;
 use page_layout::geometry::Geometry;
 
 // The rows that a word spells, whatever die they are of.

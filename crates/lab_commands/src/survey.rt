@@ -5,12 +5,11 @@ ghost use Rattle.lab_commands.specs.Survey.{IsSeen, IsSurveyFault, IsUnsurveyed,
 use crate::files::LabFiles;
 use crate::opening::{geometry_at, open_file, progress_of};
 use crate::printing::{printer, unprinted};
+use crate::reports::print_survey;
 use crate::rows::rows_at;
 use crate::text::LabFault;
-use lab_report::print_survey;
-use lab_scan::Rows;
-use lab_survey::{DieSurvey, SurveyFault, survey_dump};
-use lab_words::{Showing, SurveyWords};
+use crate::words::{Showing, SurveyWords};
+use lab_dump::{DieSurvey, Rows, SurveyFault, survey_dump};
 use page_layout::geometry::Geometry;
 use std::alloc::Global;
 use std::io::Write;

@@ -7,8 +7,8 @@ use Rattle.std.proofs.lemmas.List.{length-set, length-take-le, length-drop, get_
 use Rattle.std.proofs.lemmas.Nat.Bits.{bit_at_xor, bit_at-lt, bit_at-pow_same, bit_at-pow_other, same_from_bits}
 use Rattle.page_layout.specs.Page.{Page}
 use Rattle.page_layout.specs.Raw.{bytes_of_page}
-use Rattle.lab_scan.specs.PageBytes.{bits_of, bit_in, page_of, bit_count, page_bit}
-use Rattle.lab_scan.proofs.PageLemmas.{page_again, bytes_again}
+use Rattle.lab_dump.specs.PageBytes.{bits_of, bit_in, page_of, bit_count, page_bit}
+use Rattle.lab_dump.proofs.PageLemmas.{page_again, bytes_again}
 use Rattle.lab_mend.specs.Bits.{turned_bytes, turned, TurnedLaw}
 
 -- ---- bytes

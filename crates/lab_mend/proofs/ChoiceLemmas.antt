@@ -11,8 +11,8 @@ use Rattle.page_layout.specs.declared.record.Record.{Record}
 use Rattle.page_layout.specs.Page.{Page, page}
 use Rattle.page_layout.specs.Raw.{bytes_of_page}
 use Rattle.page_layout.specs.Sound.{record_of, is_filled, is_erased_page}
-use Rattle.lab_scan.specs.PageBytes.{page_of, is_sound}
-use Rattle.lab_scan.proofs.PageLemmas.{page_again}
+use Rattle.lab_dump.specs.PageBytes.{page_of, is_sound}
+use Rattle.lab_dump.proofs.PageLemmas.{page_again}
 use Rattle.lab_mend.specs.declared.choice.Origin.{Origin}
 use Rattle.lab_mend.specs.declared.choice.Origin.TheVariants.{Sound, Conflict, Majority, Erased, Unsound}
 use Rattle.lab_mend.specs.Majority.{majority}

@@ -13,8 +13,8 @@ use Rattle.page_layout.specs.Geometry.{page_bytes}
 use Rattle.page_layout.specs.Page.{Page}
 use Rattle.page_layout.specs.Raw.{bytes_of_page}
 use Rattle.page_layout.specs.Sound.{is_erased_page}
-use Rattle.lab_scan.specs.PageBytes.{page_of, is_sound}
-use Rattle.lab_scan.proofs.PageLemmas.{bytes_again}
+use Rattle.lab_dump.specs.PageBytes.{page_of, is_sound}
+use Rattle.lab_dump.proofs.PageLemmas.{bytes_again}
 use Rattle.lab_mend.specs.declared.choice.Origin.TheVariants.{Sound, Conflict, Majority, Erased, Unsound}
 use Rattle.lab_mend.specs.Pages.{piece_at, page_in, pages_in}
 use Rattle.lab_mend.specs.Majority.{majority}

@@ -7,11 +7,11 @@ use Rattle.std.proofs.Math.Nat.{mul-le-mul_right}
 use Rattle.std.proofs.lemmas.List.{length-set, length-map, map-set, get_or-map, get_or-set_same, get_or-set_other, take_at, drop_at, drop-drop}
 use Rattle.std.proofs.lemmas.Slice.{between_is, take-put_mid_below, between-put_mid}
 use borrow.Rule.Slice.PartMut.{put_mid}
-use Rattle.lab_scan.specs.declared.pages.Cut.{Cut}
-use Rattle.lab_scan.specs.declared.pages.Cut.TheVariants.{Ended, Failed}
-use Rattle.lab_scan.specs.declared.pages.ScanFault.{ScanFault}
-use Rattle.lab_scan.specs.declared.pages.ScanFault.TheVariants as fault
-use Rattle.lab_scan.specs.Scan.{IsCut, HasMore}
+use Rattle.lab_dump.specs.declared.pass.Cut.{Cut}
+use Rattle.lab_dump.specs.declared.pass.Cut.TheVariants.{Ended, Failed}
+use Rattle.lab_dump.specs.declared.pass.ScanFault.{ScanFault}
+use Rattle.lab_dump.specs.declared.pass.ScanFault.TheVariants as fault
+use Rattle.lab_dump.specs.Scan.{IsCut, HasMore}
 use Rattle.lab_mend.specs.Pages.{piece_at}
 use Rattle.lab_mend.specs.InStep.{IsAt, AreAt, Tell, AreBetween, AreRead, CutAt, LongAt}
 

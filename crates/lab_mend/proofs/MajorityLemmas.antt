@@ -14,8 +14,8 @@ use Rattle.page_layout.specs.declared.geometry.Geometry.{Geometry}
 use Rattle.page_layout.specs.Geometry.{page_bytes}
 use Rattle.page_layout.specs.Page.{Page}
 use Rattle.page_layout.specs.Raw.{bytes_of_page}
-use Rattle.lab_scan.specs.PageBytes.{page_of, page_bit}
-use Rattle.lab_scan.proofs.PageLemmas.{bytes_again}
+use Rattle.lab_dump.specs.PageBytes.{page_of, page_bit}
+use Rattle.lab_dump.proofs.PageLemmas.{bytes_again}
 use Rattle.lab_mend.specs.Majority.{votes, majority_bit, byte_of, column, majority_byte, majority, MajorityLaw}
 use Rattle.lab_mend.specs.Pages.{piece_at, page_in, pages_in, bytes_at}
 

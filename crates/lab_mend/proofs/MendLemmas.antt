@@ -11,7 +11,7 @@ use Rattle.page_layout.specs.declared.record.Record.{Record}
 use Rattle.page_layout.specs.Page.{Page}
 use Rattle.page_layout.specs.Sound.{record_of, is_erased_page}
 use Rattle.page_layout.specs.Block.{is_broken}
-use Rattle.lab_scan.specs.PageBytes.{is_sound, page_of, bits_of, bit_count}
+use Rattle.lab_dump.specs.PageBytes.{is_sound, page_of, bits_of, bit_count}
 use Rattle.lab_mend.specs.Bits.{turned, turned_bytes}
 use Rattle.lab_mend.specs.Mend.{lowest_bit, mend_of, turned_if, mended, IsMend, MendLaw, IsOneBitOff, MendedLaw, KeptLaw, AgainLaw}
 use Rattle.lab_mend.proofs.BitLemmas.{count_page, turned_page, turned_law}

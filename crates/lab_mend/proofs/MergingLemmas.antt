@@ -12,8 +12,8 @@ use Rattle.page_layout.specs.Geometry.{row_count, page_bytes}
 use Rattle.page_layout.specs.Page.{Page}
 use Rattle.page_layout.specs.Raw.{bytes_of_page}
 use Rattle.page_layout.specs.Sound.{is_erased_page}
-use Rattle.lab_scan.specs.PageBytes.{is_sound}
-use Rattle.lab_scan.proofs.ScanLemmas.{if_more}
+use Rattle.lab_dump.specs.PageBytes.{is_sound}
+use Rattle.lab_dump.proofs.ScanLemmas.{if_more}
 use Rattle.lab_mend.specs.declared.choice.Origin.{Origin}
 use Rattle.lab_mend.specs.declared.choice.Origin.TheVariants.{Sound, Conflict, Majority, Erased, Unsound}
 use Rattle.lab_mend.specs.declared.merging.Tally.{Tally}

@@ -11,14 +11,14 @@ use Rattle.page_layout.specs.Page.{Page, Image, page}
 use Rattle.page_layout.specs.Raw.{raw_image, bytes_of_page}
 use Rattle.page_layout.specs.Sound.{record_of}
 use Rattle.page_layout.proofs.RawLemmas.{length-raw_image}
-use Rattle.lab_scan.specs.Scan.{IsTaken}
-use Rattle.lab_scan.specs.Rows.{is_asked}
-use Rattle.lab_scan.specs.declared.rows.Rows.{Rows}
-use Rattle.lab_scan.proofs.ScanLemmas.{if_both}
-use Rattle.lab_scan.proofs.RowLemmas.{numbered_size, numbered_get}
+use Rattle.lab_dump.specs.Scan.{IsTaken}
+use Rattle.lab_dump.specs.Rows.{is_asked}
+use Rattle.lab_dump.specs.declared.rows.Rows.{Rows}
+use Rattle.lab_dump.proofs.ScanLemmas.{if_both}
+use Rattle.lab_dump.proofs.RowLemmas.{numbered_size, numbered_get}
 use Rattle.lab_mend.specs.declared.repairing.Mend.{Mend}
-use Rattle.lab_scan.specs.PageBytes.{page_of, bit_count, bits_of}
-use Rattle.lab_scan.proofs.PageLemmas.{bytes_again}
+use Rattle.lab_dump.specs.PageBytes.{page_of, bit_count, bits_of}
+use Rattle.lab_dump.proofs.PageLemmas.{bytes_again}
 use Rattle.lab_mend.specs.Bits.{turned}
 use Rattle.lab_mend.specs.Mend.{mend_of, mended, turned_if}
 use Rattle.lab_mend.specs.Repairing.{mend_at, mend_in, mends_below, piece_of, piece_at, AreMendedBelow, IsOwn, AreOwn, OwnLaw, Shows, Stands}

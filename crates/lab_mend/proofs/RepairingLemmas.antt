@@ -12,8 +12,8 @@ use Rattle.std.proofs.lemmas.Option.{same_Some}
 use Rattle.page_layout.specs.declared.geometry.Geometry.{Geometry}
 use Rattle.page_layout.specs.Geometry.{row_count, page_bytes}
 use Rattle.page_layout.specs.Page.{Page, Image}
-use Rattle.lab_scan.proofs.ScanLemmas.{if_more}
-use Rattle.lab_scan.specs.declared.rows.Rows.{Rows}
+use Rattle.lab_dump.proofs.ScanLemmas.{if_more}
+use Rattle.lab_dump.specs.declared.rows.Rows.{Rows}
 use Rattle.lab_mend.specs.declared.repairing.Mend.{Mend}
 use Rattle.lab_mend.specs.Repairing.{mend_at, mend_in, noted, mends_below, piece_at, AreMendedBelow, Shows, named_bit, IsOwn, AreOwn, AreListed, Stands}
 

@@ -10,7 +10,7 @@ use Rattle.sha2.specs.Hashers.{Holds256}
 use Rattle.page_layout.specs.declared.record.Record.{Record}
 use Rattle.page_layout.specs.Sound.{record_of, Spells, IsSound}
 use Rattle.page_layout.proofs.RecordLemmas as records
-use Rattle.lab_scan.specs.PageBytes.{is_sound, page_of}
+use Rattle.lab_dump.specs.PageBytes.{is_sound, page_of}
 use Rattle.lab_mend.specs.Bits.{turned_bytes}
 use Rattle.lab_mend.specs.Seal.{HasTaken, begins_as_record}
 use Rattle.lab_mend.specs.declared.seal.Prefix.{Prefix}

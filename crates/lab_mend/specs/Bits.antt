@@ -2,7 +2,7 @@
 use Rattle.std.specs.Prelude.{◌≡◌, ◌↔◌, ℕ, ◌/◌, ◌%◌, ◌^◌, ◌<◌, List, length, slice_index, slice_set, bit_xor}
 use Rattle.page_layout.specs.Page.{Page}
 use Rattle.page_layout.specs.Raw.{bytes_of_page}
-use Rattle.lab_scan.specs.PageBytes.{page_of, bit_count, page_bit}
+use Rattle.lab_dump.specs.PageBytes.{page_of, bit_count, page_bit}
 
 -- bytes with bit k turned
 unfoldable pub turned_bytes : List ℕ → ℕ → List ℕ

@@ -6,7 +6,7 @@ use Rattle.page_layout.specs.declared.geometry.Geometry.{Geometry}
 use Rattle.page_layout.specs.Page.{Page, page}
 use Rattle.page_layout.specs.Raw.{bytes_of_page}
 use Rattle.page_layout.specs.Sound.{record_of, is_erased_page}
-use Rattle.lab_scan.specs.PageBytes.{is_sound}
+use Rattle.lab_dump.specs.PageBytes.{is_sound}
 use Rattle.lab_mend.specs.declared.choice.Origin.{Origin}
 use Rattle.lab_mend.specs.declared.choice.Origin.TheVariants.{Sound, Conflict, Majority, Erased, Unsound}
 use Rattle.lab_mend.specs.Majority.{majority}

@@ -5,7 +5,7 @@ use Rattle.page_layout.specs.declared.geometry.Geometry.{Geometry}
 use Rattle.page_layout.specs.Page.{Page}
 use Rattle.page_layout.specs.Raw.{bytes_of_page}
 use Rattle.page_layout.specs.Sound.{is_erased_page}
-use Rattle.lab_scan.specs.PageBytes.{is_sound}
+use Rattle.lab_dump.specs.PageBytes.{is_sound}
 use Rattle.lab_mend.specs.declared.choice.Origin.{Origin}
 use Rattle.lab_mend.specs.declared.choice.Agreed.{Agreed}
 use Rattle.lab_mend.specs.declared.choice.Agreed.TheVariants.{Never, One, Apart}

@@ -1,9 +1,9 @@
 -- Readers that are read in step.
 use Rattle.std.specs.Prelude.{◌≡◌, ℕ, ◌+◌, ◌<◌, ◌≤◌, List, [], length, get_or, map, drop, slice_range, Option, Some, None}
-use Rattle.lab_scan.specs.declared.pages.Cut.{Cut}
-use Rattle.lab_scan.specs.declared.pages.Cut.TheVariants.{Ended, Failed}
-use Rattle.lab_scan.specs.declared.pages.ScanFault.{ScanFault}
-use Rattle.lab_scan.specs.declared.pages.ScanFault.TheVariants as fault
+use Rattle.lab_dump.specs.declared.pass.Cut.{Cut}
+use Rattle.lab_dump.specs.declared.pass.Cut.TheVariants.{Ended, Failed}
+use Rattle.lab_dump.specs.declared.pass.ScanFault.{ScanFault}
+use Rattle.lab_dump.specs.declared.pass.ScanFault.TheVariants as fault
 use Rattle.lab_mend.specs.declared.in_step.ReadingCut.{ReadingCut}
 use Rattle.lab_mend.specs.declared.in_step.ReadingFault.{ReadingFault}
 use Rattle.lab_mend.specs.Pages.{piece_at}

@@ -6,7 +6,7 @@ use Rattle.page_layout.specs.declared.geometry.Geometry.{Geometry}
 use Rattle.page_layout.specs.Geometry.{page_bytes}
 use Rattle.page_layout.specs.Page.{Page}
 use Rattle.page_layout.specs.Raw.{bytes_of_page}
-use Rattle.lab_scan.specs.PageBytes.{page_of, page_bit}
+use Rattle.lab_dump.specs.PageBytes.{page_of, page_bit}
 
 -- how many of these bytes have bit b set
 abbrev pub votes : List ℕ → ℕ → ℕ

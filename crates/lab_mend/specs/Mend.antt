@@ -4,7 +4,7 @@ use Rattle.std.specs.List.{range_with_len, position}
 use Rattle.page_layout.specs.Page.{Page}
 use Rattle.page_layout.specs.Sound.{record_of, is_erased_page}
 use Rattle.page_layout.specs.Block.{is_broken}
-use Rattle.lab_scan.specs.PageBytes.{is_sound, bit_count}
+use Rattle.lab_dump.specs.PageBytes.{is_sound, bit_count}
 use Rattle.lab_mend.specs.Bits.{turned, DiffersAt}
 
 -- the lowest bit whose turning makes the page sound, if there is one

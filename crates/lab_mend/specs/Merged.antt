@@ -5,11 +5,11 @@ use Rattle.page_layout.specs.declared.geometry.Geometry.{Geometry}
 use Rattle.page_layout.specs.Geometry.{row_count, page_bytes}
 use Rattle.page_layout.specs.Page.{Page}
 use Rattle.page_layout.specs.Raw.{page_from}
-use Rattle.lab_scan.specs.Scan.{image_bytes}
-use Rattle.lab_scan.specs.declared.pages.Cut.{Cut}
-use Rattle.lab_scan.specs.declared.pages.Cut.TheVariants as cut
-use Rattle.lab_scan.specs.declared.pages.ScanFault.{ScanFault}
-use Rattle.lab_scan.specs.declared.pages.ScanFault.TheVariants as scan
+use Rattle.lab_dump.specs.Scan.{image_bytes}
+use Rattle.lab_dump.specs.declared.pass.Cut.{Cut}
+use Rattle.lab_dump.specs.declared.pass.Cut.TheVariants as cut
+use Rattle.lab_dump.specs.declared.pass.ScanFault.{ScanFault}
+use Rattle.lab_dump.specs.declared.pass.ScanFault.TheVariants as scan
 use Rattle.lab_mend.specs.declared.merging.RowFault.{RowFault}
 use Rattle.lab_mend.specs.declared.merging.RowFault.TheVariants as row
 use Rattle.lab_mend.specs.declared.merging.Tally.{Tally}

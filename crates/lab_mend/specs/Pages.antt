@@ -4,7 +4,7 @@ use Rattle.std.specs.List.{range_with_len}
 use Rattle.page_layout.specs.declared.geometry.Geometry.{Geometry}
 use Rattle.page_layout.specs.Geometry.{page_bytes}
 use Rattle.page_layout.specs.Page.{Page}
-use Rattle.lab_scan.specs.PageBytes.{page_of}
+use Rattle.lab_dump.specs.PageBytes.{page_of}
 
 -- the bytes of page i
 abbrev pub piece_at : List ℕ → ℕ → ℕ → List ℕ

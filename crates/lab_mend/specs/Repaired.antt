@@ -5,11 +5,11 @@ use Rattle.page_layout.specs.declared.geometry.Geometry.{Geometry}
 use Rattle.page_layout.specs.Geometry.{row_count}
 use Rattle.page_layout.specs.Page.{Image}
 use Rattle.page_layout.specs.Raw.{raw_image, bytes_of_page}
-use Rattle.lab_scan.specs.Scan.{image_bytes}
-use Rattle.lab_scan.specs.Rows.{is_asked}
-use Rattle.lab_scan.specs.declared.rows.Rows.{Rows}
-use Rattle.lab_scan.specs.declared.pages.ScanFault.{ScanFault}
-use Rattle.lab_scan.specs.declared.pages.ScanFault.TheVariants as scan
+use Rattle.lab_dump.specs.Scan.{image_bytes}
+use Rattle.lab_dump.specs.Rows.{is_asked}
+use Rattle.lab_dump.specs.declared.rows.Rows.{Rows}
+use Rattle.lab_dump.specs.declared.pass.ScanFault.{ScanFault}
+use Rattle.lab_dump.specs.declared.pass.ScanFault.TheVariants as scan
 use Rattle.lab_mend.specs.declared.repair.RepairFault.{RepairFault}
 use Rattle.lab_mend.specs.declared.repair.RepairFault.TheVariants as fault
 use Rattle.lab_mend.specs.declared.repairing.Mend.{Mend}

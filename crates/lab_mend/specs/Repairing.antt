@@ -6,10 +6,10 @@ use Rattle.page_layout.specs.Geometry.{row_count, page_bytes}
 use Rattle.page_layout.specs.Page.{Page, Image}
 use Rattle.page_layout.specs.Raw.{bytes_of_page}
 use Rattle.page_layout.specs.Sound.{record_of}
-use Rattle.lab_scan.specs.declared.rows.Rows.{Rows}
-use Rattle.lab_scan.specs.Rows.{is_asked}
+use Rattle.lab_dump.specs.declared.rows.Rows.{Rows}
+use Rattle.lab_dump.specs.Rows.{is_asked}
 use Rattle.lab_mend.specs.declared.repairing.Mend.{Mend}
-use Rattle.lab_scan.specs.PageBytes.{page_of, bits_of}
+use Rattle.lab_dump.specs.PageBytes.{page_of, bits_of}
 use Rattle.lab_mend.specs.Mend.{mend_of, mended, turned_if}
 
 -- ---- of a row

@@ -4,7 +4,7 @@ ghost use Rattle.std.specs.Str.{bytes_eq};
 ghost use Rattle.page_layout.specs.Geometry.{page_bytes};
 ghost use Rattle.page_layout.specs.Raw.{bytes_of_page};
 ghost use Rattle.page_layout.specs.Sound.{is_erased_page};
-ghost use Rattle.lab_scan.specs.PageBytes.{is_sound};
+ghost use Rattle.lab_dump.specs.PageBytes.{is_sound};
 ghost use Rattle.lab_mend.specs.Choice;
 ghost use Rattle.lab_mend.specs.Choice.{by_erased, by_majority};
 ghost use Rattle.lab_mend.specs.Majority.{majority};
@@ -12,7 +12,7 @@ ghost use Rattle.lab_mend.specs.Pages.{page_in, pages_in, piece_at};
 ghost use Rattle.lab_mend.specs.Found.{IsAgreed, IsFirstErased, WritesChoice, erased_below, sound_below};
 
 use crate::majority::write_majority;
-use lab_scan::is_sound;
+use lab_dump::is_sound;
 use page_layout::geometry::Geometry;
 use page_layout::record::is_erased;
 

@@ -2,7 +2,7 @@
 ghost use Rattle.std.specs.Prelude.{◌≡◌, ◌<◌, ◌+◌, ◌*◌, ℕ, List, length, map, OnOk, IfErr};
 ghost use Rattle.lab_mend.specs.InStep.{AreAt, AreRead, HaveEnded, IsLongAt, IsShortAt};
 
-use lab_scan::{Cut, ScanFault, expect_end, fill};
+use lab_dump::{Cut, ScanFault, expect_end, fill};
 use std::io::Read;
 
 // Why a page was not read: of which reader, counted from 0, and why.

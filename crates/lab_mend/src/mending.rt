@@ -2,13 +2,13 @@
 ghost use Rattle.std.specs.Prelude.{◌≡◌, ◌<◌, length};
 ghost use Rattle.page_layout.specs.Geometry.{page_bytes};
 ghost use Rattle.page_layout.specs.Page.{page};
-ghost use Rattle.lab_scan.specs.PageBytes.{bits_of, page_of};
+ghost use Rattle.lab_dump.specs.PageBytes.{bits_of, page_of};
 ghost use Rattle.lab_mend.specs.Bits.{turned_bytes};
 ghost use Rattle.lab_mend.specs.Mend.{lowest_bit, mend_of, mended, turned_if};
 ghost use Rattle.lab_mend.specs.Repairing.{IsOwn, mend_at, piece_at};
 
 use crate::seal::Prefix;
-use lab_scan::{Rows, is_asked, is_broken, join_page};
+use lab_dump::{Rows, is_asked, is_broken, join_page};
 use page_layout::geometry::Geometry;
 
 // Turns a bit: bit k mod 8, counted from the lowest, of byte k / 8.

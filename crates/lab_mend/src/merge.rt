@@ -2,14 +2,14 @@
 ghost use Rattle.std.specs.Prelude.{◌≡◌, ◌<◌, ◌*◌, ℕ, List, [], length, map, OnOk, IfOk, IfErr, IfSome};
 ghost use Rattle.page_layout.specs.Geometry.{page_bytes, row_count};
 ghost use Rattle.page_layout.specs.Page.{Page};
-ghost use Rattle.lab_scan.specs.Scan.{image_bytes};
+ghost use Rattle.lab_dump.specs.Scan.{image_bytes};
 ghost use Rattle.lab_mend.specs.InStep.{AreAt, Tell};
 ghost use Rattle.lab_mend.specs.Merging.{AreListed, Shows, Stands, unsound_below};
 ghost use Rattle.lab_mend.specs.Merged.{IsMerged, IsOfReading, IsOwnMerge, IsUnmerged, row_of};
 
 use crate::in_step::{ReadingCut, ReadingFault, expect_ends, read_row};
 use crate::merging::{Merging, RowFault, Tally};
-use lab_scan::{Cut, PageTarget, ScanFault};
+use lab_dump::{Cut, PageTarget, ScanFault};
 use page_layout::geometry::Geometry;
 use std::alloc::{AllocError, Global};
 use std::io::Read;

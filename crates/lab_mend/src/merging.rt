@@ -6,7 +6,7 @@ ghost use Rattle.lab_mend.specs.Pages.{pages_in};
 ghost use Rattle.lab_mend.specs.Merging.{AreListed, Shows, Stands, counted, named, unsound_below, with_unsound};
 
 use crate::choice::{Origin, choose};
-use lab_scan::PageTarget;
+use lab_dump::PageTarget;
 use page_layout::geometry::Geometry;
 use std::alloc::AllocError;
 

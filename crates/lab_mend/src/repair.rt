@@ -4,7 +4,7 @@ ghost use Rattle.page_layout.specs.Geometry.{row_count};
 ghost use Rattle.lab_mend.specs.Repaired.{IsOwnRepair, IsRepaired, IsUnrepaired};
 
 use crate::repairing::{Mend, Repairing};
-use lab_scan::{PageTarget, Rows, ScanFault, scan};
+use lab_dump::{PageTarget, Rows, ScanFault, scan};
 use page_layout::geometry::Geometry;
 use std::alloc::{AllocError, Global};
 use std::io::Read;

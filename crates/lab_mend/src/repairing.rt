@@ -5,7 +5,7 @@ ghost use Rattle.page_layout.specs.Page.{Page, Image};
 ghost use Rattle.lab_mend.specs.Repairing.{IsOwn, mend_at, noted, piece_at, Shows, Stands};
 
 use crate::mending::write_page;
-use lab_scan::{PageTarget, Rows, Stopped, Taker};
+use lab_dump::{PageTarget, Rows, Stopped, Taker};
 use page_layout::geometry::Geometry;
 use std::alloc::AllocError;
 

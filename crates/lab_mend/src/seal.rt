@@ -2,7 +2,7 @@
 ghost use Rattle.std.specs.Prelude.{◌≡◌, ◌≤◌, ◌+◌, ◌*◌, ℕ, List, true, length, take};
 ghost use Rattle.page_layout.specs.Geometry.{page_bytes};
 ghost use Rattle.sha2.specs.Hashers.{Holds256};
-ghost use Rattle.lab_scan.specs.PageBytes.{is_sound, page_of};
+ghost use Rattle.lab_dump.specs.PageBytes.{is_sound, page_of};
 ghost use Rattle.lab_mend.specs.Seal.{HasTaken, begins_as_record};
 
 use page_layout::geometry::Geometry;
@@ -47,7 +47,7 @@ fn may_be_sound(prefix: &Prefix, size: usize, bytes: &[u8]) -> bool
 impl Prefix {
     ghost use Rattle.std.specs.Prelude.{◌≡◌, ◌+◌, ◌*◌, ℕ, List, length};
     ghost use Rattle.page_layout.specs.Geometry.{page_bytes};
-    ghost use Rattle.lab_scan.specs.PageBytes.{is_sound, page_of};
+    ghost use Rattle.lab_dump.specs.PageBytes.{is_sound, page_of};
     ghost use Rattle.lab_mend.specs.Seal.{HasTaken};
 
     /// One that has taken no byte.
@@ -66,7 +66,7 @@ impl Prefix {
         requires taken { HasTaken geometry.now.data_bytes bytes.now bit self.now }
         ensures { result ≡ is_sound (page_of geometry.now.data_bytes bytes.now) }
     {
-        may_be_sound(self, geometry.data_bytes(), bytes) && lab_scan::is_sound(geometry, bytes)
+        may_be_sound(self, geometry.data_bytes(), bytes) && lab_dump::is_sound(geometry, bytes)
     }
 
     /// Takes the byte of a bit of the data area, where that is its last bit.

@@ -1,9 +1,7 @@
 //! The files of the system.
 use crate::progress::{Meter, Metered, is_terminal, size_of};
-use lab_array::{Target, TargetFault};
 use lab_commands::{FileFault, LabFiles, Progress};
-use lab_geometry::{Dump, DumpFault};
-use lab_scan::{PageFault, PageTarget};
+use lab_dump::{Dump, DumpFault, PageFault, PageTarget, Target, TargetFault};
 use std::fs::{self, File, OpenFile};
 use std::io::{self, BufReader, Error, ErrorKind, Read, Seek, SeekFrom, Write};
 use std::os::unix::fs::FileExt;

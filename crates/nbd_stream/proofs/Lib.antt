@@ -11,3 +11,4 @@ pub mod RoundLemmas
 pub mod RunLemmas
 pub mod UntilLemmas
 pub mod Serving
+pub mod Calm

@@ -8,3 +8,5 @@ pub mod Exchanges
 pub mod Runs
 pub mod Until
 pub mod Transmission
+-- what a disk in memory comes to
+pub mod Memory

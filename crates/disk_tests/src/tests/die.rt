@@ -27,7 +27,7 @@ fn erased(rt: &impl Abort, alloc: Global) -> Vec<u8> {
 }
 
 /// A program of a row with one byte, an erase of the block of a row, or a page read of a row.
-#[derive(Clone, Copy, Debug)]
+#[derive(Clone, Copy)]
 pub enum Ask {
     Program(u8, u8),
     Erase(u8),
@@ -35,7 +35,7 @@ pub enum Ask {
 }
 
 /// What comes of it: the status, the byte that fills the page, or the device's fault.
-#[derive(Clone, Copy, Debug, PartialEq, Eq)]
+#[derive(Clone, Copy, PartialEq, Eq)]
 pub enum Answer {
     Status(u8),
     Filled(u8),

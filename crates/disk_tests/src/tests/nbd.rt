@@ -5,4 +5,5 @@ mod replies;
 mod requests;
 mod rests;
 mod sectors;
+mod sessions;
 mod transmissions;

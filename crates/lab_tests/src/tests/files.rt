@@ -1,13 +1,11 @@
 //! Files in memory, whose reads and writes can fail.
-use lab_array::{Target, TargetFault};
 use lab_commands::{FileFault, LabFiles, Progress};
-use lab_geometry::{Dump, DumpFault};
-use lab_scan::{PageFault, PageTarget};
+use lab_dump::{Dump, DumpFault, PageFault, PageTarget, Target, TargetFault};
 use std::alloc::{AllocError, Global};
 use std::io::{self, ErrorKind, Read, Write};
 
 /// What goes wrong with the files.
-#[derive(Clone, Copy, Debug, PartialEq, Eq)]
+#[derive(Clone, Copy)]
 pub enum Trouble {
     /// Nothing.
     Calm,
@@ -242,7 +240,7 @@ impl MemoryFiles {
 
     // Puts these bytes in the place of a path.
     fn keep_bytes(&mut self, path: &str, bytes: Vec<u8>) -> Result<(), FileFault> {
-        if self.trouble == Trouble::Unkept {
+        if matches!(self.trouble, Trouble::Unkept) {
             return Err(FileFault::Failed);
         }
         self.kept = self.kept.saturating_add(1);
@@ -270,21 +268,21 @@ impl LabFiles for MemoryFiles {
     ghost kept = { λ _. None };
 
     fn has(&mut self, path: &str) -> Result<bool, FileFault> {
-        if self.trouble == Trouble::Unasked {
+        if matches!(self.trouble, Trouble::Unasked) {
             return Err(FileFault::Failed);
         }
         Ok(self.contents(path).is_some())
     }
 
     fn is_same(&mut self, first: &str, second: &str) -> Result<bool, FileFault> {
-        if self.trouble == Trouble::Unasked {
+        if matches!(self.trouble, Trouble::Unasked) {
             return Err(FileFault::Failed);
         }
         Ok(plain(first) == plain(second))
     }
 
     fn open(&mut self, path: &str, _progress: Progress) -> Result<MemoryReader, FileFault> {
-        if self.trouble == Trouble::NoMemory {
+        if matches!(self.trouble, Trouble::NoMemory) {
             return Err(FileFault::OutOfMemory);
         }
         let most = match self.trouble {
@@ -307,7 +305,7 @@ impl LabFiles for MemoryFiles {
     }
 
     fn open_dump(&mut self, path: &str, _progress: Progress) -> Result<MemoryDump, FileFault> {
-        if self.trouble == Trouble::NoMemory {
+        if matches!(self.trouble, Trouble::NoMemory) {
             return Err(FileFault::OutOfMemory);
         }
         let size = self.length(path) as u64;
@@ -346,7 +344,7 @@ impl LabFiles for MemoryFiles {
     }
 
     fn store(&mut self, path: &str, bytes: &[u8]) -> Result<(), FileFault> {
-        if self.trouble == Trouble::Unstored {
+        if matches!(self.trouble, Trouble::Unstored) {
             return Err(FileFault::Failed);
         }
         let Ok(copy) = Vec::from_slice(self.alloc, bytes) else {

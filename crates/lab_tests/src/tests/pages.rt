@@ -2,7 +2,7 @@
 mod merge;
 mod repair;
 
-use lab_scan::{PageFault, PageTarget};
+use lab_dump::{PageFault, PageTarget};
 use test_images::{TABLE_0, TABLE_1, Written, page};
 
 // The bytes of a page of the small die: 64 of data and 40 spare ones.

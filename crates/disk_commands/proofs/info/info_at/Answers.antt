@@ -1,4 +1,4 @@
-use Rattle.std.proofs.Common.{inl, inr, ap}
+use Rattle.std.proofs.Common.{inr, ap}
 use Rattle.disk_commands.proofs.OpeningLemmas.{no_disk, no_file, store_at}
 use Rattle.disk_commands.proofs.info.info_at.Goals as goal
 

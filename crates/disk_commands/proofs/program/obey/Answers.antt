@@ -1,7 +1,7 @@
 use Rattle.std.proofs.Common.{inr, refl, subst}
 use Rattle.program_words.specs.Met.{texts}
-use Rattle.disk_words.specs.declared.words.DiskWords.TheVariants as asked
-use Rattle.disk_words.specs.Words.{IsAsked}
+use Rattle.disk_commands.specs.declared.words.DiskWords.TheVariants as asked
+use Rattle.disk_commands.specs.Words.{IsAsked}
 use Rattle.disk_commands.proofs.ProgramLemmas.{creates}
 use Rattle.disk_commands.proofs.program.obey.Goals as goal
 

@@ -1,4 +1,4 @@
-use Rattle.std.proofs.Common.{ap, refl, sym, ◌∙◌}
+use Rattle.std.proofs.Common.{ap, refl}
 use Rattle.disk_commands.proofs.OpeningLemmas.{no_disk, no_file, store_at}
 use Rattle.disk_commands.proofs.serve.open_disk.Goals as goal
 

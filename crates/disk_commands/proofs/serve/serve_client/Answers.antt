@@ -1,4 +1,4 @@
-use Rattle.std.proofs.Common.{inl, sym, subst, ◌∙◌}
+use Rattle.std.proofs.Common.{inl, ◌∙◌}
 use Rattle.disk_commands.proofs.ServeLemmas.{limited}
 use Rattle.disk_commands.proofs.serve.serve_client.Goals as goal
 

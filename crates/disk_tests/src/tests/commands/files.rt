@@ -11,7 +11,7 @@ use page_layout::geometry::Geometry;
 use std::alloc::{AllocError, Global};
 
 /// What goes wrong with the files.
-#[derive(Clone, Copy, Debug, PartialEq, Eq)]
+#[derive(Clone, Copy)]
 pub enum Trouble {
     /// Nothing.
     Calm,
@@ -144,7 +144,7 @@ impl DiskFiles for MemoryFiles {
     ghost kept = { λ _. None };
 
     fn has(&mut self, path: &str) -> Result<bool, FileFault> {
-        if self.trouble == Trouble::Unasked {
+        if matches!(self.trouble, Trouble::Unasked) {
             return Err(FileFault::Read);
         }
         Ok(self.find(path).is_some())
@@ -164,7 +164,7 @@ impl DiskFiles for MemoryFiles {
         geometry: &Geometry,
         _writes: bool,
     ) -> Result<(MemoryStore, MemorySyncs), FileFault> {
-        if self.trouble == Trouble::Busy {
+        if matches!(self.trouble, Trouble::Busy) {
             return Err(FileFault::InUse);
         }
         let Some(disk) = self.find(path) else {
@@ -186,7 +186,7 @@ impl DiskFiles for MemoryFiles {
         _path: &str,
         geometry: &Geometry,
     ) -> Result<MemoryStore, FileFault> {
-        if self.trouble == Trouble::Full {
+        if matches!(self.trouble, Trouble::Full) {
             return Err(FileFault::Write);
         }
         let Ok(pages) = vec![in alloc; 0xFF; die_bytes(geometry) as usize] else {
@@ -212,7 +212,7 @@ impl DiskFiles for MemoryFiles {
     }
 
     fn keep(&mut self, path: &str, store: MemoryStore, text: &[u8]) -> Result<(), FileFault> {
-        if self.trouble == Trouble::Unkept {
+        if matches!(self.trouble, Trouble::Unkept) {
             return Err(FileFault::Write);
         }
         match kept_disk(self.alloc, path, store, text) {

@@ -3,12 +3,11 @@ ghost use Rattle.std.specs.Prelude.{◌≡◌, IfOk};
 
 use crate::tests::steps::{Answer, Step, does_all};
 use device_bench::bench::{driver_on, formatted_die, mounted, small};
-use device_disk::{DeviceDisk, open_checked};
+use disk_server::{DeviceDisk, SectorDisk, Sectors, open_checked};
 use nand_die::{Die, Stop};
 use nbd_stream::DiskFault;
 use onfi_cycles::{Driver, Nand};
 use page_layout::geometry::Geometry;
-use sector_disk::{SectorDisk, Sectors};
 use std::alloc::Global;
 use std::test::Fail;
 

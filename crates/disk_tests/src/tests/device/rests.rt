@@ -4,10 +4,9 @@ ghost use Rattle.std.specs.Prelude.{◌≡◌, length};
 use super::disks::{device_on, die_of, over};
 use device_bench::bench::small;
 use device_bench::cases::erases_of;
-use device_disk::DeviceDisk;
+use disk_server::{DeviceDisk, Sectors};
 use nbd_stream::{Disk, End, Export, transmit};
 use onfi_cycles::Nand;
-use sector_disk::Sectors;
 use std::alloc::Global;
 use std::test::Fail;
 

@@ -9,7 +9,7 @@ use std::alloc::Global;
 use std::process::Abort;
 
 /// A call of a store.
-#[derive(Clone, Copy, Debug, PartialEq, Eq)]
+#[derive(Clone, Copy, PartialEq, Eq)]
 pub enum Call {
     Load(u32),
     Put(u32),

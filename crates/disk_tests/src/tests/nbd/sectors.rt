@@ -2,8 +2,8 @@
 ghost use Rattle.std.specs.Prelude.{◌≡◌, length};
 
 use crate::tests::steps::{Step, does_all};
+use disk_server::{SectorDisk, Sectors};
 use nbd_stream::{Disk, DiskFault};
-use sector_disk::{SectorDisk, Sectors};
 use std::alloc::Global;
 use std::test::Fail;
 

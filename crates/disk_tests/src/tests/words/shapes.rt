@@ -1,5 +1,5 @@
 //! Sizes as words write them, and the shapes for them.
-use disk_shape::{Shape, SizeFault, shape_for, size_from};
+use disk_commands::{Shape, SizeFault, shape_for, size_from};
 use std::process::Abort;
 use std::test::*;
 

@@ -1,5 +1,5 @@
 //! The file beside a disk, written and read.
-use disk_shape::{Member, ShapeFault, read_shape, shape_for, write_shape};
+use disk_commands::{Member, ShapeFault, read_shape, shape_for, write_shape};
 use page_layout::geometry::GeometryFault;
 use std::alloc::Global;
 use std::process::Abort;

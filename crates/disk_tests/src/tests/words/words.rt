@@ -1,5 +1,5 @@
 //! The words of `nanddisk`.
-use disk_words::{CreateWords, DiskWords, InfoWords, MakeWords, ServeWords, WordsFault, parse};
+use disk_commands::{CreateWords, DiskWords, InfoWords, MakeWords, ServeWords, WordsFault, parse};
 use std::alloc::Global;
 use std::process::Abort;
 use std::test::*;

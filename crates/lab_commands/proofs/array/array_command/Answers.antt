@@ -1,14 +1,14 @@
 use Rattle.std.proofs.Common.{inl, inr, map, List, ap, subst, ◌∙◌}
 use Rattle.std.specs.Io.KnownBytes.{Appends}
 use Rattle.std.proofs.KnownBytes.{Keeps-refl}
-use Rattle.lab_array.specs.Held.{state_in}
-use Rattle.lab_array.specs.declared.held.Held.{Held}
-use Rattle.lab_array.specs.Map.{map_text}
+use Rattle.lab_dump.specs.Held.{state_in}
+use Rattle.lab_dump.specs.declared.held.Held.{Held}
+use Rattle.lab_dump.specs.Map.{map_text}
 use Rattle.lab_commands.specs.Undone.{IsUnmade}
 use Rattle.lab_commands.specs.Array.{IsArrayFault, IsMade, MadeArray, PutArray, with_map}
 use Rattle.lab_commands.specs.Files.{AnswersNoMore, with_kept}
 use Rattle.request_stream.specs.Frames.{AppendsFront}
-use Rattle.lab_report.specs.Reports.{array_text}
+use Rattle.lab_commands.specs.Reports.{array_text}
 use Rattle.lab_commands.proofs.ArrayLemmas.{no_geometry, not_allowed, not_made, unmapped_before}
 use Rattle.lab_commands.proofs.UndoneLemmas.{handed_on, no_more_then, unwritten_before}
 use Rattle.lab_commands.proofs.array.array_command.Goals as goal

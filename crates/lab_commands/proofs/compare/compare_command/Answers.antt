@@ -1,7 +1,7 @@
 use Rattle.std.proofs.Common.{inr, subst, ◌∙◌}
 use Rattle.std.specs.Io.KnownBytes.{Appends}
 use Rattle.request_stream.specs.Frames.{AppendsFront}
-use Rattle.lab_report.specs.Reports.{compare_text}
+use Rattle.lab_commands.specs.Reports.{compare_text}
 use Rattle.lab_commands.specs.Compare.{HasCompared, IsCompareFault}
 use Rattle.lab_commands.proofs.CompareLemmas.{compared_before, no_certificate, no_geometry, not_held, unheld_before}
 use Rattle.lab_commands.proofs.UndoneLemmas.{handed_on}

@@ -1,7 +1,7 @@
 use Rattle.std.proofs.Common.{inr, List, subst}
 use Rattle.request_stream.specs.Frames.{AppendsFront}
-use Rattle.lab_geometry.specs.declared.fit.Fit.{Fit}
-use Rattle.lab_report.specs.Reports.{fits_text}
+use Rattle.lab_dump.specs.declared.fit.Fit.{Fit}
+use Rattle.lab_commands.specs.Reports.{fits_text}
 use Rattle.lab_commands.proofs.geometry.geometry_command.Goals as goal
 
 pub returns-clause-fault : goal.returns-clause-fault

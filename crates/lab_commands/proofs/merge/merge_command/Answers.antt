@@ -1,7 +1,7 @@
 use Rattle.std.proofs.Common.{inl, inr, ℕ, List, ap, subst, ◌∙◌}
 use Rattle.std.specs.Io.KnownBytes.{Appends}
 use Rattle.request_stream.specs.Frames.{AppendsFront}
-use Rattle.lab_report.specs.Reports.{merge_text}
+use Rattle.lab_commands.specs.Reports.{merge_text}
 use Rattle.lab_commands.specs.Merge.{IsJoined, IsMergeFault, IsUnjoined, PutMerge, dumps_of}
 use Rattle.lab_commands.specs.Files.{AnswersNoMore, with_kept}
 use Rattle.lab_commands.proofs.MergeLemmas.{no_geometry, not_allowed, not_made}

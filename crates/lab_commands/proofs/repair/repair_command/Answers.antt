@@ -3,7 +3,7 @@ use Rattle.std.specs.Io.KnownBytes.{Appends}
 use Rattle.lab_mend.specs.declared.repairing.Mend.{Mend}
 use Rattle.lab_commands.specs.Undone.{IsUnmade}
 use Rattle.request_stream.specs.Frames.{AppendsFront}
-use Rattle.lab_report.specs.Reports.{repair_text}
+use Rattle.lab_commands.specs.Reports.{repair_text}
 use Rattle.lab_commands.specs.Repair.{IsMended, IsRepairFault, PutRepair}
 use Rattle.lab_commands.specs.Files.{AnswersNoMore, with_kept}
 use Rattle.lab_commands.proofs.RepairLemmas.{no_geometry, no_rows, not_allowed, not_made}

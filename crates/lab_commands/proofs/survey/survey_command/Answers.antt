@@ -1,7 +1,7 @@
 use Rattle.std.proofs.Common.{inr, subst}
 use Rattle.std.specs.Io.KnownBytes.{Appends}
 use Rattle.request_stream.specs.Frames.{AppendsFront}
-use Rattle.lab_report.specs.Reports.{survey_text}
+use Rattle.lab_commands.specs.Reports.{survey_text}
 use Rattle.lab_commands.specs.Survey.{HasSurvey, IsSurveyFault}
 use Rattle.lab_commands.proofs.SurveyLemmas.{no_geometry, no_rows, not_seen}
 use Rattle.lab_commands.proofs.UndoneLemmas.{handed_on}

@@ -1,5 +1,5 @@
 use Rattle.std.proofs.Common.{◌∙◌, ap, arith}
-use Rattle.lab_scan.specs.PageBytes.{is_sound, page_of}
+use Rattle.lab_dump.specs.PageBytes.{is_sound, page_of}
 use Rattle.lab_mend.specs.Majority.{majority}
 use Rattle.lab_mend.specs.Pages.{pages_in}
 use Rattle.lab_mend.proofs.MajorityLemmas.{majority_again}

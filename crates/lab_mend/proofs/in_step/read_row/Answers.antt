@@ -2,7 +2,7 @@ use Rattle.std.proofs.Common.{◌≡◌, ℕ, ◌+◌, ◌-◌, ◌*◌, ◌<◌
 use Rattle.std.specs.Io.KnownBytes.{Consumes}
 use Rattle.std.proofs.lemmas.List.{length-map, length-set}
 use borrow.Rule.Slice.PartMut.{put_mid}
-use Rattle.lab_scan.specs.Scan.{IsCut}
+use Rattle.lab_dump.specs.Scan.{IsCut}
 use Rattle.lab_mend.specs.InStep.{IsAt, AreBetween}
 use Rattle.lab_mend.proofs.InStepLemmas.{cut_at, known_at, known_set, files_count, piece_room, between_more, between_all}
 use Rattle.lab_mend.proofs.in_step.read_row.Goals as goal

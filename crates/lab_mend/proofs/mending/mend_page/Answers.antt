@@ -1,5 +1,5 @@
 use Rattle.std.proofs.Common.{None, sym, ◌∙◌}
-use Rattle.lab_scan.specs.PageBytes.{page_of}
+use Rattle.lab_dump.specs.PageBytes.{page_of}
 use Rattle.lab_mend.proofs.MendLemmas.{mend_broken, mend_whole, mended_by}
 use Rattle.lab_mend.proofs.mending.mend_page.Goals as goal
 

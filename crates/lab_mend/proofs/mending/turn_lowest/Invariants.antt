@@ -1,5 +1,5 @@
 use Rattle.std.proofs.Common.{◌≡◌, ℕ, ◌<◌, false}
-use Rattle.lab_scan.specs.PageBytes.{is_sound, page_of}
+use Rattle.lab_dump.specs.PageBytes.{is_sound, page_of}
 use Rattle.lab_mend.specs.Bits.{turned_bytes}
 use Rattle.lab_mend.specs.Seal.{HasTaken}
 use Rattle.lab_mend.proofs.mending.turn_lowest.Given as goal

@@ -1,8 +1,8 @@
 use Rattle.std.proofs.Common.{◌≡◌, ◌∙◌, true, false, sym, ap, arith}
 use Rattle.page_layout.specs.Page.{page}
-use Rattle.lab_scan.specs.PageBytes.{page_of}
-use Rattle.lab_scan.specs.Rows.{is_asked}
-use Rattle.lab_scan.proofs.PageLemmas.{page_joined}
+use Rattle.lab_dump.specs.PageBytes.{page_of}
+use Rattle.lab_dump.specs.Rows.{is_asked}
+use Rattle.lab_dump.proofs.PageLemmas.{page_joined}
 use Rattle.lab_mend.specs.Mend.{mend_of}
 use Rattle.lab_mend.specs.Repairing.{piece_of}
 use Rattle.lab_mend.proofs.RepairedLemmas.{mended_own, mended_piece, unasked_own, asked_bit, unasked_bit, asked_piece, unasked_piece}

@@ -1,6 +1,6 @@
 use Rattle.std.proofs.Common.{ℕ, List, map, sym, subst}
 use Rattle.std.proofs.lemmas.Result.{err_from_is_err_and}
-use Rattle.lab_scan.specs.Scan.{image_bytes}
+use Rattle.lab_dump.specs.Scan.{image_bytes}
 use Rattle.lab_mend.specs.Merging.{Shows}
 use Rattle.lab_mend.proofs.InStepLemmas.{tell_first}
 use Rattle.lab_mend.proofs.MergingLemmas.{the_tally, shows_first}

@@ -1,9 +1,9 @@
 use Rattle.std.proofs.Common.{◌≡◌, List, Option, IfSome, sym, subst}
 use Rattle.page_layout.specs.Geometry.{row_count}
-use Rattle.lab_scan.specs.Scan.{IsTaken}
-use Rattle.lab_scan.proofs.ScanLemmas.{if_more}
+use Rattle.lab_dump.specs.Scan.{IsTaken}
+use Rattle.lab_dump.proofs.ScanLemmas.{if_more}
 use Rattle.lab_mend.specs.declared.repairing.Mend.{Mend}
-use Rattle.lab_scan.specs.declared.rows.Rows.{Rows}
+use Rattle.lab_dump.specs.declared.rows.Rows.{Rows}
 use Rattle.lab_mend.specs.Repairing.{Shows, Stands}
 use Rattle.lab_mend.specs.Repaired.{IsRepaired}
 use Rattle.lab_mend.proofs.RepairingLemmas.{shows_first}

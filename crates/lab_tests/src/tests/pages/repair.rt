@@ -1,7 +1,7 @@
 //! A dump with pages that are one bit and two bits away from sound ones, of which all are mended or those of some rows.
 use super::{PAGE, PAGES, Pages};
+use lab_dump::Rows;
 use lab_mend::{Mend, repair_dump};
-use lab_scan::Rows;
 use page_layout::geometry::Geometry;
 use std::alloc::Global;
 use std::test::Fail;

@@ -1,8 +1,8 @@
 use Rattle.std.proofs.Common.{◌∙◌, ◌+◌, length, drop, Option, sym, subst, arith}
 use Rattle.std.proofs.lemmas.List.{take_at}
 use Rattle.page_layout.specs.Page.{page}
-use Rattle.lab_scan.proofs.ScanLemmas.{ok_map}
-use Rattle.lab_scan.specs.declared.rows.Rows.{Rows}
+use Rattle.lab_dump.proofs.ScanLemmas.{ok_map}
+use Rattle.lab_dump.specs.declared.rows.Rows.{Rows}
 use Rattle.lab_mend.specs.Repairing.{IsOwn, Shows}
 use Rattle.lab_mend.proofs.repairing.RepairingTaker.take.Goals as goal
 

@@ -1,6 +1,0 @@
-use Rattle.device_disk.proofs.Starting.{started_disk}
-use Rattle.device_disk.proofs.disk.DeviceDisk.start.Goals as goal
-
-pub invariant_of-result : goal.invariant_of-result
-invariant_of-result g c = started_disk g.N.PageSource.flash g.N.PageSource.honest c.in_ok-device.device c.args.nand (g.N.PageSource.flash c.args.nand).geometry c.args.accepted
-    c.in_ok-device.ensures.device c.in_ok-device.ensures.nand c.in_ok-device.ensures.begun c.in_ok-device.ensures.truth c.requires.accepted

@@ -1,9 +1,0 @@
-use Rattle.std.proofs.Common.{◌≡◌, ◌*◌, length, subst}
-use Rattle.device_disk.specs.Disk.{contents_of}
-use Rattle.device_disk.proofs.Holding.{long}
-use Rattle.device_disk.proofs.disk.DeviceDiskSectors.sector_count.Goals as goal
-
-pub returns-clause-whole : goal.returns-clause-whole
-returns-clause-whole g c =
-    subst (λ d. length (contents_of g.N.PageSource.flash g.N.PageSource.honest d).bytes ≡ d.engine.geometry.sectors * d.engine.geometry.data_bytes) c.self.view_is
-    (long g.N.PageSource.flash g.N.PageSource.honest c.self.inside.device c.self.invariant)

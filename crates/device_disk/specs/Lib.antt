@@ -1,3 +1,0 @@
-pub mod Disk
-pub mod Laws
-pub mod Open

@@ -1,0 +1,92 @@
+-- The words of the command line, as `clap` reads them.
+use Rattle.std.specs.Prelude.{◌≡◌, ℕ, Bool, true, false, List, [], ◌∷◌, codes, Option, Some, None, option_map, if◌then◌else◌}
+use Rattle.std.specs.Str.{bytes_eq}
+use Rattle.std.specs.Borrow.{Bor}
+use Rattle.clap.specs.Words.{App, Row, Shape, first_of, count_of}
+use Rattle.program_words.specs.Grammar.{command_of, flag, option, place, program_of}
+use Rattle.program_words.specs.Met.{AsksText, NamesCommand, once}
+use Rattle.program_words.specs.Met as met
+use Rattle.disk_commands.specs.declared.words.CreateWords.{CreateWords}
+use Rattle.disk_commands.specs.declared.words.InfoWords.{InfoWords}
+use Rattle.disk_commands.specs.declared.words.MakeWords.{MakeWords}
+use Rattle.disk_commands.specs.declared.words.MakeWords.TheVariants as made_of
+use Rattle.disk_commands.specs.declared.words.ServeWords.{ServeWords}
+use Rattle.disk_commands.specs.declared.words.DiskWords.{DiskWords}
+use Rattle.disk_commands.specs.declared.words.DiskWords.TheVariants as asked
+
+-- ---- what `clap` is told
+
+abbrev pub create : Shape
+create = command_of (codes "create") (option (codes "size") ∷ option (codes "geometry") ∷ option (codes "from") ∷ option (codes "cache") ∷ place (codes "DISK") ∷ [])
+
+abbrev pub serve : Shape
+serve = command_of (codes "serve") (flag (codes "read-only") ∷ option (codes "sync") ∷ place (codes "DISK") ∷ [])
+
+abbrev pub info : Shape
+info = command_of (codes "info") (flag (codes "json") ∷ place (codes "DISK") ∷ [])
+
+-- the commands that the program has
+abbrev pub grammar : App
+grammar = program_of (codes "nanddisk") (create ∷ serve ∷ info ∷ [])
+
+-- ---- what the words ask for
+
+-- whether a file is to be synced always: it is not without a word
+abbrev pub always : Option (List ℕ) → Option Bool
+always None = Some false
+always (Some word) = if bytes_eq word (codes "erases") then Some false else (if bytes_eq word (codes "always") then Some true else None)
+
+-- what a disk is made of: a size alone, or a geometry with a dump or without one
+abbrev pub make : Option (Bor (List ℕ)) → Option (Bor (List ℕ)) → Option (Bor (List ℕ)) → Option MakeWords
+make (Some size) None None = Some (made_of.Size size)
+make None (Some geometry) None = Some (made_of.Geometry geometry)
+make None (Some geometry) (Some from) = Some (made_of.Dump geometry from)
+make None None from = None
+make (Some size) (Some geometry) from = None
+make (Some size) None (Some from) = None
+
+-- the entries of the words that say what a disk is made of
+pub record HasMake (rows : List Row) (size geometry from : Option (List ℕ)) : Type 0 where
+  pub size_is : first_of (codes "size") rows ≡ size
+  pub geometry_is : first_of (codes "geometry") rows ≡ geometry
+  pub from_is : first_of (codes "from") rows ≡ from
+
+abbrev pub IsMakeAt : List Row → MakeWords → Type 0
+IsMakeAt rows (made_of.Size size) = HasMake rows (Some size.now) None None
+IsMakeAt rows (made_of.Geometry geometry) = HasMake rows None (Some geometry.now) None
+IsMakeAt rows (made_of.Dump geometry from) = HasMake rows None (Some geometry.now) (Some from.now)
+
+-- the entries of the words of `create` are these
+pub record IsCreateAt (rows : List Row) (read : CreateWords) : Type 0 where
+  pub disk_is : first_of (codes "DISK") rows ≡ Some read.disk.now
+  pub make_is : IsMakeAt rows read.make
+  pub cache_is : first_of (codes "cache") rows ≡ option_map (λ word. word.now) read.cache
+
+-- those of the words of `serve` are these
+pub record IsServeAt (rows : List Row) (read : ServeWords) : Type 0 where
+  pub disk_is : first_of (codes "DISK") rows ≡ Some read.disk.now
+  pub read_only_is : once (count_of (codes "read-only") rows) ≡ Some read.read_only
+  pub sync_is : always (first_of (codes "sync") rows) ≡ Some read.sync_always
+
+-- those of the words of `info` are these
+pub record IsInfoAt (rows : List Row) (read : InfoWords) : Type 0 where
+  pub disk_is : first_of (codes "DISK") rows ≡ Some read.disk.now
+  pub json_is : once (count_of (codes "json") rows) ≡ Some read.json
+
+-- the command of this name with these entries asks for that
+abbrev pub IsAt : List ℕ → List Row → DiskWords → Type 0
+IsAt name rows (asked.Create read) = (name ≡ codes "create") × IsCreateAt rows read
+IsAt name rows (asked.Serve read) = (name ≡ codes "serve") × IsServeAt rows read
+IsAt name rows (asked.Info read) = (name ≡ codes "info") × IsInfoAt rows read
+IsAt name rows (asked.Text text) = ⊥
+
+-- Of the words as `clap` reads them: they name a command, with these words, or they ask for help or for the version.
+abbrev pub IsAsked : List (List ℕ) → DiskWords → Type 0
+IsAsked words (asked.Create read) = NamesCommand IsAt grammar words (asked.Create read)
+IsAsked words (asked.Serve read) = NamesCommand IsAt grammar words (asked.Serve read)
+IsAsked words (asked.Info read) = NamesCommand IsAt grammar words (asked.Info read)
+IsAsked words (asked.Text text) = AsksText grammar words
+
+-- `clap` finds another fault in them, or they name no command with its words
+abbrev pub IsNoCommand : List (List ℕ) → Type 0
+IsNoCommand words = met.IsNoCommand IsAt grammar words

@@ -1,0 +1,85 @@
+//! The commands of `nanddisk` and their words.
+ghost use Rattle.std.specs.Prelude.{◌≡◌};
+ghost use Rattle.program_words.specs.Grammar.{program_app};
+ghost use Rattle.disk_commands.specs.Words as told;
+
+use program_words::{CommandRule, Grammar, WordKind, WordRule};
+
+const DISK: WordRule<'static> = WordRule {
+    id: "DISK",
+    kind: WordKind::Place,
+    help: "The file of the disk; its shape stands beside it, in DISK.json",
+};
+
+const SIZE: WordRule<'static> = WordRule {
+    id: "size",
+    kind: WordKind::Valued("SIZE"),
+    help: "So many bytes, or with K, M, G or T behind the number",
+};
+
+const GEOMETRY: WordRule<'static> = WordRule {
+    id: "geometry",
+    kind: WordKind::Valued("GEOM"),
+    help: "data,spare,pages,blocks,sectors: five numbers",
+};
+
+const FROM: WordRule<'static> = WordRule {
+    id: "from",
+    kind: WordKind::Valued("DUMP"),
+    help: "The die as this dump of it says, with --geometry",
+};
+
+const CACHE: WordRule<'static> = WordRule {
+    id: "cache",
+    kind: WordKind::Valued("C"),
+    help: "The entries of the cache, from 1 to 65536",
+};
+
+const READ_ONLY: WordRule<'static> = WordRule {
+    id: "read-only",
+    kind: WordKind::Flag,
+    help: "Lets no client change the disk",
+};
+
+const SYNC: WordRule<'static> = WordRule {
+    id: "sync",
+    kind: WordKind::Valued("WHEN"),
+    help: "Syncs the file about `erases` alone, or `always`, after each page too",
+};
+
+const JSON: WordRule<'static> = WordRule {
+    id: "json",
+    kind: WordKind::Flag,
+    help: "Prints one JSON document",
+};
+
+const CREATE: CommandRule<'static> = CommandRule {
+    name: "create",
+    about: "Makes a disk of a size, or on a die of a geometry",
+    words: &[SIZE, GEOMETRY, FROM, CACHE, DISK],
+};
+
+const SERVE: CommandRule<'static> = CommandRule {
+    name: "serve",
+    about: "Serves a disk by NBD over standard input and output",
+    words: &[READ_ONLY, SYNC, DISK],
+};
+
+const INFO: CommandRule<'static> = CommandRule {
+    name: "info",
+    about: "Tells what a disk is",
+    words: &[JSON, DISK],
+};
+
+static GRAMMAR: Grammar<'static> = Grammar {
+    name: "nanddisk",
+    about: "A NAND die in a file, served as a disk",
+    commands: &[CREATE, SERVE, INFO],
+};
+
+/// The commands that the program has.
+pub(crate) fn grammar() -> Grammar<'static>
+    ensures { program_app result ≡ told.grammar }
+{
+    GRAMMAR
+}

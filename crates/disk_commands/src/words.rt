@@ -1,0 +1,171 @@
+//! The words of the command line: one level of subcommands, with help and a version.
+ghost use Rattle.std.specs.Prelude.{◌≡◌, IfOk, IfSome, None, Err, option_map};
+ghost use Rattle.program_words.specs.Met.{entries_of, texts};
+ghost use Rattle.disk_commands.specs.declared.words.CreateWords.{CreateWords};
+ghost use Rattle.disk_commands.specs.declared.words.DiskWords.{DiskWords};
+ghost use Rattle.disk_commands.specs.declared.words.InfoWords.{InfoWords};
+ghost use Rattle.disk_commands.specs.declared.words.MakeWords.{MakeWords};
+ghost use Rattle.disk_commands.specs.declared.words.ServeWords.{ServeWords};
+ghost use Rattle.disk_commands.specs.Words.{IsAsked, IsAt, IsCreateAt, IsInfoAt, IsMakeAt, IsNoCommand, IsServeAt};
+
+use crate::grammar::grammar;
+use program_words::{CommandWords, Met, WordsFault, read_words};
+use std::alloc::Global;
+
+/// What a disk is made of.
+#[derive(Clone, Copy)]
+pub enum MakeWords<'a> {
+    /// `--size SIZE`: a fresh die whose shape follows from the size.
+    Size(&'a str),
+    /// `--geometry GEOM`: a fresh die of this geometry.
+    Geometry(&'a str),
+    /// `--geometry GEOM --from DUMP`: a die as a dump has it.
+    Dump { geometry: &'a str, from: &'a str },
+}
+
+/// The words of `create`.
+#[derive(Clone, Copy)]
+pub struct CreateWords<'a> {
+    pub make: MakeWords<'a>,
+    /// C, where the cache is not to be the one for the geometry.
+    pub cache: Option<&'a str>,
+    pub disk: &'a str,
+}
+
+/// The words of `serve [--read-only] [--sync erases|always] DISK`.
+#[derive(Clone, Copy)]
+pub struct ServeWords<'a> {
+    pub read_only: bool,
+    /// Whether the file is synced after each program, and not before and after each erase alone.
+    pub sync_always: bool,
+    pub disk: &'a str,
+}
+
+/// The words of `info [--json] DISK`.
+#[derive(Clone, Copy)]
+pub struct InfoWords<'a> {
+    /// Whether it prints one JSON document, and no plain text.
+    pub json: bool,
+    pub disk: &'a str,
+}
+
+/// What the words ask for.
+#[derive(Drop)]
+pub enum DiskWords<'a> {
+    /// Makes a disk.
+    Create(CreateWords<'a>),
+    /// Serves a disk.
+    Serve(ServeWords<'a>),
+    /// Tells what a disk is.
+    Info(InfoWords<'a>),
+    /// This text, of help or of the version.
+    Text(String),
+}
+
+// Whether the file is to be synced always, by the word of `--sync`.
+fn always(word: Option<&str>) -> Option<bool>
+    ensures { result ≡ Rattle.disk_commands.specs.Words.always (option_map (λ word. word.now) word.entry) }
+{
+    match word {
+        None | Some("erases") => Some(false),
+        Some("always") => Some(true),
+        Some(_) => None,
+    }
+}
+
+// What a disk is to be made of, by the words of `--size`, `--geometry` and `--from`.
+fn make<'a>(
+    size: Option<&'a str>,
+    geometry: Option<&'a str>,
+    from: Option<&'a str>,
+) -> Option<MakeWords<'a>>
+    ensures { result ≡ Rattle.disk_commands.specs.Words.make size.entry geometry.entry from.entry }
+{
+    match (size, geometry, from) {
+        (Some(size), None, None) => Some(MakeWords::Size(size)),
+        (None, Some(geometry), None) => Some(MakeWords::Geometry(geometry)),
+        (None, Some(geometry), Some(from)) => Some(MakeWords::Dump { geometry, from }),
+        _ => None,
+    }
+}
+
+// What the command `create` makes a disk of, where its words say so.
+fn make_words<'a>(found: &CommandWords<'a>) -> Option<MakeWords<'a>>
+    ensures some { IfSome result (IsMakeAt (entries_of found.now)) }
+    ensures none { result ≡ None → (read : MakeWords) → ¬ IsMakeAt (entries_of found.now) read }
+{
+    make(
+        found.word("size"),
+        found.word("geometry"),
+        found.word("from"),
+    )
+}
+
+// The words of the command `create`, where they are given.
+fn create_words<'a>(found: &CommandWords<'a>) -> Option<CreateWords<'a>>
+    ensures some { IfSome result (IsCreateAt (entries_of found.now)) }
+    ensures none { result ≡ None → (read : CreateWords) → ¬ IsCreateAt (entries_of found.now) read }
+{
+    Some(CreateWords {
+        disk: found.word("DISK")?,
+        make: make_words(found)?,
+        cache: found.word("cache"),
+    })
+}
+
+// The words of the command `serve`, where they are given.
+fn serve_words<'a>(found: &CommandWords<'a>) -> Option<ServeWords<'a>>
+    ensures some { IfSome result (IsServeAt (entries_of found.now)) }
+    ensures none { result ≡ None → (read : ServeWords) → ¬ IsServeAt (entries_of found.now) read }
+{
+    Some(ServeWords {
+        disk: found.word("DISK")?,
+        read_only: found.once("read-only")?,
+        sync_always: always(found.word("sync"))?,
+    })
+}
+
+// The words of the command `info`, where they are given.
+fn info_words<'a>(found: &CommandWords<'a>) -> Option<InfoWords<'a>>
+    ensures some { IfSome result (IsInfoAt (entries_of found.now)) }
+    ensures none { result ≡ None → (read : InfoWords) → ¬ IsInfoAt (entries_of found.now) read }
+{
+    Some(InfoWords {
+        disk: found.word("DISK")?,
+        json: found.once("json")?,
+    })
+}
+
+// What the command of this name asks for, with these words.
+fn asked_at<'a>(name: &str, found: &CommandWords<'a>) -> Option<DiskWords<'a>>
+    ensures some { IfSome result (IsAt name.now (entries_of found.now)) }
+    ensures none { result ≡ None → (asked : DiskWords) → ¬ IsAt name.now (entries_of found.now) asked }
+{
+    match name {
+        "create" => Some(DiskWords::Create(create_words(found)?)),
+        "serve" => Some(DiskWords::Serve(serve_words(found)?)),
+        "info" => Some(DiskWords::Info(info_words(found)?)),
+        _ => None,
+    }
+}
+
+/// What the words ask for, of which the first is the program's name: as `clap` reads them. No option may stand twice. `create` takes `--size`, or
+/// `--geometry` with `--from` or without it, and `--sync` is `erases` or `always`.
+///
+/// # Errors
+///
+/// `NoSuchCommand` where `clap` refuses the words for another reason than that they ask for help or the version, or where they name no command
+/// with its words. `OutOfMemory` where a growth was refused.
+pub fn parse<'a>(alloc: Global, words: &'a [&'a str]) -> Result<DiskWords<'a>, WordsFault>
+    ensures ok { IfOk result (IsAsked (texts words.now)) }
+    ensures none { result ≡ Err WordsFault.NoSuchCommand → IsNoCommand (texts words.now) }
+{
+    match read_words(alloc, &grammar(), words) {
+        Ok(Met::Command { name, words }) => match asked_at(name, &words) {
+            Some(asked) => Ok(asked),
+            None => Err(WordsFault::NoSuchCommand),
+        },
+        Ok(Met::Text(text)) => Ok(DiskWords::Text(text)),
+        Err(fault) => Err(fault),
+    }
+}

@@ -1,0 +1,29 @@
+use Rattle.std.proofs.Common.{◌≡◌, ◌≤◌, ◌∙◌, ◌+◌, ◌-◌, ◌*◌, ◌%◌, ℕ, [], false, ap, length, replicate, sym, subst, arith}
+use Rattle.std.proofs.lemmas.List.{length-replicate}
+use Rattle.nbd_stream.specs.Disk.{Performs, answer_from}
+use Rattle.nbd_stream.specs.declared.task.Task.TheVariants.{Write}
+use Rattle.disk_server.proofs.Joining.{piece_written, range_long, writes_trim}
+use Rattle.disk_server.proofs.pieces.clear_piece.Goals as goal
+
+pub returns-in-Ok-clause-performs : goal.returns-in-Ok-clause-performs
+returns-in-Ok-clause-performs g c =
+    let bytes = c.sector_bytes-size.ensures in
+    let counts = c.sector_count-count.ensures in
+    let size : ℕ = g.S.Sectors.size c.args.sectors.now in
+    let start : ℕ = c.args.offset % c.sector_bytes-size.result in
+    let long : ℕ = c.args.taken in
+    let lent : (start + long) - start ≡ long = omega arith in
+    let read : length c.read_sector.new.buffer ≡ size = c.in-Ok.ensures.performs.given in
+    let start_is : start ≡ c.args.offset % size = ap (λ k. c.args.offset % k) bytes.size in
+    let room : start + long ≤ length c.read_sector.new.buffer = omega (arith, read, start_is, c.requires.inside) in
+    let is : c.fill.new.self ≡ replicate long 0 = c.fill.ensures.after (λ y e. e) ∙ ap (λ k. replicate k 0) (range_long start long c.read_sector.new.buffer room) in
+    let zeros : long ≡ length c.fill.new.self = sym (ap length is ∙ length-replicate long 0) in
+    writes_trim g.S.Sectors.contents g.S.Sectors.honest g.S.Sectors.calm c.args.offset long false c.args.sectors.now c.write_sector.new.self (answer_from c.write_sector.result []) (
+    subst (λ l. Performs g.S.Sectors.contents g.S.Sectors.honest g.S.Sectors.calm (Write c.args.offset long false) l c.args.sectors.now
+    (answer_from c.write_sector.result []) c.write_sector.new.self) is (
+    piece_written g.S.Sectors.contents g.S.Sectors.honest g.S.Sectors.calm c.args.offset c.sector_bytes-size.result size _ c.sector_count-count.result long
+    c.args.sectors.now c.read_sector.new.self c.write_sector.new.self
+    bytes.size c.in-Ok.ensures.size (counts.whole ∙ ap (λ k. k * size) (sym counts.count)) c.if-prove.false c.requires.inside
+    c.fill.new.self c.read_sector.new.buffer ((start + long) - start) _ zeros lent c.in-Ok.ensures.performs c.write_sector.ensures.performs
+    )
+    )

@@ -1,0 +1,30 @@
+use Rattle.std.proofs.Common.{◌≡◌, ◌≤◌, ◌+◌, ◌∙◌, ℕ, Err, false, length, rules, arith}
+use Rattle.nbd_stream.specs.Disk.{error_for}
+use Rattle.disk_server.proofs.Joining.{writes_trim}
+use Rattle.disk_server.proofs.Fronts.{zeros_stopped, zeros_written}
+use Rattle.disk_server.proofs.ranges.clear_pieces.Goals as goal
+
+pub loop-done-preserved : goal.loop-done-preserved
+loop-done-preserved g c =
+    let inv = c.loop-done.invariant in
+    let k : ℕ = c.loop-done.done in
+    let m : ℕ = c.piece_length-taken.result in
+    let within : k + m ≤ c.args.count = omega (arith, inv.0, c.piece_length-taken.ensures.few) in
+    let room : length c.clear_piece.new.buffer ≡ length c.args.buffer.now = search rules in (
+      within,
+      room,
+      c.in-Ok.ensures.size ∙ inv.2,
+      zeros_written g.S.Sectors.contents g.S.Sectors.honest g.S.Sectors.calm c.args.count c.args.offset k m
+          c.args.sectors.now c.loop-done.sectors c.clear_piece.new.sectors within c.requires.within inv.3 c.in-Ok.ensures.performs,
+    )
+
+pub returns-in-Err-clause-performs : goal.returns-in-Err-clause-performs
+returns-in-Err-clause-performs g c =
+    let inv = c.loop-done.invariant in
+    let k : ℕ = c.loop-done.done in
+    let m : ℕ = c.piece_length-taken.result in
+    let within : k + m ≤ c.args.count = omega (arith, inv.0, c.piece_length-taken.ensures.few) in
+    writes_trim g.S.Sectors.contents g.S.Sectors.honest g.S.Sectors.calm c.args.offset c.args.count false c.args.sectors.now c.clear_piece.new.sectors (Err (error_for c.in-Err.fault)) (
+    zeros_stopped g.S.Sectors.contents g.S.Sectors.honest g.S.Sectors.calm c.args.count c.args.offset k m
+    c.args.sectors.now c.loop-done.sectors c.clear_piece.new.sectors within c.requires.within inv.3 (error_for c.in-Err.fault) c.in-Err.ensures.performs
+    )

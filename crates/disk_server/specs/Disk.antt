@@ -1,0 +1,113 @@
+-- A DEVICE AS SECTORS OF A DISK: whether it still holds its array, and the array as bytes.
+use Rattle.std.specs.Prelude.{◌≡◌, ◌≤◌, ◌&&◌, ℕ, Bool, true, List, replicate, Option, None, Result, Ok, Err, OnOk, OnErr, if◌then◌else◌}
+use Rattle.std.specs.Option.{is_none}
+use Rattle.page_layout.specs.Array.{zeros}
+use Rattle.page_layout.specs.Flash.{Flash}
+use Rattle.page_layout.specs.Recording.{Recording}
+use Rattle.promises.specs.Step.{Command, Flush, Turn}
+use Rattle.allocation.specs.State.{free_count}
+use Rattle.collection.specs.Collect.{HasAiling, HasNoneAiling}
+use Rattle.collection.specs.Safe.{ram}
+use Rattle.nbd_stream.specs.declared.fault.DiskFault.{DiskFault}
+use Rattle.nbd_stream.specs.declared.fault.DiskFault.TheVariants as fault
+use Rattle.nbd_stream.specs.Disk.{Contents}
+use Rattle.disk_server.specs.Flat.{flat}
+use Rattle.ftl_device.specs.declared.device.Device.{Device}
+use Rattle.ftl_device.specs.declared.fault.DeviceFault.{DeviceFault}
+use Rattle.ftl_device.specs.declared.fault.DeviceFault.TheVariants.{OutOfRange, ReadOnly, SequenceSpent, OutOfMemory, Damaged, BusFault}
+use Rattle.ftl_device.specs.Device.{IsDevice}
+use Rattle.ftl_device.specs.Changes.{Changes, Upkeeps}
+use Rattle.ftl_device.specs.Calls.{array_in, stop_of, HasFallen, HasRescued, HasWorked, IsQuiet, IsWell}
+use Rattle.ftl_device.specs.Turn.{HasTurned}
+
+-- IT HOLDS ITS ARRAY: its die is honest, and no fault has stopped it
+abbrev pub holds : {N : Type 0} → (honest : N → Bool) → Device N → Bool
+holds honest d = honest d.engine.nand && is_none (stop_of d.engine.fault)
+
+-- ITS SECTORS: the array that the image on its die holds. Of a device that holds it no more nothing is known, and as many sectors of zeros stand
+-- for it.
+abbrev pub sectors_of : {N : Type 0} → (N → Flash) → (honest : N → Bool) → Device N → List (List ℕ)
+sectors_of flash honest d = if holds honest d then array_in flash d else replicate d.engine.geometry.sectors (zeros d.engine.geometry)
+
+-- between two calls a stop of the die leaves that array: so what will be there if it stops now is what is there
+abbrev pub contents_of : {N : Type 0} → (N → Flash) → (honest : N → Bool) → Device N → Contents
+contents_of flash honest d = record { bytes = flat (sectors_of flash honest d); durable = flat (sectors_of flash honest d) }
+
+-- whatever its die does; and what it knows of the image is so, as long as it holds the array
+pub record IsDisk {N : Type 0} (flash : N → Flash) (honest : N → Bool) (d : Device N) : Type 0 where
+  pub device : IsDevice flash d
+  pub well : holds honest d ≡ true → IsWell flash d
+
+-- ---- answers
+
+-- why a change was not made: no sequence is left for a change, as little as on a device that is read-only
+abbrev pub change_fault : DeviceFault → DiskFault
+change_fault OutOfRange = fault.Failed
+change_fault (ReadOnly good wanted failed) = fault.ReadOnly
+change_fault SequenceSpent = fault.ReadOnly
+change_fault OutOfMemory = fault.NoSpace
+change_fault Damaged = fault.Failed
+change_fault BusFault = fault.Failed
+
+abbrev pub change_answer : Result (Unit {0}) DeviceFault → Result (Unit {0}) DiskFault
+change_answer (Ok done) = Ok done
+change_answer (Err e) = Err (change_fault e)
+
+-- a read fails, and says no more
+abbrev pub read_answer : Result (Unit {0}) DeviceFault → Result (Unit {0}) DiskFault
+read_answer (Ok done) = Ok done
+read_answer (Err e) = Err fault.Failed
+
+-- a device that takes no change any more has nothing to flush: all that it answered stands on its die
+abbrev pub flush_answer : Result (Unit {0}) DeviceFault → Result (Unit {0}) DiskFault
+flush_answer (Ok done) = Ok done
+flush_answer (Err OutOfRange) = Err fault.Failed
+flush_answer (Err (ReadOnly good wanted failed)) = Ok tt
+flush_answer (Err SequenceSpent) = Ok tt
+flush_answer (Err OutOfMemory) = Err fault.Failed
+flush_answer (Err Damaged) = Err fault.Failed
+flush_answer (Err BusFault) = Err fault.Failed
+
+-- a rest fails just where the device is stopped: what else it refuses a turn for leaves it its array, and no client asked for the turn
+abbrev pub rest_answer : Result (Unit {0}) DeviceFault → Result (Unit {0}) DiskFault
+rest_answer (Ok done) = Ok done
+rest_answer (Err OutOfRange) = Ok tt
+rest_answer (Err (ReadOnly good wanted failed)) = Ok tt
+rest_answer (Err SequenceSpent) = Ok tt
+rest_answer (Err OutOfMemory) = Ok tt
+rest_answer (Err Damaged) = Err fault.Failed
+rest_answer (Err BusFault) = Err fault.Failed
+
+-- ---- calls
+
+-- A SECTOR IS SET WHOLE OR NOT AT ALL: where the call failed and the device holds its array, the bytes are as they were
+abbrev pub KeepsOnError : {N : Type 0} → (N → Flash) → (honest : N → Bool) → Device N → Result (Unit {0}) DiskFault → Device N → Type 0
+KeepsOnError flash honest old result new = OnErr result (holds honest new ≡ true → contents_of flash honest new ≡ contents_of flash honest old)
+
+-- IT IS ONE CALL OF THE DEVICE, whatever the die does: a change of a sector, with all that this says, and its answer as a disk's
+pub record AsksChange {N : Type 0} (flash : N → Flash) (recorded : N → Option Recording) (honest calm : N → Bool) (failed : N
+    → ℕ) (n : ℕ) (command : Command) (old : Device N) (result : Result (Unit {0}) DiskFault) (new : Device N) : Type 0 where
+  pub answer : Result (Unit {0}) DeviceFault
+  pub told : result ≡ change_answer answer
+  pub changes : Changes flash recorded honest calm failed n command old answer new
+
+-- or a flush
+pub record AsksFlush {N : Type 0} (flash : N → Flash) (recorded : N → Option Recording) (honest calm : N → Bool) (failed : N
+    → ℕ) (old : Device N) (result : Result (Unit {0}) DiskFault) (new : Device N) : Type 0 where
+  pub answer : Result (Unit {0}) DeviceFault
+  pub told : result ≡ flush_answer answer
+  pub upkeeps : Upkeeps flash recorded honest calm failed Flush old answer new
+
+-- or a turn, and where the device held its array, what the turn did
+pub record AsksTurn {N : Type 0} (flash : N → Flash) (recorded : N → Option Recording) (honest calm : N → Bool) (erases failed : N
+    → ℕ) (old : Device N) (result : Result (Unit {0}) DiskFault) (new : Device N) : Type 0 where
+  pub answer : Result (Unit {0}) DeviceFault
+  pub told : result ≡ rest_answer answer
+  pub upkeeps : Upkeeps flash recorded honest calm failed Turn old answer new
+  pub turned : OnOk answer (HasTurned (ram old.engine) (ram new.engine))
+  pub idle : HasNoneAiling (ram old.engine).blocks → old.engine.pinned ≡ None → 12 ≤ free_count (ram old.engine).blocks → OnOk answer (new.engine ≡ old.engine)
+  pub quiet : holds honest old ≡ true → OnOk answer (IsQuiet erases old.engine new.engine)
+  pub falls : holds honest old ≡ true → HasNoneAiling (ram old.engine).blocks → OnOk answer (HasFallen flash erases old.engine new.engine)
+  pub rescued : holds honest old ≡ true → OnOk answer (HasRescued (ram old.engine) (ram new.engine))
+  pub worked : holds honest old ≡ true → HasAiling (ram old.engine).blocks
+      → OnOk answer (HasWorked (ram old.engine) (ram new.engine) (erases old.engine.nand) (erases new.engine.nand))

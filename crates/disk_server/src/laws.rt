@@ -1,0 +1,28 @@
+//! What a device of sectors is as bytes, and the block device as one. Each function does nothing: its contract is the law.
+ghost use Rattle.disk_server.specs.Laws.{ClosedLaw, HoldsLaw, LastsLaw, LengthLaw, NoSpaceLaw, ReadOnlyLaw, SectorLaw};
+ghost use Rattle.disk_server.specs.Flat.{FlatLaw};
+
+use onfi_cycles::Nand;
+
+/// A sector of a list of sectors is a range of their bytes: to give it is to give that range, and to replace it is to set that range.
+/// (This project's.)
+pub fn flat_laws()
+    ensures { FlatLaw }
+{}
+
+/// A sector of the array that the image on the die holds is a range of the disk's bytes, which are as many as all sectors have. That is said of a
+/// device that was not stopped over a die that is honest, and of no other. (This project's.)
+pub fn array_laws<N: Nand>()
+    ensures length { LengthLaw N.flash N.honest }
+    ensures sector { SectorLaw N.flash N.honest }
+    ensures lasts { LastsLaw N.flash N.honest }
+    ensures holds { HoldsLaw N.honest }
+{}
+
+/// Which refusals of the device are `NoSpace` and `ReadOnly`: `OutOfMemory` alone is the one; those after which no change is taken any more are the
+/// other, and a flush that has such a one is done. (This project's.)
+pub fn fault_laws()
+    ensures no_space { NoSpaceLaw }
+    ensures read_only { ReadOnlyLaw }
+    ensures closed { ClosedLaw }
+{}

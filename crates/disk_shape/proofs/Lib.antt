@@ -1,3 +1,0 @@
-pub mod ShapeLemmas
-pub mod SizeLemmas
-pub mod TextLemmas

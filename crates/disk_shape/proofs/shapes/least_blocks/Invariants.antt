@@ -1,6 +1,0 @@
-use Rattle.std.proofs.Common.{ℕ, ◌<◌}
-use Rattle.disk_shape.specs.Shapes.{Formats}
-use Rattle.disk_shape.proofs.shapes.least_blocks.Given as goal
-
-abbrev pub invariant-loop-blocks : goal.invariant-loop-blocks
-invariant-loop-blocks l = (fewer : ℕ) → fewer < l.blocks → ¬ Formats l.sectors fewer

@@ -1,6 +1,0 @@
-use Rattle.std.proofs.Common.{◌≡◌, drop}
-use Rattle.disk_shape.specs.Sizes.{count_from}
-use Rattle.disk_shape.proofs.sizes.count.Given as goal
-
-abbrev pub invariant-loop-digit : goal.invariant-loop-digit
-invariant-loop-digit l = count_from l.value (drop l.digit-index l.digits) ≡ count_from 0 l.digits

@@ -1,4 +1,0 @@
-pub mod Sizes
-pub mod Shapes
-pub mod Words
-pub mod Text

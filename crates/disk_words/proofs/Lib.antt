@@ -1,2 +1,0 @@
-pub mod GrammarLemmas
-pub mod MakeLemmas

@@ -1,0 +1,42 @@
+-- A document of lines. As plain text: each line and a line feed. As JSON: one array, whose first element names the program and the command, and
+-- whose others are the lines, each on a line of its own.
+use Rattle.std.specs.Prelude.{ℕ, zero, suc, List, [], ◌∷◌, ◌++◌, codes, Option, Some, None, Result, Ok, Err}
+use Rattle.std.specs.Io.KnownBytes.{Appends}
+use Rattle.serde_json.specs.Written.{compact_text}
+use Rattle.request_stream.specs.Frames.{AppendsFront}
+use Rattle.lab_commands.specs.declared.lines.Line.{Line}
+use Rattle.lab_commands.specs.declared.document.Form.{Form}
+use Rattle.lab_commands.specs.declared.document.Form.TheVariants.{Text, Json}
+use Rattle.lab_commands.specs.declared.document.PrintFault.{PrintFault}
+use Rattle.lab_commands.specs.Lines.{line_words}
+use Rattle.lab_commands.specs.Values.{head_data, line_data}
+
+-- a line in this form, of a document that has begun
+unfoldable pub line_text : Form → Line → List ℕ
+line_text Text line = line_words line ++ (10 ∷ [])
+line_text Json line = codes ",\n" ++ compact_text (line_data line)
+
+-- what a document of this command begins with
+unfoldable pub head_text : Form → List ℕ → List ℕ
+head_text Text command = []
+head_text Json command = codes "[" ++ compact_text (head_data command)
+
+-- and what it ends with
+abbrev pub tail_text : Form → List ℕ
+tail_text Text = []
+tail_text Json = codes "\n]\n"
+
+-- a line, if there is one
+abbrev pub if_text : Form → Option Line → List ℕ
+if_text form None = []
+if_text form (Some line) = line_text form line
+
+-- the lines of the numbers below this one, in order
+unfoldable pub text_below : Form → (ℕ → Option Line) → ℕ → List ℕ
+text_below form f zero = []
+text_below form f (suc n) = text_below form f n ++ if_text form (f n)
+
+-- What was due was printed; or, where printing failed, a beginning of it.
+abbrev pub Prints : {T : Type 0} → Option (List ℕ) → Option (List ℕ) → List ℕ → Result T PrintFault → Type 0
+Prints before after due (Ok done) = Appends before after due
+Prints before after due (Err fault) = AppendsFront before after due

@@ -1,0 +1,142 @@
+-- The lines of the reports, in words.
+use Rattle.std.specs.Prelude.{ℕ, zero, suc, ◌==◌, if◌then◌else◌, Bool, true, false, List, ◌++◌, codes, Option, Some, None, option_map}
+use Rattle.std.specs.Fmt.{decimal}
+use Rattle.certificate.specs.declared.block_state.BlockState.{BlockState}
+use Rattle.lab_dump.specs.declared.held.State.{State}
+use Rattle.lab_dump.specs.declared.held.State.TheVariants as state
+use Rattle.lab_dump.specs.declared.fit.Fit.{Fit}
+use Rattle.lab_dump.specs.declared.fit.TableSays.{TableSays}
+use Rattle.lab_dump.specs.declared.fit.TableSays.TheVariants.{Agrees, Silent, Differs}
+use Rattle.lab_mend.specs.declared.merging.Tally.{Tally}
+use Rattle.lab_commands.specs.declared.lines.Label.{Label}
+use Rattle.lab_commands.specs.declared.lines.Label.TheVariants as label
+use Rattle.lab_commands.specs.declared.lines.Sort.{Sort}
+use Rattle.lab_commands.specs.declared.lines.Sort.TheVariants as sort
+use Rattle.lab_commands.specs.declared.lines.Line.{Line}
+use Rattle.lab_commands.specs.declared.lines.Line.TheVariants.{Pages, NumberRange, Repeated, NotFormatted, TableDamaged, LastSequence, Tied, Missing, Block, PlainBlock, Lost}
+use Rattle.lab_commands.specs.declared.lines.Line.TheVariants.{Mended, MendedCount, Differ, Unsound, Merged, Age}
+use Rattle.lab_commands.specs.declared.lines.Line.TheVariants as line
+
+-- ---- words
+
+abbrev pub label_words : Label → List ℕ
+label_words label.Sector = codes "sector"
+label_words label.Translation = codes "translation"
+label_words label.Table = codes "table"
+
+abbrev pub sort_words : Sort → List ℕ
+sort_words sort.Data = codes "data"
+sort_words sort.Trim = codes "trim"
+sort_words sort.Translation = codes "translation"
+sort_words sort.Table = codes "table"
+sort_words sort.Erased = codes "erased"
+sort_words sort.Unsound = codes "unsound"
+
+abbrev pub class_words : ℕ → List ℕ
+class_words c =
+    if c == 0 then codes "free" else (if c == 1 then codes "data" else (if c == 2 then codes "mapping" else (
+    if c == 3 then codes "closed" else (if c == 4 then codes "factory" else codes "grown"))))
+
+-- what the table of blocks says of the number of blocks
+abbrev pub says_words : TableSays → List ℕ
+says_words Agrees = codes "agrees"
+says_words Silent = codes "silent"
+says_words Differs = codes "differs"
+
+-- ---- parts of lines
+
+-- the five numbers of a geometry, as the words of a command write them
+abbrev pub shape_words : Fit → List ℕ
+shape_words f =
+    decimal f.data_bytes ++ (codes "," ++ (decimal f.spare_bytes ++ (codes "," ++ (decimal f.pages ++ (codes "," ++ (decimal f.blocks ++ (codes "," ++ decimal f.sectors)))))))
+
+-- the sound pages of those that were looked at, and those neither sound nor erased
+abbrev pub looked_words : Fit → List ℕ
+looked_words f = codes " looked " ++ (decimal f.looked ++ (codes " sound " ++ (decimal f.sound.0 ++ (codes " unsound " ++ decimal f.unsound))))
+
+-- what the table of blocks says, and the sectors that all pages tell of
+abbrev pub told_words : Fit → List ℕ
+told_words f = codes " table " ++ (says_words f.table ++ (codes " blocks " ++ (decimal f.blocks_told ++ (codes " sectors " ++ decimal f.sectors_told))))
+
+-- a block, its state, and its pages that are neither erased nor sound
+abbrev pub block_words : ℕ → BlockState → ℕ → List ℕ
+block_words block s unsound =
+    codes "block " ++ (decimal block ++ (codes " class " ++ (class_words s.class ++ (codes " pointer " ++ (decimal s.pointer ++ (codes " live " ++ (
+    decimal s.live ++ (codes " wear " ++ (decimal s.wear ++ (codes " unsound " ++ decimal unsound))))))))))
+
+-- how many rows of a merge there are of each kind
+abbrev pub tally_words : ℕ → Tally → List ℕ
+tally_words differ t =
+    codes "sound " ++ (decimal t.sound ++ (codes " differ " ++ (decimal differ ++ (codes " majority " ++ (decimal t.majority ++ (
+    codes " erased " ++ (decimal t.erased ++ (codes " unsound " ++ decimal t.unsound))))))))
+
+-- how far the array may be from the last write, by how many pages are neither erased nor sound
+abbrev pub age_words : ℕ → List ℕ
+age_words zero = codes "unsound 0: the array is that of every page that was programmed"
+age_words (suc n) = codes "unsound " ++ (decimal (suc n) ++ (codes ": at most " ++ (decimal (suc n) ++ codes " sectors may be older than the last write")))
+
+-- a line, without its line feed
+unfoldable pub line_words : Line → List ℕ
+line_words (Pages sort count) = codes "pages " ++ (sort_words sort ++ (codes " " ++ decimal count))
+line_words (NumberRange pages) = codes "reason NumberRange pages " ++ decimal pages
+line_words (Repeated first second) = codes "reason SequenceRepeated row " ++ (decimal first ++ (codes " row " ++ decimal second))
+line_words (NotFormatted page) = codes "reason NotFormatted table " ++ decimal page
+line_words (TableDamaged page) = codes "reason TableDamaged table " ++ decimal page
+line_words (LastSequence pages) = codes "reason NextSequence pages " ++ decimal pages
+line_words (Tied of number) = codes "tied " ++ (label_words of ++ (codes " " ++ decimal number))
+line_words (Missing of number) = codes "missing " ++ (label_words of ++ (codes " " ++ decimal number))
+line_words (Block block s unsound) = block_words block s unsound
+line_words (PlainBlock block unsound) = codes "block " ++ (decimal block ++ (codes " unsound " ++ decimal unsound))
+line_words (Lost sector) = codes "lost sector " ++ decimal sector
+line_words (line.Fit f) = codes "geometry " ++ (shape_words f ++ (looked_words f ++ told_words f))
+line_words (Mended row bit) = codes "mended row " ++ (decimal row ++ (codes " bit " ++ decimal bit))
+line_words (MendedCount n) = codes "mended " ++ decimal n
+line_words (Differ row) = codes "differ row " ++ decimal row
+line_words (Unsound row) = codes "unsound row " ++ decimal row
+line_words (Merged differ t) = tally_words differ t
+line_words (Age n) = age_words n
+
+-- ---- which lines there are
+
+-- a count of pages that are a reason, where there are some
+abbrev pub outside_line : ℕ → Option Line
+outside_line zero = None
+outside_line (suc n) = Some (NumberRange (suc n))
+
+abbrev pub last_line : ℕ → Option Line
+last_line zero = None
+last_line (suc n) = Some (LastSequence (suc n))
+
+abbrev pub repeated_line : Option (ℕ × ℕ) → Option Line
+repeated_line rows = option_map (λ pair. Repeated pair.0 pair.1) rows
+
+-- what a table page is a reason for: it has no newest page, or one that isn't well formed
+abbrev pub table_line : ℕ → State → Bool → Option Line
+table_line page state.Found true = None
+table_line page state.Found false = Some (TableDamaged page)
+table_line page state.Absent formed = Some (NotFormatted page)
+table_line page state.Tied formed = Some (NotFormatted page)
+
+-- a key that is tied, or that has no sound page where it should have one
+abbrev pub key_line : Label → ℕ → State → Option Line
+key_line of number state.Found = None
+key_line of number state.Tied = Some (Tied of number)
+key_line label.Sector number state.Absent = None
+key_line label.Translation number state.Absent = Some (Missing label.Translation number)
+key_line label.Table number state.Absent = Some (Missing label.Table number)
+
+-- a sector of which two pages share the greatest sequence
+abbrev pub tie_line : ℕ → State → Option Line
+tie_line n state.Absent = None
+tie_line n state.Found = None
+tie_line n state.Tied = Some (Tied label.Sector n)
+
+-- a block, with its state where that is known
+abbrev pub block_line : ℕ → Option BlockState → ℕ → Option Line
+block_line block (Some s) unsound = Some (Block block s unsound)
+block_line block None unsound = Some (PlainBlock block unsound)
+
+-- a sector that has lost a page
+abbrev pub lost_line : ℕ → Bool → Option Line
+lost_line n true = Some (Lost n)
+lost_line n false = None

@@ -1,0 +1,149 @@
+-- What each command says.
+use Rattle.std.specs.Prelude.{ℕ, ◌+◌, Bool, false, List, [], ◌∷◌, ◌++◌, length, get_or, map, slice_get, codes, Option, Some, None, option_map}
+use Rattle.page_layout.specs.declared.geometry.Geometry.{Geometry}
+use Rattle.page_layout.specs.Geometry.{translation_pages, table_pages}
+use Rattle.certificate.specs.declared.block_state.BlockState.{BlockState}
+use Rattle.lab_dump.specs.declared.held.State.{State}
+use Rattle.lab_dump.specs.declared.held.State.TheVariants as state
+use Rattle.lab_dump.specs.Held.{state_in}
+use Rattle.lab_dump.specs.declared.compare.Compared.{Compared}
+use Rattle.lab_dump.specs.declared.fit.Fit.{Fit}
+use Rattle.lab_mend.specs.declared.merging.Tally.{Tally}
+use Rattle.lab_mend.specs.declared.repairing.Mend.{Mend}
+use Rattle.lab_dump.specs.declared.survey.DieSurvey.{DieSurvey}
+use Rattle.lab_commands.specs.declared.lines.Label.{Label}
+use Rattle.lab_commands.specs.declared.lines.Label.TheVariants as label
+use Rattle.lab_commands.specs.declared.lines.Sort.TheVariants as sort
+use Rattle.lab_commands.specs.declared.lines.Line.{Line}
+use Rattle.lab_commands.specs.declared.lists.Lines.{Lines}
+use Rattle.lab_commands.specs.declared.lists.Lines.TheVariants as lists
+use Rattle.lab_commands.specs.declared.lines.Line.TheVariants as line
+use Rattle.lab_commands.specs.declared.document.Form.{Form}
+use Rattle.lab_commands.specs.Document.{head_text, line_text, tail_text, text_below}
+use Rattle.lab_commands.specs.Lines.{block_line, key_line, last_line, lost_line, outside_line, repeated_line, table_line, tie_line}
+
+-- ---- lists
+
+-- keys that stand one behind another in a list of states, from this place on
+abbrev pub key_at : Label → List State → ℕ → ℕ → Option Line
+key_at of states from n = key_line of n (get_or states (from + n) state.Absent)
+
+abbrev pub table_at : List State → ℕ → List Bool → ℕ → Option Line
+table_at states from formed u = table_line u (get_or states (from + u) state.Absent) (get_or formed u false)
+
+abbrev pub state_at : Option (List BlockState) → ℕ → Option BlockState
+state_at None b = None
+state_at (Some states) b = slice_get states b
+
+abbrev pub block_at : Option (List BlockState) → List ℕ → ℕ → Option Line
+block_at states unsound b = block_line b (state_at states b) (get_or unsound b 0)
+
+abbrev pub lost_at : List Bool → ℕ → Option Line
+lost_at lost n = lost_line n (get_or lost n false)
+
+abbrev pub tie_at : List State → ℕ → Option Line
+tie_at states n = tie_line n (get_or states n state.Absent)
+
+abbrev pub fit_at : List Fit → ℕ → Option Line
+fit_at fits n = option_map line.Fit (slice_get fits n)
+
+abbrev pub mend_at : List Mend → ℕ → Option Line
+mend_at mends n = option_map (λ m. line.Mended m.row m.bit) (slice_get mends n)
+
+abbrev pub differ_at : List ℕ → ℕ → Option Line
+differ_at rows n = option_map line.Differ (slice_get rows n)
+
+abbrev pub unsound_at : List ℕ → ℕ → Option Line
+unsound_at rows n = option_map line.Unsound (slice_get rows n)
+
+-- lines that may be there, in their order
+abbrev pub some_at : List (Option Line) → ℕ → Option Line
+some_at lines n = get_or lines n None
+
+-- the line of each number of a list
+abbrev pub line_at : Lines → ℕ → Option Line
+line_at (lists.Fixed lines) = some_at lines.now
+line_at (lists.Keys of states from count) = key_at of states.now from
+line_at (lists.Tables states from formed count) = table_at states.now from formed.now
+line_at (lists.Blocks survey count) = block_at (option_map (λ states. states.items) survey.now.blocks) survey.now.unsound.items
+line_at (lists.Losses lost count) = lost_at lost.now
+line_at (lists.Ties held count) = tie_at (map state_in held.now)
+line_at (lists.Fits fits) = fit_at fits.now
+line_at (lists.Mends mends) = mend_at mends.now
+line_at (lists.Conflicts rows) = differ_at rows.now
+line_at (lists.Unsound rows) = unsound_at rows.now
+
+-- how many numbers there are
+abbrev pub size_of : Lines → ℕ
+size_of (lists.Fixed lines) = length lines.now
+size_of (lists.Keys of states from count) = count
+size_of (lists.Tables states from formed count) = count
+size_of (lists.Blocks survey count) = count
+size_of (lists.Losses lost count) = count
+size_of (lists.Ties held count) = count
+size_of (lists.Fits fits) = length fits.now
+size_of (lists.Mends mends) = length mends.now
+size_of (lists.Conflicts rows) = length rows.now
+size_of (lists.Unsound rows) = length rows.now
+
+abbrev pub some_text : Form → List (Option Line) → List ℕ
+some_text form lines = text_below form (some_at lines) (length lines)
+
+-- ---- survey
+
+-- the pages of each sort, and the reasons against a mount but for the tables
+abbrev pub count_lines : DieSurvey → List (Option Line)
+count_lines s =
+    Some (line.Pages sort.Data s.counts.sectors) ∷ Some (line.Pages sort.Trim s.counts.trims) ∷ Some (line.Pages sort.Translation s.counts.translations)
+    ∷ Some (line.Pages sort.Table s.counts.tables) ∷ Some (line.Pages sort.Erased s.counts.erased) ∷ Some (line.Pages sort.Unsound s.counts.unsound)
+    ∷ outside_line s.counts.outside ∷ repeated_line s.repeated ∷ last_line s.counts.last ∷ []
+
+-- the place of the first table page among the keys
+abbrev pub first_table : Geometry → ℕ
+first_table g = g.sectors + translation_pages g
+
+-- the table pages that are a reason against a mount, and the keys that are tied or missing
+unfoldable pub keys_text : Form → Geometry → List State → List Bool → List ℕ
+keys_text form g states formed =
+    text_below form (table_at states (first_table g) formed) (table_pages g)
+    ++ (text_below form (key_at label.Sector states 0) g.sectors
+    ++ (text_below form (key_at label.Translation states g.sectors) (translation_pages g) ++ text_below form (key_at label.Table states (first_table g)) (table_pages g)))
+
+abbrev pub blocks_text : Form → Geometry → DieSurvey → List ℕ
+blocks_text form g s = text_below form (block_at (option_map (λ states. states.items) s.blocks) s.unsound.items) g.blocks
+
+-- all lines of a survey
+unfoldable pub survey_lines : Form → Geometry → DieSurvey → List ℕ
+survey_lines form g s =
+    some_text form (count_lines s) ++ (keys_text form g s.keys.items s.formed.items
+    ++ (blocks_text form g s ++ line_text form (line.Age s.counts.unsound)))
+
+abbrev pub survey_text : Form → Geometry → DieSurvey → List ℕ
+survey_text form g s = head_text form (codes "survey") ++ (survey_lines form g s ++ tail_text form)
+
+-- ---- the others
+
+abbrev pub losses_text : Form → Geometry → List Bool → List ℕ
+losses_text form g lost = text_below form (lost_at lost) g.sectors
+
+abbrev pub compare_text : Form → Geometry → Compared → List ℕ
+compare_text form g told = head_text form (codes "compare") ++ (losses_text form g told.lost.items ++ (line_text form (line.Age told.unsound) ++ tail_text form))
+
+-- the sectors that are tied, by how all sectors stand
+abbrev pub ties_text : Form → Geometry → List State → List ℕ
+ties_text form g states = text_below form (tie_at states) g.sectors
+
+abbrev pub array_text : Form → Geometry → List State → ℕ → List ℕ
+array_text form g states unsound = head_text form (codes "array") ++ (ties_text form g states ++ (line_text form (line.Age unsound) ++ tail_text form))
+
+abbrev pub fits_text : Form → List Fit → List ℕ
+fits_text form fits = head_text form (codes "geometry") ++ (text_below form (fit_at fits) (length fits) ++ tail_text form)
+
+abbrev pub repair_text : Form → List Mend → List ℕ
+repair_text form mends =
+    head_text form (codes "repair") ++ (text_below form (mend_at mends) (length mends) ++ (line_text form (line.MendedCount (length mends)) ++ tail_text form))
+
+abbrev pub merge_text : Form → List ℕ → List ℕ → Tally → List ℕ
+merge_text form conflicts unsound t =
+    head_text form (codes "merge") ++ (text_below form (differ_at conflicts) (length conflicts)
+    ++ (text_below form (unsound_at unsound) (length unsound) ++ (line_text form (line.Merged (length conflicts) t) ++ tail_text form)))

@@ -1,0 +1,131 @@
+-- The lines of the reports, as JSON values: objects, each with its members by rising name. `line` says which line it is.
+use Rattle.std.specs.Prelude.{ℕ, List, [], ◌∷◌, map, codes}
+use Rattle.serde_json.specs.Data.{Data, Members, number, unsigned, string, array, object, item, no_items, member, no_members, put}
+use Rattle.serde_json.specs.View.{items_of}
+use Rattle.certificate.specs.declared.block_state.BlockState.{BlockState}
+use Rattle.lab_dump.specs.declared.fit.Fit.{Fit}
+use Rattle.lab_mend.specs.declared.merging.Tally.{Tally}
+use Rattle.lab_commands.specs.declared.lines.Label.{Label}
+use Rattle.lab_commands.specs.declared.lines.Sort.{Sort}
+use Rattle.lab_commands.specs.declared.lines.Line.{Line}
+use Rattle.lab_commands.specs.declared.lines.Line.TheVariants.{Pages, NumberRange, Repeated, NotFormatted, TableDamaged, LastSequence, Tied, Missing, Block, PlainBlock, Lost}
+use Rattle.lab_commands.specs.declared.lines.Line.TheVariants.{Mended, MendedCount, Differ, Unsound, Merged, Age}
+use Rattle.lab_commands.specs.declared.lines.Line.TheVariants as line
+use Rattle.lab_commands.specs.declared.values.Member.{Member}
+use Rattle.lab_commands.specs.declared.values.Member.TheVariants.{Count, Text, Counts}
+use Rattle.lab_commands.specs.Lines.{class_words, label_words, says_words, sort_words}
+
+abbrev pub count : ℕ → Data
+count n = number (unsigned n)
+
+abbrev pub text : List ℕ → Data
+text t = string t
+
+-- ---- members
+
+abbrev pub member_name : Member → List ℕ
+member_name (Count name n) = name.now
+member_name (Text name t) = name.now
+member_name (Counts name ns) = name.now
+
+abbrev pub member_data : Member → Data
+member_data (Count name n) = count n
+member_data (Text name t) = text t.now
+member_data (Counts name ns) = array (items_of (map count ns.now))
+
+-- with these members more, each at its place
+abbrev pub with_all : Members → List Member → Members
+with_all ms [] = ms
+with_all ms (m ∷ rest) = with_all (put (member_name m) (member_data m) ms) rest
+
+-- ---- objects
+
+abbrev pub pages_data : Sort → ℕ → Data
+pages_data s n = object (member (codes "count") (count n) (member (codes "line") (text (codes "pages")) (member (codes "sort") (text (sort_words s)) no_members)))
+
+-- a reason that tells of so many pages
+abbrev pub reason_pages_data : List ℕ → ℕ → Data
+reason_pages_data reason n =
+    object (member (codes "line") (text (codes "reason")) (member (codes "pages") (count n) (member (codes "reason") (text reason) no_members)))
+
+abbrev pub repeated_data : ℕ → ℕ → Data
+repeated_data first second =
+    object (member (codes "line") (text (codes "reason")) (member (codes "reason") (text (codes "SequenceRepeated")) (
+    member (codes "rows") (array (item (count first) (item (count second) no_items))) no_members)))
+
+-- a reason that tells of a table page
+abbrev pub reason_table_data : List ℕ → ℕ → Data
+reason_table_data reason page =
+    object (member (codes "line") (text (codes "reason")) (member (codes "reason") (text reason) (member (codes "table") (count page) no_members)))
+
+-- a key that is tied or missing
+abbrev pub key_data : List ℕ → Label → ℕ → Data
+key_data name of n = object (member (codes "key") (text (label_words of)) (member (codes "line") (text name) (member (codes "number") (count n) no_members)))
+
+abbrev pub block_data : ℕ → BlockState → ℕ → Data
+block_data block s n =
+    object (member (codes "block") (count block) (member (codes "class") (text (class_words s.class)) (member (codes "line") (text (codes "block")) (
+    member (codes "live") (count s.live) (member (codes "pointer") (count s.pointer) (member (codes "unsound") (count n) (
+    member (codes "wear") (count s.wear) no_members)))))))
+
+abbrev pub plain_block_data : ℕ → ℕ → Data
+plain_block_data block n =
+    object (member (codes "block") (count block) (member (codes "line") (text (codes "block")) (member (codes "unsound") (count n) no_members)))
+
+abbrev pub lost_data : ℕ → Data
+lost_data n = object (member (codes "line") (text (codes "lost")) (member (codes "sector") (count n) no_members))
+
+-- the five numbers of a geometry
+abbrev pub shape_data : Fit → Data
+shape_data f = array (item (count f.data_bytes) (item (count f.spare_bytes) (item (count f.pages) (item (count f.blocks) (item (count f.sectors) no_items)))))
+
+abbrev pub fit_data : Fit → Data
+fit_data f =
+    object (member (codes "blocks_told") (count f.blocks_told) (member (codes "geometry") (shape_data f) (member (codes "line") (text (codes "geometry")) (
+    member (codes "looked") (count f.looked) (member (codes "sectors_told") (count f.sectors_told) (member (codes "sound") (count f.sound.0) (
+    member (codes "table") (text (says_words f.table)) (member (codes "unsound") (count f.unsound) no_members))))))))
+
+abbrev pub mended_data : ℕ → ℕ → Data
+mended_data row bit = object (member (codes "bit") (count bit) (member (codes "line") (text (codes "mended")) (member (codes "row") (count row) no_members)))
+
+abbrev pub mended_count_data : ℕ → Data
+mended_count_data n = object (member (codes "line") (text (codes "repaired")) (member (codes "mended") (count n) no_members))
+
+-- a row of which two sound pages differ, or which is unsound
+abbrev pub row_data : List ℕ → ℕ → Data
+row_data name row = object (member (codes "line") (text name) (member (codes "row") (count row) no_members))
+
+abbrev pub merged_data : ℕ → Tally → Data
+merged_data differ t =
+    object (member (codes "differ") (count differ) (member (codes "erased") (count t.erased) (member (codes "line") (text (codes "merged")) (
+    member (codes "majority") (count t.majority) (member (codes "sound") (count t.sound) (member (codes "unsound") (count t.unsound) no_members))))))
+
+abbrev pub age_data : ℕ → Data
+age_data n = object (member (codes "line") (text (codes "age")) (member (codes "unsound") (count n) no_members))
+
+-- what a document begins with
+abbrev pub head_data : List ℕ → Data
+head_data command =
+    object (member (codes "command") (text command) (member (codes "line") (text (codes "command")) (member (codes "program") (text (codes "nandlab")) no_members)))
+
+-- ---- all lines
+
+unfoldable pub line_data : Line → Data
+line_data (Pages sort n) = pages_data sort n
+line_data (NumberRange n) = reason_pages_data (codes "NumberRange") n
+line_data (Repeated first second) = repeated_data first second
+line_data (NotFormatted page) = reason_table_data (codes "NotFormatted") page
+line_data (TableDamaged page) = reason_table_data (codes "TableDamaged") page
+line_data (LastSequence n) = reason_pages_data (codes "NextSequence") n
+line_data (Tied of n) = key_data (codes "tied") of n
+line_data (Missing of n) = key_data (codes "missing") of n
+line_data (Block block s n) = block_data block s n
+line_data (PlainBlock block n) = plain_block_data block n
+line_data (Lost n) = lost_data n
+line_data (line.Fit f) = fit_data f
+line_data (Mended row bit) = mended_data row bit
+line_data (MendedCount n) = mended_count_data n
+line_data (Differ row) = row_data (codes "differ") row
+line_data (Unsound row) = row_data (codes "unsound") row
+line_data (Merged differ t) = merged_data differ t
+line_data (Age n) = age_data n

@@ -1,0 +1,126 @@
+-- The words of the command line, as `clap` reads them.
+use Rattle.std.specs.Prelude.{◌≡◌, ◌≤◌, ℕ, List, [], ◌∷◌, length, codes, Some, option_map}
+use Rattle.std.specs.Borrow.{Bor}
+use Rattle.clap.specs.declared.builder.action.ArgAction.TheVariants.{Append}
+use Rattle.clap.specs.Words.{App, Row, Rule, Shape, all_of, first_of, count_of}
+use Rattle.program_words.specs.Grammar.{command_of, flag, option, place, place_of, program_of}
+use Rattle.program_words.specs.Met.{AsksText, NamesCommand, once, texts}
+use Rattle.program_words.specs.Met as met
+use Rattle.lab_commands.specs.declared.words.ArrayWords.{ArrayWords}
+use Rattle.lab_commands.specs.declared.words.CompareWords.{CompareWords}
+use Rattle.lab_commands.specs.declared.words.GeometryWords.{GeometryWords}
+use Rattle.lab_commands.specs.declared.words.MergeWords.{MergeWords}
+use Rattle.lab_commands.specs.declared.words.RepairWords.{RepairWords}
+use Rattle.lab_commands.specs.declared.words.Showing.{Showing}
+use Rattle.lab_commands.specs.declared.words.SurveyWords.{SurveyWords}
+use Rattle.lab_commands.specs.declared.words.Asked.{Asked}
+use Rattle.lab_commands.specs.declared.words.Asked.TheVariants as asked
+
+-- ---- what `clap` is told
+
+-- the words that all commands have
+abbrev pub showing : List Rule
+showing = flag (codes "json") ∷ flag (codes "progress") ∷ []
+
+abbrev pub geometry : Shape
+geometry = command_of (codes "geometry") (place (codes "DUMP") ∷ showing)
+
+abbrev pub survey : Shape
+survey = command_of (codes "survey") (place (codes "GEOM") ∷ place (codes "DUMP") ∷ option (codes "rows") ∷ showing)
+
+abbrev pub array : Shape
+array = command_of (codes "array") (place (codes "GEOM") ∷ place (codes "DUMP") ∷ place (codes "OUT") ∷ flag (codes "force") ∷ option (codes "map") ∷ showing)
+
+abbrev pub compare : Shape
+compare = command_of (codes "compare") (place (codes "GEOM") ∷ place (codes "CERT") ∷ place (codes "DUMP") ∷ showing)
+
+abbrev pub merge : Shape
+merge = command_of (codes "merge") (place (codes "GEOM") ∷ place (codes "OUT") ∷ place_of Append (codes "DUMP") ∷ flag (codes "force") ∷ showing)
+
+abbrev pub repair : Shape
+repair = command_of (codes "repair") (place (codes "GEOM") ∷ place (codes "DUMP") ∷ place (codes "OUT") ∷ flag (codes "force") ∷ option (codes "rows") ∷ showing)
+
+-- the commands that the program has
+abbrev pub grammar : App
+grammar = program_of (codes "nandlab") (geometry ∷ survey ∷ array ∷ compare ∷ merge ∷ repair ∷ [])
+
+-- ---- what the words ask for
+
+-- how a command tells what it does is so
+pub record IsShowingAt (rows : List Row) (read : Showing) : Type 0 where
+  pub json_is : once (count_of (codes "json") rows) ≡ Some read.json
+  pub progress_is : once (count_of (codes "progress") rows) ≡ Some read.progress
+
+-- the entry of the words of `geometry` is this
+pub record IsGeometryAt (rows : List Row) (read : GeometryWords) : Type 0 where
+  pub dump_is : first_of (codes "DUMP") rows ≡ Some read.dump.now
+  pub showing : IsShowingAt rows read.showing
+
+-- the entries of the words of `array` are these
+pub record IsArrayAt (rows : List Row) (read : ArrayWords) : Type 0 where
+  pub geometry_is : first_of (codes "GEOM") rows ≡ Some read.geometry.now
+  pub dump_is : first_of (codes "DUMP") rows ≡ Some read.dump.now
+  pub out_is : first_of (codes "OUT") rows ≡ Some read.out.now
+  pub forced : once (count_of (codes "force") rows) ≡ Some read.force
+  pub map_is : first_of (codes "map") rows ≡ option_map (λ word. word.now) read.map
+  pub showing : IsShowingAt rows read.showing
+
+-- those of the words of `survey` are these
+pub record IsSurveyAt (rows : List Row) (read : SurveyWords) : Type 0 where
+  pub geometry_is : first_of (codes "GEOM") rows ≡ Some read.geometry.now
+  pub dump_is : first_of (codes "DUMP") rows ≡ Some read.dump.now
+  pub rows_are : first_of (codes "rows") rows ≡ option_map (λ word. word.now) read.rows
+  pub showing : IsShowingAt rows read.showing
+
+-- those of the words of `compare` are these
+pub record IsCompareAt (rows : List Row) (read : CompareWords) : Type 0 where
+  pub geometry_is : first_of (codes "GEOM") rows ≡ Some read.geometry.now
+  pub certificate_is : first_of (codes "CERT") rows ≡ Some read.certificate.now
+  pub dump_is : first_of (codes "DUMP") rows ≡ Some read.dump.now
+  pub showing : IsShowingAt rows read.showing
+
+-- the dumps of the words of `merge` are these, two or more
+pub record AreDumpsAt (rows : List Row) (dumps : List (Bor (List ℕ))) : Type 0 where
+  pub dumps_are : all_of (codes "DUMP") rows ≡ Some (texts dumps)
+  pub enough : 2 ≤ length dumps
+
+-- those of the words of `merge` are these
+pub record IsMergeAt (rows : List Row) (read : MergeWords) : Type 0 where
+  pub geometry_is : first_of (codes "GEOM") rows ≡ Some read.geometry.now
+  pub out_is : first_of (codes "OUT") rows ≡ Some read.out.now
+  pub dumps : AreDumpsAt rows read.dumps.items
+  pub forced : once (count_of (codes "force") rows) ≡ Some read.force
+  pub showing : IsShowingAt rows read.showing
+
+-- those of the words of `repair` are these
+pub record IsRepairAt (rows : List Row) (read : RepairWords) : Type 0 where
+  pub geometry_is : first_of (codes "GEOM") rows ≡ Some read.geometry.now
+  pub dump_is : first_of (codes "DUMP") rows ≡ Some read.dump.now
+  pub out_is : first_of (codes "OUT") rows ≡ Some read.out.now
+  pub forced : once (count_of (codes "force") rows) ≡ Some read.force
+  pub rows_are : first_of (codes "rows") rows ≡ option_map (λ word. word.now) read.rows
+  pub showing : IsShowingAt rows read.showing
+
+-- the command of this name with these entries asks for that
+abbrev pub IsAt : List ℕ → List Row → Asked → Type 0
+IsAt name rows (asked.Geometry read) = (name ≡ codes "geometry") × IsGeometryAt rows read
+IsAt name rows (asked.Array read) = (name ≡ codes "array") × IsArrayAt rows read
+IsAt name rows (asked.Survey read) = (name ≡ codes "survey") × IsSurveyAt rows read
+IsAt name rows (asked.Compare read) = (name ≡ codes "compare") × IsCompareAt rows read
+IsAt name rows (asked.Merge read) = (name ≡ codes "merge") × IsMergeAt rows read
+IsAt name rows (asked.Repair read) = (name ≡ codes "repair") × IsRepairAt rows read
+IsAt name rows (asked.Text text) = ⊥
+
+-- Of the words as `clap` reads them: they name a command, with these words, or they ask for help or for the version.
+abbrev pub IsAsked : List (List ℕ) → Asked → Type 0
+IsAsked words (asked.Geometry read) = NamesCommand IsAt grammar words (asked.Geometry read)
+IsAsked words (asked.Array read) = NamesCommand IsAt grammar words (asked.Array read)
+IsAsked words (asked.Survey read) = NamesCommand IsAt grammar words (asked.Survey read)
+IsAsked words (asked.Compare read) = NamesCommand IsAt grammar words (asked.Compare read)
+IsAsked words (asked.Merge read) = NamesCommand IsAt grammar words (asked.Merge read)
+IsAsked words (asked.Repair read) = NamesCommand IsAt grammar words (asked.Repair read)
+IsAsked words (asked.Text text) = AsksText grammar words
+
+-- `clap` finds another fault in them, or they name no command with its words
+abbrev pub IsNoCommand : List (List ℕ) → Type 0
+IsNoCommand words = met.IsNoCommand IsAt grammar words

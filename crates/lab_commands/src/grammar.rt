@@ -1,0 +1,127 @@
+//! The commands of `nandlab` and their words.
+ghost use Rattle.std.specs.Prelude.{◌≡◌};
+ghost use Rattle.program_words.specs.Grammar.{program_app};
+ghost use Rattle.lab_commands.specs.Words as told;
+
+use program_words::{CommandRule, Grammar, WordKind, WordRule};
+
+const JSON: WordRule<'static> = WordRule {
+    id: "json",
+    kind: WordKind::Flag,
+    help: "Prints one JSON document",
+};
+
+const PROGRESS: WordRule<'static> = WordRule {
+    id: "progress",
+    kind: WordKind::Flag,
+    help: "Shows on standard error how far it is, as it does where that is a terminal",
+};
+
+const FORCE: WordRule<'static> = WordRule {
+    id: "force",
+    kind: WordKind::Flag,
+    help: "Replaces a file to be written that is there already",
+};
+
+const GEOM: WordRule<'static> = WordRule {
+    id: "GEOM",
+    kind: WordKind::Place,
+    help: "data,spare,pages,blocks,sectors: five numbers",
+};
+
+const DUMP: WordRule<'static> = WordRule {
+    id: "DUMP",
+    kind: WordKind::Place,
+    help: "The dump: the pages in row order, each data area then spare area",
+};
+
+const CERT: WordRule<'static> = WordRule {
+    id: "CERT",
+    kind: WordKind::Place,
+    help: "The certificate, as `nandctl mount` writes it",
+};
+
+const DUMPS: WordRule<'static> = WordRule {
+    id: "DUMP",
+    kind: WordKind::Places,
+    help: "The readings, two or more",
+};
+
+const IMAGE_OUT: WordRule<'static> = WordRule {
+    id: "OUT",
+    kind: WordKind::Place,
+    help: "The disk image to be written",
+};
+
+const DUMP_OUT: WordRule<'static> = WordRule {
+    id: "OUT",
+    kind: WordKind::Place,
+    help: "The dump to be written",
+};
+
+const MAP: WordRule<'static> = WordRule {
+    id: "map",
+    kind: WordKind::Valued("FILE"),
+    help: "Writes how each part of OUT stands to FILE, as the mapfile of GNU ddrescue",
+};
+
+const SURVEY_ROWS: WordRule<'static> = WordRule {
+    id: "rows",
+    kind: WordKind::Valued("A..B"),
+    help: "Looks at the rows A to B - 1 alone: every other page counts as erased",
+};
+
+const REPAIR_ROWS: WordRule<'static> = WordRule {
+    id: "rows",
+    kind: WordKind::Valued("A..B"),
+    help: "Mends pages of the rows A to B - 1 alone",
+};
+
+const GEOMETRY: CommandRule<'static> = CommandRule {
+    name: "geometry",
+    about: "Tells which geometries fit a dump of unknown shape, best first",
+    words: &[DUMP, JSON, PROGRESS],
+};
+
+const SURVEY: CommandRule<'static> = CommandRule {
+    name: "survey",
+    about: "Tells what a dump says of its die, and each reason why the die would not mount",
+    words: &[GEOM, DUMP, SURVEY_ROWS, JSON, PROGRESS],
+};
+
+const ARRAY: CommandRule<'static> = CommandRule {
+    name: "array",
+    about: "Writes every sector of a dump, as a disk image",
+    words: &[GEOM, DUMP, IMAGE_OUT, FORCE, MAP, JSON, PROGRESS],
+};
+
+const COMPARE: CommandRule<'static> = CommandRule {
+    name: "compare",
+    about: "Tells which sectors have lost a page since a certificate was made",
+    words: &[GEOM, CERT, DUMP, JSON, PROGRESS],
+};
+
+const MERGE: CommandRule<'static> = CommandRule {
+    name: "merge",
+    about: "Writes one dump of two or more readings of a die",
+    words: &[GEOM, DUMP_OUT, DUMPS, FORCE, JSON, PROGRESS],
+};
+
+const REPAIR: CommandRule<'static> = CommandRule {
+    name: "repair",
+    about: "Writes a dump with each page mended that one bit turned makes sound",
+    words: &[GEOM, DUMP, DUMP_OUT, FORCE, REPAIR_ROWS, JSON, PROGRESS],
+};
+
+static GRAMMAR: Grammar<'static> = Grammar {
+    name: "nandlab",
+    about: "Tools for recovery laboratories, on dumps of one NAND die",
+    commands: &[GEOMETRY, SURVEY, ARRAY, COMPARE, MERGE, REPAIR],
+};
+
+/// The commands that the program has.
+pub(crate) fn grammar() -> Grammar<'static>
+    ensures { program_app result ≡ told.grammar }
+{
+    GRAMMAR
+}

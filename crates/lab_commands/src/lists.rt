@@ -1,0 +1,170 @@
+//! Lists of lines, each made when it is printed.
+ghost use Rattle.std.specs.Prelude.{◌≡◌, ◌<◌, get_or, map, option_map};
+ghost use Rattle.lab_dump.specs.declared.held.State.TheVariants.{Absent};
+ghost use Rattle.lab_dump.specs.Held.{state_in};
+ghost use Rattle.lab_commands.specs.Reports.{differ_at, fit_at, mend_at, some_at, state_at, unsound_at};
+
+use crate::lines::{Label, Line, block_line, key_line, lost_line, table_line, tie_line};
+use certificate::BlockState;
+use lab_dump::{DieSurvey, Fit, Held, State};
+use lab_mend::Mend;
+
+/// Lines, one for each number below their count, or none for a number that has nothing to say.
+#[derive(Drop)]
+pub(crate) enum Lines<'a> {
+    /// These, of which some may be left out.
+    Fixed(&'a [Option<Line>]),
+    /// So many keys of one kind that are tied or missing, by how those stand from a place on.
+    Keys(Label, &'a [State], u32, u32),
+    /// So many table pages that are a reason against a mount, by how those stand from a place on and whether each is well formed.
+    Tables(&'a [State], u32, &'a [bool], u32),
+    /// So many blocks.
+    Blocks(&'a DieSurvey, u32),
+    /// Those of so many sectors that have lost a page.
+    Losses(&'a [bool], u32),
+    /// Those of so many sectors of which two pages share the greatest sequence.
+    Ties(&'a [Held], u32),
+    /// The geometries that fit.
+    Fits(&'a [Fit]),
+    /// The pages that were mended.
+    Mends(&'a [Mend]),
+    /// The rows of which two sound pages differ.
+    Conflicts(&'a [u32]),
+    /// The rows of which no page is sound or erased, nor the majority sound.
+    Unsound(&'a [u32]),
+}
+
+// A number below a count, in as many bits.
+fn narrow(number: usize, count: u32) -> u32
+    requires { number < count }
+    ensures { result ≡ number }
+{
+    number as u32
+}
+
+// How a key stands, by its place.
+fn key_state(states: &[State], place: usize) -> State
+    ensures { result ≡ get_or states.now place Absent }
+{
+    states.get(place).copied().unwrap_or(State::Absent)
+}
+
+// Whether a flag of a list is set.
+fn flag(flags: &[bool], place: usize) -> bool
+    ensures { result ≡ get_or flags.now place Rattle.std.specs.Prelude.false }
+{
+    flags.get(place).copied().unwrap_or(false)
+}
+
+// The state of a block, where the states are known.
+fn block_state(survey: &DieSurvey, block: usize) -> Option<BlockState>
+    ensures { result ≡ state_at (option_map (λ states. states.items) survey.now.blocks) block }
+{
+    match &survey.blocks {
+        Some(states) => states.get(block).copied(),
+        None => None,
+    }
+}
+
+// The unsound pages of a block.
+fn unsound_pages(survey: &DieSurvey, block: usize) -> u32
+    ensures { result ≡ get_or survey.now.unsound.items block 0 }
+{
+    survey.unsound.get(block).copied().unwrap_or(0)
+}
+
+// How a sector stands.
+fn sector_state(held: &[Held], sector: usize) -> State
+    ensures { result ≡ get_or (map state_in held.now) sector Absent }
+{
+    match held.get(sector) {
+        Some(kept) => kept.state(),
+        None => State::Absent,
+    }
+}
+
+fn fixed_line(lines: &[Option<Line>], number: usize) -> Option<Line>
+    ensures { result ≡ some_at lines.now number }
+{
+    lines.get(number).copied().unwrap_or(None)
+}
+
+fn fit_line(fits: &[Fit], number: usize) -> Option<Line>
+    ensures { result ≡ fit_at fits.now number }
+{
+    let fit = *fits.get(number)?;
+    Some(Line::Fit(fit))
+}
+
+fn mend_line(mends: &[Mend], number: usize) -> Option<Line>
+    ensures { result ≡ mend_at mends.now number }
+{
+    let mend = *mends.get(number)?;
+    Some(Line::Mended(mend.row, mend.bit))
+}
+
+fn differ_line(rows: &[u32], number: usize) -> Option<Line>
+    ensures { result ≡ differ_at rows.now number }
+{
+    let row = *rows.get(number)?;
+    Some(Line::Differ(row))
+}
+
+fn unsound_line(rows: &[u32], number: usize) -> Option<Line>
+    ensures { result ≡ unsound_at rows.now number }
+{
+    let row = *rows.get(number)?;
+    Some(Line::Unsound(row))
+}
+
+impl Lines<'_> {
+    ghost use Rattle.std.specs.Prelude.{◌≡◌, ◌<◌};
+    ghost use Rattle.lab_commands.specs.Reports.{line_at, size_of};
+
+    /// How many numbers there are.
+    pub(crate) fn count(&self) -> usize
+        ensures { result ≡ size_of self.now }
+    {
+        match *self {
+            Lines::Fixed(lines) => lines.len(),
+            Lines::Keys(_, _, _, count)
+            | Lines::Tables(_, _, _, count)
+            | Lines::Blocks(_, count)
+            | Lines::Losses(_, count)
+            | Lines::Ties(_, count) => count as usize,
+            Lines::Fits(fits) => fits.len(),
+            Lines::Mends(mends) => mends.len(),
+            Lines::Conflicts(rows) | Lines::Unsound(rows) => rows.len(),
+        }
+    }
+
+    /// The line of a number.
+    pub(crate) fn line(&self, number: usize) -> Option<Line>
+        requires { number < size_of self.now }
+        ensures { result ≡ line_at self.now number }
+    {
+        match *self {
+            Lines::Fixed(lines) => fixed_line(lines, number),
+            Lines::Keys(of, states, from, count) => {
+                let state = key_state(states, from as usize + number);
+                key_line(of, narrow(number, count), state)
+            }
+            Lines::Tables(states, from, formed, count) => {
+                let state = key_state(states, from as usize + number);
+                table_line(narrow(number, count), state, flag(formed, number))
+            }
+            Lines::Blocks(survey, count) => {
+                let (state, unsound) = (block_state(survey, number), unsound_pages(survey, number));
+                block_line(narrow(number, count), state, unsound)
+            }
+            Lines::Losses(lost, count) => lost_line(narrow(number, count), flag(lost, number)),
+            Lines::Ties(held, count) => {
+                tie_line(narrow(number, count), sector_state(held, number))
+            }
+            Lines::Fits(fits) => fit_line(fits, number),
+            Lines::Mends(mends) => mend_line(mends, number),
+            Lines::Conflicts(rows) => differ_line(rows, number),
+            Lines::Unsound(rows) => unsound_line(rows, number),
+        }
+    }
+}

@@ -1,0 +1,257 @@
+//! What each command says.
+ghost use Rattle.std.specs.Prelude.{◌≡◌, option_map, map};
+ghost use Rattle.lab_dump.specs.Held.{state_in};
+ghost use Rattle.lab_commands.specs.Document.{Prints, text_below};
+ghost use Rattle.lab_commands.specs.Reports.{array_text, blocks_text, compare_text, count_lines, fits_text, key_at, keys_text, losses_text, merge_text, repair_text, some_text, survey_lines, survey_text, table_at, ties_text};
+
+use crate::document::{PrintFault, Printer};
+use crate::lines::{Label, Line, Sort, last_line, outside_line, repeated_line};
+use crate::lists::Lines;
+use lab_dump::{Compared, DieSurvey, Fit, Held, State};
+use lab_mend::{Mend, Tally};
+use page_layout::geometry::Geometry;
+use std::io::Write;
+
+// The pages of each sort, and the reasons against a mount but for the tables.
+fn print_counts<W: Write>(
+    printer: Printer,
+    out: &mut W,
+    survey: &DieSurvey,
+) -> Result<(), PrintFault>
+    ensures { Prints (W.contents out.old) (W.contents out.new) (some_text printer.form (count_lines survey.now)) result }
+{
+    let counts = survey.counts;
+    printer.list(
+        out,
+        &Lines::Fixed(&[
+            Some(Line::Pages(Sort::Data, counts.sectors)),
+            Some(Line::Pages(Sort::Trim, counts.trims)),
+            Some(Line::Pages(Sort::Translation, counts.translations)),
+            Some(Line::Pages(Sort::Table, counts.tables)),
+            Some(Line::Pages(Sort::Erased, counts.erased)),
+            Some(Line::Pages(Sort::Unsound, counts.unsound)),
+            outside_line(counts.outside),
+            repeated_line(survey.repeated),
+            last_line(counts.last),
+        ]),
+    )
+}
+
+// The table pages that are a reason against a mount, by how those stand from a place on.
+fn print_tables<W: Write>(
+    printer: Printer,
+    out: &mut W,
+    states: &[State],
+    formed: &[bool],
+    from: u32,
+    count: u32,
+) -> Result<(), PrintFault>
+    ensures { Prints (W.contents out.old) (W.contents out.new) (text_below printer.form (table_at states.now from formed.now) count) result }
+{
+    printer.list(out, &Lines::Tables(states, from, formed, count))
+}
+
+// The table pages that are a reason against a mount, and the keys that are tied or missing.
+fn print_keys<W: Write>(
+    printer: Printer,
+    out: &mut W,
+    geometry: &Geometry,
+    states: &[State],
+    formed: &[bool],
+) -> Result<(), PrintFault>
+    ensures { Prints (W.contents out.old) (W.contents out.new) (keys_text printer.form geometry.now states.now formed.now) result }
+{
+    let (sectors, translations) = (geometry.sectors(), geometry.translation_pages());
+    let (first, tables) = (sectors + translations, geometry.table_pages());
+    print_tables(printer, out, states, formed, first, tables)?;
+    print_kind(printer, out, states, Label::Sector, 0, sectors)?;
+    print_kind(
+        printer,
+        out,
+        states,
+        Label::Translation,
+        sectors,
+        translations,
+    )?;
+    print_kind(printer, out, states, Label::Table, first, tables)
+}
+
+// The keys of one kind that are tied or missing, by how those stand from a place on.
+fn print_kind<W: Write>(
+    printer: Printer,
+    out: &mut W,
+    states: &[State],
+    of: Label,
+    from: u32,
+    count: u32,
+) -> Result<(), PrintFault>
+    ensures { Prints (W.contents out.old) (W.contents out.new) (text_below printer.form (key_at of states.now from) count) result }
+{
+    printer.list(out, &Lines::Keys(of, states, from, count))
+}
+
+// The blocks.
+fn print_blocks<W: Write>(
+    printer: Printer,
+    out: &mut W,
+    geometry: &Geometry,
+    survey: &DieSurvey,
+) -> Result<(), PrintFault>
+    ensures { Prints (W.contents out.old) (W.contents out.new) (blocks_text printer.form geometry.now survey.now) result }
+{
+    let count = geometry.blocks();
+    printer.list(out, &Lines::Blocks(survey, count))
+}
+
+// The lines of a survey.
+fn print_lines<W: Write>(
+    printer: Printer,
+    out: &mut W,
+    geometry: &Geometry,
+    survey: &DieSurvey,
+) -> Result<(), PrintFault>
+    ensures { Prints (W.contents out.old) (W.contents out.new) (survey_lines printer.form geometry.now survey.now) result }
+{
+    print_counts(printer, out, survey)?;
+    print_keys(printer, out, geometry, &survey.keys, &survey.formed)?;
+    print_blocks(printer, out, geometry, survey)?;
+    printer.line(out, Some(Line::Age(survey.counts.unsound)))
+}
+
+/// Prints what a survey says: the pages of each sort, the reasons against a mount, the keys that are tied or missing, the blocks, and the
+/// line of the pages that are neither erased nor sound.
+///
+/// # Errors
+///
+/// `Failed` where a write failed, `OutOfMemory` where a growth was refused: a beginning of the document stands there, or nothing. (This
+/// project's.)
+pub fn print_survey<W: Write>(
+    printer: Printer,
+    out: &mut W,
+    geometry: &Geometry,
+    survey: &DieSurvey,
+) -> Result<(), PrintFault>
+    ensures { Prints (W.contents out.old) (W.contents out.new) (survey_text printer.form geometry.now survey.now) result }
+{
+    printer.begin(out, "survey")?;
+    print_lines(printer, out, geometry, survey)?;
+    printer.end(out)
+}
+
+// The sectors that have lost a page.
+fn print_losses<W: Write>(
+    printer: Printer,
+    out: &mut W,
+    geometry: &Geometry,
+    lost: &[bool],
+) -> Result<(), PrintFault>
+    ensures { Prints (W.contents out.old) (W.contents out.new) (losses_text printer.form geometry.now lost.now) result }
+{
+    let count = geometry.sectors();
+    printer.list(out, &Lines::Losses(lost, count))
+}
+
+/// Prints which sectors have lost a page, and the line of the pages that are neither erased nor sound.
+///
+/// # Errors
+///
+/// As of `print_survey`. (This project's.)
+pub fn print_compared<W: Write>(
+    printer: Printer,
+    out: &mut W,
+    geometry: &Geometry,
+    told: &Compared,
+) -> Result<(), PrintFault>
+    ensures { Prints (W.contents out.old) (W.contents out.new) (compare_text printer.form geometry.now told.now) result }
+{
+    printer.begin(out, "compare")?;
+    print_losses(printer, out, geometry, &told.lost)?;
+    printer.line(out, Some(Line::Age(told.unsound)))?;
+    printer.end(out)
+}
+
+// The sectors that are tied.
+fn print_ties<W: Write>(
+    printer: Printer,
+    out: &mut W,
+    geometry: &Geometry,
+    held: &[Held],
+) -> Result<(), PrintFault>
+    ensures { Prints (W.contents out.old) (W.contents out.new) (ties_text printer.form geometry.now (map state_in held.now)) result }
+{
+    let count = geometry.sectors();
+    printer.list(out, &Lines::Ties(held, count))
+}
+
+/// Prints which sectors are tied, by what is held of each, and the line of the pages that are neither erased nor sound.
+///
+/// # Errors
+///
+/// As of `print_survey`. (This project's.)
+pub fn print_array<W: Write>(
+    printer: Printer,
+    out: &mut W,
+    geometry: &Geometry,
+    held: &[Held],
+    unsound: u32,
+) -> Result<(), PrintFault>
+    ensures { Prints (W.contents out.old) (W.contents out.new) (array_text printer.form geometry.now (map state_in held.now) unsound) result }
+{
+    printer.begin(out, "array")?;
+    print_ties(printer, out, geometry, held)?;
+    printer.line(out, Some(Line::Age(unsound)))?;
+    printer.end(out)
+}
+
+/// Prints which geometries fit, in their order.
+///
+/// # Errors
+///
+/// As of `print_survey`. (This project's.)
+pub fn print_fits<W: Write>(printer: Printer, out: &mut W, fits: &[Fit]) -> Result<(), PrintFault>
+    ensures { Prints (W.contents out.old) (W.contents out.new) (fits_text printer.form fits.now) result }
+{
+    printer.begin(out, "geometry")?;
+    printer.list(out, &Lines::Fits(fits))?;
+    printer.end(out)
+}
+
+/// Prints which pages were mended, in their order, and how many.
+///
+/// # Errors
+///
+/// As of `print_survey`. (This project's.)
+pub fn print_repaired<W: Write>(
+    printer: Printer,
+    out: &mut W,
+    mends: &[Mend],
+) -> Result<(), PrintFault>
+    ensures { Prints (W.contents out.old) (W.contents out.new) (repair_text printer.form mends.now) result }
+{
+    printer.begin(out, "repair")?;
+    printer.list(out, &Lines::Mends(mends))?;
+    printer.line(out, Some(Line::MendedCount(mends.len() as u64)))?;
+    printer.end(out)
+}
+
+/// Prints of which rows two sound pages differ, of which no page is sound or erased nor the majority sound, and how many rows there are of
+/// each kind.
+///
+/// # Errors
+///
+/// As of `print_survey`. (This project's.)
+pub fn print_merged<W: Write>(
+    printer: Printer,
+    out: &mut W,
+    conflicts: &[u32],
+    unsound: &[u32],
+    tally: Tally,
+) -> Result<(), PrintFault>
+    ensures { Prints (W.contents out.old) (W.contents out.new) (merge_text printer.form conflicts.now unsound.now tally) result }
+{
+    printer.begin(out, "merge")?;
+    printer.list(out, &Lines::Conflicts(conflicts))?;
+    printer.list(out, &Lines::Unsound(unsound))?;
+    printer.line(out, Some(Line::Merged(conflicts.len() as u64, tally)))?;
+    printer.end(out)
+}

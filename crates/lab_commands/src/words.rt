@@ -1,0 +1,288 @@
+//! The words of the command line: one level of subcommands, with help and a version.
+ghost use Rattle.std.specs.Prelude.{◌≡◌, ◌≢◌, List, ℕ, IfOk, IfSome, Ok, None, Err, codes, false};
+ghost use Rattle.std.specs.Borrow.{Bor};
+ghost use Rattle.program_words.specs.Met.{entries_of, texts};
+ghost use Rattle.lab_commands.specs.declared.words.ArrayWords.{ArrayWords};
+ghost use Rattle.lab_commands.specs.declared.words.CompareWords.{CompareWords};
+ghost use Rattle.lab_commands.specs.declared.words.GeometryWords.{GeometryWords};
+ghost use Rattle.lab_commands.specs.declared.words.MergeWords.{MergeWords};
+ghost use Rattle.lab_commands.specs.declared.words.RepairWords.{RepairWords};
+ghost use Rattle.lab_commands.specs.declared.words.Showing.{Showing};
+ghost use Rattle.lab_commands.specs.declared.words.SurveyWords.{SurveyWords};
+ghost use Rattle.lab_commands.specs.declared.words.Asked.{Asked};
+ghost use Rattle.lab_commands.specs.Words.{AreDumpsAt, IsArrayAt, IsAsked, IsAt, IsCompareAt, IsGeometryAt, IsMergeAt, IsNoCommand, IsRepairAt, IsShowingAt, IsSurveyAt};
+
+use crate::grammar::grammar;
+use program_words::{CommandWords, Met, WordsFault, read_words};
+use std::alloc::{AllocError, Global};
+
+/// How a command tells what it does.
+#[derive(Clone, Copy)]
+pub struct Showing {
+    /// Whether it prints one JSON document, and no plain text.
+    pub json: bool,
+    /// Whether it shows on standard error how far it is.
+    pub progress: bool,
+}
+
+/// The words of `geometry DUMP`.
+#[derive(Clone, Copy)]
+pub struct GeometryWords<'a> {
+    pub dump: &'a str,
+    pub showing: Showing,
+}
+
+/// The words of `array GEOM DUMP OUT [--map FILE]`.
+#[derive(Clone, Copy)]
+pub struct ArrayWords<'a> {
+    pub geometry: &'a str,
+    pub dump: &'a str,
+    pub out: &'a str,
+    /// Whether files that are there may be replaced.
+    pub force: bool,
+    /// FILE, where the map of the array is wanted.
+    pub map: Option<&'a str>,
+    pub showing: Showing,
+}
+
+/// The words of `survey GEOM DUMP [--rows A..B]`.
+#[derive(Clone, Copy)]
+pub struct SurveyWords<'a> {
+    pub geometry: &'a str,
+    pub dump: &'a str,
+    /// A..B, where some rows alone are to be looked at.
+    pub rows: Option<&'a str>,
+    pub showing: Showing,
+}
+
+/// The words of `compare GEOM CERT DUMP`.
+#[derive(Clone, Copy)]
+pub struct CompareWords<'a> {
+    pub geometry: &'a str,
+    pub certificate: &'a str,
+    pub dump: &'a str,
+    pub showing: Showing,
+}
+
+/// The words of `merge GEOM OUT DUMP DUMP..`.
+#[derive(Drop)]
+pub struct MergeWords<'a> {
+    pub geometry: &'a str,
+    pub out: &'a str,
+    /// The dumps, in their order: two or more.
+    pub dumps: Vec<&'a str>,
+    /// Whether a file OUT may be replaced.
+    pub force: bool,
+    pub showing: Showing,
+}
+
+/// The words of `repair GEOM DUMP OUT [--rows A..B]`.
+#[derive(Clone, Copy)]
+pub struct RepairWords<'a> {
+    pub geometry: &'a str,
+    pub dump: &'a str,
+    pub out: &'a str,
+    /// Whether a file OUT may be replaced.
+    pub force: bool,
+    /// A..B, where some rows alone are to be mended.
+    pub rows: Option<&'a str>,
+    pub showing: Showing,
+}
+
+/// What the words ask for.
+#[derive(Drop)]
+pub enum Asked<'a> {
+    /// Which geometries fit a dump.
+    Geometry(GeometryWords<'a>),
+    /// The array of a dump.
+    Array(ArrayWords<'a>),
+    /// What a dump tells of its die.
+    Survey(SurveyWords<'a>),
+    /// Which sectors have lost a page since a certificate was made.
+    Compare(CompareWords<'a>),
+    /// One dump of several readings of a die.
+    Merge(MergeWords<'a>),
+    /// A dump with its pages mended.
+    Repair(RepairWords<'a>),
+    /// This text, of help or of the version.
+    Text(String),
+}
+
+// How a command tells what it does, where its words say so.
+fn showing_words(found: &CommandWords<'_>) -> Option<Showing>
+    ensures some { IfSome result (IsShowingAt (entries_of found.now)) }
+    ensures none { result ≡ None → (read : Showing) → ¬ IsShowingAt (entries_of found.now) read }
+{
+    Some(Showing {
+        json: found.once("json")?,
+        progress: found.once("progress")?,
+    })
+}
+
+// The words of the command `geometry`, where they are given.
+fn geometry_words<'a>(found: &CommandWords<'a>) -> Option<GeometryWords<'a>>
+    ensures some { IfSome result (IsGeometryAt (entries_of found.now)) }
+    ensures none { result ≡ None → (read : GeometryWords) → ¬ IsGeometryAt (entries_of found.now) read }
+{
+    Some(GeometryWords {
+        dump: found.word("DUMP")?,
+        showing: showing_words(found)?,
+    })
+}
+
+// The words of the command `array`, where they are given.
+fn array_words<'a>(found: &CommandWords<'a>) -> Option<ArrayWords<'a>>
+    ensures some { IfSome result (IsArrayAt (entries_of found.now)) }
+    ensures none { result ≡ None → (read : ArrayWords) → ¬ IsArrayAt (entries_of found.now) read }
+{
+    Some(ArrayWords {
+        geometry: found.word("GEOM")?,
+        dump: found.word("DUMP")?,
+        out: found.word("OUT")?,
+        force: found.once("force")?,
+        map: found.word("map"),
+        showing: showing_words(found)?,
+    })
+}
+
+// The words of the command `survey`, where they are given.
+fn survey_words<'a>(found: &CommandWords<'a>) -> Option<SurveyWords<'a>>
+    ensures some { IfSome result (IsSurveyAt (entries_of found.now)) }
+    ensures none { result ≡ None → (read : SurveyWords) → ¬ IsSurveyAt (entries_of found.now) read }
+{
+    Some(SurveyWords {
+        geometry: found.word("GEOM")?,
+        dump: found.word("DUMP")?,
+        rows: found.word("rows"),
+        showing: showing_words(found)?,
+    })
+}
+
+// The words of the command `compare`, where they are given.
+fn compare_words<'a>(found: &CommandWords<'a>) -> Option<CompareWords<'a>>
+    ensures some { IfSome result (IsCompareAt (entries_of found.now)) }
+    ensures none { result ≡ None → (read : CompareWords) → ¬ IsCompareAt (entries_of found.now) read }
+{
+    Some(CompareWords {
+        geometry: found.word("GEOM")?,
+        certificate: found.word("CERT")?,
+        dump: found.word("DUMP")?,
+        showing: showing_words(found)?,
+    })
+}
+
+// The words of the command `repair`, where they are given.
+fn repair_words<'a>(found: &CommandWords<'a>) -> Option<RepairWords<'a>>
+    ensures some { IfSome result (IsRepairAt (entries_of found.now)) }
+    ensures none { result ≡ None → (read : RepairWords) → ¬ IsRepairAt (entries_of found.now) read }
+{
+    Some(RepairWords {
+        geometry: found.word("GEOM")?,
+        dump: found.word("DUMP")?,
+        out: found.word("OUT")?,
+        force: found.once("force")?,
+        rows: found.word("rows"),
+        showing: showing_words(found)?,
+    })
+}
+
+// The dumps of the command `merge`, where there are two or more.
+fn dump_words<'b, 'a>(found: &'b CommandWords<'a>) -> Option<&'b [&'a str]>
+    ensures some { IfSome result (λ dumps. AreDumpsAt (entries_of found.now) dumps.now) }
+    ensures none { result ≡ None → (dumps : List (Bor (List ℕ))) → ¬ AreDumpsAt (entries_of found.now) dumps }
+{
+    let dumps = found.words("DUMP")?;
+    if dumps.len() < 2 { None } else { Some(dumps) }
+}
+
+// The words of the command `merge`, where they are given: these dumps, and the others.
+fn merge_others<'a>(found: &CommandWords<'a>, dumps: Vec<&'a str>) -> Option<MergeWords<'a>>
+    requires { AreDumpsAt (entries_of found.now) dumps.items }
+    ensures some { IfSome result (IsMergeAt (entries_of found.now)) }
+    ensures none { result ≡ None → (read : MergeWords) → ¬ IsMergeAt (entries_of found.now) read }
+{
+    Some(MergeWords {
+        geometry: found.word("GEOM")?,
+        out: found.word("OUT")?,
+        force: found.once("force")?,
+        showing: showing_words(found)?,
+        dumps,
+    })
+}
+
+// The same with the dumps.
+fn merge_words<'a>(
+    alloc: Global,
+    found: &CommandWords<'a>,
+) -> Result<Option<MergeWords<'a>>, AllocError>
+    ensures some { IfOk result (λ read. IfSome read (IsMergeAt (entries_of found.now))) }
+    ensures none { result ≡ Ok None → (read : MergeWords) → ¬ IsMergeAt (entries_of found.now) read }
+{
+    let Some(dumps) = dump_words(found) else {
+        return Ok(None);
+    };
+    let mut kept = Vec::new(alloc);
+    kept.extend_from_slice(dumps)?;
+    Ok(merge_others(found, kept))
+}
+
+// What the command `merge` asks for, with these words.
+fn merge_asked<'a>(alloc: Global, found: &CommandWords<'a>) -> Result<Option<Asked<'a>>, AllocError>
+    ensures some { IfOk result (λ read. IfSome read (IsAt (codes "merge") (entries_of found.now))) }
+    ensures none { result ≡ Ok None → (asked : Asked) → ¬ IsAt (codes "merge") (entries_of found.now) asked }
+{
+    match merge_words(alloc, found)? {
+        Some(read) => Ok(Some(Asked::Merge(read))),
+        None => Ok(None),
+    }
+}
+
+// What the command of this name asks for, with these words, but for `merge`.
+fn other_asked<'a>(name: &str, found: &CommandWords<'a>) -> Option<Asked<'a>>
+    ensures some { IfSome result (IsAt name.now (entries_of found.now)) }
+    ensures none { result ≡ None → name.now ≢ codes "merge" → (asked : Asked) → ¬ IsAt name.now (entries_of found.now) asked }
+{
+    match name {
+        "geometry" => Some(Asked::Geometry(geometry_words(found)?)),
+        "array" => Some(Asked::Array(array_words(found)?)),
+        "survey" => Some(Asked::Survey(survey_words(found)?)),
+        "compare" => Some(Asked::Compare(compare_words(found)?)),
+        "repair" => Some(Asked::Repair(repair_words(found)?)),
+        _ => None,
+    }
+}
+
+// What the command of this name asks for, with these words.
+fn asked_at<'a>(
+    alloc: Global,
+    name: &str,
+    found: &CommandWords<'a>,
+) -> Result<Option<Asked<'a>>, AllocError>
+    ensures some { IfOk result (λ asked. IfSome asked (IsAt name.now (entries_of found.now))) }
+    ensures none { result ≡ Ok None → (asked : Asked) → ¬ IsAt name.now (entries_of found.now) asked }
+{
+    match name {
+        "merge" => merge_asked(alloc, found),
+        _ => Ok(other_asked(name, found)),
+    }
+}
+
+/// What the words ask for, of which the first is the program's name: as `clap` reads them. `--force` stands once at most.
+///
+/// # Errors
+///
+/// `NoSuchCommand` where `clap` refuses the words for another reason than that they ask for help or the version, or where they name no command
+/// with its words. `OutOfMemory` where a growth was refused.
+pub fn parse<'a>(alloc: Global, words: &'a [&'a str]) -> Result<Asked<'a>, WordsFault>
+    ensures ok { IfOk result (IsAsked (texts words.now)) }
+    ensures none { result ≡ Err WordsFault.NoSuchCommand → IsNoCommand (texts words.now) }
+{
+    match read_words(alloc, &grammar(), words) {
+        Ok(Met::Command { name, words }) => match asked_at(alloc, name, &words)? {
+            Some(asked) => Ok(asked),
+            None => Err(WordsFault::NoSuchCommand),
+        },
+        Ok(Met::Text(text)) => Ok(Asked::Text(text)),
+        Err(fault) => Err(fault),
+    }
+}

@@ -1,0 +1,23 @@
+use Rattle.std.proofs.Common.{◌≡◌, ◌+◌, ◌-◌, ◌*◌, ◌++◌, ◌∙◌, ap, arith}
+use Rattle.std.specs.List.{flat_map, range_with_len}
+use Rattle.lab_dump.specs.Fits.{area_fits, data_fits}
+use Rattle.lab_dump.proofs.FitLemmas.{adds_then, more_from}
+use Rattle.lab_dump.proofs.find.add_data.Goals as goal
+
+pub loop-spare_bytes-preserved : goal.loop-spare_bytes-preserved
+loop-spare_bytes-preserved g c =
+    let inv = c.loop-spare_bytes.invariant in
+    let spare = c.loop-spare_bytes.spare_bytes in
+    record {
+      room = (let a = inv.room in omega arith);
+      same = c.add_areas.ensures.same ∙ inv.same;
+      added = λ all told size. more_from (area_fits all c.args.data_bytes) c.args.fits.now.items 32 spare c.loop-spare_bytes.fits.items _ (omega (arith, c.loop-spare_bytes.auto.spare_bytes)) (inv.added all told size)
+          (c.in_ok-add_areas.ensures.added all (inv.same ∙ told) size);
+      any = adds_then (7 * (spare - 32)) 7 (7 * (spare + 1 - 32)) _ _ _ inv.any c.in_ok-add_areas.ensures.any (omega (arith, c.loop-spare_bytes.auto.spare_bytes));
+    }
+
+pub returns-clause-added : goal.returns-clause-added
+unfolding data_fits
+returns-clause-added g c = λ all told size.
+    let last : c.loop-spare_bytes.spare_bytes - 32 ≡ 225 = omega (arith, c.loop-spare_bytes-test.false, c.loop-spare_bytes.auto.spare_bytes, c.loop-spare_bytes.auto.spare_bytes-end) in
+    c.loop-spare_bytes.invariant.added all told size ∙ ap (λ n. c.args.fits.now.items ++ flat_map (area_fits all c.args.data_bytes) (range_with_len 32 n)) last

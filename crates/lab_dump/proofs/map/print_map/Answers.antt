@@ -1,0 +1,16 @@
+use Rattle.std.proofs.Common.{◌≡◌, ℕ, OnOk, length, map, sym, subst, ◌∙◌}
+use Rattle.std.specs.Io.KnownBytes.{Appends}
+use Rattle.std.proofs.lemmas.List.{length-map}
+use Rattle.lab_dump.specs.Held.{state_in}
+use Rattle.lab_dump.specs.Map.{areas_below}
+use Rattle.lab_dump.proofs.MapLemmas.{then_last}
+use Rattle.lab_dump.proofs.map.print_map.Goals as goal
+
+pub returns : goal.returns
+returns g c =
+    let states = map state_in c.args.held.now in
+    let all : length states ≡ c.args.geometry.now.sectors = length-map c.args.held.now state_in ∙ c.requires in
+    let b = g.W.Write.contents c.print_head.new.out in
+    let d = g.W.Write.contents c.print_areas.new.out in
+    then_last _ _ _ _ _ c.print_areas.result c.in_ok-print_head.ensures
+    (subst (λ (n : ℕ). OnOk c.print_areas.result (Appends b d (areas_below c.args.geometry.now states n))) (sym all) c.print_areas.ensures)

@@ -1,0 +1,14 @@
+use Rattle.std.proofs.Common.{◌≡◌, length}
+use Rattle.lab_dump.specs.Rows.{within}
+use Rattle.lab_dump.specs.Scan.{IsReadTo}
+use Rattle.lab_dump.proofs.pass.take_pages.Given as goal
+
+abbrev pub invariant-loop-row : goal.invariant-loop-row
+invariant-loop-row g l =
+    record {
+      asked : g.T.Taker.asked l.taker ≡ g.T.Taker.asked l.fn.taker;
+      stands : g.T.Taker.stands l.taker l.geometry l.row;
+      body_whole : length l.body ≡ l.geometry.data_bytes;
+      spare_whole : length l.spare ≡ l.geometry.spare_bytes;
+      read : IsReadTo l.geometry l.row (g.R.Read.remaining l.fn.reader) (g.R.Read.remaining l.reader) (λ image. g.T.Taker.shows l.taker l.geometry l.row (within l.geometry l.rows image));
+    }

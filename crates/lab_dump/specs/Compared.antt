@@ -1,0 +1,33 @@
+-- What a dump comes to beside a certificate.
+use Rattle.std.specs.Prelude.{◌≡◌, ℕ, List, length}
+use Rattle.page_layout.specs.declared.geometry.Geometry.{Geometry}
+use Rattle.page_layout.specs.Raw.{raw_image}
+use Rattle.certificate.specs.Claim.{Claim}
+use Rattle.lab_dump.specs.Scan.{image_bytes}
+use Rattle.lab_dump.specs.declared.pass.ScanFault.{ScanFault}
+use Rattle.lab_dump.specs.declared.pass.ScanFault.TheVariants as scan
+use Rattle.lab_dump.specs.Written.{unsound_of}
+use Rattle.lab_dump.specs.declared.compare.Compared.{Compared}
+use Rattle.lab_dump.specs.declared.compare.CompareFault.{CompareFault}
+use Rattle.lab_dump.specs.declared.compare.CompareFault.TheVariants as fault
+use Rattle.lab_dump.specs.Lost.{lost_of}
+
+-- The bytes are as many as an image has. Of the image that they are, the sectors that have lost a page are told, and how many pages are neither
+-- erased nor sound.
+pub record IsComparedTo (g : Geometry) (c : Claim) (told : Compared) (bytes : List ℕ) : Type 0 where
+  pub whole : length bytes ≡ image_bytes g
+  pub lost_are : told.lost.items ≡ lost_of c g.sectors (raw_image g bytes)
+  pub unsound_is : told.unsound ≡ unsound_of (raw_image g bytes)
+
+-- the fault for that of a pass: what takes the pages never stops
+abbrev pub fault_of : ScanFault → CompareFault
+fault_of scan.WrongLength = fault.WrongLength
+fault_of scan.Source = fault.Source
+fault_of scan.Stopped = fault.Source
+
+-- `WrongLength` says that the bytes aren't as many as an image has
+abbrev pub IsUncompared : Geometry → CompareFault → List ℕ → Type 0
+IsUncompared g fault.GeometryDiffers bytes = Unit {0}
+IsUncompared g fault.WrongLength bytes = ¬ (length bytes ≡ image_bytes g)
+IsUncompared g fault.Source bytes = Unit {0}
+IsUncompared g fault.OutOfMemory bytes = Unit {0}

@@ -1,0 +1,44 @@
+-- what a page is
+pub mod Look
+-- a page as its bytes, and its single bits
+pub mod PageBytes
+-- a dump that a reader gives, page by page
+pub mod Scan
+-- the rows that are asked for
+pub mod Rows
+-- what is held of a sector while its array is written
+pub mod Held
+-- the pieces while they are written
+pub mod Writing
+-- what they are in the end
+pub mod Written
+-- the map of the array
+pub mod Map
+-- which sectors have lost a page, and which never have
+pub mod Lost
+-- what is held of a sector while it is compared
+pub mod Trace
+-- what a pass notes that compares
+pub mod Comparing
+-- what a comparison comes to
+pub mod Compared
+-- how many pages are of each sort
+pub mod Count
+-- how the keys and the table pages stand
+pub mod Keys
+-- what a pass notes that surveys
+pub mod Noted
+-- the survey as a whole
+pub mod Surveyed
+-- the page of a row
+pub mod Pages
+-- what the pages are that are looked at
+pub mod Sample
+-- what all pages tell of the blocks and the sectors
+pub mod Told
+-- which shapes a dump may have
+pub mod Shape
+-- the geometries that fit
+pub mod Fits
+-- what the definitions of what fits come to
+pub mod FitLaws

@@ -1,0 +1,21 @@
+-- What is held of a sector once some rows were looked at, and what it comes to in the end.
+use Rattle.std.specs.Prelude.{◌≡◌, ℕ, ◌&&◌, nat_lt, not, Bool, true, Option, is_some}
+use Rattle.std.specs.Int.{w64, from_le_bytes}
+use Rattle.page_layout.specs.declared.newest.Latest.{Latest}
+use Rattle.page_layout.specs.declared.newest.Latest.TheVariants as latest
+use Rattle.lab_dump.specs.declared.trace.Trace.{Trace}
+use Rattle.lab_dump.specs.declared.trace.Trace.TheVariants.{Never, Once, Tied}
+use Rattle.lab_dump.specs.Lost.{is_there}
+
+-- it says as much, but for the rows of a tie
+abbrev pub Tells : Trace → Latest → Type 0
+Tells Never latest.Never = Unit {0}
+Tells (Once at kept) (latest.Once row s) = (at ≡ row) × (from_le_bytes w64 kept ≡ s)
+Tells (Tied kept) (latest.Tied a b s) = from_le_bytes w64 kept ≡ s
+Tells _ _ = ⊥
+
+-- whether a sector has lost a page of which this is held in the end, by the row that is said of it and the sequence that was next
+abbrev pub lost_in : Option ℕ → ℕ → Trace → Bool
+lost_in said next Never = is_some said
+lost_in said next (Once at kept) = not (is_there said at) && nat_lt (from_le_bytes w64 kept) next
+lost_in said next (Tied kept) = true

@@ -1,0 +1,57 @@
+-- What was written in the end, and why nothing was.
+use Rattle.std.specs.Prelude.{◌≡◌, ◌↔◌, ℕ, ◌<◌, List, length, map, count_by, Option, IfSome}
+use Rattle.std.specs.List.{range_with_len}
+use Rattle.page_layout.specs.declared.geometry.Geometry.{Geometry}
+use Rattle.page_layout.specs.declared.record.Key.TheVariants.{Sector}
+use Rattle.page_layout.specs.Page.{Image}
+use Rattle.page_layout.specs.Raw.{raw_image}
+use Rattle.page_layout.specs.Newest.{latest_below}
+use Rattle.page_layout.specs.Array.{marks, array_of}
+use Rattle.page_layout.specs.Block.{is_broken}
+use Rattle.image_check.specs.Sector.{IsAmbiguous}
+use Rattle.lab_dump.specs.Scan.{image_bytes}
+use Rattle.lab_dump.specs.declared.pass.ScanFault.{ScanFault}
+use Rattle.lab_dump.specs.declared.pass.ScanFault.TheVariants as scan
+use Rattle.lab_dump.specs.declared.array.ArrayFault.{ArrayFault}
+use Rattle.lab_dump.specs.declared.array.ArrayFault.TheVariants as fault
+use Rattle.lab_dump.specs.declared.held.Held.{Held}
+use Rattle.lab_dump.specs.declared.held.State.{State}
+use Rattle.lab_dump.specs.declared.held.State.TheVariants as state
+use Rattle.lab_dump.specs.Held.{state_in, state_by}
+
+-- how sector n stands: with no sound page, with a newest one, or with two that share its greatest sequence
+unfoldable pub state_of : Image → ℕ → State
+state_of image n = state_by (latest_below (marks image) (Sector n) (length image))
+
+-- how each sector stands, in order
+unfoldable pub states_of : Geometry → Image → List State
+states_of g image = map (state_of image) (range_with_len 0 g.sectors)
+
+-- how many pages are neither erased nor sound
+unfoldable pub unsound_of : Image → ℕ
+unsound_of image = count_by is_broken image
+
+-- The bytes are as many as an image has, the pieces are the array of the image that they are, and what is held says how each sector
+-- stands and how many pages are neither erased nor sound.
+pub record IsWritten (g : Geometry) (pieces : Option (List (List ℕ))) (held : List Held) (unsound : ℕ) (bytes : List ℕ) : Type 0 where
+  pub whole : length bytes ≡ image_bytes g
+  pub array : IfSome pieces (λ ps. ps ≡ array_of g (raw_image g bytes))
+  pub states : map state_in held ≡ states_of g (raw_image g bytes)
+  pub unsound_is : unsound ≡ unsound_of (raw_image g bytes)
+
+-- the fault for that of a pass
+abbrev pub fault_of : ScanFault → ArrayFault
+fault_of scan.WrongLength = fault.WrongLength
+fault_of scan.Source = fault.Source
+fault_of scan.Stopped = fault.Target
+
+-- `WrongLength` says that the bytes aren't as many as an image has
+abbrev pub IsUnwritten : Geometry → ArrayFault → List ℕ → Type 0
+IsUnwritten g fault.WrongLength bytes = ¬ (length bytes ≡ image_bytes g)
+IsUnwritten g fault.Source bytes = Unit {0}
+IsUnwritten g fault.Target bytes = Unit {0}
+IsUnwritten g fault.OutOfMemory bytes = Unit {0}
+
+-- a sector is tied just where two of its pages share its greatest sequence
+abbrev pub TiedLaw : Type 0
+TiedLaw = (g : Geometry) (image : Image) (n : ℕ) → n < g.sectors → (state_of image n ≡ state.Tied) ↔ IsAmbiguous g image n

@@ -1,0 +1,194 @@
+//! All geometries that fit a dump.
+ghost use Rattle.std.specs.Prelude.{◌≡◌, ◌++◌, ◌+◌, ◌<◌, ◌≤◌, List, ℕ, All, length, IfOk, OnOk, Some, IsPermutation, Err, true};
+ghost use Rattle.std.specs.List.{flat_map};
+ghost use Rattle.std.specs.List.Sorted.{IsSorted};
+ghost use Rattle.page_layout.specs.Limits.{IsDataSize, IsSpareSize, IsPageCount};
+ghost use Rattle.lab_dump.specs.Shape.{page_counts};
+ghost use Rattle.lab_dump.specs.Fits.{shape_fits, area_fits, data_fits, fits_of, Adds, IsPossible, rank};
+
+use crate::dump::{Dump, DumpFault};
+use crate::fit::{Fit, fit_of};
+use crate::sample::{Sample, take_sample};
+use crate::shape::{data_sizes, first_shape, page_counts, shape};
+use crate::told::{Told, read_told};
+use std::alloc::{AllocError, Global};
+use thiserror::Error;
+
+// The most bytes that a page may have.
+const MOST_PAGE: usize = 4352;
+
+/// Why the geometries of a dump were not found.
+#[derive(Clone, Copy, Debug, PartialEq, Eq, Error)]
+pub enum FindFault {
+    /// The dump could not be read.
+    #[error("the dump could not be read")]
+    Source,
+    /// A growth was refused.
+    #[error("out of memory")]
+    OutOfMemory,
+}
+
+impl From<DumpFault> for FindFault {
+    ghost use Rattle.std.specs.Prelude.{◌≡◌};
+    ghost use Rattle.lab_dump.specs.declared.find.FindFault.{FindFault};
+
+    ghost from_gives = { λ _ fault. fault ≡ FindFault.Source };
+
+    fn from(_fault: DumpFault) -> FindFault {
+        FindFault::Source
+    }
+}
+
+impl From<AllocError> for FindFault {
+    ghost use Rattle.std.specs.Prelude.{◌≡◌};
+    ghost use Rattle.lab_dump.specs.declared.find.FindFault.{FindFault};
+
+    ghost from_gives = { λ _ fault. fault ≡ FindFault.OutOfMemory };
+
+    fn from(_error: AllocError) -> FindFault {
+        FindFault::OutOfMemory
+    }
+}
+
+// The geometry with so many pages in a block, if the dump's bytes are whole blocks of it.
+fn add_shape(
+    fits: &mut Vec<Fit>,
+    size: u64,
+    data_bytes: u32,
+    spare_bytes: u32,
+    pages: u32,
+    sample: Sample,
+    told: Told,
+) -> Result<(), AllocError>
+    requires data_size { IsDataSize data_bytes }
+    requires spare_size { IsSpareSize spare_bytes }
+    requires page_count { IsPageCount pages }
+    requires some_sound { 0 < sample.sound }
+    requires looked { sample.sound + sample.unsound ≤ sample.looked }
+    ensures added { OnOk result (fits.new.items ≡ fits.old.items ++ shape_fits size data_bytes spare_bytes sample told pages) }
+    ensures any { OnOk result (Adds 1 fits.old.items fits.new.items) }
+{
+    if let Some(geometry) = shape(size, data_bytes, spare_bytes, pages) {
+        fits.push(fit_of(&geometry, sample, told))?;
+    }
+    Ok(())
+}
+
+// Those with each number of pages in a block.
+fn add_shapes(
+    fits: &mut Vec<Fit>,
+    size: u64,
+    data_bytes: u32,
+    spare_bytes: u32,
+    sample: Sample,
+    told: Told,
+) -> Result<(), AllocError>
+    requires data_size { IsDataSize data_bytes }
+    requires spare_size { IsSpareSize spare_bytes }
+    requires some_sound { 0 < sample.sound }
+    requires looked { sample.sound + sample.unsound ≤ sample.looked }
+    ensures added { OnOk result (fits.new.items ≡ fits.old.items ++ flat_map (shape_fits size data_bytes spare_bytes sample told) page_counts) }
+    ensures any { OnOk result (Adds 7 fits.old.items fits.new.items) }
+{
+    for pages in page_counts() {
+        add_shape(fits, size, data_bytes, spare_bytes, pages, sample, told)?;
+    }
+    Ok(())
+}
+
+// Those with such areas, of a dump of so many bytes. `page` is scratch.
+fn add_areas<D: Dump>(
+    fits: &mut Vec<Fit>,
+    dump: &mut D,
+    size: u64,
+    data_bytes: u32,
+    spare_bytes: u32,
+    page: &mut [u8],
+) -> Result<(), FindFault>
+    requires data_size { IsDataSize data_bytes }
+    requires spare_size { IsSpareSize spare_bytes }
+    requires room { 4352 ≤ length page.old }
+    ensures added { OnOk result ((all : List ℕ) → D.bytes dump.old ≡ Some all → size ≡ length all → fits.new.items ≡ fits.old.items ++ area_fits all data_bytes spare_bytes) }
+    ensures any { OnOk result (Adds 7 fits.old.items fits.new.items) }
+    ensures source { result ≡ Err FindFault.Source → D.failed dump.new ≡ true }
+    ensures same { D.bytes dump.new ≡ D.bytes dump.old }
+{
+    let Some(geometry) = first_shape(size, data_bytes, spare_bytes) else {
+        return Ok(());
+    };
+    let page = &mut page[..(data_bytes + spare_bytes) as usize];
+    let sample = take_sample(dump, &geometry, page)?;
+    if sample.sound == 0 {
+        return Ok(());
+    }
+    let told = read_told(dump, &geometry, page)?;
+    add_shapes(fits, size, data_bytes, spare_bytes, sample, told)?;
+    Ok(())
+}
+
+// Those with a data area of so many bytes.
+fn add_data<D: Dump>(
+    fits: &mut Vec<Fit>,
+    dump: &mut D,
+    size: u64,
+    data_bytes: u32,
+    page: &mut [u8],
+) -> Result<(), FindFault>
+    requires data_size { IsDataSize data_bytes }
+    requires room { 4352 ≤ length page.old }
+    ensures added { OnOk result ((all : List ℕ) → D.bytes dump.old ≡ Some all → size ≡ length all → fits.new.items ≡ fits.old.items ++ data_fits all data_bytes) }
+    ensures any { OnOk result (Adds 1575 fits.old.items fits.new.items) }
+    ensures source { result ≡ Err FindFault.Source → D.failed dump.new ≡ true }
+    ensures same { D.bytes dump.new ≡ D.bytes dump.old }
+{
+    for spare_bytes in 32..257 {
+        add_areas(fits, dump, size, data_bytes, spare_bytes, page)?;
+    }
+    Ok(())
+}
+
+// Those with each data area.
+fn add_all<D: Dump>(
+    fits: &mut Vec<Fit>,
+    dump: &mut D,
+    size: u64,
+    page: &mut [u8],
+) -> Result<(), FindFault>
+    requires { 4352 ≤ length page.old }
+    ensures added { OnOk result ((all : List ℕ) → D.bytes dump.old ≡ Some all → size ≡ length all → fits.new.items ≡ fits.old.items ++ fits_of all) }
+    ensures any { OnOk result (Adds 11025 fits.old.items fits.new.items) }
+    ensures source { result ≡ Err FindFault.Source → D.failed dump.new ≡ true }
+    ensures same { D.bytes dump.new ≡ D.bytes dump.old }
+{
+    for data_bytes in data_sizes() {
+        add_data(fits, dump, size, data_bytes, page)?;
+    }
+    Ok(())
+}
+
+/// The geometries that fit a dump, best first, each with what the dump says for it. Looked at are, for each data area and each spare area
+/// that a die may have and whose sum divides the dump's bytes, the pages of at most 4096 rows. Where one of them is sound all pages are
+/// read, for what they tell of the blocks and the sectors, and each number of pages in a block that gives whole blocks is one geometry. Its
+/// sectors are the fewest that the pages tell of. A dump that none fits gives an empty list.
+///
+/// It holds one page, of at most 4352 bytes, and at most 11025 geometries, whatever the dump's size.
+///
+/// # Errors
+///
+/// Each when it happens: `Source` where the dump's size cannot be known or a read of it fails, `OutOfMemory` where a growth was refused.
+/// (This project's rules.)
+pub fn find_geometries<D: Dump>(alloc: Global, dump: &mut D) -> Result<Vec<Fit>, FindFault>
+    ensures found { IfOk result (λ fits. (all : List ℕ) → D.bytes dump.old ≡ Some all → IsPermutation (fits_of all) fits.items) }
+    ensures ranked { IfOk result (λ fits. IsSorted rank fits.items) }
+    ensures possible { IfOk result (λ fits. All IsPossible fits.items) }
+    ensures few { IfOk result (λ fits. length fits.items ≤ 11025) }
+    ensures source { result ≡ Err FindFault.Source → D.failed dump.new ≡ true }
+    ensures same { D.bytes dump.new ≡ D.bytes dump.old }
+{
+    let size = dump.size()?;
+    let mut page = vec![in alloc; 0; MOST_PAGE]?;
+    let mut fits = Vec::new(alloc);
+    add_all(&mut fits, dump, size, &mut page)?;
+    fits.sort_unstable();
+    Ok(fits)
+}

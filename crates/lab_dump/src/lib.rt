@@ -1,0 +1,60 @@
+//! What a dump tells, a raw image of one NAND die that a reader gives. The dump is never held: one page is.
+//!
+//! - `scan`: one pass over its pages, in row order: what each page is, handed to a taker.
+//! - `write_array`: every sector. Each page that is newer than what was seen of its sector is put in the sector's place of a target, so
+//!   that in the end the target holds the array of the image, sector by sector. And the map of the array: how each part of it stands, as
+//!   the mapfile of GNU ddrescue says it, so that tools that read such maps can tell a sector that was found from one that was not.
+//! - `compare_dump`: which sectors have lost a page since a certificate was made of its die.
+//! - `survey_dump`: how many pages are of each sort, how the keys stand, the state of each block, and each reason why the die would not
+//!   mount.
+//! - `find_geometries`: which geometries fit a dump of unknown shape, best first, each with what the dump says for it. It reads page by
+//!   page, at whatever place.
+#![tactic(auto)]
+
+mod area;
+mod array;
+mod compare;
+mod comparing;
+mod counts;
+mod dump;
+mod find;
+mod fit;
+mod held;
+mod keys;
+mod laws;
+mod look;
+mod map;
+mod page_bytes;
+mod page_target;
+mod pass;
+mod repeated;
+mod row_page;
+mod rows;
+mod sample;
+mod seeing;
+mod shape;
+mod survey;
+mod target;
+mod told;
+mod trace;
+mod writing;
+
+pub use array::{ArrayFault, Written, write_array};
+pub use compare::{CompareFault, Compared, compare_dump};
+pub use counts::{PageCounts, sorts_law};
+pub use dump::{Dump, DumpFault};
+pub use find::{FindFault, find_geometries};
+pub use fit::{Fit, TableSays};
+pub use held::{Held, State};
+pub use laws::{areas_law, fit_laws, looked_laws, lost_law, none_lost_law, told_laws};
+pub use look::{Look, look_at, look_with};
+pub use map::print_map;
+pub use page_bytes::{is_broken, is_sound, join_page};
+pub use page_target::{PageFault, PageTarget};
+pub use pass::{Cut, ScanFault, Stopped, Taker, expect_end, fill, scan, scan_rows};
+pub use rows::{Rows, asked_law, each_law, is_asked, within_law};
+pub use sample::Sample;
+pub use survey::{DieSurvey, SurveyFault, mounts_law, survey_dump};
+pub use target::{Target, TargetFault};
+pub use told::Told;
+pub use writing::Writing;

@@ -1,0 +1,119 @@
+//! The lines of a map.
+ghost use Rattle.std.specs.Prelude.{◌≡◌, ◌+◌, ◌<◌, ◌++◌, ◌∷◌, [], IfOk, OnOk, map, length, get_or};
+ghost use Rattle.std.specs.Io.KnownBytes.{Appends};
+ghost use Rattle.lab_dump.specs.Held.{state_in};
+ghost use Rattle.lab_dump.specs.Map.{area_line, area_words, areas_below, ends_at, first_of, is_like, map_head, map_text, remark_line, status_line};
+
+use crate::area::{Area, area_between};
+use crate::held::{Held, State};
+use page_layout::geometry::Geometry;
+use std::io::{self, Write};
+
+// How a sector stands.
+fn state_at(held: &[Held], sector: usize) -> State
+    requires { sector < length held.now }
+    ensures { result ≡ get_or (map state_in held.now) sector State.Absent }
+{
+    let kept = held[sector];
+    kept.state()
+}
+
+// Whether two sectors that stand so stand alike.
+fn is_like(state: State, next: State) -> bool
+    ensures { result ≡ is_like state next }
+{
+    match (state, next) {
+        (State::Absent, State::Absent)
+        | (State::Found, State::Found)
+        | (State::Tied, State::Tied) => true,
+        _ => false,
+    }
+}
+
+// Whether an area ends with a sector: the next one stands otherwise, or there is none.
+fn ends_at(held: &[Held], sector: usize) -> bool
+    requires { sector < length held.now }
+    ensures { result ≡ ends_at (map state_in held.now) sector }
+{
+    sector + 1 == held.len() || !is_like(state_at(held, sector), state_at(held, sector + 1))
+}
+
+// Prints the line of an area.
+fn print_area<W: Write>(out: &mut W, area: &Area) -> io::Result<()>
+    ensures { OnOk result (Appends (W.contents out.old) (W.contents out.new) (area_words area.now.position area.now.size area.now.state ++ (10 ∷ []))) }
+{
+    writeln!(out, "{area}")
+}
+
+// Prints the line of the area that ends with a sector, if one does, and answers the first sector of the area that the next one is of.
+fn print_end<W: Write>(
+    out: &mut W,
+    geometry: &Geometry,
+    held: &[Held],
+    first: u32,
+    sector: u32,
+) -> io::Result<u32>
+    requires sized { length held.now ≡ geometry.now.sectors }
+    requires within { sector < geometry.now.sectors }
+    requires first { first ≡ first_of (map state_in held.now) sector }
+    ensures next { IfOk result (λ next. next ≡ first_of (map state_in held.now) (sector + 1)) }
+    ensures line { OnOk result (Appends (W.contents out.old) (W.contents out.new) (area_line geometry.now (map state_in held.now) sector)) }
+{
+    if !ends_at(held, sector as usize) {
+        return Ok(first);
+    }
+    let state = state_at(held, sector as usize);
+    print_area(out, &area_between(geometry, first, sector, state))?;
+    Ok(sector + 1)
+}
+
+// Prints the lines of all areas.
+fn print_areas<W: Write>(out: &mut W, geometry: &Geometry, held: &[Held]) -> io::Result<()>
+    requires { length held.now ≡ geometry.now.sectors }
+    ensures { OnOk result (Appends (W.contents out.old) (W.contents out.new) (areas_below geometry.now (map state_in held.now) geometry.now.sectors)) }
+{
+    let mut first = 0;
+    for sector in 0..geometry.sectors() {
+        first = print_end(out, geometry, held, first, sector)?;
+    }
+    Ok(())
+}
+
+// Prints the remark.
+#[tactic(auto, unfolding(crate::specs::Map::remark_line))]
+fn print_remark<W: Write>(out: &mut W) -> io::Result<()>
+    ensures { OnOk result (Appends (W.contents out.old) (W.contents out.new) remark_line) }
+{
+    writeln!(out, "# Mapfile of an array, made by nandlab")
+}
+
+// Prints that the run has ended.
+#[tactic(auto, unfolding(crate::specs::Map::status_line))]
+fn print_status<W: Write>(out: &mut W) -> io::Result<()>
+    ensures { OnOk result (Appends (W.contents out.old) (W.contents out.new) status_line) }
+{
+    writeln!(out, "0x0 + 1")
+}
+
+// Prints the lines before those of the areas.
+fn print_head<W: Write>(out: &mut W) -> io::Result<()>
+    ensures { OnOk result (Appends (W.contents out.old) (W.contents out.new) map_head) }
+{
+    print_remark(out)?;
+    print_status(out)
+}
+
+/// Prints the map of an array of this geometry whose sectors are held so, all of them: one line an area, by rising position. Positions and
+/// sizes are bytes of the array.
+///
+/// # Errors
+///
+/// Where a write failed: a beginning of the map may stand there. (The form of the lines is that of GNU ddrescue's mapfile, the remark this
+/// project's.)
+pub fn print_map<W: Write>(out: &mut W, geometry: &Geometry, held: &[Held]) -> io::Result<()>
+    requires { length held.now ≡ geometry.now.sectors }
+    ensures { OnOk result (Appends (W.contents out.old) (W.contents out.new) (map_text geometry.now (map state_in held.now))) }
+{
+    print_head(out)?;
+    print_areas(out, geometry, held)
+}

@@ -1,0 +1,231 @@
+//! The pass over the pages of a dump.
+ghost use Rattle.std.specs.Prelude.{◌≡◌, ◌⊎◌, ◌+◌, ◌++◌, length, OnOk, IfErr, IfSome};
+ghost use Rattle.std.specs.Io.KnownBytes.{Consumes, IsAtEnd};
+ghost use Rattle.page_layout.specs.Geometry.{row_count};
+ghost use Rattle.page_layout.specs.Page.{Image};
+ghost use Rattle.lab_dump.specs.Rows.{within};
+ghost use Rattle.lab_dump.specs.Scan.{HasMore, IsCut, IsReadTo, IsTaken, IsUntaken};
+ghost use Rattle.lab_dump.specs.declared.pass.ScanFault.TheVariants as faults;
+
+use crate::rows::{Rows, show_page};
+use page_layout::geometry::Geometry;
+use std::io::Read;
+use thiserror::Error;
+
+/// Why a dump was not taken whole.
+#[derive(Clone, Copy, Debug, PartialEq, Eq, Error)]
+pub enum ScanFault {
+    /// It has not as many bytes as the die's pages have.
+    #[error("the dump has not as many bytes as the geometry says")]
+    WrongLength,
+    /// A read failed, or was interrupted.
+    #[error("the dump could not be read")]
+    Source,
+    /// The taker stopped.
+    #[error("the pages were not taken")]
+    Stopped,
+}
+
+/// A taker took a page and wants no more.
+#[derive(Clone, Copy, Debug, PartialEq, Eq)]
+pub struct Stopped;
+
+impl From<Stopped> for ScanFault {
+    ghost use Rattle.std.specs.Prelude.{◌≡◌};
+    ghost use Rattle.lab_dump.specs.declared.pass.ScanFault.{ScanFault};
+
+    ghost from_gives = { λ _ fault. fault ≡ ScanFault.Stopped };
+
+    fn from(_stopped: Stopped) -> ScanFault {
+        ScanFault::Stopped
+    }
+}
+
+/// What takes the pages of a dump one by one, by rising row.
+pub trait Taker {
+    ghost use Rattle.std.specs.Prelude.{◌≡◌, ◌<◌, ◌+◌, ℕ, length, slice_get, OnOk, Option, Some, None};
+    ghost use Rattle.page_layout.specs.declared.geometry.Geometry.{Geometry};
+    ghost use Rattle.page_layout.specs.Geometry.{row_count};
+    ghost use Rattle.page_layout.specs.Page.{Image, page};
+    ghost use Rattle.lab_dump.specs.declared.rows.Rows.{Rows};
+
+    /// The rows that are asked of it, where it makes a difference between rows. They stay the same.
+    ghost asked: { Self → Option Rows } = { λ _. None };
+
+    /// What holds of it once it took so many pages of a die of this geometry, whatever they were.
+    ghost stands: { Self → Geometry → ℕ → Type 0 };
+
+    /// What it has of this image's first pages, of which there are so many.
+    ghost shows: { Self → Geometry → ℕ → Image → Type 0 };
+
+    /// Takes the page of a row: its data area and its spare area.
+    ///
+    /// # Errors
+    ///
+    /// `Stopped` where it wants no more pages. Nothing is said of it then.
+    fn take(
+        &mut self,
+        geometry: &Geometry,
+        row: u32,
+        body: &[u8],
+        spare: &[u8],
+    ) -> Result<(), Stopped>
+        requires row_in { row < row_count geometry.now }
+        requires body_whole { length body.now ≡ geometry.now.data_bytes }
+        requires spare_whole { length spare.now ≡ geometry.now.spare_bytes }
+        requires stands { stands self.old geometry.now row }
+        ensures asked { OnOk result (asked self.new ≡ asked self.old) }
+        ensures stands { OnOk result (stands self.new geometry.now (row + 1)) }
+        ensures shows { OnOk result ((image : Image) → shows self.old geometry.now row image → slice_get image row ≡ Some (page body.now spare.now) → shows self.new geometry.now (row + 1) image) };
+}
+
+/// Why a buffer was not filled.
+#[derive(Clone, Copy, Debug, PartialEq, Eq)]
+pub enum Cut {
+    /// The reader's bytes ended.
+    Ended,
+    /// A read failed, or was interrupted.
+    Failed,
+}
+
+impl From<Cut> for ScanFault {
+    ghost use Rattle.lab_dump.specs.Scan.{fault_of};
+
+    ghost from_gives = { λ cut fault. fault ≡ fault_of cut };
+
+    fn from(cut: Cut) -> ScanFault {
+        match cut {
+            Cut::Ended => ScanFault::WrongLength,
+            Cut::Failed => ScanFault::Source,
+        }
+    }
+}
+
+/// Fills the buffer from the reader, and reads no further.
+///
+/// # Errors
+///
+/// `Ended` where the reader's bytes ended before the buffer was full, `Failed` where a read failed or was interrupted. The buffer then holds
+/// anything, and the reader gave fewer bytes than the buffer has. (This project's rules.)
+pub fn fill<R: Read>(reader: &mut R, buffer: &mut [u8]) -> Result<(), Cut>
+    ensures whole { OnOk result (Consumes (R.remaining reader.old) (R.remaining reader.new) buffer.new) }
+    ensures cut { IfErr result (IsCut (length buffer.new) (R.remaining reader.old) (R.remaining reader.new)) }
+{
+    let mut count = 0;
+    while count < buffer.len() {
+        match reader.read(&mut buffer[count..]) {
+            Ok(0) => return Err(Cut::Ended),
+            Ok(n) => count += n,
+            Err(_) => return Err(Cut::Failed),
+        }
+    }
+    Ok(())
+}
+
+// The next page: its data area and then its spare area.
+fn read_page<R: Read>(reader: &mut R, body: &mut [u8], spare: &mut [u8]) -> Result<(), Cut>
+    ensures whole { OnOk result (Consumes (R.remaining reader.old) (R.remaining reader.new) (body.new ++ spare.new)) }
+    ensures cut { IfErr result (IsCut (length body.new + length spare.new) (R.remaining reader.old) (R.remaining reader.new)) }
+{
+    fill(reader, body)?;
+    fill(reader, spare)
+}
+
+// Hands the page of each row asked for to the taker, in row order, as the reader gives them, and an erased one in place of each other.
+fn take_pages<R: Read, T: Taker>(
+    reader: &mut R,
+    geometry: &Geometry,
+    rows: Option<Rows>,
+    taker: &mut T,
+    body: &mut [u8],
+    spare: &mut [u8],
+) -> Result<(), ScanFault>
+    requires stands { T.stands taker.old geometry.now 0 }
+    requires shows { (image : Image) → T.shows taker.old geometry.now 0 image }
+    requires body_whole { length body.old ≡ geometry.now.data_bytes }
+    requires spare_whole { length spare.old ≡ geometry.now.spare_bytes }
+    ensures asked { OnOk result (T.asked taker.new ≡ T.asked taker.old) }
+    ensures stands { OnOk result (T.stands taker.new geometry.now (row_count geometry.now)) }
+    ensures read { OnOk result (IsReadTo geometry.now (row_count geometry.now) (R.remaining reader.old) (R.remaining reader.new) (λ image. T.shows taker.new geometry.now (row_count geometry.now) (within geometry.now rows image))) }
+    ensures untaken { IfErr result (λ fault. IfSome (R.remaining reader.old) (IsUntaken geometry.now fault)) }
+{
+    for row in 0..geometry.rows() {
+        read_page(reader, body, spare)?;
+        show_page(geometry, rows, row, body, spare);
+        taker.take(geometry, row, body, spare)?;
+    }
+    Ok(())
+}
+
+/// Sees that no byte is left. One is asked for at most.
+///
+/// # Errors
+///
+/// `WrongLength` where a byte is left, `Source` where a read failed or was interrupted. (This project's rules.)
+#[tactic(auto, using(crate::proofs::ScanLemmas::end_of_cut, crate::proofs::ScanLemmas::one_more))]
+pub fn expect_end<R: Read>(reader: &mut R) -> Result<(), ScanFault>
+    ensures ok { OnOk result (IsAtEnd (R.remaining reader.old)) }
+    ensures err { IfErr result (λ fault. (fault ≡ faults.Source) ⊎ ((fault ≡ faults.WrongLength) × HasMore (R.remaining reader.old))) }
+{
+    let mut byte = [0];
+    match fill(reader, &mut byte) {
+        Ok(()) => Err(ScanFault::WrongLength),
+        Err(Cut::Ended) => Ok(()),
+        Err(Cut::Failed) => Err(ScanFault::Source),
+    }
+}
+
+/// Hands each page of a dump to a taker, by rising row, and sees that no byte follows the last. `body` and `spare` are scratch of
+/// one page. For a reader that tells its bytes the taker then shows the image that these bytes are.
+///
+/// # Errors
+///
+/// `WrongLength` where the reader's bytes ended before the last page or a byte follows it, `Source` where a read failed or was
+/// interrupted, `Stopped` where the taker stopped: each when it happens. (This project's rules.)
+#[tactic(auto, unfolding(crate::specs::Rows::within))]
+pub fn scan<R: Read, T: Taker>(
+    reader: &mut R,
+    geometry: &Geometry,
+    taker: &mut T,
+    body: &mut [u8],
+    spare: &mut [u8],
+) -> Result<(), ScanFault>
+    requires stands { T.stands taker.old geometry.now 0 }
+    requires shows { (image : Image) → T.shows taker.old geometry.now 0 image }
+    requires body_whole { length body.old ≡ geometry.now.data_bytes }
+    requires spare_whole { length spare.old ≡ geometry.now.spare_bytes }
+    ensures asked { OnOk result (T.asked taker.new ≡ T.asked taker.old) }
+    ensures stands { OnOk result (T.stands taker.new geometry.now (row_count geometry.now)) }
+    ensures taken { OnOk result (IfSome (R.remaining reader.old) (IsTaken geometry.now (T.shows taker.new geometry.now (row_count geometry.now)))) }
+    ensures untaken { IfErr result (λ fault. IfSome (R.remaining reader.old) (IsUntaken geometry.now fault)) }
+{
+    scan_rows(reader, geometry, None, taker, body, spare)
+}
+
+/// The same for some rows: the page of each row that is asked for is handed to the taker, and an erased page in place of each other; where no
+/// rows are named, each is asked for. The dump is read whole.
+///
+/// # Errors
+///
+/// `WrongLength` where the reader's bytes ended before the last page or a byte follows it, `Source` where a read failed or was
+/// interrupted, `Stopped` where the taker stopped: each when it happens. (This project's rules.)
+pub fn scan_rows<R: Read, T: Taker>(
+    reader: &mut R,
+    geometry: &Geometry,
+    rows: Option<Rows>,
+    taker: &mut T,
+    body: &mut [u8],
+    spare: &mut [u8],
+) -> Result<(), ScanFault>
+    requires stands { T.stands taker.old geometry.now 0 }
+    requires shows { (image : Image) → T.shows taker.old geometry.now 0 image }
+    requires body_whole { length body.old ≡ geometry.now.data_bytes }
+    requires spare_whole { length spare.old ≡ geometry.now.spare_bytes }
+    ensures asked { OnOk result (T.asked taker.new ≡ T.asked taker.old) }
+    ensures stands { OnOk result (T.stands taker.new geometry.now (row_count geometry.now)) }
+    ensures taken { OnOk result (IfSome (R.remaining reader.old) (IsTaken geometry.now (λ image. T.shows taker.new geometry.now (row_count geometry.now) (within geometry.now rows image)))) }
+    ensures untaken { IfErr result (λ fault. IfSome (R.remaining reader.old) (IsUntaken geometry.now fault)) }
+{
+    take_pages(reader, geometry, rows, taker, body, spare)?;
+    expect_end(reader)
+}

@@ -1,0 +1,82 @@
+//! What one pass over the pages of a dump shows.
+ghost use Rattle.std.specs.Prelude.{◌≡◌, IfOk};
+ghost use Rattle.page_layout.specs.Page.{Image};
+ghost use Rattle.lab_dump.specs.Noted.{Stands, Shows};
+
+use crate::counts::{PageCounts, note_unsound};
+use crate::keys::{blank_table, note_formed, note_seen};
+use crate::pass::{Stopped, Taker};
+use bad_blocks::Table;
+use image_check::Survey;
+use page_layout::geometry::Geometry;
+use page_layout::record::is_erased;
+use std::alloc::{AllocError, Global};
+
+// What the pages of a dump show, as far as they were seen.
+#[derive(Drop)]
+pub(crate) struct Seeing {
+    // what a certificate is made of
+    pub(crate) survey: Survey,
+    pub(crate) counts: PageCounts,
+    // of each block, how many pages are neither erased nor sound
+    pub(crate) unsound: Vec<u32>,
+    // of each key, whether there is a sound page of it
+    pub(crate) seen: Vec<bool>,
+    // of each table page, whether its newest page is well formed
+    pub(crate) formed: Vec<bool>,
+    // scratch, to read table pages into
+    table: Table,
+}
+
+impl Seeing {
+    // Nothing seen yet. All its memory is taken here.
+    pub(crate) fn new(alloc: Global, geometry: &Geometry) -> Result<Seeing, AllocError>
+        ensures stands { IfOk result (Stands geometry.now 0) }
+        ensures shows { IfOk result (λ s. (image : Image) → Shows geometry.now 0 image s) }
+    {
+        let keys = geometry.sectors() + geometry.translation_pages() + geometry.table_pages();
+        Ok(Seeing {
+            survey: Survey::new(alloc, geometry)?,
+            counts: PageCounts::none(),
+            unsound: vec![in alloc; 0; geometry.blocks() as usize]?,
+            seen: vec![in alloc; false; keys as usize]?,
+            formed: vec![in alloc; false; geometry.table_pages() as usize]?,
+            table: blank_table(alloc, geometry.blocks())?,
+        })
+    }
+}
+
+impl Taker for Seeing {
+    ghost use Rattle.std.specs.Prelude.{◌≡◌, ◌<◌, ◌+◌, ℕ, length, slice_get, OnOk, Some};
+    ghost use Rattle.page_layout.specs.Geometry.{row_count};
+    ghost use Rattle.page_layout.specs.Page.{Image, page};
+    ghost use Rattle.lab_dump.specs.Noted.{Stands, Shows};
+
+    ghost stands = { λ s g rows. Stands g rows s };
+
+    ghost shows = { λ s g rows image. Shows g rows image s };
+
+    fn take(
+        &mut self,
+        geometry: &Geometry,
+        row: u32,
+        body: &[u8],
+        spare: &[u8],
+    ) -> Result<(), Stopped> {
+        let found = self.survey.see(row, body, spare);
+        let erased = is_erased(body, spare);
+        self.counts = self.counts.step(geometry, found, erased);
+        note_unsound(geometry, &mut self.unsound, row, found, erased);
+        note_seen(geometry, &mut self.seen, found);
+        note_formed(
+            geometry,
+            &mut self.table,
+            &mut self.formed,
+            &self.survey.newest,
+            row,
+            found,
+            body,
+        );
+        Ok(())
+    }
+}

@@ -1,0 +1,35 @@
+//! Where the sectors are written.
+use thiserror::Error;
+
+/// A write failed.
+#[derive(Clone, Copy, Debug, PartialEq, Eq, Error)]
+#[error("a sector could not be written")]
+pub struct TargetFault;
+
+/// A file of pieces of one size, one behind another, that is being written out of order. It is handed zeros, or a sound page.
+pub trait Target {
+    ghost use Rattle.std.specs.Prelude.{◌≡◌, ℕ, List, Option, OnOk, option_map, set, replicate, length};
+    ghost use Rattle.lab_dump.specs.Writing.{HoldsSector};
+
+    /// The pieces, in order, where they are known. Of a file of the system they aren't.
+    ghost pieces: { Self → Option (List (List ℕ)) };
+
+    /// Writes a page's data area as the piece of this number, counted from 0, in place of what stood there. It is as long as each piece.
+    /// The page, with this spare area, is sound and holds the sector of that number.
+    ///
+    /// # Errors
+    ///
+    /// Where it could not be written. Nothing is promised of the file then.
+    fn put(&mut self, number: u32, body: &[u8], spare: &[u8]) -> Result<(), TargetFault>
+        requires { HoldsSector number body.now spare.now }
+        ensures { OnOk result (pieces self.new ≡ option_map (λ ps. set ps number body.now) (pieces self.old)) };
+
+    /// Writes zeros as the piece of this number, in place of what stood there. They are as many as each piece has.
+    ///
+    /// # Errors
+    ///
+    /// As of `put`.
+    fn blank(&mut self, number: u32, zeros: &[u8]) -> Result<(), TargetFault>
+        requires { zeros.now ≡ replicate (length zeros.now) 0 }
+        ensures { OnOk result (pieces self.new ≡ option_map (λ ps. set ps number zeros.now) (pieces self.old)) };
+}

@@ -1,0 +1,143 @@
+//! What all pages tell of the blocks and the sectors.
+ghost use Rattle.std.specs.Prelude.{◌≡◌, ◌+◌, ◌*◌, ◌/◌, ◌<◌, ◌≤◌, ◌^◌, List, ℕ, length, take, IfOk, Some, OnErr, true};
+ghost use Rattle.page_layout.specs.Geometry.{page_bytes, row_count};
+ghost use Rattle.lab_dump.specs.Look.{look_of};
+ghost use Rattle.lab_dump.specs.Pages.{page_in};
+ghost use Rattle.lab_dump.specs.Told.{words_used, blocks_by, sectors_by, most_by, raised, told_of};
+
+use crate::dump::{Dump, DumpFault};
+use crate::look::{Look, look_at};
+use crate::row_page::read_row;
+use byteorder::{ByteOrder, LittleEndian};
+use page_layout::geometry::Geometry;
+use page_layout::record::{Kind, Record};
+use page_layout::word::read_word;
+
+// The classes of blocks are below this.
+const CLASSES: u32 = 3;
+
+/// What all sound pages of a dump tell together.
+#[derive(Clone, Copy, Debug, PartialEq, Eq)]
+pub struct Told {
+    /// The blocks that the table of blocks has words for, or 0 where there is no sound table page.
+    pub blocks: u64,
+    /// At least so many sectors the die has.
+    pub sectors: u64,
+}
+
+// How many words of a data area may be of blocks: their low byte is a class.
+fn words_used(body: &[u8]) -> u32
+    requires { length body.now ≤ 4096 }
+    ensures is { result ≡ words_used body.now }
+    ensures few { result ≤ 1024 }
+{
+    let entries = body.len() as u32 / 4;
+    let mut used = 0;
+    for i in 0..entries {
+        if read_word(body, i) % 256 < CLASSES {
+            used += 1;
+        }
+    }
+    used
+}
+
+// How many blocks a page tells of.
+fn blocks_by(look: Look, body: &[u8]) -> u64
+    requires { length body.now ≤ 4096 }
+    ensures { result ≡ blocks_by look body.now }
+{
+    let Look::Sound(
+        Record {
+            kind: Kind::Table,
+            number,
+            ..
+        },
+    ) = look
+    else {
+        return 0;
+    };
+    u64::from(number) * (body.len() as u64 / 4) + u64::from(words_used(body))
+}
+
+// How many sectors a page tells of, which has so many entries if it is a translation page.
+fn sectors_by(look: Look, entries: u32) -> u64
+    requires { entries ≤ 1024 }
+    ensures { result ≡ sectors_by look entries }
+{
+    let Look::Sound(found) = look else {
+        return 0;
+    };
+    match found.kind {
+        Kind::Sector | Kind::Trim => u64::from(found.number) + 1,
+        Kind::Translation => u64::from(found.number) * u64::from(entries) + 1,
+        Kind::Table => 0,
+    }
+}
+
+// The most that a page can tell whose spare bytes name a kind by this code, and this number.
+fn most_by(code: u8, number: u32, entries: u32) -> Told
+    requires { entries ≤ 1024 }
+    ensures { result ≡ most_by code number entries }
+{
+    let (number, entries) = (u64::from(number), u64::from(entries));
+    let (blocks, sectors) = match code {
+        4 => ((number + 1) * entries, 0),
+        3 => (0, number * entries + 1),
+        1 | 2 => (0, number + 1),
+        _ => (0, 0),
+    };
+    Told { blocks, sectors }
+}
+
+impl Told {
+    // What is told with one page more.
+    fn raised(self, look: Look, body: &[u8]) -> Told
+        requires { length body.now ≤ 4096 }
+        ensures { result ≡ raised self look body.now }
+    {
+        let entries = body.len() as u32 / 4;
+        Told {
+            blocks: self.blocks.max(blocks_by(look, body)),
+            sectors: self.sectors.max(sectors_by(look, entries)),
+        }
+    }
+
+    // The same by the bytes of the page. A page is not hashed that could not tell more if it were sound.
+    fn noted(self, geometry: &Geometry, page: &[u8]) -> Told
+        requires { length page.now ≡ page_bytes geometry.now }
+        ensures { result ≡ raised self (look_of (page_in geometry.now.data_bytes page.now)) (take geometry.now.data_bytes page.now) }
+    {
+        let (body, spare) = page.split_at(geometry.data_bytes());
+        let most = most_by(
+            spare[3],
+            LittleEndian::read_u32(&spare[4..8]),
+            geometry.entries(),
+        );
+        if most.blocks <= self.blocks && most.sectors <= self.sectors {
+            return self;
+        }
+        self.raised(look_at(geometry, body, spare), body)
+    }
+}
+
+/// What all pages tell together.
+pub(crate) fn read_told<D: Dump>(
+    dump: &mut D,
+    geometry: &Geometry,
+    page: &mut [u8],
+) -> Result<Told, DumpFault>
+    requires { length page.old ≡ page_bytes geometry.now }
+    ensures told { IfOk result (λ told. (all : List ℕ) → D.bytes dump.old ≡ Some all → told ≡ told_of geometry.now.data_bytes geometry.now.spare_bytes (row_count geometry.now) all) }
+    ensures failed { OnErr result (D.failed dump.new ≡ true) }
+    ensures same { D.bytes dump.new ≡ D.bytes dump.old }
+{
+    let mut told = Told {
+        blocks: 0,
+        sectors: 0,
+    };
+    for row in 0..geometry.rows() {
+        read_row(dump, row, page)?;
+        told = told.noted(geometry, page);
+    }
+    Ok(told)
+}

@@ -1,0 +1,59 @@
+//! What is held of each sector, in few bytes: there is one for each.
+ghost use Rattle.std.specs.Prelude.{◌≡◌, Some};
+ghost use Rattle.page_layout.specs.Greatest.{step};
+ghost use Rattle.page_layout.specs.declared.newest.Latest.{Latest};
+ghost use Rattle.lab_dump.specs.Lost;
+ghost use Rattle.lab_dump.specs.Trace.{Tells, lost_in};
+
+/// What is known of the newest page of a sector once some rows were looked at: what `Latest` says, but for the rows of a tie. A sequence stands
+/// lowest byte first: as a number it would be padded.
+#[derive(Clone, Copy)]
+pub enum Trace {
+    /// No sound page of it so far.
+    Never,
+    /// Its newest page stands in this row, and has this sequence.
+    Once(u32, [u8; 8]),
+    /// Two pages share the greatest sequence, this one.
+    Tied([u8; 8]),
+}
+
+// Whether this is the row that is said, if one is.
+fn is_there(said: Option<u32>, row: u32) -> bool
+    ensures { result ≡ Rattle.lab_dump.specs.Lost.is_there said row }
+{
+    match said {
+        Some(said) => said == row,
+        None => false,
+    }
+}
+
+impl Trace {
+    // What is held with one sound page of the sector more, of this row, which is later than all so far.
+    pub(crate) fn step(self, row: u32, sequence: u64) -> Trace
+        ensures { (latest : Latest) → Tells self latest → Tells result (step latest row (Some sequence)) }
+    {
+        let kept = match self {
+            Trace::Never => return Trace::Once(row, sequence.to_le_bytes()),
+            Trace::Once(_, kept) | Trace::Tied(kept) => kept,
+        };
+        let greatest = u64::from_le_bytes(kept);
+        if greatest < sequence {
+            Trace::Once(row, sequence.to_le_bytes())
+        } else if greatest == sequence {
+            Trace::Tied(kept)
+        } else {
+            self
+        }
+    }
+
+    // Whether the sector has lost a page, by the row that is said of it and the sequence that was next.
+    pub(crate) fn is_lost(self, said: Option<u32>, next: u64) -> bool
+        ensures { result ≡ lost_in said next self }
+    {
+        match self {
+            Trace::Never => said.is_some(),
+            Trace::Once(row, kept) => !is_there(said, row) && u64::from_le_bytes(kept) < next,
+            Trace::Tied(_) => true,
+        }
+    }
+}

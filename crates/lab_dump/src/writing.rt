@@ -1,0 +1,116 @@
+//! What takes the pages and writes the sectors.
+ghost use Rattle.std.specs.Prelude.{◌≡◌, ◌<◌, ◌≤◌, ◌+◌, ℕ, List, OnOk, length, slice_get, Some};
+ghost use Rattle.page_layout.specs.Geometry.{row_count};
+ghost use Rattle.page_layout.specs.Page.{Page, Image, page};
+ghost use Rattle.page_layout.specs.Array.{content_of_kind, zeros};
+ghost use Rattle.page_layout.specs.Sound.{record_of};
+ghost use Rattle.lab_dump.specs.Held.{pieces_after};
+ghost use Rattle.page_layout.specs.declared.record.Kind.TheVariants as kinds;
+ghost use Rattle.lab_dump.specs.Writing.{HoldsSector, Stands, Shows};
+
+use crate::held::{Change, Held};
+use crate::look::{Look, look_at};
+use crate::pass::{Stopped, Taker};
+use crate::target::{Target, TargetFault};
+use page_layout::geometry::Geometry;
+use page_layout::record::{Key, Kind, Record};
+
+/// The sectors of an image as they are written: what is held of each, and the file that they go to.
+#[derive(Drop)]
+pub struct Writing<T> {
+    pub(crate) held: Vec<Held>,
+    // a sector's bytes where it has none
+    pub(crate) zeros: Vec<u8>,
+    // the pages that are neither erased nor sound
+    pub(crate) unsound: u32,
+    pub(crate) target: T,
+}
+
+// Writes what a sector's page, of this data area and this spare area, does to its bytes.
+fn put_change<T: Target>(
+    target: &mut T,
+    geometry: &Geometry,
+    sector: u32,
+    kind: Kind,
+    change: Change,
+    areas: (&[u8], &[u8]),
+    blank: &[u8],
+) -> Result<(), TargetFault>
+    requires blank { blank.now ≡ zeros geometry.now }
+    requires sound { kind ≡ kinds.Sector → HoldsSector sector areas.0.now areas.1.now }
+    ensures { OnOk result (T.pieces target.new ≡ pieces_after change sector (content_of_kind geometry.now kind areas.entry.0.now) (zeros geometry.now) (T.pieces target.old)) }
+{
+    match change {
+        Change::Stays => Ok(()),
+        Change::Newest if kind == Kind::Sector => target.put(sector, areas.0, areas.1),
+        Change::Newest | Change::Tie => target.blank(sector, blank),
+    }
+}
+
+impl<T: Target> Writing<T> {
+    // Takes a sound page.
+    fn take_sound(
+        &mut self,
+        geometry: &Geometry,
+        row: u32,
+        found: &Record,
+        body: &[u8],
+        spare: &[u8],
+    ) -> Result<(), Stopped>
+        requires row_in { row < row_count geometry.now }
+        requires looked { record_of (page body.now spare.now) ≡ Some found.now }
+        requires stands { Stands geometry.now row self.old.held.items self.old.zeros.items self.old.unsound (T.pieces self.old.target) }
+        ensures stands { OnOk result (Stands geometry.now (row + 1) self.new.held.items self.new.zeros.items self.new.unsound (T.pieces self.new.target)) }
+        ensures shows { OnOk result ((image : Image) (p : Page) → Shows geometry.now row image self.old.held.items self.old.unsound (T.pieces self.old.target) → slice_get image row ≡ Some p → body.now ≡ p.body → record_of p ≡ Some found.now
+            → Shows geometry.now (row + 1) image self.new.held.items self.new.unsound (T.pieces self.new.target)) }
+    {
+        let Key::Sector(sector) = found.key() else {
+            return Ok(());
+        };
+        if sector >= geometry.sectors() {
+            return Ok(());
+        }
+        let (held, change) = self.held[sector as usize].step(found.sequence);
+        self.held[sector as usize] = held;
+        match put_change(
+            &mut self.target,
+            geometry,
+            sector,
+            found.kind,
+            change,
+            (body, spare),
+            &self.zeros,
+        ) {
+            Ok(()) => Ok(()),
+            Err(_) => Err(Stopped),
+        }
+    }
+}
+
+impl<T: Target> Taker for Writing<T> {
+    ghost use Rattle.std.specs.Prelude.{◌≡◌, ◌<◌, ◌+◌, ℕ, length, slice_get, OnOk, Some};
+    ghost use Rattle.page_layout.specs.Geometry.{row_count};
+    ghost use Rattle.page_layout.specs.Page.{Image, page};
+    ghost use Rattle.lab_dump.specs.Writing.{Stands, Shows};
+
+    ghost stands = { λ s g rows. Stands g rows s.held.items s.zeros.items s.unsound (T.pieces s.target) };
+
+    ghost shows = { λ s g rows image. Shows g rows image s.held.items s.unsound (T.pieces s.target) };
+
+    fn take(
+        &mut self,
+        geometry: &Geometry,
+        row: u32,
+        body: &[u8],
+        spare: &[u8],
+    ) -> Result<(), Stopped> {
+        match look_at(geometry, body, spare) {
+            Look::Erased => Ok(()),
+            Look::Unsound => {
+                self.unsound += 1;
+                Ok(())
+            }
+            Look::Sound(found) => self.take_sound(geometry, row, &found, body, spare),
+        }
+    }
+}

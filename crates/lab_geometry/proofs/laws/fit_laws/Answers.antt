@@ -1,6 +1,0 @@
-use Rattle.lab_geometry.proofs.MemberLemmas.{fit_law, own_law}
-use Rattle.lab_geometry.proofs.OnceLemmas.{once_law}
-use Rattle.lab_geometry.proofs.laws.fit_laws.Goals as goal
-
-pub returns : goal.returns
-returns c = record { fit = fit_law; once = once_law; own = own_law }

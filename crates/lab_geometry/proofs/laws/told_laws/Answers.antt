@@ -1,5 +1,0 @@
-use Rattle.lab_geometry.proofs.LawLemmas.{greatest_law, within_law, lower_law, table_law}
-use Rattle.lab_geometry.proofs.laws.told_laws.Goals as goal
-
-pub returns : goal.returns
-returns c = record { greatest = greatest_law; within = within_law; lower = lower_law; table = table_law }

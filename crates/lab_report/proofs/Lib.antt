@@ -1,2 +1,0 @@
-pub mod PrintLemmas
-pub mod ValueLemmas

@@ -1,3 +1,0 @@
-pub mod PageLemmas
-pub mod ScanLemmas
-pub mod RowLemmas

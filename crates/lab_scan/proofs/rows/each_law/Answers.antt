@@ -1,5 +1,0 @@
-use Rattle.lab_scan.proofs.RowLemmas.{each_law}
-use Rattle.lab_scan.proofs.rows.each_law.Goals as goal
-
-pub returns : goal.returns
-returns c = each_law

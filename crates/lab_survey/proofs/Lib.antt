@@ -1,4 +1,0 @@
-pub mod CountLemmas
-pub mod KeyLemmas
-pub mod RepeatLemmas
-pub mod MountsLemmas

@@ -1,4 +1,0 @@
-pub mod Bytes
-pub mod Joining
-pub mod Fronts
-pub mod FlatLemmas

@@ -1,2 +1,0 @@
--- a device of sectors as bytes
-pub mod Flat
