@@ -1,11 +1,11 @@
 #!/usr/bin/env python3
-"""Holds the geometries that fit a dump, as `lab_geometry` finds them, against the independent reference, on dumps of pseudorandom making;
+"""Holds the geometries that fit a dump, as `lab_dump` finds them, against the independent reference, on dumps of pseudorandom making;
 with `--time`, times them on a dump of 264 MiB beside `sha256sum`.
 
     [FIND=..] bench/geometry.py [CASES] [SEED]
     [FIND=..] bench/geometry.py --time
 
-FIND is a program built of bench/geometry_program.txt over `lab_geometry` (a crate of its own, with `rt run`). It prints a line for each
+FIND is a program built of bench/geometry_program.txt over `lab_dump` (a crate of its own, with `rt run`). It prints a line for each
 geometry, best first. It is counted in how many dumps the dump's own geometry comes first."""
 
 import os
