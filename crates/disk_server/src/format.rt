@@ -20,30 +20,6 @@ pub enum CreateFault {
     Sync,
 }
 
-// Why a die was not formatted.
-#[derive(Clone, Copy)]
-struct FormatText(FormatFault);
-
-impl fmt::Display for FormatText {
-    ghost use Rattle.std.specs.Prelude.{Some};
-    ghost use Rattle.disk_server.specs.Words.{format_words};
-
-    ghost output = { λ text. Some (format_words text.0) };
-
-    fn fmt<W: fmt::Write>(&self, f: &mut fmt::Formatter<W>) -> fmt::Result {
-        match self.0 {
-            FormatFault::TooFewGood { good, need } => write!(
-                f,
-                "TooFewGood good {good} need {need}"
-            ),
-            FormatFault::Bus => f.write_str("Bus"),
-            FormatFault::OutOfMemory => f.write_str("OutOfMemory"),
-            FormatFault::WriteFailed => f.write_str("WriteFailed"),
-            FormatFault::NotFresh { row } => write!(f, "NotFresh row {row}"),
-        }
-    }
-}
-
 impl Error for CreateFault {}
 
 impl fmt::Display for CreateFault {
@@ -55,9 +31,15 @@ impl fmt::Display for CreateFault {
     fn fmt<W: fmt::Write>(&self, f: &mut fmt::Formatter<W>) -> fmt::Result {
         match *self {
             CreateFault::Open(why) => write!(f, "{why}"),
-            CreateFault::Format(fault) => {
-                let why = FormatText(fault);
-                write!(f, "Format {why}")
+            CreateFault::Format(FormatFault::TooFewGood { good, need }) => write!(
+                f,
+                "Format TooFewGood good {good} need {need}"
+            ),
+            CreateFault::Format(FormatFault::Bus) => f.write_str("Format Bus"),
+            CreateFault::Format(FormatFault::OutOfMemory) => f.write_str("Format OutOfMemory"),
+            CreateFault::Format(FormatFault::WriteFailed) => f.write_str("Format WriteFailed"),
+            CreateFault::Format(FormatFault::NotFresh { row }) => {
+                write!(f, "Format NotFresh row {row}")
             }
             CreateFault::Sync => f.write_str("Sync"),
         }

@@ -2,7 +2,11 @@
 ghost use Rattle.std.specs.Prelude.{◌≡◌, ◌≤◌, true, IfOk, IfErr};
 ghost use Rattle.page_layout.specs.Array.{array_of};
 ghost use Rattle.page_layout.specs.OnlyReads.{OnlyReads};
+ghost use Rattle.certificate.specs.Claim.{sizes_of};
+ghost use Rattle.collection.specs.Safe.{ram};
+ghost use Rattle.ftl_device.specs.Begin.{begun_ram};
 ghost use Rattle.ftl_device.specs.Calls.{array_in};
+ghost use Rattle.ftl_device.specs.Device.{IsAcceptedFor};
 ghost use Rattle.disk_server.specs.Disk.{contents_of, holds};
 ghost use Rattle.disk_server.specs.Flat.{flat};
 ghost use Rattle.disk_server.specs.Open.{nand_of};
@@ -17,6 +21,28 @@ use mount::{Mounted, mount_counted};
 use onfi_cycles::Nand;
 use page_layout::geometry::Geometry;
 use std::alloc::Global;
+
+// The disk of a device that is started over a die whose image was mounted. The die comes back where a growth was refused.
+fn start_disk<'a, N: Nand>(
+    alloc: Global,
+    nand: N,
+    accepted: Accepted<'a>,
+) -> Result<SectorDisk<DeviceDisk<N>>, N>
+    requires same_geometry { sizes_of (N.flash nand).geometry ≡ accepted.claim.sizes }
+    requires accepted { N.honest nand ≡ true → IsAcceptedFor (N.flash nand) accepted }
+    ensures nand { IfOk result (λ d. d.engine.nand ≡ nand) }
+    ensures begun { IfOk result (λ d. ram d.engine ≡ begun_ram (N.flash nand).geometry accepted.entry.claim accepted.entry.stale) }
+    ensures back { IfErr result (λ back. back ≡ nand) }
+{
+    let disk = match DeviceDisk::start(alloc, nand, accepted) {
+        Ok(disk) => disk,
+        Err(StartFault::OutOfMemory { nand, .. }) => return Err(nand),
+    };
+    match SectorDisk::new(alloc, disk) {
+        Ok(disk) => Ok(disk),
+        Err(disk) => Err(disk.into_device().into_nand()),
+    }
+}
 
 /// Mounts what a die holds, and starts a device from it: of a die that is honest, the disk has the array that the image holds, byte by byte, and is
 /// honest. The certificate of a mount agrees with the image, so it is not checked again, and each page is looked at once, the newest translation pages
@@ -50,18 +76,10 @@ pub fn open_mounted<N: Nand>(
         Err(refusal) => return Err(OpenFault::Refused { refusal, nand }),
     };
     let accepted = Accepted::new(&certificate, stale);
-    let disk = match DeviceDisk::start(alloc, nand, accepted) {
-        Ok(disk) => disk,
-        Err(StartFault::OutOfMemory { nand, .. }) => return Err(OpenFault::Start { nand }),
-    };
-    let disk = match SectorDisk::new(alloc, disk) {
-        Ok(disk) => disk,
-        Err(disk) => {
-            let nand = disk.into_device().into_nand();
-            return Err(OpenFault::Start { nand });
-        }
-    };
-    Ok(disk)
+    match start_disk(alloc, nand, accepted) {
+        Ok(disk) => Ok(disk),
+        Err(nand) => Err(OpenFault::Start { nand }),
+    }
 }
 
 /// The die behind a disk. That of one which holds its array holds it too.
