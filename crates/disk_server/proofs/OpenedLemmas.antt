@@ -1,7 +1,13 @@
 -- The store behind a driver, once the driver was asked for reads alone.
-use Rattle.std.proofs.Common.{◌≡◌, ◌≢◌, ℕ, Bool, true, Result, Err, sym, ap, ◌∙◌, subst}
+use Rattle.std.proofs.Common.{◌≡◌, ◌≢◌, ℕ, Bool, true, Result, Err, sym, ap, ◌∙◌, subst, replicate, if◌then◌else◌}
 use Rattle.page_layout.specs.declared.geometry.Geometry.{Geometry}
+use Rattle.page_layout.specs.Array.{array_of, zeros}
 use Rattle.page_layout.specs.Flash.{Flash}
+use Rattle.page_layout.specs.Page.{Image}
+use Rattle.ftl_device.specs.declared.device.Device.{Device}
+use Rattle.ftl_device.specs.Calls.{array_in}
+use Rattle.disk_server.specs.Disk.{contents_of, holds}
+use Rattle.disk_server.specs.Flat.{flat}
 use Rattle.onfi_cycles.specs.Driver.{DriverState}
 use Rattle.file_die.specs.Store.{Held}
 use Rattle.file_die.specs.Die.{FileState}
@@ -13,7 +19,7 @@ use Rattle.disk_server.specs.declared.open.OpenFault.{OpenFault}
 use Rattle.disk_server.specs.declared.open.OpenFault.TheVariants.{Refused, Start}
 use Rattle.disk_server.specs.Open.{nand_of}
 use Rattle.mount.specs.Mounted.{Refuses}
-use Rattle.disk_server.specs.Opened.{ComesBack, HasCome, IsUnmounted, IsUnopened, IsUnopenedAt, flash_in, is_honest_in, why_of}
+use Rattle.disk_server.specs.Opened.{ComesBack, HasCome, IsUnmounted, IsUnopened, IsUnopenedAt, bytes_of, flash_in, is_honest_in, why_of}
 
 -- a driver that was made over a store
 pub record IsOver {S : Type 0} (held : S → Held) (honest : S → Bool) (store : S) (d : DriverState (FileState S)) : Type 0 where
@@ -59,6 +65,18 @@ comes held honest store d e given fault over behind same = record {
   geometry = λ is set. geometry_back held honest store d e given over behind is;
   pages = λ is set read. pages_back held honest store d e given over behind is (same read (over.as_honest ∙ is));
 }
+
+-- the bytes of a disk that was started over it
+pub opened_bytes : {S : Type 0} (held : S → Held) (honest : S → Bool) (store : S) (driver : DriverState (FileState S)) (g : Geometry) (d : Device (DriverState (FileState S)))
+    → IsOver held honest store driver → g ≡ (held store).geometry → holds (is_honest_in honest) d ≡ is_honest_in honest driver
+    → (is_honest_in honest driver ≡ true → array_in (flash_in held) d ≡ array_of g (flash_in held driver).image)
+    → honest store ≡ true → (contents_of (flash_in held) (is_honest_in honest) d).bytes ≡ bytes_of (held store)
+opened_bytes held honest store driver g d over same held_is array is =
+    let begun = over.as_honest ∙ is in
+    ap (λ (b : Bool). flat (if b then array_in (flash_in held) d else replicate d.engine.geometry.sectors (zeros d.engine.geometry))) (held_is ∙ begun)
+    ∙ ap flat (array begun)
+    ∙ ap (λ (x : Geometry). flat (array_of x (flash_in held driver).image)) same
+    ∙ ap (λ (image : Image). flat (array_of (held store).geometry image)) (over.pages is)
 
 -- the store of a die that was not mounted, or on which no device was started
 pub unopened_come : {S : Type 0} (held : S → Held) (honest : S → Bool) (store : S) (d : DriverState (FileState S)) (g : Geometry) (capacity : ℕ) (fault : OpenFault (DriverState (FileState S))) (given : S)
