@@ -3,15 +3,12 @@ use Rattle.std.proofs.Common.{◌≡◌, inl, inr, ℕ, List, Option, Some, None
 use Rattle.std.specs.Prelude.{◌⊎◌, IsSomeAnd}
 use Rattle.std.specs.Borrow.{Bor}
 use Rattle.page_layout.specs.declared.geometry.Geometry.{Geometry}
-use Rattle.lab_dump.specs.declared.array.ArrayFault.{ArrayFault}
-use Rattle.lab_dump.specs.declared.array.ArrayFault.TheVariants as array
-use Rattle.lab_dump.specs.Written.{IsUnwritten as IsArrayUnwritten}
 use Rattle.lab_commands.specs.declared.words.ArrayWords.{ArrayWords}
 use Rattle.lab_commands.specs.declared.text.LabFault.{LabFault}
 use Rattle.lab_commands.specs.declared.text.LabFault.TheVariants as fault
 use Rattle.lab_commands.specs.Files.{Answers, AnswersNoMore, IsOpened, Kept}
 use Rattle.lab_commands.specs.Undone.{IsGeometryAt, IsNoGeometry, IsUnmade, IsUnread, IsUnwritten}
-use Rattle.lab_commands.specs.Array.{AreAllowed, AreNotAllowed, IsArrayFault, IsMapNotAllowed, IsUnmapped, told_as}
+use Rattle.lab_commands.specs.Array.{AreAllowed, AreNotAllowed, IsArrayFault, IsMapNotAllowed, IsUnmapped}
 use Rattle.lab_commands.proofs.UndoneLemmas.{left_all, unwritten_before}
 
 -- ---- whether FILE may be written
@@ -30,14 +27,6 @@ pub map_unasked_dump : (a : Answers) (words : ArrayWords) (file : List ℕ) (tol
 map_unasked_dump a words file fault.OutOfMemory k = inr (inr k)
 map_unasked_dump a words file (fault.Read word) k = inr (inr k)
 map_unasked_dump a words file _ k = absurd k
-
--- ---- the dump and OUT
-
-pub unmade : (a : Answers) (words : ArrayWords) (g : Geometry) (known : Option (List ℕ)) (f : ArrayFault) → IsOpened a words.dump.now known → IfSome known (IsArrayUnwritten g f) → IsUnmade a g words.dump.now words.out.now (told_as f words)
-unmade a words g known array.WrongLength opened h = inr (inl (record { known = known; opened = opened; other = h }))
-unmade a words g known array.Source opened h = inr (inl (refl, record { known = known; opened = opened }))
-unmade a words g known array.Target opened h = inr (inr (inr (refl, record { known = known; opened = opened })))
-unmade a words g known array.OutOfMemory opened h = inr (inl (record { known = known; opened = opened }))
 
 -- ---- the map
 

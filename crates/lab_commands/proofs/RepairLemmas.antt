@@ -2,26 +2,13 @@
 use Rattle.std.proofs.Common.{◌≡◌, inl, inr, ℕ, List, Option, IfSome, refl}
 use Rattle.page_layout.specs.declared.geometry.Geometry.{Geometry}
 use Rattle.lab_dump.specs.declared.rows.Rows.{Rows}
-use Rattle.lab_mend.specs.declared.repair.RepairFault.{RepairFault}
-use Rattle.lab_mend.specs.declared.repair.RepairFault.TheVariants as repair
-use Rattle.lab_mend.specs.Repaired.{IsUnrepaired}
 use Rattle.lab_commands.specs.declared.words.RepairWords.{RepairWords}
 use Rattle.lab_commands.specs.declared.text.LabFault.{LabFault}
 use Rattle.lab_commands.specs.Files.{Answers, IsOpened, Kept}
 use Rattle.lab_commands.specs.Rows.{AreNoRows, AreRowsAt}
 use Rattle.lab_commands.specs.Undone.{IsGeometryAt, IsNoGeometry, IsUnmade, MayNotWrite, MayWrite}
-use Rattle.lab_commands.specs.Repair.{IsRepairFault, repair_told}
+use Rattle.lab_commands.specs.Repair.{IsRepairFault}
 use Rattle.lab_commands.proofs.UndoneLemmas.{left_all}
-
--- ---- the dump and OUT
-
-pub unmended : (a : Answers) (words : RepairWords) (g : Geometry) (known : Option (List ℕ)) (f : RepairFault) → IsOpened a words.dump.now known → IfSome known (IsUnrepaired g f) → IsUnmade a g words.dump.now words.out.now (repair_told f words)
-unmended a words g known repair.WrongLength opened h = inr (inl (record { known = known; opened = opened; other = h }))
-unmended a words g known repair.Source opened h = inr (inl (refl, record { known = known; opened = opened }))
-unmended a words g known repair.Target opened h = inr (inr (inr (refl, record { known = known; opened = opened })))
-unmended a words g known repair.OutOfMemory opened h = inr (inl (record { known = known; opened = opened }))
-
--- ---- the command
 
 pub no_geometry : (a : Answers) (words : RepairWords) (k : Option (List Kept)) (out : Option (List ℕ)) (told : LabFault) → IsNoGeometry words.geometry.now told → IsRepairFault a words k k out out told
 no_geometry a words k out told h = inl (left_all k k out refl, inl h)

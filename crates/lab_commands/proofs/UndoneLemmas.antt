@@ -3,12 +3,16 @@ use Rattle.std.proofs.Common.{◌≡◌, inl, inr, ℕ, Bool, true, List, Option
 use Rattle.std.specs.Prelude.{Result, Ok, Err, IfErr}
 use Rattle.std.specs.Result.{IsErrAnd}
 use Rattle.std.proofs.KnownBytes.{Keeps-refl}
+use Rattle.std.specs.Borrow.{Bor}
 use Rattle.page_layout.specs.declared.geometry.Geometry.{Geometry}
+use Rattle.lab_dump.specs.declared.make_fault.MakeFault.{MakeFault}
+use Rattle.lab_dump.specs.declared.make_fault.MakeFault.TheVariants as make
+use Rattle.lab_dump.specs.Unmade.{IsUnmade as IsUnmadeBy}
 use Rattle.lab_commands.specs.declared.text.LabFault.{LabFault}
 use Rattle.lab_commands.specs.declared.text.LabFault.TheVariants as fault
 use Rattle.lab_commands.specs.declared.files.FileFault.TheVariants as file
 use Rattle.lab_commands.specs.Files.{Answers, AnswersNoMore, IsOpened, Kept}
-use Rattle.lab_commands.specs.Undone.{IsUnread, IsUntaken, IsUnwritten, LeavesAll, MayNotWrite, Opens}
+use Rattle.lab_commands.specs.Undone.{IsUnmade, IsUnread, IsUntaken, IsUnwritten, LeavesAll, MayNotWrite, Opens, unmade_as}
 
 pub left_all : (before after : Option (List Kept)) (out : Option (List ℕ)) → after ≡ before → LeavesAll before after out out
 left_all before after out same = record { kept = same; silent = Keeps-refl out }
@@ -58,6 +62,14 @@ untaken_before a b g path fault.WrongLength h k = record { known = k.known; open
 untaken_before a b g path fault.OutOfMemory h k = opens_before a b path h k
 untaken_before a b g path (fault.Read word) h k = (k.0, opens_before a b path h k.1)
 untaken_before a b g path _ h k = absurd k
+
+-- ---- the dump and OUT
+
+pub unmade : (a : Answers) (dump out : Bor (List ℕ)) (g : Geometry) (known : Option (List ℕ)) (f : MakeFault) → IsOpened a dump.now known → IfSome known (IsUnmadeBy g f) → IsUnmade a g dump.now out.now (unmade_as f dump out)
+unmade a dump out g known make.WrongLength opened h = inr (inl (record { known = known; opened = opened; other = h }))
+unmade a dump out g known make.Source opened h = inr (inl (refl, record { known = known; opened = opened }))
+unmade a dump out g known make.Target opened h = inr (inr (inr (refl, record { known = known; opened = opened })))
+unmade a dump out g known make.OutOfMemory opened h = inr (inl (record { known = known; opened = opened }))
 
 -- ---- whether a file may be written
 

@@ -3,8 +3,6 @@ use Rattle.std.specs.Prelude.{◌≡◌, ◌⊎◌, ℕ, true, false, List, [], 
 use Rattle.std.specs.Option.{option_map_or}
 use Rattle.std.specs.Io.KnownBytes.{Appends, Keeps}
 use Rattle.page_layout.specs.declared.geometry.Geometry.{Geometry}
-use Rattle.lab_dump.specs.declared.array.ArrayFault.{ArrayFault}
-use Rattle.lab_dump.specs.declared.array.ArrayFault.TheVariants as array
 use Rattle.lab_dump.specs.declared.held.Held.{Held}
 use Rattle.lab_dump.specs.Held.{state_in}
 use Rattle.lab_dump.specs.Written.{IsWritten}
@@ -110,10 +108,3 @@ IsArrayFault a words before after out printed told =
     ⊎ PutUnmapped a words before after out printed told
     ⊎ ((g : Geometry) × (held : List Held) × (unsound : ℕ) × PutArray a words before after g held unsound
     × IsHalfPrinted out printed (array_text (form_of words.showing) g (map state_in held) unsound) told)
-
--- how a fault of the array is told
-abbrev pub told_as : ArrayFault → ArrayWords → LabFault
-told_as array.WrongLength words = fault.WrongLength
-told_as array.Source words = fault.Read words.dump
-told_as array.Target words = fault.Write words.out
-told_as array.OutOfMemory words = fault.OutOfMemory

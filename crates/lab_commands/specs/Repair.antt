@@ -3,8 +3,6 @@ use Rattle.std.specs.Prelude.{◌≡◌, ◌⊎◌, ℕ, List, Option, IfSome}
 use Rattle.std.specs.Io.KnownBytes.{Appends}
 use Rattle.page_layout.specs.declared.geometry.Geometry.{Geometry}
 use Rattle.lab_dump.specs.declared.rows.Rows.{Rows}
-use Rattle.lab_mend.specs.declared.repair.RepairFault.{RepairFault}
-use Rattle.lab_mend.specs.declared.repair.RepairFault.TheVariants as repair
 use Rattle.lab_mend.specs.declared.repairing.Mend.{Mend}
 use Rattle.lab_mend.specs.Repaired.{IsOwnRepair, IsRepaired}
 use Rattle.lab_commands.specs.Reports.{repair_text}
@@ -57,10 +55,3 @@ abbrev pub IsRepairFault : Answers → RepairWords → Option (List Kept) → Op
 IsRepairFault a words before after out printed told =
     (LeavesAll before after out printed × IsUnrepairedBy a words told)
     ⊎ ((mends : List Mend) × PutRepair a words before after mends × IsHalfPrinted out printed (repair_text (form_of words.showing) mends) told)
-
--- how a fault of the repair is told
-abbrev pub repair_told : RepairFault → RepairWords → LabFault
-repair_told repair.WrongLength words = fault.WrongLength
-repair_told repair.Source words = fault.Read words.dump
-repair_told repair.Target words = fault.Write words.out
-repair_told repair.OutOfMemory words = fault.OutOfMemory

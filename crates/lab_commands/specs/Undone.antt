@@ -1,11 +1,14 @@
 -- What the words of a command say of its geometry, and why a command ended before it was done.
 use Rattle.std.specs.Prelude.{◌≡◌, ◌⊎◌, ℕ, Bool, true, false, if◌then◌else◌, List, codes, length, Option, IfSome}
+use Rattle.std.specs.Borrow.{Bor}
 use Rattle.std.specs.Io.KnownBytes.{Keeps}
 use Rattle.page_layout.specs.declared.geometry.Geometry.{Geometry}
 use Rattle.page_layout.specs.Faults.{HasNumbers, IsFirstFault}
 use Rattle.request_stream.specs.Frames.{AppendsFront}
 use Rattle.command_words.specs.declared.numbers.GeometryNumbers.{GeometryNumbers}
 use Rattle.command_words.specs.Numbers.{SpellsGeometry}
+use Rattle.lab_dump.specs.declared.make_fault.MakeFault.{MakeFault}
+use Rattle.lab_dump.specs.declared.make_fault.MakeFault.TheVariants as make
 use Rattle.lab_dump.specs.Scan.{image_bytes}
 use Rattle.lab_commands.specs.declared.document.Form.{Form}
 use Rattle.lab_commands.specs.declared.document.Form.TheVariants.{Text, Json}
@@ -80,6 +83,13 @@ IsUnfilled a dump path _ = ⊥
 -- the dump was not opened or not taken as a whole, or the file beside the path was not written or not put in its place
 abbrev pub IsUnmade : Answers → Geometry → List ℕ → List ℕ → LabFault → Type 0
 IsUnmade a g dump path told = IsUnread a dump told ⊎ IsUntaken a g dump told ⊎ IsUnwritten a path told ⊎ IsUnfilled a dump path told
+
+-- how it is told that no file was made of a dump
+abbrev pub unmade_as : MakeFault → Bor (List ℕ) → Bor (List ℕ) → LabFault
+unmade_as make.WrongLength dump out = fault.WrongLength
+unmade_as make.Source dump out = fault.Read dump
+unmade_as make.Target dump out = fault.Write out
+unmade_as make.OutOfMemory dump out = fault.OutOfMemory
 
 -- ---- what it leaves
 

@@ -4,33 +4,21 @@ ghost use Rattle.lab_dump.specs.Held.{state_in};
 ghost use Rattle.lab_dump.specs.Map.{map_text};
 ghost use Rattle.lab_commands.specs.Files.{AnswersNoMore};
 ghost use Rattle.lab_commands.specs.Undone.{IsUnmade, MayWrite};
-ghost use Rattle.lab_commands.specs.Array.{AreAllowed, AreNotAllowed, IsArrayFault, IsMade, IsMapNotAllowed, IsUnmapped, WroteArray, told_as, with_map};
+ghost use Rattle.lab_commands.specs.Array.{AreAllowed, AreNotAllowed, IsArrayFault, IsMade, IsMapNotAllowed, IsUnmapped, WroteArray, with_map};
 
 use crate::files::LabFiles;
 use crate::opening::{
     allow, create_beside, geometry_at, has_file, is_dump, is_out, keep, open_file, progress_of,
-    store_file,
+    store_file, unmade_as,
 };
 use crate::printing::{printer, unprinted};
 use crate::reports::print_array;
 use crate::text::LabFault;
 use crate::words::ArrayWords;
-use lab_dump::{ArrayFault, Held, Written, print_map, write_array};
+use lab_dump::{Held, Written, print_map, write_array};
 use page_layout::geometry::Geometry;
 use std::alloc::{AllocError, Global};
 use std::io::Write;
-
-// How a fault of the array is told.
-fn told_as<'a>(fault: ArrayFault, words: &ArrayWords<'a>) -> LabFault<'a>
-    ensures { result ≡ told_as fault words.now }
-{
-    match fault {
-        ArrayFault::WrongLength => LabFault::WrongLength,
-        ArrayFault::Source => LabFault::Read(words.dump),
-        ArrayFault::Target => LabFault::Write(words.out),
-        ArrayFault::OutOfMemory => LabFault::OutOfMemory,
-    }
-}
 
 // Whether FILE may be written: it is not OUT, and there is no such file, or it is not the dump and may be replaced.
 fn allow_map<'a, F: LabFiles>(
@@ -120,12 +108,12 @@ fn make<'a, F: LabFiles>(
     ensures kept { F.kept files.new ≡ F.kept files.old }
 {
     let mut dump = open_file(files, words.dump, progress_of(words.showing))?;
-    let target = create_beside(files, words.out, geometry)?;
+    let target = create_beside(files, words.out, geometry.sectors(), geometry.data_bytes())?;
     match write_array(alloc, &mut dump, geometry, target) {
         Ok(written) => Ok(written),
         Err(fault) => {
             files.discard(words.out);
-            Err(told_as(fault, words))
+            Err(unmade_as(fault, words.dump, words.out))
         }
     }
 }

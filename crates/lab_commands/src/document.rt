@@ -1,6 +1,7 @@
 //! A document of lines.
-ghost use Rattle.std.specs.Prelude.{◌≡◌, ◌∷◌, [], ◌++◌, codes, length, IfOk};
-ghost use Rattle.serde_json.specs.Written.{compact_text};
+ghost use Rattle.std.specs.Prelude.{◌≡◌, ◌∷◌, [], ◌++◌, codes, false, IfOk};
+ghost use Rattle.serde_json.specs.View.{view};
+ghost use Rattle.serde_json.specs.Written.{compact_text, has_float};
 ghost use Rattle.lab_commands.specs.Lines.{line_words};
 ghost use Rattle.lab_commands.specs.Document.{Prints, head_text, if_text, line_text, tail_text, text_below};
 ghost use Rattle.lab_commands.specs.Values.{head_data, line_data};
@@ -9,6 +10,7 @@ use crate::lines::Line;
 use crate::lists::Lines;
 use crate::values::{head_value, line_value};
 use request_stream::send;
+use serde_json::Value;
 use std::alloc::{AllocError, Global};
 use std::io::Write;
 use thiserror::Error;
@@ -62,28 +64,29 @@ fn plain(alloc: Global, line: Line) -> Result<Vec<u8>, AllocError>
     }
 }
 
+// A value as JSON, behind these bytes.
+fn json(alloc: Global, lead: &[u8], value: &Value) -> Result<Vec<u8>, AllocError>
+    requires { has_float (view value.now) ≡ false }
+    ensures { IfOk result (λ text. text.items ≡ lead.now ++ compact_text (view value.now)) }
+{
+    let written = value.to_string(alloc)?;
+    let mut text = Vec::from_slice(alloc, lead)?;
+    text.extend_from_slice(written.as_bytes())?;
+    Ok(text)
+}
+
 // A line as an object, behind another one.
 fn object(alloc: Global, line: Line) -> Result<Vec<u8>, AllocError>
     ensures { IfOk result (λ text. text.items ≡ codes ",\n" ++ compact_text (line_data line)) }
 {
-    let value = line_value(alloc, line)?;
-    let object = value.to_string(alloc)?;
-    let mut text = Vec::new(alloc);
-    text.extend_from_slice(b",\n")?;
-    text.extend_from_slice(object.as_bytes())?;
-    Ok(text)
+    json(alloc, b",\n", &line_value(alloc, line)?)
 }
 
 // What a JSON document of a command begins with.
 fn head(alloc: Global, command: &str) -> Result<Vec<u8>, AllocError>
     ensures { IfOk result (λ text. text.items ≡ codes "[" ++ compact_text (head_data command.now)) }
 {
-    let value = head_value(alloc, command)?;
-    let object = value.to_string(alloc)?;
-    let mut text = Vec::new(alloc);
-    text.extend_from_slice(b"[")?;
-    text.extend_from_slice(object.as_bytes())?;
-    Ok(text)
+    json(alloc, b"[", &head_value(alloc, command)?)
 }
 
 // Writes bytes, all of them.

@@ -1,5 +1,5 @@
 //! Where a dump comes from, and where a file of sectors or pages is put.
-use lab_dump::{Dump, PageTarget, Target};
+use lab_dump::{Dump, PageTarget, Pieces, Target};
 use std::io::Read;
 use thiserror::Error;
 
@@ -36,11 +36,8 @@ pub trait LabFiles {
     /// A dump that can be read at whatever place.
     type Dump: Dump + Drop;
 
-    /// A file of sectors that is being written.
-    type Target: Target + Drop;
-
-    /// A file of pages that is being written.
-    type Pages: PageTarget + Drop;
+    /// A file of sectors or of pages that is being written.
+    type Target: Target + PageTarget + Drop;
 
     /// What it may answer. Of the system's files it may be anything.
     ghost answers: { Self → Answers };
@@ -86,23 +83,6 @@ pub trait LabFiles {
         ensures done { kept self.new ≡ kept_after (kept self.old) path.now (Self.Target.pieces target) result }
         ensures failed { IfErr result ((answers self.old).fails path.now) }
         ensures no_more { AnswersNoMore (answers self.old) (answers self.new) };
-
-    /// The same for pages: a new file beside that of this path, of so many pieces of so many zeros.
-    fn create_pages(
-        &mut self,
-        path: &str,
-        count: u32,
-        size: usize,
-    ) -> Result<Self::Pages, FileFault>
-        ensures blank { IfOk result (λ target. IfSome (Self.Pages.pieces target) (λ ps. ps ≡ replicate count (replicate size 0))) }
-        ensures failed { IfErr result ((answers self.old).fails path.now) }
-        ensures no_more { AnswersNoMore (answers self.old) (answers self.new) }
-        ensures kept { kept self.new ≡ kept self.old };
-
-    /// Puts the file of pages that was made beside this path in its place, as `keep` does.
-    fn keep_pages(&mut self, path: &str, target: Self::Pages) -> Result<(), FileFault>
-        ensures done { kept self.new ≡ kept_after (kept self.old) path.now (Self.Pages.pieces target) result }
-        ensures failed { IfErr result ((answers self.old).fails path.now) };
 
     /// Puts a file of these bytes in the place of this path, once all of it is stored. Where that fails what stood there still does.
     fn store(&mut self, path: &str, bytes: &[u8]) -> Result<(), FileFault>

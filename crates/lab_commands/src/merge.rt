@@ -7,9 +7,7 @@ ghost use Rattle.lab_commands.specs.Merge.{AreOpened, HasSame, IsJoined, IsMerge
 ghost use Rattle.lab_commands.specs.Merge.{dumps_of};
 
 use crate::files::{LabFiles, Progress};
-use crate::opening::{
-    create_pages, geometry_at, has_file, is_dump, keep_pages, open_file, progress_of,
-};
+use crate::opening::{create_beside, geometry_at, has_file, is_dump, keep, open_file, progress_of};
 use crate::printing::{printer, unprinted};
 use crate::reports::print_merged;
 use crate::text::LabFault;
@@ -56,19 +54,19 @@ fn allow_merge<'a, F: LabFiles>(files: &mut F, words: &MergeWords<'a>) -> Result
     }
 }
 
-// Readers of all dumps, in their order. They are read in step, so the first alone shows how far it is.
+// Opens a reader of each dump, in their order. They are read in step, so the first alone shows how far it is.
 fn open_all<'a, F: LabFiles>(
-    alloc: Global,
     dumps: &[&'a str],
     progress: Progress,
     files: &mut F,
-) -> Result<Vec<F::Reader>, LabFault<'a>>
-    ensures opened { IfOk result (λ readers. AreOpened (F.answers files.old) (texts dumps.now) (map F.Reader.remaining readers.items)) }
+    readers: &mut Vec<F::Reader>,
+) -> Result<(), LabFault<'a>>
+    requires { readers.old.items ≡ [] }
+    ensures opened { OnOk result (AreOpened (F.answers files.old) (texts dumps.now) (map F.Reader.remaining readers.new.items)) }
     ensures fault { IfErr result (IsUnopened (F.answers files.old) (texts dumps.now)) }
     ensures no_more { AnswersNoMore (F.answers files.old) (F.answers files.new) }
     ensures kept { F.kept files.new ≡ F.kept files.old }
 {
-    let mut readers = Vec::new(alloc);
     for place in 0..dumps.len() {
         let shown = if place == 0 {
             progress
@@ -81,7 +79,7 @@ fn open_all<'a, F: LabFiles>(
             Err(_) => return Err(LabFault::OutOfMemory),
         }
     }
-    Ok(readers)
+    Ok(())
 }
 
 // How a fault of the merge is told: of a reading by its path.
@@ -97,28 +95,48 @@ fn merge_told<'a>(fault: MergeFault, dumps: &[&'a str], out: &'a str) -> LabFaul
     }
 }
 
-// Makes the one dump beside its place.
-fn join<'a, F: LabFiles>(
+// Makes the one dump beside its place, by readers that are to be opened.
+fn join_by<'a, F: LabFiles>(
     alloc: Global,
     words: &MergeWords<'a>,
     geometry: &Geometry,
     files: &mut F,
-) -> Result<Merged<F::Pages>, LabFault<'a>>
-    requires { 0 < length words.now.dumps.items }
-    ensures made { IfOk result (λ told. IsJoined (F.answers files.old) (dumps_of words.now) geometry.now (F.Pages.pieces told.target) told.conflicts.items told.unsound.items told.tally) }
+    readers: &mut Vec<F::Reader>,
+) -> Result<Merged<F::Target>, LabFault<'a>>
+    requires some { 0 < length words.now.dumps.items }
+    requires none { readers.old.items ≡ [] }
+    ensures made { IfOk result (λ told. IsJoined (F.answers files.old) (dumps_of words.now) geometry.now (F.Target.pieces told.target) told.conflicts.items told.unsound.items told.tally) }
     ensures fault { IfErr result (IsUnjoined (F.answers files.old) (dumps_of words.now) geometry.now words.now.out.now) }
     ensures no_more { AnswersNoMore (F.answers files.old) (F.answers files.new) }
     ensures kept { F.kept files.new ≡ F.kept files.old }
 {
-    let mut readers = open_all(alloc, &words.dumps, progress_of(words.showing), files)?;
-    let target = create_pages(files, words.out, geometry)?;
-    match merge_dumps(alloc, &mut readers, geometry, target) {
+    open_all(&words.dumps, progress_of(words.showing), files, readers)?;
+    let size = geometry.data_bytes() + geometry.spare_bytes();
+    let target = create_beside(files, words.out, geometry.rows(), size)?;
+    match merge_dumps(alloc, readers, geometry, target) {
         Ok(merged) => Ok(merged),
         Err(fault) => {
             files.discard(words.out);
             Err(merge_told(fault, &words.dumps, words.out))
         }
     }
+}
+
+// Makes the one dump beside its place.
+fn join<'a, F: LabFiles>(
+    alloc: Global,
+    words: &MergeWords<'a>,
+    geometry: &Geometry,
+    files: &mut F,
+) -> Result<Merged<F::Target>, LabFault<'a>>
+    requires { 0 < length words.now.dumps.items }
+    ensures made { IfOk result (λ told. IsJoined (F.answers files.old) (dumps_of words.now) geometry.now (F.Target.pieces told.target) told.conflicts.items told.unsound.items told.tally) }
+    ensures fault { IfErr result (IsUnjoined (F.answers files.old) (dumps_of words.now) geometry.now words.now.out.now) }
+    ensures no_more { AnswersNoMore (F.answers files.old) (F.answers files.new) }
+    ensures kept { F.kept files.new ≡ F.kept files.old }
+{
+    let mut readers = Vec::new(alloc);
+    join_by(alloc, words, geometry, files, &mut readers)
 }
 
 /// The command `merge`: writes one dump of the dumps DUMP, each a reading of one die of the geometry GEOM, to the file OUT, row by row, and prints
@@ -146,7 +164,7 @@ pub(crate) fn merge_command<'a, F: LabFiles, W: Write>(
     let geometry = geometry_at(words.geometry)?;
     allow_merge(files, &words)?;
     let merged = join(alloc, &words, &geometry, files)?;
-    keep_pages(files, words.out, merged.target)?;
+    keep(files, words.out, merged.target)?;
     let printer = printer(alloc, words.showing);
     match print_merged(
         printer,

@@ -1,14 +1,13 @@
 //! The words and the files that each command begins with.
-ghost use Rattle.std.specs.Prelude.{◌≡◌, [], ◌∷◌, Some, IfOk, IfErr, IfSome, OnOk, OnErr, length, replicate};
-ghost use Rattle.page_layout.specs.Array.{zeros};
-ghost use Rattle.page_layout.specs.Geometry.{row_count};
+ghost use Rattle.std.specs.Prelude.{◌≡◌, [], ◌∷◌, Some, IfOk, IfErr, IfSome, OnOk, OnErr, replicate};
 ghost use Rattle.lab_commands.specs.Files.{AnswersNoMore, IsOpened, with_kept};
-ghost use Rattle.lab_commands.specs.Undone.{IsGeometryAt, IsNoGeometry, IsUnread, IsUnwritten, MayNotWrite, MayWrite};
+ghost use Rattle.lab_commands.specs.Undone.{IsGeometryAt, IsNoGeometry, IsUnread, IsUnwritten, MayNotWrite, MayWrite, unmade_as};
 
 use crate::files::{FileFault, LabFiles, Progress};
 use crate::text::LabFault;
 use crate::words::Showing;
 use command_words::geometry_numbers;
+use lab_dump::MakeFault;
 use page_layout::geometry::Geometry;
 
 /// The geometry that a word says.
@@ -72,6 +71,18 @@ pub(crate) fn open_dump<'a, F: LabFiles>(
         Ok(dump) => Ok(dump),
         Err(FileFault::Failed) => Err(LabFault::Read(path)),
         Err(FileFault::OutOfMemory) => Err(LabFault::OutOfMemory),
+    }
+}
+
+/// How it is told that no file was made of a dump.
+pub(crate) fn unmade_as<'a>(fault: MakeFault, dump: &'a str, out: &'a str) -> LabFault<'a>
+    ensures { result ≡ unmade_as fault dump.entry out.entry }
+{
+    match fault {
+        MakeFault::WrongLength => LabFault::WrongLength,
+        MakeFault::Source => LabFault::Read(dump),
+        MakeFault::Target => LabFault::Write(out),
+        MakeFault::OutOfMemory => LabFault::OutOfMemory,
     }
 }
 
@@ -142,18 +153,19 @@ pub(crate) fn allow<'a, F: LabFiles>(
     if force { Ok(()) } else { Err(LabFault::Exists) }
 }
 
-/// A file of zeros beside that of a path, with a piece for each sector.
+/// A file of so many pieces of so many zeros beside that of a path.
 pub(crate) fn create_beside<'a, F: LabFiles>(
     files: &mut F,
     path: &'a str,
-    geometry: &Geometry,
+    count: u32,
+    size: usize,
 ) -> Result<F::Target, LabFault<'a>>
-    ensures blank { IfOk result (λ target. IfSome (F.Target.pieces target) (λ ps. ps ≡ replicate geometry.now.sectors (zeros geometry.now))) }
+    ensures blank { IfOk result (λ target. IfSome (F.Target.pieces target) (λ ps. ps ≡ replicate count (replicate size 0))) }
     ensures fault { IfErr result (IsUnwritten (F.answers files.old) path.now) }
     ensures no_more { AnswersNoMore (F.answers files.old) (F.answers files.new) }
     ensures kept { F.kept files.new ≡ F.kept files.old }
 {
-    match files.create(path, geometry.sectors(), geometry.data_bytes()) {
+    match files.create(path, count, size) {
         Ok(target) => Ok(target),
         Err(FileFault::Failed) => Err(LabFault::Write(path)),
         Err(FileFault::OutOfMemory) => Err(LabFault::OutOfMemory),
@@ -172,47 +184,6 @@ pub(crate) fn keep<'a, F: LabFiles>(
     ensures kept { OnErr result (F.kept files.new ≡ F.kept files.old) }
 {
     match files.keep(path, target) {
-        Ok(()) => Ok(()),
-        Err(fault) => {
-            files.discard(path);
-            match fault {
-                FileFault::Failed => Err(LabFault::Write(path)),
-                FileFault::OutOfMemory => Err(LabFault::OutOfMemory),
-            }
-        }
-    }
-}
-
-/// A file of zeros beside that of a path, with a piece for each page.
-pub(crate) fn create_pages<'a, F: LabFiles>(
-    files: &mut F,
-    path: &'a str,
-    geometry: &Geometry,
-) -> Result<F::Pages, LabFault<'a>>
-    ensures blank { IfOk result (λ target. IfSome (F.Pages.pieces target) (λ ps. length ps ≡ row_count geometry.now)) }
-    ensures fault { IfErr result (IsUnwritten (F.answers files.old) path.now) }
-    ensures no_more { AnswersNoMore (F.answers files.old) (F.answers files.new) }
-    ensures kept { F.kept files.new ≡ F.kept files.old }
-{
-    let size = geometry.data_bytes() + geometry.spare_bytes();
-    match files.create_pages(path, geometry.rows(), size) {
-        Ok(target) => Ok(target),
-        Err(FileFault::Failed) => Err(LabFault::Write(path)),
-        Err(FileFault::OutOfMemory) => Err(LabFault::OutOfMemory),
-    }
-}
-
-/// Puts the file of pages beside a path in its place. Where that fails it is removed.
-pub(crate) fn keep_pages<'a, F: LabFiles>(
-    files: &mut F,
-    path: &'a str,
-    target: F::Pages,
-) -> Result<(), LabFault<'a>>
-    ensures ok { OnOk result (F.kept files.new ≡ with_kept (F.kept files.old) path.now (F.Pages.pieces target)) }
-    ensures fault { IfErr result (IsUnwritten (F.answers files.old) path.now) }
-    ensures kept { OnErr result (F.kept files.new ≡ F.kept files.old) }
-{
-    match files.keep_pages(path, target) {
         Ok(()) => Ok(()),
         Err(fault) => {
             files.discard(path);

@@ -2,32 +2,20 @@
 ghost use Rattle.std.specs.Prelude.{◌≡◌, OnOk, IfOk, IfErr};
 ghost use Rattle.lab_commands.specs.Files.{AnswersNoMore};
 ghost use Rattle.lab_commands.specs.Undone.{IsUnmade};
-ghost use Rattle.lab_commands.specs.Repair.{IsMended, IsRepairFault, WroteRepair, repair_told};
+ghost use Rattle.lab_commands.specs.Repair.{IsMended, IsRepairFault, WroteRepair};
 
 use crate::files::LabFiles;
-use crate::opening::{allow, create_pages, geometry_at, keep_pages, open_file, progress_of};
+use crate::opening::{allow, create_beside, geometry_at, keep, open_file, progress_of, unmade_as};
 use crate::printing::{printer, unprinted};
 use crate::reports::print_repaired;
 use crate::rows::rows_at;
 use crate::text::LabFault;
 use crate::words::RepairWords;
 use lab_dump::Rows;
-use lab_mend::{RepairFault, Repaired, repair_dump};
+use lab_mend::{Repaired, repair_dump};
 use page_layout::geometry::Geometry;
 use std::alloc::Global;
 use std::io::Write;
-
-// How a fault of the repair is told.
-fn repair_told<'a>(fault: RepairFault, words: &RepairWords<'a>) -> LabFault<'a>
-    ensures { result ≡ repair_told fault words.now }
-{
-    match fault {
-        RepairFault::WrongLength => LabFault::WrongLength,
-        RepairFault::Source => LabFault::Read(words.dump),
-        RepairFault::Target => LabFault::Write(words.out),
-        RepairFault::OutOfMemory => LabFault::OutOfMemory,
-    }
-}
 
 // Makes the mended dump beside its place.
 fn mend<'a, F: LabFiles>(
@@ -36,19 +24,20 @@ fn mend<'a, F: LabFiles>(
     geometry: &Geometry,
     rows: Option<Rows>,
     files: &mut F,
-) -> Result<Repaired<F::Pages>, LabFault<'a>>
-    ensures made { IfOk result (λ told. IsMended (F.answers files.old) words.now.dump.now geometry.now rows (F.Pages.pieces told.target) told.mends.items) }
+) -> Result<Repaired<F::Target>, LabFault<'a>>
+    ensures made { IfOk result (λ told. IsMended (F.answers files.old) words.now.dump.now geometry.now rows (F.Target.pieces told.target) told.mends.items) }
     ensures fault { IfErr result (IsUnmade (F.answers files.old) geometry.now words.now.dump.now words.now.out.now) }
     ensures no_more { AnswersNoMore (F.answers files.old) (F.answers files.new) }
     ensures kept { F.kept files.new ≡ F.kept files.old }
 {
     let mut dump = open_file(files, words.dump, progress_of(words.showing))?;
-    let target = create_pages(files, words.out, geometry)?;
+    let size = geometry.data_bytes() + geometry.spare_bytes();
+    let target = create_beside(files, words.out, geometry.rows(), size)?;
     match repair_dump(alloc, &mut dump, geometry, rows, target) {
         Ok(repaired) => Ok(repaired),
         Err(fault) => {
             files.discard(words.out);
-            Err(repair_told(fault, words))
+            Err(unmade_as(fault, words.dump, words.out))
         }
     }
 }
@@ -80,7 +69,7 @@ pub(crate) fn repair_command<'a, F: LabFiles, W: Write>(
     let rows = rows_at(words.rows, &geometry)?;
     allow(files, words.dump, words.out, words.force)?;
     let repaired = mend(alloc, &words, &geometry, rows, files)?;
-    keep_pages(files, words.out, repaired.target)?;
+    keep(files, words.out, repaired.target)?;
     match print_repaired(printer(alloc, words.showing), out, &repaired.mends) {
         Ok(()) => Ok(()),
         Err(fault) => Err(unprinted(fault)),

@@ -12,6 +12,8 @@ pub mod Held
 pub mod Writing
 -- what they are in the end
 pub mod Written
+-- why no file was made of a dump
+pub mod Unmade
 -- the map of the array
 pub mod Map
 -- which sectors have lost a page, and which never have

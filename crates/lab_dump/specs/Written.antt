@@ -1,4 +1,4 @@
--- What was written in the end, and why nothing was.
+-- What was written in the end.
 use Rattle.std.specs.Prelude.{◌≡◌, ◌↔◌, ℕ, ◌<◌, List, length, map, count_by, Option, IfSome}
 use Rattle.std.specs.List.{range_with_len}
 use Rattle.page_layout.specs.declared.geometry.Geometry.{Geometry}
@@ -10,10 +10,6 @@ use Rattle.page_layout.specs.Array.{marks, array_of}
 use Rattle.page_layout.specs.Block.{is_broken}
 use Rattle.image_check.specs.Sector.{IsAmbiguous}
 use Rattle.lab_dump.specs.Scan.{image_bytes}
-use Rattle.lab_dump.specs.declared.pass.ScanFault.{ScanFault}
-use Rattle.lab_dump.specs.declared.pass.ScanFault.TheVariants as scan
-use Rattle.lab_dump.specs.declared.array.ArrayFault.{ArrayFault}
-use Rattle.lab_dump.specs.declared.array.ArrayFault.TheVariants as fault
 use Rattle.lab_dump.specs.declared.held.Held.{Held}
 use Rattle.lab_dump.specs.declared.held.State.{State}
 use Rattle.lab_dump.specs.declared.held.State.TheVariants as state
@@ -38,19 +34,6 @@ pub record IsWritten (g : Geometry) (pieces : Option (List (List ℕ))) (held : 
   pub array : IfSome pieces (λ ps. ps ≡ array_of g (raw_image g bytes))
   pub states : map state_in held ≡ states_of g (raw_image g bytes)
   pub unsound_is : unsound ≡ unsound_of (raw_image g bytes)
-
--- the fault for that of a pass
-abbrev pub fault_of : ScanFault → ArrayFault
-fault_of scan.WrongLength = fault.WrongLength
-fault_of scan.Source = fault.Source
-fault_of scan.Stopped = fault.Target
-
--- `WrongLength` says that the bytes aren't as many as an image has
-abbrev pub IsUnwritten : Geometry → ArrayFault → List ℕ → Type 0
-IsUnwritten g fault.WrongLength bytes = ¬ (length bytes ≡ image_bytes g)
-IsUnwritten g fault.Source bytes = Unit {0}
-IsUnwritten g fault.Target bytes = Unit {0}
-IsUnwritten g fault.OutOfMemory bytes = Unit {0}
 
 -- a sector is tied just where two of its pages share its greatest sequence
 abbrev pub TiedLaw : Type 0

@@ -2,58 +2,17 @@
 ghost use Rattle.std.specs.Prelude.{◌≡◌, length, replicate, OnErr, IfOk, IfErr, IfSome, Err, map};
 ghost use Rattle.page_layout.specs.Array.{zeros};
 ghost use Rattle.lab_dump.specs.Held.{state_in};
-ghost use Rattle.lab_dump.specs.Written.{IsWritten, IsUnwritten, TiedLaw};
+ghost use Rattle.lab_dump.specs.Unmade.{IsUnmade};
+ghost use Rattle.lab_dump.specs.Written.{IsWritten, TiedLaw};
 
 use crate::held::{Held, State};
-use crate::pass::{ScanFault, scan};
+use crate::make_fault::MakeFault;
+use crate::pass::scan;
 use crate::target::Target;
 use crate::writing::Writing;
 use page_layout::geometry::Geometry;
-use std::alloc::{AllocError, Global};
+use std::alloc::Global;
 use std::io::Read;
-use thiserror::Error;
-
-/// Why an array was not written.
-#[derive(Clone, Copy, Debug, PartialEq, Eq, Error)]
-pub enum ArrayFault {
-    /// The dump has not as many bytes as the die's pages have.
-    #[error("the dump has not as many bytes as the geometry says")]
-    WrongLength,
-    /// A read of the dump failed, or was interrupted.
-    #[error("the dump could not be read")]
-    Source,
-    /// A sector could not be written.
-    #[error("a sector could not be written")]
-    Target,
-    /// A growth was refused, before any byte was read.
-    #[error("out of memory")]
-    OutOfMemory,
-}
-
-impl From<ScanFault> for ArrayFault {
-    ghost use Rattle.lab_dump.specs.Written.{fault_of};
-
-    ghost from_gives = { λ scan fault. fault ≡ fault_of scan };
-
-    fn from(fault: ScanFault) -> ArrayFault {
-        match fault {
-            ScanFault::WrongLength => ArrayFault::WrongLength,
-            ScanFault::Source => ArrayFault::Source,
-            ScanFault::Stopped => ArrayFault::Target,
-        }
-    }
-}
-
-impl From<AllocError> for ArrayFault {
-    ghost use Rattle.std.specs.Prelude.{◌≡◌};
-    ghost use Rattle.lab_dump.specs.declared.array.ArrayFault.{ArrayFault};
-
-    ghost from_gives = { λ _ fault. fault ≡ ArrayFault.OutOfMemory };
-
-    fn from(_error: AllocError) -> ArrayFault {
-        ArrayFault::OutOfMemory
-    }
-}
 
 /// What was written, and what is to be told of it.
 #[derive(Drop)]
@@ -89,12 +48,12 @@ pub fn write_array<R: Read, T: Target + Drop>(
     reader: &mut R,
     geometry: &Geometry,
     target: T,
-) -> Result<Written<T>, ArrayFault>
+) -> Result<Written<T>, MakeFault>
     requires { IfSome (T.pieces target) (λ ps. ps ≡ replicate geometry.now.sectors (zeros geometry.now)) }
     ensures ok { IfOk result (λ written. IfSome (R.remaining reader.old) (IsWritten geometry.now (T.pieces written.target) written.held.items written.unsound)) }
     ensures sized { IfOk result (λ written. length written.held.items ≡ geometry.now.sectors) }
-    ensures err { IfErr result (λ fault. IfSome (R.remaining reader.old) (IsUnwritten geometry.now fault)) }
-    ensures memory { result ≡ Err ArrayFault.OutOfMemory → reader.new ≡ reader.old }
+    ensures err { IfErr result (λ fault. IfSome (R.remaining reader.old) (IsUnmade geometry.now fault)) }
+    ensures memory { result ≡ Err MakeFault.OutOfMemory → reader.new ≡ reader.old }
 {
     let mut body = vec![in alloc; 0; geometry.data_bytes()]?;
     let mut spare = vec![in alloc; 0; geometry.spare_bytes()]?;

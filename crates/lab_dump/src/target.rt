@@ -1,18 +1,23 @@
-//! Where the sectors are written.
+//! Where sectors or pages are written.
 use thiserror::Error;
 
 /// A write failed.
 #[derive(Clone, Copy, Debug, PartialEq, Eq, Error)]
-#[error("a sector could not be written")]
+#[error("a sector or a page could not be written")]
 pub struct TargetFault;
 
-/// A file of pieces of one size, one behind another, that is being written out of order. It is handed zeros, or a sound page.
-pub trait Target {
-    ghost use Rattle.std.specs.Prelude.{◌≡◌, ℕ, List, Option, OnOk, option_map, set, replicate, length};
-    ghost use Rattle.lab_dump.specs.Writing.{HoldsSector};
+/// A file of pieces of one size, one behind another, that is being written.
+pub trait Pieces {
+    ghost use Rattle.std.specs.Prelude.{ℕ, List, Option};
 
     /// The pieces, in order, where they are known. Of a file of the system they aren't.
     ghost pieces: { Self → Option (List (List ℕ)) };
+}
+
+/// A file with a piece for each sector, that is written out of order. It is handed zeros, or a sound page.
+pub trait Target: Pieces {
+    ghost use Rattle.std.specs.Prelude.{◌≡◌, OnOk, option_map, set, replicate, length};
+    ghost use Rattle.lab_dump.specs.Writing.{HoldsSector};
 
     /// Writes a page's data area as the piece of this number, counted from 0, in place of what stood there. It is as long as each piece.
     /// The page, with this spare area, is sound and holds the sector of that number.
@@ -22,7 +27,7 @@ pub trait Target {
     /// Where it could not be written. Nothing is promised of the file then.
     fn put(&mut self, number: u32, body: &[u8], spare: &[u8]) -> Result<(), TargetFault>
         requires { HoldsSector number body.now spare.now }
-        ensures { OnOk result (pieces self.new ≡ option_map (λ ps. set ps number body.now) (pieces self.old)) };
+        ensures { OnOk result (Self.pieces self.new ≡ option_map (λ ps. set ps number body.now) (Self.pieces self.old)) };
 
     /// Writes zeros as the piece of this number, in place of what stood there. They are as many as each piece has.
     ///
@@ -31,5 +36,18 @@ pub trait Target {
     /// As of `put`.
     fn blank(&mut self, number: u32, zeros: &[u8]) -> Result<(), TargetFault>
         requires { zeros.now ≡ replicate (length zeros.now) 0 }
-        ensures { OnOk result (pieces self.new ≡ option_map (λ ps. set ps number zeros.now) (pieces self.old)) };
+        ensures { OnOk result (Self.pieces self.new ≡ option_map (λ ps. set ps number zeros.now) (Self.pieces self.old)) };
+}
+
+/// A file with a piece for each row: its page, the data area and then the spare area.
+pub trait PageTarget: Pieces {
+    ghost use Rattle.std.specs.Prelude.{◌≡◌, OnOk, option_map, set};
+
+    /// Writes the bytes of the page of this row in place of what stood there. They are as many as each page has.
+    ///
+    /// # Errors
+    ///
+    /// Where they could not be written. Nothing is promised of the file then.
+    fn put_page(&mut self, row: u32, bytes: &[u8]) -> Result<(), TargetFault>
+        ensures { OnOk result (Self.pieces self.new ≡ option_map (λ ps. set ps row bytes.now) (Self.pieces self.old)) };
 }

@@ -1,4 +1,4 @@
--- What was written in the end, and why nothing was.
+-- What was written in the end.
 use Rattle.std.specs.Prelude.{◌≡◌, ℕ, true, false, All, List, length, map, slice_get, Option, Some, None, option_map, IfSome}
 use Rattle.std.specs.List.{enumerate_from}
 use Rattle.page_layout.specs.declared.geometry.Geometry.{Geometry}
@@ -8,10 +8,6 @@ use Rattle.page_layout.specs.Raw.{raw_image, bytes_of_page}
 use Rattle.lab_dump.specs.Scan.{image_bytes}
 use Rattle.lab_dump.specs.Rows.{is_asked}
 use Rattle.lab_dump.specs.declared.rows.Rows.{Rows}
-use Rattle.lab_dump.specs.declared.pass.ScanFault.{ScanFault}
-use Rattle.lab_dump.specs.declared.pass.ScanFault.TheVariants as scan
-use Rattle.lab_mend.specs.declared.repair.RepairFault.{RepairFault}
-use Rattle.lab_mend.specs.declared.repair.RepairFault.TheVariants as fault
 use Rattle.lab_mend.specs.declared.repairing.Mend.{Mend}
 use Rattle.lab_mend.specs.Repairing.{mends_below, piece_of, piece_at, AreOwn, AreListed}
 
@@ -34,19 +30,6 @@ pub record IsRepaired (g : Geometry) (asked : Option Rows) (pieces : Option (Lis
 pub record IsOwnRepair (g : Geometry) (asked : Option Rows) (pieces : Option (List (List ℕ))) (mends : List Mend) : Type 0 where
   pub listed : AreListed (row_count g) mends
   pub own : IfSome pieces (AreOwn g asked (row_count g) mends)
-
--- the fault for that of a pass
-abbrev pub fault_of : ScanFault → RepairFault
-fault_of scan.WrongLength = fault.WrongLength
-fault_of scan.Source = fault.Source
-fault_of scan.Stopped = fault.Target
-
--- `WrongLength` says that the bytes aren't as many as an image has
-abbrev pub IsUnrepaired : Geometry → RepairFault → List ℕ → Type 0
-IsUnrepaired g fault.WrongLength bytes = ¬ (length bytes ≡ image_bytes g)
-IsUnrepaired g fault.Source bytes = Unit {0}
-IsUnrepaired g fault.Target bytes = Unit {0}
-IsUnrepaired g fault.OutOfMemory bytes = Unit {0}
 
 -- ---- law
 

@@ -24,5 +24,5 @@ pub use laws::{
 };
 pub use merge::{MergeFault, Merged, merge_dumps};
 pub use merging::Tally;
-pub use repair::{RepairFault, Repaired, repair_dump};
+pub use repair::{Repaired, repair_dump};
 pub use repairing::{Mend, Repairing};

@@ -127,7 +127,7 @@ impl<T: PageTarget> Merging<T> {
         name_conflict(&mut self.conflicts, row, origin)?;
         name_unsound(&mut self.unsound, row, origin)?;
         self.tally = self.tally.count(origin);
-        match self.target.put(row, &self.scratch) {
+        match self.target.put_page(row, &self.scratch) {
             Ok(()) => Ok(()),
             Err(_) => Err(RowFault::Target),
         }

@@ -1,56 +1,14 @@
 //! The repair of a dump.
 ghost use Rattle.std.specs.Prelude.{◌≡◌, length, IfOk, IfErr, IfSome};
 ghost use Rattle.page_layout.specs.Geometry.{row_count};
-ghost use Rattle.lab_mend.specs.Repaired.{IsOwnRepair, IsRepaired, IsUnrepaired};
+ghost use Rattle.lab_dump.specs.Unmade.{IsUnmade};
+ghost use Rattle.lab_mend.specs.Repaired.{IsOwnRepair, IsRepaired};
 
 use crate::repairing::{Mend, Repairing};
-use lab_dump::{PageTarget, Rows, ScanFault, scan};
+use lab_dump::{MakeFault, PageTarget, Rows, ScanFault, scan};
 use page_layout::geometry::Geometry;
-use std::alloc::{AllocError, Global};
+use std::alloc::Global;
 use std::io::Read;
-use thiserror::Error;
-
-/// Why a dump was not repaired.
-#[derive(Clone, Copy, Debug, PartialEq, Eq, Error)]
-pub enum RepairFault {
-    /// The dump has not as many bytes as the die's pages have.
-    #[error("the dump has not as many bytes as the geometry says")]
-    WrongLength,
-    /// A read of the dump failed, or was interrupted.
-    #[error("the dump could not be read")]
-    Source,
-    /// A page could not be written.
-    #[error("a page could not be written")]
-    Target,
-    /// A growth was refused.
-    #[error("out of memory")]
-    OutOfMemory,
-}
-
-impl From<ScanFault> for RepairFault {
-    ghost use Rattle.lab_mend.specs.Repaired.{fault_of};
-
-    ghost from_gives = { λ scan fault. fault ≡ fault_of scan };
-
-    fn from(fault: ScanFault) -> RepairFault {
-        match fault {
-            ScanFault::WrongLength => RepairFault::WrongLength,
-            ScanFault::Source => RepairFault::Source,
-            ScanFault::Stopped => RepairFault::Target,
-        }
-    }
-}
-
-impl From<AllocError> for RepairFault {
-    ghost use Rattle.std.specs.Prelude.{◌≡◌};
-    ghost use Rattle.lab_mend.specs.declared.repair.RepairFault.{RepairFault};
-
-    ghost from_gives = { λ _ fault. fault ≡ RepairFault.OutOfMemory };
-
-    fn from(_error: AllocError) -> RepairFault {
-        RepairFault::OutOfMemory
-    }
-}
 
 /// What was written, and what is to be told of it.
 #[derive(Drop)]
@@ -83,12 +41,12 @@ pub fn repair_dump<R: Read, T: PageTarget + Drop>(
     geometry: &Geometry,
     rows: Option<Rows>,
     target: T,
-) -> Result<Repaired<T>, RepairFault>
+) -> Result<Repaired<T>, MakeFault>
     requires { IfSome (T.pieces target) (λ ps. length ps ≡ row_count geometry.now) }
     ensures ok { IfOk result (λ told. IfSome (R.remaining reader.old) (IsRepaired geometry.now rows (T.pieces told.target) told.mends.items)) }
     // Whatever the reader gives.
     ensures own { IfOk result (λ told. IsOwnRepair geometry.now rows (T.pieces told.target) told.mends.items) }
-    ensures err { IfErr result (λ fault. IfSome (R.remaining reader.old) (IsUnrepaired geometry.now fault)) }
+    ensures err { IfErr result (λ fault. IfSome (R.remaining reader.old) (IsUnmade geometry.now fault)) }
 {
     let mut body = vec![in alloc; 0; geometry.data_bytes()]?;
     let mut spare = vec![in alloc; 0; geometry.spare_bytes()]?;
@@ -104,7 +62,7 @@ pub fn repair_dump<R: Read, T: PageTarget + Drop>(
             mends: repairing.mends,
             target: repairing.target,
         }),
-        Err(ScanFault::Stopped) if repairing.is_full => Err(RepairFault::OutOfMemory),
-        Err(fault) => Err(RepairFault::from(fault)),
+        Err(ScanFault::Stopped) if repairing.is_full => Err(MakeFault::OutOfMemory),
+        Err(fault) => Err(MakeFault::from(fault)),
     }
 }

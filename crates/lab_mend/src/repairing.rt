@@ -62,7 +62,7 @@ impl<T: PageTarget> Repairing<T> {
                 return Err(Stopped);
             }
         }
-        match self.target.put(row, &self.scratch) {
+        match self.target.put_page(row, &self.scratch) {
             Ok(()) => Ok(()),
             Err(_) => Err(Stopped),
         }

@@ -10,7 +10,7 @@ mod system;
 use lab_commands::{LabFault, run, tell};
 use std::alloc::{AllocError, Global};
 use std::env;
-use std::io::{Error, ErrorKind, Write};
+use std::io::{Error, ErrorKind, IsTerminal, Write};
 use std::os::unix::fs::FileExt;
 use std::process::ExitCode;
 use std::rt::{Env, Files};
@@ -34,7 +34,7 @@ fn words_fault(error: Error) -> LabFault<'static>
 }
 
 // Does what the words of the command line say, over the system's files.
-fn run_over<S: Env + Files + AllocGlobal, W: Write, E: Write, P: Write + Drop>(
+fn run_over<S: Env + Files + AllocGlobal, W: Write, E: Write, P: Write + IsTerminal + Drop>(
     system: &S,
     out: &mut W,
     err: &mut E,
@@ -52,13 +52,11 @@ where
         return tell(&LabFault::OutOfMemory, err);
     };
     match word_slices(system.alloc(), &kept) {
-        Ok(words) => run(
-            system.alloc(),
-            &words,
-            &mut SystemFiles::new(system, screen),
-            out,
-            err,
-        ),
+        Ok(words) => {
+            let is_watched = screen.is_terminal();
+            let mut files = SystemFiles::new(system, screen, is_watched);
+            run(system.alloc(), &words, &mut files, out, err)
+        }
         Err(_) => tell(&LabFault::OutOfMemory, err),
     }
 }

@@ -1,7 +1,5 @@
 //! How far a file was read, on a screen.
-use std::fs;
 use std::io::{self, Read, Seek, SeekFrom, Write};
-use std::rt::Files;
 
 /// Shows how much of a file was read, as a line that is renewed.
 #[derive(Drop)]
@@ -45,7 +43,7 @@ impl<E: Write> Meter<E> {
         if percent < 100 {
             write!(self.screen, "read {percent} %\r")?;
         } else {
-            write!(self.screen, "         \r")?;
+            self.screen.write_all(b"         \r")?;
         }
         self.screen.flush()
     }
@@ -80,15 +78,4 @@ pub fn size_of<F: Seek>(file: &mut F) -> Option<u64> {
     let size = file.seek(SeekFrom::End(0)).ok()?;
     file.seek(SeekFrom::Start(0)).ok()?;
     if size == 0 { None } else { Some(size) }
-}
-
-/// Whether standard error is a terminal, by the name of what it leads to.
-pub fn is_terminal<R: Files + AllocGlobal>(rt: &R) -> bool {
-    match fs::canonicalize(rt, "/proc/self/fd/2") {
-        Ok(found) => {
-            let name = found.as_str();
-            name.starts_with("/dev/pts/") || name.starts_with("/dev/tty")
-        }
-        Err(_) => false,
-    }
 }

@@ -1,7 +1,7 @@
 //! The files of the system.
-use crate::progress::{Meter, Metered, is_terminal, size_of};
+use crate::progress::{Meter, Metered, size_of};
 use lab_commands::{FileFault, LabFiles, Progress};
-use lab_dump::{Dump, DumpFault, PageFault, PageTarget, Target, TargetFault};
+use lab_dump::{Dump, DumpFault, PageTarget, Pieces, Target, TargetFault};
 use std::fs::{self, File, OpenFile};
 use std::io::{self, BufReader, Error, ErrorKind, Read, Seek, SeekFrom, Write};
 use std::os::unix::fs::FileExt;
@@ -20,6 +20,8 @@ pub struct SystemFiles<'a, R, E> {
     rt: &'a R,
     // where the first file that may shows how far it was read
     screen: Option<E>,
+    // whether somebody looks at it
+    is_watched: bool,
     // the name of the file that was made beside another one
     made: Option<String>,
 }
@@ -40,11 +42,12 @@ pub struct PieceFile<F> {
 }
 
 impl<'a, R: Files + AllocGlobal, E: Write> SystemFiles<'a, R, E> {
-    /// The files that the program's handle `rt` reaches, and a screen to show progress on. Nothing is opened.
-    pub fn new(rt: &'a R, screen: E) -> SystemFiles<'a, R, E> {
+    /// The files that the program's handle `rt` reaches, and a screen to show progress on, which somebody may look at. Nothing is opened.
+    pub fn new(rt: &'a R, screen: E, is_watched: bool) -> SystemFiles<'a, R, E> {
         SystemFiles {
             rt,
             screen: Some(screen),
+            is_watched,
             made: None,
         }
     }
@@ -53,7 +56,7 @@ impl<'a, R: Files + AllocGlobal, E: Write> SystemFiles<'a, R, E> {
     fn meter(&mut self, file: &mut R::File, progress: Progress) -> Option<Meter<E>> {
         let shows = match progress {
             Progress::Hidden => false,
-            Progress::IfWatched => is_terminal(self.rt),
+            Progress::IfWatched => self.is_watched,
             Progress::Shown => true,
         };
         if !shows {
@@ -61,31 +64,6 @@ impl<'a, R: Files + AllocGlobal, E: Write> SystemFiles<'a, R, E> {
         }
         let size = size_of(file)?;
         Some(Meter::new(self.screen.take()?, size))
-    }
-
-    // A file beside a path, of so many pieces of so many zeros.
-    fn create_pieces(
-        &mut self,
-        path: &str,
-        count: u32,
-        size: usize,
-    ) -> Result<PieceFile<R::File>, FileFault> {
-        let Ok(size) = u32::try_from(size) else {
-            return Err(FileFault::Failed);
-        };
-        let all = u64::from(count) * u64::from(size);
-        let (file, name) = new_zeros(self.rt, path, all).map_err(fault_of)?;
-        self.made = Some(name);
-        Ok(PieceFile { file, size })
-    }
-
-    // Has the file beside a path stored, and renames it.
-    fn keep_pieces(&mut self, path: &str, file: &R::File) -> Result<(), FileFault> {
-        file.sync_all().map_err(fault_of)?;
-        match &self.made {
-            Some(made) => fs::rename(self.rt, made.as_str(), path).map_err(fault_of),
-            None => Err(FileFault::Failed),
-        }
     }
 }
 
@@ -186,46 +164,35 @@ impl<F: Read + Seek, E: Write> Dump for DumpFile<F, E> {
 }
 
 impl<F: FileExt> PieceFile<F> {
-    // Writes the bytes of a piece, and tells whether they were written.
-    fn writes_piece(&mut self, number: u32, bytes: &[u8]) -> bool {
+    // Writes the bytes of a piece.
+    fn put_piece(&mut self, number: u32, bytes: &[u8]) -> Result<(), TargetFault> {
         let at = u64::from(number) * u64::from(self.size);
-        self.file.write_all_at(bytes, at).is_ok()
+        match self.file.write_all_at(bytes, at) {
+            Ok(()) => Ok(()),
+            Err(_) => Err(TargetFault),
+        }
     }
 }
 
-impl<F: FileExt> Target for PieceFile<F> {
+impl<F> Pieces for PieceFile<F> {
     ghost use Rattle.std.specs.Prelude.{None};
 
     ghost pieces = { λ _. None };
+}
 
+impl<F: FileExt> Target for PieceFile<F> {
     fn put(&mut self, number: u32, body: &[u8], _spare: &[u8]) -> Result<(), TargetFault> {
-        if self.writes_piece(number, body) {
-            Ok(())
-        } else {
-            Err(TargetFault)
-        }
+        self.put_piece(number, body)
     }
 
     fn blank(&mut self, number: u32, zeros: &[u8]) -> Result<(), TargetFault> {
-        if self.writes_piece(number, zeros) {
-            Ok(())
-        } else {
-            Err(TargetFault)
-        }
+        self.put_piece(number, zeros)
     }
 }
 
 impl<F: FileExt> PageTarget for PieceFile<F> {
-    ghost use Rattle.std.specs.Prelude.{None};
-
-    ghost pieces = { λ _. None };
-
-    fn put(&mut self, row: u32, bytes: &[u8]) -> Result<(), PageFault> {
-        if self.writes_piece(row, bytes) {
-            Ok(())
-        } else {
-            Err(PageFault)
-        }
+    fn put_page(&mut self, row: u32, bytes: &[u8]) -> Result<(), TargetFault> {
+        self.put_piece(row, bytes)
     }
 }
 
@@ -241,8 +208,6 @@ where
     type Dump = DumpFile<R::File, E>;
 
     type Target = PieceFile<R::File>;
-
-    type Pages = PieceFile<R::File>;
 
     ghost answers = { λ _. unknown };
 
@@ -293,24 +258,21 @@ where
         count: u32,
         size: usize,
     ) -> Result<PieceFile<R::File>, FileFault> {
-        self.create_pieces(path, count, size)
+        let Ok(size) = u32::try_from(size) else {
+            return Err(FileFault::Failed);
+        };
+        let all = u64::from(count) * u64::from(size);
+        let (file, name) = new_zeros(self.rt, path, all).map_err(fault_of)?;
+        self.made = Some(name);
+        Ok(PieceFile { file, size })
     }
 
     fn keep(&mut self, path: &str, target: PieceFile<R::File>) -> Result<(), FileFault> {
-        self.keep_pieces(path, &target.file)
-    }
-
-    fn create_pages(
-        &mut self,
-        path: &str,
-        count: u32,
-        size: usize,
-    ) -> Result<PieceFile<R::File>, FileFault> {
-        self.create_pieces(path, count, size)
-    }
-
-    fn keep_pages(&mut self, path: &str, target: PieceFile<R::File>) -> Result<(), FileFault> {
-        self.keep_pieces(path, &target.file)
+        target.file.sync_all().map_err(fault_of)?;
+        match &self.made {
+            Some(made) => fs::rename(self.rt, made.as_str(), path).map_err(fault_of),
+            None => Err(FileFault::Failed),
+        }
     }
 
     fn store(&mut self, path: &str, bytes: &[u8]) -> Result<(), FileFault> {

@@ -1,6 +1,6 @@
 //! Files in memory, whose reads and writes can fail.
 use lab_commands::{FileFault, LabFiles, Progress};
-use lab_dump::{Dump, DumpFault, PageFault, PageTarget, Target, TargetFault};
+use lab_dump::{Dump, DumpFault, PageTarget, Pieces, Target, TargetFault};
 use std::alloc::{AllocError, Global};
 use std::io::{self, ErrorKind, Read, Write};
 
@@ -100,62 +100,57 @@ impl Dump for MemoryDump {
 /// A file that is being written, that can fail.
 #[derive(Drop)]
 pub struct Beside {
-    bytes: Vec<u8>,
+    pub bytes: Vec<u8>,
     size: usize,
     // how many writes are left until one fails
     left: u32,
 }
 
 impl Beside {
+    /// One of these bytes, in pieces of so many, of which no write fails.
+    pub fn new(bytes: Vec<u8>, size: usize) -> Beside {
+        Beside {
+            bytes,
+            size,
+            left: u32::MAX,
+        }
+    }
+
     // Puts bytes in the place of a piece, where there is such a piece of as many bytes.
-    fn set(&mut self, number: u32, piece: &[u8]) -> bool {
+    fn set(&mut self, number: u32, piece: &[u8]) -> Result<(), TargetFault> {
         let Some(left) = self.left.checked_sub(1) else {
-            return false;
+            return Err(TargetFault);
         };
         self.left = left;
         let at = (number as usize).saturating_mul(self.size);
         let end = at.saturating_add(piece.len());
         if piece.len() != self.size || end > self.bytes.len() || end - at != piece.len() {
-            return false;
+            return Err(TargetFault);
         }
         self.bytes[at..end].copy_from_slice(piece);
-        true
+        Ok(())
     }
 }
 
-impl Target for Beside {
+impl Pieces for Beside {
     ghost use Rattle.std.specs.Prelude.{None};
 
     ghost pieces = { λ _. None };
+}
 
+impl Target for Beside {
     fn put(&mut self, number: u32, body: &[u8], _spare: &[u8]) -> Result<(), TargetFault> {
-        if self.set(number, body) {
-            Ok(())
-        } else {
-            Err(TargetFault)
-        }
+        self.set(number, body)
     }
 
     fn blank(&mut self, number: u32, zeros: &[u8]) -> Result<(), TargetFault> {
-        if self.set(number, zeros) {
-            Ok(())
-        } else {
-            Err(TargetFault)
-        }
+        self.set(number, zeros)
     }
 }
 
 impl PageTarget for Beside {
-    ghost use Rattle.std.specs.Prelude.{None};
-
-    ghost pieces = { λ _. None };
-
-    fn put(&mut self, row: u32, bytes: &[u8]) -> Result<(), PageFault> {
-        if self.set(row, bytes) {
-            Ok(())
-        } else {
-            Err(PageFault)
-        }
+    fn put_page(&mut self, row: u32, bytes: &[u8]) -> Result<(), TargetFault> {
+        self.set(row, bytes)
     }
 }
 
@@ -261,8 +256,6 @@ impl LabFiles for MemoryFiles {
 
     type Target = Beside;
 
-    type Pages = Beside;
-
     ghost answers = { λ _. unknown };
 
     ghost kept = { λ _. None };
@@ -323,20 +316,6 @@ impl LabFiles for MemoryFiles {
     }
 
     fn keep(&mut self, path: &str, target: Beside) -> Result<(), FileFault> {
-        match self.keep_bytes(path, target.bytes) {
-            Ok(()) => Ok(()),
-            Err(fault) => Err(fault),
-        }
-    }
-
-    fn create_pages(&mut self, _path: &str, count: u32, size: usize) -> Result<Beside, FileFault> {
-        match self.beside(count, size) {
-            Ok(made) => Ok(made),
-            Err(fault) => Err(fault),
-        }
-    }
-
-    fn keep_pages(&mut self, path: &str, target: Beside) -> Result<(), FileFault> {
         match self.keep_bytes(path, target.bytes) {
             Ok(()) => Ok(()),
             Err(fault) => Err(fault),

@@ -33,24 +33,24 @@ returns-in_err-merged-clause-fault g c =
     (not_made a c.args.words c.in_ok-geometry.geometry k _ o _ c.in_ok-geometry.ensures.ok c.in_ok-allow_merge.ensures.ok (c.in_err-merged.ensures.kept ∙ ap g.F.LabFiles.kept same)
     (subst (λ f. IsUnjoined (g.F.LabFiles.answers f) (dumps_of c.args.words) c.in_ok-geometry.geometry c.args.words.out.now c.in_err-merged.field-0.0) same c.in_err-merged.ensures.fault))
 
-pub returns-in_err-keep_pages-clause-fault : goal.returns-in_err-keep_pages-clause-fault
-returns-in_err-keep_pages-clause-fault g c =
+pub returns-in_err-keep-clause-fault : goal.returns-in_err-keep-clause-fault
+returns-in_err-keep-clause-fault g c =
     let a = g.F.LabFiles.answers c.args.files.now in
     let b = g.F.LabFiles.answers c.join.new.files in
     let k = g.F.LabFiles.kept c.args.files.now in
     let o = g.W.Write.contents c.args.out.now in
     let same = c.in_ok-allow_merge.ensures.same in
     let more : AnswersNoMore a b = subst (λ f. AnswersNoMore (g.F.LabFiles.answers f) b) same c.in_ok-merged.ensures.no_more in
-    handed_on (IsMergeFault a c.args.words k (g.F.LabFiles.kept c.keep_pages.new.files) o o) _ _ c.from_residual-in_err-keep_pages.ensures.1
-    (not_made a c.args.words c.in_ok-geometry.geometry k _ o _ c.in_ok-geometry.ensures.ok c.in_ok-allow_merge.ensures.ok (c.in_err-keep_pages.ensures.kept ∙ (c.in_ok-merged.ensures.kept ∙ ap g.F.LabFiles.kept same))
-    (inr (inl (unwritten_before a b c.args.words.out.now _ more c.in_err-keep_pages.ensures.fault))))
+    handed_on (IsMergeFault a c.args.words k (g.F.LabFiles.kept c.keep.new.files) o o) _ _ c.from_residual-in_err-keep.ensures.1
+    (not_made a c.args.words c.in_ok-geometry.geometry k _ o _ c.in_ok-geometry.ensures.ok c.in_ok-allow_merge.ensures.ok (c.in_err-keep.ensures.kept ∙ (c.in_ok-merged.ensures.kept ∙ ap g.F.LabFiles.kept same))
+    (inr (inl (unwritten_before a b c.args.words.out.now _ more c.in_err-keep.ensures.fault))))
 
 pub returns-in-Ok-clause-ok : goal.returns-in-Ok-clause-ok
 returns-in-Ok-clause-ok g c =
     let same = c.in_ok-allow_merge.ensures.same in
     let words = c.args.words in
     let geometry = c.in_ok-geometry.geometry in
-    let pieces = g.F.Pages.PageTarget.pieces c.in_ok-merged.merged.target in
+    let pieces = g.F.Target.Pieces.pieces c.in_ok-merged.merged.target in
     let conflicts = c.in_ok-merged.merged.conflicts.items in
     let unsound = c.in_ok-merged.merged.unsound.items in
     let tally = c.in_ok-merged.merged.tally in
@@ -64,7 +64,7 @@ returns-in-Ok-clause-ok g c =
         geometry_is = c.in_ok-geometry.ensures.ok;
         allowed = c.in_ok-allow_merge.ensures.ok;
         made = subst (λ f. IsJoined (g.F.LabFiles.answers f) (dumps_of words) geometry pieces conflicts unsound tally) same c.in_ok-merged.ensures.made;
-        put = c.in_ok-keep_pages.ensures.ok ∙ ap (λ x. with_kept x words.out.now pieces) (c.in_ok-merged.ensures.kept ∙ ap g.F.LabFiles.kept same);
+        put = c.in_ok-keep.ensures.ok ∙ ap (λ x. with_kept x words.out.now pieces) (c.in_ok-merged.ensures.kept ∙ ap g.F.LabFiles.kept same);
       };
       told = subst (λ f. Appends (g.W.Write.contents c.args.out.now) (g.W.Write.contents c.print_merged.new.out) (merge_text f conflicts unsound tally)) c.printer-printer.ensures
           (subst (λ (rows : List ℕ). Appends (g.W.Write.contents c.args.out.now) (g.W.Write.contents c.print_merged.new.out) (merge_text c.printer-printer.result.form conflicts rows tally)) c.deref-2.ensures.value
@@ -77,17 +77,17 @@ returns-clause-fault g c =
     let same = c.in_ok-allow_merge.ensures.same in
     let words = c.args.words in
     let geometry = c.in_ok-geometry.geometry in
-    let pieces = g.F.Pages.PageTarget.pieces c.in_ok-merged.merged.target in
+    let pieces = g.F.Target.Pieces.pieces c.in_ok-merged.merged.target in
     let conflicts = c.in_ok-merged.merged.conflicts.items in
     let unsound = c.in_ok-merged.merged.unsound.items in
     let tally = c.in_ok-merged.merged.tally in
-    let put : PutMerge a words (g.F.LabFiles.kept c.args.files.now) (g.F.LabFiles.kept c.keep_pages.new.files) conflicts unsound tally = record {
+    let put : PutMerge a words (g.F.LabFiles.kept c.args.files.now) (g.F.LabFiles.kept c.keep.new.files) conflicts unsound tally = record {
       g = geometry;
       pieces = pieces;
       geometry_is = c.in_ok-geometry.ensures.ok;
       allowed = c.in_ok-allow_merge.ensures.ok;
       made = subst (λ f. IsJoined (g.F.LabFiles.answers f) (dumps_of words) geometry pieces conflicts unsound tally) same c.in_ok-merged.ensures.made;
-      put = c.in_ok-keep_pages.ensures.ok ∙ ap (λ x. with_kept x words.out.now pieces) (c.in_ok-merged.ensures.kept ∙ ap g.F.LabFiles.kept same);
+      put = c.in_ok-keep.ensures.ok ∙ ap (λ x. with_kept x words.out.now pieces) (c.in_ok-merged.ensures.kept ∙ ap g.F.LabFiles.kept same);
     } in
     inr (
       conflicts,

@@ -42,17 +42,17 @@ returns-in_err-repaired-clause-fault g c =
     (not_made a c.args.words c.in_ok-geometry.geometry c.in_ok-rows.rows k _ o _ c.in_ok-geometry.ensures.ok c.in_ok-rows.ensures.ok c.in_ok-allow.ensures.ok (c.in_err-repaired.ensures.kept ∙ ap g.F.LabFiles.kept same)
     (subst (λ f. IsUnmade (g.F.LabFiles.answers f) c.in_ok-geometry.geometry c.args.words.dump.now c.args.words.out.now c.in_err-repaired.field-0.0) same c.in_err-repaired.ensures.fault))
 
-pub returns-in_err-keep_pages-clause-fault : goal.returns-in_err-keep_pages-clause-fault
-returns-in_err-keep_pages-clause-fault g c =
+pub returns-in_err-keep-clause-fault : goal.returns-in_err-keep-clause-fault
+returns-in_err-keep-clause-fault g c =
     let a = g.F.LabFiles.answers c.args.files.now in
     let b = g.F.LabFiles.answers c.mend.new.files in
     let k = g.F.LabFiles.kept c.args.files.now in
     let o = g.W.Write.contents c.args.out.now in
     let same = c.in_ok-allow.ensures.same in
     let more : AnswersNoMore a b = subst (λ f. AnswersNoMore (g.F.LabFiles.answers f) b) same c.in_ok-repaired.ensures.no_more in
-    handed_on (IsRepairFault a c.args.words k (g.F.LabFiles.kept c.keep_pages.new.files) o o) _ _ c.from_residual-in_err-keep_pages.ensures.1
-    (not_made a c.args.words c.in_ok-geometry.geometry c.in_ok-rows.rows k _ o _ c.in_ok-geometry.ensures.ok c.in_ok-rows.ensures.ok c.in_ok-allow.ensures.ok (c.in_err-keep_pages.ensures.kept ∙ (c.in_ok-repaired.ensures.kept ∙ ap g.F.LabFiles.kept same))
-    (inr (inr (inl (unwritten_before a b c.args.words.out.now _ more c.in_err-keep_pages.ensures.fault)))))
+    handed_on (IsRepairFault a c.args.words k (g.F.LabFiles.kept c.keep.new.files) o o) _ _ c.from_residual-in_err-keep.ensures.1
+    (not_made a c.args.words c.in_ok-geometry.geometry c.in_ok-rows.rows k _ o _ c.in_ok-geometry.ensures.ok c.in_ok-rows.ensures.ok c.in_ok-allow.ensures.ok (c.in_err-keep.ensures.kept ∙ (c.in_ok-repaired.ensures.kept ∙ ap g.F.LabFiles.kept same))
+    (inr (inr (inl (unwritten_before a b c.args.words.out.now _ more c.in_err-keep.ensures.fault)))))
 
 pub returns-in-Ok-clause-ok : goal.returns-in-Ok-clause-ok
 returns-in-Ok-clause-ok g c =
@@ -60,7 +60,7 @@ returns-in-Ok-clause-ok g c =
     let words = c.args.words in
     let geometry = c.in_ok-geometry.geometry in
     let rows = c.in_ok-rows.rows in
-    let pieces = g.F.Pages.PageTarget.pieces c.in_ok-repaired.repaired.target in
+    let pieces = g.F.Target.Pieces.pieces c.in_ok-repaired.repaired.target in
     let mends = c.in_ok-repaired.repaired.mends.items in
     record {
       mends = mends;
@@ -72,7 +72,7 @@ returns-in-Ok-clause-ok g c =
         rows_are = c.in_ok-rows.ensures.ok;
         allowed = c.in_ok-allow.ensures.ok;
         made = subst (λ f. IsMended (g.F.LabFiles.answers f) words.dump.now geometry rows pieces mends) same c.in_ok-repaired.ensures.made;
-        put = c.in_ok-keep_pages.ensures.ok ∙ ap (λ x. with_kept x words.out.now pieces) (c.in_ok-repaired.ensures.kept ∙ ap g.F.LabFiles.kept same);
+        put = c.in_ok-keep.ensures.ok ∙ ap (λ x. with_kept x words.out.now pieces) (c.in_ok-repaired.ensures.kept ∙ ap g.F.LabFiles.kept same);
       };
       told = subst (λ f. Appends (g.W.Write.contents c.args.out.now) (g.W.Write.contents c.print_repaired.new.out) (repair_text f mends)) c.printer.ensures (subst (λ (ms : List Mend). Appends (g.W.Write.contents c.args.out.now) (g.W.Write.contents c.print_repaired.new.out) (repair_text c.printer.result.form ms)) c.deref.ensures.value c.in-Ok.ensures);
     }
@@ -84,9 +84,9 @@ returns-clause-fault g c =
     let words = c.args.words in
     let geometry = c.in_ok-geometry.geometry in
     let rows = c.in_ok-rows.rows in
-    let pieces = g.F.Pages.PageTarget.pieces c.in_ok-repaired.repaired.target in
+    let pieces = g.F.Target.Pieces.pieces c.in_ok-repaired.repaired.target in
     let mends = c.in_ok-repaired.repaired.mends.items in
-    let put : PutRepair a words (g.F.LabFiles.kept c.args.files.now) (g.F.LabFiles.kept c.keep_pages.new.files) mends = record {
+    let put : PutRepair a words (g.F.LabFiles.kept c.args.files.now) (g.F.LabFiles.kept c.keep.new.files) mends = record {
       g = geometry;
       rows = rows;
       pieces = pieces;
@@ -94,6 +94,6 @@ returns-clause-fault g c =
       rows_are = c.in_ok-rows.ensures.ok;
       allowed = c.in_ok-allow.ensures.ok;
       made = subst (λ f. IsMended (g.F.LabFiles.answers f) words.dump.now geometry rows pieces mends) same c.in_ok-repaired.ensures.made;
-      put = c.in_ok-keep_pages.ensures.ok ∙ ap (λ x. with_kept x words.out.now pieces) (c.in_ok-repaired.ensures.kept ∙ ap g.F.LabFiles.kept same);
+      put = c.in_ok-keep.ensures.ok ∙ ap (λ x. with_kept x words.out.now pieces) (c.in_ok-repaired.ensures.kept ∙ ap g.F.LabFiles.kept same);
     } in
     inr (mends, put, (c.unprinted.ensures, subst (λ f. AppendsFront (g.W.Write.contents c.args.out.now) (g.W.Write.contents c.print_repaired.new.out) (repair_text f mends)) c.printer.ensures (subst (λ (ms : List Mend). AppendsFront (g.W.Write.contents c.args.out.now) (g.W.Write.contents c.print_repaired.new.out) (repair_text c.printer.result.form ms)) c.deref.ensures.value c.in-Err.ensures)))

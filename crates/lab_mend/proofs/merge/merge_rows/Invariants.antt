@@ -10,8 +10,8 @@ invariant-loop-row g l =
     record {
       count : length l.readers ≡ length l.initial.readers;
       room : length l.pages ≡ length l.initial.pages;
-      stands : Stands l.geometry l.row l.merging.conflicts.items l.merging.tally l.merging.scratch.items (g.T.PageTarget.pieces l.merging.target);
-      shows : (files : List (List ℕ)) → AreAt (map g.R.Read.remaining l.initial.readers) files 0 → Shows l.geometry (row_of l.geometry files) l.row l.merging.conflicts.items l.merging.tally (g.T.PageTarget.pieces l.merging.target);
+      stands : Stands l.geometry l.row l.merging.conflicts.items l.merging.tally l.merging.scratch.items (g.T.Pieces.pieces l.merging.target);
+      shows : (files : List (List ℕ)) → AreAt (map g.R.Read.remaining l.initial.readers) files 0 → Shows l.geometry (row_of l.geometry files) l.row l.merging.conflicts.items l.merging.tally (g.T.Pieces.pieces l.merging.target);
       unsound : (files : List (List ℕ)) → AreAt (map g.R.Read.remaining l.initial.readers) files 0 → l.merging.unsound.items ≡ unsound_below l.geometry (row_of l.geometry files) l.row;
       listed : AreListed l.row l.merging.unsound.items;
       read : (files : List (List ℕ)) → AreAt (map g.R.Read.remaining l.initial.readers) files 0 → AreAt (map g.R.Read.remaining l.readers) files (l.row * page_bytes l.geometry);

@@ -12,14 +12,14 @@ use Rattle.lab_mend.proofs.repair.repair_dump.Goals as goal
 
 pub scan-requires-clause-shows : goal.scan-requires-clause-shows
 scan-requires-clause-shows g c = λ image.
-    let pieces = g.T.PageTarget.pieces c.args.target in
+    let pieces = g.T.Pieces.pieces c.args.target in
     subst (λ (ms : List Mend). Shows c.args.rows 0 image ms pieces) (sym c.new.ensures.items) (shows_first c.args.rows image pieces)
 
 pub returns-in-Ok-clause-ok : goal.returns-in-Ok-clause-ok
 returns-in-Ok-clause-ok g c =
     let geo = c.args.geometry.now in
     let taker = c.scan.new.taker in
-    let pieces = g.T.PageTarget.pieces taker.target in
+    let pieces = g.T.Pieces.pieces taker.target in
     let rows = c.args.rows in
     let same : taker.rows ≡ rows = c.in-Ok.ensures.asked in
     let stands = subst (λ (r : Option Rows). Stands geo r (row_count geo) taker.mends.items taker.scratch.items pieces) same c.in-Ok.ensures.stands in
@@ -31,7 +31,7 @@ pub returns-in-Ok-clause-own : goal.returns-in-Ok-clause-own
 returns-in-Ok-clause-own g c =
     let geo = c.args.geometry.now in
     let taker = c.scan.new.taker in
-    let pieces = g.T.PageTarget.pieces taker.target in
+    let pieces = g.T.Pieces.pieces taker.target in
     let same : taker.rows ≡ c.args.rows = c.in-Ok.ensures.asked in
     let stands = subst (λ (r : Option Rows). Stands geo r (row_count geo) taker.mends.items taker.scratch.items pieces) same c.in-Ok.ensures.stands in
     record { listed = stands.listed; own = stands.own }

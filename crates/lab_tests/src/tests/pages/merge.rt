@@ -1,6 +1,7 @@
 //! Three readings of one die, each with pages of its own that are wrong.
-use super::{PAGE, PAGES, Pages};
+use super::{PAGE, PAGES};
 use crate::tests::dumps::{changed, set};
+use crate::tests::files::Beside;
 use lab_mend::{MergeFault, Tally, merge_dumps};
 use page_layout::geometry::Geometry;
 use std::alloc::Global;
@@ -48,9 +49,7 @@ fn are_merged(
     mut readers: [&[u8]; 3],
     want: &[u8],
 ) -> Result<bool, Fail> {
-    let target = Pages {
-        bytes: vec![in alloc; 0u8; want.len()]?,
-    };
+    let target = Beside::new(vec![in alloc; 0u8; want.len()]?, PAGE);
     let told = merge_dumps(alloc, &mut readers, geometry, target)?;
     Ok(
         told.conflicts.as_slice() == [8u32].as_slice()
@@ -75,9 +74,7 @@ fn each_origin(rt: HostRuntime) -> Result<(), Fail> {
 
 // Whether the second of two readings is named, which has no byte.
 fn is_second_named(alloc: Global, geometry: &Geometry, dump: &[u8]) -> Result<bool, Fail> {
-    let target = Pages {
-        bytes: vec![in alloc; 0u8; dump.len()]?,
-    };
+    let target = Beside::new(vec![in alloc; 0u8; dump.len()]?, PAGE);
     let mut readers = [dump, &[]];
     match merge_dumps(alloc, &mut readers, geometry, target) {
         Ok(_) => Ok(false),

@@ -1,5 +1,6 @@
 //! A dump with pages that are one bit and two bits away from sound ones, of which all are mended or those of some rows.
-use super::{PAGE, PAGES, Pages};
+use super::{PAGE, PAGES};
+use crate::tests::files::Beside;
 use lab_dump::Rows;
 use lab_mend::{Mend, repair_dump};
 use page_layout::geometry::Geometry;
@@ -99,9 +100,7 @@ fn turn_back(bytes: &mut [u8], mends: &[Mend]) {
 fn holds(alloc: Global, geometry: &Geometry, dump: &[u8], case: &Case) -> Result<bool, Fail> {
     let mut want = Vec::from_slice(alloc, dump)?;
     turn_back(&mut want, case.mends);
-    let target = Pages {
-        bytes: vec![in alloc; 0u8; dump.len()]?,
-    };
+    let target = Beside::new(vec![in alloc; 0u8; dump.len()]?, PAGE);
     let mut reader = dump;
     let told = repair_dump(alloc, &mut reader, geometry, case.rows, target)?;
     Ok(told.mends.as_slice() == case.mends && told.target.bytes == want)

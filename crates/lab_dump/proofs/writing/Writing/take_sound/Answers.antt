@@ -36,7 +36,7 @@ returns-in-Ok-clause-stands g c =
       blank_is = stands.blank_is;
       few = (let few = stands.few in omega arith);
       sized = subst (λ ps. IfSome ps (AreSized geo)) (sym c.in-Ok.ensures)
-          (sized_after geo c.step-held.result.1 n (content_of_kind geo found.kind body) (g.T.Target.pieces c.args.self.now.target) stands.sized);
+          (sized_after geo c.step-held.result.1 n (content_of_kind geo found.kind body) (g.T.Pieces.pieces c.args.self.now.target) stands.sized);
     }
 
 pub returns-in-Ok-clause-shows : goal.returns-in-Ok-clause-shows
@@ -47,7 +47,7 @@ returns-in-Ok-clause-shows g c = λ image p shown at body says.
     let found = c.args.found.now in
     let key_is : key_of found ≡ key.Sector n = sym c.key.ensures ∙ c.in-Sector.is in
     let change = c.step-held.result.1 in
-    let pieces = g.T.Target.pieces c.args.self.now.target in
+    let pieces = g.T.Pieces.pieces c.args.self.now.target in
     let noted = sector_noted geo c.args.row image c.args.self.now.held.items c.args.self.now.unsound pieces p found n c.index.result.now c.step-held.result.0 change shown stands.sized stands.size (omega arith) at says key_is c.index.ensures c.step-held.ensures.tells c.step-held.ensures.moves in
     subst (λ ps. Shows geo (c.args.row + 1) image (set c.args.self.now.held.items n c.step-held.result.0) c.args.self.now.unsound ps)
     (ap (λ xs. pieces_after change n (content_of_kind geo found.kind xs) (zeros geo) pieces) (sym body) ∙ sym c.in-Ok.ensures) noted

@@ -11,8 +11,8 @@ returns-in-Ok-clause-stands g c =
     let s = c.args.self.now in
     let out = c.choose-origin.new.out in
     let back = take_at out (drop (length out) s.scratch.items) s.scratch.len (omega arith) in
-    stands_next geo c.args.row s.conflicts.items s.tally (pages_in geo c.args.pages.now c.args.count) c.choose-origin.result s.scratch.items out (g.T.PageTarget.pieces s.target) c.requires.row_in c.requires.stands (omega arith)
-    c.choose-origin.ensures _ _ _ _ c.in_ok-name_conflict.ensures c.count-self.ensures back (c.in-Ok.ensures ∙ ap (λ bytes. option_map (λ ps. set ps c.args.row bytes) (g.T.PageTarget.pieces s.target)) c.deref.ensures.value)
+    stands_next geo c.args.row s.conflicts.items s.tally (pages_in geo c.args.pages.now c.args.count) c.choose-origin.result s.scratch.items out (g.T.Pieces.pieces s.target) c.requires.row_in c.requires.stands (omega arith)
+    c.choose-origin.ensures _ _ _ _ c.in_ok-name_conflict.ensures c.count-self.ensures back (c.in-Ok.ensures ∙ ap (λ bytes. option_map (λ ps. set ps c.args.row bytes) (g.T.Pieces.pieces s.target)) c.deref.ensures.value)
 
 pub returns-in-Ok-clause-shows : goal.returns-in-Ok-clause-shows
 returns-in-Ok-clause-shows g c = λ rows are shown.
@@ -20,8 +20,8 @@ returns-in-Ok-clause-shows g c = λ rows are shown.
     let s = c.args.self.now in
     let out = c.choose-origin.new.out in
     let back = take_at out (drop (length out) s.scratch.items) s.scratch.len (omega arith) in
-    shows_next geo rows c.args.row s.conflicts.items s.tally (pages_in geo c.args.pages.now c.args.count) c.choose-origin.result s.scratch.items out (g.T.PageTarget.pieces s.target) c.requires.row_in c.requires.stands shown are
-    c.choose-origin.ensures _ _ _ _ c.in_ok-name_conflict.ensures c.count-self.ensures back (c.in-Ok.ensures ∙ ap (λ bytes. option_map (λ ps. set ps c.args.row bytes) (g.T.PageTarget.pieces s.target)) c.deref.ensures.value)
+    shows_next geo rows c.args.row s.conflicts.items s.tally (pages_in geo c.args.pages.now c.args.count) c.choose-origin.result s.scratch.items out (g.T.Pieces.pieces s.target) c.requires.row_in c.requires.stands shown are
+    c.choose-origin.ensures _ _ _ _ c.in_ok-name_conflict.ensures c.count-self.ensures back (c.in-Ok.ensures ∙ ap (λ bytes. option_map (λ ps. set ps c.args.row bytes) (g.T.Pieces.pieces s.target)) c.deref.ensures.value)
 
 pub returns-in-Ok-clause-unsound : goal.returns-in-Ok-clause-unsound
 returns-in-Ok-clause-unsound g c = λ rows are before.

@@ -16,5 +16,5 @@ returns-clause-shows g c =
     let back = take_at c.write_page-bit.new.bytes (drop (length c.write_page-bit.new.bytes) c.args.self.now.scratch.items) c.args.self.now.scratch.len (omega arith) in
     let after = c.write.new.self in
     ok_map _ _ c.write.result (λ more image shown at.
-    subst (λ (asked : Option Rows). Shows asked (c.args.row + 1) image after.mends.items (g.T.PageTarget.pieces after.target)) (sym c.write.ensures.asked)
+    subst (λ (asked : Option Rows). Shows asked (c.args.row + 1) image after.mends.items (g.T.Pieces.pieces after.target)) (sym c.write.ensures.asked)
     (more image (page c.args.body.now c.args.spare.now) shown at c.write_page-bit.ensures.bit (back ∙ c.write_page-bit.ensures.piece))) c.write.ensures.shows

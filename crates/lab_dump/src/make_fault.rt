@@ -1,0 +1,48 @@
+//! Why no file was made of a dump.
+ghost use Rattle.std.specs.Prelude.{◌≡◌};
+
+use crate::pass::ScanFault;
+use std::alloc::AllocError;
+use thiserror::Error;
+
+/// Why no file of sectors or of pages was made of a dump.
+#[derive(Clone, Copy, Debug, PartialEq, Eq, Error)]
+pub enum MakeFault {
+    /// The dump has not as many bytes as the die's pages have.
+    #[error("the dump has not as many bytes as the geometry says")]
+    WrongLength,
+    /// A read of the dump failed, or was interrupted.
+    #[error("the dump could not be read")]
+    Source,
+    /// A sector or a page could not be written.
+    #[error("a sector or a page could not be written")]
+    Target,
+    /// A growth was refused.
+    #[error("out of memory")]
+    OutOfMemory,
+}
+
+impl From<ScanFault> for MakeFault {
+    ghost use Rattle.lab_dump.specs.Unmade.{fault_of};
+
+    ghost from_gives = { λ scan fault. fault ≡ fault_of scan };
+
+    fn from(fault: ScanFault) -> MakeFault {
+        match fault {
+            ScanFault::WrongLength => MakeFault::WrongLength,
+            ScanFault::Source => MakeFault::Source,
+            ScanFault::Stopped => MakeFault::Target,
+        }
+    }
+}
+
+impl From<AllocError> for MakeFault {
+    ghost use Rattle.std.specs.Prelude.{◌≡◌};
+    ghost use Rattle.lab_dump.specs.declared.make_fault.MakeFault.{MakeFault};
+
+    ghost from_gives = { λ _ fault. fault ≡ MakeFault.OutOfMemory };
+
+    fn from(_error: AllocError) -> MakeFault {
+        MakeFault::OutOfMemory
+    }
+}
