@@ -1,5 +1,5 @@
 //! The words of the command line: one level of subcommands, with help and a version.
-ghost use Rattle.std.specs.Prelude.{◌≡◌, ◌≢◌, List, ℕ, IfOk, IfSome, Ok, None, Err, codes, false};
+ghost use Rattle.std.specs.Prelude.{◌≡◌, ◌≢◌, List, ℕ, IfOk, IfSome, None, Err, codes};
 ghost use Rattle.std.specs.Borrow.{Bor};
 ghost use Rattle.program_words.specs.Met.{entries_of, texts};
 ghost use Rattle.lab_commands.specs.declared.words.ArrayWords.{ArrayWords};
@@ -14,7 +14,7 @@ ghost use Rattle.lab_commands.specs.Words.{AreDumpsAt, IsArrayAt, IsAsked, IsAt,
 
 use crate::grammar::grammar;
 use program_words::{CommandWords, Met, WordsFault, read_words};
-use std::alloc::{AllocError, Global};
+use std::alloc::Global;
 
 /// How a command tells what it does.
 #[derive(Clone, Copy)]
@@ -210,30 +210,19 @@ fn merge_others<'a>(found: &CommandWords<'a>, dumps: Vec<&'a str>) -> Option<Mer
     })
 }
 
-// The same with the dumps.
-fn merge_words<'a>(
-    alloc: Global,
-    found: &CommandWords<'a>,
-) -> Result<Option<MergeWords<'a>>, AllocError>
-    ensures some { IfOk result (λ read. IfSome read (IsMergeAt (entries_of found.now))) }
-    ensures none { result ≡ Ok None → (read : MergeWords) → ¬ IsMergeAt (entries_of found.now) read }
+// What the command `merge` asks for, with these words.
+fn merge_asked<'a>(alloc: Global, found: &CommandWords<'a>) -> Result<Asked<'a>, WordsFault>
+    ensures some { IfOk result (IsAt (codes "merge") (entries_of found.now)) }
+    ensures none { result ≡ Err WordsFault.NoSuchCommand → (asked : Asked) → ¬ IsAt (codes "merge") (entries_of found.now) asked }
 {
     let Some(dumps) = dump_words(found) else {
-        return Ok(None);
+        return Err(WordsFault::NoSuchCommand);
     };
     let mut kept = Vec::new(alloc);
     kept.extend_from_slice(dumps)?;
-    Ok(merge_others(found, kept))
-}
-
-// What the command `merge` asks for, with these words.
-fn merge_asked<'a>(alloc: Global, found: &CommandWords<'a>) -> Result<Option<Asked<'a>>, AllocError>
-    ensures some { IfOk result (λ read. IfSome read (IsAt (codes "merge") (entries_of found.now))) }
-    ensures none { result ≡ Ok None → (asked : Asked) → ¬ IsAt (codes "merge") (entries_of found.now) asked }
-{
-    match merge_words(alloc, found)? {
-        Some(read) => Ok(Some(Asked::Merge(read))),
-        None => Ok(None),
+    match merge_others(found, kept) {
+        Some(read) => Ok(Asked::Merge(read)),
+        None => Err(WordsFault::NoSuchCommand),
     }
 }
 
@@ -257,13 +246,16 @@ fn asked_at<'a>(
     alloc: Global,
     name: &str,
     found: &CommandWords<'a>,
-) -> Result<Option<Asked<'a>>, AllocError>
-    ensures some { IfOk result (λ asked. IfSome asked (IsAt name.now (entries_of found.now))) }
-    ensures none { result ≡ Ok None → (asked : Asked) → ¬ IsAt name.now (entries_of found.now) asked }
+) -> Result<Asked<'a>, WordsFault>
+    ensures some { IfOk result (IsAt name.now (entries_of found.now)) }
+    ensures none { result ≡ Err WordsFault.NoSuchCommand → (asked : Asked) → ¬ IsAt name.now (entries_of found.now) asked }
 {
     match name {
         "merge" => merge_asked(alloc, found),
-        _ => Ok(other_asked(name, found)),
+        _ => match other_asked(name, found) {
+            Some(asked) => Ok(asked),
+            None => Err(WordsFault::NoSuchCommand),
+        },
     }
 }
 
@@ -278,10 +270,7 @@ pub fn parse<'a>(alloc: Global, words: &'a [&'a str]) -> Result<Asked<'a>, Words
     ensures none { result ≡ Err WordsFault.NoSuchCommand → IsNoCommand (texts words.now) }
 {
     match read_words(alloc, &grammar(), words) {
-        Ok(Met::Command { name, words }) => match asked_at(alloc, name, &words)? {
-            Some(asked) => Ok(asked),
-            None => Err(WordsFault::NoSuchCommand),
-        },
+        Ok(Met::Command { name, words }) => asked_at(alloc, name, &words),
         Ok(Met::Text(text)) => Ok(Asked::Text(text)),
         Err(fault) => Err(fault),
     }
