@@ -136,8 +136,8 @@ fn info_words<'a>(found: &CommandWords<'a>) -> Option<InfoWords<'a>>
     })
 }
 
-// What the command of this name asks for, with these words.
-fn asked_at<'a>(name: &str, found: &CommandWords<'a>) -> Option<DiskWords<'a>>
+// What the command of this name asks for, with these words, where there is one.
+fn asked_of<'a>(name: &str, found: &CommandWords<'a>) -> Option<DiskWords<'a>>
     ensures some { IfSome result (IsAt name.now (entries_of found.now)) }
     ensures none { result ≡ None → (asked : DiskWords) → ¬ IsAt name.now (entries_of found.now) asked }
 {
@@ -146,6 +146,17 @@ fn asked_at<'a>(name: &str, found: &CommandWords<'a>) -> Option<DiskWords<'a>>
         "serve" => Some(DiskWords::Serve(serve_words(found)?)),
         "info" => Some(DiskWords::Info(info_words(found)?)),
         _ => None,
+    }
+}
+
+// What the command of this name asks for, with these words.
+fn asked_at<'a>(name: &str, found: &CommandWords<'a>) -> Result<DiskWords<'a>, WordsFault>
+    ensures some { IfOk result (IsAt name.now (entries_of found.now)) }
+    ensures none { result ≡ Err WordsFault.NoSuchCommand → (asked : DiskWords) → ¬ IsAt name.now (entries_of found.now) asked }
+{
+    match asked_of(name, found) {
+        Some(asked) => Ok(asked),
+        None => Err(WordsFault::NoSuchCommand),
     }
 }
 
@@ -161,10 +172,7 @@ pub fn parse<'a>(alloc: Global, words: &'a [&'a str]) -> Result<DiskWords<'a>, W
     ensures none { result ≡ Err WordsFault.NoSuchCommand → IsNoCommand (texts words.now) }
 {
     match read_words(alloc, &grammar(), words) {
-        Ok(Met::Command { name, words }) => match asked_at(name, &words) {
-            Some(asked) => Ok(asked),
-            None => Err(WordsFault::NoSuchCommand),
-        },
+        Ok(Met::Command { name, words }) => asked_at(name, &words),
         Ok(Met::Text(text)) => Ok(DiskWords::Text(text)),
         Err(fault) => Err(fault),
     }

@@ -4,22 +4,22 @@ use Rattle.program_words.specs.Met.{texts, AsksText}
 use Rattle.program_words.specs.declared.met.WordsFault.TheVariants as WordsFault
 use Rattle.program_words.proofs.MetLemmas.{none_by, unmet_by}
 use Rattle.disk_commands.specs.Words.{grammar, IsAt}
-use Rattle.disk_commands.proofs.GrammarLemmas.{command_by, simple_here}
+use Rattle.disk_commands.proofs.GrammarLemmas.{asked_as, simple_here}
 use Rattle.disk_commands.proofs.words.parse.Goals as goal
 
-pub returns-in-Some-clause-ok : goal.returns-in-Some-clause-ok
-returns-in-Some-clause-ok c =
+pub returns-in-Ok-Command-clause-ok : goal.returns-in-Ok-Command-clause-ok
+returns-in-Ok-Command-clause-ok c =
     let told = c.grammar.ensures in
     let met = c.in-Ok-Command.ensures.ok (simple_here _ told) in
-    command_by c.in-Some.asked (program_app c.grammar.result) (texts c.args.words.now) c.in-Ok-Command.name c.in-Ok-Command.words told
-    (rw c.in-Ok-Command.field-0-is at met) c.in-Some.ensures.some
+    asked_as c.asked_at.result (program_app c.grammar.result) (texts c.args.words.now) c.in-Ok-Command.name c.in-Ok-Command.words told
+    (rw c.in-Ok-Command.field-0-is at met) c.asked_at.ensures.some
 
 pub returns-in-Ok-Command-clause-none : goal.returns-in-Ok-Command-clause-none
 returns-in-Ok-Command-clause-none c = λ is.
     let told = c.grammar.ensures in
     let met = c.in-Ok-Command.ensures.ok (simple_here _ told) in
     none_by IsAt (program_app c.grammar.result) grammar (texts c.args.words.now) c.in-Ok-Command.name c.in-Ok-Command.words told
-    (rw c.in-Ok-Command.field-0-is at met) (c.asked_at.ensures.none c.in-None.is)
+    (rw c.in-Ok-Command.field-0-is at met) (c.asked_at.ensures.none is)
 
 pub returns-in-Ok-Text-clause-ok : goal.returns-in-Ok-Text-clause-ok
 returns-in-Ok-Text-clause-ok c =
@@ -27,8 +27,8 @@ returns-in-Ok-Text-clause-ok c =
     let met = c.in-Ok-Text.ensures.ok (simple_here _ told) in
     subst (λ g. AsksText g (texts c.args.words.now)) told (rw c.in-Ok-Text.field-0-is at met)
 
-pub returns-clause-none : goal.returns-clause-none
-returns-clause-none c = λ is.
+pub returns-in-Err-clause-none : goal.returns-in-Err-clause-none
+returns-in-Err-clause-none c = λ is.
     let told = c.grammar.ensures in
     let same : c.in-Err.fault ≡ WordsFault.NoSuchCommand = cc in
     unmet_by IsAt (program_app c.grammar.result) grammar (texts c.args.words.now) told (c.read_words.ensures.none (simple_here _ told) (c.in-Err.is ∙ ap Err same))
