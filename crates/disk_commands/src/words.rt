@@ -142,9 +142,9 @@ fn asked_of<'a>(name: &str, found: &CommandWords<'a>) -> Option<DiskWords<'a>>
     ensures none { result ≡ None → (asked : DiskWords) → ¬ IsAt name.now (entries_of found.now) asked }
 {
     match name {
-        "create" => Some(DiskWords::Create(create_words(found)?)),
-        "serve" => Some(DiskWords::Serve(serve_words(found)?)),
-        "info" => Some(DiskWords::Info(info_words(found)?)),
+        "create" => create_words(found).map(DiskWords::Create),
+        "serve" => serve_words(found).map(DiskWords::Serve),
+        "info" => info_words(found).map(DiskWords::Info),
         _ => None,
     }
 }

@@ -58,6 +58,10 @@ looked_words f = codes " looked " ++ (decimal f.looked ++ (codes " sound " ++ (d
 abbrev pub told_words : Fit → List ℕ
 told_words f = codes " table " ++ (says_words f.table ++ (codes " blocks " ++ (decimal f.blocks_told ++ (codes " sectors " ++ decimal f.sectors_told))))
 
+-- a geometry that fits, with all that is told of it
+abbrev pub fit_words : Fit → List ℕ
+fit_words f = codes "geometry " ++ (shape_words f ++ (looked_words f ++ told_words f))
+
 -- a block, its state, and its pages that are neither erased nor sound
 abbrev pub block_words : ℕ → BlockState → ℕ → List ℕ
 block_words block s unsound =
@@ -88,7 +92,7 @@ line_words (Missing of number) = codes "missing " ++ (label_words of ++ (codes "
 line_words (Block block s unsound) = block_words block s unsound
 line_words (PlainBlock block unsound) = codes "block " ++ (decimal block ++ (codes " unsound " ++ decimal unsound))
 line_words (Lost sector) = codes "lost sector " ++ decimal sector
-line_words (line.Fit f) = codes "geometry " ++ (shape_words f ++ (looked_words f ++ told_words f))
+line_words (line.Fit f) = fit_words f
 line_words (Mended row bit) = codes "mended row " ++ (decimal row ++ (codes " bit " ++ decimal bit))
 line_words (MendedCount n) = codes "mended " ++ decimal n
 line_words (Differ row) = codes "differ row " ++ decimal row

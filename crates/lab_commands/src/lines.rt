@@ -178,6 +178,22 @@ impl fmt::Display for Told {
     }
 }
 
+// A geometry that fits, with all that is told of it.
+#[derive(Clone, Copy)]
+struct FitText(Fit);
+
+impl fmt::Display for FitText {
+    ghost use Rattle.std.specs.Prelude.{Some};
+    ghost use Rattle.lab_commands.specs.Lines.{fit_words};
+
+    ghost output = { λ text. Some (fit_words text.0) };
+
+    fn fmt<W: fmt::Write>(&self, f: &mut fmt::Formatter<W>) -> fmt::Result {
+        let (shape, looked, told) = (Shape(self.0), Looked(self.0), Told(self.0));
+        write!(f, "geometry {shape}{looked}{told}")
+    }
+}
+
 // A block with its state and its unsound pages.
 #[derive(Clone, Copy)]
 struct BlockText(u32, BlockState, u32);
@@ -295,7 +311,7 @@ impl fmt::Display for Line {
             Line::Block(block, state, unsound) => BlockText(block, state, unsound).fmt(f),
             Line::PlainBlock(block, unsound) => two(f, "block ", block, " unsound ", unsound),
             Line::Lost(sector) => one(f, "lost sector ", u64::from(sector)),
-            Line::Fit(fit) => write!(f, "geometry {}{}{}", Shape(fit), Looked(fit), Told(fit)),
+            Line::Fit(fit) => FitText(fit).fmt(f),
             Line::Mended(row, bit) => two(f, "mended row ", row, " bit ", bit),
             Line::MendedCount(count) => one(f, "mended ", count),
             Line::Differ(row) => one(f, "differ row ", u64::from(row)),

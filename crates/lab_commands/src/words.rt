@@ -232,11 +232,11 @@ fn other_asked<'a>(name: &str, found: &CommandWords<'a>) -> Option<Asked<'a>>
     ensures none { result ≡ None → name.now ≢ codes "merge" → (asked : Asked) → ¬ IsAt name.now (entries_of found.now) asked }
 {
     match name {
-        "geometry" => Some(Asked::Geometry(geometry_words(found)?)),
-        "array" => Some(Asked::Array(array_words(found)?)),
-        "survey" => Some(Asked::Survey(survey_words(found)?)),
-        "compare" => Some(Asked::Compare(compare_words(found)?)),
-        "repair" => Some(Asked::Repair(repair_words(found)?)),
+        "geometry" => geometry_words(found).map(Asked::Geometry),
+        "array" => array_words(found).map(Asked::Array),
+        "survey" => survey_words(found).map(Asked::Survey),
+        "compare" => compare_words(found).map(Asked::Compare),
+        "repair" => repair_words(found).map(Asked::Repair),
         _ => None,
     }
 }
