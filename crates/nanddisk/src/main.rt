@@ -1,8 +1,7 @@
 //! `nanddisk`: a NAND die in a file, as a disk that outlives a killed server, for the tools that speak NBD.
 #![tactic(auto)]
 
-ghost use Rattle.std.specs.Prelude.{◌≡◌, ◌≢◌};
-ghost use Rattle.std.specs.IoError.{error_kind};
+ghost use Rattle.std.specs.Prelude.{◌≡◌};
 
 mod die;
 mod fault;
@@ -11,10 +10,10 @@ mod syncs;
 mod system;
 
 use disk_commands::{DiskFault, run, tell};
-use std::alloc::{AllocError, Global};
+use program_words::{WordsFault, word_slices, words_found};
 use std::env;
 use std::fs::File;
-use std::io::{BufReader, BufWriter, Error, ErrorKind, Read, Write};
+use std::io::{BufReader, BufWriter, Read, Write};
 use std::process::ExitCode;
 use std::rt::{Env, Files};
 use system::SystemFiles;
@@ -22,33 +21,14 @@ use system::SystemFiles;
 // The bytes that are read or printed at once.
 const BUFFERED: usize = 65_536;
 
-// The words of the command line, in their order, as they are handed on.
-fn word_slices(alloc: Global, kept: &[String]) -> Result<Vec<&str>, AllocError> {
-    kept.iter().map(|word| word.as_str()).collect(alloc)
-}
-
-// Why there are no words. Words that are no text are no command.
-fn words_fault(error: Error) -> DiskFault<'static>
-    ensures memory { error_kind error ≡ ErrorKind.OutOfMemory → result ≡ DiskFault.OutOfMemory }
-    ensures other { error_kind error ≢ ErrorKind.OutOfMemory → result ≡ DiskFault.NoSuchCommand }
+// Why there are no words.
+fn words_fault(fault: WordsFault) -> DiskFault<'static>
+    ensures command { fault ≡ WordsFault.NoSuchCommand → result ≡ DiskFault.NoSuchCommand }
+    ensures memory { fault ≡ WordsFault.OutOfMemory → result ≡ DiskFault.OutOfMemory }
 {
-    if error.kind() == ErrorKind::OutOfMemory {
-        DiskFault::OutOfMemory
-    } else {
-        DiskFault::NoSuchCommand
-    }
-}
-
-// The words of the command line.
-fn words_of<S: Env + AllocGlobal>(system: &S) -> Result<Vec<String>, DiskFault<'static>> {
-    let found = match env::args(system) {
-        Ok(found) => found,
-        Err(error) => return Err(words_fault(error)),
-    };
-    let kept: Result<Vec<String>, AllocError> = found.collect(system.alloc());
-    match kept {
-        Ok(kept) => Ok(kept),
-        Err(_) => Err(DiskFault::OutOfMemory),
+    match fault {
+        WordsFault::NoSuchCommand => DiskFault::NoSuchCommand,
+        WordsFault::OutOfMemory => DiskFault::OutOfMemory,
     }
 }
 
@@ -88,9 +68,9 @@ fn status_of<S: Env + Files<File = File> + AllocGlobal, I: Read + Drop, O: Write
     out: O,
     err: &mut E,
 ) -> u8 {
-    let kept = match words_of(system) {
+    let kept = match words_found(system.alloc(), env::args(system)) {
         Ok(kept) => kept,
-        Err(fault) => return tell(&fault, err),
+        Err(fault) => return tell(&words_fault(fault), err),
     };
     match word_slices(system.alloc(), &kept) {
         Ok(words) => run_over(system, &words, input, out, err),

@@ -1,35 +1,28 @@
 //! `nandlab`: tools for recovery laboratories, on dumps of one NAND die.
 #![tactic(auto)]
 
-ghost use Rattle.std.specs.Prelude.{◌≡◌, ◌≢◌};
-ghost use Rattle.std.specs.IoError.{error_kind};
+ghost use Rattle.std.specs.Prelude.{◌≡◌};
 
 mod progress;
 mod system;
 
 use lab_commands::{LabFault, run, tell};
-use std::alloc::{AllocError, Global};
+use program_words::{WordsFault, word_slices, words_found};
 use std::env;
-use std::io::{Error, ErrorKind, IsTerminal, Write};
+use std::io::{IsTerminal, Write};
 use std::os::unix::fs::FileExt;
 use std::process::ExitCode;
 use std::rt::{Env, Files};
 use system::SystemFiles;
 
-// The words of the command line, in their order, as they are handed on.
-fn word_slices(alloc: Global, kept: &[String]) -> Result<Vec<&str>, AllocError> {
-    kept.iter().map(|word| word.as_str()).collect(alloc)
-}
-
-// Why there are no words. Words that are no text are no command.
-fn words_fault(error: Error) -> LabFault<'static>
-    ensures memory { error_kind error ≡ ErrorKind.OutOfMemory → result ≡ LabFault.OutOfMemory }
-    ensures other { error_kind error ≢ ErrorKind.OutOfMemory → result ≡ LabFault.NoSuchCommand }
+// Why there are no words.
+fn words_fault(fault: WordsFault) -> LabFault<'static>
+    ensures command { fault ≡ WordsFault.NoSuchCommand → result ≡ LabFault.NoSuchCommand }
+    ensures memory { fault ≡ WordsFault.OutOfMemory → result ≡ LabFault.OutOfMemory }
 {
-    if error.kind() == ErrorKind::OutOfMemory {
-        LabFault::OutOfMemory
-    } else {
-        LabFault::NoSuchCommand
+    match fault {
+        WordsFault::NoSuchCommand => LabFault::NoSuchCommand,
+        WordsFault::OutOfMemory => LabFault::OutOfMemory,
     }
 }
 
@@ -43,13 +36,9 @@ fn run_over<S: Env + Files + AllocGlobal, W: Write, E: Write, P: Write + IsTermi
 where
     S::File: FileExt,
 {
-    let found = match env::args(system) {
-        Ok(found) => found,
-        Err(error) => return tell(&words_fault(error), err),
-    };
-    let kept: Result<Vec<String>, AllocError> = found.collect(system.alloc());
-    let Ok(kept) = kept else {
-        return tell(&LabFault::OutOfMemory, err);
+    let kept = match words_found(system.alloc(), env::args(system)) {
+        Ok(kept) => kept,
+        Err(fault) => return tell(&words_fault(fault), err),
     };
     match word_slices(system.alloc(), &kept) {
         Ok(words) => {

@@ -1,3 +1,4 @@
+pub mod FoundLemmas
 pub mod GrammarLemmas
 pub mod MetLemmas
 pub mod WordLemmas

@@ -2,13 +2,16 @@
 //!
 //! - `Grammar`, `CommandRule`, `WordRule`, `WordKind`: the commands of a program and their words.
 //! - `read_words`: what `clap` makes of the words. `CommandWords`: those of the command that they name.
+//! - `words_found`, `word_slices`: the words of a command line, as the system has them and as they are handed on.
 //!
 //! All of it is this project's, over the kit's `clap`. No crate above names a type of `clap` in its code.
 #![tactic(auto)]
 
+mod found;
 mod grammar;
 mod met;
 mod parts;
 
+pub use found::{word_slices, words_found};
 pub use grammar::{CommandRule, Grammar, WordKind, WordRule};
 pub use met::{CommandWords, Met, WordsFault, read_words};

@@ -6,8 +6,9 @@ ghost use Rattle.commands.specs.Files.{left, Leaves};
 ghost use Rattle.commands.specs.Text.{IsTold};
 
 use crate::system::SystemFiles;
-use crate::words::{word_slices, words_in};
+use crate::words::words_in;
 use commands::{CommandFault, FileStore, run, tell};
+use program_words::word_slices;
 use std::alloc::Global;
 use std::env;
 use std::io::{Read, Write};

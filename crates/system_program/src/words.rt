@@ -1,31 +1,13 @@
 //! The words of the command line.
-ghost use Rattle.std.specs.Prelude.{◌≡◌, ◌≢◌, IfErr, IfOk, OnOk, Err, map, string_bytes};
+ghost use Rattle.std.specs.Prelude.{◌≡◌, ◌≢◌, IfErr, IfOk, OnOk, Err};
 ghost use Rattle.std.specs.IoError.{error_kind};
 ghost use Rattle.std.specs.Vec.Iter.{into_iter_items};
 
 use commands::CommandFault;
-use std::alloc::{AllocError, Global};
+use program_words::{WordsFault, words_found};
+use std::alloc::Global;
 use std::env::Args;
 use std::io::{Error, ErrorKind};
-
-// Why there are no words.
-fn words_fault(error: Error) -> CommandFault<'static>
-    ensures memory { error_kind error ≡ ErrorKind.OutOfMemory → result ≡ CommandFault.OutOfMemory }
-    ensures other { error_kind error ≢ ErrorKind.OutOfMemory → result ≡ CommandFault.NoSuchCommand }
-{
-    if error.kind() == ErrorKind::OutOfMemory {
-        CommandFault::OutOfMemory
-    } else {
-        CommandFault::NoSuchCommand
-    }
-}
-
-// The words, all and in their order.
-fn kept_words(alloc: Global, words: Args) -> Result<Vec<String>, AllocError>
-    ensures { IfOk result (λ kept. kept.items ≡ into_iter_items words) }
-{
-    words.collect(alloc)
-}
 
 /// The words of the command line, all and in their order, as the system gave them: first the program's name. Words that are no
 /// text are no command.
@@ -38,15 +20,9 @@ pub(crate) fn words_in(
     ensures memory { IfErr found (λ error. error_kind error ≡ ErrorKind.OutOfMemory → result ≡ Err CommandFault.OutOfMemory) }
     ensures other { IfErr found (λ error. error_kind error ≢ ErrorKind.OutOfMemory → result ≡ Err CommandFault.NoSuchCommand) }
 {
-    match found {
-        Ok(words) => kept_words(alloc, words).map_err(|_| CommandFault::OutOfMemory),
-        Err(error) => Err(words_fault(error)),
+    match words_found(alloc, found) {
+        Ok(words) => Ok(words),
+        Err(WordsFault::NoSuchCommand) => Err(CommandFault::NoSuchCommand),
+        Err(WordsFault::OutOfMemory) => Err(CommandFault::OutOfMemory),
     }
-}
-
-/// The words as they are handed on.
-pub(crate) fn word_slices(alloc: Global, kept: &[String]) -> Result<Vec<&str>, AllocError>
-    ensures { IfOk result (λ words. map (λ word. word.now) words.items ≡ map string_bytes kept.now) }
-{
-    kept.iter().map(|word| word.as_str()).collect(alloc)
 }

@@ -1,7 +1,7 @@
 use Rattle.std.proofs.Common.{rules, string_bytes, Bor, List, ℕ}
 use Rattle.std.proofs.lemmas.Iterator.{YieldsList-from_map_by, YieldsList-from_slice}
-use Rattle.system_program.proofs.WordLemmas.{texts_from_collect}
-use Rattle.system_program.proofs.words.word_slices.Goals as goal
+use Rattle.program_words.proofs.FoundLemmas.{texts_from_collect}
+use Rattle.program_words.proofs.found.word_slices.Goals as goal
 
 pub returns : goal.returns
 returns c =
