@@ -30,11 +30,11 @@ use Rattle.image_laws.proofs.AnswerLemmas.{none_newest}
 -- ---- marks
 
 -- a mark is there or not
-which : {A : Type 0} (o : Option A) → (o ≡ None) ⊎ ((x : A) × (o ≡ Some x))
+pub which : {A : Type 0} (o : Option A) → (o ≡ None) ⊎ ((x : A) × (o ≡ Some x))
 which None = inl refl
 which (Some x) = inr (x, refl)
 
-both : {A : Type 0} (o : Option A) (x : A) → o ≡ None → o ≡ Some x → ⊥
+pub both : {A : Type 0} (o : Option A) (x : A) → o ≡ None → o ≡ Some x → ⊥
 both o x none some = let clash : None ≡ Some x = sym none ∙ some in cc
 
 of_some : {A : Type 0} (o : Option A) → IsSome o → (x : A) × (o ≡ Some x)
@@ -56,11 +56,11 @@ as_left stored left found row r loses has = elim (loses.rows row) [
   | inr gone ↦ absurd (both _ r gone.1 has)
 ]
 
-had : (stored left found : Image) (row : ℕ) (r : Record) → LosesSince stored left found → get_or (marks found) row None ≡ Some r → get_or (marks left) row None ≡ Some r
+pub had : (stored left found : Image) (row : ℕ) (r : Record) → LosesSince stored left found → get_or (marks found) row None ≡ Some r → get_or (marks left) row None ≡ Some r
 had stored left found row r loses has = sym (mark-same found left row (as_left stored left found row r loses has)) ∙ has
 
 -- one that had a record when the image was stored is as it was then
-stays : (g : Geometry) (stored left found : Image) (row : ℕ) (r : Record) → LosesPower g stored left found → get_or (marks stored) row None ≡ Some r → slice_get found row ≡ slice_get stored row
+pub stays : (g : Geometry) (stored left found : Image) (row : ℕ) (r : Record) → LosesPower g stored left found → get_or (marks stored) row None ≡ Some r → slice_get found row ≡ slice_get stored row
 stays g stored left found row r power has = elim (power.loses.rows row) [
   | inl same ↦ same ∙ power.grows.kept row r has
   | inr gone ↦ absurd (both _ r gone.0 has)
@@ -151,10 +151,19 @@ since g stored left found key row power is =
     )
 
 -- it was programmed since, where it had none then
-since_page : (g : Geometry) (stored left found : Image) (key : Key) (row : ℕ) → LosesPower g stored left found → newest (marks found) key ≡ Some row → IsUnsoundAt stored row → IsPageSince stored left key row
+pub since_page : (g : Geometry) (stored left found : Image) (key : Key) (row : ℕ) → LosesPower g stored left found → newest (marks found) key ≡ Some row → IsUnsoundAt stored row → IsPageSince stored left key row
 since_page g stored left found key row power is new =
     let its = newest-record (marks found) key row is in
     record { none = new; its = its.0; has = had stored left found row its.0 power.loses its.1; of = its.2 }
+
+-- a key that has no newest page had none then
+pub none_then : (g : Geometry) (stored left found : Image) (key : Key) → LosesPower g stored left found → newest (marks found) key ≡ None → newest (marks stored) key ≡ None
+none_then g stored left found key power none = elim (which (newest (marks stored) key)) [
+  | inl was ↦ was
+  | inr some ↦
+      let kept = stored_stays g stored left found key some.0 power some.1 in
+      absurd (both (newest (marks found) key) kept.0 none kept.1)
+]
 
 -- ---- sectors
 
@@ -168,17 +177,9 @@ by_page : (g : Geometry) (left found : Image) (n row : ℕ) → newest (marks fo
 unfolding sector_of
 by_page g left found n row is same = ap (content_at g found) is ∙ ap (content g) same
 
-none_then : (g : Geometry) (stored left found : Image) (n : ℕ) → LosesPower g stored left found → newest (marks found) (Sector n) ≡ None → newest (marks stored) (Sector n) ≡ None
-none_then g stored left found n power none = elim (which (newest (marks stored) (Sector n))) [
-  | inl was ↦ was
-  | inr some ↦
-      let kept = stored_stays g stored left found (Sector n) some.0 power some.1 in
-      absurd (both (newest (marks found) (Sector n)) kept.0 none kept.1)
-]
-
 pub either : EitherLaw
 either g stored left found n power = elim (which (newest (marks found) (Sector n))) [
-  | inl none ↦ inl (unmoved g stored left found n power (none ∙ sym (none_then g stored left found n power none)))
+  | inl none ↦ inl (unmoved g stored left found n power (none ∙ sym (none_then g stored left found (Sector n) power none)))
   | inr some ↦ elim ((since g stored left found (Sector n) some.0 power some.1).1) [
     | inl was ↦ inl (unmoved g stored left found n power (some.1 ∙ sym was))
     | inr new ↦
@@ -201,7 +202,7 @@ all_stored g stored found power = array-same g stored found (λ n. unwritten g s
 -- ---- that it mounts
 
 -- where nothing was programmed since no page is one of those
-no_page : (stored : Image) (key : Key) (row : ℕ) → IsPageSince stored stored key row → ⊥
+pub no_page : (stored : Image) (key : Key) (row : ℕ) → IsPageSince stored stored key row → ⊥
 no_page stored key row page = both _ page.its page.none page.has
 
 pub stored_mounts : StoredMountsLaw
@@ -216,15 +217,15 @@ newest_formed : (g : Geometry) (image : Image) (u row : ℕ) → HasTables g ima
 unfolding table_body
 newest_formed g image u row tables within is = subst (IsWellFormed (entries g) g.blocks u) (ap (body_in image) is) (tables.formed u within)
 
--- a page that has a record in an image that was programmed is the programmed one, or as it was
-programmed : (left : Image) (row q : ℕ) (p : Page) (r : Record) → get_or (marks (set left row p)) q None ≡ Some r
-    → ((q ≡ row) × (record_of p ≡ Some r)) ⊎ (slice_get (set left row p) q ≡ slice_get left q)
+-- a page that has a record after a program is the page of that program, or as it was
+pub programmed : (left : Image) (row q : ℕ) (p : Page) (r : Record) → get_or (marks (set left row p)) q None ≡ Some r
+    → ((q ≡ row) × (record_of p ≡ Some r) × (slice_get (set left row p) q ≡ Some p)) ⊎ (slice_get (set left row p) q ≡ slice_get left q)
 programmed left row q p r has = elim (cases_eq q row) [
   | inr apart ↦ inr (slice_get-set_other left row q p apart)
   | inl same ↦ elim (cases_lt row (length left)) [
     | inl within ↦
-        let here : get_or (marks (set left row p)) q None ≡ record_of p = mark-page (set left row p) q p (ap (slice_get (set left row p)) same ∙ slice_get-set_same left row p within) in
-        inl (same, sym here ∙ has)
+        let here : slice_get (set left row p) q ≡ Some p = ap (slice_get (set left row p)) same ∙ slice_get-set_same left row p within in
+        inl (same, sym (mark-page (set left row p) q p here) ∙ has, here)
     | inr past ↦
         let none : get_or (marks (set left row p)) q None ≡ None = get_or_past (marks (set left row p)) q None (omega (arith, same, length-set left row p, length-marks (set left row p))) in
         absurd (both _ r none has)

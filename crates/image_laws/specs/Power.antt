@@ -1,8 +1,9 @@
 -- What a loss of power leaves of an image of which pages were programmed since it was stored, as those of a file that was not synced since.
-use Rattle.std.specs.Prelude.{◌≡◌, ◌⊎◌, ◌↔◌, ℕ, ◌-◌, ◌^◌, ◌<◌, ◌≤◌, length, get_or, slice_get, slice_set, Some, None}
+use Rattle.std.specs.Prelude.{◌≡◌, ◌⊎◌, ◌↔◌, ℕ, ◌+◌, ◌-◌, ◌/◌, ◌%◌, ◌^◌, ◌<◌, ◌≤◌, false, List, length, get_or, slice_get, slice_set, Some, None}
+use Rattle.std.specs.List.{Contains}
 use Rattle.page_layout.specs.declared.geometry.Geometry.{Geometry}
 use Rattle.page_layout.specs.declared.record.Key.{Key}
-use Rattle.page_layout.specs.declared.record.Key.TheVariants.{Sector, Table}
+use Rattle.page_layout.specs.declared.record.Key.TheVariants.{Sector, Translation, Table}
 use Rattle.page_layout.specs.declared.record.Record.{Record}
 use Rattle.page_layout.specs.Geometry.{entries, row_count, table_pages}
 use Rattle.page_layout.specs.Page.{Page, Image, body_at}
@@ -13,10 +14,12 @@ use Rattle.page_layout.specs.OneArray.{AreBelow}
 use Rattle.page_layout.specs.Array.{marks, content_at, sector_of, array_of, HasOneArray}
 use Rattle.page_layout.specs.Change.{IsUnsoundAt}
 use Rattle.bad_blocks.specs.TablePage.{IsWellFormed}
+use Rattle.translation_pages.specs.TranslationPage.{entry_at}
+use Rattle.translation_pages.specs.Entry.{entry_of}
 use Rattle.image_check.specs.declared.refusal.Refusal.{Refusal}
 use Rattle.image_check.specs.declared.refusal.Refusal.TheVariants as refusals
 use Rattle.image_check.specs.Agrees.{HasTables}
-use Rattle.image_check.specs.Stale.{stale_count}
+use Rattle.image_check.specs.Stale.{is_stale, stale_count}
 use Rattle.image_check.specs.Mountable.{IsMountable}
 use Rattle.image_check.specs.Refused.{IsStop}
 use Rattle.mount.specs.Mounted.{Refuses}
@@ -119,3 +122,29 @@ FoundMountsLaw = (g : Geometry) (capacity : ℕ) (stored left found : Image) →
 abbrev pub FoundRefusedLaw : Type 0
 FoundRefusedLaw = (g : Geometry) (capacity : ℕ) (stored left found : Image) (r : Refusal) → LosesPower g stored left found → MountedSince g stored left
     → Refuses g capacity found r → IsStop r ⊎ (r ≡ refusals.TooStale (stale_count g found) capacity)
+
+-- ---- how much is stale
+
+-- EACH TRANSLATION PAGE THAT WAS PROGRAMMED SINCE has the entry from then of a sector that wasn't stale and of which no page was programmed since
+pub record KeepsEntries (g : Geometry) (stored left : Image) : Type 0 where
+  pub entry : (n row : ℕ) → n < g.sectors → is_stale g stored n ≡ false → ((q : ℕ) → ¬ IsPageSince stored left (Sector n) q) → IsPageSince stored left (Translation (n / entries g)) row
+      → entry_at (body_at left row) (n % entries g) ≡ entry_of g stored n
+
+-- as where nothing was programmed since
+abbrev pub StoredEntriesLaw : Type 0
+StoredEntriesLaw = (g : Geometry) (stored : Image) → KeepsEntries g stored stored
+
+-- a translation page with this body has for each of its sectors the row of the newest page, or the entry that there was
+abbrev pub HasEntries : Geometry → Image → List ℕ → ℕ → Type 0
+HasEntries g image body t = (n : ℕ) → n < g.sectors → n / entries g ≡ t
+    → (entry_at body (n % entries g) ≡ newest (marks image) (Sector n)) ⊎ (entry_at body (n % entries g) ≡ entry_of g image n)
+
+-- and after each program of a page that had no record, a translation page with such entries
+abbrev pub ProgramEntriesLaw : Type 0
+ProgramEntriesLaw = (g : Geometry) (stored left : Image) (row : ℕ) (p : Page) → HasOneArray g left → Grows stored left → KeepsEntries g stored left → IsUnsoundAt left row
+    → ((r : Record) (t : ℕ) → record_of p ≡ Some r → key_of r ≡ Translation t → HasEntries g left p.body t) → KeepsEntries g stored (slice_set left row p)
+
+-- SO MANY ARE STALE AT MOST: as many as when the image was stored, and the sectors of which a page was programmed since
+abbrev pub FoundStaleLaw : Type 0
+FoundStaleLaw = (g : Geometry) (stored left found : Image) (programmed : List ℕ) → LosesPower g stored left found → KeepsEntries g stored left
+    → ((n row : ℕ) → n < g.sectors → IsPageSince stored left (Sector n) row → Contains programmed n) → stale_count g found ≤ stale_count g stored + length programmed
