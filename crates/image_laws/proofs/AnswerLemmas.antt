@@ -32,7 +32,7 @@ first_row g marks a b p q = elim (cases_order a b) [
   | inr (inr above) ↦ absurd (q.at.outside (p.before b q.at.found above q.at.here))
 ]
 
-none_newest : (marks : List (Option Record)) (key : Key) (found : Option ℕ) → newest marks key ≡ found → ((row : ℕ) → sequence_at marks key row ≡ None) → found ≡ None
+pub none_newest : (marks : List (Option Record)) (key : Key) (found : Option ℕ) → newest marks key ≡ found → ((row : ℕ) → sequence_at marks key row ≡ None) → found ≡ None
 none_newest marks key None is h = refl
 none_newest marks key (Some row) is h =
     let here = newest-record marks key row is in

@@ -6,3 +6,4 @@ mod TableLemmas
 mod KeptLemmas
 mod FormatLemmas
 mod PowerLemmas
+mod StaleLemmas

@@ -1,28 +1,40 @@
 -- What a loss of power leaves.
-use Rattle.std.proofs.Common.{◌≡◌, ◌≢◌, ◌⊎◌, inl, inr, ℕ, length, get_or, set, slice_get, Option, Some, None, IsSome, refl, sym, ap, subst, ◌∙◌, arith}
+use Rattle.std.proofs.Common.{◌≡◌, ◌≢◌, ◌⊎◌, inl, inr, ℕ, ◌<◌, ◌≤◌, length, get_or, set, slice_get, Option, Some, None, IsSome, refl, sym, ap, subst, ◌∙◌, arith}
 use Rattle.std.proofs.lemmas.Bool.{cases_eq, cases_lt}
 use Rattle.std.proofs.lemmas.List.{get_or-set_same, get_or_past, length-set}
 use Rattle.page_layout.specs.declared.geometry.Geometry.{Geometry}
 use Rattle.page_layout.specs.declared.record.Key.{Key}
-use Rattle.page_layout.specs.declared.record.Key.TheVariants.{Sector}
+use Rattle.page_layout.specs.declared.record.Key.TheVariants.{Sector, Table}
 use Rattle.page_layout.specs.declared.record.Record.{Record}
-use Rattle.page_layout.specs.Page.{Page, Image}
+use Rattle.page_layout.specs.Geometry.{entries, table_pages}
+use Rattle.page_layout.specs.Page.{Page, Image, body_at}
 use Rattle.page_layout.specs.Sound.{record_of}
 use Rattle.page_layout.specs.Newest.{newest, sequence_at, IsNewest}
 use Rattle.page_layout.specs.Array.{marks, content, content_at, sector_of}
 use Rattle.page_layout.specs.Change.{IsUnsoundAt}
-use Rattle.page_layout.proofs.ArrayLemmas.{array-same, mark-same, marks-set, sector-same, slice_get-set_other}
+use Rattle.page_layout.proofs.ArrayLemmas.{array-same, body_same, length-marks, mark-page, mark-same, marks-set, sector-same, slice_get-set_other, slice_get-set_same}
 use Rattle.page_layout.proofs.NewestLemmas.{Forgets, newest-is, newest-record, newest_forgets, newest_from, newest_some, sequence_at-is, sequence_at-same}
+use Rattle.bad_blocks.specs.TablePage.{IsWellFormed}
+use Rattle.image_check.specs.declared.refusal.Refusal.{Refusal}
+use Rattle.image_check.specs.declared.refusal.Refusal.TheVariants as refusals
+use Rattle.image_check.specs.Agrees.{HasTables}
+use Rattle.image_check.specs.Blocks.{body_in, table_body}
+use Rattle.image_check.specs.Stale.{stale_count}
+use Rattle.image_check.specs.Mountable.{IsOrderly}
+use Rattle.image_check.proofs.MountableLemmas.{mountable, orderly_of}
+use Rattle.mount.specs.Mounted.{Shows}
 use Rattle.image_laws.specs.Power.{LosesPower, LosesSince, IsPageSince, FoundOneLaw, StoredLaw, SinceLaw, EitherLaw, UnwrittenLaw, AllStoredLaw, ProgramGrowsLaw, NoneLostLaw, AllLostLaw, OneMoreLostLaw}
+use Rattle.image_laws.specs.Power.{MountedSince, StoredMountsLaw, ProgramMountsLaw, FoundMountsLaw, FoundRefusedLaw}
+use Rattle.image_laws.proofs.AnswerLemmas.{none_newest}
 
 -- ---- marks
 
 -- a mark is there or not
-which : {A : Type 0} (o : Option A) → (o ≡ None) ⊎ ((x : A) × (o ≡ Some x))
+pub which : {A : Type 0} (o : Option A) → (o ≡ None) ⊎ ((x : A) × (o ≡ Some x))
 which None = inl refl
 which (Some x) = inr (x, refl)
 
-both : {A : Type 0} (o : Option A) (x : A) → o ≡ None → o ≡ Some x → ⊥
+pub both : {A : Type 0} (o : Option A) (x : A) → o ≡ None → o ≡ Some x → ⊥
 both o x none some = let clash : None ≡ Some x = sym none ∙ some in cc
 
 of_some : {A : Type 0} (o : Option A) → IsSome o → (x : A) × (o ≡ Some x)
@@ -44,11 +56,11 @@ as_left stored left found row r loses has = elim (loses.rows row) [
   | inr gone ↦ absurd (both _ r gone.1 has)
 ]
 
-had : (stored left found : Image) (row : ℕ) (r : Record) → LosesSince stored left found → get_or (marks found) row None ≡ Some r → get_or (marks left) row None ≡ Some r
+pub had : (stored left found : Image) (row : ℕ) (r : Record) → LosesSince stored left found → get_or (marks found) row None ≡ Some r → get_or (marks left) row None ≡ Some r
 had stored left found row r loses has = sym (mark-same found left row (as_left stored left found row r loses has)) ∙ has
 
 -- one that had a record when the image was stored is as it was then
-stays : (g : Geometry) (stored left found : Image) (row : ℕ) (r : Record) → LosesPower g stored left found → get_or (marks stored) row None ≡ Some r → slice_get found row ≡ slice_get stored row
+pub stays : (g : Geometry) (stored left found : Image) (row : ℕ) (r : Record) → LosesPower g stored left found → get_or (marks stored) row None ≡ Some r → slice_get found row ≡ slice_get stored row
 stays g stored left found row r power has = elim (power.loses.rows row) [
   | inl same ↦ same ∙ power.grows.kept row r has
   | inr gone ↦ absurd (both _ r gone.0 has)
@@ -138,6 +150,21 @@ since g stored left found key row power is =
       ],
     )
 
+-- it was programmed since, where it had none then
+pub since_page : (g : Geometry) (stored left found : Image) (key : Key) (row : ℕ) → LosesPower g stored left found → newest (marks found) key ≡ Some row → IsUnsoundAt stored row → IsPageSince stored left key row
+since_page g stored left found key row power is new =
+    let its = newest-record (marks found) key row is in
+    record { none = new; its = its.0; has = had stored left found row its.0 power.loses its.1; of = its.2 }
+
+-- a key that has no newest page had none then
+pub none_then : (g : Geometry) (stored left found : Image) (key : Key) → LosesPower g stored left found → newest (marks found) key ≡ None → newest (marks stored) key ≡ None
+none_then g stored left found key power none = elim (which (newest (marks stored) key)) [
+  | inl was ↦ was
+  | inr some ↦
+      let kept = stored_stays g stored left found key some.0 power some.1 in
+      absurd (both (newest (marks found) key) kept.0 none kept.1)
+]
+
 -- ---- sectors
 
 -- the newest page is the one that it was
@@ -150,22 +177,13 @@ by_page : (g : Geometry) (left found : Image) (n row : ℕ) → newest (marks fo
 unfolding sector_of
 by_page g left found n row is same = ap (content_at g found) is ∙ ap (content g) same
 
-none_then : (g : Geometry) (stored left found : Image) (n : ℕ) → LosesPower g stored left found → newest (marks found) (Sector n) ≡ None → newest (marks stored) (Sector n) ≡ None
-none_then g stored left found n power none = elim (which (newest (marks stored) (Sector n))) [
-  | inl was ↦ was
-  | inr some ↦
-      let kept = stored_stays g stored left found (Sector n) some.0 power some.1 in
-      absurd (both (newest (marks found) (Sector n)) kept.0 none kept.1)
-]
-
 pub either : EitherLaw
 either g stored left found n power = elim (which (newest (marks found) (Sector n))) [
-  | inl none ↦ inl (unmoved g stored left found n power (none ∙ sym (none_then g stored left found n power none)))
+  | inl none ↦ inl (unmoved g stored left found n power (none ∙ sym (none_then g stored left found (Sector n) power none)))
   | inr some ↦ elim ((since g stored left found (Sector n) some.0 power some.1).1) [
     | inl was ↦ inl (unmoved g stored left found n power (some.1 ∙ sym was))
     | inr new ↦
-        let its = newest-record (marks found) (Sector n) some.0 some.1 in
-        let page : IsPageSince stored left n some.0 = record { none = new; its = its.0; has = had stored left found some.0 its.0 power.loses its.1; of = its.2 } in
+        let page = since_page g stored left found (Sector n) some.0 power some.1 new in
         inr (some.0, page, by_page g left found n some.0 some.1 (since g stored left found (Sector n) some.0 power some.1).0)
   ]
 ]
@@ -180,3 +198,115 @@ unwritten g stored left found n power same =
 
 pub all_stored : AllStoredLaw
 all_stored g stored found power = array-same g stored found (λ n. unwritten g stored stored found n power refl)
+
+-- ---- that it mounts
+
+-- where nothing was programmed since no page is one of those
+pub no_page : (stored : Image) (key : Key) (row : ℕ) → IsPageSince stored stored key row → ⊥
+no_page stored key row page = both _ page.its page.none page.has
+
+pub stored_mounts : StoredMountsLaw
+stored_mounts g capacity stored m = record {
+  tables = m.agrees.tables;
+  formed = λ u row within page. absurd (no_page stored (Table u) row page);
+  last = (orderly_of g capacity stored m).last;
+}
+
+-- the newest page of a table is the body of it
+newest_formed : (g : Geometry) (image : Image) (u row : ℕ) → HasTables g image → u < table_pages g → newest (marks image) (Table u) ≡ Some row → IsWellFormed (entries g) g.blocks u (body_at image row)
+unfolding table_body
+newest_formed g image u row tables within is = subst (IsWellFormed (entries g) g.blocks u) (ap (body_in image) is) (tables.formed u within)
+
+-- a page that has a record after a program is the page of that program, or as it was
+pub programmed : (left : Image) (row q : ℕ) (p : Page) (r : Record) → get_or (marks (set left row p)) q None ≡ Some r
+    → ((q ≡ row) × (record_of p ≡ Some r) × (slice_get (set left row p) q ≡ Some p)) ⊎ (slice_get (set left row p) q ≡ slice_get left q)
+programmed left row q p r has = elim (cases_eq q row) [
+  | inr apart ↦ inr (slice_get-set_other left row q p apart)
+  | inl same ↦ elim (cases_lt row (length left)) [
+    | inl within ↦
+        let here : slice_get (set left row p) q ≡ Some p = ap (slice_get (set left row p)) same ∙ slice_get-set_same left row p within in
+        inl (same, sym (mark-page (set left row p) q p here) ∙ has, here)
+    | inr past ↦
+        let none : get_or (marks (set left row p)) q None ≡ None = get_or_past (marks (set left row p)) q None (omega (arith, same, length-set left row p, length-marks (set left row p))) in
+        absurd (both _ r none has)
+  ]
+]
+
+pub program_mounts : ProgramMountsLaw
+program_mounts g capacity stored left row p mounted m newest_is = record {
+  tables = mounted.tables;
+  formed = λ u q within page. elim (programmed left row q p page.its page.has) [
+    | inl now ↦
+        let top : newest (marks (set left row p)) (Table u) ≡ Some q =
+        subst (λ k. newest (marks (set left row p)) k ≡ Some q) page.of (newest_is page.its now.1 ∙ ap Some (sym now.0)) in
+        newest_formed g (set left row p) u q m.agrees.tables within top
+    | inr as_was ↦
+        let was : IsPageSince stored left (Table u) q = record { none = page.none; its = page.its; has = sym (mark-same (set left row p) left q as_was) ∙ page.has; of = page.of } in
+        subst (IsWellFormed (entries g) g.blocks u) (sym (body_same (set left row p) left q as_was)) (mounted.formed u q within was)
+  ];
+  last = (orderly_of g capacity (set left row p) m).last;
+}
+
+-- each newest table page that is found is well formed
+found_formed : (g : Geometry) (stored left found : Image) (u row : ℕ) → LosesPower g stored left found → MountedSince g stored left → u < table_pages g → newest (marks found) (Table u) ≡ Some row
+    → IsWellFormed (entries g) g.blocks u (body_at found row)
+found_formed g stored left found u row power mounted within is =
+    let at = since g stored left found (Table u) row power is in
+    elim at.1 [
+      | inl was ↦
+          let its = newest-record (marks stored) (Table u) row was in
+          let same = body_same found stored row (stays g stored left found row its.0 power its.1) in
+          subst (IsWellFormed (entries g) g.blocks u) (sym same) (newest_formed g stored u row mounted.tables within was)
+      | inr new ↦
+          let page = since_page g stored left found (Table u) row power is new in
+          subst (IsWellFormed (entries g) g.blocks u) (sym (body_same found left row at.0)) (mounted.formed u row within page)
+    ]
+
+found_tables : (g : Geometry) (stored left found : Image) → LosesPower g stored left found → MountedSince g stored left → HasTables g found
+unfolding table_body
+found_tables g stored left found power mounted =
+    let there : (u : ℕ) → u < table_pages g → (row : ℕ) × (newest (marks found) (Table u) ≡ Some row) =
+    λ u within. (let was = mounted.tables.formatted u within in stored_stays g stored left found (Table u) was.row power was.newest_is) in
+    record {
+      formatted = λ u within. (let row = there u within in record { row = row.0; newest_is = row.1 });
+      formed = λ u within.
+          let row = there u within in
+          subst (IsWellFormed (entries g) g.blocks u) (sym (ap (body_in found) row.1)) (found_formed g stored left found u row.0 power mounted within row.1);
+    }
+
+found_orderly : (g : Geometry) (capacity : ℕ) (stored left found : Image) → LosesPower g stored left found → MountedSince g stored left → stale_count g found ≤ capacity → IsOrderly g capacity found
+found_orderly g capacity stored left found power mounted few =
+    let one = found_one g stored left found power in
+    record {
+      numbers = record { in_range = one.in_range };
+      sequences = one.distinct;
+      tables = found_tables g stored left found power mounted;
+      last = record { below = λ row r has. mounted.last.below row r (had stored left found row r power.loses has) };
+      fresh = few;
+    }
+
+pub found_mounts : FoundMountsLaw
+found_mounts g capacity stored left found whole least most power mounted =
+    let same = mountable g capacity found (power.loses.size ∙ whole) least most in
+    (λ m. m.agrees.fresh, λ few. same.1 (found_orderly g capacity stored left found power mounted few))
+
+-- an image that lacks room alone is refused for that
+refused_stale : (g : Geometry) (capacity : ℕ) (image : Image) (r : Refusal) → IsOrderly g (stale_count g image) image → Shows g capacity image r → r ≡ refusals.TooStale (stale_count g image) capacity
+refused_stale g capacity image (refusals.NumberRange row) o h = absurd (h.at.outside (o.numbers.in_range row h.at.found h.at.here))
+refused_stale g capacity image (refusals.SequenceRepeated a b) o h =
+    let same : a ≡ b = o.sequences.apart a b h.pair.first h.pair.second h.pair.at_first h.pair.at_second h.pair.same in
+    absurd (omega (arith, h.pair.order))
+refused_stale g capacity image refusals.NotFormatted o h =
+    let found = o.tables.formatted h.page h.within in
+    absurd (both _ found.row (none_newest (marks image) (Table h.page) (newest (marks image) (Table h.page)) refl h.missing) found.newest_is)
+refused_stale g capacity image (refusals.TableDamaged u) o h = absurd (h.wrong (o.tables.formed u h.within))
+refused_stale g capacity image refusals.NextSequence o h =
+    let below = o.last.below h.row h.last h.here in
+    absurd (omega (arith, h.is))
+refused_stale g capacity image (refusals.TooStale stale most) o h = (let one = h.0 in let two = h.1 in cc)
+refused_stale g capacity image _ o h = absurd h
+
+pub found_refused : FoundRefusedLaw
+found_refused g capacity stored left found r power mounted (inl stop) = inl stop
+found_refused g capacity stored left found r power mounted (inr un) =
+    inr (refused_stale g capacity found r (found_orderly g (stale_count g found) stored left found power mounted (omega arith)) un.shows)

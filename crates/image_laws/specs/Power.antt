@@ -1,15 +1,28 @@
 -- What a loss of power leaves of an image of which pages were programmed since it was stored, as those of a file that was not synced since.
-use Rattle.std.specs.Prelude.{◌≡◌, ◌⊎◌, ℕ, length, get_or, slice_get, slice_set, Some, None}
+use Rattle.std.specs.Prelude.{◌≡◌, ◌⊎◌, ◌↔◌, ℕ, ◌+◌, ◌-◌, ◌/◌, ◌%◌, ◌^◌, ◌<◌, ◌≤◌, false, List, length, get_or, slice_get, slice_set, Some, None}
+use Rattle.std.specs.List.{Contains}
 use Rattle.page_layout.specs.declared.geometry.Geometry.{Geometry}
 use Rattle.page_layout.specs.declared.record.Key.{Key}
-use Rattle.page_layout.specs.declared.record.Key.TheVariants.{Sector}
+use Rattle.page_layout.specs.declared.record.Key.TheVariants.{Sector, Translation, Table}
 use Rattle.page_layout.specs.declared.record.Record.{Record}
-use Rattle.page_layout.specs.Page.{Page, Image}
+use Rattle.page_layout.specs.Geometry.{entries, row_count, table_pages}
+use Rattle.page_layout.specs.Page.{Page, Image, body_at}
 use Rattle.page_layout.specs.Sound.{record_of}
 use Rattle.page_layout.specs.Key.{key_of}
 use Rattle.page_layout.specs.Newest.{newest}
+use Rattle.page_layout.specs.OneArray.{AreBelow}
 use Rattle.page_layout.specs.Array.{marks, content_at, sector_of, array_of, HasOneArray}
 use Rattle.page_layout.specs.Change.{IsUnsoundAt}
+use Rattle.bad_blocks.specs.TablePage.{IsWellFormed}
+use Rattle.translation_pages.specs.TranslationPage.{entry_at}
+use Rattle.translation_pages.specs.Entry.{entry_of}
+use Rattle.image_check.specs.declared.refusal.Refusal.{Refusal}
+use Rattle.image_check.specs.declared.refusal.Refusal.TheVariants as refusals
+use Rattle.image_check.specs.Agrees.{HasTables}
+use Rattle.image_check.specs.Stale.{is_stale, stale_count}
+use Rattle.image_check.specs.Mountable.{IsMountable}
+use Rattle.image_check.specs.Refused.{IsStop}
+use Rattle.mount.specs.Mounted.{Refuses}
 
 -- SINCE IT WAS STORED pages were programmed alone: each that had a record is as it was
 pub record Grows (stored left : Image) : Type 0 where
@@ -27,12 +40,12 @@ pub record LosesPower (g : Geometry) (stored left found : Image) : Type 0 where
   pub grows : Grows stored left
   pub loses : LosesSince stored left found
 
--- a page of the sector that was programmed since
-pub record IsPageSince (stored left : Image) (n row : ℕ) : Type 0 where
+-- a page of this key that was programmed since
+pub record IsPageSince (stored left : Image) (key : Key) (row : ℕ) : Type 0 where
   pub none : IsUnsoundAt stored row
   pub its : Record
   pub has : get_or (marks left) row None ≡ Some its
-  pub of : key_of its ≡ Sector n
+  pub of : key_of its ≡ key
 
 -- ---- what may be
 
@@ -70,7 +83,7 @@ SinceLaw = (g : Geometry) (stored left found : Image) (key : Key) (row : ℕ) �
 -- EACH SECTOR reads as when the image was stored, or as a page of it that was programmed since
 abbrev pub EitherLaw : Type 0
 EitherLaw = (g : Geometry) (stored left found : Image) (n : ℕ) → LosesPower g stored left found
-    → (sector_of g found n ≡ sector_of g stored n) ⊎ ((row : ℕ) × IsPageSince stored left n row × (sector_of g found n ≡ content_at g left (Some row)))
+    → (sector_of g found n ≡ sector_of g stored n) ⊎ ((row : ℕ) × IsPageSince stored left (Sector n) row × (sector_of g found n ≡ content_at g left (Some row)))
 
 -- a sector of which no newer page was programmed since reads as it did
 abbrev pub UnwrittenLaw : Type 0
@@ -80,3 +93,58 @@ UnwrittenLaw = (g : Geometry) (stored left found : Image) (n : ℕ) → LosesPow
 -- so where all was stored the array is as it was
 abbrev pub AllStoredLaw : Type 0
 AllStoredLaw = (g : Geometry) (stored found : Image) → LosesPower g stored stored found → array_of g found ≡ array_of g stored
+
+-- ---- that it mounts
+
+-- WHAT MOUNTED WHEN IT WAS STORED, AND SINCE: each table page was there and well formed, each that was programmed since is well formed, and no
+-- page has the last sequence
+pub record MountedSince (g : Geometry) (stored left : Image) : Type 0 where
+  pub tables : HasTables g stored
+  pub formed : (u row : ℕ) → u < table_pages g → IsPageSince stored left (Table u) row → IsWellFormed (entries g) g.blocks u (body_at left row)
+  pub last : AreBelow (marks left) (2 ^ 64 - 1)
+
+-- so it is of an image that mounts, whatever the cache
+abbrev pub StoredMountsLaw : Type 0
+StoredMountsLaw = (g : Geometry) (capacity : ℕ) (stored : Image) → IsMountable g capacity stored → MountedSince g stored stored
+
+-- and after each program that leaves one, with its page the newest of its key: so it holds where the die could have been stopped after any
+-- program since
+abbrev pub ProgramMountsLaw : Type 0
+ProgramMountsLaw = (g : Geometry) (capacity : ℕ) (stored left : Image) (row : ℕ) (p : Page) → MountedSince g stored left → IsMountable g capacity (slice_set left row p)
+    → ((r : Record) → record_of p ≡ Some r → newest (marks (slice_set left row p)) (key_of r) ≡ Some row) → MountedSince g stored (slice_set left row p)
+
+-- WHAT IS FOUND MOUNTS, just where the cache has room for all that is stale
+abbrev pub FoundMountsLaw : Type 0
+FoundMountsLaw = (g : Geometry) (capacity : ℕ) (stored left found : Image) → length left ≡ row_count g → 1 ≤ capacity → capacity ≤ 65536
+    → LosesPower g stored left found → MountedSince g stored left → IsMountable g capacity found ↔ (stale_count g found ≤ capacity)
+
+-- else it is refused for that alone, with how many are stale
+abbrev pub FoundRefusedLaw : Type 0
+FoundRefusedLaw = (g : Geometry) (capacity : ℕ) (stored left found : Image) (r : Refusal) → LosesPower g stored left found → MountedSince g stored left
+    → Refuses g capacity found r → IsStop r ⊎ (r ≡ refusals.TooStale (stale_count g found) capacity)
+
+-- ---- how much is stale
+
+-- EACH TRANSLATION PAGE THAT WAS PROGRAMMED SINCE has the entry from then of a sector that wasn't stale and of which no page was programmed since
+pub record KeepsEntries (g : Geometry) (stored left : Image) : Type 0 where
+  pub entry : (n row : ℕ) → n < g.sectors → is_stale g stored n ≡ false → ((q : ℕ) → ¬ IsPageSince stored left (Sector n) q) → IsPageSince stored left (Translation (n / entries g)) row
+      → entry_at (body_at left row) (n % entries g) ≡ entry_of g stored n
+
+-- as where nothing was programmed since
+abbrev pub StoredEntriesLaw : Type 0
+StoredEntriesLaw = (g : Geometry) (stored : Image) → KeepsEntries g stored stored
+
+-- a translation page with this body has for each of its sectors the row of the newest page, or the entry that there was
+abbrev pub HasEntries : Geometry → Image → List ℕ → ℕ → Type 0
+HasEntries g image body t = (n : ℕ) → n < g.sectors → n / entries g ≡ t
+    → (entry_at body (n % entries g) ≡ newest (marks image) (Sector n)) ⊎ (entry_at body (n % entries g) ≡ entry_of g image n)
+
+-- and after each program of a page that had no record, a translation page with such entries
+abbrev pub ProgramEntriesLaw : Type 0
+ProgramEntriesLaw = (g : Geometry) (stored left : Image) (row : ℕ) (p : Page) → HasOneArray g left → Grows stored left → KeepsEntries g stored left → IsUnsoundAt left row
+    → ((r : Record) (t : ℕ) → record_of p ≡ Some r → key_of r ≡ Translation t → HasEntries g left p.body t) → KeepsEntries g stored (slice_set left row p)
+
+-- SO MANY ARE STALE AT MOST: as many as when the image was stored, and the sectors of which a page was programmed since
+abbrev pub FoundStaleLaw : Type 0
+FoundStaleLaw = (g : Geometry) (stored left found : Image) (programmed : List ℕ) → LosesPower g stored left found → KeepsEntries g stored left
+    → ((n row : ℕ) → n < g.sectors → IsPageSince stored left (Sector n) row → Contains programmed n) → stale_count g found ≤ stale_count g stored + length programmed

@@ -10,6 +10,7 @@ ghost use Rattle.image_laws.specs.Tables.{WrongWordLaw, SameLengthLaw, EraseCoun
 ghost use Rattle.image_laws.specs.Formats.{UntouchedLaw, LostLaw, EnoughLaw, AloneLaw, NoFailureLaw, TablePageLaw, LowSequenceLaw};
 ghost use Rattle.image_laws.specs.Kept.{OtherRowsLaw, OtherPagesLaw, LowestTableLaw};
 ghost use Rattle.image_laws.specs.Power.{FoundOneLaw, StoredLaw, SinceLaw, EitherLaw, UnwrittenLaw, AllStoredLaw, ProgramGrowsLaw, NoneLostLaw, AllLostLaw, OneMoreLostLaw};
+ghost use Rattle.image_laws.specs.Power.{StoredMountsLaw, ProgramMountsLaw, FoundMountsLaw, FoundRefusedLaw, StoredEntriesLaw, ProgramEntriesLaw, FoundStaleLaw};
 
 /// What a refusal says is one: the part of a certificate that fails first, the rows that share a sequence first, and what is wrong first
 /// with a table page. And an image that has a certificate is refused by a mount for want of memory or a failed page read alone. (This
@@ -104,4 +105,11 @@ pub fn power_laws()
     ensures sector { EitherLaw }
     ensures unwritten { UnwrittenLaw }
     ensures all { AllStoredLaw }
+    ensures stored_mounts { StoredMountsLaw }
+    ensures program_mounts { ProgramMountsLaw }
+    ensures mounts { FoundMountsLaw }
+    ensures refused { FoundRefusedLaw }
+    ensures stored_entries { StoredEntriesLaw }
+    ensures program_entries { ProgramEntriesLaw }
+    ensures stale { FoundStaleLaw }
 {}

@@ -1,4 +1,6 @@
-use Rattle.image_laws.proofs.PowerLemmas.{all_lost, all_stored, either, found_one, none_lost, one_more_lost, program_grows, since, stored_stays, unwritten}
+use Rattle.image_laws.proofs.PowerLemmas.{all_lost, all_stored, either, found_mounts, found_one, found_refused, none_lost, one_more_lost, program_grows, program_mounts}
+use Rattle.image_laws.proofs.PowerLemmas.{since, stored_mounts, stored_stays, unwritten}
+use Rattle.image_laws.proofs.StaleLemmas.{found_stale, program_entries, stored_entries}
 use Rattle.image_laws.proofs.power_laws.Goals as goal
 
 pub returns-clause-one : goal.returns-clause-one
@@ -30,3 +32,24 @@ returns-clause-all_lost c = all_lost
 
 pub returns-clause-one_more : goal.returns-clause-one_more
 returns-clause-one_more c = one_more_lost
+
+pub returns-clause-stored_mounts : goal.returns-clause-stored_mounts
+returns-clause-stored_mounts c = stored_mounts
+
+pub returns-clause-program_mounts : goal.returns-clause-program_mounts
+returns-clause-program_mounts c = program_mounts
+
+pub returns-clause-mounts : goal.returns-clause-mounts
+returns-clause-mounts c = found_mounts
+
+pub returns-clause-refused : goal.returns-clause-refused
+returns-clause-refused c = found_refused
+
+pub returns-clause-stored_entries : goal.returns-clause-stored_entries
+returns-clause-stored_entries c = stored_entries
+
+pub returns-clause-stale : goal.returns-clause-stale
+returns-clause-stale c = found_stale
+
+pub returns-clause-program_entries : goal.returns-clause-program_entries
+returns-clause-program_entries c = program_entries
