@@ -1,5 +1,5 @@
 //! What the clauses of a store and of a die over one come to. Each function does nothing: its contract is the law.
-ghost use Rattle.file_die.specs.DieLaws.{LandsLaw, WipesLaw, CopiesLaw, AlwaysLaw, KeepsLaw};
+ghost use Rattle.file_die.specs.DieLaws.{AddingGoesLaw, AlwaysLaw, CopiesLaw, ImagesLaw, KeepsLaw, LandsLaw, SinceSyncLaw, WipesLaw};
 ghost use Rattle.file_die.specs.Laws.{StaysLaw, ReadBackLaw, ClearedLaw, LoadLaw, SyncLaw, WholeLaw};
 
 /// What an honest store holds, over any calls, done or failed: what was put at a row is loaded again until it is put at or cleared, and an erased
@@ -22,4 +22,7 @@ pub fn die_laws()
     ensures copies { CopiesLaw }
     ensures always { AlwaysLaw }
     ensures keeps { KeepsLaw }
+    ensures images { ImagesLaw }
+    ensures since_sync { SinceSyncLaw }
+    ensures adding { AddingGoesLaw }
 {}
