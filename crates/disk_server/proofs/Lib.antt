@@ -12,3 +12,4 @@ pub mod Starting
 pub mod MadeLemmas
 pub mod OpenedLemmas
 pub mod StoppedLemmas
+pub mod PowerLemmas

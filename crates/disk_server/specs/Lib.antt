@@ -7,6 +7,8 @@ pub mod Open
 -- the disk in a store
 pub mod Made
 pub mod Opened
+-- what a loss of power leaves of it
+pub mod Power
 pub mod Stopped
 pub mod Synced
 pub mod Words

@@ -1,6 +1,7 @@
 //! What a device of sectors is as bytes, and the block device as one. Each function does nothing: its contract is the law.
 ghost use Rattle.disk_server.specs.Laws.{ClosedLaw, HoldsLaw, LastsLaw, LengthLaw, NoSpaceLaw, ReadOnlyLaw, SectorLaw};
 ghost use Rattle.disk_server.specs.Flat.{FlatLaw};
+ghost use Rattle.disk_server.specs.Power.{FoundLaw, LeavesLaw};
 
 use onfi_cycles::Nand;
 
@@ -25,4 +26,12 @@ pub fn fault_laws()
     ensures no_space { NoSpaceLaw }
     ensures read_only { ReadOnlyLaw }
     ensures closed { ClosedLaw }
+{}
+
+/// What a loss of power leaves of a disk in a store whose pages all lasted, as after a sync, where the die's cycles since then, done or failed,
+/// erased nothing and programmed no page where one had a record: the store's pages are those that `image_laws::power_laws` speaks of, and each
+/// sector of the disk that is found has its bytes from then, or those of a page of it that was programmed since. (This project's.)
+pub fn power_laws()
+    ensures leaves { LeavesLaw }
+    ensures found { FoundLaw }
 {}

@@ -12,7 +12,7 @@ use Rattle.file_die.specs.Die.{ProgramsIn, ErasesIn}
 use Rattle.file_die.proofs.StoreLemmas.{erased_in}
 
 -- one of three
-of_three : (a b c now : Page) → Contains (a ∷ b ∷ c ∷ []) now → (a ≡ now) ⊎ ((b ≡ now) ⊎ (c ≡ now))
+pub of_three : (a b c now : Page) → Contains (a ∷ b ∷ c ∷ []) now → (a ≡ now) ⊎ ((b ≡ now) ⊎ (c ≡ now))
 of_three a b c now (zero, lt, e) = inl e
 of_three a b c now (suc zero, lt, e) = inr (inl e)
 of_three a b c now (suc (suc zero), lt, e) = inr (inr e)

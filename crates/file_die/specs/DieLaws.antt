@@ -1,8 +1,10 @@
 -- What the cycles of a die come to in its store.
-use Rattle.std.specs.Prelude.{◌≡◌, ◌≢◌, ◌<◌, ◌/◌, ℕ, Bool, true, false, List, [], ◌∷◌}
+use Rattle.std.specs.Prelude.{◌≡◌, ◌≢◌, ◌<◌, ◌/◌, ◌⊎◌, ℕ, Bool, true, false, List, [], ◌∷◌, Some, None}
 use Rattle.page_layout.specs.declared.geometry.Geometry.{Geometry}
+use Rattle.page_layout.specs.declared.record.Record.{Record}
 use Rattle.page_layout.specs.Geometry.{row_count}
-use Rattle.page_layout.specs.Page.{Page}
+use Rattle.page_layout.specs.Page.{Page, Image}
+use Rattle.page_layout.specs.Sound.{record_of}
 use Rattle.page_layout.specs.Change.{erased_page}
 use Rattle.page_layout.specs.Flash.{Flash, may_program, may_erase}
 use Rattle.onfi_cycles.specs.Cycles.{Due, Moves, Resets, Programs, Erases, Refuses}
@@ -44,6 +46,19 @@ abbrev pub AllSpare : Geometry → ℕ → List Turn → Type 0
 AllSpare g row [] = Unit {0}
 AllSpare g row (turn ∷ turns) = DueSpares g row turn.due × AllSpare g row turns
 
+-- what was due is no erase that its block's turn allows, and a program that is allowed is of a row whose page has no record
+abbrev pub AddsAlone : Held → Flash → Due → Type 0
+AddsAlone s flash (Programs row page) = may_program flash row ≡ true → record_of (page_in s.pages row) ≡ None
+AddsAlone s flash (Erases block) = may_erase flash block ≡ false
+AddsAlone s flash (Moves phase) = Unit {0}
+AddsAlone s flash Resets = Unit {0}
+AddsAlone s flash (Refuses fault) = Unit {0}
+
+-- such cycles one after another, done or failed
+abbrev pub GoesAdding : SyncWhen → Held → List Turn → Held → Type 0
+GoesAdding sync_when s [] t = t ≡ s
+GoesAdding sync_when s (turn ∷ turns) t = (mid : Held) × AddsAlone s turn.flash turn.due × Takes sync_when s turn mid × GoesAdding sync_when mid turns t
+
 -- ---- laws
 
 -- A program lands just on its row. One that is done and was due leaves the page there; one that failed what was there, the page, or one
@@ -83,3 +98,21 @@ AlwaysLaw = (s t : Held) (turns : List Turn) → Goes Always s turns t → AllDo
 abbrev pub KeepsLaw : Type 0
 KeepsLaw = (sync_when : SyncWhen) (s t : Held) (turns : List Turn) (row : ℕ) → Goes sync_when s turns t → AllSpare s.geometry row turns
     → (page_in t.pages row ≡ page_in s.pages row) × (page_in s.durable row ≡ page_in s.pages row → page_in t.durable row ≡ page_in s.pages row)
+
+-- a store of images of the die stays one of the same die
+abbrev pub ImagesLaw : Type 0
+ImagesLaw = (sync_when : SyncWhen) (s t : Held) (turns : List Turn) → Goes sync_when s turns t → (t.geometry ≡ s.geometry) × (AreImages s → AreImages t)
+
+-- WHAT IS FOUND IF THE POWER GOES, since these pages were stored: a page that had a record then is as it was; and each row has what it holds
+-- now, or a page without a record where it had none then
+pub record LastsSince (stored : Image) (t : Held) : Type 0 where
+  pub kept : (row : ℕ) (r : Record) → record_of (page_in stored row) ≡ Some r → page_in t.pages row ≡ page_in stored row
+  pub found : (row : ℕ) → (page_in t.durable row ≡ page_in t.pages row) ⊎ ((record_of (page_in stored row) ≡ None) × (record_of (page_in t.durable row) ≡ None))
+
+-- so it is as long as cycles add pages alone, from a moment on when all pages last, as after a sync
+abbrev pub SinceSyncLaw : Type 0
+SinceSyncLaw = (sync_when : SyncWhen) (s t : Held) (turns : List Turn) → GoesAdding sync_when s turns t → s.durable ≡ s.pages → LastsSince s.pages t
+
+-- such cycles are cycles
+abbrev pub AddingGoesLaw : Type 0
+AddingGoesLaw = (sync_when : SyncWhen) (s t : Held) (turns : List Turn) → GoesAdding sync_when s turns t → Goes sync_when s turns t

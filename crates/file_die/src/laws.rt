@@ -1,5 +1,5 @@
 //! What the clauses of a store and of a die over one come to. Each function does nothing: its contract is the law.
-ghost use Rattle.file_die.specs.DieLaws.{LandsLaw, WipesLaw, CopiesLaw, AlwaysLaw, KeepsLaw};
+ghost use Rattle.file_die.specs.DieLaws.{AddingGoesLaw, AlwaysLaw, CopiesLaw, ImagesLaw, KeepsLaw, LandsLaw, SinceSyncLaw, WipesLaw};
 ghost use Rattle.file_die.specs.Laws.{StaysLaw, ReadBackLaw, ClearedLaw, LoadLaw, SyncLaw, WholeLaw};
 
 /// What an honest store holds, over any calls, done or failed: what was put at a row is loaded again until it is put at or cleared, and an erased
@@ -15,11 +15,16 @@ pub fn store_laws()
 
 /// What the cycles of a die leave in an honest store: a program lands just on its row, and an erase on its block; what was copied out of a block
 /// lasts before the block is erased, and none of its old pages lasts after; a row that no program and no erase was due of holds what it held,
-/// and that goes on to last; and where each program is synced all pages last. (This project's.)
+/// and that goes on to last; where each program is synced all pages last; images of the die stay such; and while cycles only add pages where none
+/// has a record, from a moment on when all pages last, each row would be found as it is if the power went, or without a record where it had none
+/// then. (This project's.)
 pub fn die_laws()
     ensures lands { LandsLaw }
     ensures wipes { WipesLaw }
     ensures copies { CopiesLaw }
     ensures always { AlwaysLaw }
     ensures keeps { KeepsLaw }
+    ensures images { ImagesLaw }
+    ensures since_sync { SinceSyncLaw }
+    ensures adding { AddingGoesLaw }
 {}

@@ -1,5 +1,5 @@
 //! Laws on what is said of an image, by the checker, a mount and a format: a refusal says one thing, and what is said to stay does. They
-//! stand in no crate that others rest on, so that a new one has nothing proved again.
+//! stand in a crate on which `disk_server` alone rests, for what a loss of power leaves, so that a new one has little proved again.
 #![tactic(auto)]
 
 ghost use Rattle.image_laws.specs.Refusals.{OnePartLaw, OnePairLaw, OneWordLaw, CertifiedLaw};
