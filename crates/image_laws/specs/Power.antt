@@ -118,7 +118,7 @@ abbrev pub FoundMountsLaw : Type 0
 FoundMountsLaw = (g : Geometry) (capacity : ℕ) (stored left found : Image) → length left ≡ row_count g → 1 ≤ capacity → capacity ≤ 65536
     → LosesPower g stored left found → MountedSince g stored left → IsMountable g capacity found ↔ (stale_count g found ≤ capacity)
 
--- else it is refused for that alone, with how many are stale
+-- else it is refused for that alone, with how many are stale, unless something stops the mount
 abbrev pub FoundRefusedLaw : Type 0
 FoundRefusedLaw = (g : Geometry) (capacity : ℕ) (stored left found : Image) (r : Refusal) → LosesPower g stored left found → MountedSince g stored left
     → Refuses g capacity found r → IsStop r ⊎ (r ≡ refusals.TooStale (stale_count g found) capacity)

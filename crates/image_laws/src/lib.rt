@@ -93,7 +93,10 @@ pub fn kept_laws()
 /// What a loss of power leaves of an image of which pages were programmed since it was stored, each page found as it was left or without a
 /// record: one array; nothing that was stored is lost; each sector reads as when the image was stored or as a page of it that was programmed
 /// since, and as it did where none was; and where all was stored the array is as it was. Any of the pages that were programmed where none was
-/// stored may be missing or torn: none, all, and one more. (This project.)
+/// stored may be missing or torn: none, all, and one more. Where the image mounted when it was stored, and after each program since, what is
+/// found mounts just if the cache has room for all that is stale, and is refused for that alone, for memory or for a failed page read. At most
+/// as many sectors are stale as were when the image was stored and as had a page programmed since, together, where each translation page since
+/// has for each of its sectors the row of the newest page or the entry that there was. (This project.)
 pub fn power_laws()
     ensures program { ProgramGrowsLaw }
     ensures none_lost { NoneLostLaw }
