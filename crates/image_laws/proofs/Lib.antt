@@ -5,4 +5,4 @@ mod SectorLemmas
 mod TableLemmas
 mod KeptLemmas
 mod FormatLemmas
-mod PowerLemmas
+pub mod PowerLemmas
