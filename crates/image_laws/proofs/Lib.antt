@@ -5,5 +5,5 @@ mod SectorLemmas
 mod TableLemmas
 mod KeptLemmas
 mod FormatLemmas
-mod PowerLemmas
+pub mod PowerLemmas
 mod StaleLemmas
