@@ -1,13 +1,49 @@
 -- WHETHER A SYNC WAS DONE, and what a client is told of a disk.
-use Rattle.std.specs.Prelude.{◌≡◌, ℕ, Bool, true, false}
+use Rattle.std.specs.Prelude.{◌≡◌, ◌⊎◌, ◌<◌, ◌+◌, ◌-◌, ◌^◌, ◌%◌, ℕ, Bool, true, min, max}
+use Rattle.std.specs.Int.{div_ceil}
 use Rattle.page_layout.specs.Counter.{counted}
 use Rattle.nbd_stream.specs.declared.export.Export.{Export}
 use Rattle.disk_server.specs.declared.served.Offer.{Offer}
+use Rattle.disk_server.specs.declared.synced.SyncedDisk.{SyncedDisk}
 
--- one more where what was done is to last, and else none
-abbrev pub HasSynced : {Y : Type 0} → (synced : Y → ℕ) → (durable : Bool) → (old new : Y) → Type 0
-HasSynced synced true old new = synced new ≡ counted (synced old)
-HasSynced synced false old new = new ≡ old
+-- the pieces of so many bytes that a range touches; a piece has a byte at least
+abbrev pub touched : (piece offset count : ℕ) → ℕ
+touched piece offset count = div_ceil (offset % max piece 1 + count) (max piece 1)
+
+-- the disk with the pieces of a range counted as changed. The count stays at 2^64 - 1 once there
+abbrev pub after_change : {D Y : Type 0} → (offset count : ℕ) → SyncedDisk D Y → SyncedDisk D Y
+after_change offset count s = record {
+  disk = s.disk;
+  syncs = s.syncs;
+  pace = s.pace;
+  unsynced = min (s.unsynced + touched s.pace.piece offset count) (2 ^ 64 - 1);
+}
+
+-- nothing but the disk is another
+pub record KeepsSyncs {D Y : Type 0} (old new : SyncedDisk D Y) : Type 0 where
+  pub syncs_same : new.syncs ≡ old.syncs
+  pub pace_same : new.pace ≡ old.pace
+  pub unsynced_same : new.unsynced ≡ old.unsynced
+
+-- no sync was done, and as much counts as changed as before
+pub record IsUnsynced {D Y : Type 0} (synced : Y → ℕ) (old new : SyncedDisk D Y) : Type 0 where
+  pub none : synced new.syncs ≡ synced old.syncs
+  pub pace_same : new.pace ≡ old.pace
+  pub unsynced_same : new.unsynced ≡ old.unsynced
+
+-- a sync is due: what was done is to last, or more was changed since the last one than may be
+abbrev pub IsDue : {D Y : Type 0} → (durable : Bool) → SyncedDisk D Y → Type 0
+IsDue durable s = (durable ≡ true) ⊎ (s.pace.most < s.unsynced)
+
+-- one more sync was done, and nothing counts as changed
+pub record Syncs {D Y : Type 0} (synced : Y → ℕ) (old new : SyncedDisk D Y) : Type 0 where
+  pub one : synced new.syncs ≡ counted (synced old.syncs)
+  pub pace_same : new.pace ≡ old.pace
+  pub all : new.unsynced ≡ 0
+
+-- A SYNC WAS DONE JUST WHERE ONE WAS DUE
+abbrev pub HasSynced : {D Y : Type 0} → (synced : Y → ℕ) → (durable : Bool) → (old new : SyncedDisk D Y) → Type 0
+HasSynced synced durable old new = (IsDue durable old × Syncs synced old new) ⊎ ((¬ IsDue durable old) × KeepsSyncs old new)
 
 -- so many bytes, on these terms
 abbrev pub export_of : Offer → (size : ℕ) → Export

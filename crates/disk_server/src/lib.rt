@@ -7,7 +7,8 @@
 //! - `open_store`: the same over the die that a store holds; `close_store` gives the store back.
 //! - `open_stopped`, `mount_stopped`: the same where the die may have been stopped, with more that is stale than the cache has room for.
 //! - `format_store`: a store of erased pages becomes a die with a device on it.
-//! - `SyncedDisk`: a disk whose flushes and durable changes end with a sync of what it is kept in; `serve_synced` serves it.
+//! - `SyncedDisk`: a disk whose flushes and durable changes end with a sync of what it is kept in, and of whose changes no more than a `SyncPace` says lack one;
+//!   `serve_synced` serves it.
 //!
 //! All of it is this project's.
 #![tactic(auto)]
@@ -36,4 +37,4 @@ pub use sector_disk::SectorDisk;
 pub use sectors::Sectors;
 pub use served::{Offer, serve_synced};
 pub use stopped::{mount_stopped, open_stopped};
-pub use synced::{SyncedDisk, Syncs};
+pub use synced::{SyncPace, SyncedDisk, Syncs};

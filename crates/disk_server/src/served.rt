@@ -1,7 +1,7 @@
 //! A disk is served to one client.
 ghost use Rattle.std.specs.Prelude.{◌≡◌, ◌≤◌, false, length};
 ghost use Rattle.nbd_stream.specs.Transmission.{Serves};
-ghost use Rattle.disk_server.specs.Synced.{export_of};
+ghost use Rattle.disk_server.specs.Synced.{KeepsSyncs, export_of};
 
 use crate::sector_disk::SectorDisk;
 use crate::sectors::Sectors;
@@ -22,7 +22,7 @@ pub struct Offer {
 }
 
 /// Serves all bytes of a disk to one client, until it goes: each request is answered by one reply, in order, and of a disk that is honest the answers are those of the array of its
-/// bytes. After each change the disk rests, and each flush and each durable change ends with a sync.
+/// bytes. After each change the disk rests. Each flush and each durable change ends with a sync, and so does each change once too much was changed since the last one.
 ///
 /// # Errors
 ///
@@ -35,7 +35,7 @@ pub fn serve_synced<S: Sectors, Y: Syncs, R: Read, W: Write>(
     writer: &mut W,
 ) -> Result<End, ServeFault>
     requires room { offer.maximum ≤ length buffer.old }
-    ensures { Serves (λ s. S.contents s.disk) (λ s. S.honest s.disk) (λ _. false) (λ old result new. S.rests old.disk result new.disk × (new.syncs ≡ old.syncs))
+    ensures { Serves (λ s. S.contents s.disk) (λ s. S.honest s.disk) (λ _. false) (λ old result new. S.rests old.disk result new.disk × KeepsSyncs old new)
         (export_of offer (length (S.contents disk.old.disk).bytes)) (length buffer.new) disk.old disk.new (R.remaining reader.old) (R.remaining reader.new)
         (W.contents writer.old) (W.contents writer.new) result }
 {

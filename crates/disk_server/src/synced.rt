@@ -1,6 +1,6 @@
 //! A disk whose flushes reach what it is kept in.
-ghost use Rattle.std.specs.Prelude.{◌≡◌, OnOk};
-ghost use Rattle.page_layout.specs.Counter.{counted};
+ghost use Rattle.std.specs.Prelude.{◌≡◌, ◌<◌, ◌^◌};
+ghost use Rattle.disk_server.specs.Synced.{touched};
 
 use nbd_stream::{Disk, DiskFault, Task};
 
@@ -23,22 +23,52 @@ pub trait Syncs {
         ensures fault { IfErr result (λ e. e ≡ DiskFault.Failed) };
 }
 
-/// A disk, and a way to make last what it writes. Each flush and each durable change that is answered without an error ends with a sync, and one that is answered with an
-/// error with none that was done. What a sync makes
-/// last no contract of the disk can say: that it is of what the disk is kept in, is for whoever joins the two. (This project's.)
+/// How much may be changed between two syncs: so many pieces of so many bytes. A change counts each piece that it touches. With 0 bytes a piece is a byte. (This project's.)
+#[derive(Clone, Copy)]
+pub struct SyncPace {
+    /// Bytes of a piece.
+    pub piece: u32,
+    /// The most pieces.
+    pub most: u64,
+}
+
+// The pieces that a range touches.
+fn pieces_of(piece: u32, offset: u64, count: u64) -> u64
+    requires { count < 2 ^ 63 }
+    ensures { result ≡ touched piece offset count }
+{
+    let piece = u64::from(piece.max(1));
+    (offset % piece + count).div_ceil(piece)
+}
+
+/// A disk, and a way to make last what it writes. Each flush and each durable change that is answered without an error ends with a sync, and so does each change that is
+/// answered without an error once too much was changed since the last one. One that is answered with an error ends with none that was done. What a sync makes last no contract
+/// of the disk can say: that it is of what the disk is kept in, is for whoever joins the two. (This project's.)
 #[derive(Drop)]
 pub struct SyncedDisk<D: Disk, Y: Syncs> {
     disk: D,
     syncs: Y,
+    pace: SyncPace,
+    unsynced: u64,
 }
 
 impl<D: Disk, Y: Syncs> SyncedDisk<D, Y> {
-    /// Joins a disk and its syncs. Nothing is asked of either.
-    pub fn new(disk: D, syncs: Y) -> SyncedDisk<D, Y>
+    ghost use Rattle.std.specs.Prelude.{◌≡◌, OnOk, OnErr, IfErr};
+    ghost use Rattle.disk_server.specs.Synced.{HasSynced, IsUnsynced, after_change};
+
+    /// Joins a disk and its syncs. Nothing is asked of either, and nothing counts as changed.
+    pub fn new(disk: D, syncs: Y, pace: SyncPace) -> SyncedDisk<D, Y>
         ensures disk { result.disk ≡ disk }
         ensures syncs { result.syncs ≡ syncs }
+        ensures pace { result.pace ≡ pace }
+        ensures unsynced { result.unsynced ≡ 0 }
     {
-        SyncedDisk { disk, syncs }
+        SyncedDisk {
+            disk,
+            syncs,
+            pace,
+            unsynced: 0,
+        }
     }
 
     /// The disk.
@@ -47,13 +77,40 @@ impl<D: Disk, Y: Syncs> SyncedDisk<D, Y> {
     {
         &self.disk
     }
+
+    // Counts what a change of a range touches.
+    fn count(&mut self, offset: u64, count: u64)
+        requires { count < 2 ^ 63 }
+        ensures { self.new ≡ after_change offset count self.old }
+    {
+        let pieces = pieces_of(self.pace.piece, offset, count);
+        self.unsynced = self.unsynced.saturating_add(pieces);
+    }
+
+    // Syncs, where what was done is to last or too much was changed.
+    fn settle(&mut self, durable: bool) -> Result<(), DiskFault>
+        ensures disk { self.new.disk ≡ self.old.disk }
+        ensures synced { OnOk result (HasSynced Y.synced durable self.old self.new) }
+        ensures unsynced { OnErr result (IsUnsynced Y.synced self.old self.new) }
+        ensures fault { IfErr result (λ e. e ≡ DiskFault.Failed) }
+    {
+        if !durable && self.unsynced <= self.pace.most {
+            return Ok(());
+        }
+        match self.syncs.sync() {
+            Ok(()) => {
+                self.unsynced = 0;
+                Ok(())
+            }
+            Err(fault) => Err(fault),
+        }
+    }
 }
 
 impl<D: Disk, Y: Syncs> Disk for SyncedDisk<D, Y> {
     ghost use Rattle.std.specs.Prelude.{◌≡◌, ◌≤◌, ◌+◌, true, false, [], length, OnErr, OnOk};
     ghost use Rattle.nbd_stream.specs.Disk.{Performs, answer_from};
-    ghost use Rattle.page_layout.specs.Counter.{counted};
-    ghost use Rattle.disk_server.specs.Synced.{HasSynced};
+    ghost use Rattle.disk_server.specs.Synced.{HasSynced, IsUnsynced, KeepsSyncs, after_change};
 
     ghost contents = { λ s. D.contents s.disk };
 
@@ -62,12 +119,12 @@ impl<D: Disk, Y: Syncs> Disk for SyncedDisk<D, Y> {
     ghost calm = { λ _. false };
 
     /// A rest of the disk, and nothing else.
-    ghost rests = { λ old result new. D.rests old.disk result new.disk × (new.syncs ≡ old.syncs) };
+    ghost rests = { λ old result new. D.rests old.disk result new.disk × KeepsSyncs old new };
 
     fn read(&mut self, offset: u64, buffer: &mut [u8]) -> Result<(), DiskFault>
         requires { offset + length buffer.old ≤ length (D.contents self.old.disk).bytes }
         ensures performs { Performs (λ s. D.contents s.disk) (λ s. D.honest s.disk) (λ _. false) (Task.Read offset (length buffer.old)) [] self.old (answer_from result buffer.new) self.new }
-        ensures unsynced { self.new.syncs ≡ self.old.syncs }
+        ensures unsynced { KeepsSyncs self.old self.new }
     {
         self.disk.read(offset, buffer)
     }
@@ -75,37 +132,38 @@ impl<D: Disk, Y: Syncs> Disk for SyncedDisk<D, Y> {
     fn write(&mut self, offset: u64, bytes: &[u8], durable: bool) -> Result<(), DiskFault>
         requires { offset + length bytes.now ≤ length (D.contents self.old.disk).bytes }
         ensures performs { Performs (λ s. D.contents s.disk) (λ s. D.honest s.disk) (λ _. false) (Task.Write offset (length bytes.now) durable) bytes.now self.old (answer_from result []) self.new }
-        ensures synced { OnOk result (HasSynced Y.synced durable self.old.syncs self.new.syncs) }
-        ensures unsynced { OnErr result (Y.synced self.new.syncs ≡ Y.synced self.old.syncs) }
+        ensures synced { OnOk result (HasSynced Y.synced durable (after_change offset (length bytes.now) self.old) self.new) }
+        ensures unsynced { OnErr result (IsUnsynced Y.synced (after_change offset (length bytes.now) self.old) self.new) }
     {
-        self.disk.write(offset, bytes, durable)?;
-        if durable {
-            self.syncs.sync()?;
+        self.count(offset, bytes.len() as u64);
+        match self.disk.write(offset, bytes, durable) {
+            Ok(()) => self.settle(durable),
+            Err(fault) => Err(fault),
         }
-        Ok(())
     }
 
     fn clear(&mut self, offset: u64, count: u32, durable: bool) -> Result<(), DiskFault>
         requires { offset + count ≤ length (D.contents self.old.disk).bytes }
         ensures performs { Performs (λ s. D.contents s.disk) (λ s. D.honest s.disk) (λ _. false) (Task.Trim offset count durable) [] self.old (answer_from result []) self.new }
-        ensures synced { OnOk result (HasSynced Y.synced durable self.old.syncs self.new.syncs) }
-        ensures unsynced { OnErr result (Y.synced self.new.syncs ≡ Y.synced self.old.syncs) }
+        ensures synced { OnOk result (HasSynced Y.synced durable (after_change offset count self.old) self.new) }
+        ensures unsynced { OnErr result (IsUnsynced Y.synced (after_change offset count self.old) self.new) }
     {
-        self.disk.clear(offset, count, durable)?;
-        if durable {
-            self.syncs.sync()?;
+        self.count(offset, u64::from(count));
+        match self.disk.clear(offset, count, durable) {
+            Ok(()) => self.settle(durable),
+            Err(fault) => Err(fault),
         }
-        Ok(())
     }
 
     fn flush(&mut self) -> Result<(), DiskFault>
         ensures performs { Performs (λ s. D.contents s.disk) (λ s. D.honest s.disk) (λ _. false) Task.Flush [] self.old (answer_from result []) self.new }
-        ensures synced { OnOk result (HasSynced Y.synced true self.old.syncs self.new.syncs) }
-        ensures unsynced { OnErr result (Y.synced self.new.syncs ≡ Y.synced self.old.syncs) }
+        ensures synced { OnOk result (HasSynced Y.synced true self.old self.new) }
+        ensures unsynced { OnErr result (IsUnsynced Y.synced self.old self.new) }
     {
-        self.disk.flush()?;
-        self.syncs.sync()?;
-        Ok(())
+        match self.disk.flush() {
+            Ok(()) => self.settle(true),
+            Err(fault) => Err(fault),
+        }
     }
 
     fn rest(&mut self) -> Result<(), DiskFault> {
