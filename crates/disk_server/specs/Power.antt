@@ -17,7 +17,7 @@ pub record HasAdded (sync_when : SyncWhen) (synced : Held) (turns : List Turn) (
   pub goes : GoesAdding sync_when synced turns t
   pub one : HasOneArray synced.geometry t.pages
 
--- the store that is found if the power goes now
+-- the store that is found if the power goes now, between two cycles
 abbrev pub found_of : Held → Held
 found_of t = record { geometry = t.geometry; pages = t.durable; durable = t.durable }
 

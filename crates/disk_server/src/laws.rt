@@ -1,4 +1,5 @@
-//! What a device of sectors is as bytes, and the block device as one. Each function does nothing: its contract is the law.
+//! What a device of sectors is as bytes, the block device as one, and a disk in a store after a loss of power. Each function does nothing: its contract is
+//! the law.
 ghost use Rattle.disk_server.specs.Laws.{ClosedLaw, HoldsLaw, LastsLaw, LengthLaw, NoSpaceLaw, ReadOnlyLaw, SectorLaw};
 ghost use Rattle.disk_server.specs.Flat.{FlatLaw};
 ghost use Rattle.disk_server.specs.Power.{FoundLaw, LeavesLaw};
