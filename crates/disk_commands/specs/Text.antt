@@ -24,7 +24,7 @@ limit_words limit.Sectors = codes "Sectors"
 
 abbrev pub size_words : SizeFault → List ℕ
 size_words size.Zero = codes "a disk has at least one byte"
-size_words size.TooLarge = codes "a disk has at most 509349888 bytes"
+size_words size.TooLarge = codes "a disk has at most 2037469184 bytes"
 
 abbrev pub shape_words : ShapeFault → List ℕ
 shape_words shape.NotJson = codes "not JSON"

@@ -1,8 +1,9 @@
 //! The shape of a disk, and the one for a size.
 ghost use Rattle.std.specs.Prelude.{◌≡◌, ◌↔◌, ◌+◌, ◌*◌, ◌<◌, ◌≤◌, IfOk, IfErr, IfSome, IsOk, IsTrue, None, ℕ};
+ghost use Rattle.std.specs.Int.{div_ceil};
 ghost use Rattle.page_layout.specs.Faults.{HasNumbers};
 ghost use Rattle.page_layout.specs.Geometry.{need};
-ghost use Rattle.disk_commands.specs.Shapes.{Formats, IsDie, IsLeast, IsNoSize, IsShapeFor, cache_of, most_bytes};
+ghost use Rattle.disk_commands.specs.Shapes.{Formats, IsDie, IsDieFor, IsLeast, IsNoSize, IsPages, IsPagesFor, IsShapeFor, cache_of, most_bytes, most_sectors};
 
 use page_layout::geometry::{Geometry, GeometryFault};
 use std::error::Error;
@@ -12,7 +13,12 @@ const DATA_BYTES: u32 = 4096;
 
 const SPARE_BYTES: u32 = 128;
 
-const PAGES: u32 = 64;
+// The most sectors of a die with 64, 128 and 256 pages a block.
+const MOST_AT_64: u32 = 124_353;
+
+const MOST_AT_128: u32 = 248_712;
+
+const MOST_AT_256: u32 = 497_429;
 
 // The fewest and the most entries of a cache that is picked.
 const LEAST_CACHED: u32 = 64;
@@ -34,7 +40,7 @@ pub struct Shape {
 pub enum SizeFault {
     /// The size is no byte.
     Zero,
-    /// The size is more than 509,349,888 bytes, which is 124,353 sectors.
+    /// The size is more than 2,037,469,184 bytes, which is 497,429 sectors.
     TooLarge,
 }
 
@@ -49,7 +55,7 @@ impl fmt::Display for SizeFault {
     fn fmt<W: fmt::Write>(&self, f: &mut fmt::Formatter<W>) -> fmt::Result {
         match *self {
             SizeFault::Zero => f.write_str("a disk has at least one byte"),
-            SizeFault::TooLarge => f.write_str("a disk has at most 509349888 bytes"),
+            SizeFault::TooLarge => f.write_str("a disk has at most 2037469184 bytes"),
         }
     }
 }
@@ -66,42 +72,58 @@ pub fn cache_for(geometry: &Geometry) -> u32
     geometry.sectors().min(MOST_CACHED).max(LEAST_CACHED)
 }
 
-fn die(blocks: u32, sectors: u32) -> Result<Geometry, GeometryFault>
-    ensures ok { IfOk result (IsDie blocks sectors) }
-    ensures err { IfErr result (λ _. (g : Geometry) → ¬ IsDie blocks sectors g) }
+// The fewest pages a block, of 64, 128 and 256, of which a die has room for so many sectors.
+fn pages_for(sectors: u32) -> Option<u32>
+    ensures some { IfSome result (IsPagesFor sectors) }
+    ensures none { result ≡ None → most_sectors 256 < sectors }
 {
-    Geometry::new(DATA_BYTES, SPARE_BYTES, PAGES, blocks, sectors)
+    if sectors <= MOST_AT_64 {
+        Some(64)
+    } else if sectors <= MOST_AT_128 {
+        Some(128)
+    } else if sectors <= MOST_AT_256 {
+        Some(256)
+    } else {
+        None
+    }
+}
+
+fn die(pages: u32, blocks: u32, sectors: u32) -> Result<Geometry, GeometryFault>
+    ensures ok { IfOk result (IsDie pages blocks sectors) }
+    ensures err { IfErr result (λ _. (g : Geometry) → ¬ IsDie pages blocks sectors g) }
+{
+    Geometry::new(DATA_BYTES, SPARE_BYTES, pages, blocks, sectors)
 }
 
 // Whether a format of so many blocks, all of them good, is not refused for too few.
-fn formats(sectors: u32, blocks: u32) -> bool
-    ensures { IsTrue result ↔ Formats sectors blocks }
+fn formats(pages: u32, sectors: u32, blocks: u32) -> bool
+    ensures { IsTrue result ↔ Formats pages sectors blocks }
 {
-    match die(blocks, sectors) {
+    match die(pages, blocks, sectors) {
         Ok(geometry) => geometry.need() <= blocks,
         Err(_) => false,
     }
 }
 
 // The fewest blocks that a format of so many sectors needs, where there is a die of so many.
-fn least_blocks(sectors: u32) -> Option<u32>
-    ensures some { IfSome result (IsLeast sectors) }
-    ensures none { result ≡ None → (blocks : ℕ) → blocks ≤ 4096 → ¬ Formats sectors blocks }
+fn least_blocks(pages: u32, sectors: u32) -> Option<u32>
+    ensures some { IfSome result (IsLeast pages sectors) }
+    ensures none { result ≡ None → (blocks : ℕ) → blocks ≤ 4096 → ¬ Formats pages sectors blocks }
 {
     for blocks in 0..=MOST_BLOCKS {
-        if formats(sectors, blocks) {
+        if formats(pages, sectors, blocks) {
             return Some(blocks);
         }
     }
     None
 }
 
-/// The shape of a disk of so many bytes, in whole sectors of 4,096 bytes: pages of 4,096 and 128 bytes, 64 a block; as many blocks as a format of that
-/// many sectors needs and a twentieth more, rounded up; and the cache of [`cache_for`].
+/// The shape of a disk of so many bytes, in whole sectors of 4,096 bytes: pages of 4,096 and 128 bytes; as many blocks as a format of that many sectors needs and a
+/// twentieth more, rounded up; the fewest pages a block, of 64, 128 and 256, of which there is such a die; and the cache of [`cache_for`].
 ///
 /// # Errors
 ///
-/// `Zero` for no byte. `TooLarge` for more than 509,349,888 bytes: then the blocks would be more than any die has.
+/// `Zero` for no byte. `TooLarge` for more than 2,037,469,184 bytes: then the blocks would be more than any die has.
 ///
 /// (This project's rule.)
 pub fn shape_for(bytes: u64) -> Result<Shape, SizeFault>
@@ -109,9 +131,15 @@ pub fn shape_for(bytes: u64) -> Result<Shape, SizeFault>
     ensures fault { IfErr result (IsNoSize bytes) }
     ensures within { IsOk result ↔ ((1 ≤ bytes) × (bytes ≤ most_bytes)) }
 
+    // For a size that is refused there is no such die.
+    ensures none { IfErr result (λ _. (pages : ℕ) → IsPages pages → (g : Geometry) → ¬ IsDieFor pages (div_ceil bytes 4096) g) }
+
     // The disk has at least these bytes, and less than a sector more.
     ensures enough { IfOk result (λ s. bytes ≤ s.geometry.sectors * 4096) }
     ensures tight { IfOk result (λ s. s.geometry.sectors * 4096 < bytes + 4096) }
+
+    // The pages of a block by the sectors: 64, 128 or 256.
+    ensures pages { IfOk result (λ s. IsPagesFor s.geometry.sectors s.geometry.pages) }
 
     // A format has the blocks that it needs.
     ensures formats { IfOk result (λ s. need s.geometry ≤ s.geometry.blocks) }
@@ -122,10 +150,13 @@ pub fn shape_for(bytes: u64) -> Result<Shape, SizeFault>
     let Ok(sectors) = u32::try_from(bytes.div_ceil(u64::from(DATA_BYTES))) else {
         return Err(SizeFault::TooLarge);
     };
-    let Some(needed) = least_blocks(sectors) else {
+    let Some(pages) = pages_for(sectors) else {
         return Err(SizeFault::TooLarge);
     };
-    match die(needed + needed.div_ceil(20), sectors) {
+    let Some(needed) = least_blocks(pages, sectors) else {
+        return Err(SizeFault::TooLarge);
+    };
+    match die(pages, needed + needed.div_ceil(20), sectors) {
         Ok(geometry) => Ok(Shape {
             geometry,
             cache: cache_for(&geometry),

@@ -34,6 +34,11 @@ pub const REFUSED: &[Step] = &[
     Run("nanddisk create --size 1X d", 2, "usage: bad size 1X\n"),
     Run("nanddisk create --size 0 d", 2, "usage: bad size 0\n"),
     Run(
+        "nanddisk create --size 2G d",
+        1,
+        "refused size: a disk has at most 2037469184 bytes\n",
+    ),
+    Run(
         "nanddisk create --geometry 64,32,8 d",
         2,
         "usage: bad number 64,32,8\n",

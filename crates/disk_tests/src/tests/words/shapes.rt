@@ -38,45 +38,53 @@ fn sizes_are_read(rt: HostRuntime) {
     }
 }
 
-// A size, and the blocks, sectors and cache of its shape.
-const SHAPES: &[(u64, u32, u32, u32)] = &[
-    (1, 13, 1, 64),
-    (4096, 13, 1, 64),
-    (4097, 13, 2, 64),
-    (64 << 20, 370, 16_384, 16_384),
-    (256 << 20, 2165, 65_536, 65_280),
-    (509_349_888, 4095, 124_353, 65_280),
+// A size, and the pages of a block, blocks, sectors and cache of its shape.
+const SHAPES: &[(u64, u32, u32, u32, u32)] = &[
+    (1, 64, 13, 1, 64),
+    (4096, 64, 13, 1, 64),
+    (4097, 64, 13, 2, 64),
+    (64 << 20, 64, 370, 16_384, 16_384),
+    (256 << 20, 64, 2165, 65_536, 65_280),
+    (509_349_888, 64, 4095, 124_353, 65_280),
+    (509_349_889, 128, 2053, 124_354, 65_280),
+    (1_018_724_352, 128, 4095, 248_712, 65_280),
+    (1_018_724_353, 256, 2053, 248_713, 65_280),
+    (1 << 30, 256, 2165, 262_144, 65_280),
+    (2_037_469_184, 256, 4095, 497_429, 65_280),
 ];
 
-fn is_shape(shape: &Shape, blocks: u32, sectors: u32, cache: u32) -> bool {
+fn is_shape(shape: &Shape, pages: u32, blocks: u32, sectors: u32, cache: u32) -> bool {
     let die = shape.geometry;
     die.data_bytes() == 4096
         && die.spare_bytes() == 128
-        && die.pages() == 64
+        && die.pages() == pages
         && die.blocks() == blocks
         && die.sectors() == sectors
         && shape.cache == cache
 }
 
-fn has_shape(bytes: u64, blocks: u32, sectors: u32, cache: u32) -> bool {
+fn has_shape(bytes: u64, pages: u32, blocks: u32, sectors: u32, cache: u32) -> bool {
     match shape_for(bytes) {
-        Ok(shape) => is_shape(&shape, blocks, sectors, cache),
+        Ok(shape) => is_shape(&shape, pages, blocks, sectors, cache),
         Err(_) => false,
     }
 }
 
 #[test]
 fn shapes_follow_from_sizes(rt: HostRuntime) {
-    for (bytes, blocks, sectors, cache) in SHAPES {
-        assert!(rt; has_shape(*bytes, *blocks, *sectors, *cache), "{bytes}");
+    for (bytes, pages, blocks, sectors, cache) in SHAPES {
+        assert!(rt;
+            has_shape(*bytes, *pages, *blocks, *sectors, *cache),
+            "{bytes}"
+        );
     }
 }
 
 // Sizes that no shape is for.
 const REFUSED: &[(u64, SizeFault)] = &[
     (0, SizeFault::Zero),
-    (509_349_889, SizeFault::TooLarge),
-    (1 << 30, SizeFault::TooLarge),
+    (2_037_469_185, SizeFault::TooLarge),
+    (1 << 31, SizeFault::TooLarge),
     (u64::MAX, SizeFault::TooLarge),
 ];
 

@@ -15,6 +15,10 @@ const TEXTS: &[(u64, &str)] = &[
         509_349_888,
         "{\"cache\":65280,\"geometry\":\"4096,128,64,4095,124353\",\"version\":1}\n",
     ),
+    (
+        2_037_469_184,
+        "{\"cache\":65280,\"geometry\":\"4096,128,256,4095,497429\",\"version\":1}\n",
+    ),
 ];
 
 // Whether the text of the shape for a size is this, and tells that shape.
