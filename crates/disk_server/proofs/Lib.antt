@@ -13,3 +13,4 @@ pub mod MadeLemmas
 pub mod OpenedLemmas
 pub mod StoppedLemmas
 pub mod PowerLemmas
+pub mod SyncLemmas

@@ -1,7 +1,7 @@
 -- WHETHER A SYNC WAS DONE, and what a client is told of a disk.
-use Rattle.std.specs.Prelude.{◌≡◌, ◌⊎◌, ◌<◌, ◌+◌, ◌-◌, ◌^◌, ◌%◌, ℕ, Bool, true, min, max}
+use Rattle.std.specs.Prelude.{◌≡◌, ◌⊎◌, ◌<◌, ◌≤◌, ◌+◌, ◌-◌, ◌^◌, ◌%◌, ℕ, Bool, true, min, max}
 use Rattle.std.specs.Int.{div_ceil}
-use Rattle.page_layout.specs.Counter.{counted}
+use Rattle.page_layout.specs.Counter.{counted, HasRisen}
 use Rattle.nbd_stream.specs.declared.export.Export.{Export}
 use Rattle.disk_server.specs.declared.served.Offer.{Offer}
 use Rattle.disk_server.specs.declared.synced.SyncedDisk.{SyncedDisk}
@@ -44,6 +44,23 @@ pub record Syncs {D Y : Type 0} (synced : Y → ℕ) (old new : SyncedDisk D Y) 
 -- A SYNC WAS DONE JUST WHERE ONE WAS DUE
 abbrev pub HasSynced : {D Y : Type 0} → (synced : Y → ℕ) → (durable : Bool) → (old new : SyncedDisk D Y) → Type 0
 HasSynced synced durable old new = (IsDue durable old × Syncs synced old new) ⊎ ((¬ IsDue durable old) × KeepsSyncs old new)
+
+-- one sync was done, or none
+pub record MayHaveSynced {D Y : Type 0} (synced : Y → ℕ) (old new : SyncedDisk D Y) : Type 0 where
+  pub syncs : (synced new.syncs ≡ synced old.syncs) ⊎ (synced new.syncs ≡ counted (synced old.syncs))
+  pub pace_same : new.pace ≡ old.pace
+
+-- any syncs were done; their count stays at 2^64 - 1 once there
+pub record KeepsCount {D Y : Type 0} (synced : Y → ℕ) (old new : SyncedDisk D Y) : Type 0 where
+  pub syncs : (synced old.syncs ≤ synced new.syncs) ⊎ (synced new.syncs ≡ 2 ^ 64 - 1)
+  pub pace_same : new.pace ≡ old.pace
+
+-- AFTER PARTS of a change no more counts as changed than may be; after a change that is to last, which ended with one more sync, nothing does
+pub record EndsSynced {D Y : Type 0} (synced : Y → ℕ) (durable : Bool) (old new : SyncedDisk D Y) : Type 0 where
+  pub few : new.unsynced ≤ old.pace.most
+  pub pace_same : new.pace ≡ old.pace
+  pub all : durable ≡ true → new.unsynced ≡ 0
+  pub one_more : durable ≡ true → HasRisen (synced old.syncs) (synced new.syncs)
 
 -- so many bytes, on these terms
 abbrev pub export_of : Offer → (size : ℕ) → Export

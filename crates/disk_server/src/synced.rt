@@ -23,6 +23,9 @@ pub trait Syncs {
         ensures fault { IfErr result (λ e. e ≡ DiskFault.Failed) };
 }
 
+// The most bytes that are cleared before it is looked whether a sync is due.
+const PART: u32 = 1_048_576;
+
 /// How much may be changed between two syncs: so many pieces of so many bytes. A change counts each piece that it touches. With 0 bytes a piece is a byte. (This project's.)
 #[derive(Clone, Copy)]
 pub struct SyncPace {
@@ -42,8 +45,8 @@ fn pieces_of(piece: u32, offset: u64, count: u64) -> u64
 }
 
 /// A disk, and a way to make last what it writes. Each flush and each durable change that is answered without an error ends with a sync, and so does each change that is
-/// answered without an error once too much was changed since the last one. One that is answered with an error ends with none that was done. What a sync makes last no contract
-/// of the disk can say: that it is of what the disk is kept in, is for whoever joins the two. (This project's.)
+/// answered without an error once too much was changed since the last one. A range is cleared a megabyte at a time, and it is looked after each whether a sync is due. What a
+/// sync makes last no contract of the disk can say: that it is of what the disk is kept in, is for whoever joins the two. (This project's.)
 #[derive(Drop)]
 pub struct SyncedDisk<D: Disk, Y: Syncs> {
     disk: D,
@@ -53,8 +56,9 @@ pub struct SyncedDisk<D: Disk, Y: Syncs> {
 }
 
 impl<D: Disk, Y: Syncs> SyncedDisk<D, Y> {
-    ghost use Rattle.std.specs.Prelude.{◌≡◌, OnOk, OnErr, IfErr};
-    ghost use Rattle.disk_server.specs.Synced.{HasSynced, IsUnsynced, after_change};
+    ghost use Rattle.std.specs.Prelude.{◌≡◌, ◌≤◌, ◌+◌, false, [], length, OnOk, OnErr, IfErr};
+    ghost use Rattle.nbd_stream.specs.Disk.{Performs, answer_from};
+    ghost use Rattle.disk_server.specs.Synced.{HasSynced, IsUnsynced, KeepsCount, MayHaveSynced, after_change};
 
     /// Joins a disk and its syncs. Nothing is asked of either, and nothing counts as changed.
     pub fn new(disk: D, syncs: Y, pace: SyncPace) -> SyncedDisk<D, Y>
@@ -105,12 +109,45 @@ impl<D: Disk, Y: Syncs> SyncedDisk<D, Y> {
             Err(fault) => Err(fault),
         }
     }
+
+    // Clears a part of a range, and syncs where that is due.
+    fn clear_part(&mut self, offset: u64, count: u32) -> Result<(), DiskFault>
+        requires { offset + count ≤ length (D.contents self.old.disk).bytes }
+        ensures performs { Performs (λ s. D.contents s.disk) (λ s. D.honest s.disk) (λ _. false) (Task.Trim offset count false) [] self.old (answer_from result []) self.new }
+        ensures syncs { MayHaveSynced Y.synced self.old self.new }
+    {
+        self.count(offset, u64::from(count));
+        match self.disk.clear(offset, count, false) {
+            Ok(()) => self.settle(false),
+            Err(fault) => Err(fault),
+        }
+    }
+
+    // Clears a range part by part; as one part where it would end past the last u64, as on no disk.
+    fn clear_parts(&mut self, offset: u64, count: u32) -> Result<(), DiskFault>
+        requires { offset + count ≤ length (D.contents self.old.disk).bytes }
+        ensures performs { Performs (λ s. D.contents s.disk) (λ s. D.honest s.disk) (λ _. false) (Task.Trim offset count false) [] self.old (answer_from result []) self.new }
+        ensures syncs { KeepsCount Y.synced self.old self.new }
+    {
+        if offset.checked_add(u64::from(count)).is_none() {
+            return self.clear_part(offset, count);
+        }
+        let mut done = 0;
+        while done < count {
+            let taken = PART.min(count - done);
+            match self.clear_part(offset + u64::from(done), taken) {
+                Ok(()) => done += taken,
+                Err(fault) => return Err(fault),
+            }
+        }
+        Ok(())
+    }
 }
 
 impl<D: Disk, Y: Syncs> Disk for SyncedDisk<D, Y> {
     ghost use Rattle.std.specs.Prelude.{◌≡◌, ◌≤◌, ◌+◌, true, false, [], length, OnErr, OnOk};
     ghost use Rattle.nbd_stream.specs.Disk.{Performs, answer_from};
-    ghost use Rattle.disk_server.specs.Synced.{HasSynced, IsUnsynced, KeepsSyncs, after_change};
+    ghost use Rattle.disk_server.specs.Synced.{EndsSynced, HasSynced, IsUnsynced, KeepsSyncs, after_change};
 
     ghost contents = { λ s. D.contents s.disk };
 
@@ -145,12 +182,11 @@ impl<D: Disk, Y: Syncs> Disk for SyncedDisk<D, Y> {
     fn clear(&mut self, offset: u64, count: u32, durable: bool) -> Result<(), DiskFault>
         requires { offset + count ≤ length (D.contents self.old.disk).bytes }
         ensures performs { Performs (λ s. D.contents s.disk) (λ s. D.honest s.disk) (λ _. false) (Task.Trim offset count durable) [] self.old (answer_from result []) self.new }
-        ensures synced { OnOk result (HasSynced Y.synced durable (after_change offset count self.old) self.new) }
-        ensures unsynced { OnErr result (IsUnsynced Y.synced (after_change offset count self.old) self.new) }
+        ensures synced { OnOk result (EndsSynced Y.synced durable self.old self.new) }
     {
-        self.count(offset, u64::from(count));
-        match self.disk.clear(offset, count, durable) {
-            Ok(()) => self.settle(durable),
+        match self.clear_parts(offset, count) {
+            Ok(()) if durable => self.flush(),
+            Ok(()) => self.settle(false),
             Err(fault) => Err(fault),
         }
     }
