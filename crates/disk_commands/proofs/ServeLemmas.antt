@@ -2,7 +2,7 @@
 use Rattle.std.proofs.Common.{◌≡◌, ◌⊎◌, inl, inr, ℕ, Bool, true, false, List, [], Option, Result, Err, OnOk, sym, subst}
 use Rattle.std.specs.Borrow.{Bor}
 use Rattle.std.specs.Io.KnownBytes.{Keeps}
-use Rattle.page_layout.specs.declared.geometry.Geometry.{Geometry}
+use Rattle.disk_commands.specs.declared.shapes.Shape.{Shape}
 use Rattle.onfi_cycles.specs.Driver.{DriverState}
 use Rattle.request_stream.specs.declared.reply.ServeFault.{ServeFault}
 use Rattle.file_die.specs.Store.{Held}
@@ -15,20 +15,20 @@ use Rattle.nbd_stream.specs.declared.task.Task.TheVariants.{Flush}
 use Rattle.nbd_stream.specs.Disk.{Contents, Performs, answer_from}
 use Rattle.nbd_stream.specs.declared.export.Export.{Export}
 use Rattle.nbd_stream.specs.Transmission.{Serves}
+use Rattle.disk_commands.specs.declared.serve.Terms.{Terms}
 use Rattle.disk_commands.specs.declared.words.ServeWords.{ServeWords}
-use Rattle.disk_server.specs.declared.served.Offer.{Offer}
 use Rattle.disk_server.specs.declared.synced.SyncedDisk.{SyncedDisk}
 use Rattle.disk_server.specs.Opened.{flash_in, is_honest_in}
 use Rattle.disk_server.specs.Synced.{HasSynced}
 use Rattle.disk_commands.specs.declared.text.DiskFault.{DiskFault}
 use Rattle.disk_commands.specs.declared.text.DiskFault.TheVariants as fault
 use Rattle.disk_commands.specs.Files.{Answers}
-use Rattle.disk_commands.specs.Serve.{Ends, HasNotServed, HasServedAt, HasServedDisk, IsDiskAt, offer_of, rests_in, told_at_end}
+use Rattle.disk_commands.specs.Serve.{Ends, HasNotServed, HasServedAt, HasServedDisk, IsDiskAt, rests_in, terms_of, told_at_end}
 
 -- of a disk that is not read-only, by the answer to its flush
 pub flushed : {D Y : Type 0} (contents : D → Contents) (honest : D → Bool) (synced : Y → ℕ) (read_only : Bool) (path : Bor (List ℕ)) (last left : SyncedDisk D Y)
     (answer : Result End ServeFault) (done said : Result (Unit {0}) NbdFault) (result : Result (Unit {0}) DiskFault) → read_only ≡ false
-    → Performs (λ s. contents s.disk) (λ s. honest s.disk) (λ _. false) Flush [] last (answer_from done []) left → OnOk done (HasSynced synced true last.syncs left.syncs)
+    → Performs (λ s. contents s.disk) (λ s. honest s.disk) (λ _. false) Flush [] last (answer_from done []) left → OnOk done (HasSynced synced true last left)
     → done ≡ said → result ≡ told_at_end said path answer → Ends contents honest synced read_only path last answer result
 flushed contents honest synced read_only path last left answer done said result writes performs synced_once is told =
     subst (λ r. Ends contents honest synced r path last answer result) (sym writes)
@@ -41,18 +41,18 @@ pub limited : {D : Type 0} (contents : D → Contents) (honest calm : D → Bool
 limited contents honest calm rests e room most first last unread left before after result is = subst (λ n. Serves contents honest calm rests e n first last unread left before after result) is
 
 -- the disk at a path was served, or memory for its requests was refused
-pub served_at : {S Y : Type 0} (held : S → Held) (honest : S → Bool) (failed : S → ℕ) (synced : Y → ℕ) (a : Answers) (words : ServeWords) (g : Geometry) (disk : Device (DriverState (FileState S))) (syncs : Y)
-    (offer : Offer) (unread left before after : Option (List ℕ)) (result : Result (Unit {0}) DiskFault) → IsDiskAt held honest a words.disk.now g disk → offer ≡ offer_of g words.read_only
-    → HasServedDisk (contents_of (flash_in held) (is_honest_in honest)) (holds (is_honest_in honest)) (rests_in held honest) synced offer words.disk disk syncs unread left before after result
+pub served_at : {S Y : Type 0} (held : S → Held) (honest : S → Bool) (failed : S → ℕ) (synced : Y → ℕ) (a : Answers) (words : ServeWords) (shape : Shape) (disk : Device (DriverState (FileState S))) (syncs : Y)
+    (terms : Terms) (unread left before after : Option (List ℕ)) (result : Result (Unit {0}) DiskFault) → IsDiskAt held honest a words.disk.now shape disk → terms ≡ terms_of shape words.read_only
+    → HasServedDisk (contents_of (flash_in held) (is_honest_in honest)) (holds (is_honest_in honest)) (rests_in held honest) synced terms words.disk disk syncs unread left before after result
     ⊎ ((result ≡ Err fault.OutOfMemory) × Keeps before after)
     → HasServedAt held honest synced a words unread left before after result ⊎ HasNotServed held honest failed a words before after result
-served_at held honest failed synced a words g disk syncs offer unread left before after result at is (inl h) =
+served_at held honest failed synced a words shape disk syncs terms unread left before after result at is (inl h) =
     inl (record {
-      geometry = g;
+      shape = shape;
       disk = disk;
       at = at;
       syncs = syncs;
-      served = subst (λ o. HasServedDisk (contents_of (flash_in held) (is_honest_in honest)) (holds (is_honest_in honest)) (rests_in held honest) synced o words.disk disk syncs unread left before after result) is h;
+      served = subst (λ t. HasServedDisk (contents_of (flash_in held) (is_honest_in honest)) (holds (is_honest_in honest)) (rests_in held honest) synced t words.disk disk syncs unread left before after result) is h;
     })
-served_at held honest failed synced a words g disk syncs offer unread left before after result at is (inr h) =
+served_at held honest failed synced a words shape disk syncs terms unread left before after result at is (inr h) =
     inr (record { told = fault.OutOfMemory; is = h.0; why = inr (inr tt); silent = h.1 })

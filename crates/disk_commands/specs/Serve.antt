@@ -1,5 +1,5 @@
 -- A disk that was served to one client.
-use Rattle.std.specs.Prelude.{◌≡◌, ℕ, nat_le, Bool, true, false, List, [], length, Option, None, Result, Ok, Err, OnOk, if◌then◌else◌}
+use Rattle.std.specs.Prelude.{◌≡◌, ℕ, ◌+◌, ◌-◌, ◌*◌, ◌/◌, ◌^◌, nat_le, Bool, true, false, List, [], length, Option, None, Result, Ok, Err, OnOk, if◌then◌else◌}
 use Rattle.std.specs.Borrow.{Bor}
 use Rattle.std.specs.Io.KnownBytes.{Keeps}
 use Rattle.page_layout.specs.declared.geometry.Geometry.{Geometry}
@@ -15,12 +15,14 @@ use Rattle.nbd_stream.specs.declared.request.End.TheVariants as end
 use Rattle.nbd_stream.specs.declared.task.Task.TheVariants.{Flush}
 use Rattle.nbd_stream.specs.Disk.{Contents, Performs, answer_from}
 use Rattle.nbd_stream.specs.Transmission.{Serves}
+use Rattle.disk_commands.specs.declared.serve.Terms.{Terms}
 use Rattle.disk_commands.specs.declared.shapes.Shape.{Shape}
 use Rattle.disk_commands.specs.declared.words.ServeWords.{ServeWords}
 use Rattle.disk_server.specs.declared.served.Offer.{Offer}
 use Rattle.disk_server.specs.declared.synced.SyncedDisk.{SyncedDisk}
 use Rattle.disk_server.specs.Opened.{bytes_of, flash_in, is_honest_in}
-use Rattle.disk_server.specs.Synced.{HasSynced, export_of}
+use Rattle.disk_server.specs.declared.synced.SyncPace.{SyncPace}
+use Rattle.disk_server.specs.Synced.{HasSynced, KeepsSyncs, export_of}
 use Rattle.disk_commands.specs.declared.text.DiskFault.{DiskFault}
 use Rattle.disk_commands.specs.declared.text.DiskFault.TheVariants as fault
 use Rattle.disk_commands.specs.Files.{Answers}
@@ -31,6 +33,17 @@ use Rattle.disk_commands.specs.Opening.{IsStoreAt, IsUnopenedAt}
 -- the requests that cost the least are those of a sector, where a sector has 512 bytes or more; none has more than a megabyte
 abbrev pub offer_of : Geometry → (read_only : Bool) → Offer
 offer_of g read_only = record { read_only = read_only; preferred = if nat_le 512 g.data_bytes then g.data_bytes else 4096; maximum = 1048576 }
+
+-- WHAT MAY BE CHANGED BETWEEN TWO SYNCS of the file. Where the host loses power no more is stale then than was at the sync and was changed since: all of it has room in
+-- some cache of 65536 entries, beside what the disk's own cache has not written back, the copies of two blocks, and what one request changes
+abbrev pub pace_of : Shape → SyncPace
+pace_of s = record {
+  piece = s.geometry.data_bytes;
+  most = if nat_le s.geometry.sectors 65536 then 2 ^ 64 - 1 else 65536 - (s.cache + (s.geometry.pages * 2 + 1048576 / s.geometry.data_bytes));
+}
+
+abbrev pub terms_of : Shape → (read_only : Bool) → Terms
+terms_of s read_only = record { offer = offer_of s.geometry read_only; pace = pace_of s }
 
 -- ---- how it ended
 
@@ -53,7 +66,7 @@ pub record IsFlushed {D Y : Type 0} (contents : D → Contents) (honest : D → 
   pub done : Result (Unit {0}) NbdFault
   pub left : SyncedDisk D Y
   pub performs : Performs (λ s. contents s.disk) (λ s. honest s.disk) (λ _. false) Flush [] last (answer_from done []) left
-  pub synced_once : OnOk done (HasSynced synced true last.syncs left.syncs)
+  pub synced_once : OnOk done (HasSynced synced true last left)
   pub told : result ≡ told_at_end done path answer
 
 abbrev pub Ends : {D Y : Type 0} → (D → Contents) → (honest : D → Bool) → (synced : Y → ℕ) → (read_only : Bool) → Bor (List ℕ) → SyncedDisk D Y
@@ -65,15 +78,17 @@ Ends contents honest synced false path last answer result = IsFlushed contents h
 
 -- A DISK THAT WAS SERVED to one client on these terms, and then flushed
 pub record HasServedDisk {D Y : Type 0} (contents : D → Contents) (honest : D → Bool) (rests : D → Result (Unit {0}) NbdFault → D → Type 0) (synced : Y → ℕ)
-    (offer : Offer) (path : Bor (List ℕ)) (disk : D) (syncs : Y) (unread left before after : Option (List ℕ)) (result : Result (Unit {0}) DiskFault) : Type 0 where
+    (terms : Terms) (path : Bor (List ℕ)) (disk : D) (syncs : Y) (unread left before after : Option (List ℕ)) (result : Result (Unit {0}) DiskFault) : Type 0 where
   pub first : SyncedDisk D Y
   pub disk_is : first.disk ≡ disk
   pub syncs_is : first.syncs ≡ syncs
+  pub pace_is : first.pace ≡ terms.pace
+  pub none_changed : first.unsynced ≡ 0
   pub last : SyncedDisk D Y
   pub answer : Result End ServeFault
-  pub serves : Serves (λ s. contents s.disk) (λ s. honest s.disk) (λ _. false) (λ old done new. rests old.disk done new.disk × (new.syncs ≡ old.syncs))
-      (export_of offer (length (contents first.disk).bytes)) offer.maximum first last unread left before after answer
-  pub ends : Ends contents honest synced offer.read_only path last answer result
+  pub serves : Serves (λ s. contents s.disk) (λ s. honest s.disk) (λ _. false) (λ old done new. rests old.disk done new.disk × KeepsSyncs old new)
+      (export_of terms.offer (length (contents first.disk).bytes)) terms.offer.maximum first last unread left before after answer
+  pub ends : Ends contents honest synced terms.offer.read_only path last answer result
 
 -- ---- the disk at a path
 
@@ -82,9 +97,7 @@ abbrev pub rests_in : {S : Type 0} → (S → Held) → (honest : S → Bool) �
 rests_in held honest = AsksTurn (flash_in held) (λ d. None) (is_honest_in honest) (λ d. false) (λ d. d.erases) (λ d. d.failures)
 
 -- THE DISK OF THE STORE AT A PATH: of a store that is honest it holds its array, and its bytes are those of the array that the store's pages hold
-pub record IsDiskAt {S : Type 0} (held : S → Held) (honest : S → Bool) (a : Answers) (path : List ℕ) (g : Geometry) (d : Device (DriverState (FileState S))) : Type 0 where
-  pub shape : Shape
-  pub is : shape.geometry ≡ g
+pub record IsDiskAt {S : Type 0} (held : S → Held) (honest : S → Bool) (a : Answers) (path : List ℕ) (shape : Shape) (d : Device (DriverState (FileState S))) : Type 0 where
   pub store : S
   pub at : IsStoreAt held honest a path shape store
   pub held_array : honest store ≡ true → holds (is_honest_in honest) d ≡ true
@@ -95,12 +108,12 @@ pub record IsDiskAt {S : Type 0} (held : S → Held) (honest : S → Bool) (a : 
 -- IT SERVED: the disk at the path was opened and served
 pub record HasServedAt {S Y : Type 0} (held : S → Held) (honest : S → Bool) (synced : Y → ℕ) (a : Answers) (words : ServeWords)
     (unread left before after : Option (List ℕ)) (result : Result (Unit {0}) DiskFault) : Type 0 where
-  pub geometry : Geometry
+  pub shape : Shape
   pub disk : Device (DriverState (FileState S))
-  pub at : IsDiskAt held honest a words.disk.now geometry disk
+  pub at : IsDiskAt held honest a words.disk.now shape disk
   pub syncs : Y
   pub served : HasServedDisk (contents_of (flash_in held) (is_honest_in honest)) (holds (is_honest_in honest)) (rests_in held honest) synced
-      (offer_of geometry words.read_only) words.disk disk syncs unread left before after result
+      (terms_of shape words.read_only) words.disk disk syncs unread left before after result
 
 -- or it did not, and nothing was sent: the disk was not opened
 pub record HasNotServed {S : Type 0} (held : S → Held) (honest : S → Bool) (failed : S → ℕ) (a : Answers) (words : ServeWords) (before after : Option (List ℕ))

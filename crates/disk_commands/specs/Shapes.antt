@@ -8,9 +8,9 @@ use Rattle.disk_commands.specs.declared.shapes.Shape.{Shape}
 use Rattle.disk_commands.specs.declared.shapes.SizeFault.{SizeFault}
 use Rattle.disk_commands.specs.declared.shapes.SizeFault.TheVariants.{Zero, TooLarge}
 
--- an entry for each sector, but from 64 to 65280
+-- an entry for each sector, but from 64 to 65280; fewer where there are more sectors than any cache has entries
 abbrev pub cache_of : Geometry → ℕ
-cache_of g = max (min g.sectors 65280) 64
+cache_of g = if nat_le g.sectors 65536 then max (min g.sectors 65280) 64 else 57344
 
 -- ---- the pages of a block
 

@@ -5,15 +5,12 @@ ghost use Rattle.disk_commands.specs.ShapeWords.{SaysGeometry};
 ghost use Rattle.disk_commands.specs.Asked.{IsCacheAsked, IsCacheAt, IsGeometryAsked, IsGeometryFor, IsNoCacheAsked, IsNoGeometryAsked, IsNoGeometryAt, IsNoGeometryFor, IsNoShapeAsked, IsShapeAsked};
 
 use crate::shape_words::{GeometryWordFault, geometry_from};
-use crate::shapes::{Shape, cache_for, shape_for};
+use crate::shapes::{MOST_ENTRIES, Shape, cache_for, shape_for};
 use crate::sizes::size_from;
 use crate::text::DiskFault;
 use crate::words::{CreateWords, MakeWords};
 use command_words::number;
 use page_layout::geometry::Geometry;
-
-// The most entries of a cache.
-const MOST_ENTRIES: u32 = 65_536;
 
 // The geometry of a word.
 fn geometry_at<'a>(word: &'a str) -> Result<Geometry, DiskFault<'a>>

@@ -3,14 +3,15 @@ ghost use Rattle.std.specs.Prelude.{◌≡◌, ◌⊎◌, OnOk, IfOk, IfErr, Err
 ghost use Rattle.std.specs.Io.KnownBytes.{Keeps};
 ghost use Rattle.disk_commands.specs.declared.text.DiskFault.TheVariants as fault;
 ghost use Rattle.disk_commands.specs.Opening.{IsUnopenedAt};
-ghost use Rattle.disk_commands.specs.Serve.{Ends, HasNotServed, HasServedAt, HasServedDisk, IsDiskAt, end_of, offer_of};
+ghost use Rattle.disk_commands.specs.Serve.{Ends, HasNotServed, HasServedAt, HasServedDisk, IsDiskAt, end_of, offer_of, pace_of, terms_of};
 
 use crate::files::DiskFiles;
 use crate::opening::{die_bytes, shape_at, told_at};
+use crate::shapes::{MOST_ENTRIES, Shape};
 use crate::text::DiskFault;
 use crate::words::ServeWords;
 use disk_server::{
-    Offer, SectorDisk, Sectors, StoreDisk, SyncedDisk, Syncs, open_stopped, serve_synced,
+    Offer, SectorDisk, Sectors, StoreDisk, SyncPace, SyncedDisk, Syncs, open_stopped, serve_synced,
 };
 use file_die::SyncWhen;
 use nbd_stream::{Disk, End};
@@ -40,6 +41,41 @@ fn offer_of(geometry: &Geometry, read_only: bool) -> Offer
             PREFERRED
         },
         maximum: MOST,
+    }
+}
+
+// How much of a disk may be changed between two syncs of its file.
+fn pace_of(shape: &Shape) -> SyncPace
+    ensures { result ≡ pace_of shape.now }
+{
+    let geometry = shape.geometry;
+    let beside = u64::from(shape.cache)
+        + u64::from(geometry.pages()) * 2
+        + u64::from(MOST) / geometry.data_bytes() as u64;
+    SyncPace {
+        piece: geometry.data_bytes() as u32,
+        most: if geometry.sectors() <= MOST_ENTRIES {
+            u64::MAX
+        } else {
+            u64::from(MOST_ENTRIES).saturating_sub(beside)
+        },
+    }
+}
+
+// What a disk is served on.
+#[derive(Clone, Copy)]
+struct Terms {
+    offer: Offer,
+    pace: SyncPace,
+}
+
+// What the disk of a shape is served on.
+fn terms_of(shape: &Shape, read_only: bool) -> Terms
+    ensures { result ≡ terms_of shape.now read_only }
+{
+    Terms {
+        offer: offer_of(&shape.geometry, read_only),
+        pace: pace_of(shape),
     }
 }
 
@@ -86,20 +122,20 @@ fn serve_client<'a, S: Sectors + Drop, Y: Syncs + Drop, I: Read, O: Write>(
     alloc: Global,
     disk: SectorDisk<S>,
     syncs: Y,
-    offer: Offer,
+    terms: Terms,
     path: &'a str,
     input: &mut I,
     out: &mut O,
 ) -> Result<(), DiskFault<'a>>
-    ensures { HasServedDisk S.contents S.honest S.rests Y.synced offer path.entry disk syncs (I.remaining input.old) (I.remaining input.new) (O.contents out.old) (O.contents out.new) result
+    ensures { HasServedDisk S.contents S.honest S.rests Y.synced terms path.entry disk syncs (I.remaining input.old) (I.remaining input.new) (O.contents out.old) (O.contents out.new) result
         ⊎ ((result ≡ Err fault.OutOfMemory) × Keeps (O.contents out.old) (O.contents out.new)) }
 {
-    let Ok(mut buffer) = vec![in alloc; 0u8; offer.maximum as usize] else {
+    let Ok(mut buffer) = vec![in alloc; 0u8; terms.offer.maximum as usize] else {
         return Err(DiskFault::OutOfMemory);
     };
-    let mut disk = SyncedDisk::new(disk, syncs);
-    let served = serve_synced(&mut disk, offer, &mut buffer, input, out);
-    end_session(&mut disk, offer.read_only, path, served)
+    let mut disk = SyncedDisk::new(disk, syncs, terms.pace);
+    let served = serve_synced(&mut disk, terms.offer, &mut buffer, input, out);
+    end_session(&mut disk, terms.offer.read_only, path, served)
 }
 
 // The disk at a path, with a second handle of its file.
@@ -107,7 +143,7 @@ fn open_disk<'a, F: DiskFiles>(
     alloc: Global,
     files: &mut F,
     words: &ServeWords<'a>,
-) -> Result<(StoreDisk<F::Store>, F::Syncs, Geometry), DiskFault<'a>>
+) -> Result<(StoreDisk<F::Store>, F::Syncs, Shape), DiskFault<'a>>
     ensures ok { IfOk result (λ opened. IsDiskAt F.Store.held F.Store.honest (F.answers files.old) words.now.disk.now opened.2 opened.0) }
     ensures fault { IfErr result (IsUnopenedAt F.Store.held F.Store.honest F.Store.failed (F.answers files.old) words.now.disk.now) }
     ensures kept { F.kept files.new ≡ F.kept files.old }
@@ -123,7 +159,7 @@ fn open_disk<'a, F: DiskFiles>(
     };
     let when = sync_when(words.sync_always);
     match open_stopped(alloc, store, shape.cache, when, writes) {
-        Ok(disk) => Ok((disk, syncs, shape.geometry)),
+        Ok(disk) => Ok((disk, syncs, shape)),
         Err(why) => Err(DiskFault::Open(words.disk, why)),
     }
 }
@@ -147,10 +183,10 @@ pub(crate) fn serve_command<'a, F: DiskFiles, I: Read, O: Write>(
         ⊎ HasNotServed F.Store.held F.Store.honest F.Store.failed (F.answers files.old) words.entry (O.contents out.old) (O.contents out.new) result }
     ensures kept { F.kept files.new ≡ F.kept files.old }
 {
-    let (disk, syncs, geometry) = match open_disk(alloc, files, &words) {
+    let (disk, syncs, shape) = match open_disk(alloc, files, &words) {
         Ok(opened) => opened,
         Err(fault) => return Err(fault),
     };
-    let offer = offer_of(&geometry, words.read_only);
-    serve_client(alloc, disk, syncs, offer, words.disk, input, out)
+    let terms = terms_of(&shape, words.read_only);
+    serve_client(alloc, disk, syncs, terms, words.disk, input, out)
 }

@@ -20,10 +20,15 @@ const MOST_AT_128: u32 = 248_712;
 
 const MOST_AT_256: u32 = 497_429;
 
-// The fewest and the most entries of a cache that is picked.
+// The fewest and the most entries of a cache that is picked, and the most where a disk has more sectors than any cache has entries.
 const LEAST_CACHED: u32 = 64;
 
 const MOST_CACHED: u32 = 65_280;
+
+const MOST_PACED: u32 = 57_344;
+
+/// The most entries that any cache has.
+pub(crate) const MOST_ENTRIES: u32 = 65_536;
 
 // The most blocks of any die.
 const MOST_BLOCKS: u32 = 4096;
@@ -61,7 +66,8 @@ impl fmt::Display for SizeFault {
 }
 
 /// The entries of the cache of a device on a die of this geometry: one for each of its sectors, so that one that was met once stays in the cache, but at least 64 and at
-/// most 65,280. A die that was stopped mounts with as many entries more as a block has pages, and these are within the 65,536 that a cache may have.
+/// most 65,280. A die that was stopped mounts with as many entries more as a block has pages, and these are within the 65,536 that a cache may have. Of a disk with more
+/// sectors than that the cache has 57,344: the rest is room for what is changed between two syncs of its file.
 ///
 /// (This project's rule.)
 pub fn cache_for(geometry: &Geometry) -> u32
@@ -69,7 +75,11 @@ pub fn cache_for(geometry: &Geometry) -> u32
     ensures least { 1 ≤ result }
     ensures most { result + geometry.now.pages ≤ 65536 }
 {
-    geometry.sectors().min(MOST_CACHED).max(LEAST_CACHED)
+    if geometry.sectors() <= MOST_ENTRIES {
+        geometry.sectors().min(MOST_CACHED).max(LEAST_CACHED)
+    } else {
+        MOST_PACED
+    }
 }
 
 // The fewest pages a block, of 64, 128 and 256, of which a die has room for so many sectors.

@@ -33,10 +33,7 @@ fn kept_words(alloc: Global, words: Args) -> Result<Vec<String>, AllocError>
 /// # Errors
 ///
 /// `NoSuchCommand` where the system has words that are no text. `OutOfMemory` where a growth was refused.
-pub fn words_found(
-    alloc: Global,
-    found: Result<Args, Error>,
-) -> Result<Vec<String>, WordsFault>
+pub fn words_found(alloc: Global, found: Result<Args, Error>) -> Result<Vec<String>, WordsFault>
     ensures found { IfOk found (λ words. IfOk result (λ kept. kept.items ≡ into_iter_items words)) }
     ensures refused { OnOk found (IfErr result (λ fault. fault ≡ WordsFault.OutOfMemory)) }
     ensures memory { IfErr found (λ error. error_kind error ≡ ErrorKind.OutOfMemory → result ≡ Err WordsFault.OutOfMemory) }

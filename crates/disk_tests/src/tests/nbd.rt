@@ -6,4 +6,5 @@ mod requests;
 mod rests;
 mod sectors;
 mod sessions;
+mod synced;
 mod transmissions;

@@ -1,4 +1,4 @@
-use Rattle.std.proofs.Common.{ap, refl}
+use Rattle.std.proofs.Common.{ap}
 use Rattle.disk_commands.proofs.OpeningLemmas.{no_disk, no_file, store_at}
 use Rattle.disk_commands.proofs.serve.open_disk.Goals as goal
 
@@ -9,8 +9,6 @@ returns-in-Err-open-clause-fault g c =
 
 pub returns-in-Ok-open_stopped-clause-ok : goal.returns-in-Ok-open_stopped-clause-ok
 returns-in-Ok-open_stopped-clause-ok g c = record {
-  shape = c.in-Ok.shape;
-  is = refl;
   store = c.in-Ok-open.opened.0;
   at = store_at g.F.Store.Store.held g.F.Store.Store.honest (g.F.DiskFiles.answers c.args.files.now) (g.F.DiskFiles.answers c.shape_at.new.files) c.args.words.now.disk.now c.in-Ok.shape c.in-Ok-open.opened.0
       (ap g.F.DiskFiles.answers c.in-Ok.ensures.same) c.in-Ok.ensures.ok c.in-Ok-open.ensures.held c.in-Ok-open.ensures.geometry c.in-Ok-open.ensures.honest;
