@@ -39,7 +39,7 @@ offer_of g read_only = record { read_only = read_only; preferred = if nat_le 512
 abbrev pub pace_of : Shape → SyncPace
 pace_of s = record {
   piece = s.geometry.data_bytes;
-  most = if nat_le s.geometry.sectors 65536 then 2 ^ 64 - 1 else 65536 - (s.cache + (s.geometry.pages * 2 + 1048576 / s.geometry.data_bytes));
+  most = if nat_le s.geometry.sectors 65536 then 2 ^ 64 - 1 else 65536 - (s.cache + (s.geometry.pages * 2 + (1048576 / s.geometry.data_bytes + 1)));
 }
 
 abbrev pub terms_of : Shape → (read_only : Bool) → Terms

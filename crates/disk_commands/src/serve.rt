@@ -51,7 +51,8 @@ fn pace_of(shape: &Shape) -> SyncPace
     let geometry = shape.geometry;
     let beside = u64::from(shape.cache)
         + u64::from(geometry.pages()) * 2
-        + u64::from(MOST) / geometry.data_bytes() as u64;
+        + u64::from(MOST) / geometry.data_bytes() as u64
+        + 1;
     SyncPace {
         piece: geometry.data_bytes() as u32,
         most: if geometry.sectors() <= MOST_ENTRIES {
