@@ -31,6 +31,7 @@ pub enum OpenFault {
 }
 
 // What a die holds beside its store.
+#[derive(Drop)]
 pub struct Parts {
     pub register: Vec<u8>,
     pub page: Vec<u8>,
@@ -174,6 +175,21 @@ fn find_next_pages<S: Store>(
     Ok(())
 }
 
+// Takes memory for what a die holds: of no block anything was asked.
+fn new_parts(alloc: Global, geometry: &Geometry) -> Result<Parts, OpenFault>
+    ensures register { IfOk result (λ parts. parts.register.items ≡ replicate (page_bytes geometry.now) 255) }
+    ensures page { IfOk result (λ parts. length parts.page.items ≡ page_bytes geometry.now) }
+    ensures blocks { IfOk result (λ parts. length parts.turns.items ≡ geometry.now.blocks) }
+    ensures turns { IfOk result (λ parts. map turn_of parts.turns.items ≡ first_turns geometry.now (λ block. 0) []) }
+    ensures err { IfErr result (λ fault. fault ≡ OpenFault.OutOfMemory) }
+{
+    Ok(Parts {
+        register: blank(alloc, geometry)?,
+        page: blank(alloc, geometry)?,
+        turns: new_turns(alloc, geometry)?,
+    })
+}
+
 // Takes memory for what a die holds, and looks over its store.
 pub fn parts_of<S: Store>(
     alloc: Global,
@@ -192,14 +208,8 @@ pub fn parts_of<S: Store>(
     ensures counts { Counts result (S.failed store.old) (S.failed store.new) }
     ensures err { IfErr result (IsCause geometry.now bad.now) }
 {
-    let register = blank(alloc, geometry)?;
-    let mut page = blank(alloc, geometry)?;
-    let mut turns = new_turns(alloc, geometry)?;
-    bar_all(&mut turns, geometry, bad)?;
-    find_next_pages(&mut turns, store, geometry, &mut page)?;
-    Ok(Parts {
-        register,
-        page,
-        turns,
-    })
+    let mut parts = new_parts(alloc, geometry)?;
+    bar_all(&mut parts.turns, geometry, bad)?;
+    find_next_pages(&mut parts.turns, store, geometry, &mut parts.page)?;
+    Ok(parts)
 }
