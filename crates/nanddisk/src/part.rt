@@ -100,7 +100,17 @@ fn put_bytes<R: Files<File = File>>(rt: &R, name: &str, bytes: &[u8]) -> io::Res
     done
 }
 
-/// Gives a finished die its name, with the file beside it that tells its shape.
+// Has the names in the folder of a path stored, where the system can.
+fn store_names<R: Files<File = File>>(rt: &R, path: &str) -> io::Result<()> {
+    let folder = match path.rsplit_once('/') {
+        Some(("", _)) => "/",
+        Some((folder, _)) => folder,
+        None => ".",
+    };
+    fs::open(rt, folder)?.sync_all()
+}
+
+/// Gives a finished die its name, with the file beside it that tells its shape, so that both names outlive a loss of power where the folder can be synced.
 pub fn publish<R: Files<File = File>>(
     rt: &R,
     part: &str,
@@ -112,6 +122,7 @@ pub fn publish<R: Files<File = File>>(
         return Err(unwritten(error));
     }
     let Err(error) = fs::hard_link(rt, part, path) else {
+        let _ = store_names(rt, path);
         return Ok(());
     };
     let _ = fs::remove_file(rt, beside);
