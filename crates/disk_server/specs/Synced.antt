@@ -45,11 +45,6 @@ pub record Syncs {D Y : Type 0} (synced : Y → ℕ) (old new : SyncedDisk D Y) 
 abbrev pub HasSynced : {D Y : Type 0} → (synced : Y → ℕ) → (durable : Bool) → (old new : SyncedDisk D Y) → Type 0
 HasSynced synced durable old new = (IsDue durable old × Syncs synced old new) ⊎ ((¬ IsDue durable old) × KeepsSyncs old new)
 
--- one sync was done, or none
-pub record MayHaveSynced {D Y : Type 0} (synced : Y → ℕ) (old new : SyncedDisk D Y) : Type 0 where
-  pub syncs : (synced new.syncs ≡ synced old.syncs) ⊎ (synced new.syncs ≡ counted (synced old.syncs))
-  pub pace_same : new.pace ≡ old.pace
-
 -- any syncs were done; their count stays at 2^64 - 1 once there
 pub record KeepsCount {D Y : Type 0} (synced : Y → ℕ) (old new : SyncedDisk D Y) : Type 0 where
   pub syncs : (synced old.syncs ≤ synced new.syncs) ⊎ (synced new.syncs ≡ 2 ^ 64 - 1)

@@ -58,7 +58,7 @@ pub struct SyncedDisk<D: Disk, Y: Syncs> {
 impl<D: Disk, Y: Syncs> SyncedDisk<D, Y> {
     ghost use Rattle.std.specs.Prelude.{◌≡◌, ◌≤◌, ◌+◌, false, [], length, OnOk, OnErr, IfErr};
     ghost use Rattle.nbd_stream.specs.Disk.{Performs, answer_from};
-    ghost use Rattle.disk_server.specs.Synced.{HasSynced, IsUnsynced, KeepsCount, MayHaveSynced, after_change};
+    ghost use Rattle.disk_server.specs.Synced.{HasSynced, IsUnsynced, KeepsCount, after_change};
 
     /// Joins a disk and its syncs. Nothing is asked of either, and nothing counts as changed.
     pub fn new(disk: D, syncs: Y, pace: SyncPace) -> SyncedDisk<D, Y>
@@ -114,7 +114,8 @@ impl<D: Disk, Y: Syncs> SyncedDisk<D, Y> {
     fn clear_part(&mut self, offset: u64, count: u32) -> Result<(), DiskFault>
         requires { offset + count ≤ length (D.contents self.old.disk).bytes }
         ensures performs { Performs (λ s. D.contents s.disk) (λ s. D.honest s.disk) (λ _. false) (Task.Trim offset count false) [] self.old (answer_from result []) self.new }
-        ensures syncs { MayHaveSynced Y.synced self.old self.new }
+        ensures synced { OnOk result (HasSynced Y.synced false (after_change offset count self.old) self.new) }
+        ensures unsynced { OnErr result (IsUnsynced Y.synced (after_change offset count self.old) self.new) }
     {
         self.count(offset, u64::from(count));
         match self.disk.clear(offset, count, false) {

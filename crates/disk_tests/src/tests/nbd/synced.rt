@@ -65,6 +65,15 @@ const ROWS: &[Row] = &[
         syncs: 1,
     },
     Row {
+        name: "three pieces that are cleared, and a fourth",
+        failing: 0,
+        steps: &[
+            Step::Clear(0, 12, false, Ok(())),
+            Step::Clear(12, 4, false, Ok(())),
+        ],
+        syncs: 1,
+    },
+    Row {
         name: "a flush and what is to last count anew",
         failing: 0,
         steps: &[

@@ -3,7 +3,7 @@ use Rattle.nbd_stream.specs.declared.task.Task.TheVariants.{Trim}
 use Rattle.nbd_stream.specs.Disk.{Performs, error_for}
 use Rattle.disk_server.proofs.Joining.{writes_trim}
 use Rattle.disk_server.proofs.Fronts.{zeros_stopped, zeros_written}
-use Rattle.disk_server.proofs.SyncLemmas.{one_part}
+use Rattle.disk_server.proofs.SyncLemmas.{one_part, part_failed}
 use Rattle.disk_server.proofs.synced.SyncedDisk.clear_parts.Goals as goal
 
 pub loop-done-preserved : goal.loop-done-preserved
@@ -16,7 +16,7 @@ loop-done-preserved g c =
     let part = subst (λ n. Performs (λ s. g.D.Disk.contents s.disk) (λ s. g.D.Disk.honest s.disk) (λ _. false) (Trim (c.args.offset + n) m false) [] c.loop-done.self (Ok []) c.clear_part-in-loop-done.new.self) place
     c.in-Ok.ensures.performs in (
       within,
-      one_part g.Y.Syncs.synced c.args.self.now c.loop-done.self c.clear_part-in-loop-done.new.self inv.1 c.in-Ok.ensures.syncs,
+      one_part g.Y.Syncs.synced _ _ c.args.self.now c.loop-done.self c.clear_part-in-loop-done.new.self inv.1 c.in-Ok.ensures.synced,
       zeros_written (λ s. g.D.Disk.contents s.disk) (λ s. g.D.Disk.honest s.disk) (λ _. false) c.args.count c.args.offset k m
           c.args.self.now c.loop-done.self c.clear_part-in-loop-done.new.self within c.requires inv.2 part,
     )
@@ -33,3 +33,6 @@ returns-in-Err-clause-performs g c =
     writes_trim (λ s. g.D.Disk.contents s.disk) (λ s. g.D.Disk.honest s.disk) (λ _. false) c.args.offset c.args.count false c.args.self.now c.clear_part-in-loop-done.new.self (Err (error_for c.in-Err.fault))
     (zeros_stopped (λ s. g.D.Disk.contents s.disk) (λ s. g.D.Disk.honest s.disk) (λ _. false) c.args.count c.args.offset k m
     c.args.self.now c.loop-done.self c.clear_part-in-loop-done.new.self within c.requires inv.2 (error_for c.in-Err.fault) part)
+
+pub returns-in-Err-clause-syncs : goal.returns-in-Err-clause-syncs
+returns-in-Err-clause-syncs g c = part_failed g.Y.Syncs.synced _ _ c.args.self.now c.loop-done.self c.clear_part-in-loop-done.new.self c.loop-done.invariant.1 c.in-Err.ensures.unsynced
