@@ -1,9 +1,13 @@
 -- What a change comes to in syncs.
-use Rattle.std.proofs.Common.{◌≡◌, ◌⊎◌, inl, inr, ℕ, ◌≤◌, ◌-◌, ◌^◌, false, ap, ◌∙◌, arith}
+use Rattle.std.proofs.Common.{◌≡◌, ◌⊎◌, inl, inr, ℕ, ◌<◌, ◌≤◌, ◌+◌, ◌-◌, ◌*◌, ◌%◌, ◌^◌, false, refl, sym, subst, ap, ◌∙◌, arith}
+use Rattle.std.specs.Prelude.{min, max}
+use Rattle.std.specs.Int.{div_ceil}
+use Rattle.std.proofs.Math.Nat.{add-mul, one-mul, mul-le-mul_right}
 use Rattle.std.proofs.lemmas.Bool.{cases_lt}
+use Rattle.std.proofs.lemmas.Grind.{div_ceil_times}
 use Rattle.page_layout.specs.Counter.{counted, HasRisen}
 use Rattle.disk_server.specs.declared.synced.SyncedDisk.{SyncedDisk}
-use Rattle.disk_server.specs.Synced.{HasSynced, IsUnsynced, KeepsCount, after_change}
+use Rattle.disk_server.specs.Synced.{Counts, HasSynced, IsUnsynced, KeepsCount, after_change, touched}
 
 -- a count with one more
 rise : (a b c : ℕ) → a ≤ b → c ≡ counted b → HasRisen a c
@@ -41,3 +45,45 @@ part_failed synced offset count old mid new before failed = record {
   syncs = kept (synced old.syncs) (synced mid.syncs) (synced new.syncs) before.syncs (inl failed.none);
   pace_same = failed.pace_same ∙ before.pace_same;
 }
+
+-- ---- what counts as changed
+
+gap : (p n m q : ℕ) → n + m < q → n * p + m * p + p ≤ q * p
+gap p n m q less =
+    let next : n + m + 1 ≤ q = omega (arith, less) in
+    let wide : (n + m + 1) * p ≤ q * p = mul-le-mul_right p next in
+    omega (arith, wide, add-mul (n + m) 1 p, add-mul n m p, one-mul p)
+
+ceil_sum : (p x y z : ℕ) → 0 < p → z ≤ x + y → div_ceil z p ≤ div_ceil x p + div_ceil y p
+ceil_sum p x y z some few = elim (cases_lt (div_ceil x p + div_ceil y p) (div_ceil z p)) [
+  | inl more ↦ absurd (omega (arith, gap p (div_ceil x p) (div_ceil y p) (div_ceil z p) more, (div_ceil_times x p some).0, (div_ceil_times y p some).0, (div_ceil_times z p some).1, few))
+  | inr most ↦ most
+]
+
+-- a range touches no more pieces than its two parts
+touched_sum : (p o k m : ℕ) → touched p o (k + m) ≤ touched p o k + touched p (o + k) m
+touched_sum p o k m = ceil_sum (max p 1) (o % max p 1 + k) ((o + k) % max p 1 + m) (o % max p 1 + (k + m)) (omega arith) (omega arith)
+
+module _ {D Y : Type 0} (synced : Y → ℕ) (o : ℕ) where
+  -- so many bytes from a place on count, with so many pieces
+  pub record Counted (k : ℕ) (old mid : SyncedDisk D Y) : Type 0 where
+    pub pieces : ℕ
+    pub low : HasRisen (synced old.syncs) (synced mid.syncs) ⊎ (min (old.unsynced + pieces) (2 ^ 64 - 1) ≤ mid.unsynced)
+    pub more : (m : ℕ) → touched old.pace.piece o (k + m) ≤ pieces + touched old.pace.piece (o + k) m
+    pub all : 0 < k → pieces ≡ touched old.pace.piece o k
+
+  pub part_counted : (k m : ℕ) (old mid new : SyncedDisk D Y) → KeepsCount synced old mid → Counted k old mid → HasSynced synced false (after_change (o + k) m mid) new → Counted (k + m) old new
+  part_counted k m old mid new before so one = record {
+    pieces = touched old.pace.piece o (k + m);
+    low = goes so.low one;
+    more = λ n. (let same : k + m + n ≡ k + (m + n) = omega arith in touched_sum old.pace.piece o (k + m) n);
+    all = λ _. refl;
+  }
+    where
+      goes : HasRisen (synced old.syncs) (synced mid.syncs) ⊎ (min (old.unsynced + so.pieces) (2 ^ 64 - 1) ≤ mid.unsynced) → HasSynced synced false (after_change (o + k) m mid) new
+          → HasRisen (synced old.syncs) (synced new.syncs) ⊎ (min (old.unsynced + touched old.pace.piece o (k + m)) (2 ^ 64 - 1) ≤ new.unsynced)
+      goes low (inl due) = inl (no_less (synced old.syncs) (synced mid.syncs) (synced new.syncs) before.syncs due.1.one)
+      goes (inl risen) (inr none) = inl (subst (HasRisen (synced old.syncs)) (sym (ap synced none.1.syncs_same)) risen)
+      goes (inr low) (inr none) =
+          let paced : touched mid.pace.piece (o + k) m ≡ touched old.pace.piece (o + k) m = ap (λ p. touched p.piece (o + k) m) before.pace_same in
+          inr (omega (arith, low, none.1.unsynced_same, paced, so.more m))

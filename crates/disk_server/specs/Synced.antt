@@ -50,9 +50,14 @@ pub record KeepsCount {D Y : Type 0} (synced : Y → ℕ) (old new : SyncedDisk 
   pub syncs : (synced old.syncs ≤ synced new.syncs) ⊎ (synced new.syncs ≡ 2 ^ 64 - 1)
   pub pace_same : new.pace ≡ old.pace
 
+-- A RANGE COUNTS AS CHANGED, each piece that it touches, unless a sync was done since
+abbrev pub Counts : {D Y : Type 0} → (synced : Y → ℕ) → (offset count : ℕ) → (old new : SyncedDisk D Y) → Type 0
+Counts synced offset count old new = HasRisen (synced old.syncs) (synced new.syncs) ⊎ ((after_change offset count old).unsynced ≤ new.unsynced)
+
 -- AFTER PARTS of a change no more counts as changed than may be; after a change that is to last, which ended with one more sync, nothing does
-pub record EndsSynced {D Y : Type 0} (synced : Y → ℕ) (durable : Bool) (old new : SyncedDisk D Y) : Type 0 where
+pub record EndsSynced {D Y : Type 0} (synced : Y → ℕ) (durable : Bool) (offset count : ℕ) (old new : SyncedDisk D Y) : Type 0 where
   pub few : new.unsynced ≤ old.pace.most
+  pub counts : 0 < count → Counts synced offset count old new
   pub pace_same : new.pace ≡ old.pace
   pub all : durable ≡ true → new.unsynced ≡ 0
   pub one_more : durable ≡ true → HasRisen (synced old.syncs) (synced new.syncs)

@@ -56,9 +56,9 @@ pub struct SyncedDisk<D: Disk, Y: Syncs> {
 }
 
 impl<D: Disk, Y: Syncs> SyncedDisk<D, Y> {
-    ghost use Rattle.std.specs.Prelude.{◌≡◌, ◌≤◌, ◌+◌, false, [], length, OnOk, OnErr, IfErr};
+    ghost use Rattle.std.specs.Prelude.{◌≡◌, ◌≤◌, ◌<◌, ◌+◌, false, [], length, OnOk, OnErr, IfErr};
     ghost use Rattle.nbd_stream.specs.Disk.{Performs, answer_from};
-    ghost use Rattle.disk_server.specs.Synced.{HasSynced, IsUnsynced, KeepsCount, after_change};
+    ghost use Rattle.disk_server.specs.Synced.{Counts, HasSynced, IsUnsynced, KeepsCount, after_change};
 
     /// Joins a disk and its syncs. Nothing is asked of either, and nothing counts as changed.
     pub fn new(disk: D, syncs: Y, pace: SyncPace) -> SyncedDisk<D, Y>
@@ -129,6 +129,7 @@ impl<D: Disk, Y: Syncs> SyncedDisk<D, Y> {
         requires { offset + count ≤ length (D.contents self.old.disk).bytes }
         ensures performs { Performs (λ s. D.contents s.disk) (λ s. D.honest s.disk) (λ _. false) (Task.Trim offset count false) [] self.old (answer_from result []) self.new }
         ensures syncs { KeepsCount Y.synced self.old self.new }
+        ensures counts { OnOk result (0 < count → Counts Y.synced offset count self.old self.new) }
     {
         if offset.checked_add(u64::from(count)).is_none() {
             return self.clear_part(offset, count);
@@ -183,7 +184,7 @@ impl<D: Disk, Y: Syncs> Disk for SyncedDisk<D, Y> {
     fn clear(&mut self, offset: u64, count: u32, durable: bool) -> Result<(), DiskFault>
         requires { offset + count ≤ length (D.contents self.old.disk).bytes }
         ensures performs { Performs (λ s. D.contents s.disk) (λ s. D.honest s.disk) (λ _. false) (Task.Trim offset count durable) [] self.old (answer_from result []) self.new }
-        ensures synced { OnOk result (EndsSynced Y.synced durable self.old self.new) }
+        ensures synced { OnOk result (EndsSynced Y.synced durable offset count self.old self.new) }
     {
         match self.clear_parts(offset, count) {
             Ok(()) if durable => self.flush(),
