@@ -1,0 +1,2 @@
+mod chunks;
+mod pages;
