@@ -36,7 +36,7 @@ use Rattle.block_server.specs.Session.{Session, Serves}
 use Rattle.block_server.specs.Checked.{HoldsTo, HasFailed, IsBegun, IsServed}
 
 -- what was accepted for the image before the reads is so for that after them
-accepted_for : (s t : Flash) (g : Geometry) (capacity : ℕ) (c : Claim) (a : Acceptance) → t ≡ s → s.geometry ≡ g → IsImage g s.image → IsAcceptance g capacity s.image c a → IsAcceptedFor t a
+pub accepted_for : (s t : Flash) (g : Geometry) (capacity : ℕ) (c : Claim) (a : Acceptance) → t ≡ s → s.geometry ≡ g → IsImage g s.image → IsAcceptance g capacity s.image c a → IsAcceptedFor t a
 accepted_for s t g capacity c a same sized whole is =
     let cap : capacity ≡ a.claim.capacity = sym (ap (λ (x : Claim). x.capacity) is.claim_is ∙ is.agrees.asked.capacity_same) in
     let here : IsAcceptance g a.claim.capacity s.image a.claim a = subst (λ n. IsAcceptance g n s.image a.claim a) cap (subst (λ (x : Claim). IsAcceptance g capacity s.image x a) (sym is.claim_is) is) in
@@ -70,7 +70,7 @@ record RunsLegally {N : Type 0} (flash : N → Flash) (recorded : N → Option R
 module _ {N : Type 0} (flash : N → Flash) (recorded : N → Option Recording) (honest calm : N → Bool) (failed erases : N → ℕ) (nand checked given : N) (g : Geometry) (capacity : ℕ) (c : Claim) (a : Acceptance) (d : Device N)
     (sized : (flash nand).geometry ≡ g) (sized' : (flash checked).geometry ≡ (flash nand).geometry)
     (honest_is : honest checked ≡ honest nand) (calm_is : calm checked ≡ calm nand) (failed_is : failed nand ≤ failed checked)
-    (same : honest nand ≡ true → flash checked ≡ flash nand) (whole : honest nand ≡ true → IsImage g (flash nand).image)
+    (same : honest nand ≡ true → flash checked ≡ flash nand) (told : honest nand ≡ true → recorded checked ≡ recorded nand) (whole : honest nand ≡ true → IsImage g (flash nand).image)
     (claim_is : a.claim ≡ c) (acceptance : honest nand ≡ true → IsAcceptance g capacity (flash nand).image c a)
     (device : IsDevice flash d) (nand_is : d.engine.nand ≡ checked) (begun : ram d.engine ≡ begun_ram (flash checked).geometry a.claim a.stale)
     (truth : honest checked ≡ true → IsAcceptedFor (flash checked) a → IsTrue None (ram d.engine) (image_in flash d.engine))
@@ -128,13 +128,14 @@ module _ {N : Type 0} (flash : N → Flash) (recorded : N → Option Recording) 
     has_failed x f known bus tells = record { tells = tells; rose = fault_rose flash recorded honest failed erases e f x tells (runs_to.0.going (ap (λ (r : Ram). stop_of r.fault) begun) known) bus }
 
   -- the device as it was started
-  pub is_begun : IsBegun flash honest failed nand g c d
+  pub is_begun : IsBegun flash recorded honest failed nand g c d
   is_begun = record {
     device = device;
     stale = a.stale;
     begun = begun ∙ (ap (λ k. begun_ram k a.claim a.stale) (sized' ∙ sized) ∙ ap (λ k. begun_ram g k a.stale) claim_is);
     stale_is = λ h. (acceptance h).stale_is;
     same = λ h. ap flash nand_is ∙ same h;
+    told = λ h. ap recorded nand_is ∙ told h;
     honest_is = ap honest nand_is ∙ honest_is;
     failed_is = subst (λ n. failed nand ≤ failed n) (sym nand_is) failed_is;
   }

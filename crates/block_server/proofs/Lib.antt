@@ -1,3 +1,4 @@
 pub mod Serving
 pub mod Answering
 pub mod Checking
+pub mod LawLemmas

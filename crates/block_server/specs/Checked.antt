@@ -60,13 +60,15 @@ pub record HasFailed {N : Type 0} (flash : N → Flash) (recorded : N → Option
   pub tells : Tells flash recorded honest failed erases old x new
   pub rose : HasRisen (failed old.engine.nand) (failed new.engine.nand)
 
--- a device that `start` begins from the certificate that was accepted, over a die that is as honest as it was: nothing is pinned, and no fault stands
-pub record IsBegun {N : Type 0} (flash : N → Flash) (honest : N → Bool) (failed : N → ℕ) (nand : N) (g : Geometry) (c : Claim) (first : Device N) : Type 0 where
+-- a device that `start` begins from the certificate that was accepted, over a die that is as honest as it was and tells the same record: nothing is
+-- pinned, and no fault stands
+pub record IsBegun {N : Type 0} (flash : N → Flash) (recorded : N → Option Recording) (honest : N → Bool) (failed : N → ℕ) (nand : N) (g : Geometry) (c : Claim) (first : Device N) : Type 0 where
   pub device : IsDevice flash first
   pub stale : List ℕ
   pub begun : ram first.engine ≡ begun_ram g c stale
   pub stale_is : honest nand ≡ true → stale ≡ stale_sectors g (flash nand).image
   pub same : honest nand ≡ true → flash first.engine.nand ≡ flash nand
+  pub told : honest nand ≡ true → recorded first.engine.nand ≡ recorded nand
   pub honest_is : honest first.engine.nand ≡ honest nand
   pub failed_is : failed nand ≤ failed first.engine.nand
 
@@ -92,7 +94,7 @@ pub record IsServed {N : Type 0} (flash : N → Flash) (recorded : N → Option 
   pub rose : AreKnown exchanges ⊎ HasRisen (failed nand) (failed given)
   pub first : Device N
   pub last : Device N
-  pub begun : IsBegun flash honest failed nand g c first
+  pub begun : IsBegun flash recorded honest failed nand g c first
   pub each : ToldEach flash recorded honest failed erases first exchanges last
   pub given_is : given ≡ last.engine.nand
   pub headline : Until (HoldsTo flash recorded honest failed erases nand g capacity c first) (HasFailed flash recorded honest failed erases) exchanges last

@@ -1,2 +1,3 @@
 pub mod Session
 pub mod Checked
+pub mod Laws

@@ -51,8 +51,8 @@ pub enum RunFault<N> {
 /// # Errors
 ///
 /// - `Refused` with the checker's refusal: nothing was read or written, and the die's pages are as they
-///   were.
-/// - `Start` where a growth was refused: likewise.
+///   were, but after `Source` nothing is known of them.
+/// - `Start` where a growth was refused: nothing was read or written, and the die's pages are as they were.
 /// - `Serve` with the server's fault. What was served until then is as said above.
 ///
 /// The die comes back in each case, as honest and as calm as it was, of its geometry, and with no fewer

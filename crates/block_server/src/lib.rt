@@ -4,7 +4,9 @@
 
 mod answer;
 mod checked;
+mod laws;
 mod server;
 
 pub use checked::{RunFault, serve_checked};
+pub use laws::{headline_laws, served_laws};
 pub use server::{Served, serve};

@@ -37,7 +37,7 @@ use Rattle.page_layout.proofs.GeometryLemmas.{sector_entry}
 use Rattle.std.specs.Map.{keys_of}
 use Rattle.collection.proofs.Dues.{HasFollowed, copied_due, copied_refreshes}
 use Rattle.collection.proofs.MapLemmas.{entry_here, none_not}
-use Rattle.collection.proofs.Puts.{leaves_written}
+use Rattle.collection.proofs.Puts.{leaves_written, written_keeps}
 use Rattle.collection.proofs.Truths.{row_in_block}
 use Rattle.collection.proofs.Finds.{gone_copied}
 
@@ -100,6 +100,7 @@ renewed_by r r' old new row row' rec body l out p = record {
     leaves = leaves_written r (last_record rec.kind rec.number row' r') row' body old new p.writes out;
   };
   renewed = λ two. written_not_old r.geometry (last_record rec.kind rec.number row' r') row' body old new two p.writes;
+  others = λ other ne. written_keeps r.geometry (last_record rec.kind rec.number row' r') row' body old new other ne p.writes;
 }
 
 pub moved_out : (r r' : Ram) (old new : Image) (row row' : ℕ) (rec : Record) (body : List ℕ) → IsRam r → IsRam r' → r'.geometry ≡ r.geometry → IsTrue None r old → IsLivePage row body rec old → IsKeyOf r.geometry (key_of rec) → row < row_count r.geometry → is_shut r.blocks (row / r.geometry.pages) ≡ true → IsOutside r row' → IsReplaced rec.kind rec.number row' body r old r' new → IsMovedOut row r old r' new
@@ -184,7 +185,7 @@ module _ (flushing : Bool) (key : Key) (row : ℕ) (r b r' : Ram) (is : r' ≡ r
   moved_marked from x y m = record { same = record { truth = true_marked y m.same.truth; array = m.same.array; leaves = m.same.leaves }; gone = m.gone; others = m.others; fewer = (let f = m.fewer in rw is f) }
 
   pub renewed_marked : (k : Key) (x y : Image) → IsRenewed k r x b y → IsRenewed k r x r' y
-  renewed_marked k x y m = record { same = record { truth = true_marked y m.same.truth; array = m.same.array; leaves = m.same.leaves }; renewed = m.renewed }
+  renewed_marked k x y m = record { same = record { truth = true_marked y m.same.truth; array = m.same.array; leaves = m.same.leaves }; renewed = m.renewed; others = m.others }
 
   pub pin_marked : flushing ≡ false → r'.pin ≡ b.pin
   pin_marked off = (let f : Bool → Pin = λ x. record { block = b.pin.block; marks = marks_after x b.geometry key b.pin.marks } in ap (λ (z : Ram). z.pin) is ∙ ap f off)

@@ -16,6 +16,7 @@ pub mod Noted
 pub mod Made
 pub mod Renews
 pub mod Rescues
+pub mod Rescued
 pub mod Blocks
 pub mod Memory
 pub mod Lives

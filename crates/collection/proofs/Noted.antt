@@ -71,8 +71,18 @@ module _ (fault : Option WriteFault) where
   rescued_noted a b x y (Ok found) k = record { same = same_noted fault a b x y k.same; lowest = k.lowest; some = k.some; none = k.none; bad = k.bad }
   rescued_noted a b x y (Err f) k = refused_noted fault a b x y f k
 
-  pub renewed_noted : (row : ℕ) (a b : Ram) (x y : Image) (result : Result Bool WriteFault) → MatchResult result (λ found. IsRenewedAt row a x b y) (Refused a x b y) → MatchResult result (λ found. IsRenewedAt row a x (record b { fault = fault }) y) (Refused a x (record b { fault = fault }) y)
-  renewed_noted row a b x y (Ok found) k = record { same = same_noted fault a b x y k.same; none = k.none }
+  pub renewed_noted : (row : ℕ) (a b : Ram) (x y : Image) (result : Result Bool WriteFault) → MatchResult result (IsRenewedAt row a x b y) (Refused a x b y) → MatchResult result (IsRenewedAt row a x (record b { fault = fault }) y) (Refused a x (record b { fault = fault }) y)
+  renewed_noted row a b x y (Ok true) k = record {
+    key = k.key;
+    no_table = k.no_table;
+    due = k.due;
+    same = same_noted fault a b x y k.same;
+    renewed = k.renewed;
+    followed = k.followed;
+    none = k.none;
+    others = k.others;
+  }
+  renewed_noted row a b x y (Ok false) k = (k.0, same_noted fault a b x y k.1, k.2)
   renewed_noted row a b x y (Err f) k = refused_noted fault a b x y f k
 
 pub cost_noted : (flushing : Bool) (block : ℕ) (a b : Ram) (result : Result (Unit {0}) WriteFault) → CollectCosts flushing block a b result → CollectCosts flushing block a (record b { fault = fault_after b.fault result }) result
@@ -88,7 +98,7 @@ sparing_noted flushing block a b (Err f) k = tt
 
 pub rescue_cost_noted : (a b : Ram) (result : Result Bool WriteFault) → RescueCosts a b result → RescueCosts a (record b { fault = fault_after b.fault result }) result
 rescue_cost_noted a b (Ok false) k = k
-rescue_cost_noted a b (Ok true) k = record { data_pages = k.data_pages; meta_pages = k.meta_pages; some = k.some; few = k.few; programmed = record { account = k.programmed.account; next = k.programmed.next } }
+rescue_cost_noted a b (Ok true) k = k
 rescue_cost_noted a b (Err ReadOnly) k = record { mid = k.mid; data_pages = k.data_pages; meta_pages = k.meta_pages; few = k.few; programmed = k.programmed; out = out_noted (Some ReadOnly) b k.mid k.out }
 rescue_cost_noted a b (Err SequenceSpent) k = record { mid = k.mid; data_pages = k.data_pages; meta_pages = k.meta_pages; few = k.few; programmed = k.programmed; spent = spent_noted (Some SequenceSpent) b k.mid k.spent }
 rescue_cost_noted a b (Err Damaged) k = tt

@@ -1,5 +1,5 @@
 -- A page with its tries.
-use Rattle.std.proofs.Common.{◌≡◌, inl, inr, ℕ, ◌/◌, ◌<◌, false, List, Option, Some, None, Result, Ok, Err, MatchResult, OnOk, refl, ap, sym, ◌∙◌, subst}
+use Rattle.std.proofs.Common.{◌≡◌, ◌≢◌, inl, inr, ℕ, ◌/◌, ◌<◌, false, List, Option, Some, None, Result, Ok, Err, MatchResult, OnOk, refl, ap, sym, ◌∙◌, subst}
 use Rattle.page_layout.specs.declared.geometry.Geometry.{Geometry}
 use Rattle.page_layout.specs.declared.record.Record.{Record}
 use Rattle.page_layout.specs.declared.record.Kind.{Kind}
@@ -9,7 +9,7 @@ use Rattle.page_layout.specs.declared.record.Key.TheVariants.{Sector, Translatio
 use Rattle.page_layout.specs.Page.{Image}
 use Rattle.page_layout.specs.Key.{key_of, key_from}
 use Rattle.page_layout.specs.Live.{IsKeyOf}
-use Rattle.page_layout.specs.Array.{array_of}
+use Rattle.page_layout.specs.Array.{array_of, marks}
 use Rattle.page_layout.specs.Change.{Keeps, Writes}
 use Rattle.page_layout.proofs.KeyLemmas.{cases_key}
 use Rattle.page_layout.proofs.StepLemmas.{Keeps-refl, Keeps-trans, Keeps-Writes, array_kept, array_written, array_unwritten}
@@ -18,13 +18,14 @@ use Rattle.collection.specs.declared.fault.WriteFault.{WriteFault}
 use Rattle.collection.specs.declared.fault.WriteFault.TheVariants.{ReadOnly, SequenceSpent, Damaged, Bus}
 use Rattle.collection.specs.State.{Ram}
 use Rattle.page_layout.specs.Sound.{version_for}
-use Rattle.page_layout.specs.Version.{HasOldAt}
+use Rattle.page_layout.specs.Newest.{newest}
+use Rattle.page_layout.specs.Version.{HasOldAt, is_1, is_old, is_old_at}
 use Rattle.page_layout.proofs.VersionLemmas.{kept_adds_none, written_adds_none}
 use Rattle.collection.specs.Pages.{newest_row}
 use Rattle.collection.specs.Maps.{IsPageFor}
 use Rattle.collection.specs.Truth.{IsTrue}
 use Rattle.collection.specs.Safe.{IsOutside, is_shut}
-use Rattle.collection.specs.Results.{MayPut, Attempted, IsKept, IsPut, IsSame, Leaves, Refused, Goes, GoesPut, last_record, array_after}
+use Rattle.collection.specs.Results.{MayPut, Attempted, IsKept, IsPut, IsSame, KeepsPage, Leaves, Refused, Goes, GoesPut, last_record, array_after}
 use Rattle.collection.proofs.Memory.{shut_row}
 use Rattle.collection.proofs.Truths.{row_in_block, newest_in}
 
@@ -46,6 +47,27 @@ leaves_written r rec row body old new w out = record {
   ];
   versions = written_adds_none r.geometry rec row body old new w;
 }
+
+-- the newest page of another key stays as it is
+pub written_keeps : (g : Geometry) (rec : Record) (row : ℕ) (body : List ℕ) (old new : Image) (other : Key) → other ≢ key_of rec → Writes g rec row body old new → KeepsPage other old new
+unfolding is_old
+written_keeps g rec row body old new other ne w = by (newest (marks old) other) refl
+  where
+    apart : key_of rec ≢ other
+    apart e = ne (sym e)
+
+    by : (o : Option ℕ) → newest (marks old) other ≡ o → KeepsPage other old new
+    by None is = record {
+      row = w.newest_others other apart;
+      version = ap (is_old_at new) (w.newest_others other apart ∙ is) ∙ sym (ap (is_old_at old) is);
+    }
+    by (Some q) is = record {
+      row = w.newest_others other apart;
+      version = ap (is_old_at new) (w.newest_others other apart ∙ is) ∙ (ap is_1 (w.versions other q apart is) ∙ sym (ap (is_old_at old) is));
+    }
+
+pub keeps_page_then : (key : Key) (x y z : Image) → KeepsPage key x y → KeepsPage key y z → KeepsPage key x z
+keeps_page_then key x y z k l = record { row = l.row ∙ k.row; version = l.version ∙ k.version }
 
 -- ---- one call after another
 

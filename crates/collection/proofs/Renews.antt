@@ -1,11 +1,13 @@
 -- A page of version 1 is found and copied.
-use Rattle.std.proofs.Common.{◌≡◌, inl, inr, ℕ, ◌+◌, ◌<◌, ◌≤◌, not, Bool, true, false, List, Option, Some, None, refl, ap, sym, ◌∙◌, subst, arith}
+use Rattle.std.proofs.Common.{◌≡◌, ◌≢◌, inl, inr, ℕ, ◌+◌, ◌<◌, ◌≤◌, not, Bool, true, false, ◌/◌, List, Option, Some, None, refl, ap, sym, ◌∙◌, subst, arith}
 use Rattle.std.specs.Prelude.{slice_get}
 use Rattle.std.proofs.lemmas.Bool.{cases_eq, and_parts, and_from, eqb-true, not_from_false}
 use Rattle.page_layout.specs.declared.record.Record.{Record}
 use Rattle.page_layout.specs.declared.record.Key.{Key}
+use Rattle.page_layout.specs.declared.record.Key.TheVariants.{Sector, Translation}
+use Rattle.std.specs.Map.{keys_of}
 use Rattle.page_layout.specs.Page.{Page, Image}
-use Rattle.page_layout.specs.Geometry.{row_count}
+use Rattle.page_layout.specs.Geometry.{row_count, entries}
 use Rattle.page_layout.specs.Sound.{version_of, version_for}
 use Rattle.page_layout.specs.Key.{key_of}
 use Rattle.page_layout.specs.Array.{marks}
@@ -17,9 +19,10 @@ use Rattle.collection.specs.Pages.{newest_row}
 use Rattle.collection.specs.Truth.{IsTrue}
 use Rattle.collection.specs.Live.{NotAt, IsLivePage}
 use Rattle.collection.specs.Results.{IsSame, Goes}
-use Rattle.collection.specs.Collect.{IsRenewed, IsFollowedBy}
+use Rattle.collection.specs.Collect.{FollowsCopy, IsRenewed, IsFollowedBy}
 use Rattle.collection.specs.Renew.{is_table, is_due_page, HasNoneDue, IsDuePage, LooksAtDue, IsNextDue, IsRenewedAt}
-use Rattle.collection.proofs.Puts.{same_then}
+use Rattle.collection.proofs.Follows.{follows_by}
+use Rattle.collection.proofs.Puts.{same_then, keeps_page_then}
 use Rattle.collection.proofs.Lowest.{same_here}
 use Rattle.collection.proofs.Truths.{newest_in}
 
@@ -88,6 +91,12 @@ next_due from row image body r ge below due = record {
 
 -- ---- the copy
 
+-- no page follows a copy of itself
+apart_behind : (r : Ram) (key : Key) → ¬ FollowsCopy r key key
+apart_behind r key follows =
+    let e : Sector follows.sector ≡ Translation (follows.sector / entries r.geometry) = sym follows.of_sector ∙ follows.page_is in
+    let no : ⊥ = cc in no
+
 module _ (a b : Ram) (x x1 : Image) (row : ℕ) (found : Record) (body : List ℕ) (due : Option Record) (same : b ≡ a) (still : x1 ≡ x) (w : IsTrue None a x) (finds : LooksAtDue row body x due) (is : due ≡ Some found) where
   page_found : IsDuePage row body found x
   page_found = (let P : Option Record → Type 0 = λ o. LooksAtDue row body x o in subst P is finds)
@@ -103,12 +112,18 @@ module _ (a b : Ram) (x x1 : Image) (row : ℕ) (found : Record) (body : List �
       let P : Ram → Type 0 = λ z. Q z x in
       subst P same (subst (Q b) still k)
 
-  pub renewed_at : (c d : Ram) (y z : Image) → Goes a c → d.geometry ≡ c.geometry → IsRenewed (key_of found) a x c y → (IsTrue None c y → IsFollowedBy (key_of found) c y d z) → IsRenewedAt row a x d z
-  renewed_at c d y z goes after m follow =
+  pub renewed_at : (c d : Ram) (y z : Image) → Goes a c → keys_of c.mapping.cached ≡ keys_of a.mapping.cached → d.geometry ≡ c.geometry → IsRenewed (key_of found) a x c y → (IsTrue None c y → IsFollowedBy (key_of found) c y d z) → IsRenewedAt row a x d z true
+  renewed_at c d y z goes keys after m follow =
       let f : IsFollowedBy (key_of found) c y d z = follow m.same.truth in
       let all : IsSame a x d z = same_then a c d x y z goes after m.same f.same in
       record {
+        key = key_of found;
+        no_table = page_found.no_table;
+        due = page_found.old;
         same = all;
+        renewed = λ two. (f.others (key_of found) (apart_behind c (key_of found))).version ∙ m.renewed two;
+        followed = λ two other follows. f.renewed (ap version_for goes.geometry ∙ two) other (follows_by c a (key_of found) other (sym goes.geometry) (sym keys) follows);
+        others = λ other ne far. keeps_page_then other x y z (m.others other ne) (f.others other (λ follows. far (follows_by a c (key_of found) other goes.geometry keys follows)));
         none = λ two key no_table old.
             let of_key : key_of found ≡ key = one_key x key row found body page_found.live (all.leaves.versions two key row old).newest_is in
             let copied : HasOldAt y key row = f.same.leaves.versions (ap version_for goes.geometry ∙ two) key row old in
@@ -118,8 +133,8 @@ module _ (a b : Ram) (x x1 : Image) (row : ℕ) (found : Record) (body : List �
             cc;
       }
 
-pub none_renewed : (a b : Ram) (x x1 : Image) (row : ℕ) (body : List ℕ) (due : Option Record) → b ≡ a → x1 ≡ x → IsTrue None a x → LooksAtDue row body x due → due ≡ None → IsRenewedAt row a x b x1
+pub none_renewed : (a b : Ram) (x x1 : Image) (row : ℕ) (body : List ℕ) (due : Option Record) → b ≡ a → x1 ≡ x → IsTrue None a x → LooksAtDue row body x due → due ≡ None → IsRenewedAt row a x b x1 false
 none_renewed a b x x1 row body due same still w finds is =
     let none : HasNoneDue row x = (let P : Option Record → Type 0 = λ o. LooksAtDue row body x o in subst P is finds) in
-    let r : IsRenewedAt row a x a x = record { same = same_here a x w; none = λ two. none } in
+    let r : IsRenewedAt row a x a x false = (none, same_here a x w, refl) in
     rw (same, still) r

@@ -24,17 +24,21 @@ use Rattle.collection.specs.Results.{IsSame, IsWrittenBack, Goes, Refused}
 use Rattle.collection.specs.Truth.{IsTrue}
 use Rattle.collection.specs.Live.{NotAt, HoldsNoneIn, FindsFirst, IsFirstLive, IsFoundIn, IsLivePage}
 use Rattle.collection.specs.Collect.{IsAiling, HasNoneAiling, IsFirstAiling, FindsAiling, IsMovedOut, HasCopied, HasProgrammed, StreamRunsOut}
-use Rattle.collection.specs.Collect.{StreamSpends, FaultCosts, FollowCosts, RescueCosts, IsRescued}
-use Rattle.collection.specs.Collect.{KeepsKeys, IsFollowed, IsFollowedBy, LeavesLowest}
+use Rattle.collection.specs.Collect.{StreamSpends, FaultCosts, FollowCosts, PutsBehind, HasRescuedPage, RescueCosts, IsRescued}
+use Rattle.collection.specs.Collect.{KeepsKeys, FollowsCopy, IsFollowed, IsFollowedBy, LeavesLowest}
 use Rattle.collection.specs.Settle.{SetsMapping}
 use Rattle.collection.specs.Left.{LeavesPin}
 use Rattle.page_layout.specs.declared.record.Key.{Key}
-use Rattle.page_layout.specs.declared.record.Key.TheVariants.{Sector, Translation}
+use Rattle.page_layout.specs.declared.record.Key.TheVariants.{Sector, Translation, Table}
+use Rattle.page_layout.specs.Version.{is_old}
+use Rattle.mapping_cache.specs.Mapping.{slot_of}
+use Rattle.std.specs.Map.{keys_of}
+use Rattle.std.specs.Prelude.{◌⊎◌, IsSome, Result, MatchResult}
 use Rattle.page_layout.specs.Key.{key_of}
 use Rattle.std.proofs.Math.Nat.{div-lt_iff_lt-mul}
 use Rattle.collection.proofs.Finds.{none_all}
 use Rattle.collection.proofs.Copies.{keys_then}
-use Rattle.collection.proofs.Follows.{followed_beside}
+use Rattle.collection.proofs.Follows.{follows_by, followed_beside, some_or_none}
 use Rattle.collection.proofs.Puts.{same_then}
 use Rattle.collection.proofs.Lowest.{some_pages, holds_none, same_here}
 use Rattle.collection.proofs.Ledgers.{fit, one_of, programmed_more}
@@ -131,8 +135,8 @@ module _ (a b : Ram) (x x1 : Image) (row : ℕ) (found : Record) (body : List �
   ailing_known = (rw (same, still) w, (let l = first_found.live in rw still l))
 
   -- the one that was found has left its row, and the others are where they were
-  left_lowest : (c d : Ram) (y z : Image) → Goes a c → IsMovedOut row a x c y → IsFollowedBy (key_of found) c y d z → LeavesLowest a x z
-  left_lowest c d y z goes m f =
+  left_lowest : (c d : Ram) (y z : Image) → Goes a c → keys_of c.mapping.cached ≡ keys_of a.mapping.cached → IsMovedOut row a x c y → IsFollowedBy (key_of found) c y d z → LeavesLowest a x z
+  left_lowest c d y z goes keys m f =
       let within : row / a.geometry.pages < a.geometry.blocks = (let P : Geometry → Type 0 = λ g. row / a.geometry.pages < g.blocks in subst P s.blocks_of of_bad.within) in
       let left : IsLeftButLive a.blocks c.blocks (row / a.geometry.pages) = goes.shut (row / a.geometry.pages) within (bad_shut a.blocks (row / a.geometry.pages) of_bad.bad) in
       let shut : is_shut c.blocks (row / c.geometry.pages) ≡ true = ap (λ (g : Geometry). is_shut c.blocks (row / g.pages)) goes.geometry ∙ bad_shut c.blocks (row / a.geometry.pages) (still_bad a.blocks c.blocks (row / a.geometry.pages) left of_bad.bad) in
@@ -147,11 +151,11 @@ module _ (a b : Ram) (x x1 : Image) (row : ℕ) (found : Record) (body : List �
           | inl stayed ↦ m.gone key (sym stayed ∙ q)
           | inr out ↦ (let no : true ≡ false = sym shut ∙ out row q in let never : ⊥ = cc in never)
         ];
-        others = λ other ne far. f.others other (λ n is. (let P : Geometry → Type 0 = λ g. other ≢ Translation (n / entries g) in subst P (sym goes.geometry) (far n is))) ∙ m.others other ne;
+        others = λ other ne far. (f.others other (λ follows. far (follows_by a c (key_of found) other goes.geometry keys follows))).row ∙ m.others other ne;
       }
 
-  pub rescued : (c d : Ram) (y z : Image) → IsRam c → IsRam d → Goes a c → d.geometry ≡ c.geometry → IsMovedOut row a x c y → (IsTrue None c y → IsFollowedBy (key_of found) c y d z) → IsRescued a x d z true
-  rescued c d y z sc sd goes after m follow =
+  pub rescued : (c d : Ram) (y z : Image) → IsRam c → IsRam d → Goes a c → keys_of c.mapping.cached ≡ keys_of a.mapping.cached → d.geometry ≡ c.geometry → IsMovedOut row a x c y → (IsTrue None c y → IsFollowedBy (key_of found) c y d z) → IsRescued a x d z true
+  rescued c d y z sc sd goes keys after m follow =
       let f : IsFollowedBy (key_of found) c y d z = follow m.same.truth in
       let k : IsSame c y d z = f.same in
       let all : IsSame a x d z = same_then a c d x y z goes after m.same k in
@@ -160,7 +164,7 @@ module _ (a b : Ram) (x x1 : Image) (row : ℕ) (found : Record) (body : List �
       let less : live_at d.blocks (row / a.geometry.pages) ≤ live_at c.blocks (row / a.geometry.pages) = shut_fewer c d y z (row / a.geometry.pages) sc sd after m.same.truth k.truth k.leaves (rw goes.geometry within) (bad_shut c.blocks (row / a.geometry.pages) (still_bad a.blocks c.blocks (row / a.geometry.pages) left of_bad.bad)) in
       record {
         same = all;
-        lowest = λ t. left_lowest c d y z goes m f;
+        lowest = λ t. left_lowest c d y z goes keys m f;
         some = λ t. (row / a.geometry.pages, of_bad, omega (arith, m.fewer, less));
         none = λ f. (let never : ⊥ = cc in absurd never);
         bad = λ i lt bad. shut_fewer a d x z i s sd (after ∙ goes.geometry) w k.truth all.leaves lt (bad_shut a.blocks i bad);
@@ -187,11 +191,40 @@ rescued_beside key key' a b c d same goes sets keeps pin is follows keeps' pin' 
     followed_beside key sets.0 a d c.mapping (pin' ∙ (pin ∙ ap (λ (r : Ram). r.pin) same)) goes (keys_then a.mapping c.mapping d.mapping (subst Q same keeps) keeps') (subst P same sets.1) (subst F is follows)
 
 -- where its translation page was written, or no page was
-pub followed_none : (key : Key) (r : Ram) (x : Image) → IsTrue None r x → IsFollowedBy key r x r x
-followed_none key r x w = record { same = same_here r x w; others = λ other far. refl }
+pub followed_none : (key : Key) (r : Ram) (x : Image) → ((other : Key) → ¬ FollowsCopy r key other) → IsTrue None r x → IsFollowedBy key r x r x
+followed_none key r x none w = record {
+  same = same_here r x w;
+  renewed = λ two other follows. absurd (none other follows);
+  others = λ other far. record { row = refl; version = refl };
+}
 
-pub followed_by : (key : Key) (n : ℕ) (a b : Ram) (x y : Image) → key ≡ Sector n → IsWrittenBack (n / entries a.geometry) a x b y → IsFollowedBy key a x b y
-followed_by key n a b x y is k = record { same = k.same; others = λ other far. k.others other (far n is) }
+-- of a page of no sector, and of a cached one's, none follows
+pub none_behind : (key : Key) (r : Ram) → ((n : ℕ) → key ≢ Sector n) → (other : Key) → ¬ FollowsCopy r key other
+none_behind key r apart other follows = apart follows.sector follows.of_sector
+
+one_sector : (n k : ℕ) → Sector n ≡ Sector k → n ≡ k
+one_sector n k e = cc
+
+pub cached_behind : (key : Key) (n : ℕ) (r : Ram) → key ≡ Sector n → IsSome (slot_of r.mapping n) → (other : Key) → ¬ FollowsCopy r key other
+cached_behind key n r is some other follows =
+    let same : n ≡ follows.sector = one_sector n follows.sector (sym is ∙ follows.of_sector) in
+    let none : slot_of r.mapping n ≡ None = ap (slot_of r.mapping) same ∙ follows.uncached in
+    some_or_none (slot_of r.mapping n) some none
+
+pub followed_by : (key : Key) (n : ℕ) (a b : Ram) (x y : Image) → key ≡ Sector n → slot_of a.mapping n ≡ None → IsWrittenBack (n / entries a.geometry) a x b y → IsFollowedBy key a x b y
+followed_by key n a b x y is uncached k = record {
+  same = k.same;
+  renewed = λ two other follows.
+      let same : follows.sector ≡ n = one_sector follows.sector n (sym follows.of_sector ∙ is) in
+      let at : other ≡ Translation (n / entries a.geometry) = follows.page_is ∙ ap (λ s. Translation (s / entries a.geometry)) same in
+      ap (is_old y) at ∙ k.renewed two;
+  others = λ other far. k.others other (λ e. far (record { sector = n; of_sector = is; uncached = uncached; page_is = e }));
+}
+
+-- whatever was answered
+pub followed_result : (key : Key) (n e : ℕ) (a b : Ram) (x y : Image) (result : Result (Unit {0}) WriteFault) → key ≡ Sector n → slot_of a.mapping n ≡ None → e ≡ entries a.geometry → MatchResult result (λ _. IsWrittenBack (n / e) a x b y) (Refused a x b y) → MatchResult result (λ _. IsFollowedBy key a x b y) (Refused a x b y)
+followed_result key n e a b x y (Ok done) is none same k = followed_by key n a b x y is none (subst (λ s. IsWrittenBack (n / s) a x b y) same k)
+followed_result key n e a b x y (Err fault) is none same k = k
 
 -- ---- what it costs
 
@@ -205,20 +238,50 @@ one_programmed a b c s same cost =
     let one : HasPut cost.stream a c = (let P : Ram → Type 0 = λ z. HasPut cost.stream z c in subst P same cost.put) in
     programmed_more cost.stream a a c 0 0 refl (none_programmed a s) one
 
-pub rescued_cost : (a b c d : Ram) → IsRam a → b ≡ a → c.geometry ≡ b.geometry → HasCopied false b c → FollowCosts c d (Ok tt) → RescueCosts a d (Ok true)
-rescued_cost a b c d s same g cost follows =
-    let p = one_programmed a b c s same cost in
+-- nothing was written behind it, or a translation page
+behind_or : (key : Key) (c d : Ram) → PutsBehind key c d → (d ≡ c) ⊎ HasPut Meta c d
+behind_or (Sector n) c d (inl x) = inl x.1
+behind_or (Sector n) c d (inr x) = inr x.1
+behind_or (Translation t) c d x = inl x
+behind_or (Table u) c d x = inl x
+
+rescued_page : (key : Key) (a c d : Ram) → IsRam a → c.geometry ≡ a.geometry → HasCopied false a c → ((at : ℕ) × SetsMapping key at a.mapping c.mapping) → PutsBehind key c d → IsFollowed key c.mapping d.mapping → HasRescuedPage a d
+rescued_page key a c d s g cost sets behind mapping =
+    let copied : HasCopied false a c = record { stream = cost.stream; put = cost.put; key = key; row = sets.0; sets = sets.1; moved = cost.moved; due = cost.due } in
+    let p = one_programmed a a c s refl cost in
     let P : Ram → Type 0 = λ z. HasProgrammed a z (0 + data_of cost.stream) (0 + meta_of cost.stream) in
-    elim follows [
-      | inl stays ↦ record { data_pages = 0 + data_of cost.stream; meta_pages = 0 + meta_of cost.stream; some = omega (arith, one_of cost.stream); few = omega (arith, one_of cost.stream); programmed = subst P (sym stays) p }
+    elim (behind_or key c d behind) [
+      | inl stays ↦ record {
+        mid = c;
+        copied = copied;
+        behind = behind;
+        mapping = mapping;
+        data_pages = 0 + data_of cost.stream;
+        meta_pages = 0 + meta_of cost.stream;
+        some = omega (arith, one_of cost.stream);
+        few = omega (arith, one_of cost.stream);
+        programmed = subst P (sym stays) p;
+      }
       | inr put ↦ record {
+        mid = c;
+        copied = copied;
+        behind = behind;
+        mapping = mapping;
         data_pages = 0 + data_of cost.stream + data_of Meta;
         meta_pages = 0 + meta_of cost.stream + meta_of Meta;
         some = omega (arith, one_of cost.stream, one_of Meta);
         few = omega (arith, one_of cost.stream, one_of Meta);
-        programmed = programmed_more Meta a c d (0 + data_of cost.stream) (0 + meta_of cost.stream) (g ∙ ap (λ (z : Ram). z.geometry) same) p put;
+        programmed = programmed_more Meta a c d (0 + data_of cost.stream) (0 + meta_of cost.stream) g p put;
       }
     ]
+
+pub rescued_cost : (key key' : Key) (a b c d : Ram) → IsRam a → b ≡ a → c.geometry ≡ b.geometry → HasCopied false b c → ((at : ℕ) × SetsMapping key at b.mapping c.mapping) → key' ≡ key → FollowCosts key' c d (Ok tt) → IsFollowed key' c.mapping d.mapping → RescueCosts a d (Ok true)
+rescued_cost key key' a b c d s same g cost sets is behind mapping =
+    let P : Ram → Type 0 = λ z. HasCopied false z c in
+    let Q : Ram → Type 0 = λ z. (at : ℕ) × SetsMapping key at z.mapping c.mapping in
+    let B : Key → Type 0 = λ k. PutsBehind k c d in
+    let F : Key → Type 0 = λ k. IsFollowed k c.mapping d.mapping in
+    rescued_page key a c d s (g ∙ ap (λ (z : Ram). z.geometry) same) (subst P same cost) (subst Q same sets) (subst B is behind) (subst F is mapping)
 
 -- the copy was refused
 pub uncopied_cost : (a b c : Ram) (fault : WriteFault) → IsRam a → b ≡ a → FaultCosts b c fault → RescueCosts a c (Err fault)

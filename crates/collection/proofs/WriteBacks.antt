@@ -34,7 +34,8 @@ use Rattle.collection.specs.Settle.{Cleans}
 use Rattle.collection.specs.Results.{MayPut, IsReplaced, IsWrittenBack, Refused, Goes}
 use Rattle.collection.proofs.MapLemmas.{entry_here, entry_none, none_not, maps_clean}
 use Rattle.collection.proofs.Logs.{went_same}
-use Rattle.collection.proofs.Puts.{leaves_written}
+use Rattle.collection.proofs.Puts.{leaves_written, written_keeps}
+use Rattle.page_layout.proofs.VersionLemmas.{written_not_old}
 
 -- ---- the page as it stands
 
@@ -158,13 +159,14 @@ module _ (r r2 : Ram) (m3 : MappingState) (x x2 : Image) (t row : ℕ) (body : L
       array = array_unwritten r.geometry _ row body x x2 (λ n e. apart n e) p.writes;
       leaves = leaves_written r _ row body x x2 p.writes out;
     };
-    others = λ k ne. p.writes.newest_others k (λ e. ne (sym e));
+    others = λ k ne. written_keeps r.geometry _ row body x x2 k ne p.writes;
     row = row;
     newest_is = p.writes.newest_now;
     filled = record {
       right = right_now;
       padded = (let P : List ℕ → Type 0 = λ b. IsPadded r.geometry t b in subst P (sym p.writes.here) filled.padded);
     };
+    renewed = λ two. written_not_old r.geometry _ row body x x2 two p.writes;
   }
 
 pub written_back_by : (r r1 r2 : Ram) (m3 : MappingState) (x x1 x2 : Image) (t row : ℕ) (body : List ℕ) → r1 ≡ r → x1 ≡ x → IsFilled t body r.geometry x → IsReplaced kind.Translation t row body r1 x1 r2 x2 → r2.geometry ≡ r1.geometry → r2.mapping.geometry ≡ r2.geometry → Cleans (per_page r2.mapping) t r2.mapping m3 → IsOutside r1 row → IsWrittenBack t r x (record r2 { mapping = m3 }) x2

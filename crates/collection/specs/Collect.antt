@@ -35,7 +35,7 @@ use Rattle.collection.specs.Safe.{is_shut}
 use Rattle.collection.specs.Cost.{HasPut, HasRunOut, HasSpent}
 use Rattle.collection.specs.Settle.{SetsMapping}
 use Rattle.collection.specs.Live.{NotAt, HoldsNoneIn, IsLivePage}
-use Rattle.collection.specs.Results.{IsSame}
+use Rattle.collection.specs.Results.{IsSame, KeepsPage}
 use Rattle.collection.specs.Truth.{IsTrue}
 
 -- ---- translation pages that have to be written
@@ -173,10 +173,12 @@ pub record IsMovedOut (row : ℕ) (old : Ram) (before : Image) (new : Ram) (afte
   pub others : (key : Key) → newest_row before key ≢ Some row → newest_row after key ≡ newest_row before key
   pub fewer : live_at new.blocks (row / old.geometry.pages) + 1 ≡ live_at old.blocks (row / old.geometry.pages)
 
--- A page of the key was copied: the array is as it was. Where the die has version 2 the newest page of the key is of it.
+-- A page of the key was copied: the array is as it was. Where the die has version 2 the newest page of the key is of it. Each other newest page
+-- stays as it is.
 pub record IsRenewed (key : Key) (old : Ram) (before : Image) (new : Ram) (after : Image) : Type 0 where
   pub same : IsSame old before new after
   pub renewed : version_for old.geometry ≡ 2 → is_old after key ≡ false
+  pub others : (other : Key) → other ≢ key → KeepsPage other before after
 
 -- a page was copied: the array is as it was, the block has one newest page less, and none up to that page
 pub record IsCopied (block page : ℕ) (old : Ram) (before : Image) (new : Ram) (after : Image) : Type 0 where
@@ -364,16 +366,29 @@ abbrev pub FindsAiling : State → List ℕ → Image → Option (ℕ × Record)
 FindsAiling s body image None = HasNoneAiling s
 FindsAiling s body image (Some found) = IsFirstAiling s found.0 body found.1 image
 
--- the translation page of a key's sector was written, unless the sector is cached
+-- THE PAGE THAT FOLLOWS A COPY of a page of `key`, just where its sector is not cached: the translation page of that sector
+pub record FollowsCopy (r : Ram) (key other : Key) : Type 0 where
+  pub sector : ℕ
+  pub of_sector : key ≡ Sector sector
+  pub uncached : slot_of r.mapping sector ≡ None
+  pub page_is : other ≡ Translation (sector / entries r.geometry)
+
+-- in the mapping: nothing, where the sector is cached, and else that page lacks no row
 abbrev pub IsFollowed : Key → (old new : MappingState) → Type 0
-IsFollowed (Sector n) old new = (IsSome (slot_of old n) × (new ≡ old)) ⊎ (new ≡ cleaned old (n / per_page old))
+IsFollowed (Sector n) old new = (IsSome (slot_of old n) × (new ≡ old)) ⊎ ((slot_of old n ≡ None) × (new ≡ cleaned old (n / per_page old)))
 IsFollowed (Translation t) old new = new ≡ old
 IsFollowed (Table u) old new = new ≡ old
 
--- what it costs that a sector's translation page follows: nothing, or a translation page
-abbrev pub FollowCosts : Ram → Ram → Result (Unit {0}) WriteFault → Type 0
-FollowCosts old new (Ok done) = (new ≡ old) ⊎ HasPut Meta old new
-FollowCosts old new (Err fault) = FaultCosts old new fault
+-- and what is programmed: nothing, where the sector is cached, and else that page
+abbrev pub PutsBehind : Key → Ram → Ram → Type 0
+PutsBehind (Sector n) old new = (IsSome (slot_of old.mapping n) × (new ≡ old)) ⊎ ((slot_of old.mapping n ≡ None) × HasPut Meta old new)
+PutsBehind (Translation t) old new = new ≡ old
+PutsBehind (Table u) old new = new ≡ old
+
+-- by what is answered
+abbrev pub FollowCosts : Key → Ram → Ram → Result (Unit {0}) WriteFault → Type 0
+FollowCosts key old new (Ok done) = PutsBehind key old new
+FollowCosts key old new (Err fault) = FaultCosts old new fault
 
 -- one page, or none, was programmed, and the next one found no block
 pub record RescueRunsOut (old new : Ram) : Type 0 where
@@ -393,8 +408,13 @@ pub record RescueSpends (old new : Ram) : Type 0 where
   pub programmed : HasProgrammed old mid data_pages meta_pages
   pub spent : StreamSpends mid new
 
--- one page was programmed or two, and those that failed
+-- ONE PAGE WAS RESCUED: a page of a key was copied, and behind it the translation page of its sector was written back, just where the sector is not
+-- cached. So one page was programmed or two, and those that failed.
 pub record HasRescuedPage (old new : Ram) : Type 0 where
+  pub mid : Ram
+  pub copied : HasCopied false old mid
+  pub behind : PutsBehind copied.key mid new
+  pub mapping : IsFollowed copied.key mid.mapping new.mapping
   pub data_pages : ℕ
   pub meta_pages : ℕ
   pub some : 1 ≤ data_pages + meta_pages
@@ -410,13 +430,14 @@ RescueCosts old new (Err SequenceSpent) = RescueSpends old new
 RescueCosts old new (Err Damaged) = Unit {0}
 RescueCosts old new (Err Bus) = Unit {0}
 
--- the array is as it was, and each newest page is where it was but that of the translation page of the key's sector
+-- the array is as it was; the page that follows the copy is in version 2, where the die has it, and each other newest page stays as it is
 pub record IsFollowedBy (key : Key) (old : Ram) (before : Image) (new : Ram) (after : Image) : Type 0 where
   pub same : IsSame old before new after
-  pub others : (other : Key) → ((n : ℕ) → key ≡ Sector n → other ≢ Translation (n / entries old.geometry)) → newest_row after other ≡ newest_row before other
+  pub renewed : version_for old.geometry ≡ 2 → (other : Key) → FollowsCopy old key other → is_old after other ≡ false
+  pub others : (other : Key) → ¬ FollowsCopy old key other → KeepsPage other before after
 
--- ONE PAGE, THAT OF LOWEST ROW among the newest ones in bad blocks, has left its row. Each other newest page is where it was but, of a sector's,
--- its translation page.
+-- ONE PAGE, THAT OF LOWEST ROW among the newest ones in bad blocks, has left its row. Each other newest page is where it was but, of a sector's that
+-- is not cached, its translation page.
 pub record LeavesLowest (old : Ram) (before after : Image) : Type 0 where
   pub row : ℕ
   pub key : Key
@@ -424,7 +445,7 @@ pub record LeavesLowest (old : Ram) (before after : Image) : Type 0 where
   pub newest : newest_row before key ≡ Some row
   pub lowest : (b p : ℕ) → b < old.geometry.blocks → is_good_at old.blocks.table b ≡ false → p < old.geometry.pages → b * old.geometry.pages + p < row → NotAt (b * old.geometry.pages + p) before
   pub gone : NotAt row after
-  pub others : (other : Key) → newest_row before other ≢ Some row → ((n : ℕ) → key ≡ Sector n → other ≢ Translation (n / entries old.geometry)) → newest_row after other ≡ newest_row before other
+  pub others : (other : Key) → newest_row before other ≢ Some row → ¬ FollowsCopy old key other → newest_row after other ≡ newest_row before other
 
 -- the array is as it was; there was a newest page in a bad block just where it says so, and the one of lowest row has left its block
 pub record IsRescued (old : Ram) (before : Image) (new : Ram) (after : Image) (found : Bool) : Type 0 where

@@ -15,6 +15,7 @@ pub mod Settle
 pub mod Live
 pub mod Collect
 pub mod Renew
+pub mod Rescued
 pub mod Whole
 pub mod Left
 pub mod Turns

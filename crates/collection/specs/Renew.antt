@@ -1,15 +1,16 @@
 -- Pages of version 1 that have to be copied, so that a die's pages come to be of version 2.
-use Rattle.std.specs.Prelude.{◌≡◌, ℕ, ◌<◌, ◌≤◌, ◌&&◌, not, Bool, true, false, List, Option, Some, None}
+use Rattle.std.specs.Prelude.{◌≡◌, ◌≢◌, ℕ, ◌<◌, ◌≤◌, ◌&&◌, not, Bool, true, false, List, Option, Some, None}
 use Rattle.page_layout.specs.declared.record.Record.{Record}
 use Rattle.page_layout.specs.declared.record.Key.{Key}
 use Rattle.page_layout.specs.declared.record.Key.TheVariants.{Sector, Translation, Table}
 use Rattle.page_layout.specs.Page.{Page, Image}
 use Rattle.page_layout.specs.Sound.{version_of, version_for}
 use Rattle.page_layout.specs.Key.{key_of}
-use Rattle.page_layout.specs.Version.{is_1, HasOldAt}
+use Rattle.page_layout.specs.Version.{is_1, is_old, HasOldAt}
 use Rattle.collection.specs.State.{Ram}
 use Rattle.collection.specs.Live.{IsLivePage}
-use Rattle.collection.specs.Results.{IsSame}
+use Rattle.collection.specs.Results.{IsSame, KeepsPage}
+use Rattle.collection.specs.Collect.{FollowsCopy}
 
 -- whether it is the key of a table page: those are written anew with each flush
 abbrev pub is_table : Key → Bool
@@ -53,7 +54,19 @@ abbrev pub FindsDue : ℕ → Image → Option ℕ → Type 0
 FindsDue from image None = (row : ℕ) → from ≤ row → HasNoneDue row image
 FindsDue from image (Some row) = IsNextDue from row image
 
--- THE ROW'S PAGE WAS RENEWED, or had not to be: the array is as it was and, where the die has version 2, no such page is in the row
-pub record IsRenewedAt (row : ℕ) (old : Ram) (before : Image) (new : Ram) (after : Image) : Type 0 where
+-- THE ROW'S PAGE WAS RENEWED, which had to be: the array is as it was, and no newest page was touched but that one and the page that follows its copy.
+-- Where the die has version 2 both are of it, and no page that has to be renewed is in the row.
+pub record IsRenewedPage (row : ℕ) (old : Ram) (before : Image) (new : Ram) (after : Image) : Type 0 where
+  pub key : Key
+  pub no_table : is_table key ≡ false
+  pub due : HasOldAt before key row
   pub same : IsSame old before new after
+  pub renewed : version_for old.geometry ≡ 2 → is_old after key ≡ false
+  pub followed : version_for old.geometry ≡ 2 → (other : Key) → FollowsCopy old key other → is_old after other ≡ false
   pub none : version_for old.geometry ≡ 2 → HasNoneDue row after
+  pub others : (other : Key) → other ≢ key → ¬ FollowsCopy old key other → KeepsPage other before after
+
+-- by what is answered: it was renewed, or the row has no page that has to be, and the die is as it was
+abbrev pub IsRenewedAt : ℕ → Ram → Image → Ram → Image → Bool → Type 0
+IsRenewedAt row old before new after true = IsRenewedPage row old before new after
+IsRenewedAt row old before new after false = HasNoneDue row before × IsSame old before new after × (after ≡ before)

@@ -90,6 +90,11 @@ pub record Leaves (r : Ram) (old new : Image) : Type 0 where
   pub each : (key : Key) → (newest_row new key ≡ newest_row old key) ⊎ ((row : ℕ) → newest_row new key ≡ Some row → is_shut r.blocks (row / r.geometry.pages) ≡ false)
   pub versions : AddsNoOld r.geometry old new
 
+-- the newest page of the key stays as it is: in its row, and of the version that it had
+pub record KeepsPage (key : Key) (before after : Image) : Type 0 where
+  pub row : newest_row after key ≡ newest_row before key
+  pub version : is_old after key ≡ is_old before key
+
 -- the array is as it was
 pub record IsSame (old : Ram) (before : Image) (new : Ram) (after : Image) : Type 0 where
   pub truth : IsTrue None new after
@@ -122,13 +127,15 @@ pub record IsWritten (kind : Kind) (n : ℕ) (body : List ℕ) (old : Ram) (befo
   pub row : ℕ
   pub writes : Writes old.geometry (last_record kind n row new) row body before after
 
--- the array is as it was, each other newest page is where it was, and the newest translation page t has the row of each of its sectors, and none past the last sector
+-- The array is as it was, each other newest page stays as it is, and the newest translation page t has the row of each of its sectors, and none past
+-- the last sector. It is in version 2 where the die has it.
 pub record IsWrittenBack (t : ℕ) (old : Ram) (before : Image) (new : Ram) (after : Image) : Type 0 where
   pub same : IsSame old before new after
-  pub others : (key : Key) → key ≢ Translation t → newest_row after key ≡ newest_row before key
+  pub others : (key : Key) → key ≢ Translation t → KeepsPage key before after
   pub row : ℕ
   pub newest_is : newest_row after (Translation t) ≡ Some row
   pub filled : IsFilled t (body_at after row) old.geometry after
+  pub renewed : version_for old.geometry ≡ 2 → is_old after (Translation t) ≡ false
 
 -- the array is as it was, the newest table page u spells the table that was, in version 2 where the die has it, and each other one spells what
 -- it spelled

@@ -1,5 +1,6 @@
 ghost use Rattle.collection.specs.Left.{IdleLaw, PinLaw, LeftLaw, KeptLaw, CalmLaw, PassedLaw, FewLaw, CopyLaw, WriteLaw};
 ghost use Rattle.collection.specs.Stops.{OneGainLaw};
+ghost use Rattle.collection.specs.Rescued.{LazyLaw, FollowedLaw, AloneLaw, OneLowestLaw, OneAnswerLaw};
 
 /// How much is left of a collection that goes from turn to turn: less than a block's pages where a
 /// victim worth collecting was pinned; each copy and each translation page that is written lowers it,
@@ -14,6 +15,16 @@ pub fn left_laws()
     ensures few { FewLaw }
     ensures copied { CopyLaw }
     ensures written { WriteLaw }
+{}
+
+/// A rescue takes one page, that of lowest row. Behind a page of a cached sector nothing is programmed, and
+/// behind one of another sector its translation page is. A renewal has one answer. (This project.)
+pub fn rescue_laws()
+    ensures lazy { LazyLaw }
+    ensures followed { FollowedLaw }
+    ensures alone { AloneLaw }
+    ensures lowest { OneLowestLaw }
+    ensures answer { OneAnswerLaw }
 {}
 
 /// What a stop in a call leaves is said by a log, and so is what went on in the call. Both are what the

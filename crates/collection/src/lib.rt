@@ -12,4 +12,4 @@ mod laws;
 
 pub use engine::{Buffer, Engine, LEAST_FREE, Pinned, Reserve, Step};
 pub use fault::WriteFault;
-pub use laws::{left_laws, stop_laws};
+pub use laws::{left_laws, rescue_laws, stop_laws};

@@ -31,14 +31,14 @@ use Rattle.command_queue.specs.Asked.{Asked, Told, Migrated, command_asked, repl
 pub room_two : (g : Geometry) → 40 ≤ g.spare_bytes → version_for g ≡ 2
 room_two g room = (let e : nat_le 40 g.spare_bytes ≡ true = le-leb 40 g.spare_bytes room in let pick : Bool → ℕ = λ b. if b then 2 else 1 in ap pick e)
 
-module _ {N : Type 0} (flash : N → Flash) (recorded : N → Option Recording) (honest calm : N → Bool) (failed erases : N → ℕ) where
-  pub told_asked : (old new : Device N) (xs : List Exchange) → ToldEach flash recorded honest failed erases old xs new → AskedEach flash recorded honest calm failed erases old (map Told xs) new
+module _ {N : Type 0} (flash : N → Flash) (recorded : N → Option Recording) (honest calm : N → Bool) (programs failed erases : N → ℕ) where
+  pub told_asked : (old new : Device N) (xs : List Exchange) → ToldEach flash recorded honest failed erases old xs new → AskedEach flash recorded honest calm programs failed erases old (map Told xs) new
   told_asked old new [] each = each
   told_asked old new (x ∷ xs) each = (each.0, each.1, told_asked each.0 new xs each.2)
 
-  pub asked_join : (old mid new : Device N) (calls later : List Asked) → AskedEach flash recorded honest calm failed erases old calls mid → AskedEach flash recorded honest calm failed erases mid later new
-      → AskedEach flash recorded honest calm failed erases old (calls ++ later) new
-  asked_join old mid new [] later each rest = subst (λ d. AskedEach flash recorded honest calm failed erases d later new) each rest
+  pub asked_join : (old mid new : Device N) (calls later : List Asked) → AskedEach flash recorded honest calm programs failed erases old calls mid → AskedEach flash recorded honest calm programs failed erases mid later new
+      → AskedEach flash recorded honest calm programs failed erases old (calls ++ later) new
+  asked_join old mid new [] later each rest = subst (λ d. AskedEach flash recorded honest calm programs failed erases d later new) each rest
   asked_join old mid new (Told x ∷ calls) later each rest = (each.0, each.1, asked_join each.0 mid new calls later each.2 rest)
   asked_join old mid new (Migrated result ∷ calls) later each rest = (each.0, each.1, asked_join each.0 mid new calls later each.2 rest)
 
@@ -50,13 +50,13 @@ module _ {N : Type 0} (flash : N → Flash) (recorded : N → Option Recording) 
         let h = tells.happened is_honest well some in
         record { sized = tells.sized; step = h.step; went = h.went; stopped = h.stopped; versions = h.versions; well = tells.well is_honest well some }
 
-    does_migrated : (result : Result Bool DeviceFault) → ended result ≢ Err BusFault → MigratesOne flash recorded honest calm failed old result mid → Does flash recorded old (Migrated result) mid
+    does_migrated : (result : Result Bool DeviceFault) → ended result ≢ Err BusFault → MigratesOne flash recorded honest calm programs erases failed old result mid → Does flash recorded old (Migrated result) mid
     does_migrated result some m =
         let logs = m.upkeeps.logs is_honest some in
         let means = m.upkeeps.means is_honest well some in
         record { sized = m.sized; step = means.step; went = logs.went; stopped = logs.stopped well; versions = means.versions; well = means.well }
 
-  pub does_each : (old new : Device N) (calls : List Asked) → honest old.engine.nand ≡ true → IsWell flash old → HaveOutcomes calls → AskedEach flash recorded honest calm failed erases old calls new → DoesEach flash recorded old calls new
+  pub does_each : (old new : Device N) (calls : List Asked) → honest old.engine.nand ≡ true → IsWell flash old → HaveOutcomes calls → AskedEach flash recorded honest calm programs failed erases old calls new → DoesEach flash recorded old calls new
   does_each old new [] is_honest well known each = each
   does_each old new (Told x ∷ calls) is_honest well known each =
       let here = does_told old each.0 is_honest well x known.0 each.1 in
@@ -103,7 +103,7 @@ module _ {N : Type 0} (flash : N → Flash) (recorded : N → Option Recording) 
   does_all old new [] well each = does_none old new well each
   does_all old new (call ∷ calls) well each = does_more old each.0 new call calls (log_asked flash recorded each.0 calls new each.2) each.1 (does_all each.0 new calls each.1.well each.2)
 
-  pub asked_run : (old new : Device N) (calls : List Asked) → honest old.engine.nand ≡ true → IsWell flash old → HaveOutcomes calls → AskedEach flash recorded honest calm failed erases old calls new
+  pub asked_run : (old new : Device N) (calls : List Asked) → honest old.engine.nand ≡ true → IsWell flash old → HaveOutcomes calls → AskedEach flash recorded honest calm programs failed erases old calls new
       → (each : DoesEach flash recorded old calls new) × DoesAll flash recorded old calls new (log_asked flash recorded old calls new each)
   asked_run old new calls is_honest well known each =
       let its = does_each old new calls is_honest well known each in
@@ -119,13 +119,13 @@ module _ {N : Type 0} (flash : N → Flash) (recorded : N → Option Recording) 
       finishes old.engine.geometry (image_in flash old.engine) (image_in flash mid.engine) h.versions (h.flushed its done).renewed two only
 
   -- where none is old no call makes one so
-  stays_none : (old new : Device N) (calls : List Asked) → honest old.engine.nand ≡ true → IsWell flash old → version_for old.engine.geometry ≡ 2 → HaveOutcomes calls → AskedEach flash recorded honest calm failed erases old calls new
+  stays_none : (old new : Device N) (calls : List Asked) → honest old.engine.nand ≡ true → IsWell flash old → version_for old.engine.geometry ≡ 2 → HaveOutcomes calls → AskedEach flash recorded honest calm programs failed erases old calls new
       → HasNoneOld (image_in flash old.engine) → HasNoneOld (image_in flash new.engine)
   stays_none old new calls is_honest well two known each none =
       let all = (asked_run old new calls is_honest well known each).1 in
       (stays_new old.engine.geometry (image_in flash old.engine) (image_in flash new.engine) two all.versions).1 none
 
-  none_after : (old new : Device N) (calls : List Asked) → honest old.engine.nand ≡ true → IsWell flash old → version_for old.engine.geometry ≡ 2 → HaveOutcomes calls → AskedEach flash recorded honest calm failed erases old calls new
+  none_after : (old new : Device N) (calls : List Asked) → honest old.engine.nand ≡ true → IsWell flash old → version_for old.engine.geometry ≡ 2 → HaveOutcomes calls → AskedEach flash recorded honest calm programs failed erases old calls new
       → HaveFlushed calls → HasOldTablesOnly (image_in flash old.engine) → HasNoneOld (image_in flash new.engine)
   none_after old new [] is_honest well two known each flushed only = absurd flushed
   none_after old new (Told x ∷ calls) is_honest well two known each (inl here) only =
@@ -143,7 +143,7 @@ module _ {N : Type 0} (flash : N → Flash) (recorded : N → Option Recording) 
       ((stays_new old.engine.geometry (image_in flash old.engine) (image_in flash each.0.engine) two its.versions).0 only)
 
   pub asked_forward : (old new : Device N) (calls : List Asked) → honest old.engine.nand ≡ true → IsWell flash old → 40 ≤ old.engine.geometry.spare_bytes → HaveOutcomes calls
-      → AskedEach flash recorded honest calm failed erases old (Migrated (Ok false) ∷ calls) new → HaveFlushed calls → HasNoneOld (image_in flash new.engine)
+      → AskedEach flash recorded honest calm programs failed erases old (Migrated (Ok false) ∷ calls) new → HaveFlushed calls → HasNoneOld (image_in flash new.engine)
   asked_forward old new calls is_honest well room known each flushed =
       let some : ended (Ok false) ≢ Err BusFault = λ e. (let no : ⊥ = cc in no) in
       let its = does_migrated old each.0 is_honest well (Ok false) some each.1 in

@@ -2,8 +2,10 @@ pub mod RefusalLemmas
 pub mod RescueLemmas
 pub mod QuietLemmas
 pub mod RunLemmas
+pub mod ProgramLemmas
 pub mod ToldLemmas
 pub mod LoopLemmas
 pub mod AcceptedLemmas
 pub mod TurnsLemmas
 pub mod AskedLemmas
+pub mod EventLemmas

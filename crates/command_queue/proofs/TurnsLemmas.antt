@@ -35,7 +35,7 @@ not_bus : (result : Result (Unit {0}) DeviceFault) → result ≡ Ok tt → resu
 not_bus result done is = (let no : ⊥ = cc in no)
 
 module _ {N : Type 0} (flash : N → Flash) (recorded : N → Option Recording) (honest : N → Bool) (failed erases : N → ℕ) where
-  takes_turn : (command : step.Command) (old new : Device N) (result : Result (Unit {0}) DeviceFault) → is_turn command ≡ true → TakesIfTurn flash honest erases command old result new → TakesTurn flash honest erases old result new
+  takes_turn : (command : step.Command) (old new : Device N) (result : Result (Unit {0}) DeviceFault) → is_turn command ≡ true → TakesIfTurn flash recorded honest erases command old result new → TakesTurn flash recorded honest erases old result new
   takes_turn (step.Read sector) old new result is takes = (let no : ⊥ = cc in absurd no)
   takes_turn (step.Write sector body) old new result is takes = (let no : ⊥ = cc in absurd no)
   takes_turn (step.Trim sector) old new result is takes = (let no : ⊥ = cc in absurd no)
@@ -44,7 +44,7 @@ module _ {N : Type 0} (flash : N → Flash) (recorded : N → Option Recording) 
 
   -- of a turn that is done
   module _ (old new : Device N) (event : Event) (x : Exchange) (well : IsWell flash old) (is_honest : honest old.engine.nand ≡ true) (is : is_turn x.command ≡ true) (done : x.result ≡ Ok tt) (its : IsEventOf flash recorded honest failed erases old event x new) where
-    takes : TakesTurn flash honest erases old x.result new
+    takes : TakesTurn flash recorded honest erases old x.result new
     takes = takes_turn x.command old new x.result is its.tells.turned
 
     rescued : HasRescued (ram old.engine) (ram new.engine)

@@ -3,6 +3,7 @@ use Rattle.std.specs.Prelude.{◌≡◌, ◌≢◌, ◌⊎◌, ℕ, ◌+◌, ◌
 use Rattle.std.specs.List.{AllByRecursion}
 use Rattle.page_layout.specs.Flash.{Flash, Operation, Leads}
 use Rattle.page_layout.specs.Recording.{Recording, Records}
+use Rattle.page_layout.specs.OnlyReads.{OnlyReads}
 use Rattle.page_layout.specs.Version.{AddsNoOld}
 use Rattle.promises.specs.Step as step
 use Rattle.promises.specs.Step.{Reply, ArrayStep, ArrayRun}
@@ -18,6 +19,7 @@ use Rattle.ftl_device.specs.Counts.{is_flush}
 use Rattle.ftl_device.specs.Changes.{Upkeeps}
 use Rattle.ftl_device.specs.Stopped.{SurvivesStops}
 use Rattle.ftl_device.specs.Migrate.{ended, Migrates}
+use Rattle.ftl_device.specs.Brings.{HasBrought, BringsOne}
 use Rattle.ftl_device.specs.Renewed.{HasNoneOld}
 use Rattle.command_queue.specs.Exchanges.{Exchange, reply_in}
 use Rattle.command_queue.specs.Tells.{Tells, ToldEach}
@@ -52,22 +54,27 @@ HaveFlushed (call ∷ calls) = ((is_flush (command_asked call) ≡ true) × (res
 -- ---- what the calls say
 
 -- WHAT THE CONTRACT OF `Device::migrate_one` SAYS, as a list of calls needs it: all that is said of a turn's array, log and image; with `false` no
--- newest page is of version 1, but table pages, and with `true` fewer are than before
-pub record MigratesOne {N : Type 0} (flash : N → Flash) (recorded : N → Option Recording) (honest calm : N → Bool) (failed : N → ℕ) (old : Device N)
+-- newest page is of version 1, but table pages, and nothing is programmed or erased. With `true` fewer are than before: room was made, and then one
+-- page was rescued, the one that was found, or none where making room has moved it; and the cursor went past its row.
+pub record MigratesOne {N : Type 0} (flash : N → Flash) (recorded : N → Option Recording) (honest calm : N → Bool) (programs erases failed : N → ℕ) (old : Device N)
     (result : Result Bool DeviceFault) (new : Device N) : Type 0 where
   pub device : IsDevice flash new
   pub sized : new.engine.geometry ≡ old.engine.geometry
   pub upkeeps : Upkeeps flash recorded honest calm failed step.Turn old (ended result) new
   pub migrates : honest old.engine.nand ≡ true → IsWell flash old → 40 ≤ old.engine.geometry.spare_bytes
       → IfOk result (λ found. Migrates found old.engine.geometry (image_in flash old.engine) (image_in flash new.engine))
+  pub rests : IfOk result (λ found. found ≡ false → OnlyReads flash honest calm programs erases failed old.engine.nand new.engine.nand)
+  pub brought : result ≡ Ok true → HasBrought (ram old.engine) (ram new.engine)
+  pub brings : honest old.engine.nand ≡ true → IsWell flash old → result ≡ Ok true → BringsOne flash recorded old new
+  pub stays : result ≢ Ok true → new.cursor ≡ old.cursor
 
 -- EACH CALL DID WHAT IT PROMISES, from a device to the next
-abbrev pub AskedEach : {N : Type 0} → (N → Flash) → (N → Option Recording) → (honest calm : N → Bool) → (failed erases : N → ℕ) → Device N → List Asked → Device N → Type 0
-AskedEach flash recorded honest calm failed erases old [] new = new ≡ old
-AskedEach {N} flash recorded honest calm failed erases old (Told x ∷ calls) new =
-    (mid : Device N) × Tells flash recorded honest failed erases old x mid × AskedEach flash recorded honest calm failed erases mid calls new
-AskedEach {N} flash recorded honest calm failed erases old (Migrated result ∷ calls) new =
-    (mid : Device N) × MigratesOne flash recorded honest calm failed old result mid × AskedEach flash recorded honest calm failed erases mid calls new
+abbrev pub AskedEach : {N : Type 0} → (N → Flash) → (N → Option Recording) → (honest calm : N → Bool) → (programs failed erases : N → ℕ) → Device N → List Asked → Device N → Type 0
+AskedEach flash recorded honest calm programs failed erases old [] new = new ≡ old
+AskedEach {N} flash recorded honest calm programs failed erases old (Told x ∷ calls) new =
+    (mid : Device N) × Tells flash recorded honest failed erases old x mid × AskedEach flash recorded honest calm programs failed erases mid calls new
+AskedEach {N} flash recorded honest calm programs failed erases old (Migrated result ∷ calls) new =
+    (mid : Device N) × MigratesOne flash recorded honest calm programs erases failed old result mid × AskedEach flash recorded honest calm programs failed erases mid calls new
 
 -- ---- what is so of them, where the die is honest and gave every outcome
 
@@ -107,24 +114,24 @@ pub record DoesAll {N : Type 0} (flash : N → Flash) (recorded : N → Option R
 -- ---- laws
 
 -- what was told is a list of calls
-abbrev pub ToldAskedLaw : {N : Type 0} → (N → Flash) → (N → Option Recording) → (honest calm : N → Bool) → (failed erases : N → ℕ) → Type 0
-ToldAskedLaw {N} flash recorded honest calm failed erases = (old new : Device N) (xs : List Exchange)
-    → ToldEach flash recorded honest failed erases old xs new → AskedEach flash recorded honest calm failed erases old (map Told xs) new
+abbrev pub ToldAskedLaw : {N : Type 0} → (N → Flash) → (N → Option Recording) → (honest calm : N → Bool) → (programs failed erases : N → ℕ) → Type 0
+ToldAskedLaw {N} flash recorded honest calm programs failed erases = (old new : Device N) (xs : List Exchange)
+    → ToldEach flash recorded honest failed erases old xs new → AskedEach flash recorded honest calm programs failed erases old (map Told xs) new
 
 -- AND CALLS AFTER CALLS ARE ONE LIST: so a run, a call of `migrate_one`, and a run
-abbrev pub AskedJoinLaw : {N : Type 0} → (N → Flash) → (N → Option Recording) → (honest calm : N → Bool) → (failed erases : N → ℕ) → Type 0
-AskedJoinLaw {N} flash recorded honest calm failed erases = (old mid new : Device N) (calls later : List Asked) → AskedEach flash recorded honest calm failed erases old calls mid
-    → AskedEach flash recorded honest calm failed erases mid later new → AskedEach flash recorded honest calm failed erases old (calls ++ later) new
+abbrev pub AskedJoinLaw : {N : Type 0} → (N → Flash) → (N → Option Recording) → (honest calm : N → Bool) → (programs failed erases : N → ℕ) → Type 0
+AskedJoinLaw {N} flash recorded honest calm programs failed erases = (old mid new : Device N) (calls later : List Asked) → AskedEach flash recorded honest calm programs failed erases old calls mid
+    → AskedEach flash recorded honest calm programs failed erases mid later new → AskedEach flash recorded honest calm programs failed erases old (calls ++ later) new
 
 -- ONE RUN, WHATEVER WAS ASKED, of an honest die that gave every outcome
-abbrev pub AskedRunLaw : {N : Type 0} → (N → Flash) → (N → Option Recording) → (honest calm : N → Bool) → (failed erases : N → ℕ) → Type 0
-AskedRunLaw {N} flash recorded honest calm failed erases = (old new : Device N) (calls : List Asked) → honest old.engine.nand ≡ true → IsWell flash old → HaveOutcomes calls
-    → AskedEach flash recorded honest calm failed erases old calls new
+abbrev pub AskedRunLaw : {N : Type 0} → (N → Flash) → (N → Option Recording) → (honest calm : N → Bool) → (programs failed erases : N → ℕ) → Type 0
+AskedRunLaw {N} flash recorded honest calm programs failed erases = (old new : Device N) (calls : List Asked) → honest old.engine.nand ≡ true → IsWell flash old → HaveOutcomes calls
+    → AskedEach flash recorded honest calm programs failed erases old calls new
     → (each : DoesEach flash recorded old calls new) × DoesAll flash recorded old calls new (log_asked flash recorded old calls new each)
 
 -- ALL IS BROUGHT FORWARD, where the die has room for version 2: once `migrate_one` has answered `false`, no newest page is of version 1 after any
 -- calls among which a flush was done
-abbrev pub AskedForwardLaw : {N : Type 0} → (N → Flash) → (N → Option Recording) → (honest calm : N → Bool) → (failed erases : N → ℕ) → Type 0
-AskedForwardLaw {N} flash recorded honest calm failed erases = (old new : Device N) (calls : List Asked) → honest old.engine.nand ≡ true
+abbrev pub AskedForwardLaw : {N : Type 0} → (N → Flash) → (N → Option Recording) → (honest calm : N → Bool) → (programs failed erases : N → ℕ) → Type 0
+AskedForwardLaw {N} flash recorded honest calm programs failed erases = (old new : Device N) (calls : List Asked) → honest old.engine.nand ≡ true
     → IsWell flash old → 40 ≤ old.engine.geometry.spare_bytes → HaveOutcomes calls
-    → AskedEach flash recorded honest calm failed erases old (Migrated (Ok false) ∷ calls) new → HaveFlushed calls → HasNoneOld (image_in flash new.engine)
+    → AskedEach flash recorded honest calm programs failed erases old (Migrated (Ok false) ∷ calls) new → HaveFlushed calls → HasNoneOld (image_in flash new.engine)

@@ -6,3 +6,4 @@ pub mod Run
 pub mod Told
 pub mod Turns
 pub mod Asked
+pub mod Events

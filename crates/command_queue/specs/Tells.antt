@@ -20,11 +20,13 @@ use Rattle.ftl_device.specs.declared.fault.DeviceFault.{DeviceFault}
 use Rattle.ftl_device.specs.declared.fault.DeviceFault.TheVariants.{OutOfMemory, BusFault}
 use Rattle.ftl_device.specs.Device.{IsDevice}
 use Rattle.ftl_device.specs.Calls.{state_in, stop_of, IsWell, HasRescued, HasWorked, HasFallen, IsQuiet}
-use Rattle.ftl_device.specs.Changes.{RefusesUpkeep, LeavesUnpinned}
+use Rattle.ftl_device.specs.Changes.{RefusesUpkeep, ProgramsSector, LeavesUnpinned}
 use Rattle.ftl_device.specs.Flush.{first_of, IsFlushedOut}
+use Rattle.ftl_device.specs.FlushSteps.{HasFlushed}
 use Rattle.ftl_device.specs.Counts.{is_bad_by, is_flush, IsShown, IsLeft}
 use Rattle.ftl_device.specs.Stopped.{SurvivesStops}
 use Rattle.ftl_device.specs.Turn.{HasTurned}
+use Rattle.ftl_device.specs.Brings.{RescuesLowest}
 use Rattle.command_queue.specs.Commands.{needs_no_memory, is_read, is_turn}
 use Rattle.command_queue.specs.Exchanges.{Exchange, reply_in, Stops}
 use Rattle.command_queue.specs.Rescues.{Rescues, LeavesTwelve}
@@ -59,26 +61,37 @@ pub record Happened {N : Type 0} (flash : N → Flash) (recorded : N → Option 
 
 -- WHAT THE CONTRACT OF A TURN SAYS (`Device::turn`). It is refused by a device that is read-only or has no sequence. One that is done has made room,
 -- and then rescued a page from a bad block, or gone on with a collection, or found nothing to do. Where the die is honest, it has
--- programmed or erased where a bad block held a newest page, and left fewer of them unless a block failed; where none did, it has erased,
+-- programmed or erased where a bad block held a newest page, and left fewer of them unless a block failed: it has rescued the one of lowest row, once
+-- there was room; where none did, it has erased,
 -- or left less of the collection, or changed nothing; and one that has neither programmed nor erased leaves twelve free blocks, where three more
 -- are good than the geometry asks for.
-pub record TakesTurn {N : Type 0} (flash : N → Flash) (honest : N → Bool) (erases : N → ℕ) (old : Device N) (result : Result (Unit {0}) DeviceFault) (new : Device N) : Type 0 where
+pub record TakesTurn {N : Type 0} (flash : N → Flash) (recorded : N → Option Recording) (honest : N → Bool) (erases : N → ℕ) (old : Device N) (result : Result (Unit {0}) DeviceFault) (new : Device N) : Type 0 where
   pub refuses : RefusesUpkeep old result new
   pub turned : OnOk result (HasTurned (ram old.engine) (ram new.engine))
   pub rests : HasNoneAiling (ram old.engine).blocks → old.engine.pinned ≡ None → 12 ≤ free_count (ram old.engine).blocks → OnOk result (new.engine ≡ old.engine)
   pub quiet : honest old.engine.nand ≡ true → IsWell flash old → OnOk result (IsQuiet erases old.engine new.engine)
   pub falls : honest old.engine.nand ≡ true → IsWell flash old → HasNoneAiling (ram old.engine).blocks → OnOk result (HasFallen flash erases old.engine new.engine)
   pub rescued : honest old.engine.nand ≡ true → IsWell flash old → OnOk result (HasRescued (ram old.engine) (ram new.engine))
+  pub lowest : honest old.engine.nand ≡ true → IsWell flash old → OnOk result (RescuesLowest flash recorded old.engine new.engine)
   pub worked : honest old.engine.nand ≡ true → IsWell flash old → HasAiling (ram old.engine).blocks
       → OnOk result (HasWorked (ram old.engine) (ram new.engine) (erases old.engine.nand) (erases new.engine.nand))
 
 -- and where the command is one
-abbrev pub TakesIfTurn : {N : Type 0} → (N → Flash) → (N → Bool) → (N → ℕ) → step.Command → Device N → Result (Unit {0}) DeviceFault → Device N → Type 0
-TakesIfTurn flash honest erases (step.Read sector) old result new = Unit {0}
-TakesIfTurn flash honest erases (step.Write sector body) old result new = Unit {0}
-TakesIfTurn flash honest erases (step.Trim sector) old result new = Unit {0}
-TakesIfTurn flash honest erases step.Flush old result new = Unit {0}
-TakesIfTurn flash honest erases step.Turn old result new = TakesTurn flash honest erases old result new
+abbrev pub TakesIfTurn : {N : Type 0} → (N → Flash) → (N → Option Recording) → (N → Bool) → (N → ℕ) → step.Command → Device N → Result (Unit {0}) DeviceFault → Device N → Type 0
+TakesIfTurn flash recorded honest erases (step.Read sector) old result new = Unit {0}
+TakesIfTurn flash recorded honest erases (step.Write sector body) old result new = Unit {0}
+TakesIfTurn flash recorded honest erases (step.Trim sector) old result new = Unit {0}
+TakesIfTurn flash recorded honest erases step.Flush old result new = Unit {0}
+TakesIfTurn flash recorded honest erases step.Turn old result new = TakesTurn flash recorded honest erases old result new
+
+-- WHAT A WRITE, A TRIM AND A FLUSH PROGRAM THAT ARE DONE (`Device::write`, `trim`, `flush`): room was made, and a page of the command's kind is the sector's
+-- newest; or each translation page that lacked a row was written back, room was made, and the table pages were written
+abbrev pub Programs : {N : Type 0} → (N → Flash) → (N → Option Recording) → (N → Bool) → step.Command → Device N → Result (Unit {0}) DeviceFault → Device N → Type 0
+Programs flash recorded honest (step.Read sector) old result new = Unit {0}
+Programs flash recorded honest (step.Write sector body) old result new = ProgramsSector flash honest sector (step.Write sector body) old result new
+Programs flash recorded honest (step.Trim sector) old result new = ProgramsSector flash honest sector (step.Trim sector) old result new
+Programs flash recorded honest step.Flush old result new = OnOk result (HasFlushed flash recorded honest old.engine new.engine)
+Programs flash recorded honest step.Turn old result new = Unit {0}
 
 -- ONE CALL, as a run needs it: what holds whatever the die does, and then what is true of an honest die that gave every outcome.
 pub record Tells {N : Type 0} (flash : N → Flash) (recorded : N → Option Recording) (honest : N → Bool) (failed erases : N → ℕ) (old : Device N) (x : Exchange) (new : Device N) : Type 0 where
@@ -94,7 +107,8 @@ pub record Tells {N : Type 0} (flash : N → Flash) (recorded : N → Option Rec
   pub rose : stop_of old.engine.fault ≡ None → x.result ≡ Err BusFault → HasRisen (failed old.engine.nand) (failed new.engine.nand)
   pub well : honest old.engine.nand ≡ true → IsWell flash old → x.result ≢ Err BusFault → IsWell flash new
   pub happened : honest old.engine.nand ≡ true → IsWell flash old → x.result ≢ Err BusFault → Happened flash recorded old x new
-  pub turned : TakesIfTurn flash honest erases x.command old x.result new
+  pub turned : TakesIfTurn flash recorded honest erases x.command old x.result new
+  pub programs : Programs flash recorded honest x.command old x.result new
   -- only a turn begins a collection that goes on after it, unless the call was stopped short
   pub pins : is_turn x.command ≡ false → LeavesUnpinned old x.result new
 
@@ -102,3 +116,12 @@ pub record Tells {N : Type 0} (flash : N → Flash) (recorded : N → Option Rec
 abbrev pub ToldEach : {N : Type 0} → (N → Flash) → (N → Option Recording) → (N → Bool) → (failed erases : N → ℕ) → Device N → List Exchange → Device N → Type 0
 ToldEach flash recorded honest failed erases old [] new = new ≡ old
 ToldEach {N} flash recorded honest failed erases old (x ∷ xs) new = (mid : Device N) × Tells flash recorded honest failed erases old x mid × ToldEach flash recorded honest failed erases mid xs new
+
+-- ---- laws
+
+-- WHAT IS PROGRAMMED IS TOLD, of a flush, a write and a trim that are done
+abbrev pub ToldProgramsLaw : {N : Type 0} → (N → Flash) → (N → Option Recording) → (N → Bool) → (failed erases : N → ℕ) → Type 0
+ToldProgramsLaw {N} flash recorded honest failed erases = (old new : Device N) (x : Exchange) → Tells flash recorded honest failed erases old x new → x.result ≡ Ok tt
+    → (x.command ≡ step.Flush → HasFlushed flash recorded honest old.engine new.engine)
+    × ((n : ℕ) (bytes : List ℕ) → x.command ≡ step.Write n bytes → ProgramsSector flash honest n (step.Write n bytes) old (Ok tt) new)
+    × ((n : ℕ) → x.command ≡ step.Trim n → ProgramsSector flash honest n (step.Trim n) old (Ok tt) new)

@@ -6,5 +6,5 @@ mod laws;
 mod queue;
 
 pub use command::{Call, Command};
-pub use laws::{asked_laws, turn_run_laws};
+pub use laws::{asked_laws, event_laws, fair_laws, told_laws, turn_run_laws};
 pub use queue::{migrate, run, run_accepted, tell};

@@ -11,7 +11,7 @@ ghost use Rattle.command_queue.specs.Commands.{command_of, is_turn, told, HasRoo
 ghost use Rattle.command_queue.specs.Exchanges.{exchanges_of, AreKnown};
 ghost use Rattle.command_queue.specs.Commands.{KeepsBytes, HaveKept};
 ghost use Rattle.command_queue.specs.Exchanges.{Stops, StaysStopped};
-ghost use Rattle.command_queue.specs.Tells.{Happened, Tells, TakesIfTurn};
+ghost use Rattle.command_queue.specs.Tells.{Happened, Tells, TakesIfTurn, Programs};
 ghost use Rattle.command_queue.specs.Asked.{MigratesOne};
 ghost use Rattle.command_queue.specs.Told.{WasTold, ToldFrom, Until, RunsFrom};
 
@@ -24,7 +24,8 @@ use std::alloc::Global;
 /// Tells the device one command: a read that is done gives its bytes, and no other command changes
 /// them. It does what `read`, `write`, `trim`, `flush` and `turn` do, and says of each what a list
 /// of commands needs. A read programs and erases nothing. Of a turn it says all that `turn` says: what is
-/// rescued from bad blocks, how far a collection goes, and when it rests.
+/// rescued from bad blocks, how far a collection goes, and when it rests; and of a write, a trim and a
+/// flush all that they say of what they program.
 ///
 /// # Errors
 ///
@@ -53,7 +54,8 @@ pub fn tell<N: Nand>(
         IsWell N.flash device.new }
     ensures happened { N.honest device.old.engine.nand ≡ true → IsWell N.flash device.old → result ≢ Err DeviceFault.BusFault →
         Happened N.flash N.recorded device.old (record { command = command_of command.entry; result = result; bytes = bytes.new }) device.new }
-    ensures turned { TakesIfTurn N.flash N.honest N.erases (command_of command.entry) device.old result device.new }
+    ensures turned { TakesIfTurn N.flash N.recorded N.honest N.erases (command_of command.entry) device.old result device.new }
+    ensures programs { Programs N.flash N.recorded N.honest (command_of command.entry) device.old result device.new }
     ensures pins { is_turn (command_of command.entry) ≡ false → LeavesUnpinned device.old result device.new }
 {
     match command {
@@ -73,7 +75,7 @@ pub fn tell<N: Nand>(
 /// Those of `Device::migrate_one`. (This project.)
 pub fn migrate<N: Nand>(device: &mut Device<N>) -> Result<bool, DeviceFault>
     requires device { IsDevice N.flash device.old }
-    ensures migrates { MigratesOne N.flash N.recorded N.honest N.calm N.failed device.old result device.new }
+    ensures migrates { MigratesOne N.flash N.recorded N.honest N.calm N.programs N.erases N.failed device.old result device.new }
 {
     device.migrate_one()
 }

@@ -1,5 +1,6 @@
 // A bus that notes the cycles of a die in memory, and the cycles that operations have.
 ghost use Rattle.std.specs.Prelude.{◌≡◌};
+ghost use Rattle.nand_die.specs.Laws.{TellsLaw};
 
 use nand_die::Die;
 use onfi_cycles::{Bus, BusFault};
@@ -47,6 +48,8 @@ impl Bus for Recorder {
 
     ghost failed = { λ bus. bus.die.failures };
 
+    ghost recorded = { λ bus. bus.die.recorded };
+
     fn command(&mut self, code: u8) -> Result<(), BusFault> {
         self.note(Cycle::Command(code));
         self.die.command(code)
@@ -75,6 +78,11 @@ impl Bus for Recorder {
         self.die.failures()
     }
 }
+
+/// A law: what it tells of programs and erases is what its die tells. Of a bus of which no promise is made that claims nothing.
+pub fn recorder_laws()
+    ensures tells { TellsLaw (λ bus. bus.die) ⟦<Recorder as Bus>⟧.recorded ⟦<Die as Bus>⟧.recorded }
+{}
 
 /// Programs, page reads and erases, of rows below 256. A program and an erase end with their status byte.
 pub enum Operation {

@@ -1,9 +1,15 @@
-//! Laws on dies and on the buses round them: what a bus that breaks down answers, and which pages a stop may leave. They stand in no crate that
-//! others rest on, so that a new one has nothing proved again.
+//! Laws on dies and on the buses round them: what a bus that breaks down answers, whose record each of them tells, and which pages a stop may leave.
+//! They stand in no crate that others rest on, so that a new one has nothing proved again.
 #![tactic(auto)]
 
+ghost use Rattle.nand_die.specs.DieValue.{DieValue};
+ghost use Rattle.nand_die.specs.Laws.{TellsLaw};
 ghost use Rattle.die_laws.specs.Buses.{BlownLaw};
 ghost use Rattle.die_laws.specs.Stops.{UnsoundStopLaw};
+
+use nand_die::{CycleFuse, Die, Garble};
+use onfi_cycles::{Bus, Driver};
+use page_layout::source::PageSource;
 
 /// A fuse that is blown answers the device's fault whatever it is asked, and the die behind it hears nothing of it. (This project.)
 pub fn bus_laws()
@@ -13,4 +19,14 @@ pub fn bus_laws()
 /// A stop that may be set leaves no sound page that was torn. (This project.)
 pub fn stop_laws()
     ensures unsound { UnsoundStopLaw }
+{}
+
+/// What a driver tells of its programs and erases is what its bus tells. The same of a fuse and of a garble; and what a die in memory tells is the
+/// record that it keeps. So over such a die a driver tells that record. (This project.)
+pub fn record_laws<B: Bus>()
+    ensures driver { TellsLaw (λ d. d.bus) ⟦<Driver<B> as PageSource>⟧.recorded B.recorded }
+    ensures fuse { TellsLaw (λ f. f.bus) ⟦<CycleFuse<B> as Bus>⟧.recorded B.recorded }
+    ensures garble { TellsLaw (λ g. g.bus) ⟦<Garble<B> as Bus>⟧.recorded B.recorded }
+    ensures die { TellsLaw (λ (d : DieValue). d) ⟦<Die as Bus>⟧.recorded (λ d. d.recorded) }
+    ensures whole { TellsLaw (λ d. d.bus) ⟦<Driver<Die> as PageSource>⟧.recorded (λ d. d.recorded) }
 {}

@@ -27,7 +27,7 @@ use Rattle.ftl_device.specs.declared.fault.DeviceFault.TheVariants.{OutOfRange, 
 use Rattle.ftl_device.specs.Begin.{is_scarce}
 use Rattle.ftl_device.specs.Counts.{is_flush}
 use Rattle.ftl_device.specs.Device.{IsDevice}
-use Rattle.ftl_device.specs.Calls.{Knows, IsWell, state_in, reply_of, stop_of, Says, CallTells, CallRefused, HoldsSector, standing_after, answer_of, MayChange, MayNot, IsBeyond, IsShortOf, IsMostRecent, HasCost, order_after}
+use Rattle.ftl_device.specs.Calls.{Knows, IsWell, state_in, reply_of, stop_of, Says, CallTells, CallRefused, HoldsSector, standing_after, answer_of, MayChange, MayNot, IsBeyond, IsShortOf, IsMostRecent, HasCost, HasPageOf, IsLastOf, order_after}
 use Rattle.ftl_device.specs.Shortage.{HasFunds, CallShort}
 use Rattle.ftl_device.specs.Stopped.{changes_sector}
 use Rattle.ftl_device.specs.Changes.{Ends, PinsNone, MayPin, Readies, HasLookedUp, Stays, Refuses, RefusesSector, ProgramsSector, Logs, Means, Changes}
@@ -157,8 +157,14 @@ module _ {N : Type 0} (flash : N → Flash) (recorded : N → Option Recording) 
   abbrev Holds : Engine N → Result (Unit {0}) CallFault → Type 0
   Holds e answer = honest old.engine.nand ≡ true → Knows (ram old.engine) (image_in flash old.engine) → MatchResult answer (λ _. HoldsSector old.engine.geometry n bytes (image_in flash old.engine) (ram e) (image_in flash e)) (CallRefused old.engine.geometry (image_in flash old.engine) (ram e) (image_in flash e))
 
+  abbrev Pages : Engine N → Result (Unit {0}) CallFault → Type 0
+  Pages e answer = OnOk answer (IsLastOf old.engine.geometry command (ram e) (page_in e.page))
+
+  abbrev Newest : Engine N → Result (Unit {0}) CallFault → Type 0
+  Newest e answer = honest old.engine.nand ≡ true → Knows (ram old.engine) (image_in flash old.engine) → OnOk answer (HasPageOf old.engine.geometry command (ram e) (image_in flash e))
+
   module _ (answer : Result (Unit {0}) CallFault) (ends : Ends flash recorded honest calm failed old.engine answer new.engine) (readies : Readies flash honest n 2 old.engine answer new.engine) (cost : OnOk answer (HasCost n (ram old.engine) (ram new.engine)))
-      (checked : OnOk answer (HasLookedUp n (ram old.engine) (ram new.engine) (page_in new.engine.scratch))) (truth : Holds new.engine answer) where
+      (checked : OnOk answer (HasLookedUp n (ram old.engine) (ram new.engine) (page_in new.engine.scratch))) (page : Pages new.engine answer) (newest : Newest new.engine answer) (truth : Holds new.engine answer) where
     abbrev replied : Result (Unit {0}) DeviceFault
     replied = answer_of (ram new.engine) good_then answer
 
@@ -171,18 +177,20 @@ module _ {N : Type 0} (flash : N → Flash) (recorded : N → Option Recording) 
       cached = λ some e. readies.cached some (memory_only answer replied good_then (ram new.engine) refl e);
     }
 
-    programs_done : ProgramsSector n old replied new
+    here : IsWell flash old → Knows (ram old.engine) (image_in flash old.engine)
+    here well = knows_well flash old device well may.going
+
+    programs_done : ProgramsSector flash honest n command old replied new
     programs_done = record {
       recent = done_too (IsMostRecent n new.engine.mapping) answer good_then (ram new.engine) readies.recent;
       keys = done_too (keys_of new.engine.mapping.cached ≡ order_after old.engine.mapping n) answer good_then (ram new.engine) readies.keys;
       cost = done_too (HasCost n (ram old.engine) (ram new.engine)) answer good_then (ram new.engine) cost;
       checked = done_too (HasLookedUp n (ram old.engine) (ram new.engine) (page_in new.engine.scratch)) answer good_then (ram new.engine) checked;
+      page = done_too (IsLastOf old.engine.geometry command (ram new.engine) (page_in new.engine.page)) answer good_then (ram new.engine) page;
+      newest = λ is_honest well. done_too (HasPageOf old.engine.geometry command (ram new.engine) (image_in flash new.engine)) answer good_then (ram new.engine) (newest is_honest (here well));
       unwritten = λ e. readies.unwritten (memory_only answer replied good_then (ram new.engine) refl e);
       same_keys = λ e. readies.same_keys (memory_only answer replied good_then (ram new.engine) refl e);
     }
-
-    here : IsWell flash old → Knows (ram old.engine) (image_in flash old.engine)
-    here well = knows_well flash old device well may.going
 
     short : honest old.engine.nand ≡ true → Knows (ram old.engine) (image_in flash old.engine) → CallShort (ram old.engine) (ram new.engine) answer
     short is_honest well = call_short (HasFunds (honest old.engine.nand) (ram old.engine) (image_in flash old.engine)) answer (ram old.engine) (ram new.engine) device.engine.memory readies.costs (is_honest, well, funded_begun (ram old.engine) old.read_only device.read_only may.writable)
@@ -223,14 +231,16 @@ module _ {N : Type 0} (flash : N → Flash) (recorded : N → Option Recording) 
 
   -- the device noted nothing else
   pub changed_by : (mid : Engine N) (good : ℕ) (answer : Result (Unit {0}) CallFault) (result : Result (Unit {0}) DeviceFault) → new.engine ≡ mid → good ≡ good_then → result ≡ answer_of (ram new.engine) good answer → Ends flash recorded honest calm failed old.engine answer mid → Readies flash honest n 2 old.engine answer mid
-      → OnOk answer (HasCost n (ram old.engine) (ram mid)) → OnOk answer (HasLookedUp n (ram old.engine) (ram mid) (page_in mid.scratch)) → Holds mid answer → Changes flash recorded honest calm failed n command old result new
-  changed_by mid good answer result same many is ends readies cost checked truth =
+      → OnOk answer (HasCost n (ram old.engine) (ram mid)) → OnOk answer (HasLookedUp n (ram old.engine) (ram mid) (page_in mid.scratch)) → Pages mid answer → Newest mid answer → Holds mid answer → Changes flash recorded honest calm failed n command old result new
+  changed_by mid good answer result same many is ends readies cost checked page newest truth =
       let E : Engine N → Type 0 = λ e. Ends flash recorded honest calm failed old.engine answer e in
       let R : Engine N → Type 0 = λ e. Readies flash honest n 2 old.engine answer e in
       let C : Engine N → Type 0 = λ e. OnOk answer (HasCost n (ram old.engine) (ram e)) in
       let L : Engine N → Type 0 = λ e. OnOk answer (HasLookedUp n (ram old.engine) (ram e) (page_in e.scratch)) in
+      let P : Engine N → Type 0 = λ e. Pages e answer in
+      let Q : Engine N → Type 0 = λ e. Newest e answer in
       let T : Engine N → Type 0 = λ e. Holds e answer in
-      let done = change_done answer (subst E (sym same) ends) (subst R (sym same) readies) (subst C (sym same) cost) (subst L (sym same) checked) (subst T (sym same) truth) in
+      let done = change_done answer (subst E (sym same) ends) (subst R (sym same) readies) (subst C (sym same) cost) (subst L (sym same) checked) (subst P (sym same) page) (subst Q (sym same) newest) (subst T (sym same) truth) in
       subst (λ r. Changes flash recorded honest calm failed n command old r new) (sym (is ∙ ap (λ k. answer_of (ram new.engine) k answer) many)) done
 
 -- ---- it was refused at once
@@ -328,6 +338,8 @@ module _ {N : Type 0} (flash : N → Flash) (recorded : N → Option Recording) 
       keys = tt;
       cost = tt;
       checked = tt;
+      page = tt;
+      newest = λ is_honest well. tt;
       unwritten = λ e. absurd (never_memory (ram old.engine) old.read_only n fault not e);
       same_keys = λ e. absurd (never_memory (ram old.engine) old.read_only n fault not e);
     };

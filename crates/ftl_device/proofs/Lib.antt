@@ -19,6 +19,7 @@ pub mod ShownLemmas
 pub mod FlushLemmas
 pub mod FlushLoops
 pub mod FlushCalls
+pub mod FlushStepLemmas
 pub mod ShortageLemmas
 pub mod RoomLemmas
 pub mod PrepareLemmas
@@ -31,3 +32,4 @@ pub mod RenewedLemmas
 pub mod UpkeepLemmas
 pub mod CursorLemmas
 pub mod StoppedLemmas
+pub mod BringLemmas

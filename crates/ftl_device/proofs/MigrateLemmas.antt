@@ -11,6 +11,8 @@ use Rattle.page_layout.specs.Version.{is_old, HasOldAt}
 use Rattle.page_layout.proofs.VersionLemmas.{old_at, old_from, fewer_old}
 use Rattle.collection.specs.State.{Ram}
 use Rattle.collection.specs.Collect.{IsRearranged}
+use Rattle.std.specs.Option.{ForSome}
+use Rattle.collection.specs.Results.{IsSame}
 use Rattle.collection.specs.Renew.{HasNoneDue, HasDue, IsRenewedAt}
 use Rattle.page_layout.specs.Flash.{Flash}
 use Rattle.page_layout.specs.Recording.{Recording}
@@ -35,11 +37,25 @@ use Rattle.ftl_device.proofs.StoppedLemmas.{KeepsOn, stops_on}
 use Rattle.ftl_device.specs.Migrate.{Renews, Migrates}
 use Rattle.ftl_device.proofs.RenewedLemmas.{key_within}
 
-pub renews_by : (a b c : Ram) (x y z : Image) (row : ℕ) → b.geometry ≡ a.geometry → IsRearranged a x b y → IsRenewedAt row b y c z → Renews row a.geometry x z
-renews_by a b c x y z row same room one = record {
-  adds = λ two key q at. room.versions two key q (one.same.leaves.versions (ap version_for same ∙ two) key q at);
-  none = λ two. one.none (ap version_for same ∙ two);
+-- whatever was answered
+pub renewed_same : (row : ℕ) (a b : Ram) (x y : Image) (found : Bool) → IsRenewedAt row a x b y found → IsSame a x b y
+renewed_same row a b x y true k = k.same
+renewed_same row a b x y false k = k.1
+
+renewed_none : (row : ℕ) (a b : Ram) (x y : Image) (found : Bool) → version_for a.geometry ≡ 2 → IsRenewedAt row a x b y found → HasNoneDue row y
+renewed_none row a b x y true two k = k.none two
+renewed_none row a b x y false two k = subst (HasNoneDue row) (sym k.2) k.0
+
+pub renews_by : (a b c : Ram) (x y z : Image) (row : ℕ) (found : Bool) → b.geometry ≡ a.geometry → IsRearranged a x b y → IsRenewedAt row b y c z found → Renews row a.geometry x z
+renews_by a b c x y z row found same room one = record {
+  adds = λ two key q at. room.versions two key q ((renewed_same row b c y z found one).leaves.versions (ap version_for same ∙ two) key q at);
+  none = λ two. renewed_none row b c y z found (ap version_for same ∙ two) one;
 }
+
+-- what is so of the row that was found
+pub ok_some : (P : ℕ → Type 0) (result : Result (Unit {0}) CallFault) (row : ℕ) → OnOk result (P row) → OnOk result (ForSome (Some row) P)
+ok_some P (Ok done) row h = λ found is. (let same : row ≡ found = cc in subst P same h)
+ok_some P (Err fault) row h = tt
 
 -- ---- none is left, or fewer
 

@@ -1,13 +1,15 @@
 -- What the calls of a device promise.
-use Rattle.std.specs.Prelude.{◌≡◌, ◌⊎◌, ℕ, ◌+◌, ◌-◌, ◌<◌, ◌≤◌, ◌^◌, Bool, true, false, List, [], slice_get, slice_set, Option, Some, None, IsSome}
+use Rattle.std.specs.Prelude.{◌≡◌, ◌⊎◌, ℕ, ◌+◌, ◌-◌, ◌<◌, ◌≤◌, ◌^◌, Bool, true, false, List, [], get_or, slice_get, slice_set, Option, Some, None, IsSome}
 use Rattle.std.specs.Prelude.{Result, Ok, Err}
 use Rattle.std.specs.Map.{keys_of}
 use Rattle.page_layout.specs.declared.geometry.Geometry.{Geometry}
 use Rattle.page_layout.specs.declared.record.Key.TheVariants.{Sector}
-use Rattle.page_layout.specs.Page.{Image}
+use Rattle.page_layout.specs.declared.record.Kind.{Kind}
+use Rattle.page_layout.specs.declared.record.Kind.TheVariants as kinds
+use Rattle.page_layout.specs.Page.{Page, Image, body_at}
 use Rattle.page_layout.specs.Counter.{HasRisen}
 use Rattle.page_layout.specs.Geometry.{need}
-use Rattle.page_layout.specs.Array.{array_of}
+use Rattle.page_layout.specs.Array.{array_of, marks, zeros}
 use Rattle.page_layout.specs.Version.{AddsNoOld}
 use Rattle.page_layout.specs.Flash.{Flash}
 use Rattle.bad_blocks.specs.Table.{good_count, is_good_at}
@@ -17,7 +19,7 @@ use Rattle.mapping_cache.specs.Mapping.{MappingState, CanLoad, slot_of, loaded}
 use Rattle.image_check.specs.Stale.{is_stale}
 use Rattle.image_check.specs.Mountable.{IsMountable}
 use Rattle.promises.specs.Step as step
-use Rattle.promises.specs.Step.{State, Reply}
+use Rattle.promises.specs.Step.{State, Reply, Command, Read, Write, Trim, Flush, Turn}
 use Rattle.collection.specs.declared.fault.WriteFault.{WriteFault}
 use Rattle.collection.specs.declared.fault.WriteFault.TheVariants as engine_fault
 use Rattle.collection.specs.declared.engine.Engine as engines
@@ -26,6 +28,7 @@ use Rattle.collection.specs.Safe.{IsRam, ram, image_in}
 use Rattle.collection.specs.Left.{IsCalm, PinHasPassed, PinIsFew, left}
 use Rattle.collection.specs.Room.{Collects}
 use Rattle.collection.specs.Pages.{newest_row}
+use Rattle.collection.specs.Results.{last_record, IsLastPage}
 use Rattle.collection.specs.Truth.{IsTrue}
 use Rattle.collection.specs.Cost.{HasPut}
 use Rattle.collection.specs.Collect.{GoesOn, KeepsKeys, HasRoom, IsAiling, HasAiling}
@@ -236,6 +239,29 @@ pub record HoldsSector (g : Geometry) (n : ℕ) (bytes : List ℕ) (before : Ima
   pub array : array_of g after ≡ slice_set (array_of g before) n bytes
   pub versions : AddsNoOld g before after
 
+-- THE NEWEST PAGE OF THE SECTOR is the last one that was programmed, of this kind and with this data area
+pub record HasPage (kind : Kind) (n : ℕ) (body : List ℕ) (r : Ram) (image : Image) : Type 0 where
+  pub row : ℕ
+  pub newest : newest_row image (Sector n) ≡ Some row
+  pub its : get_or (marks image) row None ≡ Some (last_record kind n row r)
+  pub holds : body_at image row ≡ body
+
+-- it is of kind data and has the bytes that were written, or of kind trim and has 00h bytes
+abbrev pub HasPageOf : Geometry → Command → Ram → Image → Type 0
+HasPageOf g (Read sector) r image = Unit {0}
+HasPageOf g (Write sector bytes) r image = HasPage kinds.Sector sector bytes r image
+HasPageOf g (Trim sector) r image = HasPage kinds.Trim sector (zeros g) r image
+HasPageOf g Flush r image = Unit {0}
+HasPageOf g Turn r image = Unit {0}
+
+-- the same of the page that was programmed, whatever the die made of it
+abbrev pub IsLastOf : Geometry → Command → Ram → Page → Type 0
+IsLastOf g (Read sector) r p = Unit {0}
+IsLastOf g (Write sector bytes) r p = IsLastPage kinds.Sector sector r p × (p.body ≡ bytes)
+IsLastOf g (Trim sector) r p = IsLastPage kinds.Trim sector r p × (p.body ≡ zeros g)
+IsLastOf g Flush r p = Unit {0}
+IsLastOf g Turn r p = Unit {0}
+
 -- ---- the device around it
 
 -- what is so of a device that may change a sector
@@ -326,6 +352,18 @@ abbrev pub TurnsLaw : {N : Type 0} → (flash : N → Flash) → (erases : N →
 TurnsLaw {N} flash erases = (engine_at : ℕ → engines.Engine N) (pages : ℕ) → left (ram (engine_at 0)) (image_in flash (engine_at 0)) < pages
     → ((k : ℕ) → k < pages → HasFallen flash erases (engine_at k) (engine_at (k + 1))) → (k : ℕ) × (k < pages)
     × ((engine_at (k + 1) ≡ engine_at k) ⊎ HasRisen (erases (engine_at k).nand) (erases (engine_at (k + 1)).nand))
+
+-- A PAGE IS OF ONE KIND: the newest page of a sector is not that of a write and of a trim, and holds one data area
+abbrev pub OneKindLaw : Type 0
+OneKindLaw = (kind other : Kind) (n : ℕ) (body bytes : List ℕ) (r : Ram) (image : Image) → HasPage kind n body r image → HasPage other n bytes r image → (kind ≡ other) × (body ≡ bytes)
+
+-- SO A WRITE IS NO TRIM, also of 00h bytes: no page is that of both, nor the sector's newest after both; and a write's has the bytes that were written
+abbrev pub WriteOrTrimLaw : Type 0
+WriteOrTrimLaw = (g : Geometry) (n : ℕ) (bytes other : List ℕ) (r : Ram) (image : Image) (p : Page)
+    → (HasPageOf g (Write n bytes) r image → HasPageOf g (Trim n) r image → ⊥)
+    × (HasPageOf g (Write n bytes) r image → HasPageOf g (Write n other) r image → bytes ≡ other)
+    × (IsLastOf g (Write n bytes) r p → IsLastOf g (Trim n) r p → ⊥)
+    × (IsLastOf g (Write n bytes) r p → IsLastOf g (Write n other) r p → bytes ≡ other)
 
 -- where no sector is moved, a sector that is stale in the image is cached
 abbrev pub StaleLaw : Type 0

@@ -31,7 +31,7 @@ use Rattle.ftl_device.specs.declared.fault.CallFault.{CallFault}
 use Rattle.ftl_device.specs.declared.fault.CallFault.TheVariants as call
 use Rattle.ftl_device.specs.declared.fault.DeviceFault.{DeviceFault}
 use Rattle.ftl_device.specs.declared.fault.DeviceFault.TheVariants.{OutOfRange, ReadOnly, SequenceSpent, OutOfMemory, Damaged, BusFault}
-use Rattle.ftl_device.specs.Calls.{state_in, reply_of, stop_of, IsWell, Says, Tells, CallTells, standing_after, IsMostRecent, IsReady, HasCost, order_after, Knows, KeepsArray, KeepsBad, CallRefused}
+use Rattle.ftl_device.specs.Calls.{state_in, reply_of, stop_of, IsWell, Says, Tells, CallTells, standing_after, IsMostRecent, IsReady, HasCost, HasPageOf, IsLastOf, order_after, Knows, KeepsArray, KeepsBad, CallRefused}
 use Rattle.ftl_device.specs.Counts.{is_bad_by, is_flush, IsShown, IsLeft}
 use Rattle.ftl_device.specs.Read.{IsLookedUp}
 use Rattle.ftl_device.specs.Flush.{first_of, IsFlushedOut}
@@ -143,12 +143,16 @@ pub record RefusesSector {N : Type 0} (n : ℕ) (old : Device N) (result : Resul
   pub spent : stop_of old.engine.fault ≡ None → n < old.engine.geometry.sectors → old.read_only ≡ false → old.engine.next ≡ 2 ^ 64 - 1 → (result ≡ Err SequenceSpent) × (new ≡ old)
   pub cached : IsSome (slot_of old.engine.mapping n) → result ≢ Err OutOfMemory
 
--- what a change programs, by which row, and which sectors it leaves cached
-pub record ProgramsSector {N : Type 0} (n : ℕ) (old : Device N) (result : Result (Unit {0}) DeviceFault) (new : Device N) : Type 0 where
+-- what a change programs, by which row, and which sectors it leaves cached: the page of the sector is of the command's kind, and where the die is
+-- honest it is the sector's newest
+pub record ProgramsSector {N : Type 0} (flash : N → Flash) (honest : N → Bool) (n : ℕ) (command : Command) (old : Device N) (result : Result (Unit {0}) DeviceFault)
+    (new : Device N) : Type 0 where
   pub recent : OnOk result (IsMostRecent n new.engine.mapping)
   pub keys : OnOk result (keys_of new.engine.mapping.cached ≡ order_after old.engine.mapping n)
   pub cost : OnOk result (HasCost n (ram old.engine) (ram new.engine))
   pub checked : OnOk result (HasLookedUp n (ram old.engine) (ram new.engine) (page_in new.engine.scratch))
+  pub page : OnOk result (IsLastOf old.engine.geometry command (ram new.engine) (page_in new.engine.page))
+  pub newest : honest old.engine.nand ≡ true → IsWell flash old → OnOk result (HasPageOf old.engine.geometry command (ram new.engine) (image_in flash new.engine))
   pub unwritten : result ≡ Err OutOfMemory → IsReady n (ram old.engine) (ram new.engine)
   pub same_keys : result ≡ Err OutOfMemory → keys_of new.engine.mapping.cached ≡ keys_of old.engine.mapping.cached
 
@@ -193,7 +197,7 @@ pub record Changes {N : Type 0} (flash : N → Flash) (recorded : N → Option R
   pub stays : Stays honest calm failed old new
   pub refuses : Refuses failed old result new
   pub refuses_sector : RefusesSector n old result new
-  pub programs : ProgramsSector n old result new
+  pub programs : ProgramsSector flash honest n command old result new
   pub pins : LeavesUnpinned old result new
   pub logs : honest old.engine.nand ≡ true → result ≢ Err BusFault → Logs flash recorded command old result new
   pub means : honest old.engine.nand ≡ true → IsWell flash old → result ≢ Err BusFault → Means flash command old result new

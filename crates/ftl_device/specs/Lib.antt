@@ -4,9 +4,11 @@ pub mod Calls
 pub mod Read
 pub mod Counts
 pub mod Flush
+pub mod FlushSteps
 pub mod Shortage
 pub mod Turn
 pub mod Changes
 pub mod Stopped
 pub mod Migrate
 pub mod Renewed
+pub mod Brings

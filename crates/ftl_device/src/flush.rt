@@ -11,6 +11,7 @@ ghost use Rattle.ftl_device.specs.Calls.{IsWell, Knows, KeepsArray, CallRefused}
 ghost use Rattle.ftl_device.specs.Renewed.{Finishes};
 ghost use Rattle.ftl_device.specs.Flush.{IsClean, KeepsClean, HasNewTables, SpellsAll, KeepsTables, AddsPages, FailsAmong, RunsOut, IsFlushed, WritesTables, MayFlush};
 ghost use Rattle.ftl_device.specs.Flush.{MayNotFlush};
+ghost use Rattle.ftl_device.specs.FlushSteps.{FlushesPage, FlushesPages, HasRound, WritesRounds, HasFlushed};
 ghost use Rattle.ftl_device.specs.Shortage.{HasFunds, FlushCounts, FlushShort};
 ghost use Rattle.mapping_cache.specs.Mapping.{HasLimitsOf};
 ghost use Rattle.promises.specs.Step.{Flush};
@@ -36,6 +37,7 @@ fn flush_translation<N: Nand>(engine: &mut Engine<N>, t: u32) -> Result<(), Writ
     ensures calm { engine.new.fault ≡ None → IsCalm (ram engine.new) }
     ensures clean { OnOk result (IsClean engine.old.geometry t engine.new.mapping) }
     ensures cleans { OnOk result (KeepsClean engine.old.geometry engine.old.mapping engine.new.mapping) }
+    ensures page { OnOk result (FlushesPage N.flash N.recorded N.honest t engine.old engine.new) }
     ensures count { N.honest engine.old.nand ≡ true → Knows (ram engine.old) (image_in N.flash engine.old) →
         (failures : ℕ) → IsFunded engine.old.geometry.pages failures (counts_of (ram engine.old).blocks) →
         FlushCounts failures (ram engine.old) (ram engine.new) result }
@@ -62,6 +64,7 @@ fn flush_translations<N: Nand>(engine: &mut Engine<N>) -> Result<(), WriteFault>
     ensures limits { HasLimitsOf engine.old.mapping engine.new.mapping }
     ensures calm { engine.new.fault ≡ None → IsCalm (ram engine.new) }
     ensures clean { OnOk result ((t : ℕ) → t < translation_pages engine.old.geometry → IsClean engine.old.geometry t engine.new.mapping) }
+    ensures pages { OnOk result (FlushesPages N.flash N.recorded N.honest (translation_pages engine.old.geometry) engine.old engine.new) }
     ensures count { N.honest engine.old.nand ≡ true → Knows (ram engine.old) (image_in N.flash engine.old) →
         (failures : ℕ) → IsFunded engine.old.geometry.pages failures (counts_of (ram engine.old).blocks) →
         FlushCounts failures (ram engine.old) (ram engine.new) result }
@@ -85,6 +88,7 @@ fn write_tables_once<N: Nand>(engine: &mut Engine<N>) -> Result<(), WriteFault>
     ensures beside { LeavesPin (ram engine.old) (ram engine.new) }
     ensures table { KeepsTable (ram engine.old).blocks (ram engine.new).blocks }
     ensures cost { OnOk result (AddsPages (table_pages engine.old.geometry) (ram engine.old) (ram engine.new)) }
+    ensures round { OnOk result (HasRound N.flash N.recorded N.honest engine.old engine.new) }
     ensures out { result ≡ Err WriteFault.ReadOnly → FailsAmong (table_pages engine.old.geometry) (ram engine.old) (ram engine.new) }
     ensures truth { N.honest engine.old.nand ≡ true → Knows (ram engine.old) (image_in N.flash engine.old) →
         MatchResult result
@@ -105,6 +109,7 @@ fn write_tables<N: Nand>(engine: &mut Engine<N>) -> Result<(), WriteFault>
     ensures mapping { engine.new.mapping ≡ engine.old.mapping }
     ensures beside { LeavesPin (ram engine.old) (ram engine.new) }
     ensures cost { OnOk result (WritesTables (ram engine.old) (ram engine.new)) }
+    ensures rounds { OnOk result (WritesRounds N.flash N.recorded N.honest engine.old engine.new) }
     ensures out { result ≡ Err WriteFault.ReadOnly → RunsOut (ram engine.old) (ram engine.new) }
     ensures truth { N.honest engine.old.nand ≡ true → Knows (ram engine.old) (image_in N.flash engine.old) →
         MatchResult result
@@ -130,6 +135,7 @@ pub(crate) fn flush_ready<N: Nand>(engine: &mut Engine<N>) -> Result<(), CallFau
     ensures pins { OnOk result (engine.old.pinned ≡ None → engine.new.pinned ≡ None) }
     ensures keys { keys_of engine.new.mapping.cached ≡ keys_of engine.old.mapping.cached }
     ensures clean { OnOk result ((t : ℕ) → t < translation_pages engine.old.geometry → IsClean engine.old.geometry t engine.new.mapping) }
+    ensures programs { OnOk result (HasFlushed N.flash N.recorded N.honest engine.old engine.new) }
     ensures count { HasFunds (N.honest engine.old.nand) (ram engine.old) (image_in N.flash engine.old) → FlushShort (ram engine.old) (ram engine.new) result }
     ensures truth { N.honest engine.old.nand ≡ true → Knows (ram engine.old) (image_in N.flash engine.old) →
         MatchResult result
@@ -169,8 +175,11 @@ impl<N: Nand> Device<N> {
     /// 2, all newest table pages are then of it: so where no other newest page was of version 1, as after
     /// `migrate_one` answered `false`, none is.
     ///
-    /// The table pages are written again, all of them, as long as a program fails meanwhile. The
-    /// sectors that are cached stay, and their order. Where the power goes inside it, each sector holds
+    /// The translation pages are gone through in rising order: for each that lacks a row, which is asked
+    /// first, room is made, and one page is programmed; for each other one nothing is. Room is made
+    /// once more, and the table pages are written in rising order, one page each. They are written
+    /// again, all of them, as long as a program fails meanwhile. A page whose program fails is
+    /// programmed again in another block. The sectors that are cached stay, and their order. Where the power goes inside it, each sector holds
     /// what it held.
     ///
     /// # Errors
@@ -196,6 +205,7 @@ impl<N: Nand> Device<N> {
         ensures renewed { N.honest self.old.engine.nand ≡ true → IsWell N.flash self.old →
             OnOk result (Finishes self.old.engine.geometry (image_in N.flash self.old.engine) (image_in N.flash self.new.engine)) }
         ensures keys { keys_of self.new.engine.mapping.cached ≡ keys_of self.old.engine.mapping.cached }
+        ensures programs { OnOk result (HasFlushed N.flash N.recorded N.honest self.old.engine self.new.engine) }
     {
         self.may_flush()?;
         let good = self.engine.blocks.good();

@@ -1,10 +1,12 @@
 ghost use Rattle.ftl_device.specs.Begin.{BeginLaw, FreeLaw, GoodLaw, AccountsLaw};
-ghost use Rattle.ftl_device.specs.Calls.{StaleLaw, RestartLaw, LeftBelowLaw, TurnsLaw};
+ghost use Rattle.ftl_device.specs.Calls.{OneKindLaw, WriteOrTrimLaw, StaleLaw, RestartLaw, LeftBelowLaw, TurnsLaw};
+ghost use Rattle.ftl_device.specs.FlushSteps.{CleanFlushLaw, FailedFlushLaw, LackingPageLaw};
 ghost use Rattle.ftl_device.specs.Counts.{FreeNowLaw, GoodNowLaw, BadNowLaw, ShortLaw};
 ghost use Rattle.ftl_device.specs.Shortage.{LeavesFiveLaw, TablesLeaveLaw};
 ghost use Rattle.ftl_device.specs.Renewed.{NoneOldLaw, StaysNewLaw, BroughtForwardLaw};
 ghost use Rattle.ftl_device.specs.Stopped.{QuietStopLaw, RefusedStopLaw, MountsStopLaw, AnsweredStaysLaw};
 ghost use Rattle.ftl_device.specs.Migrate.{OneFoundLaw, GoesOnLaw};
+ghost use Rattle.ftl_device.specs.Brings.{CountedLaw, LowestRowLaw};
 ghost use Rattle.ftl_device.specs.Flush.{FreshLaw, AnywhereLaw, ShownBadLaw, ShownWearLaw};
 
 use onfi_cycles::Nand;
@@ -55,6 +57,18 @@ pub fn flushed_laws()
     ensures wear { ShownWearLaw }
 {}
 
+/// What calls program: a write programs no page that a trim might have programmed, and its page has the
+/// bytes that were written; and a flush of a device that lacks no row, with nine free blocks, programs
+/// each table page once and nothing else, where no block fails, and twice where one does; and a
+/// translation page that lacks a row is programmed once. (This project.)
+pub fn program_laws<N: Nand>()
+    ensures kind { OneKindLaw }
+    ensures apart { WriteOrTrimLaw }
+    ensures clean { CleanFlushLaw N.flash N.recorded N.honest }
+    ensures again { FailedFlushLaw N.flash N.recorded N.honest }
+    ensures lacking { LackingPageLaw N.flash N.recorded N.honest }
+{}
+
 /// What a call that begins with nine free blocks leaves: five, unless three blocks fail in it; and the
 /// table pages that a flush writes five, unless two fail meanwhile, and four, unless three do. (This
 /// project.)
@@ -69,6 +83,14 @@ pub fn shortage_laws()
 pub fn migrate_laws()
     ensures one { OneFoundLaw }
     ensures goes_on { GoesOnLaw }
+{}
+
+/// How many calls of `migrate_one` answered `true`, one after another, from one device on: where nine blocks
+/// are free as each begins, the image that they leave tells it. So no two of them are one, and none is two.
+/// And a turn rescues the page of lowest row, where a bad block holds a newest page and nine are free. (This project.)
+pub fn brought_laws<N: Nand>()
+    ensures counted { CountedLaw N.flash N.recorded }
+    ensures lowest { LowestRowLaw N.flash N.recorded }
 {}
 
 /// What a stop inside a call leaves: a read, a flush and a turn change no sector, nor does a command

@@ -15,6 +15,6 @@ mod write;
 pub use device::Device;
 pub use fault::{DeviceFault, StartFault};
 pub use laws::{
-    begin_laws, count_laws, flushed_laws, migrate_laws, renewed_laws, restart_laws, shortage_laws,
-    stopped_laws, turn_laws,
+    begin_laws, brought_laws, count_laws, flushed_laws, migrate_laws, program_laws, renewed_laws,
+    restart_laws, shortage_laws, stopped_laws, turn_laws,
 };

@@ -13,6 +13,7 @@ ghost use Rattle.ftl_device.specs.Calls.{IsWell, Knows, KeepsArray, CallRefused}
 ghost use Rattle.ftl_device.specs.Changes.{Leaves, Ends, Upkeeps};
 ghost use Rattle.ftl_device.specs.Shortage.{HasFunds, CallShort};
 ghost use Rattle.ftl_device.specs.Migrate.{ended, Renews, Migrates, FindsFrom, HasMovedOn};
+ghost use Rattle.ftl_device.specs.Brings.{BringsOne, BringsPage, HasBrought};
 
 use crate::device::Device;
 use crate::fault::{CallFault, DeviceFault};
@@ -39,6 +40,9 @@ fn renew_ready<N: Nand>(engine: &mut Engine<N>, row: u32) -> Result<(), CallFaul
         (CallRefused engine.old.geometry (image_in N.flash engine.old) (ram engine.new) (image_in N.flash engine.new)) }
     ensures renews { N.honest engine.old.nand ≡ true → Knows (ram engine.old) (image_in N.flash engine.old) →
         OnOk result (Renews row engine.old.geometry (image_in N.flash engine.old) (image_in N.flash engine.new)) }
+    ensures brought { OnOk result (HasBrought (ram engine.old) (ram engine.new)) }
+    ensures brings { N.honest engine.old.nand ≡ true → Knows (ram engine.old) (image_in N.flash engine.old) →
+        OnOk result (BringsPage N.flash N.recorded row engine.old engine.new) }
 {
     make_room(engine, false)?;
     engine.renew_at(row)?;
@@ -91,6 +95,9 @@ fn migrate_ready<N: Nand>(
     ensures migrates { N.honest engine.old.nand ≡ true → Knows (ram engine.old) (image_in N.flash engine.old) →
         OnOk result (Migrates (is_some found.new) engine.old.geometry (image_in N.flash engine.old) (image_in N.flash engine.new)) }
     ensures row { OnOk result (ForSome found.new (λ row. row < row_count engine.old.geometry)) }
+    ensures brought { OnOk result (ForSome found.new (λ _. HasBrought (ram engine.old) (ram engine.new))) }
+    ensures brings { N.honest engine.old.nand ≡ true → Knows (ram engine.old) (image_in N.flash engine.old) →
+        OnOk result (ForSome found.new (λ row. BringsPage N.flash N.recorded row engine.old engine.new)) }
     ensures next { N.honest engine.old.nand ≡ true → Knows (ram engine.old) (image_in N.flash engine.old) →
         OnOk result (FindsFrom cursor (image_in N.flash engine.old) found.new) }
 {
@@ -130,6 +137,9 @@ impl<N: Nand> Device<N> {
             OnlyReads N.flash N.honest N.calm N.programs N.erases N.failed self.old.engine.nand self.new.engine.nand) }
         ensures migrates { N.honest self.old.engine.nand ≡ true → IsWell N.flash self.old → 40 ≤ self.old.engine.geometry.spare_bytes →
             IfOk result (λ found. Migrates found self.old.engine.geometry (image_in N.flash self.old.engine) (image_in N.flash self.new.engine)) }
+        ensures brought { result ≡ Ok true → HasBrought (ram self.old.engine) (ram self.new.engine) }
+        ensures brings { N.honest self.old.engine.nand ≡ true → IsWell N.flash self.old → result ≡ Ok true →
+            BringsOne N.flash N.recorded self.old self.new }
         ensures stays { result ≢ Ok true → self.new.cursor ≡ self.old.cursor }
         ensures moves_on { N.honest self.old.engine.nand ≡ true → IsWell N.flash self.old → result ≡ Ok true →
             HasMovedOn self.old.cursor (image_in N.flash self.old.engine) self.new.cursor }

@@ -17,7 +17,8 @@ ghost use Rattle.collection.specs.Looks.{FindsRow, IsReadFault};
 ghost use Rattle.collection.specs.Results.{IsSame, Refused, fault_after};
 ghost use Rattle.collection.specs.Collect.{KeepsKeys, IsRearranged, RoomRefused, RoomCounts};
 ghost use Rattle.ftl_device.specs.Calls.{Knows, IsFound, KeepsArray, HoldsSector, CallRefused, HasMadeRoom};
-ghost use Rattle.ftl_device.specs.Calls.{HasMadePlace, IsReady, HasCost};
+ghost use Rattle.ftl_device.specs.Calls.{HasMadePlace, IsReady, HasCost, HasPageOf, IsLastOf};
+ghost use Rattle.promises.specs.Step.{Write, Trim};
 ghost use Rattle.budget.specs.Spending.{IsFunded};
 ghost use Rattle.allocation.specs.State.{free_count};
 ghost use Rattle.allocation.specs.Counts.{counts_of};
@@ -182,6 +183,9 @@ pub(crate) fn write_ready<N: Nand>(
     ensures readies { Readies N.flash N.honest sector 2 engine.old result engine.new }
     ensures cost { OnOk result (HasCost sector (ram engine.old) (ram engine.new)) }
     ensures checked { OnOk result (HasLookedUp sector (ram engine.old) (ram engine.new) (page_in engine.new.scratch)) }
+    ensures page { OnOk result (IsLastOf engine.old.geometry (Write sector body.now) (ram engine.new) (page_in engine.new.page)) }
+    ensures newest { N.honest engine.old.nand ≡ true → Knows (ram engine.old) (image_in N.flash engine.old) →
+        OnOk result (HasPageOf engine.old.geometry (Write sector body.now) (ram engine.new) (image_in N.flash engine.new)) }
     ensures truth { N.honest engine.old.nand ≡ true → Knows (ram engine.old) (image_in N.flash engine.old) →
         MatchResult result
         (λ _. HoldsSector engine.old.geometry sector body.now (image_in N.flash engine.old) (ram engine.new) (image_in N.flash engine.new))
@@ -202,6 +206,9 @@ pub(crate) fn trim_ready<N: Nand>(engine: &mut Engine<N>, sector: u32) -> Result
     ensures readies { Readies N.flash N.honest sector 2 engine.old result engine.new }
     ensures cost { OnOk result (HasCost sector (ram engine.old) (ram engine.new)) }
     ensures checked { OnOk result (HasLookedUp sector (ram engine.old) (ram engine.new) (page_in engine.new.scratch)) }
+    ensures page { OnOk result (IsLastOf engine.old.geometry (Trim sector) (ram engine.new) (page_in engine.new.page)) }
+    ensures newest { N.honest engine.old.nand ≡ true → Knows (ram engine.old) (image_in N.flash engine.old) →
+        OnOk result (HasPageOf engine.old.geometry (Trim sector) (ram engine.new) (image_in N.flash engine.new)) }
     ensures truth { N.honest engine.old.nand ≡ true → Knows (ram engine.old) (image_in N.flash engine.old) →
         MatchResult result
         (λ _. HoldsSector engine.old.geometry sector (zeros engine.old.geometry) (image_in N.flash engine.old) (ram engine.new) (image_in N.flash engine.new))

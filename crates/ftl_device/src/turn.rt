@@ -9,6 +9,7 @@ ghost use Rattle.ftl_device.specs.Device.{IsDevice};
 ghost use Rattle.ftl_device.specs.Calls.{IsWell, Knows, KeepsArray, CallRefused, HasRescued};
 ghost use Rattle.ftl_device.specs.Calls.{HasWorked, HasLess, HasFallen, IsQuiet};
 ghost use Rattle.ftl_device.specs.Turn.{HasGoneOn, HasNoneToCollect, HasTurned};
+ghost use Rattle.ftl_device.specs.Brings.{RescuesLowest};
 ghost use Rattle.ftl_device.specs.Changes.{CollectsOn, Ends, Upkeeps};
 ghost use Rattle.allocation.specs.State.{free_count, live_at};
 ghost use Rattle.ftl_device.specs.Shortage.{HasFunds, CallShort};
@@ -83,6 +84,8 @@ fn turn_ready<N: Nand>(engine: &mut Engine<N>) -> Result<(), CallFault>
         (CallRefused engine.old.geometry (image_in N.flash engine.old) (ram engine.new) (image_in N.flash engine.new)) }
     ensures rescued { N.honest engine.old.nand ≡ true → Knows (ram engine.old) (image_in N.flash engine.old) →
         OnOk result (HasRescued (ram engine.old) (ram engine.new)) }
+    ensures lowest { N.honest engine.old.nand ≡ true → Knows (ram engine.old) (image_in N.flash engine.old) →
+        OnOk result (RescuesLowest N.flash N.recorded engine.old engine.new) }
     ensures worked { N.honest engine.old.nand ≡ true → Knows (ram engine.old) (image_in N.flash engine.old) → HasAiling (ram engine.old).blocks →
         OnOk result (HasWorked (ram engine.old) (ram engine.new) (N.erases engine.old.nand) (N.erases engine.new.nand)) }
 {
@@ -132,6 +135,8 @@ impl<N: Nand> Device<N> {
             OnOk result (HasFallen N.flash N.erases self.old.engine self.new.engine) }
         ensures rescued { N.honest self.old.engine.nand ≡ true → IsWell N.flash self.old →
             OnOk result (HasRescued (ram self.old.engine) (ram self.new.engine)) }
+        ensures lowest { N.honest self.old.engine.nand ≡ true → IsWell N.flash self.old →
+            OnOk result (RescuesLowest N.flash N.recorded self.old.engine self.new.engine) }
         ensures worked { N.honest self.old.engine.nand ≡ true → IsWell N.flash self.old → HasAiling (ram self.old.engine).blocks →
             OnOk result (HasWorked (ram self.old.engine) (ram self.new.engine) (N.erases self.old.engine.nand) (N.erases self.new.engine.nand)) }
     {

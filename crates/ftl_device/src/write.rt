@@ -91,7 +91,7 @@ impl<N: Nand> Device<N> {
     }
 
     /// Writes a sector: `body` is one data area. Done, the sector holds these bytes and all others
-    /// hold what they held. One page of the sector is programmed, and before it one translation page,
+    /// hold what they held. One data page of the sector is programmed, also for 00h bytes, and before it one translation page,
     /// that of the least recently used sector, just where the sector isn't cached, the cache is full
     /// and that one is dirty; a page whose program fails is programmed again in another block, and the
     /// failed block is grown bad. The sector is then the most recently used; where the cache was full

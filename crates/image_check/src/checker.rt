@@ -53,6 +53,7 @@ fn show_pages<S: PageSource>(
     ensures same_pass { OnOk result (IsSamePass pass.old pass.new) }
     ensures shows { OnOk result (S.honest source.old ≡ true → Shows (S.flash source.old).image 0 pass.old → Shows (S.flash source.old).image (row_count geometry.now) pass.new) }
     ensures same { OnOk result (S.honest source.old ≡ true → S.flash source.new ≡ S.flash source.old) }
+    ensures told { OnOk result (S.honest source.old ≡ true → S.recorded source.new ≡ S.recorded source.old) }
     ensures whole { OnOk result (S.honest source.old ≡ true → IsImage geometry.now (S.flash source.new).image) }
     ensures only_reads { OnlyReads S.flash S.honest S.calm S.programs S.erases S.failed source.old source.new }
     ensures reads { S.reads source.new ≤ S.reads source.old + row_count geometry.now }
@@ -89,6 +90,7 @@ pub fn check<'a, S: PageSource>(
     ensures whole { OnOk result (S.honest source.old ≡ true → IsImage geometry.now (S.flash source.old).image) }
     ensures err { IfErr result (λ refusal. S.honest source.old ≡ true → IsRefusal geometry.now capacity (S.flash source.old).image certificate.now refusal) }
     ensures same { result ≢ Err Refusal.Source → S.honest source.old ≡ true → S.flash source.new ≡ S.flash source.old }
+    ensures told { result ≢ Err Refusal.Source → S.honest source.old ≡ true → S.recorded source.new ≡ S.recorded source.old }
     // Whatever the source does.
     ensures asked { (result ≡ Err Refusal.GeometryDiffers) ↔ (¬ IsAsked geometry.now capacity certificate.now) }
     ensures unread { result ≡ Err Refusal.GeometryDiffers → source.new ≡ source.old }

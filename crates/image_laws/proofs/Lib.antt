@@ -7,3 +7,4 @@ mod KeptLemmas
 mod FormatLemmas
 pub mod PowerLemmas
 mod StaleLemmas
+mod VersionLemmas

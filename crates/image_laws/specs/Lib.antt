@@ -5,3 +5,4 @@ pub mod Tables
 pub mod Formats
 pub mod Kept
 pub mod Power
+pub mod Versions

@@ -11,6 +11,7 @@ ghost use Rattle.image_laws.specs.Formats.{UntouchedLaw, LostLaw, EnoughLaw, Alo
 ghost use Rattle.image_laws.specs.Kept.{OtherRowsLaw, OtherPagesLaw, LowestTableLaw};
 ghost use Rattle.image_laws.specs.Power.{FoundOneLaw, StoredLaw, SinceLaw, EitherLaw, UnwrittenLaw, AllStoredLaw, ProgramGrowsLaw, NoneLostLaw, AllLostLaw, OneMoreLostLaw};
 ghost use Rattle.image_laws.specs.Power.{StoredMountsLaw, ProgramMountsLaw, FoundMountsLaw, FoundRefusedLaw, StoredEntriesLaw, ProgramEntriesLaw, FoundStaleLaw};
+ghost use Rattle.image_laws.specs.Versions.{MovedVersionLaw, StayedVersionLaw};
 
 /// What a refusal says is one: the part of a certificate that fails first, the rows that share a sequence first, and what is wrong first
 /// with a table page. And an image that has a certificate is refused by a mount for want of memory or a failed page read alone. (This
@@ -115,4 +116,11 @@ pub fn power_laws()
     ensures stored_entries { StoredEntriesLaw }
     ensures program_entries { ProgramEntriesLaw }
     ensures stale { FoundStaleLaw }
+{}
+
+/// Where a die has room for pages of version 2 and no newest page of version 1 is added, a newest page that stands in another row than before is of
+/// version 2, and one that stays is of version 1 only where it was so before. (This project.)
+pub fn version_laws()
+    ensures moved { MovedVersionLaw }
+    ensures stayed { StayedVersionLaw }
 {}

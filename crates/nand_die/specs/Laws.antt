@@ -1,6 +1,6 @@
 -- What a die in memory does, said of its value before and after.
 use Rattle.std.specs.Prelude.{List, [], ◌∷◌, ◌++◌, Some, Contains, ◌≡◌, ◌≢◌, ◌⊎◌, ◌↔◌, ℕ, ◌*◌, ◌<◌, true, false, if◌then◌else◌, length, slice_get, IsSome, None}
-use Rattle.std.specs.Prelude.{Result}
+use Rattle.std.specs.Prelude.{Option, Result}
 use Rattle.page_layout.specs.Block.{past_last}
 use Rattle.page_layout.specs.Page.{Page, Image}
 use Rattle.page_layout.specs.Counter.{counted}
@@ -154,3 +154,9 @@ NoneWrongLaw = (g : Geometry) (faults : List Fault) (why : DieFault) → ArePage
 
 abbrev pub OneWrongLaw : Type 0
 OneWrongLaw = (g : Geometry) (faults : List Fault) (a b : DieFault) → HasFirstWrong g faults a → HasFirstWrong g faults b → a ≡ b
+
+-- ---- records
+
+-- WHAT A BUS OR A DIE TELLS of its programs and erases is what the one behind it tells
+abbrev pub TellsLaw : {Outer Inner : Type 0} → (Outer → Inner) → (tells : Outer → Option Recording) → (behind : Inner → Option Recording) → Type 0
+TellsLaw {Outer} inner tells behind = (outer : Outer) → tells outer ≡ behind (inner outer)

@@ -81,6 +81,9 @@ impl<B: Bus> Bus for CycleFuse<B> {
 
     ghost failed = { λ f. min (B.failed f.bus + f.failures) (2 ^ 64 - 1) };
 
+    // Calls that fail never come to the bus, so its record is true of it all the same.
+    ghost recorded = { λ f. B.recorded f.bus };
+
     // Which calls fail.
     ghost called = { λ old cycle answer out new. Fused B.called old cycle answer out new };
 
@@ -184,6 +187,8 @@ impl<B: Bus> Bus for Garble<B> {
     ghost honest = { λ _. false };
 
     ghost failed = { λ g. B.failed g.bus };
+
+    ghost recorded = { λ g. B.recorded g.bus };
 
     // What comes of a piece that is put out.
     ghost called = { λ old cycle answer out new. Garbled B.called old cycle answer out new };

@@ -49,7 +49,8 @@ fn each_length_and_place(rt: HostRuntime) {
     }
 }
 
-// A reader that gives its bytes in pieces, and fails at the read after a number of them.
+// A reader that gives its bytes in pieces, and fails at the read after a number of them, and at that one alone: whoever tries it again is
+// given the rest.
 #[derive(Drop)]
 struct Pieces<'a> {
     left: &'a [u8],
@@ -61,6 +62,7 @@ struct Pieces<'a> {
 impl Read for Pieces<'_> {
     fn read(&mut self, buf: &mut [u8]) -> io::Result<usize> {
         if self.reads_left == 0 {
+            self.reads_left = MANY;
             return Err(io::Error::from(self.fault));
         }
         self.reads_left -= 1;

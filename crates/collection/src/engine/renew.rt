@@ -112,7 +112,7 @@ impl<N: Nand> Engine<N> {
         ensures truth { N.honest self.old.nand ≡ true → truth.IsTrue None (ram self.old) (image_in N.flash self.old) →
             length self.old.mapping.moved < self.old.geometry.pages →
             MatchResult result
-            (λ _. IsRenewedAt row (ram self.old) (image_in N.flash self.old) (ram self.new) (image_in N.flash self.new))
+            (IsRenewedAt row (ram self.old) (image_in N.flash self.old) (ram self.new) (image_in N.flash self.new))
             (Refused (ram self.old) (image_in N.flash self.old) (ram self.new) (image_in N.flash self.new)) }
         ensures stops { N.honest self.old.nand ≡ true → truth.IsTrue None (ram self.old) (image_in N.flash self.old) → result ≢ Err WriteFault.Bus →
             StopsSafely N.flash N.recorded self.old self.new }
@@ -183,7 +183,7 @@ impl<N: Nand> Engine<N> {
         ensures truth { N.honest self.old.nand ≡ true → self.old.fault ≡ None → truth.IsTrue None (ram self.old) (image_in N.flash self.old) →
             length self.old.mapping.moved < self.old.geometry.pages →
             MatchResult result
-            (λ _. IsRenewedAt row (ram self.old) (image_in N.flash self.old) (ram self.new) (image_in N.flash self.new))
+            (IsRenewedAt row (ram self.old) (image_in N.flash self.old) (ram self.new) (image_in N.flash self.new))
             (Refused (ram self.old) (image_in N.flash self.old) (ram self.new) (image_in N.flash self.new)) }
         ensures stops { N.honest self.old.nand ≡ true → self.old.fault ≡ None → truth.IsTrue None (ram self.old) (image_in N.flash self.old) → result ≢ Err WriteFault.Bus →
             StopsSafely N.flash N.recorded self.old self.new }

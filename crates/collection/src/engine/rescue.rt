@@ -83,7 +83,7 @@ impl<N: Nand> Engine<N> {
         ensures pin { (ram self.new).pin ≡ (ram self.old).pin }
         ensures followed { OnOk result (IsFollowed key self.old.mapping self.new.mapping) }
         ensures unmoved { OnErr result (self.new.mapping ≡ self.old.mapping) }
-        ensures cost { FollowCosts (ram self.old) (ram self.new) result }
+        ensures cost { FollowCosts key (ram self.old) (ram self.new) result }
         ensures truth { N.honest self.old.nand ≡ true → truth.IsTrue None (ram self.old) (image_in N.flash self.old) →
             MatchResult result
             (λ _. IsFollowedBy key (ram self.old) (image_in N.flash self.old) (ram self.new) (image_in N.flash self.new))

@@ -1,5 +1,6 @@
 //! A bus that writes down its cycles.
 ghost use Rattle.std.specs.Prelude.{◌≡◌};
+ghost use Rattle.nand_die.specs.Laws.{TellsLaw};
 
 use onfi_cycles::{Bus, BusFault};
 use std::alloc::Global;
@@ -102,6 +103,11 @@ impl<B: Bus> Bus for Recorder<B> {
         self.bus.failures()
     }
 }
+
+/// A law: what it tells of programs and erases is what the bus behind it tells.
+pub fn recorder_laws<B: Bus>()
+    ensures tells { TellsLaw (λ recorder. recorder.bus) ⟦<Recorder<B> as Bus>⟧.recorded B.recorded }
+{}
 
 // The cycles of all parts.
 fn all_of(rt: &impl Abort, alloc: Global, parts: &[&[Seen]]) -> Vec<Seen> {

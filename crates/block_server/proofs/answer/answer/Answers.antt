@@ -32,6 +32,7 @@ returns-clause-answers g c =
       well = its.well;
       happened = its.happened;
       turned = its.turned;
+      programs = its.programs;
       pins = its.pins;
     } in
     let status : c.status_for.result ≡ status_of (answer_to asked c.tell-done.new.bytes c.tell-done.result) = c.status_for.ensures c.args.header c.args.body.now c.tell-done.new.bytes in

@@ -34,6 +34,7 @@ loop-call-preserved g c =
       well = its.well;
       happened = its.happened;
       turned = its.turned;
+      programs = its.programs;
       pins = its.pins;
     } in
     record {

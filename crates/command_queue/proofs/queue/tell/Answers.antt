@@ -47,8 +47,26 @@ returns-in-Turn-clause-turned g c =
       quiet = its.quiet;
       falls = its.falls;
       rescued = its.rescued;
+      lowest = its.lowest;
       worked = its.worked;
     })
+
+-- ---- what is programmed
+
+pub returns-in-Read-clause-programs : goal.returns-in-Read-clause-programs
+returns-in-Read-clause-programs g c = rw c.in-Read.is tt
+
+pub returns-in-Write-clause-programs : goal.returns-in-Write-clause-programs
+returns-in-Write-clause-programs g c = rw c.in-Write.is c.write.ensures.changes.programs
+
+pub returns-in-Trim-clause-programs : goal.returns-in-Trim-clause-programs
+returns-in-Trim-clause-programs g c = rw c.in-Trim.is c.trim.ensures.changes.programs
+
+pub returns-in-Flush-clause-programs : goal.returns-in-Flush-clause-programs
+returns-in-Flush-clause-programs g c = rw c.in-Flush.is c.flush.ensures.programs
+
+pub returns-in-Turn-clause-programs : goal.returns-in-Turn-clause-programs
+returns-in-Turn-clause-programs g c = rw c.in-Turn.is tt
 
 -- ---- only a turn pins a block
 

@@ -4,6 +4,7 @@ use Rattle.page_layout.specs.Geometry.{table_pages}
 use Rattle.collection.specs.Safe.{ram, image_in}
 use Rattle.ftl_device.specs.Flush.{HasNewTables}
 use Rattle.ftl_device.proofs.FlushLoops.{limits_then, keeps_then, keeps_refused, clean_then, flushed_by}
+use Rattle.ftl_device.proofs.FlushStepLemmas.{cleared_by}
 use Rattle.ftl_device.proofs.RoomLemmas.{keeps_room, refused_room, room_pins}
 use Rattle.ftl_device.proofs.SpentLemmas.{flush_first, flush_room, flush_done, flush_stuck, flush_tables}
 use Rattle.ftl_device.proofs.LeaveLemmas.{leaves_then, leaves_ends, leaves_stuck, limits_same}
@@ -105,3 +106,13 @@ returns-in_err-write_tables-clause-truth g c =
 
 pub returns-clause-pins : goal.returns-clause-pins
 returns-clause-pins g c = λ none. ap (λ p. p.block) c.write_tables.ensures.beside.pin ∙ room_pins g.N.PageSource.erases c.flush_translations.new.engine c.make_room.new.engine c.in_ok-make_room.ensures.erases (c.in_ok-flush_translations.ensures.pins none)
+
+pub returns-clause-programs : goal.returns-clause-programs
+returns-clause-programs g c = record {
+  back = c.flush_translations.new.engine;
+  ready = c.make_room.new.engine;
+  pages = c.in_ok-flush_translations.ensures.pages;
+  cleared = cleared_by g.N.PageSource.flash g.N.PageSource.recorded g.N.PageSource.honest g.N.PageSource.calm g.N.PageSource.failed c.flush_translations.new.engine c.make_room.new.engine _ c.in_ok-make_room.ensures.leaves c.in_ok-make_room.ensures.made
+      (λ honest k. keeps_room (ram c.flush_translations.new.engine) (ram c.make_room.new.engine) _ _ (c.in_ok-make_room.ensures.truth honest k) (c.in_ok-make_room.ensures.pinned honest k));
+  tables = c.in_ok-write_tables.ensures.rounds;
+}

@@ -6,6 +6,7 @@ use Rattle.ftl_device.proofs.PinLemmas.{beside_back}
 use Rattle.ftl_device.proofs.RoomLemmas.{keeps_room, refused_room, room_pins, ok_any}
 use Rattle.ftl_device.proofs.FlushLoops.{keeps_cleaned, keeps_same, back_after}
 use Rattle.ftl_device.proofs.SpentLemmas.{funded_here, written_counts, unroomed_counts}
+use Rattle.ftl_device.proofs.FlushStepLemmas.{clean_by, lacks_by, page_clean, cleared_by, written_back, page_flushed}
 use Rattle.ftl_device.proofs.LeaveLemmas.{leaves_by, leaves_same, leaves_then, back_told}
 use Rattle.ftl_device.proofs.flush.flush_translation.Goals as goal
 
@@ -57,3 +58,16 @@ returns-clause-leaves g c = leaves_then g.N.PageSource.flash g.N.PageSource.reco
 
 pub returns-clause-pins : goal.returns-clause-pins
 returns-clause-pins g c = ok_any c.write_back.result (λ none. ap (λ p. p.block) c.write_back.ensures.pin ∙ room_pins g.N.PageSource.erases c.args.engine.now c.make_room.new.engine c.in_ok-make_room.ensures.erases none)
+
+pub returns-then-not-lacks-clause-page : goal.returns-then-not-lacks-clause-page
+returns-then-not-lacks-clause-page g c = page_clean g.N.PageSource.flash g.N.PageSource.recorded g.N.PageSource.honest g.N.PageSource.calm g.N.PageSource.failed c.args.t c.args.engine.now (clean_by c.args.engine.now.geometry c.args.t c.args.engine.now.mapping c.requires.safe.memory.mapping_of (c.lacks.ensures.none c.if-not-lacks.true))
+
+pub returns-clause-page : goal.returns-clause-page
+returns-clause-page g c =
+    let cleared = cleared_by g.N.PageSource.flash g.N.PageSource.recorded g.N.PageSource.honest g.N.PageSource.calm g.N.PageSource.failed c.args.engine.now c.make_room.new.engine _ c.in_ok-make_room.ensures.leaves c.in_ok-make_room.ensures.made
+    (λ honest k. keeps_room (ram c.args.engine.now) (ram c.make_room.new.engine) _ _ (c.in_ok-make_room.ensures.truth honest k) (c.in_ok-make_room.ensures.pinned honest k)) in
+    let back = written_back g.N.PageSource.flash g.N.PageSource.recorded g.N.PageSource.honest g.N.PageSource.calm g.N.PageSource.failed c.args.t c.make_room.new.engine c.write_back.new.self c.write_back.result c.make_room.ensures.leaves.safe.memory c.write_back.ensures.stands.safe.memory
+    (beside_back c.write_back.result (ram c.make_room.new.engine) (ram c.write_back.new.self) _ c.write_back.ensures.pin c.write_back.ensures.goes c.write_back.ensures.cleaned c.write_back.ensures.mapping) c.write_back.ensures.goes c.write_back.ensures.stands c.write_back.ensures.cleaned c.write_back.ensures.programmed
+    (c.write_back.ensures.cost c.in_ok-make_room.ensures.leaves.fault) (λ honest true_of. c.write_back.ensures.truth honest c.in_ok-make_room.ensures.leaves.fault true_of) in
+    page_flushed g.N.PageSource.flash g.N.PageSource.recorded g.N.PageSource.honest g.N.PageSource.calm g.N.PageSource.failed c.args.t c.args.engine.now c.make_room.new.engine c.write_back.new.self c.write_back.result
+    (lacks_by c.args.engine.now.geometry c.args.t c.args.engine.now.mapping c.requires.safe.memory.mapping_of (c.lacks.ensures.some c.if-not-lacks.false)) cleared back

@@ -1,6 +1,9 @@
-use Rattle.std.proofs.Common.{◌∙◌, Ok, Err, refl, arith}
+use Rattle.std.proofs.Common.{◌≡◌, ◌∙◌, Ok, Err, refl, subst, arith}
 use Rattle.std.proofs.lemmas.Result.{err_from_is_err_and}
+use Rattle.page_layout.specs.Geometry.{translation_pages}
 use Rattle.collection.specs.Safe.{ram}
+use Rattle.ftl_device.specs.FlushSteps.{FlushesPages}
+use Rattle.ftl_device.proofs.FlushStepLemmas.{pages_then}
 use Rattle.ftl_device.proofs.FlushLoops.{limits_then, keeps_same, keeps_then, keeps_refused, clean_more}
 use Rattle.ftl_device.proofs.SpentLemmas.{funded_here, counts_then}
 use Rattle.ftl_device.proofs.LeaveLemmas.{leaves_same, leaves_then}
@@ -14,6 +17,7 @@ translations-init g c = record {
   limits = record { geometry = refl; capacity = refl };
   calm = c.requires.calm;
   clean = λ t lt. absurd (omega arith);
+  pages = refl;
   count = λ honest w failures funded. funded_here failures (ram c.args.engine.now) funded;
   truth = λ honest w. keeps_same (ram c.args.engine.now) _ w;
 }
@@ -26,6 +30,7 @@ translations-preserved g c = record {
   limits = limits_then _ _ _ c.translations.invariant.limits c.flush_translation.ensures.limits;
   calm = c.flush_translation.ensures.calm c.in_ok-flush_translation.ensures.leaves.fault;
   clean = clean_more c.translations.t _ _ _ _ c.translations.invariant.leaves.geometry (omega arith) c.translations.invariant.clean c.in_ok-flush_translation.ensures.cleans c.in_ok-flush_translation.ensures.clean;
+  pages = pages_then g.N.PageSource.flash g.N.PageSource.recorded g.N.PageSource.honest g.N.PageSource.calm g.N.PageSource.failed c.translations.t c.args.engine.now c.translations.engine c.flush_translation.new.engine c.translations.invariant.pages c.in_ok-flush_translation.ensures.page;
   count = λ honest w failures funded.
       counts_then failures (Ok tt) (ram c.args.engine.now) (ram c.translations.engine) (ram c.flush_translation.new.engine) c.translations.invariant.leaves.geometry c.in_ok-flush_translation.ensures.leaves.tells (c.translations.invariant.count honest w failures funded)
       (c.in_ok-flush_translation.ensures.count (c.translations.invariant.leaves.honest_is ∙ honest) (c.translations.invariant.truth honest w).truth);
@@ -33,6 +38,11 @@ translations-preserved g c = record {
       let before = c.translations.invariant.truth honest w in
       keeps_then _ _ _ _ _ _ c.translations.invariant.leaves.geometry before (c.in_ok-flush_translation.ensures.truth (c.translations.invariant.leaves.honest_is ∙ honest) before.truth);
 }
+
+pub returns-clause-pages : goal.returns-clause-pages
+returns-clause-pages g c =
+    let end : c.translations.t ≡ translation_pages c.args.engine.now.geometry = omega arith in
+    subst (λ n. FlushesPages g.N.PageSource.flash g.N.PageSource.recorded g.N.PageSource.honest n c.args.engine.now c.translations.engine) end c.translations.invariant.pages
 
 pub returns-in_err-flush_translation-clause-count : goal.returns-in_err-flush_translation-clause-count
 returns-in_err-flush_translation-clause-count g c =

@@ -7,6 +7,7 @@ use Rattle.collection.specs.Left.{IsCalm}
 use Rattle.mapping_cache.specs.Mapping.{HasLimitsOf}
 use Rattle.ftl_device.specs.Calls.{Knows, KeepsArray}
 use Rattle.ftl_device.specs.Flush.{IsClean}
+use Rattle.ftl_device.specs.FlushSteps.{FlushesPages}
 use Rattle.ftl_device.specs.Shortage.{FlushFunded}
 use Rattle.ftl_device.specs.Changes.{Leaves}
 use Rattle.ftl_device.proofs.flush.flush_translations.Given as goal
@@ -19,6 +20,7 @@ invariant-translations g l = record {
   limits : HasLimitsOf l.initial.engine.mapping l.engine.mapping;
   calm : IsCalm (ram l.engine);
   clean : (t : ℕ) → t < l.t → IsClean l.initial.engine.geometry t l.engine.mapping;
+  pages : FlushesPages g.N.PageSource.flash g.N.PageSource.recorded g.N.PageSource.honest l.t l.initial.engine l.engine;
   count : g.N.PageSource.honest l.initial.engine.nand ≡ true → Knows (ram l.initial.engine) (image_in g.N.PageSource.flash l.initial.engine) → (failures : ℕ) → IsFunded l.initial.engine.geometry.pages failures (counts_of (ram l.initial.engine).blocks) → FlushFunded failures (ram l.initial.engine) (ram l.engine);
   truth : g.N.PageSource.honest l.initial.engine.nand ≡ true → Knows (ram l.initial.engine) (image_in g.N.PageSource.flash l.initial.engine) → KeepsArray l.initial.engine.geometry (image_in g.N.PageSource.flash l.initial.engine) (ram l.engine) (image_in g.N.PageSource.flash l.engine);
 }

@@ -3,6 +3,7 @@ use Rattle.std.proofs.lemmas.Result.{err_from_is_err_and}
 use Rattle.collection.specs.Safe.{ram}
 use Rattle.collection.proofs.Beside.{beside_then}
 use Rattle.ftl_device.proofs.FlushLoops.{first_fails, later_fails, first_round, next_round, last_round, spells_first, spells_next, spells_last, keeps_refused}
+use Rattle.ftl_device.proofs.FlushStepLemmas.{rounds_first, rounds_next, rounds_last}
 use Rattle.ftl_device.proofs.LeaveLemmas.{leaves_then, limits_same}
 use Rattle.ftl_device.proofs.flush.write_tables.Goals as goal
 
@@ -14,6 +15,7 @@ rounds-init g c = record {
   most = omega (arith, c.good-good.ensures);
   fewer = omega (arith, c.good-good.ensures, c.write_tables_once.ensures.table.fewer);
   cost = first_round c.good-good.result (ram c.args.engine.now) (ram c.write_tables_once.new.engine) c.requires.safe.memory c.good-good.ensures c.in_ok-write_tables_once.ensures.cost;
+  rounds = rounds_first g.N.PageSource.flash g.N.PageSource.recorded g.N.PageSource.honest g.N.PageSource.calm g.N.PageSource.failed c.good-good.result c.args.engine.now c.write_tables_once.new.engine c.good-good.ensures c.in_ok-write_tables_once.ensures.round;
   truth = λ honest w. spells_first c.good-good.result (ram c.args.engine.now) (ram c.write_tables_once.new.engine) _ _ c.good-good.ensures (c.in_ok-write_tables_once.ensures.truth honest w);
 }
 
@@ -25,10 +27,14 @@ rounds-preserved g c = record {
   most = omega (arith, c.good-good-in-rounds.ensures, c.rounds.invariant.fewer, c.rounds.invariant.most);
   fewer = omega (arith, c.good-good-in-rounds.ensures, c.write_tables_once-in-rounds.ensures.table.fewer);
   cost = next_round c.rounds.good c.good-good-in-rounds.result (ram c.args.engine.now) (ram c.rounds.engine) (ram c.write_tables_once-in-rounds.new.engine) c.rounds.invariant.leaves.geometry c.good-good-in-rounds.ensures (omega (arith, c.good.ensures, c.good-good-in-rounds.ensures, c.rounds-test.true)) c.rounds.invariant.cost c.in_ok-write_tables_once-2.ensures.cost;
+  rounds = rounds_next g.N.PageSource.flash g.N.PageSource.recorded g.N.PageSource.honest g.N.PageSource.calm g.N.PageSource.failed c.rounds.good c.good-good-in-rounds.result c.args.engine.now c.rounds.engine c.write_tables_once-in-rounds.new.engine c.good-good-in-rounds.ensures (omega (arith, c.good.ensures, c.good-good-in-rounds.ensures, c.rounds-test.true)) c.rounds.invariant.rounds c.in_ok-write_tables_once-2.ensures.round;
   truth = λ honest w.
       let before = c.rounds.invariant.truth honest w in
       spells_next c.good-good-in-rounds.result c.args.engine.now.geometry (ram c.rounds.engine) (ram c.write_tables_once-in-rounds.new.engine) _ _ _ c.rounds.invariant.leaves.geometry c.good-good-in-rounds.ensures before.keeps (c.in_ok-write_tables_once-2.ensures.truth (c.rounds.invariant.leaves.honest_is ∙ honest) before.keeps.truth);
 }
+
+pub returns-clause-rounds : goal.returns-clause-rounds
+returns-clause-rounds g c = rounds_last g.N.PageSource.flash g.N.PageSource.recorded g.N.PageSource.honest g.N.PageSource.calm g.N.PageSource.failed c.rounds.good c.args.engine.now c.rounds.engine c.rounds.invariant.rounds (omega (arith, c.good.ensures, c.rounds-test.false)) c.rounds.invariant.fewer
 
 pub returns-clause-cost : goal.returns-clause-cost
 returns-clause-cost g c = last_round c.rounds.good (ram c.args.engine.now) (ram c.rounds.engine) c.rounds.invariant.cost c.rounds.invariant.fewer

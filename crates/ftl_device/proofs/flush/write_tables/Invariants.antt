@@ -3,6 +3,7 @@ use Rattle.bad_blocks.specs.Table.{good_count}
 use Rattle.collection.specs.Safe.{ram, image_in}
 use Rattle.collection.specs.Left.{LeavesPin}
 use Rattle.ftl_device.proofs.FlushLoops.{HasRounds, SpellsWhere}
+use Rattle.ftl_device.proofs.FlushStepLemmas.{IsInRounds}
 use Rattle.ftl_device.specs.Calls.{Knows}
 use Rattle.ftl_device.specs.Changes.{Leaves}
 use Rattle.ftl_device.proofs.flush.write_tables.Given as goal
@@ -15,6 +16,7 @@ invariant-rounds g l = record {
   most : l.good ≤ good_count (ram l.fn.engine).blocks.table;
   fewer : good_count (ram l.engine).blocks.table ≤ l.good;
   cost : HasRounds l.good (ram l.fn.engine) (ram l.engine);
+  rounds : IsInRounds g.N.PageSource.flash g.N.PageSource.recorded g.N.PageSource.honest g.N.PageSource.calm g.N.PageSource.failed l.good l.fn.engine l.engine;
   truth : g.N.PageSource.honest l.fn.engine.nand ≡ true → Knows (ram l.fn.engine) (image_in g.N.PageSource.flash l.fn.engine) → SpellsWhere l.good l.fn.engine.geometry (image_in g.N.PageSource.flash l.fn.engine) (ram l.engine) (image_in g.N.PageSource.flash l.engine);
 }
 

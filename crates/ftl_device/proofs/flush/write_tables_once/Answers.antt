@@ -5,6 +5,8 @@ use Rattle.budget.specs.declared.stream.Stream.TheVariants.{Meta}
 use Rattle.collection.specs.Safe.{ram}
 use Rattle.collection.proofs.Memory.{table_then}
 use Rattle.ftl_device.specs.Flush.{AddsPages}
+use Rattle.ftl_device.specs.FlushSteps.{WritesFirst}
+use Rattle.ftl_device.proofs.FlushStepLemmas.{table_written, tables_then}
 use Rattle.collection.proofs.Beside.{beside_then}
 use Rattle.ftl_device.proofs.PinLemmas.{beside_here, beside_mapping}
 use Rattle.ftl_device.proofs.FlushLoops.{page_fails, pages_none, pages_more, tables_none, tables_more, tabled_refused}
@@ -18,6 +20,7 @@ pages-init g c = record {
   beside = beside_here (ram c.args.engine.now);
   table = record { fewer = omega arith; same = λ as_many. refl };
   cost = pages_none (ram c.args.engine.now);
+  written = refl;
   truth = λ honest w. tables_none (ram c.args.engine.now) _ w;
 }
 
@@ -30,10 +33,18 @@ pages-preserved g c = record {
   beside = beside_then _ _ _ c.pages.invariant.beside (beside_mapping (ram c.pages.engine) (ram c.write_table.new.self) c.write_table.ensures.pin c.write_table.ensures.goes c.write_table.ensures.mapping);
   table = table_then _ _ _ c.pages.invariant.table c.write_table.ensures.table;
   cost = pages_more c.pages.u (ram c.args.engine.now) _ (ram c.write_table.new.self) c.pages.invariant.leaves.geometry c.pages.invariant.cost (c.in_ok-write_table.ensures.cost c.pages.invariant.leaves.fault);
+  written = tables_then g.N.PageSource.flash g.N.PageSource.recorded g.N.PageSource.honest g.N.PageSource.calm g.N.PageSource.failed c.pages.u c.args.engine.now c.pages.engine c.write_table.new.self c.pages.invariant.written
+      (table_written g.N.PageSource.flash g.N.PageSource.recorded g.N.PageSource.honest g.N.PageSource.calm g.N.PageSource.failed c.pages.u c.pages.engine c.write_table.new.self tt c.pages.invariant.leaves.safe.memory c.write_table.ensures.stands.safe.memory (beside_mapping (ram c.pages.engine) (ram c.write_table.new.self) c.write_table.ensures.pin c.write_table.ensures.goes c.write_table.ensures.mapping)
+      c.write_table.ensures.goes c.in_ok-write_table.ensures.stands c.write_table.ensures.mapping c.in_ok-write_table.ensures.programmed (c.write_table.ensures.spelled c.pages.invariant.leaves.fault) (c.in_ok-write_table.ensures.cost c.pages.invariant.leaves.fault) (λ honest true_of. c.in_ok-write_table.ensures.truth honest c.pages.invariant.leaves.fault true_of));
   truth = λ honest w.
       let before = c.pages.invariant.truth honest w in
       tables_more c.pages.u (ram c.args.engine.now) _ (ram c.write_table.new.self) _ _ _ c.pages.invariant.leaves.geometry c.pages.invariant.leaves.safe.memory c.write_table.ensures.stands.safe.memory (beside_mapping (ram c.pages.engine) (ram c.write_table.new.self) c.write_table.ensures.pin c.write_table.ensures.goes c.write_table.ensures.mapping) c.pages.invariant.table c.write_table.ensures.table before (c.in_ok-write_table.ensures.truth (c.pages.invariant.leaves.honest_is ∙ honest) c.pages.invariant.leaves.fault before.keeps.truth.truth);
 }
+
+pub returns-clause-round : goal.returns-clause-round
+returns-clause-round g c =
+    let end : c.pages.u ≡ table_pages c.args.engine.now.geometry = omega arith in
+    record { pages = subst (λ n. WritesFirst g.N.PageSource.flash g.N.PageSource.recorded g.N.PageSource.honest n c.args.engine.now c.pages.engine) end c.pages.invariant.written }
 
 pub returns-clause-cost : goal.returns-clause-cost
 returns-clause-cost g c =

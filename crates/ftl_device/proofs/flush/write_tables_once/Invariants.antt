@@ -3,6 +3,7 @@ use Rattle.collection.specs.Safe.{ram, image_in}
 use Rattle.collection.specs.Left.{LeavesPin}
 use Rattle.collection.specs.Results.{KeepsTable}
 use Rattle.ftl_device.specs.Flush.{KeepsTables, AddsPages}
+use Rattle.ftl_device.specs.FlushSteps.{WritesFirst}
 use Rattle.ftl_device.specs.Calls.{Knows}
 use Rattle.ftl_device.specs.Changes.{Leaves}
 use Rattle.ftl_device.proofs.flush.write_tables_once.Given as goal
@@ -14,5 +15,6 @@ invariant-pages g l = record {
   beside : LeavesPin (ram l.initial.engine) (ram l.engine);
   table : KeepsTable (ram l.initial.engine).blocks (ram l.engine).blocks;
   cost : AddsPages l.u (ram l.initial.engine) (ram l.engine);
+  written : WritesFirst g.N.PageSource.flash g.N.PageSource.recorded g.N.PageSource.honest l.u l.initial.engine l.engine;
   truth : g.N.PageSource.honest l.initial.engine.nand ≡ true → Knows (ram l.initial.engine) (image_in g.N.PageSource.flash l.initial.engine) → KeepsTables l.u (ram l.initial.engine) (image_in g.N.PageSource.flash l.initial.engine) (ram l.engine) (image_in g.N.PageSource.flash l.engine);
 }

@@ -7,7 +7,9 @@ use Rattle.ftl_device.specs.Calls.{Knows}
 use Rattle.ftl_device.specs.Shortage.{HasFunds, CallShort}
 use Rattle.ftl_device.specs.Migrate.{Renews, FindsFrom}
 use Rattle.ftl_device.proofs.CursorLemmas.{due_from}
-use Rattle.ftl_device.proofs.MigrateLemmas.{over, ends_after, none_old, ok_fewer, still_ok}
+use Rattle.ftl_device.proofs.MigrateLemmas.{over, ends_after, none_old, ok_fewer, ok_some, still_ok}
+use Rattle.ftl_device.specs.Brings.{HasBrought, BringsPage}
+use Rattle.ftl_device.proofs.BringLemmas.{ok_brings}
 use Rattle.ftl_device.proofs.migrate.migrate_ready.Goals as goal
 
 pub returns-in_default-clause-count : goal.returns-in_default-clause-count
@@ -48,3 +50,21 @@ returns-clause-migrates g c = λ honest w.
     let renews = over (λ r i. Knows r i → OnOk c.renew_ready.result (Renews c.in-Some.row r.geometry i (image_in g.N.PageSource.flash c.renew_ready.new.engine))) (ram old) (ram mid) _ _ same still
     (c.renew_ready.ensures.renews (c.in_ok-next.ensures.leaves.honest_is ∙ honest)) w in
     ok_fewer c.renew_ready.result old.geometry _ _ c.in-Some.row w.truth.one (due_from c.args.cursor c.in-Some.row _ found) renews
+
+pub returns-clause-brought : goal.returns-clause-brought
+returns-clause-brought g c =
+    let old = c.args.engine.now in
+    let mid = c.next_from.new.engine in
+    let same = still_ok (ram old) (ram mid) c.next_from.ensures.still (c.in_ok-next.ensures.leaves.fault ∙ sym c.requires.going) in
+    ok_some (λ _. HasBrought (ram old) (ram c.renew_ready.new.engine)) c.renew_ready.result c.in-Some.row (subst (λ r. OnOk c.renew_ready.result (HasBrought r (ram c.renew_ready.new.engine))) same c.renew_ready.ensures.brought)
+
+pub returns-clause-brings : goal.returns-clause-brings
+returns-clause-brings g c = λ honest w.
+    let old = c.args.engine.now in
+    let mid = c.next_from.new.engine in
+    let same = still_ok (ram old) (ram mid) c.next_from.ensures.still (c.in_ok-next.ensures.leaves.fault ∙ sym c.requires.going) in
+    let flashes = c.in_ok-next.ensures.same honest in
+    let brings = over (λ r i. Knows r i → OnOk c.renew_ready.result (BringsPage g.N.PageSource.flash g.N.PageSource.recorded c.in-Some.row mid c.renew_ready.new.engine)) (ram old) (ram mid) _ _ same (ap (λ f. f.image) flashes)
+    (c.renew_ready.ensures.brings (c.in_ok-next.ensures.leaves.honest_is ∙ honest)) w in
+    ok_some (λ row. BringsPage g.N.PageSource.flash g.N.PageSource.recorded row old c.renew_ready.new.engine) c.renew_ready.result c.in-Some.row
+    (ok_brings g.N.PageSource.flash g.N.PageSource.recorded c.in-Some.row old mid c.renew_ready.new.engine c.renew_ready.result same flashes (c.in_ok-next.ensures.leaves.went honest (λ bus. (let no : ⊥ = cc in no))) brings)

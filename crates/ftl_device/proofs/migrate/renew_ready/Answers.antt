@@ -7,7 +7,8 @@ use Rattle.ftl_device.proofs.RoomLemmas.{rescue_told, keeps_room, refused_room}
 use Rattle.ftl_device.proofs.SpentLemmas.{rescue_short, rescue_stuck, unroomed_short}
 use Rattle.ftl_device.proofs.LeaveLemmas.{leaves_by, leaves_then, leaves_done, leaves_ends, leaves_stuck}
 use Rattle.ftl_device.proofs.StepLemmas.{moved_less, rescue_refused}
-use Rattle.ftl_device.proofs.MigrateLemmas.{renews_by}
+use Rattle.ftl_device.proofs.MigrateLemmas.{renews_by, renewed_same}
+use Rattle.ftl_device.proofs.BringLemmas.{brought_by, brings_by, made_room}
 use Rattle.ftl_device.proofs.migrate.renew_ready.Goals as goal
 
 pub returns-in_err-make_room-clause-truth : goal.returns-in_err-make_room-clause-truth
@@ -52,7 +53,7 @@ returns-clause-truth g c = λ honest w.
     let room = c.in_ok-make_room.ensures.truth honest w in
     let knows = c.in_ok-make_room.ensures.pinned honest w in
     let one = c.in_ok-renew_at.ensures.truth (c.make_room.ensures.leaves.honest_is ∙ honest) c.in_ok-make_room.ensures.leaves.fault room.truth (moved_less (ram c.make_room.new.engine) _ knows) in
-    engine_keeps c.args.engine.now.geometry (ram c.make_room.new.engine) (ram c.renew_at.new.self) _ _ _ c.make_room.ensures.leaves.geometry c.make_room.ensures.leaves.safe.memory c.renew_at.ensures.stands.safe.memory c.in_ok-renew_at.ensures.beside (keeps_room (ram c.args.engine.now) (ram c.make_room.new.engine) _ _ room knows) one.same
+    engine_keeps c.args.engine.now.geometry (ram c.make_room.new.engine) (ram c.renew_at.new.self) _ _ _ c.make_room.ensures.leaves.geometry c.make_room.ensures.leaves.safe.memory c.renew_at.ensures.stands.safe.memory c.in_ok-renew_at.ensures.beside (keeps_room (ram c.args.engine.now) (ram c.make_room.new.engine) _ _ room knows) (renewed_same c.args.row (ram c.make_room.new.engine) (ram c.renew_at.new.self) _ _ c.in_ok-renew_at.field-0 one)
 
 pub returns-clause-count : goal.returns-clause-count
 returns-clause-count g c = λ known five. rescue_short (ram c.args.engine.now) (ram c.make_room.new.engine) (ram c.renew_at.new.self) c.requires.safe.memory c.make_room.ensures.leaves.safe.memory c.renew_at.ensures.stands.safe.memory c.in_ok-make_room.ensures.made c.renew_at.ensures.goes (c.in_ok-make_room.ensures.count known.0 known.1 0 known.2) _ (c.in_ok-renew_at.ensures.cost c.in_ok-make_room.ensures.leaves.fault)
@@ -71,4 +72,15 @@ returns-clause-renews g c = λ honest w.
     let room = c.in_ok-make_room.ensures.truth honest w in
     let knows = c.in_ok-make_room.ensures.pinned honest w in
     let one = c.in_ok-renew_at.ensures.truth (c.make_room.ensures.leaves.honest_is ∙ honest) c.in_ok-make_room.ensures.leaves.fault room.truth (moved_less (ram c.make_room.new.engine) _ knows) in
-    renews_by (ram c.args.engine.now) (ram c.make_room.new.engine) (ram c.renew_at.new.self) _ _ _ c.args.row c.make_room.ensures.leaves.geometry room one
+    renews_by (ram c.args.engine.now) (ram c.make_room.new.engine) (ram c.renew_at.new.self) _ _ _ c.args.row c.in_ok-renew_at.field-0 c.make_room.ensures.leaves.geometry room one
+
+pub returns-clause-brought : goal.returns-clause-brought
+returns-clause-brought g c = brought_by (ram c.args.engine.now) (ram c.make_room.new.engine) (ram c.renew_at.new.self) c.in_ok-renew_at.field-0 c.in_ok-make_room.ensures.made (c.in_ok-renew_at.ensures.cost c.in_ok-make_room.ensures.leaves.fault)
+
+pub returns-clause-brings : goal.returns-clause-brings
+returns-clause-brings g c = λ honest w.
+    let room = c.in_ok-make_room.ensures.truth honest w in
+    let knows = c.in_ok-make_room.ensures.pinned honest w in
+    let one = c.in_ok-renew_at.ensures.truth (c.make_room.ensures.leaves.honest_is ∙ honest) c.in_ok-make_room.ensures.leaves.fault room.truth (moved_less (ram c.make_room.new.engine) _ knows) in
+    let made = made_room g.N.PageSource.flash g.N.PageSource.recorded c.args.engine.now c.make_room.new.engine c.in_ok-make_room.ensures.made (λ nine. (c.make_room.ensures.rests nine).1) room (c.in_ok-make_room.ensures.leaves.went honest (λ bus. (let no : ⊥ = cc in no))) in
+    brings_by g.N.PageSource.flash g.N.PageSource.recorded c.args.row c.args.engine.now c.make_room.new.engine c.renew_at.new.self c.in_ok-renew_at.field-0 made c.renew_at.ensures.goes c.renew_at.ensures.keys (c.in_ok-renew_at.ensures.cost c.in_ok-make_room.ensures.leaves.fault) one

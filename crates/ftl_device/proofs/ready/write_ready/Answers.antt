@@ -1,4 +1,4 @@
-use Rattle.std.proofs.Common.{◌∙◌, Ok, Err, ap}
+use Rattle.std.proofs.Common.{◌∙◌, Ok, Err, refl, ap}
 use Rattle.std.proofs.lemmas.Result.{err_from_is_err_and}
 use Rattle.page_layout.specs.declared.record.Kind.TheVariants.{Sector}
 use Rattle.collection.specs.Safe.{ram}
@@ -7,6 +7,7 @@ use Rattle.ftl_device.proofs.ReadyLemmas.{written_ready}
 use Rattle.ftl_device.proofs.CostLemmas.{cost_of}
 use Rattle.ftl_device.proofs.EndLemmas.{ends_page, readies_kept, readies_page, looked_up_before}
 use Rattle.ftl_device.proofs.FlushLoops.{engine_refused}
+use Rattle.ftl_device.proofs.FlushStepLemmas.{page_held}
 use Rattle.ftl_device.proofs.ready.write_ready.Goals as goal
 
 -- ---- it was not made ready
@@ -58,6 +59,14 @@ returns-clause-cost g c = cost_of c.args.sector (ram c.args.engine.now) (ram c.m
 
 pub returns-clause-checked : goal.returns-clause-checked
 returns-clause-checked g c = looked_up_before c.args.engine.now c.make_ready.new.engine c.write_sector.new.self c.args.sector c.in_ok-make_ready.ensures.cost c.in_ok-make_ready.ensures.checked c.write_sector.ensures.scratch (c.in_ok-write_sector.ensures.cost c.in_ok-make_ready.ensures.ends.fault) c.in_ok-write_sector.ensures.settled
+
+pub returns-clause-page : goal.returns-clause-page
+returns-clause-page g c = (c.in_ok-write_sector.ensures.programmed, c.write_sector.ensures.page c.in_ok-make_ready.ensures.ends.fault)
+
+pub returns-clause-newest : goal.returns-clause-newest
+returns-clause-newest g c = λ honest well.
+    let kept = c.in_ok-make_ready.ensures.truth honest well in
+    page_held Sector c.args.sector c.args.body.now (ram c.make_ready.new.engine) _ (ram c.write_sector.new.self) _ refl (c.in_ok-write_sector.ensures.truth (c.in_ok-make_ready.ensures.ends.honest_is ∙ honest) c.in_ok-make_ready.ensures.ends.fault kept.truth.truth)
 
 pub returns-clause-truth : goal.returns-clause-truth
 returns-clause-truth g c = λ honest well.

@@ -8,6 +8,7 @@ use Rattle.ftl_device.proofs.SpentLemmas.{rescue_short, rescue_stuck, unroomed_s
 use Rattle.ftl_device.proofs.LeaveLemmas.{leaves_by, leaves_then, leaves_done, leaves_ends, leaves_stuck}
 use Rattle.ftl_device.proofs.StepLemmas.{no_rescue, resting, moved_less, rescue_refused, step_short, step_short_of, quiet_then, fallen_then, none_worked, rescue_falls, collected_rescued, rescue_works}
 use Rattle.ftl_device.proofs.TurnedLemmas.{rescue_turned, collect_turned}
+use Rattle.ftl_device.proofs.BringLemmas.{made_room, lowest_by, lowest_none}
 use Rattle.ftl_device.proofs.turn.turn_ready.Goals as goal
 
 -- ---- no room was made
@@ -79,6 +80,13 @@ returns-then-needs_rescue-clause-turned g c = record {
   on = rescue_turned (ram c.make_room.new.engine) (ram c.rescue_one.new.self) _ c.if-needs_rescue.ensures.some (c.in_ok-rescue_one.ensures.cost c.in_ok-make_room.ensures.leaves.fault);
 }
 
+pub returns-then-needs_rescue-clause-lowest : goal.returns-then-needs_rescue-clause-lowest
+returns-then-needs_rescue-clause-lowest g c = λ honest w.
+    let room = c.in_ok-make_room.ensures.truth honest w in
+    let made = made_room g.N.PageSource.flash g.N.PageSource.recorded c.args.engine.now c.make_room.new.engine c.in_ok-make_room.ensures.made (λ nine. (c.make_room.ensures.rests nine).1) room (c.in_ok-make_room.ensures.leaves.went honest (λ bus. (let no : ⊥ = cc in no))) in
+    let one = c.in_ok-rescue_one.ensures.truth (c.make_room.ensures.leaves.honest_is ∙ honest) c.in_ok-make_room.ensures.leaves.fault room.truth (moved_less (ram c.make_room.new.engine) _ (c.in_ok-make_room.ensures.pinned honest w)) in
+    lowest_by g.N.PageSource.flash g.N.PageSource.recorded c.args.engine.now c.make_room.new.engine c.rescue_one.new.self c.in_ok-rescue_one.field-0 made (c.in_ok-rescue_one.ensures.cost c.in_ok-make_room.ensures.leaves.fault) one
+
 pub returns-then-needs_rescue-clause-quiet : goal.returns-then-needs_rescue-clause-quiet
 returns-then-needs_rescue-clause-quiet g c = λ honest w.
     let room = c.in_ok-make_room.ensures.truth honest w in
@@ -143,6 +151,12 @@ returns-clause-turned g c = record {
   room = c.in_ok-make_room.ensures.made;
   on = collect_turned (ram c.make_room.new.engine) (ram c.collect_on.new.engine) c.if-needs_rescue.ensures.none c.in_ok-collect_on.ensures.gone_on;
 }
+
+pub returns-clause-lowest : goal.returns-clause-lowest
+returns-clause-lowest g c = λ honest w.
+    let room = c.in_ok-make_room.ensures.truth honest w in
+    let made = made_room g.N.PageSource.flash g.N.PageSource.recorded c.args.engine.now c.make_room.new.engine c.in_ok-make_room.ensures.made (λ nine. (c.make_room.ensures.rests nine).1) room (c.in_ok-make_room.ensures.leaves.went honest (λ bus. (let no : ⊥ = cc in no))) in
+    lowest_none g.N.PageSource.flash g.N.PageSource.recorded c.args.engine.now c.make_room.new.engine c.collect_on.new.engine made c.if-needs_rescue.ensures.none
 
 pub returns-clause-quiet : goal.returns-clause-quiet
 returns-clause-quiet g c = λ honest w. quiet_then g.N.PageSource.erases c.args.engine.now c.make_room.new.engine c.collect_on.new.engine c.in_ok-make_room.ensures.erases c.in_ok-collect_on.ensures.collects.risen (c.in_ok-collect_on.ensures.quiet (c.make_room.ensures.leaves.honest_is ∙ honest) (c.in_ok-make_room.ensures.pinned honest w))

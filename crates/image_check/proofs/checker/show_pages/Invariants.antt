@@ -16,6 +16,7 @@ invariant-loop-row g l =
       body_whole : length l.body ≡ l.geometry.data_bytes;
       spare_whole : length l.spare ≡ l.geometry.spare_bytes;
       same : source.honest l.fn.source ≡ true → source.flash l.source ≡ source.flash l.fn.source;
+      told : source.honest l.fn.source ≡ true → source.recorded l.source ≡ source.recorded l.fn.source;
       whole : 0 < l.row → source.honest l.fn.source ≡ true → IsImage l.geometry (source.flash l.source).image;
       reads : source.reads l.source ≤ source.reads l.fn.source + l.row;
       seen : source.honest l.fn.source ≡ true → Shows (source.flash l.fn.source).image 0 l.fn.pass → Shows (source.flash l.fn.source).image l.row l.pass;

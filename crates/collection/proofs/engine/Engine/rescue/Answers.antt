@@ -1,5 +1,6 @@
 use Rattle.std.proofs.Common.{◌∙◌, length, refl, ap, sym, subst, arith}
 use Rattle.std.proofs.lemmas.Result.{err_from_is_err_and}
+use Rattle.std.specs.Map.{keys_of}
 use Rattle.collection.specs.Safe.{ram}
 use Rattle.page_layout.specs.Key.{key_of}
 use Rattle.page_layout.specs.Live.{IsKeyOf}
@@ -103,7 +104,7 @@ pub returns-clause-goes : goal.returns-clause-goes
 returns-clause-goes g c = goes_then (ram c.args.self.now) (ram c.copy_page.new.self) _ (goes_from (ram c.args.self.now) (ram c.first_ailing.new.self) (ram c.copy_page.new.self) c.first_ailing.ensures.looks.memory c.copy_page.ensures.goes) c.follow_moved.ensures.goes
 
 pub returns-clause-cost : goal.returns-clause-cost
-returns-clause-cost g c = rescued_cost (ram c.args.self.now) (ram c.first_ailing.new.self) (ram c.copy_page.new.self) (ram c.follow_moved.new.self) c.requires.safe.memory c.first_ailing.ensures.looks.memory c.copy_page.ensures.goes.geometry c.in_ok-copy_page.ensures.cost c.in_ok-follow_moved.ensures.cost
+returns-clause-cost g c = rescued_cost (key_of c.in-Some.found) c.key.result (ram c.args.self.now) (ram c.first_ailing.new.self) (ram c.copy_page.new.self) (ram c.follow_moved.new.self) c.requires.safe.memory c.first_ailing.ensures.looks.memory c.copy_page.ensures.goes.geometry c.in_ok-copy_page.ensures.cost c.in_ok-copy_page.ensures.settled c.key.ensures c.in_ok-follow_moved.ensures.cost c.in_ok-follow_moved.ensures.followed
 
 pub returns-clause-acts : goal.returns-clause-acts
 returns-clause-acts g c = acts_then _ _ _ _ _ (ap (λ r. r.geometry) c.first_ailing.ensures.looks.memory) (looked _ _ _ c.in_ok-ailing.ensures.looks) (acts_then _ _ _ _ _ c.copy_page.ensures.goes.geometry c.in_ok-copy_page.ensures.acts (acts_ok _ _ _ _ c.in_ok-follow_moved.ensures.acts))
@@ -118,7 +119,7 @@ returns-clause-truth g c = λ honest w room.
     let now = c.first_ailing.ensures.looks.only_reads.honest_is ∙ honest in
     let finds = c.in_ok-ailing.ensures.truth honest w in
     let m = copied_as a b _ _ c.in-Some.row c.in-Some.found _ c.in_ok-ailing.ailing c.requires.safe.memory c.first_ailing.ensures.looks.memory still w finds c.in-Some.is (λ r i. IsMovedOut c.in-Some.row r i n y) (c.in_ok-copy_page.ensures.truth now) in
-    rescued a b _ _ c.in-Some.row c.in-Some.found _ c.in_ok-ailing.ailing c.requires.safe.memory c.first_ailing.ensures.looks.memory still w finds c.in-Some.is n (ram c.follow_moved.new.self) y _ c.copy_page.ensures.acts.safe.memory c.follow_moved.ensures.acts.safe.memory (goes_from a b n c.first_ailing.ensures.looks.memory c.copy_page.ensures.goes) c.follow_moved.ensures.goes.geometry m (λ t. subst (λ k. IsFollowedBy k n y (ram c.follow_moved.new.self) (g.N.PageSource.flash c.follow_moved.new.self.nand).image) c.key.ensures (c.in_ok-follow_moved.ensures.truth (c.copy_page.ensures.acts.honest_is ∙ now) t))
+    rescued a b _ _ c.in-Some.row c.in-Some.found _ c.in_ok-ailing.ailing c.requires.safe.memory c.first_ailing.ensures.looks.memory still w finds c.in-Some.is n (ram c.follow_moved.new.self) y _ c.copy_page.ensures.acts.safe.memory c.follow_moved.ensures.acts.safe.memory (goes_from a b n c.first_ailing.ensures.looks.memory c.copy_page.ensures.goes) (c.copy_page.ensures.keys.keys ∙ ap (λ r. keys_of r.mapping.cached) c.first_ailing.ensures.looks.memory) c.follow_moved.ensures.goes.geometry m (λ t. subst (λ k. IsFollowedBy k n y (ram c.follow_moved.new.self) (g.N.PageSource.flash c.follow_moved.new.self.nand).image) c.key.ensures (c.in_ok-follow_moved.ensures.truth (c.copy_page.ensures.acts.honest_is ∙ now) t))
 
 pub returns-clause-beside : goal.returns-clause-beside
 returns-clause-beside g c = rescued_beside (key_of c.in-Some.found) c.key.result (ram c.args.self.now) (ram c.first_ailing.new.self) (ram c.copy_page.new.self) (ram c.follow_moved.new.self) c.first_ailing.ensures.looks.memory (returns-clause-goes g c) c.in_ok-copy_page.ensures.settled c.copy_page.ensures.keys (c.copy_page.ensures.pinned refl) c.key.ensures c.in_ok-follow_moved.ensures.followed c.follow_moved.ensures.keys c.follow_moved.ensures.pin

@@ -8,6 +8,7 @@ use Rattle.ftl_device.proofs.SpentLemmas.{funded_begun}
 use Rattle.ftl_device.proofs.UpkeepLemmas.{upkept_by, not_upkept, flush_pins}
 use Rattle.ftl_device.proofs.ChangeLemmas.{unpinned_some}
 use Rattle.ftl_device.proofs.RenewedLemmas.{flush_finishes}
+use Rattle.ftl_device.proofs.FlushStepLemmas.{flushed_answer}
 use Rattle.ftl_device.proofs.device.Device.flush.Goals as goal
 
 pub returns-in_err-may_flush-clause-upkeeps : goal.returns-in_err-may_flush-clause-upkeeps
@@ -34,3 +35,6 @@ returns-clause-pins g c = λ none some. flush_pins c.flush_ready-answer.result c
 
 pub returns-clause-renewed : goal.returns-clause-renewed
 returns-clause-renewed g c = flush_finishes g.N.PageSource.flash g.N.PageSource.recorded g.N.PageSource.honest g.N.PageSource.calm g.N.PageSource.failed c.args.self.now c.finish.new.self c.finish.result (returns-clause-upkeeps g c)
+
+pub returns-clause-programs : goal.returns-clause-programs
+returns-clause-programs g c = flushed_answer g.N.PageSource.flash g.N.PageSource.recorded g.N.PageSource.honest c.args.self.now.engine c.flush_ready-answer.new.engine c.finish.new.self.engine c.flush_ready-answer.result c.finish.result c.good-good.result c.finish.ensures.engine c.finish.ensures.answer c.flush_ready-answer.ensures.programs

@@ -1,4 +1,4 @@
-use Rattle.std.proofs.Common.{inr, refl, Ok, Err, ◌+◌}
+use Rattle.std.proofs.Common.{inr, refl, Ok, Err, ◌+◌, subst}
 use Rattle.std.proofs.lemmas.Result.{err_from_is_err_and}
 use Rattle.promises.specs.Step as step
 use Rattle.collection.specs.Safe.{ram, image_in}
@@ -7,6 +7,11 @@ use Rattle.ftl_device.proofs.LeaveLemmas.{leaves_same, leaves_ends}
 use Rattle.ftl_device.proofs.ShownLemmas.{left_after}
 use Rattle.ftl_device.proofs.SpentLemmas.{five_free}
 use Rattle.ftl_device.proofs.UpkeepLemmas.{upkept_by, not_upkept}
+use Rattle.std.specs.Option.{ForSome}
+use Rattle.ftl_device.specs.Migrate.{FindsFrom}
+use Rattle.ftl_device.specs.Brings.{HasBrought, BringsPage}
+use Rattle.ftl_device.proofs.CostLemmas.{done_after}
+use Rattle.ftl_device.proofs.PinLemmas.{knows_well}
 use Rattle.ftl_device.proofs.CursorLemmas.{device_at, kept_ready}
 use Rattle.ftl_device.proofs.device.Device.migrate_one.Goals as goal
 
@@ -57,3 +62,15 @@ returns-clause-upkeeps g c = upkept_by g.N.PageSource.flash g.N.PageSource.recor
     c.migrate_ready-answer.new.engine c.good-good.result c.migrate_ready-answer.result (Ok tt) c.finish.ensures.engine c.good-good.ensures c.in_ok-finish.ensures.answer
     (kept_ready g.N.PageSource.flash g.N.PageSource.recorded g.N.PageSource.honest g.N.PageSource.calm g.N.PageSource.failed c.args.self.now c.migrate_ready-answer.new.engine c.migrate_ready-answer.result c.requires.device c.in_ok-may_flush.ensures.may
     c.migrate_ready-answer.ensures.ends c.migrate_ready-answer.ensures.memory c.migrate_ready-answer.ensures.truth c.migrate_ready-answer.ensures.count)
+
+-- ---- what it brought
+
+pub returns-clause-brought : goal.returns-clause-brought
+returns-clause-brought g c = λ done. done_after (λ e. ForSome c.migrate_ready-answer.new.found (λ _. HasBrought (ram c.args.self.now.engine) (ram e))) c.migrate_ready-answer.new.engine c.finish.new.self.engine c.migrate_ready-answer.result (Ok tt) c.good-good.result c.finish.ensures.engine c.in_ok-finish.ensures.answer c.migrate_ready-answer.ensures.brought c.in-Some.row c.in-Some.is
+
+pub returns-clause-brings : goal.returns-clause-brings
+returns-clause-brings g c = λ honest w done.
+    let known = knows_well g.N.PageSource.flash c.args.self.now c.requires.device w c.in_ok-may_flush.ensures.may.going in
+    let page = done_after (λ e. ForSome c.migrate_ready-answer.new.found (λ row. BringsPage g.N.PageSource.flash g.N.PageSource.recorded row c.args.self.now.engine e)) c.migrate_ready-answer.new.engine c.finish.new.self.engine c.migrate_ready-answer.result (Ok tt) c.good-good.result c.finish.ensures.engine c.in_ok-finish.ensures.answer (c.migrate_ready-answer.ensures.brings honest known) c.in-Some.row c.in-Some.is in
+    let found = done_after (λ _. FindsFrom c.args.self.now.cursor (image_in g.N.PageSource.flash c.args.self.now.engine) c.migrate_ready-answer.new.found) c.migrate_ready-answer.new.engine c.finish.new.self.engine c.migrate_ready-answer.result (Ok tt) c.good-good.result c.finish.ensures.engine c.in_ok-finish.ensures.answer (c.migrate_ready-answer.ensures.next honest known) in
+    record { row = c.in-Some.row; found = subst (FindsFrom c.args.self.now.cursor (image_in g.N.PageSource.flash c.args.self.now.engine)) c.in-Some.is found; brings = page; cursor_is = refl }

@@ -4,6 +4,7 @@ use Rattle.promises.specs.Step as step
 use Rattle.collection.specs.Safe.{ram}
 use Rattle.ftl_device.specs.Calls.{HasRescued, HasWorked, HasFallen, IsQuiet}
 use Rattle.ftl_device.specs.Turn.{HasTurned}
+use Rattle.ftl_device.specs.Brings.{RescuesLowest}
 use Rattle.ftl_device.proofs.PinLemmas.{knows_well}
 use Rattle.ftl_device.proofs.CostLemmas.{done_after, on_any}
 use Rattle.ftl_device.proofs.ShownLemmas.{left_after}
@@ -35,6 +36,9 @@ returns-clause-turned g c = done_after (λ e. HasTurned (ram c.args.self.now.eng
 
 pub returns-clause-rescued : goal.returns-clause-rescued
 returns-clause-rescued g c = λ honest w. done_after (λ e. HasRescued (ram c.args.self.now.engine) (ram e)) c.turn_ready-answer.new.engine c.finish.new.self.engine c.turn_ready-answer.result c.finish.result c.good-good.result c.finish.ensures.engine c.finish.ensures.answer (c.turn_ready-answer.ensures.rescued honest (knows_well g.N.PageSource.flash c.args.self.now c.requires.device w c.in_ok-may_flush.ensures.may.going))
+
+pub returns-clause-lowest : goal.returns-clause-lowest
+returns-clause-lowest g c = λ honest w. done_after (λ e. RescuesLowest g.N.PageSource.flash g.N.PageSource.recorded c.args.self.now.engine e) c.turn_ready-answer.new.engine c.finish.new.self.engine c.turn_ready-answer.result c.finish.result c.good-good.result c.finish.ensures.engine c.finish.ensures.answer (c.turn_ready-answer.ensures.lowest honest (knows_well g.N.PageSource.flash c.args.self.now c.requires.device w c.in_ok-may_flush.ensures.may.going))
 
 pub returns-clause-quiet : goal.returns-clause-quiet
 returns-clause-quiet g c = λ honest w. done_after (λ e. IsQuiet g.N.PageSource.erases c.args.self.now.engine e) c.turn_ready-answer.new.engine c.finish.new.self.engine c.turn_ready-answer.result c.finish.result c.good-good.result c.finish.ensures.engine c.finish.ensures.answer (c.turn_ready-answer.ensures.quiet honest (knows_well g.N.PageSource.flash c.args.self.now c.requires.device w c.in_ok-may_flush.ensures.may.going))

@@ -1,0 +1,123 @@
+-- What the events of a run say of the calls that they are.
+use Rattle.std.proofs.Common.{◌≡◌, ◌⊎◌, ℕ, Bool, true, false, not, ◌&&◌, List, [], ◌∷◌, ◌++◌, Option, Some, None, Ok, Err, inl, inr, sym, ap, subst, ◌∙◌, refl, append-nil}
+use Rattle.std.specs.Prelude.{IsSome}
+use Rattle.page_layout.specs.declared.geometry.Geometry.{Geometry}
+use Rattle.page_layout.specs.Page.{Image}
+use Rattle.page_layout.specs.Array.{array_of}
+use Rattle.page_layout.specs.Flash.{Flash, Operation}
+use Rattle.page_layout.specs.Recording.{Recording, Records, noted}
+use Rattle.page_layout.proofs.RecordingLemmas.{records_join}
+use Rattle.page_layout.proofs.VersionLemmas.{no_more_old}
+use Rattle.promises.specs.Step as step
+use Rattle.promises.specs.Run as runs
+use Rattle.promises.specs.Run.{Event, log_of}
+use Rattle.image_check.specs.Stale.{is_stale}
+use Rattle.collection.specs.Safe.{image_in}
+use Rattle.ftl_device.specs.declared.device.Device.{Device}
+use Rattle.ftl_device.specs.declared.fault.DeviceFault.TheVariants.{ReadOnly, SequenceSpent, Damaged}
+use Rattle.ftl_device.specs.Counts.{IsLeft, IsShown}
+use Rattle.ftl_device.specs.Changes.{MayPin}
+use Rattle.ftl_device.specs.Flush.{First}
+use Rattle.ftl_device.specs.Stopped.{changes_sector, HoldsEither}
+use Rattle.command_queue.specs.Commands.{needs_no_memory}
+use Rattle.command_queue.specs.Exchanges.{Exchange}
+use Rattle.command_queue.specs.Tells.{die_in}
+use Rattle.command_queue.specs.Run.{AreFair, IsEventOf, HappensEach}
+use Rattle.command_queue.specs.Events.{LeavesEither, EachLeavesEither, EventTellsLaw, RunStopsLaw, RunRecordsLaw, StaleMemoryLaw, QuietMemoryLaw}
+use Rattle.command_queue.specs.Events.{ReadOnlyEventLaw, SpentEventLaw, LeftEventLaw, FlushEventLaw, ReadEventLaw, PinEventLaw, ImageEventLaw}
+
+-- a record that has gained nothing
+none_more : (new old : Option Recording) → new ≡ old → new ≡ noted [] old
+none_more new None same = same
+none_more new (Some r) same = same ∙ ap (λ l. Some (record { image = r.image; log = l })) (sym (append-nil r.log))
+
+module _ {N : Type 0} (flash : N → Flash) (recorded : N → Option Recording) (honest : N → Bool) (failed erases : N → ℕ) where
+  pub event_tells : EventTellsLaw flash recorded honest failed erases
+  event_tells old new event x r is some = is.told ∙ some
+
+  -- ---- a stop
+
+  either : (g : Geometry) (x : Exchange) (before after left : Image) → HoldsEither g x.command x.result before after left
+      → (array_of g left ≡ array_of g before) ⊎ (array_of g left ≡ array_of g after)
+  either g x before after left (inl same) = inl same
+  either g x before after left (inr done) = inr done.2
+
+  one_stops : (first : First) (old mid : Device N) (before : List Operation) (event : Event) (x : Exchange) → IsEventOf flash recorded honest failed erases old event x mid
+      → AreFair first (die_in flash old) before (event ∷ []) (x ∷ []) → IsSome (recorded mid.engine.nand)
+      → LeavesEither first.geometry event.piece (image_in flash old.engine) (image_in flash mid.engine)
+  one_stops first old mid before event x is fair some left may =
+      let told : IsSome event.told = subst IsSome (sym is.told) some in
+      let here = either first.geometry x (image_in flash old.engine) event.left.flash.image left (fair.0.stopped told left may).array in
+      subst (λ (d : runs.DeviceView). (array_of first.geometry left ≡ array_of first.geometry (image_in flash old.engine)) ⊎ (array_of first.geometry left ≡ array_of first.geometry d.flash.image)) is.left here
+
+  pub run_stops : RunStopsLaw flash recorded honest failed erases
+  run_stops first old new before [] [] each fair = tt
+  run_stops first old new before [] (x ∷ xs) each fair = fair
+  run_stops first old new before (event ∷ events) [] each fair = fair
+  run_stops first old new before (event ∷ events) (x ∷ xs) (mid, is, each) fair = (
+    one_stops first old mid before event x is (fair.0, tt),
+    run_stops first mid new (before ++ event.piece) events xs each (subst (λ d. AreFair first d (before ++ event.piece) events xs) is.left fair.1),
+  )
+
+  -- ---- the record
+
+  pub run_records : RunRecordsLaw flash recorded honest failed erases
+  run_records old new [] [] same = inr (none_more (recorded new.engine.nand) (recorded old.engine.nand) (ap (λ (d : Device N). recorded d.engine.nand) same))
+  run_records old new [] (x ∷ xs) never = absurd never
+  run_records old new (event ∷ events) [] never = absurd never
+  run_records old new (event ∷ events) (x ∷ xs) (mid, is, each) =
+      let here : Records (recorded old.engine.nand) event.piece (recorded mid.engine.nand) = subst (λ l. Records (recorded old.engine.nand) l (recorded mid.engine.nand)) (sym is.piece) is.happened.went.records in
+      records_join (recorded old.engine.nand) (recorded mid.engine.nand) (recorded new.engine.nand) event.piece (log_of events) here (run_records mid new events xs each)
+
+-- ---- memory
+
+no_memory_write : (pinned : Bool) (g : Geometry) (image : Image) (sector : ℕ) (body : List ℕ) → pinned ≡ false → is_stale g image sector ≡ true → needs_no_memory pinned g image (step.Write sector body) ≡ true
+no_memory_write pinned g image sector body off stale = ap (λ p. not p && is_stale g image sector) off ∙ stale
+
+no_memory_trim : (pinned : Bool) (g : Geometry) (image : Image) (sector : ℕ) → pinned ≡ false → is_stale g image sector ≡ true → needs_no_memory pinned g image (step.Trim sector) ≡ true
+no_memory_trim pinned g image sector off stale = ap (λ p. not p && is_stale g image sector) off ∙ stale
+
+no_memory_quiet : (pinned : Bool) (g : Geometry) (image : Image) (command : step.Command) → changes_sector command ≡ false → needs_no_memory pinned g image command ≡ true
+no_memory_quiet pinned g image (step.Read sector) quiet = refl
+no_memory_quiet pinned g image (step.Write sector body) quiet = absurd (cc)
+no_memory_quiet pinned g image (step.Trim sector) quiet = absurd (cc)
+no_memory_quiet pinned g image step.Flush quiet = refl
+no_memory_quiet pinned g image step.Turn quiet = refl
+
+pub stale_memory : StaleMemoryLaw
+stale_memory first old before event x sector body fair off stale (inl writes) =
+    fair.stale (ap (needs_no_memory old.pinned first.geometry old.flash.image) writes ∙ no_memory_write old.pinned first.geometry old.flash.image sector body off stale)
+stale_memory first old before event x sector body fair off stale (inr trims) =
+    fair.stale (ap (needs_no_memory old.pinned first.geometry old.flash.image) trims ∙ no_memory_trim old.pinned first.geometry old.flash.image sector off stale)
+
+pub quiet_memory : QuietMemoryLaw
+quiet_memory first old before event x fair quiet = fair.stale (no_memory_quiet old.pinned first.geometry old.flash.image x.command quiet)
+
+-- ---- what is fair
+
+pub read_only_event : ReadOnlyEventLaw
+read_only_event first old before event x good wanted failed fair is =
+    let its = fair.shown (ReadOnly good wanted failed) is in
+    (its.0.scarce, its.0.good_is, its.0.wanted_is, its.0.failed_is, its.1)
+
+pub spent_event : SpentEventLaw
+spent_event first old before event x fair = (fair.shown SequenceSpent, fair.shown Damaged)
+
+pub left_event : LeftEventLaw
+left_event first old before event x fair done on =
+    subst (IsLeft x.command first.geometry first.bad before event.piece old.ro) done (fair.left on)
+
+pub flush_event : FlushEventLaw
+flush_event first old before event x fair flushes done = (fair.flushed flushes done).fresh
+
+pub read_event : ReadEventLaw
+read_event first old before event x fair = fair.reads
+
+pub pin_event : PinEventLaw
+pin_event first old before event x fair off done on = elim (fair.pins off on) [
+  | inl turns ↦ turns
+  | inr may ↦ absurd (subst MayPin done may)
+]
+
+pub image_event : ImageEventLaw
+image_event first old before event x fair = (fair.mountable, λ two. no_more_old first.geometry old.flash.image event.left.flash.image two fair.versions)
