@@ -1,2 +1,3 @@
 mod CommandLemmas
 mod RescueLemmas
+mod MigrationLemmas

@@ -2,3 +2,5 @@ pub mod Loads
 pub mod Images
 pub mod Lines
 pub mod Rescues
+pub mod Migrations
+pub mod Records

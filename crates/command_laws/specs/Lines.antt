@@ -1,18 +1,28 @@
 -- What is told of a command.
 use Rattle.std.specs.Prelude.{◌≡◌, ◌≢◌, ℕ, false, List, [], ◌∷◌, ◌++◌, Option, Some, None, Ok}
 use Rattle.std.specs.Io.KnownBytes.{Appends}
-use Rattle.request_stream.specs.Frames.{AppendsFront}
+use Rattle.request_stream.specs.Frames.{AppendsPart}
 use Rattle.commands.specs.declared.text.CommandFault.{CommandFault}
 use Rattle.commands.specs.declared.text.ServeStop.{ServeStop}
 use Rattle.commands.specs.Files.{Stored, written, unwritten, with_store}
+use Rattle.commands.specs.Lines.{IsUnprinted}
 use Rattle.commands.specs.Text.{IsTold, told_line, status_of}
 use Rattle.commands.specs.Serve.{Ends}
 
--- THE LINE OF A FAULT was written, and the status is the fault's; or a beginning of it was, and the status is 3
+-- THE LINE OF A FAULT was written, and the status is the fault's; or a part of it was, and the status is 3
 abbrev pub ToldLaw : Type 0
 ToldLaw = (fault : CommandFault) (before after : Option (List ℕ)) (status : ℕ) → IsTold fault before after status
     → (status ≢ 3 → (status ≡ status_of fault) × Appends before after (told_line fault))
-    × (status ≢ status_of fault → AppendsFront before after (told_line fault))
+    × (status ≢ status_of fault → AppendsPart before after (told_line fault))
+
+-- A LINE THAT STANDS THERE WHOLE goes with its fault's own status
+abbrev pub WholeLineLaw : Type 0
+WholeLineLaw = (fault : CommandFault) (before : List ℕ) (after : Option (List ℕ)) (status : ℕ) → IsTold fault (Some before) after status
+    → Appends (Some before) after (told_line fault) → status ≡ status_of fault
+
+-- ON STANDARD OUTPUT too: a line that is told as unprinted does not stand there whole
+abbrev pub UnprintedLaw : Type 0
+UnprintedLaw = (line before : List ℕ) (after : Option (List ℕ)) (stop : CommandFault) → IsUnprinted line (Some before) after stop → ¬ Appends (Some before) after line
 
 -- A STORE THAT FAILED is told as not done
 abbrev pub FailedStoreLaw : Type 0

@@ -2,10 +2,13 @@
 //! stand in no crate that others rest on, so that a new one has nothing proved again.
 #![tactic(auto)]
 
+ghost use Rattle.command_laws.specs.Records.{SteadyTellsLaw};
 ghost use Rattle.command_laws.specs.Rescues.{NoGainLaw, NoneAilsLaw};
 ghost use Rattle.command_laws.specs.Loads.{KnownLaw, InputLaw};
-ghost use Rattle.command_laws.specs.Images.{HeldLaw, SpelledLaw, FormattedLaw, ServedLaw};
-ghost use Rattle.command_laws.specs.Lines.{ToldLaw, FailedStoreLaw, StoresInOrderLaw, UnstoredLaw};
+ghost use Rattle.command_laws.specs.Images.{HeldLaw, OtherGeometryLaw, AcceptedLaw, SpelledLaw, FormattedLaw, ServedLaw};
+ghost use Rattle.commands.specs.Serve.{flash_behind, recorded_of, is_honest, is_calm_as, programs_of, erases_of, failures_of};
+ghost use Rattle.command_laws.specs.Migrations.{CallsCountedLaw, MigratedLaw, SettledLaw, ShortLaw, MigrateDoneLaw, MigrateStopsLaw};
+ghost use Rattle.command_laws.specs.Lines.{ToldLaw, WholeLineLaw, UnprintedLaw, FailedStoreLaw, StoresInOrderLaw, UnstoredLaw};
 
 use commands::FileStore;
 
@@ -16,22 +19,42 @@ pub fn file_laws<F: FileStore>()
     ensures input { InputLaw F.gives }
 {}
 
-/// A certificate that was held against an image agrees with it, and the image is whole; its claim spells the bytes that were read; and what a
+/// A certificate that was held against an image agrees with it, and the image is whole; of one of another geometry that alone is told; its claim spells the bytes that were read; and what a
 /// format or a server stores are the bytes of its die's pages. (This project.)
 pub fn image_laws()
     ensures held { HeldLaw }
+    ensures other { OtherGeometryLaw }
+    ensures accepted { AcceptedLaw }
     ensures spelled { SpelledLaw }
     ensures formatted { FormattedLaw }
     ensures served { ServedLaw }
 {}
 
-/// Of the line of a fault a beginning stands where it could not be written, and the status is the fault's or 3; a store that failed is told as not
-/// done, stores stand in their order, and a server that was stopped is not told as done. (This project.)
+/// Of the line of a fault a part stands where it could not be written, and the status is the fault's or 3; a line that stands there whole has its fault's
+/// status, and none that does is told as unprinted; a store that failed is told as not done, stores stand in their order, and a server that was stopped is
+/// not told as done. (This project.)
 pub fn line_laws()
     ensures told { ToldLaw }
+    ensures whole { WholeLineLaw }
+    ensures unprinted { UnprintedLaw }
     ensures failed { FailedStoreLaw }
     ensures order { StoresInOrderLaw }
     ensures stopped { UnstoredLaw }
+{}
+
+/// What a migration makes of a die in memory: the array stays, the image mounts, and nothing failed; where no call was refused no newest page is of version 1
+/// and none is stale; how it ends short; and that the calls which brought a page forward have one number, where nine blocks are free as each begins. (This project.)
+pub fn migration_laws()
+    ensures migrated { MigratedLaw }
+    ensures settled { SettledLaw }
+    ensures short { ShortLaw }
+    ensures calls { CallsCountedLaw flash_behind recorded_of is_honest is_calm_as programs_of erases_of failures_of }
+{}
+
+/// What the command stores: an image with the array of the one that it read, brought forward where the command is done. (This project.)
+pub fn migrate_laws<F: FileStore>()
+    ensures done { MigrateDoneLaw F.gives }
+    ensures stops { MigrateStopsLaw F.gives }
 {}
 
 /// What a turn does for bad blocks: none of them gains a newest page, and one that programs and erases nothing found none in them. (This
@@ -39,4 +62,9 @@ pub fn line_laws()
 pub fn rescue_laws()
     ensures gain { NoGainLaw }
     ensures ails { NoneAilsLaw }
+{}
+
+/// What the program's server tells by the die that it serves is the record which that die keeps. (This project.)
+pub fn record_laws()
+    ensures steady { SteadyTellsLaw }
 {}

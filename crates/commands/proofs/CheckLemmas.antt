@@ -1,10 +1,12 @@
 -- From what a step of `check` came to, to what the command came to.
-use Rattle.std.proofs.Common.{◌≡◌, ℕ, Bool, List, Option, Some, None, IfSome, Result, Ok, Err, OnOk, IfErr, ◌⊎◌, inl, inr, subst, sym, arith}
+use Rattle.std.proofs.Common.{◌≡◌, ℕ, Bool, List, Option, Some, None, IfSome, Result, Ok, Err, OnOk, IfErr, ◌⊎◌, inl, inr, ap, subst, sym, arith, ◌∙◌}
 use Rattle.std.specs.Io.KnownBytes.{Appends, Keeps}
 use Rattle.page_layout.specs.declared.geometry.Geometry.{Geometry}
 use Rattle.page_layout.specs.Counter.{HasRisen}
 use Rattle.page_layout.specs.Raw.{raw_image}
-use Rattle.certificate.specs.Claim.{Claim}
+use Rattle.certificate.specs.Claim.{Claim, Sizes}
+use Rattle.image_check.specs.Agrees.{IsAsked}
+use Rattle.std.proofs.lemmas.Bool.{cases_eq}
 use Rattle.image_check.specs.declared.refusal.Refusal.{Refusal}
 use Rattle.image_check.specs.declared.refusal.Refusal.TheVariants as refusals
 use Rattle.image_check.specs.Refused.{IsFirstWrong}
@@ -17,7 +19,7 @@ use Rattle.commands.specs.declared.text.CommandFault.TheVariants as fault
 use Rattle.command_words.specs.declared.words.CertificateWords.{CertificateWords}
 use Rattle.commands.specs.Files.{Gives}
 use Rattle.commands.specs.Inputs.{IsUnread}
-use Rattle.commands.specs.Check.{Accepts, DoesCheck, HasCertificate, HasFiles, IsCheckFault, IsHeld, IsKept, IsSpelled, IsToldAs, IsUnheld, IsWhole, accepted_line}
+use Rattle.commands.specs.Check.{Accepts, DoesCheck, HasCertificate, HasFiles, DiffersAs, IsCheckFault, IsHeld, IsHeldAs, IsKept, IsSpelled, IsToldAs, IsUnheld, IsWhole, accepted_line}
 use Rattle.commands.specs.Lines.{IsUnprinted}
 
 -- a count of failures that stays at none did not rise
@@ -52,7 +54,7 @@ unheld_accepts g capacity path known c before after result stop is keeps un =
 
 -- one that was, and then was printed or not
 pub held_accepts : (g : Geometry) (capacity : ℕ) (path : List ℕ) (known : Option (List ℕ)) (c : Claim) (before after : Option (List ℕ)) (result : Result (Unit {0}) CommandFault)
-    → IfSome known (λ bytes. IsHeld g capacity bytes c) → OnOk result (Appends before after accepted_line) → IfErr result (IsUnprinted accepted_line before after)
+    → IsHeldAs g capacity known c → OnOk result (Appends before after accepted_line) → IfErr result (IsUnprinted accepted_line before after)
     → Accepts g capacity path known c before after result
 held_accepts g capacity path known c before after (Ok done) held told un = (held, told)
 held_accepts g capacity path known c before after (Err stop) held told un = inr (held, un)
@@ -90,13 +92,44 @@ unwhole_of g capacity (Some bytes) c (inl (inr memory)) = absurd (let clash : re
 unwhole_of g capacity (Some bytes) c (inr (inl wrong)) = wrong.1
 unwhole_of g capacity (Some bytes) c (inr (inr wrong)) = absurd (let clash : None ≡ Some wrong.part = wrong.wrong.part_is in cc)
 
-pub held_of : (g : Geometry) (capacity : ℕ) (known : Option (List ℕ)) (c : Claim) (a : Acceptance) → IfSome known (λ bytes. IsWhole g bytes) → IfSome known (λ bytes. IsAcceptance g capacity (raw_image g bytes) c a) → IfSome known (λ bytes. IsHeld g capacity bytes c)
-held_of g capacity None c a whole h = tt
-held_of g capacity (Some bytes) c a whole h = record { whole = whole; agrees = h.agrees }
+-- two numbers that are not said to differ are the same
+same_number : (a b : ℕ) → ((a ≡ b → ⊥) → ⊥) → a ≡ b
+same_number a b both = elim (cases_eq a b) [
+  | inl same ↦ same
+  | inr other ↦ absurd (both other)
+]
 
-pub told_unheld : (g : Geometry) (capacity : ℕ) (path : List ℕ) (known : Option (List ℕ)) (c : Claim) (r : Refusal) (stop : CommandFault) → IsToldAs r path stop → IfSome known (λ bytes. IsStreamRefusal g capacity bytes c r) → IsUnheld g capacity path known c stop
-told_unheld g capacity path known c r fault.WrongLength told h = unwhole_of g capacity known c (subst (λ (x : Refusal). IfSome known (λ bytes. IsStreamRefusal g capacity bytes c x)) told h)
-told_unheld g capacity path known c r (fault.Read at) told h = told.1
-told_unheld g capacity path known c r (fault.Check other) told h =
-    subst (λ (x : Refusal). (x ≡ refusals.OutOfMemory) ⊎ IfSome known (λ bytes. IsFirstWrong g capacity (raw_image g bytes) c x)) (sym told.0) (unheld_of g capacity path known c r told.2 told.1 h)
-told_unheld g capacity path known c r _ told h = absurd told
+-- a certificate that is not said to be of another geometry or capacity is of these
+asked_by : (g : Geometry) (capacity : ℕ) (c : Claim) → ((IsAsked g capacity c → ⊥) → ⊥) → IsAsked g capacity c
+asked_by g capacity c both =
+    let number : (a b : ℕ) → (IsAsked g capacity c → a ≡ b) → a ≡ b = λ a b is. same_number a b (λ other. both (λ asked. other (is asked))) in
+    let body = number c.sizes.data_bytes g.data_bytes (λ asked. ap (λ (s : Sizes). s.data_bytes) asked.geometry) in
+    let spare = number c.sizes.spare_bytes g.spare_bytes (λ asked. ap (λ (s : Sizes). s.spare_bytes) asked.geometry) in
+    let pages = number c.sizes.pages g.pages (λ asked. ap (λ (s : Sizes). s.pages) asked.geometry) in
+    let blocks = number c.sizes.blocks g.blocks (λ asked. ap (λ (s : Sizes). s.blocks) asked.geometry) in
+    let sectors = number c.sizes.sectors g.sectors (λ asked. ap (λ (s : Sizes). s.sectors) asked.geometry) in
+    record {
+      geometry = λ i. record { data_bytes = body i; spare_bytes = spare i; pages = pages i; blocks = blocks i; sectors = sectors i };
+      capacity_same = number c.capacity capacity (λ asked. asked.capacity_same);
+    }
+
+-- what a refusal of a check says of the certificate's geometry and capacity
+pub differs_as : (g : Geometry) (capacity : ℕ) (c : Claim) (r : Refusal) → (r ≡ refusals.GeometryDiffers → IsAsked g capacity c → ⊥) → ((IsAsked g capacity c → ⊥) → r ≡ refusals.GeometryDiffers)
+    → DiffersAs g capacity c r
+differs_as g capacity c r told tells = record { other = told; same = λ not. asked_by g capacity c (λ other. not (tells other)) }
+
+pub held_of : (g : Geometry) (capacity : ℕ) (known : Option (List ℕ)) (c : Claim) (a : Acceptance) → IsAsked g capacity c → IfSome known (λ bytes. IsWhole g bytes) → IfSome known (λ bytes. IsAcceptance g capacity (raw_image g bytes) c a) → IsHeldAs g capacity known c
+held_of g capacity None c a asked whole h = record { asked = asked; held = tt }
+held_of g capacity (Some bytes) c a asked whole h = record { asked = asked; held = record { whole = whole; agrees = h.agrees } }
+
+pub told_unheld : (g : Geometry) (capacity : ℕ) (path : List ℕ) (known : Option (List ℕ)) (c : Claim) (r : Refusal) (stop : CommandFault) → IsToldAs r path stop → DiffersAs g capacity c r
+    → IfSome known (λ bytes. IsStreamRefusal g capacity bytes c r) → IsUnheld g capacity path known c stop
+told_unheld g capacity path known c r fault.WrongLength told differs h = (
+  differs.same (λ other. let clash : refusals.WrongLength ≡ refusals.GeometryDiffers = sym told ∙ other in cc),
+  unwhole_of g capacity known c (subst (λ (x : Refusal). IfSome known (λ bytes. IsStreamRefusal g capacity bytes c x)) told h),
+)
+told_unheld g capacity path known c r (fault.Read at) told differs h = (differs.same (λ other. let clash : refusals.Source ≡ refusals.GeometryDiffers = sym told.0 ∙ other in cc), told.1)
+told_unheld g capacity path known c r (fault.Check other) told differs h =
+    subst (λ (x : Refusal). DiffersAs g capacity c x × ((x ≡ refusals.OutOfMemory) ⊎ IfSome known (λ bytes. IsFirstWrong g capacity (raw_image g bytes) c x))) (sym told.0)
+    (differs, unheld_of g capacity path known c r told.2 told.1 h)
+told_unheld g capacity path known c r _ told differs h = absurd told

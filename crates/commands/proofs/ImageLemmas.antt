@@ -14,7 +14,7 @@ use Rattle.commands.specs.Lines.{IsUnprinted}
 use Rattle.page_layout.specs.Page.{Image, Page}
 use Rattle.page_layout.specs.Geometry.{row_count}
 use Rattle.commands.specs.declared.text.CommandFault.{CommandFault}
-use Rattle.request_stream.specs.Frames.{AppendsFront}
+use Rattle.request_stream.specs.Frames.{AppendsPart}
 
 flash_is : (flash : Flash) (g : Geometry) (all bytes : List ℕ) → flash ≡ still g (raw_image g all) → all ≡ bytes → flash ≡ still g (raw_image g bytes)
 flash_is flash g all bytes is same = is ∙ ap (λ l. still g (raw_image g l)) same
@@ -30,9 +30,9 @@ pub line_in : (flash : Flash) (g : Geometry) (all bytes : List ℕ) (n : ℕ) (b
 line_in flash g all bytes n before after is same = let P : Flash → Type 0 = λ f. Appends before after (sector_line f.geometry f.image n) in subst P (flash_is flash g all bytes is same)
 
 -- what is said of a writer that failed
-pub front_in : (flash : Flash) (g : Geometry) (all bytes : List ℕ) (n : ℕ) (before after : Option (List ℕ)) → flash ≡ still g (raw_image g all) → all ≡ bytes
-    → AppendsFront before after (sector_line flash.geometry flash.image n) → AppendsFront before after (sector_line g (raw_image g bytes) n)
-front_in flash g all bytes n before after is same = let P : Flash → Type 0 = λ f. AppendsFront before after (sector_line f.geometry f.image n) in subst P (flash_is flash g all bytes is same)
+pub part_in : (flash : Flash) (g : Geometry) (all bytes : List ℕ) (n : ℕ) (before after : Option (List ℕ)) → flash ≡ still g (raw_image g all) → all ≡ bytes
+    → AppendsPart before after (sector_line flash.geometry flash.image n) → AppendsPart before after (sector_line g (raw_image g bytes) n)
+part_in flash g all bytes n before after is same = let P : Flash → Type 0 = λ f. AppendsPart before after (sector_line f.geometry f.image n) in subst P (flash_is flash g all bytes is same)
 
 pub shows_in : (flash : Flash) (g : Geometry) (all bytes : List ℕ) (n : ℕ) (before after : Option (List ℕ)) (r : Result (Unit {0}) CommandFault) → flash ≡ still g (raw_image g all) → all ≡ bytes
     → OnOk r (Shows flash.geometry flash.image n before after) → OnOk r (Shows g (raw_image g bytes) n before after)
@@ -53,5 +53,5 @@ pub page_unshown : (g : Geometry) (image : Image) (row : ℕ) (before after : Op
     → IfErr r (IsUnprinted (shown_line s) before after) → IfErr r (IsUnshown g image row before after)
 page_unshown g image row before after p s (Ok done) is within same un = tt
 page_unshown g image row before after p s (Err (fault.Write path)) is within same un =
-    let P : Shown → Type 0 = λ t. AppendsFront before after (shown_line t) in (un.0, record { page = p; page_is = is; in_range = within; front = subst P same un.1 })
+    let P : Shown → Type 0 = λ t. AppendsPart before after (shown_line t) in (un.0, record { page = p; page_is = is; in_range = within; part = subst P same un.1 })
 page_unshown g image row before after p s (Err _) is within same un = absurd un

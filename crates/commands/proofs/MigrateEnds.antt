@@ -1,19 +1,22 @@
 -- From what the steps of `migrate` came to, to what the command came to.
-use Rattle.std.proofs.Common.{◌≡◌, ◌≢◌, inl, inr, ℕ, ◌+◌, ◌≤◌, List, None, Result, Ok, Err, OnOk, IfErr, refl, sym, ap, subst, ◌∙◌}
+use Rattle.std.proofs.Common.{true, ◌≡◌, ◌≢◌, inl, inr, ℕ, ◌+◌, ◌≤◌, List, Option, None, Result, Ok, Err, OnOk, IfErr, refl, sym, ap, subst, ◌∙◌}
 use Rattle.std.specs.Io.KnownBytes.{Appends, Keeps}
 use Rattle.page_layout.specs.declared.geometry.Geometry.{Geometry}
 use Rattle.page_layout.specs.Array.{array_of}
-use Rattle.page_layout.specs.Flash.{Flash}
+use Rattle.page_layout.specs.Flash.{Flash, Leads}
 use Rattle.page_layout.specs.OnlyReads.{OnlyReads}
 use Rattle.page_layout.specs.Page.{Image, IsImage}
 use Rattle.page_layout.specs.Raw.{raw_image, raw_bytes}
+use Rattle.page_layout.specs.Recording.{Recording}
 use Rattle.certificate.specs.Claim.{Claim}
-use Rattle.promises.specs.Legal.{accounts_of}
+use Rattle.mount.specs.Log.{failures}
+use Rattle.nand_die.specs.Made.{loaded_flash}
+use Rattle.promises.specs.Legal.{IsLegal, LegalFrom, accounts_of}
 use Rattle.image_check.specs.Accepted.{Acceptance, IsAcceptance}
 use Rattle.image_check.specs.Mountable.{IsMountable}
 use Rattle.allocation.specs.View.{state}
 use Rattle.collection.specs.State.{Ram}
-use Rattle.collection.specs.Log.{IsAccounted}
+use Rattle.collection.specs.Log.{IsAccounted, Went}
 use Rattle.collection.specs.Safe.{image_in, ram}
 use Rattle.collection.specs.Truth.{IsTrue}
 use Rattle.ftl_device.specs.Begin.{begun_ram, free_in, is_bad_in, is_scarce}
@@ -27,11 +30,14 @@ use Rattle.commands.specs.declared.text.CommandFault.{CommandFault}
 use Rattle.commands.specs.Check.{AsksForCapacity, IsSpelled}
 use Rattle.commands.specs.Files.{Gives, Left, Leaves, with_store, written}
 use Rattle.commands.specs.Lines.{IsUnprinted}
-use Rattle.commands.specs.Serve.{Driver, HasClaim, checked_words, erases_of, failures_of, flash_behind, is_calm_as, is_honest, programs_of, recorded_of}
+use Rattle.commands.specs.Steady.{has_spared}
+use Rattle.commands.specs.Serve.{Driver, HasClaim, bad_in, checked_words, erases_of, failures_of, flash_behind, is_calm_as, is_honest, programs_of, recorded_of}
 use Rattle.commands.specs.Migrate.{DoesMigrate, EndsShort, HasMigrated, IsSettled, IsUnbegun, KeepsAll, MigratesDie, RenewsThenFlushes, StartsOver, migrated_line}
 use Rattle.ftl_device.proofs.CallLemmas.{mountable_kept}
-use Rattle.block_server.proofs.Checking.{closed_as, geometry_is, is_begun, well}
+use Rattle.block_server.proofs.Checking.{accepted_for, closed_as, geometry_is, is_begun, well}
+use Rattle.commands.proofs.BadLemmas.{named_bad}
 use Rattle.commands.proofs.FormatLemmas.{not_risen}
+use Rattle.commands.proofs.PassedLemmas.{none_failed}
 
 -- a step before a device was started ended it
 pub stops : (gives : Gives) (words : ServeWords) (before after : Left) (result : Result (Unit {0}) CommandFault) (stop : CommandFault)
@@ -71,26 +77,40 @@ has_claim gives words g capacity bytes spelled read c asked image certificate sa
 
 -- ---- a die in memory
 
+-- the accounts of the image agree with the memory that a start made
+accounts_over : (nand checked : Driver) (g : Geometry) (capacity : ℕ) (c : Claim) (a : Acceptance) (d : Device Driver) → (flash_behind nand).geometry ≡ g
+    → flash_behind checked ≡ flash_behind nand → IsImage g (flash_behind nand).image → a.claim ≡ c
+    → IsAcceptance g capacity (flash_behind nand).image c a
+    → (IsAcceptedFor (flash_behind checked) a → IsAccounted (accounts_of (flash_behind checked).geometry (flash_behind checked).image (is_bad_in a.claim)) (state d.engine.blocks))
+    → IsAccounted (accounts_of g (flash_behind nand).image (is_bad_in c)) (state d.engine.blocks)
+accounts_over nand checked g capacity c a d sized same whole claim_is acceptance accounts =
+    let of : Flash → Geometry → Claim → Type 0 = λ f k claim. IsAccounted (accounts_of k f.image (is_bad_in claim)) (state d.engine.blocks) in
+    let here = accounts (accepted_for (flash_behind nand) (flash_behind checked) g capacity c a same sized whole acceptance) in
+    let there = subst (λ (f : Flash). of f f.geometry a.claim) same here in
+    subst (of (flash_behind nand) g) claim_is (subst (λ k. of (flash_behind nand) k a.claim) sized there)
+
 -- the checker's answer and the start's, together
 pub starts_over : (nand checked : Driver) (g : Geometry) (capacity : ℕ) (c : Claim) (a : Acceptance) (d : Device Driver) → 40 ≤ g.spare_bytes
     → (flash_behind nand).geometry ≡ g → OnlyReads flash_behind is_honest is_calm_as programs_of erases_of failures_of nand checked
-    → flash_behind checked ≡ flash_behind nand → IsImage g (flash_behind nand).image → a.claim ≡ c → IsAcceptance g capacity (flash_behind nand).image c a
+    → flash_behind checked ≡ flash_behind nand → recorded_of checked ≡ recorded_of nand → IsImage g (flash_behind nand).image → a.claim ≡ c → IsAcceptance g capacity (flash_behind nand).image c a
     → IsDevice flash_behind d → d.engine.nand ≡ checked → ram d.engine ≡ begun_ram (flash_behind checked).geometry a.claim a.stale
     → (IsAcceptedFor (flash_behind checked) a → IsTrue None (ram d.engine) (image_in flash_behind d.engine))
     → (IsAcceptedFor (flash_behind checked) a → d.read_only ≡ is_scarce (free_in (flash_behind checked).geometry a.claim (flash_behind checked).image))
     → (IsAcceptedFor (flash_behind checked) a → IsAccounted (accounts_of (flash_behind checked).geometry (flash_behind checked).image (is_bad_in a.claim)) (state d.engine.blocks))
-    → StartsOver g capacity c nand d
-starts_over nand checked g capacity c a d roomy sized reads same whole claim_is acceptance device nand_is begun truth free accounts = record {
+    → d.cursor ≡ 0 → StartsOver g capacity c nand d
+starts_over nand checked g capacity c a d roomy sized reads same told whole claim_is acceptance device nand_is begun truth free accounts cursor = record {
+  cursor = cursor;
   agrees = acceptance.agrees;
   roomy = roomy;
   begun = is_begun flash_behind recorded_of is_honest is_calm_as failures_of erases_of nand checked checked g capacity c a d sized reads.geometry_is reads.honest_is reads.calm_is reads.failed_is
-      (λ _. same) (λ _. whole) claim_is (λ _. acceptance) device nand_is begun (λ _. truth) (λ _. free) (λ _. accounts);
+      (λ _. same) (λ _. told) (λ _. whole) claim_is (λ _. acceptance) device nand_is begun (λ _. truth) (λ _. free) (λ _. accounts);
   sized = geometry_is flash_behind recorded_of is_honest is_calm_as failures_of erases_of nand checked checked g capacity c a d sized reads.geometry_is reads.honest_is reads.calm_is reads.failed_is
-      (λ _. same) (λ _. whole) claim_is (λ _. acceptance) device nand_is begun (λ _. truth) (λ _. free) (λ _. accounts);
+      (λ _. same) (λ _. told) (λ _. whole) claim_is (λ _. acceptance) device nand_is begun (λ _. truth) (λ _. free) (λ _. accounts);
   well = well flash_behind recorded_of is_honest is_calm_as failures_of erases_of nand checked checked g capacity c a d sized reads.geometry_is reads.honest_is reads.calm_is reads.failed_is
-      (λ _. same) (λ _. whole) claim_is (λ _. acceptance) device nand_is begun (λ _. truth) (λ _. free) (λ _. accounts) refl;
+      (λ _. same) (λ _. told) (λ _. whole) claim_is (λ _. acceptance) device nand_is begun (λ _. truth) (λ _. free) (λ _. accounts) refl;
   free = closed_as flash_behind recorded_of is_honest is_calm_as failures_of erases_of nand checked checked g capacity c a d sized reads.geometry_is reads.honest_is reads.calm_is reads.failed_is
-      (λ _. same) (λ _. whole) claim_is (λ _. acceptance) device nand_is begun (λ _. truth) (λ _. free) (λ _. accounts) refl;
+      (λ _. same) (λ _. told) (λ _. whole) claim_is (λ _. acceptance) device nand_is begun (λ _. truth) (λ _. free) (λ _. accounts) refl;
+  accounts = accounts_over nand checked g capacity c a d sized same whole claim_is acceptance accounts;
 }
 
 -- it answers each call, so the array stays
@@ -99,7 +119,7 @@ never_bus came was now most rose le none is = not_risen was now most (rose is) l
 
 -- the image has a certificate at the capacity that the device began with
 mounts_on : (g : Geometry) (capacity : ℕ) (c : Claim) (nand : Driver) (first last : Device Driver) → StartsOver g capacity c nand first → IsDevice flash_behind last
-    → last.engine.geometry ≡ g → KeepsAll flash_behind first last → capacity + g.pages ≤ 65536 → IsMountable g (capacity + g.pages) (flash_behind last.engine.nand).image
+    → last.engine.geometry ≡ g → KeepsAll flash_behind recorded_of first last → capacity + g.pages ≤ 65536 → IsMountable g (capacity + g.pages) (flash_behind last.engine.nand).image
 mounts_on g capacity c nand first last starts device sized kept =
     let held : last.engine.mapping.capacity ≡ capacity =
     kept.capacity ∙ (ap (λ (r : Ram). r.mapping.capacity) starts.begun.begun ∙ starts.agrees.asked.capacity_same) in
@@ -108,20 +128,39 @@ mounts_on g capacity c nand first last starts device sized kept =
     mountable_kept flash_behind last.engine last.engine refl device.engine.memory kept.well.truth in
     subst (λ k. P k capacity) sized (subst (λ n. P last.engine.geometry n) held here)
 
+-- the log of the calls is legal by the accounts of the image
+legal_by : (g : Geometry) (capacity : ℕ) (c : Claim) (nand : Driver) (first last : Device Driver) → StartsOver g capacity c nand first
+    → (went : Went (ram first.engine) (flash_behind nand) (recorded_of nand) (ram last.engine) (flash_behind last.engine.nand) (recorded_of last.engine.nand)) → IsLegal g (flash_behind nand).image (is_bad_in c) went.log
+legal_by g capacity c nand first last starts went =
+    let accounts = accounts_of g (flash_behind nand).image (is_bad_in c) in
+    subst (λ (k : Geometry). LegalFrom k.pages accounts went.log) starts.sized (went.follows.legal accounts starts.accounts)
+
 pub die_migrated : (g : Geometry) (capacity : ℕ) (c : Claim) (nand given : Driver) (first last : Device Driver) (came : Result ℕ DeviceFault) (after : List ℕ) (back : Flash) (most : ℕ)
     → StartsOver g capacity c nand first
     → RenewsThenFlushes flash_behind recorded_of is_honest is_calm_as programs_of erases_of failures_of first came last
-    → (came ≢ Err BusFault → KeepsAll flash_behind first last) → (came ≡ Err BusFault → HasRisen (failures_of first.engine.nand) (failures_of last.engine.nand))
+    → (came ≢ Err BusFault → KeepsAll flash_behind recorded_of first last) → (came ≡ Err BusFault → HasRisen (failures_of first.engine.nand) (failures_of last.engine.nand))
     → OnOk came (IsSettled g (image_in flash_behind last.engine)) → IsDevice flash_behind last
     → last.engine.geometry ≡ g → given ≡ last.engine.nand → failures_of given ≤ most → most ≡ 0 → back ≡ flash_behind given
-    → raw_image back.geometry after ≡ back.image → after ≡ raw_bytes back.image → MigratesDie g capacity c (flash_behind nand) after came
-die_migrated g capacity c nand given first last came after back most starts comes keeps rose settled device sized' given_is few none known pages bytes =
+    → has_spared back ≡ true → raw_image back.geometry after ≡ back.image → after ≡ raw_bytes back.image → MigratesDie g capacity c (flash_behind nand) after came
+die_migrated g capacity c nand given first last came after back most starts comes keeps rose settled device sized' given_is few none known spared pages bytes =
     let le : failures_of last.engine.nand ≤ most = subst (λ n. failures_of n ≤ most) given_is few in
     let there : back ≡ flash_behind last.engine.nand = known ∙ ap flash_behind given_is in
     let sized : back.geometry ≡ g = ap (λ (f : Flash). f.geometry) there ∙ (device.engine.geometry ∙ sized') in
-    let kept : KeepsAll flash_behind first last = keeps (never_bus came _ _ most rose le none) in
+    let kept : KeepsAll flash_behind recorded_of first last = keeps (never_bus came _ _ most rose le none) in
     let image_is : raw_image g after ≡ (flash_behind last.engine.nand).image = ap (λ k. raw_image k after) (sym sized) ∙ (pages ∙ ap (λ (f : Flash). f.image) there) in
     let same : flash_behind first.engine.nand ≡ flash_behind nand = starts.begun.same refl in
+    let there_told = recorded_of last.engine.nand in
+    let told : recorded_of first.engine.nand ≡ recorded_of nand = starts.begun.told refl in
+    let went : Went (ram first.engine) (flash_behind nand) (recorded_of nand) (ram last.engine) (flash_behind last.engine.nand) there_told =
+    subst (λ (r : Option Recording). Went (ram first.engine) (flash_behind nand) r (ram last.engine) (flash_behind last.engine.nand) there_told) told
+    (subst (λ (f : Flash). Went (ram first.engine) f (recorded_of first.engine.nand) (ram last.engine) (flash_behind last.engine.nand) there_told) same kept.went) in
+    let legal = legal_by g capacity c nand first last starts went in
+    let array : array_of g (raw_image g after) ≡ array_of g (flash_behind nand).image =
+    ap (array_of g) image_is ∙ (ap (λ k. array_of k (flash_behind last.engine.nand).image) (sym sized') ∙ (kept.array
+    ∙ (ap (λ k. array_of k (flash_behind first.engine.nand).image) starts.sized ∙ ap (λ (f : Flash). array_of g f.image) same))) in
+    let passed : (before : List ℕ) → flash_behind nand ≡ loaded_flash g before (bad_in g c) → failures went.log ≡ 0 = λ before loaded.
+    none_failed g before (bad_in g c) (is_bad_in c) (flash_behind last.engine.nand) went.log (named_bad g c) (subst (λ (f : Flash). has_spared f ≡ true) there spared)
+    (subst (λ (f : Flash). IsLegal g f.image (is_bad_in c) went.log) loaded legal) (subst (λ (f : Flash). Leads f went.log (flash_behind last.engine.nand)) loaded went.leads) in
     record {
       nand = nand;
       first = first;
@@ -131,8 +170,10 @@ die_migrated g capacity c nand given first last came after back most starts come
       comes = comes;
       pages = image_is;
       bytes = bytes ∙ ap (λ (f : Flash). raw_bytes f.image) there;
-      array = ap (array_of g) image_is ∙ (ap (λ k. array_of k (flash_behind last.engine.nand).image) (sym sized') ∙ (kept.array
-          ∙ (ap (λ k. array_of k (flash_behind first.engine.nand).image) starts.sized ∙ ap (λ (f : Flash). array_of g f.image) same)));
+      array = array;
       mountable = subst (λ (i : Image). capacity + g.pages ≤ 65536 → IsMountable g (capacity + g.pages) i) (sym image_is) (mounts_on g capacity c nand first last starts device sized' kept);
       settled = subst (λ (i : Image). OnOk came (IsSettled g i)) (sym image_is) settled;
+      went = went;
+      legal = legal;
+      passed = passed;
     }

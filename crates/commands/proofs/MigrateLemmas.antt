@@ -16,14 +16,16 @@ use Rattle.std.proofs.lemmas.List.Sums.{count_by-le-length}
 use Rattle.std.proofs.lemmas.Bool.Decides.{nat_tests}
 use Rattle.promises.specs.Step as step
 use Rattle.promises.specs.Step.{State, Reply, Command, QuietStep, Flush, Turn}
-use Rattle.collection.specs.Safe.{image_in}
+use Rattle.collection.specs.Safe.{image_in, ram}
 use Rattle.collection.proofs.Costs.{risen_over}
+use Rattle.collection.proofs.Logs.{went_same, went_then}
 use Rattle.ftl_device.specs.declared.device.Device.{Device}
 use Rattle.ftl_device.specs.Device.{IsDevice}
 use Rattle.ftl_device.specs.declared.fault.DeviceFault.{DeviceFault}
 use Rattle.ftl_device.specs.declared.fault.DeviceFault.TheVariants.{BusFault}
 use Rattle.ftl_device.specs.Calls.{IsWell, reply_of, state_in}
 use Rattle.ftl_device.specs.Changes.{Upkeeps}
+use Rattle.ftl_device.specs.Brings.{HasBrought, BringsOne}
 use Rattle.ftl_device.specs.Migrate.{ended, HasMovedOn, Migrates}
 use Rattle.ftl_device.specs.Renewed.{Finishes, HasOldTablesOnly}
 use Rattle.commands.specs.Migrate.{Calls, Renews, RenewsAll, RenewsThenFlushes, IsSettled, KeepsAll}
@@ -52,19 +54,24 @@ refused_as fault = Err fault
 module _ {N : Type 0} (flash : N → Flash) (recorded : N → Option Recording) (honest calm : N → Bool) (programs erases failed : N → ℕ) where
   -- a turn's promise and a flush's
   pub turn_keeps : (old new : Device N) (result : Result (Unit {0}) DeviceFault) → honest old.engine.nand ≡ true → IsWell flash old → result ≢ Err BusFault
-      → Upkeeps flash recorded honest calm failed Turn old result new → KeepsAll flash old new
+      → Upkeeps flash recorded honest calm failed Turn old result new → KeepsAll flash recorded old new
   turn_keeps old new result still well ne its =
       let means = its.means still well ne in
-      record { well = means.well; array = quiet_array (state_in flash old) (state_in flash new) (reply_of result) means.step; capacity = its.stays.limits.capacity }
+      record { well = means.well; array = quiet_array (state_in flash old) (state_in flash new) (reply_of result) means.step; capacity = its.stays.limits.capacity; went = (its.logs still ne).went }
 
   pub flush_keeps : (old new : Device N) (result : Result (Unit {0}) DeviceFault) → honest old.engine.nand ≡ true → IsWell flash old → result ≢ Err BusFault
-      → Upkeeps flash recorded honest calm failed Flush old result new → KeepsAll flash old new
+      → Upkeeps flash recorded honest calm failed Flush old result new → KeepsAll flash recorded old new
   flush_keeps old new result still well ne its =
       let means = its.means still well ne in
-      record { well = means.well; array = quiet_array (state_in flash old) (state_in flash new) (reply_of result) means.step; capacity = its.stays.limits.capacity }
+      record { well = means.well; array = quiet_array (state_in flash old) (state_in flash new) (reply_of result) means.step; capacity = its.stays.limits.capacity; went = (its.logs still ne).went }
 
-  pub keeps_then : (old mid new : Device N) → KeepsAll flash old mid → KeepsAll flash mid new → KeepsAll flash old new
-  keeps_then old mid new first next = record { well = next.well; array = next.array ∙ first.array; capacity = next.capacity ∙ first.capacity }
+  pub keeps_then : (old mid new : Device N) → mid.engine.geometry ≡ old.engine.geometry → KeepsAll flash recorded old mid → KeepsAll flash recorded mid new → KeepsAll flash recorded old new
+  keeps_then old mid new sized first next = record {
+    well = next.well;
+    array = next.array ∙ first.array;
+    capacity = next.capacity ∙ first.capacity;
+    went = went_then _ _ _ _ _ _ _ _ _ sized first.went next.went;
+  }
 
   -- it counts a fault of the bus
   pub rose_by : {command : Command} (old mid new : Device N) (result : Result (Unit {0}) DeviceFault) → failed old.engine.nand ≤ failed mid.engine.nand → IsWell flash mid
@@ -77,23 +84,28 @@ module _ {N : Type 0} (flash : N → Flash) (recorded : N → Option Recording) 
   -- after so many calls that answered true
   pub record IsGoing (g : Geometry) (old : Device N) (count : ℕ) (new : Device N) : Type 0 where
     pub device : IsDevice flash new
+    pub began : old.engine.geometry ≡ g
     pub sized : new.engine.geometry ≡ g
     pub still : honest new.engine.nand ≡ true
     pub le : failed old.engine.nand ≤ failed new.engine.nand
     pub renews : Renews flash recorded honest calm programs erases failed count old new
-    pub keeps : KeepsAll flash old new
+    pub keeps : KeepsAll flash recorded old new
     pub left : count + old_pages g (image_in flash new.engine) ≤ key_count g
 
   pub begins : (g : Geometry) (old : Device N) → IsDevice flash old → old.engine.geometry ≡ g → honest old.engine.nand ≡ true → IsWell flash old → IsGoing g old 0 old
   begins g old device sized still well = record {
     device = device;
+    began = sized;
     sized = sized;
     still = still;
     le = omega arith;
     renews = refl;
-    keeps = record { well = well; array = refl; capacity = refl };
+    keeps = record { well = well; array = refl; capacity = refl; went = went_same _ _ _ };
     left = omega (arith, few_old g (image_in flash old.engine));
   }
+
+  same_size : (g : Geometry) (old mid : Device N) (count : ℕ) → IsGoing g old count mid → mid.engine.geometry ≡ old.engine.geometry
+  same_size g old mid count going = going.sized ∙ sym going.began
 
   -- what a call promises, after them
   pub calls_as : (g : Geometry) (old mid new : Device N) (count : ℕ) (result : Result Bool DeviceFault) → 40 ≤ g.spare_bytes → IsGoing g old count mid
@@ -101,13 +113,17 @@ module _ {N : Type 0} (flash : N → Flash) (recorded : N → Option Recording) 
       → (honest mid.engine.nand ≡ true → IsWell flash mid → 40 ≤ mid.engine.geometry.spare_bytes
       → IfOk result (λ found. Migrates found mid.engine.geometry (image_in flash mid.engine) (image_in flash new.engine)))
       → IfOk result (λ found. found ≡ false → OnlyReads flash honest calm programs erases failed mid.engine.nand new.engine.nand)
+      → (result ≡ Ok true → HasBrought (ram mid.engine) (ram new.engine))
+      → (honest mid.engine.nand ≡ true → IsWell flash mid → result ≡ Ok true → BringsOne flash recorded mid new)
       → (result ≢ Ok true → new.cursor ≡ mid.cursor)
       → (honest mid.engine.nand ≡ true → IsWell flash mid → result ≡ Ok true → HasMovedOn mid.cursor (image_in flash mid.engine) new.cursor)
       → Calls flash recorded honest calm programs erases failed mid result new
-  calls_as g old mid new count result roomy going upkeeps migrates rests stays moves_on = record {
+  calls_as g old mid new count result roomy going upkeeps migrates rests brought brings stays moves_on = record {
     upkeeps = upkeeps;
     migrates = migrates going.still going.keeps.well (subst (λ (k : Geometry). 40 ≤ k.spare_bytes) (sym going.sized) roomy);
     rests = rests;
+    brought = brought;
+    brings = brings going.still going.keeps.well;
     stays = stays;
     moves_on = moves_on going.still going.keeps.well;
   }
@@ -121,29 +137,32 @@ module _ {N : Type 0} (flash : N → Flash) (recorded : N → Option Recording) 
       let one_more : suc count ≡ count + 1 = omega arith in
       record {
         device = device;
+        began = going.began;
         sized = sized ∙ going.sized;
         still = its.upkeeps.stays.honest_is ∙ going.still;
         le = omega (arith, going.le, its.upkeeps.stays.failed_is);
         renews = subst (λ n. Renews flash recorded honest calm programs erases failed n old new) one_more (mid, going.renews, its);
-        keeps = keeps_then old mid new going.keeps (turn_keeps mid new (Ok tt) going.still going.keeps.well (λ is. (let never : ⊥ = cc in never)) its.upkeeps);
+        keeps = keeps_then old mid new (same_size g old mid count going) going.keeps (turn_keeps mid new (Ok tt) going.still going.keeps.well (λ is. (let never : ⊥ = cc in never)) its.upkeeps);
         left = omega (arith, going.left, fewer);
       }
 
   -- the one that answered false, or that was refused
   pub record HasEnded (g : Geometry) (old : Device N) (result : Result ℕ DeviceFault) (new : Device N) : Type 0 where
+    pub began : old.engine.geometry ≡ g
     pub still : honest new.engine.nand ≡ true
     pub le : failed old.engine.nand ≤ failed new.engine.nand
     pub renews : RenewsAll flash recorded honest calm programs erases failed old result new
-    pub keeps : result ≢ Err BusFault → KeepsAll flash old new
+    pub keeps : result ≢ Err BusFault → KeepsAll flash recorded old new
     pub rose : result ≡ Err BusFault → HasRisen (failed old.engine.nand) (failed new.engine.nand)
     pub none : OnOk result (HasOldTablesOnly (image_in flash new.engine))
 
   pub ends_done : (g : Geometry) (old mid new : Device N) (count : ℕ) → IsGoing g old count mid → Calls flash recorded honest calm programs erases failed mid (Ok false) new → HasEnded g old (Ok count) new
   ends_done g old mid new count going its = record {
+    began = going.began;
     still = its.upkeeps.stays.honest_is ∙ going.still;
     le = omega (arith, going.le, its.upkeeps.stays.failed_is);
     renews = (mid, going.renews, its);
-    keeps = λ _. keeps_then old mid new going.keeps (turn_keeps mid new (Ok tt) going.still going.keeps.well (λ is. (let never : ⊥ = cc in never)) its.upkeeps);
+    keeps = λ _. keeps_then old mid new (same_size g old mid count going) going.keeps (turn_keeps mid new (Ok tt) going.still going.keeps.well (λ is. (let never : ⊥ = cc in never)) its.upkeeps);
     rose = λ is. absurd (let never : ⊥ = cc in never);
     none = its.migrates;
   }
@@ -153,10 +172,11 @@ module _ {N : Type 0} (flash : N → Flash) (recorded : N → Option Recording) 
 
   pub ends_refused : (g : Geometry) (old mid new : Device N) (count : ℕ) (fault : DeviceFault) → IsGoing g old count mid → Calls flash recorded honest calm programs erases failed mid (Err fault) new → HasEnded g old (Err fault) new
   ends_refused g old mid new count fault going its = record {
+    began = going.began;
     still = its.upkeeps.stays.honest_is ∙ going.still;
     le = omega (arith, going.le, its.upkeeps.stays.failed_is);
     renews = (count, mid, going.renews, its);
-    keeps = λ ne. keeps_then old mid new going.keeps (turn_keeps mid new (Err fault) going.still going.keeps.well (err_ne fault (λ is. ne (ap Err is))) its.upkeeps);
+    keeps = λ ne. keeps_then old mid new (same_size g old mid count going) going.keeps (turn_keeps mid new (Err fault) going.still going.keeps.well (err_ne fault (λ is. ne (ap Err is))) its.upkeeps);
     rose = λ is. rose_by old mid new (Err fault) going.le going.keeps.well its.upkeeps (let same : fault ≡ BusFault = cc in ap Err same);
     none = tt;
   }
@@ -165,7 +185,7 @@ module _ {N : Type 0} (flash : N → Flash) (recorded : N → Option Recording) 
   pub record HasFlushed (g : Geometry) (old : Device N) (result : Result ℕ DeviceFault) (new : Device N) : Type 0 where
     pub le : failed old.engine.nand ≤ failed new.engine.nand
     pub renews : RenewsThenFlushes flash recorded honest calm programs erases failed old result new
-    pub keeps : result ≢ Err BusFault → KeepsAll flash old new
+    pub keeps : result ≢ Err BusFault → KeepsAll flash recorded old new
     pub rose : result ≡ Err BusFault → HasRisen (failed old.engine.nand) (failed new.engine.nand)
     pub settled : OnOk result (IsSettled g (image_in flash new.engine))
 
@@ -186,23 +206,23 @@ module _ {N : Type 0} (flash : N → Flash) (recorded : N → Option Recording) 
       → (honest mid.engine.nand ≡ true → IsWell flash mid → Finishes mid.engine.geometry (image_in flash mid.engine) (image_in flash new.engine))
       → HasFlushed g old (Ok count) new
   flush_done g old mid new count ended sized roomy its finishes =
-      let kept : KeepsAll flash old mid = ended.keeps (λ is. (let never : ⊥ = cc in never)) in
+      let kept : KeepsAll flash recorded old mid = ended.keeps (λ is. (let never : ⊥ = cc in never)) in
       record {
         le = omega (arith, ended.le, its.stays.failed_is);
         renews = (mid, ended.renews, its);
-        keeps = λ _. keeps_then old mid new kept (flush_keeps mid new (Ok tt) ended.still kept.well (λ is. (let never : ⊥ = cc in never)) its);
+        keeps = λ _. keeps_then old mid new (sized ∙ sym ended.began) kept (flush_keeps mid new (Ok tt) ended.still kept.well (λ is. (let never : ⊥ = cc in never)) its);
         rose = λ is. absurd (let never : ⊥ = cc in never);
         settled = settles g mid new ended.still kept.well sized its roomy ended.none (finishes ended.still kept.well);
       }
 
-  pub flush_refused : (g : Geometry) (old mid new : Device N) (count : ℕ) (fault : DeviceFault) → HasEnded g old (Ok count) mid
+  pub flush_refused : (g : Geometry) (old mid new : Device N) (count : ℕ) (fault : DeviceFault) → HasEnded g old (Ok count) mid → mid.engine.geometry ≡ g
       → Upkeeps flash recorded honest calm failed Flush mid (Err fault) new → HasFlushed g old (Err fault) new
-  flush_refused g old mid new count fault ended its =
-      let kept : KeepsAll flash old mid = ended.keeps (λ is. (let never : ⊥ = cc in never)) in
+  flush_refused g old mid new count fault ended sized its =
+      let kept : KeepsAll flash recorded old mid = ended.keeps (λ is. (let never : ⊥ = cc in never)) in
       record {
         le = omega (arith, ended.le, its.stays.failed_is);
         renews = inr (count, mid, ended.renews, its);
-        keeps = λ ne. keeps_then old mid new kept (flush_keeps mid new (Err fault) ended.still kept.well (err_ne fault (λ is. ne (ap Err is))) its);
+        keeps = λ ne. keeps_then old mid new (sized ∙ sym ended.began) kept (flush_keeps mid new (Err fault) ended.still kept.well (err_ne fault (λ is. ne (ap Err is))) its);
         rose = λ is. rose_by old mid new (Err fault) ended.le kept.well its (let same : fault ≡ BusFault = cc in ap Err same);
         settled = tt;
       }

@@ -7,7 +7,8 @@ use Rattle.std.proofs.lemmas.Option.{slice_get-get_or, slice_get-map}
 use Rattle.command_words.specs.Words.{texts}
 use Rattle.std.specs.Io.KnownBytes.{Appends}
 use Rattle.std.proofs.KnownBytes.{Appends-trans}
-use Rattle.request_stream.specs.Frames.{AppendsFront}
+use Rattle.request_stream.specs.Frames.{AppendsPart}
+use Rattle.request_stream.proofs.Writing.{missing_before}
 
 -- those before a part, the part, and those behind it
 pub concat_at : (xs : List (List ℕ)) (k : ℕ) (x : List ℕ) → slice_get xs k ≡ Some x → concat xs ≡ concat (take k xs) ++ (x ++ concat (drop (suc k) xs))
@@ -26,13 +27,13 @@ sent_more b m a xs k x is first second =
     let whole : concat (take k xs) ++ x ≡ concat (take (k + 1) xs) = sym (concat_take xs k x is) ∙ ap (λ n. concat (take n xs)) (sym (add-one k)) in
     subst (Appends b a) whole (Appends-trans b m a (concat (take k xs)) x first second)
 
--- or a beginning of it
-pub sent_stop : (b m a : Option (List ℕ)) (xs : List (List ℕ)) (k : ℕ) (x : List ℕ) → slice_get xs k ≡ Some x → Appends b m (concat (take k xs)) → AppendsFront m a x → AppendsFront b a (concat xs)
-sent_stop b m a xs k x is first (sent, more, split, second) =
+-- or a part of it
+pub sent_stop : (b m a : Option (List ℕ)) (xs : List (List ℕ)) (k : ℕ) (x : List ℕ) → slice_get xs k ≡ Some x → Appends b m (concat (take k xs)) → AppendsPart m a x → AppendsPart b a (concat xs)
+sent_stop b m a xs k x is first (sent, more, missing, split, second) =
     let before = concat (take k xs) in
     let behind = concat (drop (suc k) xs) in
     let inner : sent ++ (more ++ behind) ≡ x ++ behind = sym (append_assoc sent more behind) ∙ ap (λ l. l ++ behind) split in
-    (before ++ sent, more ++ behind, append_assoc before sent (more ++ behind) ∙ ap (λ l. before ++ l) inner ∙ sym (concat_at xs k x is), Appends-trans b m a before sent first second)
+    (before ++ sent, more ++ behind, missing_before more behind missing, append_assoc before sent (more ++ behind) ∙ ap (λ l. before ++ l) inner ∙ sym (concat_at xs k x is), Appends-trans b m a before sent first second)
 
 -- the part at a place
 pub part_at : (parts : List (Bor (List ℕ))) (k : ℕ) (x : List ℕ) (d : Bor (List ℕ)) → k < length parts → x ≡ (get_or parts k d).now → slice_get (texts parts) k ≡ Some x

@@ -55,6 +55,9 @@ die_served nand given g capacity c u v b w result how after back most s le none 
     let known : AreKnown s.exchanges = all_known s.exchanges (failures_of nand) (failures_of given) most s.rose le none in
     let there : back ≡ flash_behind s.last.engine.nand = same ∙ ap flash_behind s.given_is in
     let holds = until_known (HoldsTo flash_behind recorded_of is_honest failures_of erases_of nand g capacity c s.first) (HasFailed flash_behind recorded_of is_honest failures_of erases_of) s.exchanges s.last s.headline known refl in
+    let passed : (before : List ℕ) → flash_behind nand ≡ loaded_flash g before (bad_in g c) → failures (log_of holds.headline.run.events) ≡ 0 = λ before loaded.
+    passed_in g before c (flash_behind nand) (flash_behind s.last.engine.nand) holds.headline.ro holds.headline.pinned holds.headline.run.events (accepted_device (flash_behind nand) c) refl holds.headline.run.run holds.headline.legal loaded
+    (subst (λ (f : Flash). has_spared f ≡ true) there spared) in
     record {
       came = result;
       how_is = how_is;
@@ -69,8 +72,7 @@ die_served nand given g capacity c u v b w result how after back most s le none 
         held = refl;
         begun = s.begun;
         holds = holds;
-        passed = λ before loaded. passed_in g before c (flash_behind nand) (flash_behind s.last.engine.nand) holds.headline.ro holds.headline.pinned holds.headline.run.events (accepted_device (flash_behind nand) c) refl holds.headline.run.run holds.headline.legal loaded
-            (subst (λ (f : Flash). has_spared f ≡ true) there spared);
+        passed = passed;
         pages = ap (λ k. raw_image k after) (sym sized) ∙ (pages ∙ ap (λ (f : Flash). f.image) there);
         bytes = bytes ∙ ap (λ (f : Flash). raw_bytes f.image) there;
       };

@@ -8,7 +8,7 @@ use Rattle.page_layout.specs.Raw.{raw_image}
 use Rattle.certificate.specs.Claim.{Claim}
 use Rattle.certificate.specs.Spelling.{Fits, certificate_bytes}
 use Rattle.certificate.specs.Faults as certificate
-use Rattle.image_check.specs.Agrees.{Agrees}
+use Rattle.image_check.specs.Agrees.{Agrees, IsAsked}
 use Rattle.image_check.specs.Refused.{IsFirstWrong}
 use Rattle.image_check.specs.declared.refusal.Refusal.{Refusal}
 use Rattle.image_check.specs.declared.refusal.Refusal.TheVariants as refusals
@@ -71,12 +71,18 @@ IsToldAs r path (fault.Read at) = (r ≡ refusals.Source) × (at.now ≡ path)
 IsToldAs r path (fault.Check other) = (other ≡ r) × (r ≢ refusals.WrongLength) × (r ≢ refusals.Source)
 IsToldAs r path _ = ⊥
 
--- why the certificate was not found to agree with an image, of whose file the path and the known bytes are these
+-- the certificate is of another geometry or another capacity just where this is what the checker says of it, whatever the image's file holds
+pub record DiffersAs (g : Geometry) (capacity : ℕ) (c : Claim) (refusal : Refusal) : Type 0 where
+  pub other : refusal ≡ refusals.GeometryDiffers → ¬ IsAsked g capacity c
+  pub same : refusal ≢ refusals.GeometryDiffers → IsAsked g capacity c
+
+-- Why the certificate was not found to agree with an image, of whose file the path and the known bytes are these. Of a certificate of another
+-- geometry or another capacity that is told, and not what its image's file came to.
 abbrev pub IsUnheld : Geometry → ℕ → List ℕ → Option (List ℕ) → Claim → CommandFault → Type 0
-IsUnheld g capacity path known c fault.WrongLength = IfSome known (λ bytes. ¬ IsWhole g bytes)
-IsUnheld g capacity path known c (fault.Read at) = at.now ≡ path
-IsUnheld g capacity path known c (fault.Check refusal) =
-    (refusal ≡ refusals.OutOfMemory) ⊎ IfSome known (λ bytes. IsFirstWrong g capacity (raw_image g bytes) c refusal)
+IsUnheld g capacity path known c fault.WrongLength = IsAsked g capacity c × IfSome known (λ bytes. ¬ IsWhole g bytes)
+IsUnheld g capacity path known c (fault.Read at) = IsAsked g capacity c × (at.now ≡ path)
+IsUnheld g capacity path known c (fault.Check refusal) = DiffersAs g capacity c refusal
+    × ((refusal ≡ refusals.OutOfMemory) ⊎ IfSome known (λ bytes. IsFirstWrong g capacity (raw_image g bytes) c refusal))
 IsUnheld g capacity path known c _ = ⊥
 
 -- the image is whole, and the certificate agrees with it
@@ -84,15 +90,20 @@ pub record IsHeld (g : Geometry) (capacity : ℕ) (bytes : List ℕ) (c : Claim)
   pub whole : IsWhole g bytes
   pub agrees : Agrees g capacity (raw_image g bytes) c
 
+-- the certificate is of the geometry and the capacity, and so it is with the image that the file's bytes are, as far as these are known
+pub record IsHeldAs (g : Geometry) (capacity : ℕ) (known : Option (List ℕ)) (c : Claim) : Type 0 where
+  pub asked : IsAsked g capacity c
+  pub held : IfSome known (λ bytes. IsHeld g capacity bytes c)
+
 -- the line
 abbrev pub accepted_line : List ℕ
 accepted_line = codes "accepted" ++ (10 ∷ [])
 
 -- What holding a certificate against the image of this path, and then printing, came to. Nothing is printed before it is held.
 abbrev pub Accepts : Geometry → ℕ → (path : List ℕ) → (known : Option (List ℕ)) → Claim → (before after : Option (List ℕ)) → Result (Unit {0}) CommandFault → Type 0
-Accepts g capacity path known c before after (Ok done) = IfSome known (λ bytes. IsHeld g capacity bytes c) × Appends before after accepted_line
+Accepts g capacity path known c before after (Ok done) = IsHeldAs g capacity known c × Appends before after accepted_line
 Accepts g capacity path known c before after (Err stop) =
-    (Keeps before after × IsUnheld g capacity path known c stop) ⊎ (IfSome known (λ bytes. IsHeld g capacity bytes c) × IsUnprinted accepted_line before after stop)
+    (Keeps before after × IsUnheld g capacity path known c stop) ⊎ (IsHeldAs g capacity known c × IsUnprinted accepted_line before after stop)
 
 -- nothing was written to standard output, unless it is what failed
 abbrev pub IsKept : CommandFault → Option (List ℕ) → Option (List ℕ) → Type 0
@@ -136,9 +147,9 @@ pub record HasCertificate (gives : Gives) (tells : Bool) (words : CertificateWor
   pub files : HasFiles gives tells words geometry capacity known written
   pub spelled : IsSpelled claim written
 
--- the image is whole, and the certificate agrees with it
+-- the certificate is what is asked for, the image is whole, and the one agrees with the other
 abbrev pub Holds : {gives : Gives} {tells : Bool} {words : CertificateWords} → HasCertificate gives tells words → Type 0
-Holds has = IfSome has.known (λ bytes. IsHeld has.geometry has.capacity bytes has.claim)
+Holds has = IsHeldAs has.geometry has.capacity has.known has.claim
 
 -- or it was not found to
 abbrev pub HoldsNot : {gives : Gives} {tells : Bool} {words : CertificateWords} → HasCertificate gives tells words → CommandFault → Type 0

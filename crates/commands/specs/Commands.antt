@@ -16,25 +16,25 @@ use Rattle.commands.specs.Serve.{DoesServe}
 use Rattle.commands.specs.Migrate.{DoesMigrate}
 use Rattle.commands.specs.Text.{IsTold}
 
--- what an order came to, with what standard input had before and after: `serve` alone reads it
+-- What an order came to, with what standard input had before and after. `serve` alone reads it: with each other order it has what it had.
 abbrev pub Does : Gives → Bool → Order → Option (List ℕ) → Option (List ℕ) → Left → Left → Result (Unit {0}) CommandFault → Type 0
-Does gives tells (order.Sector words) unread left before after result = DoesSector gives words before.out after.out result × (after.stores ≡ before.stores)
-Does gives tells (order.Show words) unread left before after result = DoesShow gives words before.out after.out result × (after.stores ≡ before.stores)
-Does gives tells (order.Format words) unread left before after result = DoesFormat gives words before after result
-Does gives tells (order.Check words) unread left before after result = DoesCheck gives tells words before.out after.out result × (after.stores ≡ before.stores)
-Does gives tells (order.Mount words) unread left before after result = DoesMount gives words before after result
+Does gives tells (order.Sector words) unread left before after result = DoesSector gives words before.out after.out result × (after.stores ≡ before.stores) × Keeps unread left
+Does gives tells (order.Show words) unread left before after result = DoesShow gives words before.out after.out result × (after.stores ≡ before.stores) × Keeps unread left
+Does gives tells (order.Format words) unread left before after result = DoesFormat gives words before after result × Keeps unread left
+Does gives tells (order.Check words) unread left before after result = DoesCheck gives tells words before.out after.out result × (after.stores ≡ before.stores) × Keeps unread left
+Does gives tells (order.Mount words) unread left before after result = DoesMount gives words before after result × Keeps unread left
 Does gives tells (order.Serve words) unread left before after result = DoesServe gives words unread left before after result
-Does gives tells (order.Migrate words) unread left before after result = DoesMigrate gives words before after result
+Does gives tells (order.Migrate words) unread left before after result = DoesMigrate gives words before after result × Keeps unread left
 
 -- the words are an order, and it came to this
 abbrev pub DoesOrder : Gives → Bool → List (List ℕ) → Option (List ℕ) → Option (List ℕ) → Left → Left → Result (Unit {0}) CommandFault → Type 0
 DoesOrder gives tells words unread left before after result = (order : Order) × IsOrder words order × Does gives tells order unread left before after result
 
--- What the words came to, with the stores and the bytes of standard output before and after. Words that are no order leave
--- them as they were.
+-- What the words came to, with what standard input had, and the stores and the bytes of standard output before and after. Words that are
+-- no order leave all three as they were.
 abbrev pub Obeys : Gives → Bool → List (List ℕ) → Option (List ℕ) → Option (List ℕ) → Left → Left → Result (Unit {0}) CommandFault → Type 0
-Obeys gives tells words unread left before after (Err NoSuchCommand) = Leaves before after × ((order : Order) → ¬ IsOrder words order)
-Obeys gives tells words unread left before after (Err OutOfMemory) = Leaves before after ⊎ DoesOrder gives tells words unread left before after (Err OutOfMemory)
+Obeys gives tells words unread left before after (Err NoSuchCommand) = Leaves before after × Keeps unread left × ((order : Order) → ¬ IsOrder words order)
+Obeys gives tells words unread left before after (Err OutOfMemory) = (Leaves before after × Keeps unread left) ⊎ DoesOrder gives tells words unread left before after (Err OutOfMemory)
 Obeys gives tells words unread left before after result = DoesOrder gives tells words unread left before after result
 
 -- Status 0 and nothing on standard error where all was done; else the fault's line there, and its status.

@@ -16,7 +16,7 @@ use Rattle.mount.specs.Formatted.{IsFormatted, good_after}
 use Rattle.mount.specs.Fresh.{is_used, IsFirstPass}
 use Rattle.mount.specs.Log.{failures}
 use Rattle.command_words.specs.declared.numbers.GeometryNumbers.{GeometryNumbers}
-use Rattle.request_stream.specs.Frames.{AppendsFront}
+use Rattle.request_stream.specs.Frames.{AppendsPart}
 use Rattle.commands.specs.declared.files.FileFault.TheVariants as file
 use Rattle.commands.specs.declared.text.CommandFault.{CommandFault}
 use Rattle.commands.specs.declared.text.CommandFault.TheVariants as fault
@@ -75,11 +75,11 @@ pub record HasFormatted (gives : Gives) (words : FileWords) (after : List ℕ) (
   pub input : HasInput gives words geometry before
   pub formatted : IsFormattedImage geometry before after good
 
--- it could not be stored under OUT, and nothing was printed; or it was stored, and of the line a beginning was printed
+-- it could not be stored under OUT, and nothing was printed; or it was stored, and of the line a part was printed, and not all of it
 abbrev pub IsUnwritten : FileWords → List ℕ → ℕ → Left → Left → List ℕ → Type 0
 IsUnwritten words bytes good before after path =
     ((path ≡ words.output.now) × (after.stores ≡ with_store before.stores (unwritten words.output.now bytes)) × Keeps before.out after.out)
-    ⊎ ((path ≡ codes "-") × (after.stores ≡ with_store before.stores (written words.output.now bytes)) × AppendsFront before.out after.out (good_line good))
+    ⊎ ((path ≡ codes "-") × (after.stores ≡ with_store before.stores (written words.output.now bytes)) × AppendsPart before.out after.out (good_line good))
 
 -- What the command came to, with the stores and the bytes of standard output before and after. Each fault says that nothing
 -- before it in the order failed: the geometry, the file, its length, the die, its format, the store under OUT, and then the line.

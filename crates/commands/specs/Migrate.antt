@@ -16,14 +16,19 @@ use Rattle.image_check.specs.Agrees.{Agrees}
 use Rattle.image_check.specs.Mountable.{IsMountable}
 use Rattle.image_check.specs.Refused.{IsFirstWrong}
 use Rattle.image_check.specs.Stale.{stale_sectors}
+use Rattle.promises.specs.Legal.{IsLegal, accounts_of}
 use Rattle.promises.specs.Step.{Flush, Turn}
-use Rattle.collection.specs.Safe.{image_in}
+use Rattle.mount.specs.Log.{failures}
+use Rattle.allocation.specs.View.{state}
+use Rattle.collection.specs.Log.{IsAccounted, Went}
+use Rattle.collection.specs.Safe.{image_in, ram}
 use Rattle.ftl_device.specs.declared.device.Device.{Device}
 use Rattle.ftl_device.specs.declared.fault.DeviceFault.{DeviceFault}
-use Rattle.ftl_device.specs.Begin.{free_in, is_scarce}
+use Rattle.ftl_device.specs.Begin.{free_in, is_bad_in, is_scarce}
 use Rattle.ftl_device.specs.Calls.{IsWell, array_in}
 use Rattle.ftl_device.specs.Changes.{Upkeeps}
 use Rattle.ftl_device.specs.Migrate.{ended, HasMovedOn, Migrates}
+use Rattle.ftl_device.specs.Brings.{HasBrought, BringsOne}
 use Rattle.ftl_device.specs.Renewed.{HasNoneOld}
 use Rattle.block_server.specs.Checked.{IsBegun}
 use Rattle.command_words.specs.declared.words.ServeWords.{ServeWords}
@@ -38,12 +43,15 @@ use Rattle.commands.specs.Serve.{erases_of, failures_of, flash_behind, is_calm_a
 -- ---- one call after another, of a device on an honest die whose pages have room for version 2
 
 -- WHAT ONE CALL PROMISES: all that a turn promises of the array; where it answered true there are fewer newest pages of version 1 than before, and where it
--- answered false none but table pages, and nothing was programmed or erased. The cursor moves past the row that was found, and so two calls are not one.
+-- answered false none but table pages, and nothing was programmed or erased. One that answered true made room and brought one page: the one that its look found, or none
+-- where making room had moved it; and the cursor went past its row.
 pub record Calls {N : Type 0} (flash : N → Flash) (recorded : N → Option Recording) (honest calm : N → Bool) (programs erases failed : N → ℕ)
     (old : Device N) (result : Result Bool DeviceFault) (new : Device N) : Type 0 where
   pub upkeeps : Upkeeps flash recorded honest calm failed Turn old (ended result) new
   pub migrates : IfOk result (λ found. Migrates found old.engine.geometry (image_in flash old.engine) (image_in flash new.engine))
   pub rests : IfOk result (λ found. found ≡ false → OnlyReads flash honest calm programs erases failed old.engine.nand new.engine.nand)
+  pub brought : result ≡ Ok true → HasBrought (ram old.engine) (ram new.engine)
+  pub brings : result ≡ Ok true → BringsOne flash recorded old new
   pub stays : result ≢ Ok true → new.cursor ≡ old.cursor
   pub moves_on : result ≡ Ok true → HasMovedOn old.cursor (image_in flash old.engine) new.cursor
 
@@ -76,11 +84,13 @@ RenewsThenFlushes {N} flash recorded honest calm programs erases failed old (Err
     ⊎ ((count : ℕ) × (mid : Device N) × RenewsAll flash recorded honest calm programs erases failed old (Ok count) mid
     × Upkeeps flash recorded honest calm failed Flush mid (Err refused) new)
 
--- WHAT STAYS, whether or not a call was refused: the array, and the capacity of the cache. The memory is true of the image.
-pub record KeepsAll {N : Type 0} (flash : N → Flash) (old new : Device N) : Type 0 where
+-- WHAT STAYS, whether or not a call was refused: the array, and the capacity of the cache. The memory is true of the image; and one log, that of all
+-- calls, leads from the one die to the other.
+pub record KeepsAll {N : Type 0} (flash : N → Flash) (recorded : N → Option Recording) (old new : Device N) : Type 0 where
   pub well : IsWell flash new
   pub array : array_in flash new ≡ array_in flash old
   pub capacity : new.engine.mapping.capacity ≡ old.engine.mapping.capacity
+  pub went : Went (ram old.engine) (flash old.engine.nand) (recorded old.engine.nand) (ram new.engine) (flash new.engine.nand) (recorded new.engine.nand)
 
 -- WHAT AN IMAGE IS WORTH after all calls and the flush: it has a certificate at every capacity, no entry is stale, and no newest page is of version 1
 pub record IsSettled (g : Geometry) (image : Image) : Type 0 where
@@ -90,19 +100,21 @@ pub record IsSettled (g : Geometry) (image : Image) : Type 0 where
 
 -- ---- an image in place
 
--- The certificate was accepted for a die in memory whose pages have room for version 2, and a device was started over it: its memory is true of the image,
--- and it is read-only just where fewer than five blocks are free.
+-- The certificate was accepted for a die in memory whose pages have room for version 2, and a device was started over it: its memory is true of the image
+-- and agrees with the accounts of it, it is read-only just where fewer than five blocks are free, and it looks from row 0 on first.
 pub record StartsOver (g : Geometry) (capacity : ℕ) (c : Claim) (nand : Driver) (first : Device Driver) : Type 0 where
   pub agrees : Agrees g capacity (flash_behind nand).image c
   pub roomy : 40 ≤ g.spare_bytes
-  pub begun : IsBegun flash_behind is_honest failures_of nand g c first
+  pub begun : IsBegun flash_behind recorded_of is_honest failures_of nand g c first
   pub sized : first.engine.geometry ≡ g
   pub well : IsWell flash_behind first
+  pub cursor : first.cursor ≡ 0
   pub free : first.read_only ≡ is_scarce (free_in g c (flash_behind nand).image)
+  pub accounts : IsAccounted (accounts_of g (flash_behind nand).image (is_bad_in c)) (state first.engine.blocks)
 
 -- THE PAGES OF A DIE IN MEMORY WERE BROUGHT FORWARD by the calls of a device that was started over it, and `after` is the image that it holds then. Its
 -- array is that of the image before. It mounts for as many stale sectors as the cache holds and a block has pages, and for any cache where no call was
--- refused.
+-- refused. The log of the calls is legal; and of a die that was loaded with the certificate's bad blocks no program and no erase in it failed.
 pub record MigratesDie (g : Geometry) (capacity : ℕ) (c : Claim) (s : Flash) (after : List ℕ) (came : Result ℕ DeviceFault) : Type 0 where
   pub nand : Driver
   pub first : Device Driver
@@ -115,6 +127,9 @@ pub record MigratesDie (g : Geometry) (capacity : ℕ) (c : Claim) (s : Flash) (
   pub array : array_of g (raw_image g after) ≡ array_of g s.image
   pub mountable : capacity + g.pages ≤ 65536 → IsMountable g (capacity + g.pages) (raw_image g after)
   pub settled : OnOk came (IsSettled g (raw_image g after))
+  pub went : Went (ram first.engine) s (recorded_of nand) (ram last.engine) (flash_behind last.engine.nand) (recorded_of last.engine.nand)
+  pub legal : IsLegal g s.image (is_bad_in c) went.log
+  pub passed : (before : List ℕ) → s ≡ loaded_flash g before (bad_in g c) → failures went.log ≡ 0
 
 -- why a die in memory was not: it answers each read
 abbrev pub IsUnmigratedDie : Geometry → ℕ → Claim → Flash → CommandFault → Type 0

@@ -2,7 +2,7 @@
 use Rattle.std.specs.Prelude.{◌≡◌, ◌≢◌, ◌⊎◌, ◌<◌, ◌≤◌, ◌*◌, ℕ, List, [], ◌∷◌, ◌++◌, length, codes, Option, Some, None, Result, Ok, Err}
 use Rattle.std.specs.Io.KnownBytes.{Appends, Keeps}
 use Rattle.hex.specs.Hex.{encode_lower}
-use Rattle.request_stream.specs.Frames.{AppendsFront}
+use Rattle.request_stream.specs.Frames.{AppendsPart}
 use Rattle.page_layout.specs.declared.geometry.Geometry.{Geometry}
 use Rattle.page_layout.specs.Geometry.{row_count, page_bytes}
 use Rattle.page_layout.specs.Faults.{HasNumbers, IsFirstFault}
@@ -43,9 +43,9 @@ IsPrintFault g image n (print.Sector fault) = IsUnreadable g image n fault
 IsPrintFault g image n print.Write = IsReadable g image n
 IsPrintFault g image n print.OutOfMemory = IsReadable g image n
 
--- nothing was written, or a beginning of the line where it was the writer that failed
+-- nothing was written, or a part of the line where it was the writer that failed, and not all of it
 abbrev pub IsUnprinted : List ℕ → PrintFault → Option (List ℕ) → Option (List ℕ) → Type 0
-IsUnprinted line print.Write before after = AppendsFront before after line
+IsUnprinted line print.Write before after = AppendsPart before after line
 IsUnprinted line (print.Sector fault) before after = Keeps before after
 IsUnprinted line print.OutOfMemory before after = Keeps before after
 
@@ -83,7 +83,7 @@ DoesSector gives words before after (Err (fault.Sector refused)) = Keeps before 
     × ((g : Geometry) × (n : ℕ) × (bytes : List ℕ) × HasImage gives words g n bytes × IsUnreadable g (raw_image g bytes) n refused)
 DoesSector gives words before after (Err (fault.Write path)) = (path.now ≡ codes "-")
     × ((g : Geometry) × (n : ℕ) × (bytes : List ℕ) × HasImage gives words g n bytes × IsReadable g (raw_image g bytes) n
-    × AppendsFront before after (sector_line g (raw_image g bytes) n))
+    × AppendsPart before after (sector_line g (raw_image g bytes) n))
 DoesSector gives words before after (Err fault.OutOfMemory) = Keeps before after
     × (((g : Geometry) × (n : ℕ) × AsksForNumber words g n × gives words.image.now (Err file.OutOfMemory))
     ⊎ ((g : Geometry) × (n : ℕ) × (bytes : List ℕ) × HasImage gives words g n bytes × IsReadable g (raw_image g bytes) n))

@@ -50,9 +50,9 @@ Driver = DriverState SteadyDie
 abbrev pub flash_behind : Driver → Flash
 flash_behind d = flash_by (λ (bus : SteadyDie). bus.die.state) d
 
--- it tells no record
+-- it tells the record that its die keeps
 abbrev pub recorded_of : Driver → Option Recording
-recorded_of d = None
+recorded_of d = d.bus.die.recorded
 
 abbrev pub is_honest : Driver → Bool
 is_honest d = true
@@ -82,7 +82,7 @@ pub record ServesDie (g : Geometry) (capacity : ℕ) (c : Claim) (s : Flash) (af
   pub first : Device Driver
   pub last : Device Driver
   pub held : flash_behind nand ≡ s
-  pub begun : IsBegun flash_behind is_honest failures_of nand g c first
+  pub begun : IsBegun flash_behind recorded_of is_honest failures_of nand g c first
   pub holds : Holds flash_behind recorded_of is_honest failures_of erases_of g capacity c s first exchanges last
   pub passed : (before : List ℕ) → s ≡ loaded_flash g before (bad_in g c) → failures (log_of holds.headline.run.events) ≡ 0
   pub pages : raw_image g after ≡ (flash_behind last.engine.nand).image

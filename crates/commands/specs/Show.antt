@@ -12,7 +12,7 @@ use Rattle.page_layout.specs.Faults.{IsFirstFault}
 use Rattle.page_layout.specs.Page.{Page, Image}
 use Rattle.page_layout.specs.Raw.{raw_image}
 use Rattle.page_layout.specs.Sound.{record_of, version_of, is_erased_page}
-use Rattle.request_stream.specs.Frames.{AppendsFront}
+use Rattle.request_stream.specs.Frames.{AppendsPart}
 use Rattle.command_words.specs.declared.numbers.GeometryNumbers.{GeometryNumbers}
 use Rattle.commands.specs.declared.show.Shown.{Shown}
 use Rattle.commands.specs.declared.show.Shown.TheVariants.{Sound, Erased, Unsound}
@@ -60,17 +60,17 @@ pub record Shows (g : Geometry) (image : Image) (row : ℕ) (before after : Opti
   pub in_range : row < row_count g
   pub line : Appends before after (shown_line (shown_of page))
 
--- the same, but that the writer failed: a beginning of the line was written
-pub record ShowsFront (g : Geometry) (image : Image) (row : ℕ) (before after : Option (List ℕ)) : Type 0 where
+-- the same, but that the writer failed: a part of the line was written, and not all of it
+pub record ShowsPart (g : Geometry) (image : Image) (row : ℕ) (before after : Option (List ℕ)) : Type 0 where
   pub page : Page
   pub page_is : slice_get image row ≡ Some page
   pub in_range : row < row_count g
-  pub front : AppendsFront before after (shown_line (shown_of page))
+  pub part : AppendsPart before after (shown_line (shown_of page))
 
 -- why the row's page was not shown
 abbrev pub IsUnshown : Geometry → Image → ℕ → Option (List ℕ) → Option (List ℕ) → CommandFault → Type 0
 IsUnshown g image row before after fault.RowRange = (row_count g ≤ row) × Keeps before after
-IsUnshown g image row before after (fault.Write path) = (path.now ≡ codes "-") × ShowsFront g image row before after
+IsUnshown g image row before after (fault.Write path) = (path.now ≡ codes "-") × ShowsPart g image row before after
 IsUnshown g image row before after _ = ⊥
 
 -- What the command came to, with the bytes of standard output before and after. Each fault says that nothing before it in

@@ -1,7 +1,7 @@
 //! The command `check GEOM C IMAGE CERT`.
-ghost use Rattle.std.specs.Prelude.{◌≡◌, OnOk, IfOk, IfErr, IfSome};
+ghost use Rattle.std.specs.Prelude.{◌≡◌, OnOk, IfOk, IfErr};
 ghost use Rattle.std.specs.Io.KnownBytes.{Appends};
-ghost use Rattle.commands.specs.Check.{Accepts, DoesCheck, IsHeld, IsNoCertificate, IsSpelled, IsToldAs, IsUnheld, accepted_line};
+ghost use Rattle.commands.specs.Check.{Accepts, DoesCheck, IsHeldAs, IsNoCertificate, IsSpelled, IsToldAs, IsUnheld, accepted_line};
 ghost use Rattle.commands.specs.Lines.{IsUnprinted};
 
 use crate::files::FileStore;
@@ -48,7 +48,7 @@ fn hold<'a, R: Read>(
     image: &mut R,
     certificate: &Certificate,
 ) -> Result<(), CommandFault<'a>>
-    ensures ok { OnOk result (IfSome (R.remaining image.old) (λ bytes. IsHeld asked.now.geometry asked.now.capacity bytes certificate.now)) }
+    ensures ok { OnOk result (IsHeldAs asked.now.geometry asked.now.capacity (R.remaining image.old) certificate.now) }
     ensures fault { IfErr result (IsUnheld asked.now.geometry asked.now.capacity path.now (R.remaining image.old) certificate.now) }
 {
     match check_stream(alloc, image, &asked.geometry, asked.capacity, certificate) {

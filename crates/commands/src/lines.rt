@@ -2,7 +2,7 @@
 ghost use Rattle.std.specs.Prelude.{◌≡◌, [], ◌∷◌, ◌++◌, OnOk, IfErr, codes};
 ghost use Rattle.std.specs.List.{concat};
 ghost use Rattle.std.specs.Io.KnownBytes.{Appends};
-ghost use Rattle.request_stream.specs.Frames.{Sends};
+ghost use Rattle.request_stream.specs.Frames.{SendsLine};
 ghost use Rattle.command_words.specs.Words.{texts};
 ghost use Rattle.commands.specs.Lines.{IsUnprinted};
 ghost use Rattle.commands.specs.Text.{device_start, device_words};
@@ -16,7 +16,7 @@ use std::io::Write;
 // Writes the parts of a line one after another. `Write` where a write failed, was interrupted or took nothing: a beginning of
 // the line is out.
 fn send_parts<W: Write>(out: &mut W, parts: &[&str]) -> Result<(), ServeFault>
-    ensures { Sends (W.contents out.old) (W.contents out.new) (concat (texts parts.now)) result }
+    ensures { SendsLine (W.contents out.old) (W.contents out.new) (concat (texts parts.now)) result }
 {
     for part in parts {
         send(out, part.as_bytes())?;
@@ -37,7 +37,7 @@ pub fn send_line<'a, W: Write>(
     between: &'a str,
     second: &'a str,
 ) -> Result<(), ServeFault>
-    ensures { Sends (W.contents out.old) (W.contents out.new) (area.now ++ (name.now ++ (first.now ++ (between.now ++ (second.now ++ (10 ∷ [])))))) result }
+    ensures { SendsLine (W.contents out.old) (W.contents out.new) (area.now ++ (name.now ++ (first.now ++ (between.now ++ (second.now ++ (10 ∷ [])))))) result }
 {
     send_parts(out, &[area, name, first, between, second, "\n"])
 }
@@ -66,7 +66,7 @@ fn send_counts<'a, W: Write>(
     more: &'a str,
     last: &'a str,
 ) -> Result<(), ServeFault>
-    ensures { Sends (W.contents out.old) (W.contents out.new) (area.now ++ (codes "2 ReadOnly good " ++ (good.now ++ (codes " need " ++ (need.now ++ (codes " failed "
+    ensures { SendsLine (W.contents out.old) (W.contents out.new) (area.now ++ (codes "2 ReadOnly good " ++ (good.now ++ (codes " need " ++ (need.now ++ (codes " failed "
         ++ (failed.now ++ (more.now ++ (last.now ++ (10 ∷ [])))))))))) result }
 {
     let parts = [
@@ -96,7 +96,7 @@ pub fn send_device<'a, W: Write>(
     more: &'a str,
     last: &'a str,
 ) -> Result<(), ServeFault>
-    ensures { Sends (W.contents out.old) (W.contents out.new) (area.now ++ (device_words refused ++ (more.now ++ (last.now ++ (10 ∷ []))))) result }
+    ensures { SendsLine (W.contents out.old) (W.contents out.new) (area.now ++ (device_words refused ++ (more.now ++ (last.now ++ (10 ∷ []))))) result }
 {
     let DeviceFault::ReadOnly { good, need, failed } = refused else {
         return send_line(out, area, device_text(refused), more, last, "");

@@ -24,7 +24,7 @@ fn renew_all<N: Nand>(device: &mut Device<N>, geometry: &Geometry) -> Result<u32
     ensures honest { N.honest device.new.engine.nand ≡ true }
     ensures failed { N.failed device.old.engine.nand ≤ N.failed device.new.engine.nand }
     ensures renews { RenewsAll N.flash N.recorded N.honest N.calm N.programs N.erases N.failed device.old result device.new }
-    ensures keeps { result ≢ Err DeviceFault.BusFault → KeepsAll N.flash device.old device.new }
+    ensures keeps { result ≢ Err DeviceFault.BusFault → KeepsAll N.flash N.recorded device.old device.new }
     ensures rose { result ≡ Err DeviceFault.BusFault → HasRisen (N.failed device.old.engine.nand) (N.failed device.new.engine.nand) }
     ensures none { OnOk result (HasOldTablesOnly (image_in N.flash device.new.engine)) }
 {
@@ -58,7 +58,7 @@ pub fn renew_and_flush<N: Nand>(
     ensures geometry { device.new.engine.geometry ≡ geometry.now }
     ensures failed { N.failed device.old.engine.nand ≤ N.failed device.new.engine.nand }
     ensures renews { RenewsThenFlushes N.flash N.recorded N.honest N.calm N.programs N.erases N.failed device.old result device.new }
-    ensures keeps { result ≢ Err DeviceFault.BusFault → KeepsAll N.flash device.old device.new }
+    ensures keeps { result ≢ Err DeviceFault.BusFault → KeepsAll N.flash N.recorded device.old device.new }
     ensures rose { result ≡ Err DeviceFault.BusFault → HasRisen (N.failed device.old.engine.nand) (N.failed device.new.engine.nand) }
     ensures settled { OnOk result (IsSettled geometry.now (image_in N.flash device.new.engine)) }
 {

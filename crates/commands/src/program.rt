@@ -58,8 +58,9 @@ fn obey<'a, F: FileStore, R: Read, W: Write>(
 
 /// Does what the words say, and answers the exit status: 0 done, 1 refused, 2 usage, 3 input or
 /// output. `words` begins with the program's name. Results go to `out`; of a command that was not
-/// done one line goes to `err`, or a beginning of it where `err` failed, and nothing to `out` unless it is `out` that failed. `serve` alone reads
-/// `input`, and writes its replies to `out`, also where it is stopped.
+/// done one line goes to `err`, and nothing to `out` unless it is `out` that failed. It is two lines where `serve` was stopped, or
+/// `migrate` refused, and then the file could not be stored either. Where `err` failed a beginning of them stands there, or nothing,
+/// never all, and the status is 3. `serve` alone reads `input`, and writes its replies to `out`, also where it is stopped.
 ///
 /// Where several faults hold, the first of this order is told: words that are no command, numbers by
 /// the order of the words, the geometry, the cache's capacity, the files by the order of the words,

@@ -1,6 +1,6 @@
 //! What a line says of a fault: its number and its name, and the numbers that it names.
 ghost use Rattle.std.specs.Prelude.{◌≡◌, [], ◌∷◌, ◌++◌};
-ghost use Rattle.request_stream.specs.Frames.{Sends};
+ghost use Rattle.request_stream.specs.Frames.{SendsLine};
 ghost use Rattle.commands.specs.Said.{said_bytes};
 ghost use Rattle.commands.specs.Text.{certificate_words, die_words, format_words, geometry_words, refusal_words, sector_words};
 
@@ -128,7 +128,7 @@ pub fn of_refusal<'a>(refusal: Refusal) -> Said<'a>
 ///
 /// `Write` where a write failed, was interrupted or took nothing: a beginning of the line is out.
 pub fn send_said<'a, W: Write>(out: &mut W, area: &'a str, said: Said<'a>) -> Result<(), ServeFault>
-    ensures { Sends (W.contents out.old) (W.contents out.new) ((area.now ++ said_bytes said.entry) ++ (10 ∷ [])) result }
+    ensures { SendsLine (W.contents out.old) (W.contents out.new) ((area.now ++ said_bytes said.entry) ++ (10 ∷ [])) result }
 {
     let (mut digits, mut more) = (Buffer::new(), Buffer::new());
     match said {

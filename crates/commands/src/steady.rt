@@ -19,6 +19,8 @@ impl Bus for SteadyDie {
 
     ghost failed = { λ _. 0 };
 
+    ghost recorded = { λ d. d.die.recorded };
+
     // What no call changes: whether it is flawless, so that no operation that is due fails.
     ghost calm = { λ d. is_flawless d.die };
 

@@ -1,4 +1,4 @@
-//! What the program says when a command ends before it is done: one line, and the exit status.
+//! What the program says when a command ends before it is done: one line, or two where two things failed, and the exit status.
 ghost use Rattle.std.specs.Prelude.{◌≡◌, ◌++◌};
 ghost use Rattle.commands.specs.Said.{said_bytes};
 ghost use Rattle.commands.specs.Text.{IsTold, line_of, stop_words};
@@ -161,8 +161,9 @@ fn line<'a>(fault: &CommandFault<'a>) -> (&'a str, Said<'a>)
     }
 }
 
-/// Writes the fault's line to `err`, with a line feed, and answers its exit status. Where a write failed, was interrupted or took
-/// nothing it answers 3, and a beginning of the line stands there, or nothing. (The lines and the statuses are this project's.)
+/// Writes the fault's line to `err`, with a line feed, and answers its exit status; of a store that failed after another refusal two
+/// lines. Where a write failed, was interrupted or took nothing it answers 3, and a beginning of the line stands there, or nothing,
+/// and never all of it. (The lines and the statuses are this project's.)
 pub fn tell<E: Write>(fault: &CommandFault<'_>, err: &mut E) -> u8
     ensures { IsTold fault.now (E.contents err.old) (E.contents err.new) result }
 {

@@ -1,1 +1,2 @@
 mod EndLemmas
+mod LineLemmas

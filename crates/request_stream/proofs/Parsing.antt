@@ -1,5 +1,5 @@
 -- Twelve bytes that spell a header.
-use Rattle.std.proofs.Common.{◌≡◌, ◌<◌, ◌+◌, ◌*◌, ℕ, List, [], ◌∷◌, ◌++◌, length, drop, get_or, slice_index, zero, suc, refl, sym, ap, ◌∙◌, arith, Some}
+use Rattle.std.proofs.Common.{◌≡◌, ◌<◌, ℕ, List, [], ◌∷◌, ◌++◌, length, get_or, slice_index, zero, suc, refl, sym, ap, ◌∙◌, arith, Some}
 use Rattle.std.specs.Int.{to_le_bytes, from_le_bytes, w32}
 use Rattle.std.proofs.lemmas.Nat.{le_bytes_4}
 use Rattle.promises.specs.Stream.{Request, header_bytes, op_code, op_from}

@@ -1,6 +1,6 @@
 -- A header that was read, and then its body.
-use Rattle.std.proofs.Common.{◌≡◌, ◌<◌, ◌^◌, ℕ, List, [], ◌++◌, Option, Result, Ok, Err, length, refl, sym, subst, ap, ◌∙◌, arith, inr}
-use Rattle.std.proofs.Common.{length-append, append-nil}
+use Rattle.std.proofs.Common.{◌≡◌, ◌<◌, ◌^◌, ℕ, List, [], ◌++◌, Option, Result, Ok, Err, length, refl, sym, subst, ap, arith, inr}
+use Rattle.std.proofs.Common.{length-append}
 use Rattle.std.specs.Io.KnownBytes.{Consumes}
 use Rattle.std.proofs.KnownBytes.{Consumes-trans}
 use Rattle.promises.specs.Stream.{Request, IsRequest, header_bytes, request_bytes, body_length}

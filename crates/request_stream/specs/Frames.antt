@@ -1,5 +1,5 @@
 -- How the requests of a stream are read one by one, and how replies are written.
-use Rattle.std.specs.Prelude.{◌≡◌, ◌<◌, ℕ, false, List, [], ◌∷◌, ◌++◌, length, Option, Result, Ok, Err}
+use Rattle.std.specs.Prelude.{◌≡◌, ◌≢◌, ◌<◌, ℕ, false, List, [], ◌∷◌, ◌++◌, length, Option, Result, Ok, Err}
 use Rattle.std.specs.Int.{to_le_bytes, w32}
 use Rattle.std.specs.Io.KnownBytes.{Appends, Consumes, IsAtEnd}
 use Rattle.promises.specs.Stream.{Request, IsRequest, IsBeginning, IsRest, body_length, is_header, request_bytes}
@@ -58,11 +58,22 @@ last_count Boundary = 0
 last_count Unfinished = 0
 last_count BadFrame = 1
 
--- a beginning of the bytes was written
+-- a beginning of the bytes was written, or all of them
 abbrev pub AppendsFront : Option (List ℕ) → Option (List ℕ) → List ℕ → Type 0
 AppendsFront old new due = (sent more : List ℕ) × (sent ++ more ≡ due) × Appends old new sent
 
--- all of them were written, or a write failed and a beginning was
+-- all of them were written, or a write failed, or the handing on of all of them did, and a beginning was
 abbrev pub Sends : {T : Type 0} → Option (List ℕ) → Option (List ℕ) → List ℕ → Result T ServeFault → Type 0
 Sends old new due (Ok x) = Appends old new due
 Sends old new due (Err e) = (e ≡ fault.Write) × AppendsFront old new due
+
+-- ---- lines
+
+-- a beginning of a line was written, or nothing, and never all of it: some of its bytes are missing
+abbrev pub AppendsPart : Option (List ℕ) → Option (List ℕ) → List ℕ → Type 0
+AppendsPart old new line = (sent more : List ℕ) × (more ≢ []) × (sent ++ more ≡ line) × Appends old new sent
+
+-- all of it was written, or a write failed and a part was
+abbrev pub SendsLine : {T : Type 0} → Option (List ℕ) → Option (List ℕ) → List ℕ → Result T ServeFault → Type 0
+SendsLine old new line (Ok x) = Appends old new line
+SendsLine old new line (Err e) = (e ≡ fault.Write) × AppendsPart old new line

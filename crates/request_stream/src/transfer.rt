@@ -1,7 +1,7 @@
 //! Reads that fill a buffer and writes that send one. Std's own retry what was interrupted, and do not say how far they came.
 ghost use Rattle.std.specs.Prelude.{◌≡◌, ◌≤◌, ◌<◌, true, false, length, take};
 ghost use Rattle.std.specs.Io.KnownBytes.{Appends, Consumes, IsAtEnd};
-ghost use Rattle.request_stream.specs.Frames.{Sends};
+ghost use Rattle.request_stream.specs.Frames.{SendsLine};
 
 use crate::reply::ServeFault;
 use std::io::{Read, Write};
@@ -59,6 +59,7 @@ fn send_until<W: Write>(writer: &mut W, bytes: &[u8]) -> Sent
     ensures within { result.count ≤ length bytes.now }
     ensures written { Appends (W.contents writer.old) (W.contents writer.new) (take result.count bytes.now) }
     ensures whole { result.failed ≡ false → result.count ≡ length bytes.now }
+    ensures short { result.failed ≡ true → result.count < length bytes.now }
 {
     let mut count = 0;
     while count < bytes.len() {
@@ -78,14 +79,14 @@ fn send_until<W: Write>(writer: &mut W, bytes: &[u8]) -> Sent
     }
 }
 
-/// Writes the bytes, all of them.
+/// Writes the bytes, all of them. They are not handed on: the writer may hold them back until it is flushed.
 ///
 /// # Errors
 ///
-/// `Write` where a write failed, was interrupted or took nothing: a beginning of the bytes is out.
-/// (This project's.)
+/// `Write` where a write failed, was interrupted or took nothing: a beginning of the bytes is out, or nothing, and never all
+/// of them. (This project's.)
 pub fn send<W: Write>(writer: &mut W, bytes: &[u8]) -> Result<(), ServeFault>
-    ensures { Sends (W.contents writer.old) (W.contents writer.new) bytes.now result }
+    ensures { SendsLine (W.contents writer.old) (W.contents writer.new) bytes.now result }
 {
     let sent = send_until(writer, bytes);
     if sent.failed {

@@ -1,5 +1,6 @@
 //! The program, from its words to its exit status.
 ghost use Rattle.std.specs.Prelude.{◌≡◌, IfErr, IfOk, OnErr, map, string_bytes};
+ghost use Rattle.std.specs.Io.KnownBytes.{Keeps};
 ghost use Rattle.std.specs.Process.{exit_status};
 ghost use Rattle.commands.specs.Commands.{Runs};
 ghost use Rattle.commands.specs.Files.{left, Leaves};
@@ -47,6 +48,7 @@ fn end<F: FileStore, R: Read, W: Write, E: Write>(
         (E.contents err.old) (E.contents err.new) (exit_status result)) }
     ensures none { IfErr words.entry (λ fault. IsTold fault (E.contents err.old) (E.contents err.new) (exit_status result)) }
     ensures left { OnErr words.entry (Leaves (left (F.stores files.old) (W.contents out.old)) (left (F.stores files.new) (W.contents out.new))) }
+    ensures unread { OnErr words.entry (Keeps (R.remaining input.old) (R.remaining input.new)) }
 {
     let status = match words {
         Ok(kept) => run_words(alloc, kept.as_slice(), files, input, out, err),

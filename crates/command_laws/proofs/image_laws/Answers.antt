@@ -1,8 +1,14 @@
-use Rattle.command_laws.proofs.CommandLemmas.{held, spelled, formatted, served}
+use Rattle.command_laws.proofs.CommandLemmas.{held, other_geometry, accepted, spelled, formatted, served}
 use Rattle.command_laws.proofs.image_laws.Goals as goal
 
 pub returns-clause-held : goal.returns-clause-held
 returns-clause-held c = held
+
+pub returns-clause-other : goal.returns-clause-other
+returns-clause-other c = other_geometry
+
+pub returns-clause-accepted : goal.returns-clause-accepted
+returns-clause-accepted c = accepted
 
 pub returns-clause-spelled : goal.returns-clause-spelled
 returns-clause-spelled c = spelled

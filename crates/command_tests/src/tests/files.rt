@@ -1,5 +1,7 @@
-//! Files in memory, and a writer that is closed.
-ghost use Rattle.std.specs.Prelude.{◌≡◌, IfOk, string_bytes};
+//! Files in memory, a writer that is closed, and what stands on standard input.
+ghost use Rattle.std.specs.Prelude.{◌≡◌, ◌⊎◌, IfOk, IfNone, IfSome, map, string_bytes};
+ghost use Rattle.commands.specs.Files.{written};
+ghost use Rattle.command_tests.specs.Files.{HasFile, LacksFile};
 
 use commands::{FileFault, FileStore};
 use std::alloc::{AllocError, Global};
@@ -38,6 +40,32 @@ fn stored_file(
     })
 }
 
+// The bytes of the first file of this path.
+fn given_bytes<'a>(files: &'a [MemoryFile], path: &str) -> Option<&'a [u8]>
+    ensures some { IfSome result (λ found. HasFile (map (λ f. written f.path.now f.bytes.items) files.now) path.now found.now) }
+    ensures none { IfNone result (LacksFile (map (λ f. written f.path.now f.bytes.items) files.now) path.now) }
+{
+    for file in files {
+        if file.path == path {
+            return Some(file.bytes.as_slice());
+        }
+    }
+    None
+}
+
+// The bytes of the last file of this path that was stored, and was written.
+fn stored_bytes<'a>(stored: &'a [StoredFile], path: &str) -> Option<&'a [u8]>
+    ensures { IfSome result (λ found. HasFile (map (λ s. record { path = string_bytes s.path; bytes = s.bytes.items; done = s.done }) stored.now) path.now found.now) }
+{
+    let mut last = None;
+    for file in stored {
+        if file.done && file.path.as_str() == path {
+            last = Some(file.bytes.as_slice());
+        }
+    }
+    last
+}
+
 /// Files in memory, and those that were handed over to be written. A path that is not among the files can be neither read nor
 /// written; `refuses` makes each load end in want of memory. A run that fails tells the name of its case.
 #[derive(Drop)]
@@ -50,6 +78,10 @@ pub struct MemoryFiles {
 }
 
 impl MemoryFiles {
+    ghost use Rattle.std.specs.Prelude.{◌≡◌, ◌⊎◌, IfNone, IfSome, map, string_bytes};
+    ghost use Rattle.commands.specs.Files.{written};
+    ghost use Rattle.command_tests.specs.Files.{HasFile, LacksFile};
+
     /// No files.
     pub fn new(alloc: Global, case: &'static str) -> MemoryFiles {
         MemoryFiles {
@@ -68,22 +100,28 @@ impl MemoryFiles {
     }
 
     /// What a file holds now, where there is such a file.
-    pub fn contents(&self, path: &str) -> Option<&[u8]> {
-        let mut stored = self.stored.iter().rev();
-        if let Some(file) = stored.find(|file| file.done && file.path.as_str() == path) {
-            return Some(file.bytes.as_slice());
+    pub fn contents(&self, path: &str) -> Option<&[u8]>
+        ensures some { IfSome result (λ found. HasFile (map (λ s. record { path = string_bytes s.path; bytes = s.bytes.items; done = s.done }) self.now.stored.items) path.now found.now
+            ⊎ HasFile (map (λ f. written f.path.now f.bytes.items) self.now.files.items) path.now found.now) }
+        ensures none { IfNone result (LacksFile (map (λ f. written f.path.now f.bytes.items) self.now.files.items) path.now) }
+    {
+        match stored_bytes(&self.stored, path) {
+            Some(bytes) => Some(bytes),
+            None => given_bytes(&self.files, path),
         }
-        let file = self.files.iter().find(|file| file.path == path)?;
-        Some(file.bytes.as_slice())
     }
 }
 
 impl FileStore for MemoryFiles {
     ghost use Rattle.std.specs.Prelude.{Some, map, string_bytes, true};
+    ghost use Rattle.commands.specs.Files.{written};
+    ghost use Rattle.command_tests.specs.Files.{MayAnswer};
 
     type Reader = Cursor<Vec<u8>>;
 
-    ghost gives = { λ _ _ _. Unit {0} };
+    // A load answers the bytes of the file, as it was stored or as it was before; it fails only where there is none.
+    ghost gives = { λ m. MayAnswer (map (λ f. written f.path.now f.bytes.items) m.files.items)
+        (map (λ s. record { path = string_bytes s.path; bytes = s.bytes.items; done = s.done }) m.stored.items) };
 
     ghost tells = { λ _. true };
 
@@ -94,13 +132,19 @@ impl FileStore for MemoryFiles {
             return Err(FileFault::OutOfMemory);
         }
         match self.contents(path) {
-            Some(bytes) => Vec::from_slice(self.alloc, bytes).map_err(|_| FileFault::OutOfMemory),
+            Some(bytes) => match Vec::from_slice(self.alloc, bytes) {
+                Ok(copy) => Ok(copy),
+                Err(_) => Err(FileFault::OutOfMemory),
+            },
             None => Err(FileFault::Failed),
         }
     }
 
     fn open(&mut self, path: &str) -> Result<Cursor<Vec<u8>>, FileFault> {
-        self.load(path).map(Cursor::new)
+        match self.load(path) {
+            Ok(bytes) => Ok(Cursor::new(bytes)),
+            Err(fault) => Err(fault),
+        }
     }
 
     fn store(&mut self, path: &str, bytes: &[u8]) -> Result<(), FileFault> {
@@ -126,6 +170,19 @@ impl Write for Closed {
 
     fn flush(&mut self) -> io::Result<()> {
         Ok(())
+    }
+}
+
+/// Standard input that nobody is to read: each read fails, and is counted.
+#[derive(Drop)]
+pub struct Unread {
+    pub reads: usize,
+}
+
+impl Read for Unread {
+    fn read(&mut self, _buf: &mut [u8]) -> io::Result<usize> {
+        self.reads = self.reads.saturating_add(1);
+        Err(io::Error::from(ErrorKind::BrokenPipe))
     }
 }
 

@@ -1,5 +1,5 @@
 //! Runs of the program over files in memory, and what they have to answer: cases, each a list of steps over files of its own.
-use super::files::{Closed, MemoryFiles, Requests};
+use super::files::{Closed, MemoryFiles, Requests, Unread};
 use super::images::{Made, bytes_of};
 use commands::run;
 use std::alloc::{AllocError, Global};
@@ -59,15 +59,18 @@ fn hold<T: PartialEq + Debug>(rt: &impl Abort, place: &impl Debug, found: &T, ex
     assert_eq!(rt; *found, *expected, "{place:?}");
 }
 
-// Runs the words with nothing on standard input.
+// Runs the words over a standard input that fails as it is read, and that no command but `serve` is to read.
 fn run_to<O: Write, E: Write>(
+    rt: &impl Abort,
     words: &[&str],
     files: &mut MemoryFiles,
     out: &mut O,
     err: &mut E,
 ) -> u8 {
-    let mut input: &[u8] = b"";
-    run(files.alloc, words, files, &mut input, out, err)
+    let mut input = Unread { reads: 0 };
+    let status = run(files.alloc, words, files, &mut input, out, err);
+    assert!(rt; input.reads == 0, "{:?}", (files.case, words));
+    status
 }
 
 // The words of a command line, with one blank between them.
@@ -79,10 +82,10 @@ fn words_of(alloc: Global, line: &str) -> Result<Vec<&str>, AllocError> {
     Ok(words)
 }
 
-fn run_words(words: &[&str], files: &mut MemoryFiles) -> Ran {
+fn run_words(rt: &impl Abort, words: &[&str], files: &mut MemoryFiles) -> Ran {
     let mut out: Vec<u8> = Vec::new(files.alloc);
     let mut err: Vec<u8> = Vec::new(files.alloc);
-    let status = run_to(words, files, &mut out, &mut err);
+    let status = run_to(rt, words, files, &mut out, &mut err);
     Ran { status, out, err }
 }
 
@@ -97,7 +100,7 @@ fn hold_run(rt: &impl Abort, place: &impl Debug, ran: &Ran, status: u8, said: &s
 // Runs the words and holds the run to what it has to answer.
 fn expect_words(rt: &impl Abort, files: &mut MemoryFiles, words: &[&str], status: u8, said: &str) {
     let before = files.stored.len();
-    let ran = run_words(words, files);
+    let ran = run_words(rt, words, files);
     hold_run(rt, &(files.case, words), &ran, status, said);
     if status != 0 {
         hold(rt, &(files.case, words), &files.stored.len(), &before);
@@ -123,7 +126,7 @@ fn expect_unstored(
     said: &str,
 ) -> Result<(), AllocError> {
     let words = words_of(files.alloc, line)?;
-    let ran = run_words(&words, files);
+    let ran = run_words(rt, &words, files);
     hold_run(rt, &(files.case, line), &ran, 3, said);
     Ok(())
 }
@@ -137,7 +140,7 @@ fn expect_closed(
 ) -> Result<(), AllocError> {
     let words = words_of(files.alloc, line)?;
     let mut err: Vec<u8> = Vec::new(files.alloc);
-    let answered = run_to(&words, files, &mut Closed, &mut err);
+    let answered = run_to(rt, &words, files, &mut Closed, &mut err);
     hold(rt, &(files.case, line), &err.as_slice(), &said.as_bytes());
     hold(rt, &(files.case, line), &answered, &status);
     Ok(())
@@ -150,7 +153,7 @@ fn expect_both_closed(
     status: u8,
 ) -> Result<(), AllocError> {
     let words = words_of(files.alloc, line)?;
-    let answered = run_to(&words, files, &mut Closed, &mut Closed);
+    let answered = run_to(rt, &words, files, &mut Closed, &mut Closed);
     hold(rt, &(files.case, line), &answered, &status);
     Ok(())
 }

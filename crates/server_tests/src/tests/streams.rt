@@ -2,8 +2,8 @@
 use std::alloc::Global;
 use std::io::{self, ErrorKind, Read, Write};
 
-// Gives its bytes in pieces of one length at most. Its read of this number, from 1, is interrupted, and so
-// is each later one; 0 for none.
+// Gives its bytes in pieces of one length at most. Its read of this number, from 1, is interrupted, and it alone, so that
+// whoever tries it again is given the bytes; 0 for none.
 #[derive(Drop)]
 pub struct Pieces<'a> {
     pub left: &'a [u8],
@@ -15,7 +15,7 @@ pub struct Pieces<'a> {
 impl Read for Pieces<'_> {
     fn read(&mut self, buf: &mut [u8]) -> io::Result<usize> {
         self.reads = self.reads.saturating_add(1);
-        if self.failing != 0 && self.reads >= self.failing {
+        if self.failing != 0 && self.reads == self.failing {
             return Err(io::Error::from(ErrorKind::Interrupted));
         }
         let n = buf.len().min(self.piece).min(self.left.len());
@@ -26,8 +26,8 @@ impl Read for Pieces<'_> {
     }
 }
 
-// Takes its bytes in pieces of one length at most. Its write of this number, from 1, is interrupted, and so
-// is each later one; 0 for none. It notes how many bytes it had as it was last told to hand them on.
+// Takes its bytes in pieces of one length at most. Its write of this number, from 1, is interrupted, and it alone, so that
+// whoever tries it again has the bytes taken; 0 for none. It notes how many bytes it had as it was last told to hand them on.
 #[derive(Drop)]
 pub struct Narrow {
     pub bytes: Vec<u8>,
@@ -52,7 +52,7 @@ impl Narrow {
 impl Write for Narrow {
     fn write(&mut self, buf: &[u8]) -> io::Result<usize> {
         self.writes = self.writes.saturating_add(1);
-        if self.failing != 0 && self.writes >= self.failing {
+        if self.failing != 0 && self.writes == self.failing {
             return Err(io::Error::from(ErrorKind::Interrupted));
         }
         let n = buf.len().min(self.piece);

@@ -18,5 +18,5 @@ returns-in-Ok-start-clause-ok c =
     let begun = c.in-Ok-start.ensures in
     let roomy : 40 ≤ g.spare_bytes = omega (arith, c.spare_bytes.ensures, c.if-spare_bytes-lt-SPARE_FOR_VERSION_2.false) in
     starts_over c.args.driver c.check.new.source g c.args.asked.now.capacity c.args.certificate.now c.in-Ok.accepted c.in-Ok-start.device roomy
-    c.requires.same its.only_reads (its.same (not_refused c.in-Ok.accepted Source) refl) (its.whole refl) its.accepted.0 (its.ok refl)
-    begun.device begun.nand begun.begun (begun.truth refl) (begun.free refl) (begun.accounts refl)
+    c.requires.same its.only_reads (its.same (not_refused c.in-Ok.accepted Source) refl) (its.told (not_refused c.in-Ok.accepted Source) refl) (its.whole refl) its.accepted.0 (its.ok refl)
+    begun.device begun.nand begun.begun (begun.truth refl) (begun.free refl) (begun.accounts refl) begun.cursor

@@ -6,4 +6,4 @@ pub returns-in-Ok : goal.returns-in-Ok
 returns-in-Ok g c = order_obeys _ _ _ _ _ _ _ _ c.in-Ok.order c.in-Ok.ensures.ok c.carry_out.ensures
 
 pub returns-in-Err-NoSuchCommand : goal.returns-in-Err-NoSuchCommand
-returns-in-Err-NoSuchCommand g c = (search rules, c.in-Err-NoSuchCommand.ensures.none (ap Err c.in-Err-NoSuchCommand.field-0-is))
+returns-in-Err-NoSuchCommand g c = (search rules, search rules, c.in-Err-NoSuchCommand.ensures.none (ap Err c.in-Err-NoSuchCommand.field-0-is))

@@ -3,7 +3,7 @@ use Rattle.commands.specs.declared.text.CommandFault.{CommandFault}
 use Rattle.commands.specs.declared.sector.PrintFault.{PrintFault}
 use Rattle.commands.specs.Sector.{DoesSector, HasImage, AsksForNumber, IsPrintFault, IsUnprinted, sector_line}
 use Rattle.commands.proofs.CommandLemmas.{unread_does}
-use Rattle.commands.proofs.ImageLemmas.{front_in, line_in, readable_in, unreadable_in}
+use Rattle.commands.proofs.ImageLemmas.{part_in, line_in, readable_in, unreadable_in}
 use Rattle.commands.proofs.sector.sector_command.Goals as goal
 
 pub returns-in_err-bytes-clause-does : goal.returns-in_err-bytes-clause-does
@@ -68,7 +68,7 @@ returns-in-Err-Write-clause-does g c =
         bytes,
         image,
         readable_in c.in-Ok.image.flash geometry c.deref.result.now bytes c.in_ok-sector.sector c.in-Ok.ensures.image c.deref.ensures.value (subst Q c.in-Err-Write.field-0-is c.in-Err-Write.ensures.fault),
-        front_in c.in-Ok.image.flash geometry c.deref.result.now bytes c.in_ok-sector.sector _ _ c.in-Ok.ensures.image c.deref.ensures.value (subst P c.in-Err-Write.field-0-is c.in-Err-Write.ensures.unprinted),
+        part_in c.in-Ok.image.flash geometry c.deref.result.now bytes c.in_ok-sector.sector _ _ c.in-Ok.ensures.image c.deref.ensures.value (subst P c.in-Err-Write.field-0-is c.in-Err-Write.ensures.unprinted),
       ),
     )
 

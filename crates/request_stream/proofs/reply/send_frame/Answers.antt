@@ -1,8 +1,8 @@
-use Rattle.std.proofs.Common.{◌≡◌, ◌++◌, ◌∙◌, ℕ, List, [], refl, sym, ap, subst, append_assoc, append-nil}
+use Rattle.std.proofs.Common.{◌≡◌, ◌++◌, ◌∙◌, [], append-nil}
 use Rattle.std.proofs.KnownBytes.{Appends-trans}
 use Rattle.std.proofs.lemmas.Result.{err_from_is_err_and}
 use Rattle.request_stream.specs.Frames.{answer_bytes}
-use Rattle.request_stream.proofs.Writing.{front_more, front_stop, sends_then, head_then}
+use Rattle.request_stream.proofs.Writing.{front_more, front_stop, part_front, sends_then, head_then}
 use Rattle.request_stream.proofs.reply.send_frame.Goals as goal
 
 pub returns-in_err-send : goal.returns-in_err-send
@@ -11,14 +11,14 @@ returns-in_err-send g c =
     let stopped = c.in_err-send.ensures in
     let head : c.reply_header.result ≡ answer_bytes c.args.code c.args.status c.args.tag [] = c.reply_header.ensures in
     let whole : c.reply_header.result ++ c.args.sector.now ≡ answer_bytes c.args.code c.args.status c.args.tag c.args.sector.now = head_then c.args.code c.args.status c.args.tag c.args.sector.now c.reply_header.result head in
-    rw (p.1, p.2) (stopped.0, front_stop _ _ c.reply_header.result c.args.sector.now _ whole stopped.1)
+    rw (p.1, p.2) (stopped.0, front_stop _ _ c.reply_header.result c.args.sector.now _ whole (part_front _ _ _ stopped.1))
 
 pub returns-in_err-send-2 : goal.returns-in_err-send-2
 returns-in_err-send-2 g c =
     let p = err_from_is_err_and c.from_residual-in_err-send-2.result c.from_residual-in_err-send-2.ensures.1 in
     let stopped = c.in_err-send-2.ensures in
     let whole = head_then c.args.code c.args.status c.args.tag c.args.sector.now c.reply_header.result c.reply_header.ensures in
-    rw (p.1, p.2) (stopped.0, front_more _ _ _ c.reply_header.result c.args.sector.now _ whole c.in_ok-send.ensures stopped.1)
+    rw (p.1, p.2) (stopped.0, front_more _ _ _ c.reply_header.result c.args.sector.now _ whole c.in_ok-send.ensures (part_front _ _ _ stopped.1))
 
 pub returns : goal.returns
 returns g c =

@@ -11,4 +11,4 @@ returns-in-Ok g c =
     subst P (ap (λ (words : List (Bor (List ℕ))). map (λ (w : Bor (List ℕ)). w.now) words) c.as_slice.ensures.value ∙ c.in-Ok.ensures) c.run.ensures
 
 pub returns-in-Err : goal.returns-in-Err
-returns-in-Err g c = (Err OutOfMemory, inl (search rules), c.tell.ensures)
+returns-in-Err g c = (Err OutOfMemory, inl (search rules, search rules), c.tell.ensures)

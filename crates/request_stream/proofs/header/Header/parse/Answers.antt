@@ -1,4 +1,4 @@
-use Rattle.std.proofs.Common.{rules, ◌≡◌, ◌+◌, ◌*◌, ℕ, Some, get_or, slice_index, slice_index_or, arith}
+use Rattle.std.proofs.Common.{rules, ◌≡◌, Some, slice_index}
 use Rattle.promises.specs.Stream.{op_from}
 use Rattle.request_stream.proofs.Parsing.{spelled}
 use Rattle.request_stream.proofs.header.Header.parse.Goals as goal

@@ -1,0 +1,5 @@
+use Rattle.frame_laws.proofs.LineLemmas.{part}
+use Rattle.frame_laws.proofs.line_laws.Goals as goal
+
+pub returns : goal.returns
+returns c = part
