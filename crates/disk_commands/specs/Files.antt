@@ -1,5 +1,5 @@
 -- What the files of disks may answer, and the disks that were put in their places.
-use Rattle.std.specs.Prelude.{ℕ, Bool, false, List, [], ◌∷◌, ◌++◌, Option, Result, Ok, Err}
+use Rattle.std.specs.Prelude.{◌≡◌, ◌⊎◌, ℕ, Bool, false, List, [], ◌∷◌, ◌++◌, Option, Result, Ok, Err}
 use Rattle.std.specs.Option.{option_map}
 use Rattle.file_die.specs.Store.{Held}
 use Rattle.disk_commands.specs.declared.files.FileFault.{FileFault}
@@ -40,6 +40,18 @@ FailsCopy a path dump file.Write = a.fails path file.Write
 FailsCopy a path dump file.InUse = a.fails path file.InUse
 FailsCopy a path dump file.Exists = a.fails path file.Exists
 FailsCopy a path dump file.OutOfMemory = a.fails path file.OutOfMemory
+
+-- a die that was to be opened: its path, and whether to be written
+pub record Opened : Type 0 where
+  pub path : List ℕ
+  pub writes : Bool
+
+abbrev pub with_opened : Option (List Opened) → (path : List ℕ) → (writes : Bool) → Option (List Opened)
+with_opened opened path writes = option_map (λ known. known ++ (record { path = path; writes = writes } ∷ [])) opened
+
+-- none was to be opened, or this one, once
+abbrev pub Opens : (path : List ℕ) → (writes : Bool) → (before after : Option (List Opened)) → Type 0
+Opens path writes before after = (after ≡ before) ⊎ (after ≡ with_opened before path writes)
 
 -- a disk: what its die holds, and the text beside it
 pub record Kept : Type 0 where

@@ -1,5 +1,5 @@
 -- What a run of the program comes to.
-use Rattle.std.specs.Prelude.{◌≡◌, ◌⊎◌, ℕ, Bool, List, Option, Result, Ok, Err, string_bytes}
+use Rattle.std.specs.Prelude.{◌≡◌, ◌⊎◌, ℕ, Bool, false, not, List, Option, Result, Ok, Err, string_bytes}
 use Rattle.std.specs.Io.KnownBytes.{Appends}
 use Rattle.file_die.specs.Store.{Held}
 use Rattle.disk_commands.specs.declared.words.CreateWords.{CreateWords}
@@ -10,14 +10,15 @@ use Rattle.disk_commands.specs.Words.{IsAsked, IsNoCommand}
 use Rattle.disk_commands.specs.declared.text.DiskFault.{DiskFault}
 use Rattle.disk_commands.specs.declared.text.DiskFault.TheVariants as fault
 use Rattle.disk_commands.specs.Created.{HasCreated, IsUncreated}
-use Rattle.disk_commands.specs.Files.{Answers, Kept}
+use Rattle.disk_commands.specs.Files.{Answers, Kept, Opened, Opens}
 use Rattle.disk_commands.specs.Serve.{HasNotServed, HasServedAt}
 use Rattle.disk_commands.specs.Text.{IsTold}
 use Rattle.disk_commands.specs.Told.{HasTold, IsUnprinted, IsUntold}
 
--- WHAT A RUN MEETS AND LEAVES: the disks that were put in their places, what is left to be read, and what was printed
+-- WHAT A RUN MEETS AND LEAVES: the disks that were put in their places, the dies that were to be opened, what is left to be read, and what was printed
 pub record Around : Type 0 where
   pub kept : Option (List Kept)
+  pub opened : Option (List Opened)
   pub input : Option (List ℕ)
   pub out : Option (List ℕ)
 
@@ -41,11 +42,13 @@ Tells held honest failed a words old new (Err told) = IsUntold held honest faile
 -- WHAT THE WORDS ASK FOR WAS DONE, or not for the reason that is answered. Of what it does not name nothing changes
 abbrev pub DoesAsked : {S Y : Type 0} → (S → Held) → (honest : S → Bool) → (failed : S → ℕ) → (synced : Y → ℕ) → Answers → DiskWords → (old new : Around)
     → Result (Unit {0}) DiskFault → Type 0
-DoesAsked held honest failed synced a (asked.Create words) old new result = Creates held honest failed a words old new result × (new.out ≡ old.out) × (new.input ≡ old.input)
+DoesAsked held honest failed synced a (asked.Create words) old new result = Creates held honest failed a words old new result × (new.out ≡ old.out) × (new.input ≡ old.input) × (new.opened ≡ old.opened)
 DoesAsked held honest failed synced a (asked.Serve words) old new result =
     (HasServedAt held honest synced a words old.input new.input old.out new.out result ⊎ HasNotServed held honest failed a words old.out new.out result) × (new.kept ≡ old.kept)
+    × Opens words.disk.now (not words.read_only) old.opened new.opened
 DoesAsked held honest failed synced a (asked.Info words) old new result = Tells held honest failed a words old new result × (new.kept ≡ old.kept) × (new.input ≡ old.input)
-DoesAsked held honest failed synced a (asked.Text text) old new result = Prints (string_bytes text) old new result × (new.kept ≡ old.kept) × (new.input ≡ old.input)
+    × Opens words.disk.now false old.opened new.opened
+DoesAsked held honest failed synced a (asked.Text text) old new result = Prints (string_bytes text) old new result × (new.kept ≡ old.kept) × (new.input ≡ old.input) × (new.opened ≡ old.opened)
 
 -- THE WORDS ARE NO COMMAND, or memory for them was refused: nothing was done
 pub record AsksNothing (words : List (List ℕ)) (old new : Around) (result : Result (Unit {0}) DiskFault) : Type 0 where

@@ -22,7 +22,10 @@ use Rattle.disk_server.specs.declared.served.Offer.{Offer}
 use Rattle.disk_server.specs.declared.synced.SyncedDisk.{SyncedDisk}
 use Rattle.disk_server.specs.Opened.{bytes_of, flash_in, is_honest_in}
 use Rattle.disk_server.specs.declared.synced.SyncPace.{SyncPace}
-use Rattle.disk_server.specs.Synced.{HasSynced, KeepsSyncs, export_of}
+use Rattle.disk_server.specs.Synced.{HasSynced, RestsSynced, export_of}
+use Rattle.disk_server.specs.Reading.{RestsNever}
+use Rattle.page_layout.specs.OnlyReads.{OnlyReads}
+use Rattle.nbd_stream.specs.Through.{Through}
 use Rattle.disk_commands.specs.declared.text.DiskFault.{DiskFault}
 use Rattle.disk_commands.specs.declared.text.DiskFault.TheVariants as fault
 use Rattle.disk_commands.specs.Files.{Answers}
@@ -60,7 +63,7 @@ abbrev pub told_at_end : Result (Unit {0}) NbdFault → Bor (List ℕ) → Resul
 told_at_end (Ok done) path answer = end_of answer
 told_at_end (Err e) path answer = Err (fault.Device path)
 
--- THE LAST FLUSH, and a sync with it. A disk that is read-only has none
+-- THE LAST FLUSH, and a sync with it
 pub record IsFlushed {D Y : Type 0} (contents : D → Contents) (honest : D → Bool) (synced : Y → ℕ) (path : Bor (List ℕ)) (last : SyncedDisk D Y)
     (answer : Result End ServeFault) (result : Result (Unit {0}) DiskFault) : Type 0 where
   pub done : Result (Unit {0}) NbdFault
@@ -68,11 +71,6 @@ pub record IsFlushed {D Y : Type 0} (contents : D → Contents) (honest : D → 
   pub performs : Performs (λ s. contents s.disk) (λ s. honest s.disk) (λ _. false) Flush [] last (answer_from done []) left
   pub synced_once : OnOk done (HasSynced synced true last left)
   pub told : result ≡ told_at_end done path answer
-
-abbrev pub Ends : {D Y : Type 0} → (D → Contents) → (honest : D → Bool) → (synced : Y → ℕ) → (read_only : Bool) → Bor (List ℕ) → SyncedDisk D Y
-    → Result End ServeFault → Result (Unit {0}) DiskFault → Type 0
-Ends contents honest synced true path last answer result = result ≡ end_of answer
-Ends contents honest synced false path last answer result = IsFlushed contents honest synced path last answer result
 
 -- ---- all of it
 
@@ -84,17 +82,44 @@ pub record HasServedDisk {D Y : Type 0} (contents : D → Contents) (honest : D 
   pub syncs_is : first.syncs ≡ syncs
   pub pace_is : first.pace ≡ terms.pace
   pub none_changed : first.unsynced ≡ 0
+  pub none_failed : first.failed ≡ false
   pub last : SyncedDisk D Y
   pub answer : Result End ServeFault
-  pub serves : Serves (λ s. contents s.disk) (λ s. honest s.disk) (λ _. false) (λ old done new. rests old.disk done new.disk × KeepsSyncs old new)
+  pub serves : Serves (λ s. contents s.disk) (λ s. honest s.disk) (λ _. false) (RestsSynced rests)
       (export_of terms.offer (length (contents first.disk).bytes)) terms.offer.maximum first last unread left before after answer
-  pub ends : Ends contents honest synced terms.offer.read_only path last answer result
+  pub ends : IsFlushed contents honest synced path last answer result
+
+-- A DISK THAT WAS ONLY READ by one client: what stands under it was asked for reads of its sectors, and for nothing else
+pub record HasReadDisk {D : Type 0} (contents : D → Contents) (honest : D → Bool) (reads : D → D → Type 0)
+    (terms : Terms) (disk : D) (unread left before after : Option (List ℕ)) (result : Result (Unit {0}) DiskFault) : Type 0 where
+  pub last : D
+  pub answer : Result End ServeFault
+  pub serves : Serves contents honest (λ _. false) RestsNever (export_of terms.offer (length (contents disk).bytes)) terms.offer.maximum disk last unread left before after answer
+  pub only_read : Through reads disk last
+  pub told : result ≡ end_of answer
+
+-- by whether it was to be read-only
+abbrev pub ServedBy : {D Y : Type 0} → (read_only : Bool) → (contents : D → Contents) → (honest : D → Bool) → (rests : D → Result (Unit {0}) NbdFault → D → Type 0)
+    → (reads : D → D → Type 0) → (synced : Y → ℕ) → (terms : Terms) → (path : Bor (List ℕ)) → (disk : D) → (syncs : Y) → (unread left before after : Option (List ℕ))
+    → Result (Unit {0}) DiskFault → Type 0
+ServedBy true contents honest rests reads synced terms path disk syncs unread left before after result = HasReadDisk contents honest reads terms disk unread left before after result
+ServedBy false contents honest rests reads synced terms path disk syncs unread left before after result = HasServedDisk contents honest rests synced terms path disk syncs unread left before after result
+
+abbrev pub HasServedOn : {D Y : Type 0} → (contents : D → Contents) → (honest : D → Bool) → (rests : D → Result (Unit {0}) NbdFault → D → Type 0)
+    → (reads : D → D → Type 0) → (synced : Y → ℕ) → (terms : Terms) → (path : Bor (List ℕ)) → (disk : D) → (syncs : Y) → (unread left before after : Option (List ℕ))
+    → Result (Unit {0}) DiskFault → Type 0
+HasServedOn contents honest rests reads synced terms path disk syncs unread left before after result =
+    ServedBy terms.offer.read_only contents honest rests reads synced terms path disk syncs unread left before after result
 
 -- ---- the disk at a path
 
 -- what a rest of such a disk is
 abbrev pub rests_in : {S : Type 0} → (S → Held) → (honest : S → Bool) → Device (DriverState (FileState S)) → Result (Unit {0}) NbdFault → Device (DriverState (FileState S)) → Type 0
 rests_in held honest = AsksTurn (flash_in held) (λ d. None) (is_honest_in honest) (λ d. false) (λ d. d.erases) (λ d. d.failures)
+
+-- what a read of it leaves: its die is asked for reads, and programs and erases nothing
+abbrev pub reads_in : {S : Type 0} → (S → Held) → (honest : S → Bool) → Device (DriverState (FileState S)) → Device (DriverState (FileState S)) → Type 0
+reads_in held honest old new = OnlyReads (flash_in held) (is_honest_in honest) (λ d. false) (λ d. d.programs) (λ d. d.erases) (λ d. d.failures) old.engine.nand new.engine.nand
 
 -- THE DISK OF THE STORE AT A PATH: of a store that is honest it holds its array, and its bytes are those of the array that the store's pages hold
 pub record IsDiskAt {S : Type 0} (held : S → Held) (honest : S → Bool) (a : Answers) (path : List ℕ) (shape : Shape) (d : Device (DriverState (FileState S))) : Type 0 where
@@ -112,7 +137,7 @@ pub record HasServedAt {S Y : Type 0} (held : S → Held) (honest : S → Bool) 
   pub disk : Device (DriverState (FileState S))
   pub at : IsDiskAt held honest a words.disk.now shape disk
   pub syncs : Y
-  pub served : HasServedDisk (contents_of (flash_in held) (is_honest_in honest)) (holds (is_honest_in honest)) (rests_in held honest) synced
+  pub served : HasServedOn (contents_of (flash_in held) (is_honest_in honest)) (holds (is_honest_in honest)) (rests_in held honest) (reads_in held honest) synced
       (terms_of shape words.read_only) words.disk disk syncs unread left before after result
 
 -- or it did not, and nothing was sent: the disk was not opened

@@ -39,6 +39,7 @@ fn make_new<'a, F: DiskFiles>(
     ensures fault { IfErr result (IsUnformatted F.Store.held F.Store.honest F.Store.failed (F.answers files.old) path.now shape.now.geometry) }
     ensures no_more { OnOk result (FailsNoMore (F.answers files.old) (F.answers files.new)) }
     ensures kept { F.kept files.new ≡ F.kept files.old }
+    ensures opened { F.opened files.new ≡ F.opened files.old }
 {
     let store = match files.create(alloc, path, &shape.geometry) {
         Ok(store) => store,
@@ -82,6 +83,7 @@ fn make_copy<'a, F: DiskFiles>(
     ensures fault { IfErr result (IsNoDump F.Store.held F.Store.honest F.Store.failed (F.answers files.old) path.now dump.now shape.now) }
     ensures no_more { OnOk result (FailsNoMore (F.answers files.old) (F.answers files.new)) }
     ensures kept { F.kept files.new ≡ F.kept files.old }
+    ensures opened { F.opened files.new ≡ F.opened files.old }
 {
     let store = match files.copy(alloc, path, &shape.geometry, dump) {
         Ok(store) => store,
@@ -109,6 +111,7 @@ fn make<'a, F: DiskFiles>(
     ensures fault { IfErr result (IsUnmadeFor F.Store.held F.Store.honest F.Store.failed (F.answers files.old) words.now.disk.now words.now.make shape.now) }
     ensures no_more { OnOk result (FailsNoMore (F.answers files.old) (F.answers files.new)) }
     ensures kept { F.kept files.new ≡ F.kept files.old }
+    ensures opened { F.opened files.new ≡ F.opened files.old }
 {
     match words.make {
         MakeWords::Dump { from, .. } => make_copy(alloc, files, words.disk, shape, from),
@@ -127,6 +130,7 @@ fn put<'a, F: DiskFiles>(
     ensures ok { OnOk result (F.kept files.new ≡ with_kept (F.kept files.old) (record { path = path.now; held = F.Store.held store; text = shape_text shape.now })) }
     ensures fault { IfErr result (IsUnkept (F.answers files.old) path.now) }
     ensures kept { OnErr result (F.kept files.new ≡ F.kept files.old) }
+    ensures opened { F.opened files.new ≡ F.opened files.old }
 {
     let Ok(text) = write_shape(alloc, shape) else {
         files.discard(path);
@@ -155,6 +159,7 @@ pub(crate) fn create_command<'a, F: DiskFiles>(
     ensures ok { OnOk result (HasCreated F.Store.held F.Store.honest (F.answers files.old) words.entry (F.kept files.old) (F.kept files.new)) }
     ensures fault { IfErr result (IsUncreated F.Store.held F.Store.honest F.Store.failed (F.answers files.old) words.entry) }
     ensures kept { OnErr result (F.kept files.new ≡ F.kept files.old) }
+    ensures opened { F.opened files.new ≡ F.opened files.old }
 {
     let shape = match shape_of(words) {
         Ok(shape) => shape,

@@ -32,7 +32,7 @@ pub enum FileFault {
 pub trait DiskFiles {
     ghost use Rattle.std.specs.Prelude.{◌≡◌, true, List, Option, IfOk, IfErr};
     ghost use Rattle.file_die.specs.Store.{blank};
-    ghost use Rattle.disk_commands.specs.Files.{Answers, FailsCopy, FailsNoMore, Kept, kept_after};
+    ghost use Rattle.disk_commands.specs.Files.{Answers, FailsCopy, FailsNoMore, Kept, Opened, kept_after, with_opened};
 
     /// The pages of a die in a file. While it is there no other program opens or makes the disk.
     type Store: Store + Drop;
@@ -45,6 +45,9 @@ pub trait DiskFiles {
 
     /// The disks that were put in their places so far, in order. Of the system's files it isn't known.
     ghost kept: { Self → Option (List Kept) };
+
+    /// The dies that were to be opened so far, in order. Of the system's files it isn't known.
+    ghost opened: { Self → Option (List Opened) };
 
     /// Whether something stands at the path of a disk, or beside it where its shape is told.
     ///
@@ -83,6 +86,7 @@ pub trait DiskFiles {
         ensures geometry { IfOk result (λ opened. (Self.Store.held opened.0).geometry ≡ geometry.now) }
         ensures honest { IfOk result (λ opened. Self.Store.honest opened.0 ≡ (answers self.old).honest) }
         ensures failed { IfErr result ((answers self.old).fails path.now) }
+        ensures opened { opened self.new ≡ with_opened (opened self.old) path.now writes }
         ensures kept { kept self.new ≡ kept self.old };
 
     /// The store of a die to be made beside a path, of erased pages that last.
@@ -100,6 +104,7 @@ pub trait DiskFiles {
         ensures honest { IfOk result (λ store. Self.Store.honest store ≡ (answers self.old).honest) }
         ensures failed { IfErr result ((answers self.old).fails path.now) }
         ensures no_more { FailsNoMore (answers self.old) (answers self.new) }
+        ensures opened { opened self.new ≡ opened self.old }
         ensures kept { kept self.new ≡ kept self.old };
 
     /// The store of a die to be made beside a path, with the pages of a raw dump, which last.
@@ -119,6 +124,7 @@ pub trait DiskFiles {
         ensures honest { IfOk result (λ store. Self.Store.honest store ≡ (answers self.old).honest) }
         ensures failed { IfErr result (FailsCopy (answers self.old) path.now dump.now) }
         ensures no_more { FailsNoMore (answers self.old) (answers self.new) }
+        ensures opened { opened self.new ≡ opened self.old }
         ensures kept { kept self.new ≡ kept self.old };
 
     /// Puts the die that was made beside a path in its place, with a file of this text beside it, once all is stored. What stands there is never replaced.
@@ -128,9 +134,11 @@ pub trait DiskFiles {
     /// One that these files may answer of the path: `Exists` where something stands there. The disks in their places are as they were.
     fn keep(&mut self, path: &str, store: Self::Store, text: &[u8]) -> Result<(), FileFault>
         ensures done { kept self.new ≡ kept_after (kept self.old) (record { path = path.now; held = Self.Store.held store; text = text.now }) result }
-        ensures failed { IfErr result ((answers self.old).fails path.now) };
+        ensures failed { IfErr result ((answers self.old).fails path.now) }
+        ensures opened { opened self.new ≡ opened self.old };
 
     /// Removes what was made beside a path.
     fn discard(&mut self, path: &str)
+        ensures opened { opened self.new ≡ opened self.old }
         ensures kept { kept self.new ≡ kept self.old };
 }

@@ -1,6 +1,7 @@
 //! The command `info`: what is told of a disk.
-ghost use Rattle.std.specs.Prelude.{◌≡◌, OnOk, IfOk, IfErr};
+ghost use Rattle.std.specs.Prelude.{◌≡◌, false, OnOk, IfOk, IfErr};
 ghost use Rattle.std.specs.IoError.{error_kind};
+ghost use Rattle.disk_commands.specs.Files.{Opens};
 ghost use Rattle.disk_commands.specs.Opening.{IsUnopenedAt};
 ghost use Rattle.disk_commands.specs.Told.{HasTold, IsInfoAt, IsUnprinted, IsUntold, form_of};
 
@@ -22,6 +23,7 @@ fn info_at<'a, F: DiskFiles>(
     ensures ok { IfOk result (IsInfoAt F.Store.held F.Store.honest (F.answers files.old) path.now) }
     ensures fault { IfErr result (IsUnopenedAt F.Store.held F.Store.honest F.Store.failed (F.answers files.old) path.now) }
     ensures kept { F.kept files.new ≡ F.kept files.old }
+    ensures opened { Opens path.now false (F.opened files.old) (F.opened files.new) }
 {
     let shape = match shape_at(alloc, files, path) {
         Ok(shape) => shape,
@@ -75,6 +77,7 @@ pub(crate) fn info_command<'a, F: DiskFiles, W: Write>(
     ensures ok { OnOk result (HasTold F.Store.held F.Store.honest (F.answers files.old) words.entry (W.contents out.old) (W.contents out.new)) }
     ensures fault { IfErr result (IsUntold F.Store.held F.Store.honest F.Store.failed (F.answers files.old) words.entry (W.contents out.old) (W.contents out.new)) }
     ensures kept { F.kept files.new ≡ F.kept files.old }
+    ensures opened { Opens words.entry.disk.now false (F.opened files.old) (F.opened files.new) }
 {
     let info = match info_at(alloc, files, words.disk) {
         Ok(info) => info,

@@ -35,8 +35,8 @@ fn obey<'a, F: DiskFiles, I: Read, O: Write>(
     out: &mut O,
 ) -> Result<(), DiskFault<'a>>
     ensures { Obeys F.Store.held F.Store.honest F.Store.failed F.Syncs.synced (F.answers files.old) (texts words.now)
-        (record { kept = F.kept files.old; input = I.remaining input.old; out = O.contents out.old })
-        (record { kept = F.kept files.new; input = I.remaining input.new; out = O.contents out.new }) result }
+        (record { kept = F.kept files.old; opened = F.opened files.old; input = I.remaining input.old; out = O.contents out.old })
+        (record { kept = F.kept files.new; opened = F.opened files.new; input = I.remaining input.new; out = O.contents out.new }) result }
 {
     match parse(alloc, words) {
         Ok(DiskWords::Create(words)) => create_command(alloc, words, files),
@@ -61,8 +61,8 @@ pub fn run<F: DiskFiles, I: Read, O: Write, E: Write>(
     err: &mut E,
 ) -> u8
     ensures { Runs F.Store.held F.Store.honest F.Store.failed F.Syncs.synced (F.answers files.old) (texts words.now)
-        (record { kept = F.kept files.old; input = I.remaining input.old; out = O.contents out.old })
-        (record { kept = F.kept files.new; input = I.remaining input.new; out = O.contents out.new }) (E.contents err.old) (E.contents err.new) result }
+        (record { kept = F.kept files.old; opened = F.opened files.old; input = I.remaining input.old; out = O.contents out.old })
+        (record { kept = F.kept files.new; opened = F.opened files.new; input = I.remaining input.new; out = O.contents out.new }) (E.contents err.old) (E.contents err.new) result }
 {
     match obey(alloc, words, files, input, out) {
         Ok(()) => 0,

@@ -1,9 +1,11 @@
 //! The command `serve`: a disk is served to one client.
-ghost use Rattle.std.specs.Prelude.{◌≡◌, ◌⊎◌, OnOk, IfOk, IfErr, Err};
+ghost use Rattle.std.specs.Prelude.{◌≡◌, ◌⊎◌, OnOk, IfOk, IfErr, Err, length, not, true};
 ghost use Rattle.std.specs.Io.KnownBytes.{Keeps};
 ghost use Rattle.disk_commands.specs.declared.text.DiskFault.TheVariants as fault;
 ghost use Rattle.disk_commands.specs.Opening.{IsUnopenedAt};
-ghost use Rattle.disk_commands.specs.Serve.{Ends, HasNotServed, HasServedAt, HasServedDisk, IsDiskAt, end_of, offer_of, pace_of, terms_of};
+ghost use Rattle.disk_commands.specs.Files.{Opens};
+ghost use Rattle.disk_commands.specs.Serve.{HasNotServed, HasReadDisk, HasServedAt, HasServedDisk, HasServedOn, IsDiskAt, IsFlushed, end_of, offer_of, pace_of, terms_of};
+ghost use Rattle.disk_server.specs.Reading.{AllLasts};
 
 use crate::files::DiskFiles;
 use crate::opening::{die_bytes, shape_at, told_at};
@@ -11,7 +13,8 @@ use crate::shapes::{MOST_ENTRIES, Shape};
 use crate::text::DiskFault;
 use crate::words::ServeWords;
 use disk_server::{
-    Offer, SectorDisk, Sectors, StoreDisk, SyncPace, SyncedDisk, Syncs, open_stopped, serve_synced,
+    Offer, ReadOnlyDisk, SectorDisk, Sectors, StoreDisk, SyncPace, SyncedDisk, Syncs, open_stopped,
+    serve_reading, serve_synced,
 };
 use file_die::SyncWhen;
 use nbd_stream::{Disk, End};
@@ -100,18 +103,14 @@ fn end_of<'a>(served: Result<End, ServeFault>) -> Result<(), DiskFault<'a>>
     }
 }
 
-// Ends a session on a disk, which is flushed unless it is read-only.
+// Ends a session on a disk, which is flushed.
 fn end_session<'a, S: Sectors, Y: Syncs>(
     disk: &mut SyncedDisk<SectorDisk<S>, Y>,
-    read_only: bool,
     path: &'a str,
     served: Result<End, ServeFault>,
 ) -> Result<(), DiskFault<'a>>
-    ensures { Ends S.contents S.honest Y.synced read_only path.entry disk.old served result }
+    ensures { IsFlushed S.contents S.honest Y.synced path.entry disk.old served result }
 {
-    if read_only {
-        return end_of(served);
-    }
     match disk.flush() {
         Ok(()) => end_of(served),
         Err(_) => Err(DiskFault::Device(path)),
@@ -119,24 +118,61 @@ fn end_session<'a, S: Sectors, Y: Syncs>(
 }
 
 // Serves a disk to one client, and has it flushed when the client has gone.
+fn serve_writing<'a, S: Sectors + Drop, Y: Syncs + Drop, I: Read, O: Write>(
+    opened: (SectorDisk<S>, Y),
+    terms: Terms,
+    path: &'a str,
+    buffer: &mut [u8],
+    input: &mut I,
+    out: &mut O,
+) -> Result<(), DiskFault<'a>>
+    requires { length buffer.old ≡ terms.offer.maximum }
+    ensures { HasServedDisk S.contents S.honest S.rests Y.synced terms path.entry opened.0 opened.1 (I.remaining input.old) (I.remaining input.new) (O.contents out.old) (O.contents out.new) result }
+{
+    let (disk, syncs) = opened;
+    let mut disk = SyncedDisk::new(disk, syncs, terms.pace);
+    let served = serve_synced(&mut disk, terms.offer, buffer, input, out);
+    end_session(&mut disk, path, served)
+}
+
+// Serves a disk that is only read to one client.
+fn serve_only_reading<'a, S: Sectors + Drop, I: Read, O: Write>(
+    disk: SectorDisk<S>,
+    terms: Terms,
+    buffer: &mut [u8],
+    input: &mut I,
+    out: &mut O,
+) -> Result<(), DiskFault<'a>>
+    requires lasts { S.honest disk ≡ true → AllLasts (S.contents disk) }
+    requires read_only { terms.offer.read_only ≡ true }
+    requires room { length buffer.old ≡ terms.offer.maximum }
+    ensures { HasReadDisk S.contents S.honest S.reads terms disk (I.remaining input.old) (I.remaining input.new) (O.contents out.old) (O.contents out.new) result }
+{
+    let mut disk = ReadOnlyDisk::new(disk);
+    end_of(serve_reading(&mut disk, terms.offer, buffer, input, out))
+}
+
+// Serves a disk to one client, on these terms.
 fn serve_client<'a, S: Sectors + Drop, Y: Syncs + Drop, I: Read, O: Write>(
     alloc: Global,
-    disk: SectorDisk<S>,
-    syncs: Y,
+    opened: (SectorDisk<S>, Y),
     terms: Terms,
     path: &'a str,
     input: &mut I,
     out: &mut O,
 ) -> Result<(), DiskFault<'a>>
-    ensures { HasServedDisk S.contents S.honest S.rests Y.synced terms path.entry disk syncs (I.remaining input.old) (I.remaining input.new) (O.contents out.old) (O.contents out.new) result
+    requires { S.honest opened.0 ≡ true → AllLasts (S.contents opened.0) }
+    ensures { HasServedOn S.contents S.honest S.rests S.reads Y.synced terms path.entry opened.0 opened.1 (I.remaining input.old) (I.remaining input.new) (O.contents out.old) (O.contents out.new) result
         ⊎ ((result ≡ Err fault.OutOfMemory) × Keeps (O.contents out.old) (O.contents out.new)) }
 {
     let Ok(mut buffer) = vec![in alloc; 0u8; terms.offer.maximum as usize] else {
         return Err(DiskFault::OutOfMemory);
     };
-    let mut disk = SyncedDisk::new(disk, syncs, terms.pace);
-    let served = serve_synced(&mut disk, terms.offer, &mut buffer, input, out);
-    end_session(&mut disk, terms.offer.read_only, path, served)
+    if terms.offer.read_only {
+        serve_only_reading(opened.0, terms, &mut buffer, input, out)
+    } else {
+        serve_writing(opened, terms, path, &mut buffer, input, out)
+    }
 }
 
 // The disk at a path, with a second handle of its file.
@@ -147,6 +183,7 @@ fn open_disk<'a, F: DiskFiles>(
 ) -> Result<(StoreDisk<F::Store>, F::Syncs, Shape), DiskFault<'a>>
     ensures ok { IfOk result (λ opened. IsDiskAt F.Store.held F.Store.honest (F.answers files.old) words.now.disk.now opened.2 opened.0) }
     ensures fault { IfErr result (IsUnopenedAt F.Store.held F.Store.honest F.Store.failed (F.answers files.old) words.now.disk.now) }
+    ensures opened { Opens words.now.disk.now (not words.now.read_only) (F.opened files.old) (F.opened files.new) }
     ensures kept { F.kept files.new ≡ F.kept files.old }
 {
     let shape = match shape_at(alloc, files, words.disk) {
@@ -165,7 +202,8 @@ fn open_disk<'a, F: DiskFiles>(
     }
 }
 
-/// The command `serve`: serves the disk DISK to the client at `input` and `out` until it goes, and then flushes it. With `--read-only` nothing is changed. **Of files
+/// The command `serve`: serves the disk DISK to the client at `input` and `out` until it goes, and then flushes it. With `--read-only` its file is opened for reading alone, nothing is
+/// asked of its die but reads, and a flush is answered as done. **Of files
 /// whose stores are honest the client's answers are those of the array of bytes that the die at DISK holds.**
 ///
 /// # Errors
@@ -182,6 +220,7 @@ pub(crate) fn serve_command<'a, F: DiskFiles, I: Read, O: Write>(
 ) -> Result<(), DiskFault<'a>>
     ensures served { HasServedAt F.Store.held F.Store.honest F.Syncs.synced (F.answers files.old) words.entry (I.remaining input.old) (I.remaining input.new) (O.contents out.old) (O.contents out.new) result
         ⊎ HasNotServed F.Store.held F.Store.honest F.Store.failed (F.answers files.old) words.entry (O.contents out.old) (O.contents out.new) result }
+    ensures opened { Opens words.entry.disk.now (not words.entry.read_only) (F.opened files.old) (F.opened files.new) }
     ensures kept { F.kept files.new ≡ F.kept files.old }
 {
     let (disk, syncs, shape) = match open_disk(alloc, files, &words) {
@@ -189,5 +228,5 @@ pub(crate) fn serve_command<'a, F: DiskFiles, I: Read, O: Write>(
         Err(fault) => return Err(fault),
     };
     let terms = terms_of(&shape, words.read_only);
-    serve_client(alloc, disk, syncs, terms, words.disk, input, out)
+    serve_client(alloc, (disk, syncs), terms, words.disk, input, out)
 }

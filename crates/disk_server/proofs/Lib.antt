@@ -14,3 +14,4 @@ pub mod OpenedLemmas
 pub mod StoppedLemmas
 pub mod PowerLemmas
 pub mod SyncLemmas
+pub mod ReadingLemmas

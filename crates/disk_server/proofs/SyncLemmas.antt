@@ -7,7 +7,7 @@ use Rattle.std.proofs.lemmas.Bool.{cases_lt}
 use Rattle.std.proofs.lemmas.Grind.{div_ceil_times}
 use Rattle.page_layout.specs.Counter.{counted, HasRisen}
 use Rattle.disk_server.specs.declared.synced.SyncedDisk.{SyncedDisk}
-use Rattle.disk_server.specs.Synced.{Counts, HasSynced, IsUnsynced, KeepsCount, after_change, touched}
+use Rattle.disk_server.specs.Synced.{Counts, HasSynced, IsUnsynced, KeepsCount, NoneFailed, OneFailed, after_change, touched}
 
 -- a count with one more
 rise : (a b c : ℕ) → a ≤ b → c ≡ counted b → HasRisen a c
@@ -45,6 +45,16 @@ part_failed synced offset count old mid new before failed = record {
   syncs = kept (synced old.syncs) (synced mid.syncs) (synced new.syncs) before.syncs (inl failed.none);
   pace_same = failed.pace_same ∙ before.pace_same;
 }
+
+-- ---- a sync that failed
+
+pub none_then : {D Y : Type 0} (failed : Y → ℕ) (old mid new : SyncedDisk D Y) → NoneFailed failed old mid → NoneFailed failed mid new → NoneFailed failed old new
+none_then failed old mid new before more = record { same = more.same ∙ before.same; count_same = more.count_same ∙ before.count_same }
+
+pub then_failed : {D Y : Type 0} (failed : Y → ℕ) (old mid new : SyncedDisk D Y) → NoneFailed failed old mid → NoneFailed failed mid new ⊎ OneFailed failed mid new
+    → NoneFailed failed old new ⊎ OneFailed failed old new
+then_failed failed old mid new before (inl more) = inl (none_then failed old mid new before more)
+then_failed failed old mid new before (inr one) = inr (record { kept = one.kept; rose = subst (λ n. HasRisen n (failed new.syncs)) before.count_same one.rose })
 
 -- ---- what counts as changed
 

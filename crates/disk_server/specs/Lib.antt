@@ -9,6 +9,8 @@ pub mod Made
 pub mod Opened
 -- what a loss of power leaves of it
 pub mod Power
+-- a disk that is only read
+pub mod Reading
 pub mod Stopped
 pub mod Synced
 pub mod Words

@@ -1,8 +1,10 @@
 -- WHETHER A SYNC WAS DONE, and what a client is told of a disk.
-use Rattle.std.specs.Prelude.{◌≡◌, ◌⊎◌, ◌<◌, ◌≤◌, ◌+◌, ◌-◌, ◌^◌, ◌%◌, ℕ, Bool, true, min, max}
+use Rattle.std.specs.Prelude.{◌≡◌, ◌⊎◌, ◌<◌, ◌≤◌, ◌+◌, ◌-◌, ◌^◌, ◌%◌, ℕ, Bool, true, false, min, max, Result, Ok, Err}
 use Rattle.std.specs.Int.{div_ceil}
 use Rattle.page_layout.specs.Counter.{counted, HasRisen}
 use Rattle.nbd_stream.specs.declared.export.Export.{Export}
+use Rattle.nbd_stream.specs.declared.fault.DiskFault.{DiskFault}
+use Rattle.nbd_stream.specs.declared.fault.DiskFault.TheVariants as fault
 use Rattle.disk_server.specs.declared.served.Offer.{Offer}
 use Rattle.disk_server.specs.declared.synced.SyncedDisk.{SyncedDisk}
 
@@ -17,6 +19,7 @@ after_change offset count s = record {
   syncs = s.syncs;
   pace = s.pace;
   unsynced = min (s.unsynced + touched s.pace.piece offset count) (2 ^ 64 - 1);
+  failed = s.failed;
 }
 
 -- nothing but the disk is another
@@ -24,6 +27,7 @@ pub record KeepsSyncs {D Y : Type 0} (old new : SyncedDisk D Y) : Type 0 where
   pub syncs_same : new.syncs ≡ old.syncs
   pub pace_same : new.pace ≡ old.pace
   pub unsynced_same : new.unsynced ≡ old.unsynced
+  pub failed_same : new.failed ≡ old.failed
 
 -- no sync was done, and as much counts as changed as before
 pub record IsUnsynced {D Y : Type 0} (synced : Y → ℕ) (old new : SyncedDisk D Y) : Type 0 where
@@ -61,6 +65,31 @@ pub record EndsSynced {D Y : Type 0} (synced : Y → ℕ) (durable : Bool) (offs
   pub pace_same : new.pace ≡ old.pace
   pub all : durable ≡ true → new.unsynced ≡ 0
   pub one_more : durable ≡ true → HasRisen (synced old.syncs) (synced new.syncs)
+
+-- ---- a sync that failed
+
+-- no sync failed
+pub record NoneFailed {D Y : Type 0} (failed : Y → ℕ) (old new : SyncedDisk D Y) : Type 0 where
+  pub same : new.failed ≡ old.failed
+  pub count_same : failed new.syncs ≡ failed old.syncs
+
+-- a sync failed, and that is kept
+pub record OneFailed {D Y : Type 0} (failed : Y → ℕ) (old new : SyncedDisk D Y) : Type 0 where
+  pub kept : new.failed ≡ true
+  pub rose : HasRisen (failed old.syncs) (failed new.syncs)
+
+-- THAT A SYNC FAILED IS KEPT, and nothing else is taken for it; after a call that is done none did
+abbrev pub Notes : {D Y : Type 0} → (failed : Y → ℕ) → (old : SyncedDisk D Y) → Result (Unit {0}) DiskFault → (new : SyncedDisk D Y) → Type 0
+Notes failed old (Ok done) new = NoneFailed failed old new
+Notes failed old (Err e) new = NoneFailed failed old new ⊎ OneFailed failed old new
+
+-- A REST is one of the disk; after a sync that failed there is none
+abbrev pub RestsSynced : {D Y : Type 0} → (rests : D → Result (Unit {0}) DiskFault → D → Type 0) → SyncedDisk D Y → Result (Unit {0}) DiskFault → SyncedDisk D Y → Type 0
+RestsSynced rests old result new =
+    ((old.failed ≡ true) × (result ≡ Err fault.Failed) × (new ≡ old))
+    ⊎ ((old.failed ≡ false) × rests old.disk result new.disk × KeepsSyncs old new)
+
+-- ---- what a client is told
 
 -- so many bytes, on these terms
 abbrev pub export_of : Offer → (size : ℕ) → Export

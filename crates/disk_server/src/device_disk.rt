@@ -92,6 +92,9 @@ impl<N: Nand> Sectors for DeviceDisk<N> {
     // A rest is one turn.
     ghost rests = { AsksTurn N.flash N.recorded N.honest N.calm N.erases N.failed };
 
+    // A read programs and erases nothing.
+    ghost reads = { λ old new. OnlyReads N.flash N.honest N.calm N.programs N.erases N.failed old.engine.nand new.engine.nand };
+
     ghost size = { λ d. d.engine.geometry.data_bytes };
 
     ghost count = { λ d. d.engine.geometry.sectors };
@@ -114,7 +117,7 @@ impl<N: Nand> Sectors for DeviceDisk<N> {
         // Whatever the die does.
         ensures stopped { IsSome (stop_of self.old.engine.fault) → (result ≡ Err DiskFault.Failed) × (self.new ≡ self.old) }
         ensures refused { OnErr result (buffer.new ≡ buffer.old) }
-        ensures only_reads { OnlyReads N.flash N.honest N.calm N.programs N.erases N.failed self.old.engine.nand self.new.engine.nand }
+        ensures reads { OnlyReads N.flash N.honest N.calm N.programs N.erases N.failed self.old.engine.nand self.new.engine.nand }
     {
         read_answer(self.device.read(sector as u32, buffer))
     }

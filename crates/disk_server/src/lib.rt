@@ -8,7 +8,8 @@
 //! - `open_stopped`, `mount_stopped`: the same where the die may have been stopped, with more that is stale than the cache has room for.
 //! - `format_store`: a store of erased pages becomes a die with a device on it.
 //! - `SyncedDisk`: a disk whose flushes and durable changes end with a sync of what it is kept in, and of whose changes no more than a `SyncPace` says lack one;
-//!   `serve_synced` serves it.
+//!   `serve_synced` serves it. After a sync that failed it answers nothing but that it failed.
+//! - `ReadOnlyDisk`: a disk that asks for reads of sectors alone; `serve_reading` serves it.
 //!
 //! All of it is this project's.
 #![tactic(auto)]
@@ -22,6 +23,7 @@ mod open;
 mod opened;
 mod pieces;
 mod ranges;
+mod reading;
 mod sector_disk;
 mod sectors;
 mod served;
@@ -33,8 +35,9 @@ pub use format::{CreateFault, format_store};
 pub use mounted::open_mounted;
 pub use open::{OpenFault, open_checked};
 pub use opened::{OpenStoreFault, StoreDisk, close_store, mount_store, open_store};
+pub use reading::ReadOnlyDisk;
 pub use sector_disk::SectorDisk;
 pub use sectors::Sectors;
-pub use served::{Offer, serve_synced};
+pub use served::{Offer, serve_reading, serve_synced};
 pub use stopped::{mount_stopped, open_stopped};
 pub use synced::{SyncPace, SyncedDisk, Syncs};

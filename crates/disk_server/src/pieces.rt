@@ -29,6 +29,7 @@ pub(crate) fn read_piece<S: Sectors>(
     requires within { offset + length out.old ≤ length (S.contents sectors.old).bytes }
     ensures size { S.size sectors.new ≡ S.size sectors.old }
     ensures performs { Performs S.contents S.honest S.calm (Task.Read offset (length out.old)) [] sectors.old (answer_from result out.new) sectors.new }
+    ensures reads { S.reads sectors.old sectors.new }
 {
     let size = sectors.sector_bytes();
     let count = sectors.sector_count();

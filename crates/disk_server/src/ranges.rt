@@ -1,6 +1,7 @@
 //! Ranges of bytes, sector by sector.
 ghost use Rattle.std.specs.Prelude.{◌≡◌, ◌≤◌, ◌+◌, false, [], length};
 ghost use Rattle.nbd_stream.specs.Disk.{Performs, answer_from};
+ghost use Rattle.nbd_stream.specs.Through.{Through};
 
 use crate::pieces::{clear_piece, piece_length, read_piece, write_piece};
 use crate::sectors::Sectors;
@@ -17,6 +18,7 @@ pub(crate) fn read_range<S: Sectors>(
     requires within { offset + length out.old ≤ length (S.contents sectors.old).bytes }
     ensures size { S.size sectors.new ≡ S.size sectors.old }
     ensures performs { Performs S.contents S.honest S.calm (Task.Read offset (length out.old)) [] sectors.old (answer_from result out.new) sectors.new }
+    ensures reads { Through S.reads sectors.old sectors.new }
 {
     let size = sectors.sector_bytes();
     let _count = sectors.sector_count();

@@ -3,7 +3,7 @@ ghost use Rattle.std.specs.Prelude.{◌≡◌, length, MatchResult};
 
 use crate::ranges::{clear_range, read_range, write_range};
 use crate::sectors::Sectors;
-use nbd_stream::{Disk, DiskFault};
+use nbd_stream::{Disk, DiskFault, Task};
 use std::alloc::Global;
 use std::marker::Model;
 
@@ -60,6 +60,10 @@ impl<S: Sectors> SectorDisk<S> {
 }
 
 impl<S: Sectors> Disk for SectorDisk<S> {
+    ghost use Rattle.std.specs.Prelude.{◌≤◌, ◌+◌, [], length};
+    ghost use Rattle.nbd_stream.specs.Disk.{Performs, answer_from};
+    ghost use Rattle.nbd_stream.specs.Through.{Through};
+
     ghost contents = { S.contents };
 
     ghost honest = { S.honest };
@@ -68,7 +72,14 @@ impl<S: Sectors> Disk for SectorDisk<S> {
 
     ghost rests = { S.rests };
 
-    fn read(&mut self, offset: u64, buffer: &mut [u8]) -> Result<(), DiskFault> {
+    ghost leaves = { λ old new. Unit {0} };
+
+    // Nothing is asked of the device but reads.
+    fn read(&mut self, offset: u64, buffer: &mut [u8]) -> Result<(), DiskFault>
+        requires { offset + length buffer.old ≤ length (S.contents self.old).bytes }
+        ensures performs { Performs S.contents S.honest S.calm (Task.Read offset (length buffer.old)) [] self.old (answer_from result buffer.new) self.new }
+        ensures reads { Through S.reads self.old self.new }
+    {
         read_range(&mut self.sectors, &mut self.buffer, offset, buffer)
     }
 

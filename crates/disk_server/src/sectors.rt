@@ -22,6 +22,9 @@ pub trait Sectors {
     /// What a rest of it is, beside that it leaves the sectors: of the device before, the answer, and the device after.
     ghost rests: { Self → Result (Unit {0}) DiskFault → Self → Type 0 };
 
+    /// What a read of a sector leaves, beside the bytes: of the device before, and the device after.
+    ghost reads: { Self → Self → Type 0 };
+
     /// Bytes of a sector.
     ghost size: { Self → ℕ };
 
@@ -38,7 +41,8 @@ pub trait Sectors {
         requires whole { length buffer.old ≡ size self.old }
         ensures size { size self.new ≡ size self.old }
         ensures count { count self.new ≡ count self.old }
-        ensures performs { Performs contents honest calm (Task.Read (sector * size self.old) (size self.old)) [] self.old (answer_from result buffer.new) self.new };
+        ensures performs { Performs contents honest calm (Task.Read (sector * size self.old) (size self.old)) [] self.old (answer_from result buffer.new) self.new }
+        ensures reads { reads self.old self.new };
 
     /// Sets the bytes of a sector.
     ///

@@ -1,8 +1,11 @@
 //! A disk is served to one client.
-ghost use Rattle.std.specs.Prelude.{◌≡◌, ◌≤◌, false, length};
+ghost use Rattle.std.specs.Prelude.{◌≡◌, ◌≤◌, false, length, true};
 ghost use Rattle.nbd_stream.specs.Transmission.{Serves};
-ghost use Rattle.disk_server.specs.Synced.{KeepsSyncs, export_of};
+ghost use Rattle.disk_server.specs.Synced.{RestsSynced, export_of};
+ghost use Rattle.disk_server.specs.Reading.{RestsNever};
+ghost use Rattle.nbd_stream.specs.Through.{Through};
 
+use crate::reading::ReadOnlyDisk;
 use crate::sector_disk::SectorDisk;
 use crate::sectors::Sectors;
 use crate::synced::{SyncedDisk, Syncs};
@@ -21,6 +24,18 @@ pub struct Offer {
     pub maximum: u32,
 }
 
+// The export of so many bytes, on these terms.
+fn export_of(offer: Offer, size: u64) -> Export
+    ensures { result ≡ export_of offer size }
+{
+    Export {
+        size,
+        read_only: offer.read_only,
+        preferred: offer.preferred,
+        maximum: offer.maximum,
+    }
+}
+
 /// Serves all bytes of a disk to one client, until it goes: each request is answered by one reply, in order, and of a disk that is honest the answers are those of the array of its
 /// bytes. After each change the disk rests. Each flush and each durable change ends with a sync, and so does each change once too much was changed since the last one.
 ///
@@ -35,15 +50,34 @@ pub fn serve_synced<S: Sectors, Y: Syncs, R: Read, W: Write>(
     writer: &mut W,
 ) -> Result<End, ServeFault>
     requires room { offer.maximum ≤ length buffer.old }
-    ensures { Serves (λ s. S.contents s.disk) (λ s. S.honest s.disk) (λ _. false) (λ old result new. S.rests old.disk result new.disk × KeepsSyncs old new)
+    ensures { Serves (λ s. S.contents s.disk) (λ s. S.honest s.disk) (λ _. false) (RestsSynced S.rests)
         (export_of offer (length (S.contents disk.old.disk).bytes)) (length buffer.new) disk.old disk.new (R.remaining reader.old) (R.remaining reader.new)
         (W.contents writer.old) (W.contents writer.new) result }
 {
-    let export = Export {
-        size: disk.disk().bytes(),
-        read_only: offer.read_only,
-        preferred: offer.preferred,
-        maximum: offer.maximum,
-    };
+    let export = export_of(offer, disk.disk().bytes());
+    serve(reader, writer, disk, &export, buffer)
+}
+
+/// Serves all bytes of a disk that is only read to one client, until it goes, as `serve_synced` does. **What stands under the disk is asked for reads of its sectors, and for
+/// nothing else** (`reads`): a change is refused, and a flush is done.
+///
+/// # Errors
+///
+/// As `nbd_stream::serve`. (The NBD protocol.)
+pub fn serve_reading<S: Sectors, R: Read, W: Write>(
+    disk: &mut ReadOnlyDisk<S>,
+    offer: Offer,
+    buffer: &mut [u8],
+    reader: &mut R,
+    writer: &mut W,
+) -> Result<End, ServeFault>
+    requires room { offer.maximum ≤ length buffer.old }
+    requires read_only { offer.read_only ≡ true }
+    ensures serves { Serves S.contents S.honest (λ _. false) RestsNever
+        (export_of offer (length (S.contents disk.old).bytes)) (length buffer.new) disk.old disk.new (R.remaining reader.old) (R.remaining reader.new)
+        (W.contents writer.old) (W.contents writer.new) result }
+    ensures reads { Through S.reads disk.old disk.new }
+{
+    let export = export_of(offer, disk.bytes());
     serve(reader, writer, disk, &export, buffer)
 }

@@ -7,10 +7,13 @@ use nbd_stream::{Disk, DiskFault, Task};
 /// A way to make last what was written, beside the disk that writes it, as a second handle of one file. (This project's.)
 pub trait Syncs {
     ghost use Rattle.std.specs.Prelude.{◌≡◌, ℕ, IfErr, OnOk, OnErr};
-    ghost use Rattle.page_layout.specs.Counter.{counted};
+    ghost use Rattle.page_layout.specs.Counter.{HasRisen, counted};
 
     /// How many syncs were done.
     ghost synced: { Self → ℕ };
+
+    /// How many failed. The count stays at 2^64 - 1 once there.
+    ghost failed: { Self → ℕ };
 
     /// Makes last what was written.
     ///
@@ -19,7 +22,9 @@ pub trait Syncs {
     /// `Failed` where that failed: not all of it may last.
     fn sync(&mut self) -> Result<(), DiskFault>
         ensures done { OnOk result (synced self.new ≡ counted (synced self.old)) }
-        ensures failed { OnErr result (synced self.new ≡ synced self.old) }
+        ensures not_done { OnErr result (synced self.new ≡ synced self.old) }
+        ensures settled { OnOk result (failed self.new ≡ failed self.old) }
+        ensures rose { OnErr result (HasRisen (failed self.old) (failed self.new)) }
         ensures fault { IfErr result (λ e. e ≡ DiskFault.Failed) };
 }
 
@@ -46,19 +51,23 @@ fn pieces_of(piece: u32, offset: u64, count: u64) -> u64
 
 /// A disk, and a way to make last what it writes. Each flush and each durable change that is answered without an error ends with a sync, and so does each change that is
 /// answered without an error once too much was changed since the last one. A range is cleared a megabyte at a time, and it is looked after each whether a sync is due. What a
-/// sync makes last no contract of the disk can say: that it is of what the disk is kept in, is for whoever joins the two. (This project's.)
+/// sync makes last no contract of the disk can say: that it is of what the disk is kept in, is for whoever joins the two.
+///
+/// **After a sync that failed nothing is asked of the disk or of its syncs any more, and each call answers `Failed`**: what was written before it may be lost, and the next
+/// sync may be answered without an error all the same, as by Linux. (This project's.)
 #[derive(Drop)]
 pub struct SyncedDisk<D: Disk, Y: Syncs> {
     disk: D,
     syncs: Y,
     pace: SyncPace,
     unsynced: u64,
+    failed: bool,
 }
 
 impl<D: Disk, Y: Syncs> SyncedDisk<D, Y> {
     ghost use Rattle.std.specs.Prelude.{◌≡◌, ◌≤◌, ◌<◌, ◌+◌, false, [], length, OnOk, OnErr, IfErr};
     ghost use Rattle.nbd_stream.specs.Disk.{Performs, answer_from};
-    ghost use Rattle.disk_server.specs.Synced.{Counts, HasSynced, IsUnsynced, KeepsCount, after_change};
+    ghost use Rattle.disk_server.specs.Synced.{Counts, HasSynced, IsUnsynced, KeepsCount, Notes, after_change};
 
     /// Joins a disk and its syncs. Nothing is asked of either, and nothing counts as changed.
     pub fn new(disk: D, syncs: Y, pace: SyncPace) -> SyncedDisk<D, Y>
@@ -66,12 +75,14 @@ impl<D: Disk, Y: Syncs> SyncedDisk<D, Y> {
         ensures syncs { result.syncs ≡ syncs }
         ensures pace { result.pace ≡ pace }
         ensures unsynced { result.unsynced ≡ 0 }
+        ensures failed { result.failed ≡ false }
     {
         SyncedDisk {
             disk,
             syncs,
             pace,
             unsynced: 0,
+            failed: false,
         }
     }
 
@@ -96,6 +107,7 @@ impl<D: Disk, Y: Syncs> SyncedDisk<D, Y> {
         ensures disk { self.new.disk ≡ self.old.disk }
         ensures synced { OnOk result (HasSynced Y.synced durable self.old self.new) }
         ensures unsynced { OnErr result (IsUnsynced Y.synced self.old self.new) }
+        ensures notes { Notes Y.failed self.old result self.new }
         ensures fault { IfErr result (λ e. e ≡ DiskFault.Failed) }
     {
         if !durable && self.unsynced <= self.pace.most {
@@ -106,7 +118,10 @@ impl<D: Disk, Y: Syncs> SyncedDisk<D, Y> {
                 self.unsynced = 0;
                 Ok(())
             }
-            Err(fault) => Err(fault),
+            Err(fault) => {
+                self.failed = true;
+                Err(fault)
+            }
         }
     }
 
@@ -116,6 +131,7 @@ impl<D: Disk, Y: Syncs> SyncedDisk<D, Y> {
         ensures performs { Performs (λ s. D.contents s.disk) (λ s. D.honest s.disk) (λ _. false) (Task.Trim offset count false) [] self.old (answer_from result []) self.new }
         ensures synced { OnOk result (HasSynced Y.synced false (after_change offset count self.old) self.new) }
         ensures unsynced { OnErr result (IsUnsynced Y.synced (after_change offset count self.old) self.new) }
+        ensures notes { Notes Y.failed self.old result self.new }
     {
         self.count(offset, u64::from(count));
         match self.disk.clear(offset, count, false) {
@@ -130,6 +146,7 @@ impl<D: Disk, Y: Syncs> SyncedDisk<D, Y> {
         ensures performs { Performs (λ s. D.contents s.disk) (λ s. D.honest s.disk) (λ _. false) (Task.Trim offset count false) [] self.old (answer_from result []) self.new }
         ensures syncs { KeepsCount Y.synced self.old self.new }
         ensures counts { OnOk result (0 < count → Counts Y.synced offset count self.old self.new) }
+        ensures notes { Notes Y.failed self.old result self.new }
     {
         if offset.checked_add(u64::from(count)).is_none() {
             return self.clear_part(offset, count);
@@ -147,9 +164,9 @@ impl<D: Disk, Y: Syncs> SyncedDisk<D, Y> {
 }
 
 impl<D: Disk, Y: Syncs> Disk for SyncedDisk<D, Y> {
-    ghost use Rattle.std.specs.Prelude.{◌≡◌, ◌≤◌, ◌+◌, true, false, [], length, OnErr, OnOk};
+    ghost use Rattle.std.specs.Prelude.{◌≡◌, ◌≤◌, ◌+◌, true, false, [], length, Err, OnErr, OnOk};
     ghost use Rattle.nbd_stream.specs.Disk.{Performs, answer_from};
-    ghost use Rattle.disk_server.specs.Synced.{EndsSynced, HasSynced, IsUnsynced, KeepsSyncs, after_change};
+    ghost use Rattle.disk_server.specs.Synced.{EndsSynced, HasSynced, IsUnsynced, KeepsSyncs, Notes, RestsSynced, after_change};
 
     ghost contents = { λ s. D.contents s.disk };
 
@@ -157,14 +174,20 @@ impl<D: Disk, Y: Syncs> Disk for SyncedDisk<D, Y> {
 
     ghost calm = { λ _. false };
 
-    /// A rest of the disk, and nothing else.
-    ghost rests = { λ old result new. D.rests old.disk result new.disk × KeepsSyncs old new };
+    /// A rest of the disk, and nothing else; after a sync that failed, nothing.
+    ghost rests = { RestsSynced D.rests };
+
+    ghost leaves = { λ old new. Unit {0} };
 
     fn read(&mut self, offset: u64, buffer: &mut [u8]) -> Result<(), DiskFault>
         requires { offset + length buffer.old ≤ length (D.contents self.old.disk).bytes }
         ensures performs { Performs (λ s. D.contents s.disk) (λ s. D.honest s.disk) (λ _. false) (Task.Read offset (length buffer.old)) [] self.old (answer_from result buffer.new) self.new }
         ensures unsynced { KeepsSyncs self.old self.new }
+        ensures over { self.old.failed ≡ true → (result ≡ Err DiskFault.Failed) × (self.new ≡ self.old) }
     {
+        if self.failed {
+            return Err(DiskFault::Failed);
+        }
         self.disk.read(offset, buffer)
     }
 
@@ -172,8 +195,13 @@ impl<D: Disk, Y: Syncs> Disk for SyncedDisk<D, Y> {
         requires { offset + length bytes.now ≤ length (D.contents self.old.disk).bytes }
         ensures performs { Performs (λ s. D.contents s.disk) (λ s. D.honest s.disk) (λ _. false) (Task.Write offset (length bytes.now) durable) bytes.now self.old (answer_from result []) self.new }
         ensures synced { OnOk result (HasSynced Y.synced durable (after_change offset (length bytes.now) self.old) self.new) }
-        ensures unsynced { OnErr result (IsUnsynced Y.synced (after_change offset (length bytes.now) self.old) self.new) }
+        ensures unsynced { OnErr result (self.old.failed ≡ false → IsUnsynced Y.synced (after_change offset (length bytes.now) self.old) self.new) }
+        ensures notes { Notes Y.failed self.old result self.new }
+        ensures over { self.old.failed ≡ true → (result ≡ Err DiskFault.Failed) × (self.new ≡ self.old) }
     {
+        if self.failed {
+            return Err(DiskFault::Failed);
+        }
         self.count(offset, bytes.len() as u64);
         match self.disk.write(offset, bytes, durable) {
             Ok(()) => self.settle(durable),
@@ -185,7 +213,12 @@ impl<D: Disk, Y: Syncs> Disk for SyncedDisk<D, Y> {
         requires { offset + count ≤ length (D.contents self.old.disk).bytes }
         ensures performs { Performs (λ s. D.contents s.disk) (λ s. D.honest s.disk) (λ _. false) (Task.Trim offset count durable) [] self.old (answer_from result []) self.new }
         ensures synced { OnOk result (EndsSynced Y.synced durable offset count self.old self.new) }
+        ensures notes { Notes Y.failed self.old result self.new }
+        ensures over { self.old.failed ≡ true → (result ≡ Err DiskFault.Failed) × (self.new ≡ self.old) }
     {
+        if self.failed {
+            return Err(DiskFault::Failed);
+        }
         match self.clear_parts(offset, count) {
             Ok(()) if durable => self.flush(),
             Ok(()) => self.settle(false),
@@ -197,7 +230,12 @@ impl<D: Disk, Y: Syncs> Disk for SyncedDisk<D, Y> {
         ensures performs { Performs (λ s. D.contents s.disk) (λ s. D.honest s.disk) (λ _. false) Task.Flush [] self.old (answer_from result []) self.new }
         ensures synced { OnOk result (HasSynced Y.synced true self.old self.new) }
         ensures unsynced { OnErr result (IsUnsynced Y.synced self.old self.new) }
+        ensures notes { Notes Y.failed self.old result self.new }
+        ensures over { self.old.failed ≡ true → (result ≡ Err DiskFault.Failed) × (self.new ≡ self.old) }
     {
+        if self.failed {
+            return Err(DiskFault::Failed);
+        }
         match self.disk.flush() {
             Ok(()) => self.settle(true),
             Err(fault) => Err(fault),
@@ -205,6 +243,9 @@ impl<D: Disk, Y: Syncs> Disk for SyncedDisk<D, Y> {
     }
 
     fn rest(&mut self) -> Result<(), DiskFault> {
+        if self.failed {
+            return Err(DiskFault::Failed);
+        }
         self.disk.rest()
     }
 }

@@ -2,10 +2,12 @@
 //! - `die`: the die over a store beside the die in memory, cycle by cycle, and over a store that fails each call in turn.
 //! - `nbd`: the NBD protocol over byte lists, worked out by hand from the protocol's document.
 //! - `device`: the block device as a disk of bytes, over dies in memory.
+//! - `parts`: parts and their names, in a folder in memory.
 //! - `words`: the shape of a disk, the file that tells it, and the words of `nanddisk`.
 mod commands;
 mod device;
 mod die;
 mod nbd;
+mod parts;
 mod steps;
 mod words;

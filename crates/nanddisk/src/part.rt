@@ -1,41 +1,13 @@
 //! A die that is made beside its place.
-use crate::fault::{unread, unwritten};
+use crate::fault::{unmade, unread, unseen, unwritten};
 use disk_commands::FileFault;
 use file_die::{FileStore, Store};
-use std::fs::{self, File, OpenOptions, TryLockError};
-use std::io::{self, ErrorKind, Seek, SeekFrom, Write};
+use part_files::{
+    Names, Pair, SystemNames, clear_begun, discard, is_begun, new_part, publish_pair,
+};
+use std::fs::{self, File};
+use std::io::{self, Seek, SeekFrom, Write};
 use std::rt::Files;
-
-/// Whether something stands at a path, a link too.
-pub fn is_there<R: Files>(rt: &R, path: &str) -> Result<bool, FileFault> {
-    match fs::symlink_metadata(rt, path) {
-        Ok(_) => Ok(true),
-        Err(error) if error.kind() == ErrorKind::NotFound => Ok(false),
-        Err(error) => Err(unread(error)),
-    }
-}
-
-/// An empty file that is to become the one at a path. One that an earlier run has left is taken over, and one that another run is at is not.
-pub fn new_part<R: Files<File = File>>(rt: &R, name: &str) -> Result<File, FileFault> {
-    let opened = OpenOptions::new()
-        .read(true)
-        .write(true)
-        .create(true)
-        .open(rt, name);
-    let file = match opened {
-        Ok(file) => file,
-        Err(error) => return Err(unwritten(error)),
-    };
-    match file.try_lock() {
-        Ok(()) => {}
-        Err(TryLockError::WouldBlock) => return Err(FileFault::InUse),
-        Err(TryLockError::Error(error)) => return Err(unwritten(error)),
-    }
-    match file.set_len(0) {
-        Ok(()) => Ok(file),
-        Err(error) => Err(unwritten(error)),
-    }
-}
 
 /// Erases all blocks of a store, and has them last.
 pub fn erase_all(store: &mut FileStore) -> Result<(), FileFault> {
@@ -90,45 +62,67 @@ fn put_all(file: &mut File, bytes: &[u8]) -> io::Result<()> {
     file.sync_all()
 }
 
-// Has a file's bytes stored, under a name that no file has.
-fn put_bytes<R: Files<File = File>>(rt: &R, name: &str, bytes: &[u8]) -> io::Result<()> {
-    let mut file = File::create_new(rt, name)?;
-    let done = put_all(&mut file, bytes);
+// Writes the part of the file beside a die, and names both.
+fn put_both<R: Files<File = File>>(
+    rt: &R,
+    pair: &Pair<'_>,
+    file: &mut File,
+    text: &[u8],
+) -> Result<(), FileFault> {
+    if let Err(error) = put_all(file, text) {
+        return Err(unwritten(error));
+    }
+    match publish_pair(&mut SystemNames::new(rt), pair) {
+        Ok(()) => Ok(()),
+        Err(fault) => Err(unmade(fault)),
+    }
+}
+
+/// Gives a finished die its name, with the file beside it that tells its shape, so that both names outlive a loss of power where the folder can be synced. The part of that
+/// file is gone then.
+pub fn publish<R: Files<File = File>>(
+    rt: &R,
+    pair: &Pair<'_>,
+    text: &[u8],
+) -> Result<(), FileFault> {
+    let mut file = match new_part(&mut SystemNames::new(rt), pair.beside_part) {
+        Ok(file) => file,
+        Err(fault) => return Err(unmade(fault)),
+    };
+    let done = put_both(rt, pair, &mut file, text);
     if done.is_err() {
-        let _ = fs::remove_file(rt, name);
+        discard(&mut SystemNames::new(rt), pair.beside_part);
     }
     done
 }
 
-// Has the names in the folder of a path stored, where the system can.
-fn store_names<R: Files<File = File>>(rt: &R, path: &str) -> io::Result<()> {
-    let folder = match path.rsplit_once('/') {
-        Some(("", _)) => "/",
-        Some((folder, _)) => folder,
-        None => ".",
-    };
-    fs::open(rt, folder)?.sync_all()
+/// The part of a die, empty, open and locked. What a run that was killed has begun here is taken back first.
+pub fn new_die<R: Files<File = File>>(rt: &R, pair: &Pair<'_>) -> Result<File, FileFault> {
+    let mut names = SystemNames::new(rt);
+    match clear_begun(&mut names, pair) {
+        Ok(()) => {}
+        Err(fault) => return Err(unmade(fault)),
+    }
+    match new_part(&mut names, pair.part) {
+        Ok(file) => Ok(file),
+        Err(fault) => Err(unmade(fault)),
+    }
 }
 
-/// Gives a finished die its name, with the file beside it that tells its shape, so that both names outlive a loss of power where the folder can be synced.
-pub fn publish<R: Files<File = File>>(
-    rt: &R,
-    part: &str,
-    path: &str,
-    beside: &str,
-    text: &[u8],
-) -> Result<(), FileFault> {
-    if let Err(error) = put_bytes(rt, beside, text) {
-        return Err(unwritten(error));
-    }
-    let Err(error) = fs::hard_link(rt, part, path) else {
-        let _ = store_names(rt, path);
-        return Ok(());
+/// Whether something stands at the path of a die, or beside it. What a run that was killed has begun is nothing.
+pub fn is_taken<R: Files<File = File>>(rt: &R, pair: &Pair<'_>) -> Result<bool, FileFault> {
+    let mut names = SystemNames::new(rt);
+    let taken = match names.is_there(pair.path) {
+        Ok(true) => Ok(true),
+        Ok(false) => names.is_there(pair.beside),
+        Err(fault) => Err(fault),
     };
-    let _ = fs::remove_file(rt, beside);
-    if error.kind() == ErrorKind::AlreadyExists {
-        Err(FileFault::Exists)
-    } else {
-        Err(unwritten(error))
+    match taken {
+        Ok(true) => match is_begun(&mut names, pair) {
+            Ok(begun) => Ok(!begun),
+            Err(fault) => Err(unseen(fault)),
+        },
+        Ok(false) => Ok(false),
+        Err(fault) => Err(unseen(fault)),
     }
 }

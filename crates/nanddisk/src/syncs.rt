@@ -8,17 +8,24 @@ use std::fs::File;
 pub struct FileSyncs {
     file: File,
     done: u64,
+    failed: u64,
 }
 
 impl FileSyncs {
-    /// With this handle. No sync was done.
+    /// With this handle. No sync was done, and none failed.
     pub fn new(file: File) -> FileSyncs {
-        FileSyncs { file, done: 0 }
+        FileSyncs {
+            file,
+            done: 0,
+            failed: 0,
+        }
     }
 }
 
 impl Syncs for FileSyncs {
     ghost synced = { λ s. s.done };
+
+    ghost failed = { λ s. s.failed };
 
     fn sync(&mut self) -> Result<(), DiskFault> {
         match self.file.sync_data() {
@@ -26,7 +33,10 @@ impl Syncs for FileSyncs {
                 self.done = self.done.saturating_add(1);
                 Ok(())
             }
-            Err(_) => Err(DiskFault::Failed),
+            Err(_) => {
+                self.failed = self.failed.saturating_add(1);
+                Err(DiskFault::Failed)
+            }
         }
     }
 }

@@ -1,46 +1,94 @@
 //! The files of the system.
-ghost use Rattle.std.specs.Prelude.{◌≡◌, IfOk};
+ghost use Rattle.std.specs.Prelude.{◌≡◌, IfOk, Ok};
 
 use crate::die::{open_die, second_handle, store_over};
 use crate::fault::{unread, unwritten};
-use crate::part::{copy_file, erase_all, is_there, new_part, open_dump, publish};
+use crate::part::{copy_file, erase_all, is_taken, new_die, open_dump, publish};
 use crate::syncs::FileSyncs;
 use disk_commands::{DiskFiles, FileFault, die_bytes};
 use file_die::FileStore;
 use page_layout::geometry::Geometry;
-use std::alloc::Global;
+use part_files::{Pair, SystemNames, discard, part_name};
+use std::alloc::{AllocError, Global};
 use std::fs::{self, File};
 use std::io::{self, Read};
 use std::rt::Files;
 
+// The word of this program in the names of its parts.
+const PROGRAM: &str = "nanddisk";
+
 // The most bytes of the file that tells a shape.
 const MOST_BYTES: u64 = 65_536;
 
-/// The system's files, by their paths. A disk is made as PATH.part, and its shape is told in PATH.json.
+/// The system's files, by their paths. A disk is made as its part beside PATH, and its shape is told in PATH.json.
 #[derive(Drop)]
 pub struct SystemFiles<'a, R> {
     rt: &'a R,
+    // the part that is being made, which is locked as long as it is here
+    part: Option<File>,
+}
+
+// The names that go with a path.
+#[derive(Drop)]
+struct PathNames {
+    part: String,
+    beside: String,
+    beside_part: String,
+}
+
+// The same, together with the path.
+fn pair_of<'a>(path: &'a str, names: &'a PathNames) -> Pair<'a> {
+    Pair {
+        part: names.part.as_str(),
+        path,
+        beside_part: names.beside_part.as_str(),
+        beside: names.beside.as_str(),
+    }
+}
+
+// The names that go with a path.
+fn path_names(alloc: Global, path: &str) -> Result<PathNames, FileFault> {
+    match try_path_names(alloc, path) {
+        Ok(names) => Ok(names),
+        Err(_) => Err(FileFault::OutOfMemory),
+    }
+}
+
+fn try_path_names(alloc: Global, path: &str) -> Result<PathNames, AllocError> {
+    let part = part_name(alloc, path, PROGRAM)?;
+    let beside = format!(in alloc; "{path}.json")?;
+    let beside_part = part_name(alloc, beside.as_str(), PROGRAM)?;
+    Ok(PathNames {
+        part,
+        beside,
+        beside_part,
+    })
 }
 
 impl<'a, R: Files<File = File> + AllocGlobal> SystemFiles<'a, R> {
     /// The files that the program's handle `rt` reaches. Nothing is opened.
     pub fn new(rt: &'a R) -> SystemFiles<'a, R> {
-        SystemFiles { rt }
+        SystemFiles { rt, part: None }
     }
 
-    // The name of the file that tells the shape of the disk at a path.
-    fn beside(&self, path: &str) -> Result<String, FileFault> {
-        match format!(in self.rt.alloc(); "{path}.json") {
-            Ok(name) => Ok(name),
-            Err(_) => Err(FileFault::OutOfMemory),
-        }
-    }
-
-    // The name under which the die of the disk at a path is made.
-    fn part(&self, path: &str) -> Result<String, FileFault> {
-        match format!(in self.rt.alloc(); "{path}.part") {
-            Ok(name) => Ok(name),
-            Err(_) => Err(FileFault::OutOfMemory),
+    // Keeps the lock of a part, where a die was made in it, and removes the part where none was.
+    fn keep_part(
+        &mut self,
+        names: &PathNames,
+        own: Result<File, FileFault>,
+        made: Result<FileStore, FileFault>,
+    ) -> Result<FileStore, FileFault>
+        ensures { IfOk result (λ store. made ≡ Ok store) }
+    {
+        match (own, made) {
+            (Ok(own), Ok(store)) => {
+                self.part = Some(own);
+                Ok(store)
+            }
+            (Err(fault), _) | (_, Err(fault)) => {
+                discard(&mut SystemNames::new(self.rt), names.part.as_str());
+                Err(fault)
+            }
         }
     }
 }
@@ -93,24 +141,21 @@ impl<R: Files<File = File> + AllocGlobal> DiskFiles for SystemFiles<'_, R> {
 
     ghost kept = { λ _. None };
 
+    ghost opened = { λ _. None };
+
     fn has(&mut self, path: &str) -> Result<bool, FileFault> {
-        match is_there(self.rt, path) {
-            Ok(true) => return Ok(true),
-            Ok(false) => {}
-            Err(fault) => return Err(fault),
-        }
-        match self.beside(path) {
-            Ok(beside) => is_there(self.rt, beside.as_str()),
+        match path_names(self.rt.alloc(), path) {
+            Ok(names) => is_taken(self.rt, &pair_of(path, &names)),
             Err(fault) => Err(fault),
         }
     }
 
     fn shape_text(&mut self, alloc: Global, path: &str) -> Result<Vec<u8>, FileFault> {
-        let beside = match self.beside(path) {
-            Ok(beside) => beside,
+        let names = match path_names(alloc, path) {
+            Ok(names) => names,
             Err(fault) => return Err(fault),
         };
-        match read_small(self.rt, alloc, beside.as_str()) {
+        match read_small(self.rt, alloc, names.beside.as_str()) {
             Ok(bytes) => Ok(bytes),
             Err(error) => Err(unread(error)),
         }
@@ -143,19 +188,17 @@ impl<R: Files<File = File> + AllocGlobal> DiskFiles for SystemFiles<'_, R> {
         path: &str,
         geometry: &Geometry,
     ) -> Result<FileStore, FileFault> {
-        let part = match self.part(path) {
-            Ok(part) => part,
+        let names = match path_names(alloc, path) {
+            Ok(names) => names,
             Err(fault) => return Err(fault),
         };
-        let file = match new_part(self.rt, part.as_str()) {
+        let file = match new_die(self.rt, &pair_of(path, &names)) {
             Ok(file) => file,
             Err(fault) => return Err(fault),
         };
+        let own = second_handle(&file);
         let made = new_store(alloc, geometry, file);
-        if made.is_err() {
-            let _ = fs::remove_file(self.rt, part.as_str());
-        }
-        made
+        self.keep_part(&names, own, made)
     }
 
     fn copy(
@@ -165,39 +208,41 @@ impl<R: Files<File = File> + AllocGlobal> DiskFiles for SystemFiles<'_, R> {
         geometry: &Geometry,
         dump: &str,
     ) -> Result<FileStore, FileFault> {
-        let part = match self.part(path) {
-            Ok(part) => part,
+        let names = match path_names(alloc, path) {
+            Ok(names) => names,
             Err(fault) => return Err(fault),
         };
         let from = match open_dump(self.rt, dump, die_bytes(geometry)) {
             Ok(from) => from,
             Err(fault) => return Err(fault),
         };
-        let file = match new_part(self.rt, part.as_str()) {
+        let file = match new_die(self.rt, &pair_of(path, &names)) {
             Ok(file) => file,
             Err(fault) => return Err(fault),
         };
+        let own = second_handle(&file);
         let made = copied(alloc, geometry, from, file);
-        if made.is_err() {
-            let _ = fs::remove_file(self.rt, part.as_str());
-        }
-        made
+        self.keep_part(&names, own, made)
     }
 
     fn keep(&mut self, path: &str, _store: FileStore, text: &[u8]) -> Result<(), FileFault> {
-        let part = match self.part(path) {
-            Ok(part) => part,
+        let names = match path_names(self.rt.alloc(), path) {
+            Ok(names) => names,
             Err(fault) => return Err(fault),
         };
-        match self.beside(path) {
-            Ok(beside) => publish(self.rt, part.as_str(), path, beside.as_str(), text),
-            Err(fault) => Err(fault),
+        let done = publish(self.rt, &pair_of(path, &names), text);
+        if done.is_ok() {
+            self.part = None;
         }
+        done
     }
 
     fn discard(&mut self, path: &str) {
-        if let Ok(part) = self.part(path) {
-            let _ = fs::remove_file(self.rt, part.as_str());
+        if self.part.is_some() {
+            if let Ok(names) = path_names(self.rt.alloc(), path) {
+                discard(&mut SystemNames::new(self.rt), names.part.as_str());
+            }
         }
+        self.part = None;
     }
 }

@@ -2,6 +2,8 @@ pub mod Frames
 pub mod Options
 pub mod Negotiation
 pub mod Tasks
+-- steps of one kind, any number
+pub mod Through
 -- what a disk is asked, and what it answers
 pub mod Disk
 pub mod Exchanges

@@ -30,6 +30,10 @@ pub trait Disk {
     /// What a rest of it is, beside that it leaves the bytes: of the disk before, the answer, and the disk after.
     ghost rests: { Self → Result (Unit {0}) DiskFault → Self → Type 0 };
 
+    /// What a read and a flush of it leave, beside the bytes: of the disk before, and the disk after. So it says what a client that changes nothing
+    /// asks of what stands under the disk.
+    ghost leaves: { Self → Self → Type 0 };
+
     /// Gives the bytes from an offset on, as many as the buffer has room for.
     ///
     /// # Errors
@@ -37,7 +41,8 @@ pub trait Disk {
     /// `Failed` where the disk failed: of one that is still honest, the bytes are as they were.
     fn read(&mut self, offset: u64, buffer: &mut [u8]) -> Result<(), DiskFault>
         requires { offset + length buffer.old ≤ length (contents self.old).bytes }
-        ensures { Performs contents honest calm (Task.Read offset (length buffer.old)) [] self.old (answer_from result buffer.new) self.new };
+        ensures performs { Performs contents honest calm (Task.Read offset (length buffer.old)) [] self.old (answer_from result buffer.new) self.new }
+        ensures leaves { leaves self.old self.new };
 
     /// Sets the bytes from an offset on.
     ///
@@ -64,7 +69,8 @@ pub trait Disk {
     ///
     /// `Failed` where the disk failed: of one that is still honest, the bytes are as they were, and may not all last.
     fn flush(&mut self) -> Result<(), DiskFault>
-        ensures { Performs contents honest calm Task.Flush [] self.old (answer_from result []) self.new };
+        ensures performs { Performs contents honest calm Task.Flush [] self.old (answer_from result []) self.new }
+        ensures leaves { leaves self.old self.new };
 
     /// An idle moment between two requests, in which the disk may tidy up: one over flash frees blocks for later changes. Nothing that a client
     /// asked is done in it, and the bytes stay.

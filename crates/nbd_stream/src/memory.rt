@@ -69,6 +69,8 @@ impl Disk for MemoryDisk {
 
     ghost rests = { λ old result new. (result ≡ Ok tt) × (new ≡ old) };
 
+    ghost leaves = { λ old new. new ≡ old };
+
     fn read(&mut self, offset: u64, buffer: &mut [u8]) -> Result<(), DiskFault> {
         copy_range(&self.bytes, offset as usize, buffer);
         Ok(())

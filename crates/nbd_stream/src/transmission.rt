@@ -1,9 +1,10 @@
 //! Requests are asked of a disk and answered, one after another.
-ghost use Rattle.std.specs.Prelude.{◌≡◌, ◌≤◌, ◌+◌, ℕ, List, length, take};
+ghost use Rattle.std.specs.Prelude.{◌≡◌, ◌≤◌, ◌+◌, ℕ, List, false, length, take, true};
 ghost use Rattle.nbd_stream.specs.Disk.{IsInside, Performs, answer_from, count_given, count_taken};
 ghost use Rattle.nbd_stream.specs.Exchanges.{RestsAfter};
 ghost use Rattle.nbd_stream.specs.Frames.{IsRequest, request_at};
-ghost use Rattle.nbd_stream.specs.Tasks.{admitted};
+ghost use Rattle.nbd_stream.specs.Tasks.{admitted, asks_change, is_change};
+ghost use Rattle.nbd_stream.specs.Through.{Through};
 ghost use Rattle.nbd_stream.specs.Transmission.{Replies, Serves, ServesNext, Transmits};
 
 use crate::disk::Disk;
@@ -20,8 +21,9 @@ use std::io::{Read, Write};
 fn perform<D: Disk>(disk: &mut D, task: Task, buffer: &mut [u8]) -> Result<(), DiskFault>
     requires inside { IsInside (length (D.contents disk.old).bytes) task }
     requires room { count_taken task + count_given task ≤ length buffer.old }
-    ensures { Performs D.contents D.honest D.calm task (take (count_taken task) buffer.old) disk.old
+    ensures performs { Performs D.contents D.honest D.calm task (take (count_taken task) buffer.old) disk.old
         (answer_from result (take (count_given task) buffer.new)) disk.new }
+    ensures leaves { is_change task ≡ false → D.leaves disk.old disk.new }
 {
     match task {
         Task::Read { offset, count } => disk.read(offset, &mut buffer[..count as usize]),
@@ -67,10 +69,11 @@ fn answer<W: Write, D: Disk>(
     requires asked { asked ≡ admitted export.now header.now }
     requires size { length (D.contents disk.old).bytes ≡ export.now.size }
     requires room { export.now.maximum ≤ length buffer.old }
-    ensures { (body : List ℕ) → IsRequest (request_at header.now body) →
+    ensures replies { (body : List ℕ) → IsRequest (request_at header.now body) →
         (length body ≤ length buffer.old → body ≡ take (length body) buffer.old) →
         Replies D.contents D.honest D.calm export.now disk.old (request_at header.now body) disk.new
         (W.contents writer.old) (W.contents writer.new) result }
+    ensures leaves { asks_change asked ≡ false → Through D.leaves disk.old disk.new }
 {
     let task = match asked {
         Ok(task) => task,
@@ -84,7 +87,8 @@ fn answer<W: Write, D: Disk>(
 
 // Has the disk rest where a change was asked of it. A rest that fails is no request's: what it left of the disk the next request meets.
 fn rest_after<D: Disk>(disk: &mut D, asked: Result<Task, RequestError>)
-    ensures { RestsAfter D.contents D.honest D.calm D.rests asked disk.old disk.new }
+    ensures rests { RestsAfter D.contents D.honest D.calm D.rests asked disk.old disk.new }
+    ensures none { asks_change asked ≡ false → disk.new ≡ disk.old }
 {
     if asked.is_ok_and(Task::is_change) {
         let _ = disk.rest();
@@ -101,8 +105,9 @@ fn serve_next<R: Read, W: Write, D: Disk>(
 ) -> Result<Option<End>, ServeFault>
     requires size { length (D.contents disk.old).bytes ≡ export.now.size }
     requires room { export.now.maximum ≤ length buffer.old }
-    ensures { ServesNext D.contents D.honest D.calm D.rests export.now disk.old disk.new (R.remaining reader.old) (R.remaining reader.new)
+    ensures serves { ServesNext D.contents D.honest D.calm D.rests export.now disk.old disk.new (R.remaining reader.old) (R.remaining reader.new)
         (W.contents writer.old) (W.contents writer.new) result }
+    ensures leaves { export.now.read_only ≡ true → Through D.leaves disk.old disk.new }
 {
     match read_request(reader, buffer)? {
         Next::Ended(end) => Ok(Some(end)),
@@ -129,6 +134,8 @@ fn serve_next<R: Read, W: Write, D: Disk>(
 /// request sets it.** `laws::disk_laws` says these of any run. A disk that was honest is so up to a task or a rest that failed (`until`), and over all
 /// of the transmission if it is honest at its end (`laws::honesty_laws`).
 ///
+/// **Where the export is read-only nothing is asked of the disk but reads and flushes** (`leaves`): what these leave of it is what the whole transmission does.
+///
 /// What was read is these requests and what stands after the last of them, and what was written their replies, of a reader and a
 /// writer that tell their bytes, in whatever pieces these come.
 ///
@@ -149,8 +156,9 @@ pub fn transmit<R: Read, W: Write, D: Disk>(
 ) -> Result<End, ServeFault>
     requires size { length (D.contents disk.old).bytes ≡ export.now.size }
     requires room { export.now.maximum ≤ length buffer.old }
-    ensures { Transmits D.contents D.honest D.calm D.rests export.now disk.old disk.new (R.remaining reader.old) (R.remaining reader.new)
+    ensures transmits { Transmits D.contents D.honest D.calm D.rests export.now disk.old disk.new (R.remaining reader.old) (R.remaining reader.new)
         (W.contents writer.old) (W.contents writer.new) result }
+    ensures leaves { export.now.read_only ≡ true → Through D.leaves disk.old disk.new }
 {
     for _ in 0..u64::MAX {
         match serve_next(reader, writer, disk, export, buffer)? {
@@ -175,8 +183,9 @@ pub fn serve<R: Read, W: Write, D: Disk>(
 ) -> Result<End, ServeFault>
     requires size { length (D.contents disk.old).bytes ≡ export.now.size }
     requires room { export.now.maximum ≤ length buffer.old }
-    ensures { Serves D.contents D.honest D.calm D.rests export.now (length buffer.new) disk.old disk.new (R.remaining reader.old) (R.remaining reader.new)
+    ensures serves { Serves D.contents D.honest D.calm D.rests export.now (length buffer.new) disk.old disk.new (R.remaining reader.old) (R.remaining reader.new)
         (W.contents writer.old) (W.contents writer.new) result }
+    ensures leaves { export.now.read_only ≡ true → Through D.leaves disk.old disk.new }
 {
     match negotiate(reader, writer, export, buffer)? {
         Negotiated::Ended(end) => Ok(end),

@@ -4,10 +4,10 @@ use Rattle.disk_commands.proofs.serve.end_session.Goals as goal
 
 pub returns-in-Ok : goal.returns-in-Ok
 returns-in-Ok g c =
-    flushed g.S.Sectors.contents g.S.Sectors.honest g.Y.Syncs.synced c.args.read_only c.args.path c.args.disk.now c.flush.new.self c.args.served c.flush.result _ c.end_of-in-Ok.result
-    c.if-read_only.false c.flush.ensures.performs c.flush.ensures.synced c.in-Ok.is c.end_of-in-Ok.ensures
+    flushed g.S.Sectors.contents g.S.Sectors.honest g.Y.Syncs.synced c.args.path c.args.disk.now c.flush.new.self c.args.served c.flush.result _ c.end_of.result
+    c.flush.ensures.performs c.flush.ensures.synced c.in-Ok.is c.end_of.ensures
 
 pub returns-in-Err : goal.returns-in-Err
 returns-in-Err g c =
-    flushed g.S.Sectors.contents g.S.Sectors.honest g.Y.Syncs.synced c.args.read_only c.args.path c.args.disk.now c.flush.new.self c.args.served c.flush.result _ _
-    c.if-read_only.false c.flush.ensures.performs c.flush.ensures.synced c.in-Err.is refl
+    flushed g.S.Sectors.contents g.S.Sectors.honest g.Y.Syncs.synced c.args.path c.args.disk.now c.flush.new.self c.args.served c.flush.result _ _
+    c.flush.ensures.performs c.flush.ensures.synced c.in-Err.is refl

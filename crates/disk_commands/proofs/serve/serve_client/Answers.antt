@@ -1,16 +1,13 @@
-use Rattle.std.proofs.Common.{inl, ◌∙◌}
-use Rattle.disk_commands.proofs.ServeLemmas.{limited}
+use Rattle.std.proofs.Common.{inl}
+use Rattle.disk_commands.proofs.ServeLemmas.{was_read, was_written}
 use Rattle.disk_commands.proofs.serve.serve_client.Goals as goal
 
+pub returns-then-terms : goal.returns-then-terms
+returns-then-terms g c =
+    inl (was_read g.S.Sectors.contents g.S.Sectors.honest g.S.Sectors.rests g.S.Sectors.reads g.Y.Syncs.synced c.args.terms c.args.path c.args.opened.0 c.args.opened.1 _ _ _ _
+    c.serve_only_reading.result c.if-terms.true c.serve_only_reading.ensures)
+
 pub returns : goal.returns
-returns g c = inl (record {
-  first = c.new-disk.result;
-  disk_is = c.new-disk.ensures.disk;
-  syncs_is = c.new-disk.ensures.syncs;
-  pace_is = c.new-disk.ensures.pace;
-  none_changed = c.new-disk.ensures.unsynced;
-  last = c.serve_synced-served.new.disk;
-  answer = c.serve_synced-served.result;
-  serves = limited _ _ _ _ _ _ _ _ _ _ _ _ _ c.serve_synced-served.result (c.serve_synced-served.auto.buffer ∙ c.deref_mut.ensures.len ∙ c.in-Ok.ensures.len) c.serve_synced-served.ensures;
-  ends = c.end_session.ensures;
-})
+returns g c =
+    inl (was_written g.S.Sectors.contents g.S.Sectors.honest g.S.Sectors.rests g.S.Sectors.reads g.Y.Syncs.synced c.args.terms c.args.path c.args.opened.0 c.args.opened.1 _ _ _ _
+    c.serve_writing.result c.if-terms.false c.serve_writing.ensures)

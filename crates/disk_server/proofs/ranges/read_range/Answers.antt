@@ -1,5 +1,8 @@
-use Rattle.std.proofs.Common.{◌≡◌, ◌≤◌, ◌+◌, ◌-◌, ◌∙◌, ℕ, length, rules, arith}
+use Rattle.std.proofs.Common.{◌≡◌, ◌≤◌, ◌+◌, ◌-◌, ◌∙◌, ℕ, Ok, [], length, refl, rules, arith}
+use Rattle.nbd_stream.specs.Disk.{Performs}
+use Rattle.nbd_stream.specs.declared.task.Task.TheVariants.{Read}
 use borrow.Rule.Slice.PartMut.{put_mid}
+use Rattle.nbd_stream.proofs.ThroughLemmas.{joined, none, once}
 use Rattle.disk_server.proofs.Fronts.{front_given}
 use Rattle.disk_server.proofs.ranges.read_range.Goals as goal
 
@@ -18,4 +21,14 @@ loop-done-preserved g c =
       c.in-Ok.ensures.size ∙ inv.3,
       front_given g.S.Sectors.contents g.S.Sectors.honest g.S.Sectors.calm c.loop-done.out c.read_piece.new.out c.args.offset k m
           c.args.sectors.now c.loop-done.sectors c.read_piece.new.sectors within' inv.4 c.in-Ok.ensures.performs,
+      joined g.S.Sectors.reads c.args.sectors.now c.loop-done.sectors c.read_piece.new.sectors inv.5 (once g.S.Sectors.reads c.loop-done.sectors c.read_piece.new.sectors c.in-Ok.ensures.reads),
     )
+
+pub loop-done-init : goal.loop-done-init
+loop-done-init g c =
+    let nothing : Performs g.S.Sectors.contents g.S.Sectors.honest g.S.Sectors.calm (Read c.args.offset 0) [] c.args.sectors.now (Ok []) c.args.sectors.now = search rules in
+    (omega arith, refl, refl, refl, nothing, none g.S.Sectors.reads c.args.sectors.now c.args.sectors.now refl)
+
+pub returns-in-Err-clause-reads : goal.returns-in-Err-clause-reads
+returns-in-Err-clause-reads g c =
+    joined g.S.Sectors.reads c.args.sectors.now c.loop-done.sectors c.read_piece.new.sectors c.loop-done.invariant.5 (once g.S.Sectors.reads c.loop-done.sectors c.read_piece.new.sectors c.in-Err.ensures.reads)

@@ -50,6 +50,8 @@ pub struct MemorySyncs {
 impl Syncs for MemorySyncs {
     ghost synced = { λ s. s.done };
 
+    ghost failed = { λ _. 0 };
+
     fn sync(&mut self) -> Result<(), DiskFault> {
         self.done = self.done.saturating_add(1);
         Ok(())
@@ -142,6 +144,8 @@ impl DiskFiles for MemoryFiles {
     ghost answers = { λ _. record unknown { honest = true } };
 
     ghost kept = { λ _. None };
+
+    ghost opened = { λ _. None };
 
     fn has(&mut self, path: &str) -> Result<bool, FileFault> {
         if matches!(self.trouble, Trouble::Unasked) {

@@ -24,6 +24,13 @@ pub const DONE: &[Step] = &[
         0,
         b"NBDMAGICIHAVEOPT\x00\x03",
     ),
+    // the export is chosen without zeros, and flushed: it has 2,048 bytes, and of flags that it has some, that it is read-only, and that it takes flushes and durable changes
+    Serve(
+        "nanddisk serve --read-only d",
+        b"\x00\x00\x00\x03IHAVEOPT\x00\x00\x00\x01\x00\x00\x00\x00%`\x95\x13\x00\x00\x00\x03\x00\x00\x00\x00\x00\x00\x00\x09\x00\x00\x00\x00\x00\x00\x00\x00\x00\x00\x00\x00",
+        0,
+        b"NBDMAGICIHAVEOPT\x00\x03\x00\x00\x00\x00\x00\x00\x08\x00\x00\x0fgDf\x98\x00\x00\x00\x00\x00\x00\x00\x00\x00\x00\x00\x09",
+    ),
 ];
 
 /// What the words ask for cannot be done.

@@ -51,6 +51,8 @@ impl Disk for NotingDisk<'_> {
 
     ghost rests = { λ old result new. new ≡ old };
 
+    ghost leaves = { λ old new. Unit {0} };
+
     fn read(&mut self, _offset: u64, buffer: &mut [u8]) -> Result<(), DiskFault> {
         note(self.log, b'r');
         buffer.fill(0);

@@ -2,7 +2,7 @@
 ghost use Rattle.std.specs.Prelude.{◌≡◌, length};
 
 use crate::tests::steps::{Step, does_all};
-use disk_server::{SectorDisk, Sectors};
+use disk_server::{ReadOnlyDisk, SectorDisk, Sectors};
 use nbd_stream::{Disk, DiskFault};
 use std::alloc::Global;
 use std::test::Fail;
@@ -42,6 +42,8 @@ impl Sectors for CachedSectors {
     ghost calm = { λ device. false };
 
     ghost rests = { λ old result new. new.bytes ≡ old.bytes };
+
+    ghost reads = { λ old new. (new.bytes ≡ old.bytes) × (new.kept ≡ old.kept) };
 
     ghost size = { λ device. 4 };
 
@@ -253,6 +255,42 @@ fn sectors_by_hand(rt: HostRuntime) -> Result<(), Fail> {
         let name = row.name;
         assert!(rt; holds(rt.alloc(), row), "{name}");
     }
+    Ok(())
+}
+
+// What a disk that is only read is asked, over a device that fails its second call: the first one is a read, and a flush, a rest and a change are none.
+const READING: &[Step] = &[
+    Step::Flush(Ok(())),
+    Step::Read(4, b"efgh", Ok(())),
+    Step::Write(0, b"Z", true, Err(DiskFault::ReadOnly)),
+    Step::Clear(0, 4, false, Err(DiskFault::ReadOnly)),
+    Step::Flush(Ok(())),
+    Step::Rest(Ok(())),
+    Step::Read(0, b"abcd", Err(DiskFault::Failed)),
+    Step::Flush(Ok(())),
+    Step::Read(0, b"abcd", Ok(())),
+];
+
+// Whether a disk that is only read does all of that.
+fn only_reads(alloc: Global) -> bool {
+    let device = CachedSectors {
+        bytes: *FIRST,
+        kept: *FIRST,
+        failing: 2,
+        fault: DiskFault::NoSpace,
+        asked: 0,
+    };
+    let Ok(disk) = SectorDisk::new(alloc, device) else {
+        return false;
+    };
+    let mut disk = ReadOnlyDisk::new(disk);
+    let size = SIZE as u64;
+    disk.bytes() == size && does_all(&mut disk, size, READING)
+}
+
+#[test]
+fn disks_that_are_only_read(rt: HostRuntime) -> Result<(), Fail> {
+    assert!(rt; only_reads(rt.alloc()));
     Ok(())
 }
 

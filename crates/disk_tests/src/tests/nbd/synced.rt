@@ -17,16 +17,20 @@ const PACE: SyncPace = SyncPace { piece: 4, most: 2 };
 struct CountingSyncs<'a> {
     asked: &'a Cell<u64>,
     done: u64,
+    failed: u64,
     failing: u64,
 }
 
 impl Syncs for CountingSyncs<'_> {
     ghost synced = { λ s. s.done };
 
+    ghost failed = { λ s. s.failed };
+
     fn sync(&mut self) -> Result<(), DiskFault> {
         let asked = self.asked.get().saturating_add(1);
         self.asked.set(asked);
         if asked == self.failing {
+            self.failed = self.failed.saturating_add(1);
             return Err(DiskFault::Failed);
         }
         self.done = self.done.saturating_add(1);
@@ -87,13 +91,27 @@ const ROWS: &[Row] = &[
         syncs: 3,
     },
     Row {
-        name: "a sync that fails, after which the next change asks for one",
+        name: "a sync that fails, after which nothing is done",
         failing: 1,
         steps: &[
             Step::Write(0, b"abcdefghijkl", false, Err(DiskFault::Failed)),
-            Step::Read(0, b"abcdefghijkl\0\0\0\0", Ok(())),
-            Step::Clear(0, 1, false, Ok(())),
-            Step::Clear(0, 0, false, Ok(())),
+            Step::Flush(Err(DiskFault::Failed)),
+            Step::Read(0, b"a", Err(DiskFault::Failed)),
+            Step::Write(0, b"a", true, Err(DiskFault::Failed)),
+            Step::Clear(0, 1, false, Err(DiskFault::Failed)),
+            Step::Rest(Err(DiskFault::Failed)),
+            Step::Flush(Err(DiskFault::Failed)),
+        ],
+        syncs: 1,
+    },
+    Row {
+        name: "a sync that fails among parts, after one that was done",
+        failing: 2,
+        steps: &[
+            Step::Write(0, b"abcd", true, Ok(())),
+            Step::Clear(0, 16, true, Err(DiskFault::Failed)),
+            Step::Read(0, b"a", Err(DiskFault::Failed)),
+            Step::Flush(Err(DiskFault::Failed)),
         ],
         syncs: 2,
     },
@@ -112,6 +130,7 @@ fn holds(alloc: Global, row: &Row) -> Result<bool, Fail> {
     let syncs = CountingSyncs {
         asked: &asked,
         done: 0,
+        failed: 0,
         failing: row.failing,
     };
     let mut disk = SyncedDisk::new(zeros(alloc)?, syncs, PACE);

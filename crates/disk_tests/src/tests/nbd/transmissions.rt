@@ -43,6 +43,8 @@ impl Disk for FailingDisk {
 
     ghost rests = { λ old result new. new ≡ old };
 
+    ghost leaves = { λ old new. Unit {0} };
+
     fn read(&mut self, offset: u64, buffer: &mut [u8]) -> Result<(), DiskFault> {
         if self.fails() && self.fault == DiskFault::Failed {
             return Err(DiskFault::Failed);

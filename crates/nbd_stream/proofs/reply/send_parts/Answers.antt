@@ -3,7 +3,7 @@ use Rattle.std.specs.List.{flat_map}
 use Rattle.std.specs.Io.KnownBytes.{Appends}
 use Rattle.std.proofs.lemmas.List.{take_all}
 use Rattle.std.proofs.lemmas.Result.{err_from_is_err_and}
-use Rattle.request_stream.proofs.Writing.{front_more, front_stop, sends_then}
+use Rattle.request_stream.proofs.Writing.{front_more, front_stop, part_front, sends_then}
 use Rattle.nbd_stream.proofs.reply.send_parts.Goals as goal
 
 -- the parts before one, it, and those after it
@@ -26,7 +26,7 @@ returns-in_err-send g c =
     rw (p.1, p.2) (
       stopped.0,
       front_stop _ _ _ (flat_map (λ part. part.now) (drop (suc i) parts)) (flat_map (λ part. part.now) parts) (parts_split (λ part. part.now) parts i _ inside)
-          (front_more _ _ _ (flat_map (λ part. part.now) (take i parts)) _ _ refl c.loop-part.invariant stopped.1),
+          (front_more _ _ _ (flat_map (λ part. part.now) (take i parts)) _ _ refl c.loop-part.invariant (part_front _ _ _ stopped.1)),
     )
 
 pub returns : goal.returns

@@ -2,20 +2,21 @@ use Rattle.std.proofs.Common.{◌≡◌, ℕ, length, refl, sym, subst, rules, i
 use Rattle.std.proofs.lemmas.Result.{err_from_is_err_and}
 use Rattle.nbd_stream.specs.declared.negotiation.Negotiated.TheVariants.{Transmission}
 use Rattle.nbd_stream.specs.Negotiation.{Negotiates}
+use Rattle.nbd_stream.proofs.ThroughLemmas.{none}
 use Rattle.nbd_stream.proofs.transmission.serve.Goals as goal
 
-pub returns-in_err-end : goal.returns-in_err-end
-returns-in_err-end g c =
+pub returns-in_err-end-clause-serves : goal.returns-in_err-end-clause-serves
+returns-in_err-end-clause-serves g c =
     let p = err_from_is_err_and c.from_residual.result c.from_residual.ensures.1 in
     rw (p.1, p.2) (inl (refl, c.in_err-end.ensures))
 
-pub returns-in-Ended : goal.returns-in-Ended
-returns-in-Ended g c =
+pub returns-in-Ended-clause-serves : goal.returns-in-Ended-clause-serves
+returns-in-Ended-clause-serves g c =
     let ended = rw c.in-Ended.is at c.in_ok-end.ensures in
     inl (refl, ended)
 
-pub returns-in-Transmission : goal.returns-in-Transmission
-returns-in-Transmission g c =
+pub returns-in-Transmission-clause-serves : goal.returns-in-Transmission-clause-serves
+returns-in-Transmission-clause-serves g c =
     let begun = rw c.in-Transmission.is at c.in_ok-end.ensures in
     let long : length c.transmit.new.buffer ≡ length c.negotiate.new.body = search rules in
     inr (record {
@@ -23,5 +24,11 @@ returns-in-Transmission g c =
       before' = g.W.Write.contents c.negotiate.new.writer;
       negotiated =
           subst (λ (k : ℕ). Negotiates c.args.export.now k (g.R.Read.remaining c.args.reader.now) (g.R.Read.remaining c.negotiate.new.reader) (g.W.Write.contents c.args.writer.now) (g.W.Write.contents c.negotiate.new.writer) (Ok Transmission)) (sym long) begun;
-      transmits = c.transmit.ensures;
+      transmits = c.transmit.ensures.transmits;
     })
+
+pub returns-in_err-end-clause-leaves : goal.returns-in_err-end-clause-leaves
+returns-in_err-end-clause-leaves g c = λ reads. none g.D.Disk.leaves c.args.disk.now c.args.disk.now refl
+
+pub returns-in-Ended-clause-leaves : goal.returns-in-Ended-clause-leaves
+returns-in-Ended-clause-leaves g c = λ reads. none g.D.Disk.leaves c.args.disk.now c.args.disk.now refl

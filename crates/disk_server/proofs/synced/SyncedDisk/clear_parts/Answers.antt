@@ -4,7 +4,7 @@ use Rattle.nbd_stream.specs.Disk.{Performs, error_for}
 use Rattle.disk_server.proofs.Joining.{writes_trim}
 use Rattle.disk_server.proofs.Fronts.{zeros_stopped, zeros_written}
 use Rattle.disk_server.specs.Synced.{HasSynced, after_change}
-use Rattle.disk_server.proofs.SyncLemmas.{one_part, part_counted, part_failed}
+use Rattle.disk_server.proofs.SyncLemmas.{none_then, one_part, part_counted, part_failed, then_failed}
 use Rattle.disk_server.proofs.synced.SyncedDisk.clear_parts.Goals as goal
 
 pub loop-done-preserved : goal.loop-done-preserved
@@ -22,6 +22,7 @@ loop-done-preserved g c =
       part_counted g.Y.Syncs.synced c.args.offset k m c.args.self.now c.loop-done.self c.clear_part-in-loop-done.new.self inv.1 inv.2 settled,
       zeros_written (λ s. g.D.Disk.contents s.disk) (λ s. g.D.Disk.honest s.disk) (λ _. false) c.args.count c.args.offset k m
           c.args.self.now c.loop-done.self c.clear_part-in-loop-done.new.self within c.requires inv.3 part,
+      none_then g.Y.Syncs.failed c.args.self.now c.loop-done.self c.clear_part-in-loop-done.new.self inv.4 c.in-Ok.ensures.notes,
     )
 
 pub returns-in-Err-clause-performs : goal.returns-in-Err-clause-performs
@@ -39,3 +40,9 @@ returns-in-Err-clause-performs g c =
 
 pub returns-in-Err-clause-syncs : goal.returns-in-Err-clause-syncs
 returns-in-Err-clause-syncs g c = part_failed g.Y.Syncs.synced _ _ c.args.self.now c.loop-done.self c.clear_part-in-loop-done.new.self c.loop-done.invariant.1 c.in-Err.ensures.unsynced
+
+pub returns-in-Err-clause-notes : goal.returns-in-Err-clause-notes
+returns-in-Err-clause-notes g c = then_failed g.Y.Syncs.failed c.args.self.now c.loop-done.self c.clear_part-in-loop-done.new.self c.loop-done.invariant.4 c.in-Err.ensures.notes
+
+pub returns-clause-notes : goal.returns-clause-notes
+returns-clause-notes g c = c.loop-done.invariant.4

@@ -1,13 +1,14 @@
 use Rattle.std.proofs.Common.{◌-◌, ◌≤◌, false, [], replicate, Ok}
 use Rattle.nbd_stream.specs.Disk.{Performs}
 use Rattle.nbd_stream.specs.declared.task.Task.TheVariants.{Write}
-use Rattle.disk_server.specs.Synced.{KeepsCount}
+use Rattle.disk_server.specs.Synced.{KeepsCount, NoneFailed}
 use Rattle.disk_server.proofs.SyncLemmas.{Counted}
 use Rattle.disk_server.proofs.synced.SyncedDisk.clear_parts.Given as goal
 
 abbrev pub invariant-loop-done : goal.invariant-loop-done
 invariant-loop-done g l = (l.done ≤ l.count) × KeepsCount g.Y.Syncs.synced l.fn.self l.self × Counted g.Y.Syncs.synced l.offset l.done l.fn.self l.self
     × Performs (λ s. g.D.Disk.contents s.disk) (λ s. g.D.Disk.honest s.disk) (λ _. false) (Write l.offset l.done false) (replicate l.done 0) l.fn.self (Ok []) l.self
+    × NoneFailed g.Y.Syncs.failed l.fn.self l.self
 
 abbrev pub decreases-loop-done : goal.decreases-loop-done
 decreases-loop-done g l = l.count - l.done

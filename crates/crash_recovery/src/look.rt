@@ -1,0 +1,217 @@
+//! What the pages of a store show of the blocks that a crash left torn.
+ghost use Rattle.std.specs.Prelude.{◌≡◌, ◌<◌, ◌≤◌, ◌==◌, ℕ, true, false, length, IfOk, OnOk, OnErr};
+ghost use Rattle.page_layout.specs.Counter.{HasRisen};
+ghost use Rattle.page_layout.specs.Geometry.{row_count, page_bytes};
+ghost use Rattle.page_layout.specs.Sound.{record_of};
+ghost use Rattle.certificate.specs.Claim.{sizes_of};
+ghost use Rattle.file_die.specs.Store.{page_in};
+ghost use Rattle.file_die.specs.Open.{OnlyLooks};
+ghost use Rattle.image_check.specs.Agrees.{Agrees, IsCertificateOf};
+ghost use Rattle.image_check.specs.Blocks.{table_class};
+ghost use Rattle.crash_recovery.specs.Torn.{FindsCut, FindsCuts, HasSoundRun, IsTorn, NoneIsMarked};
+
+use certificate::Certificate;
+use file_die::{Store, StoreFault};
+use page_layout::geometry::Geometry;
+use page_layout::record::{Record, read_record};
+use page_layout::word::read_word;
+
+// The class of a grown bad block in a certificate.
+const SHOWN_BAD: u8 = 5;
+
+// The same in a table page.
+const NAMED_GROWN: u32 = 2;
+
+// The record of a row's page.
+fn record_at<S: Store>(
+    store: &mut S,
+    geometry: &Geometry,
+    row: u32,
+    page: &mut [u8],
+) -> Result<Option<Record>, StoreFault>
+    requires geometry { (S.held store.old).geometry ≡ geometry.now }
+    requires in_range { row < row_count geometry.now }
+    requires room { length page.old ≡ page_bytes geometry.now }
+    ensures found { IfOk result (λ its. S.honest store.old ≡ true → its ≡ record_of (page_in (S.held store.old).pages row)) }
+    ensures looks { OnlyLooks S.held S.honest store.old store.new }
+    ensures settled { OnOk result (S.failed store.new ≡ S.failed store.old) }
+    ensures rose { OnErr result (HasRisen (S.failed store.old) (S.failed store.new)) }
+{
+    store.load(row, page)?;
+    let (body, spare) = page.split_at(geometry.data_bytes());
+    Ok(read_record(geometry, body, spare))
+}
+
+// Whether the newest table of blocks names a block as one that has grown bad. It does where the certificate knows no such table page.
+fn is_named<S: Store>(
+    store: &mut S,
+    geometry: &Geometry,
+    certificate: &Certificate,
+    block: u32,
+    page: &mut [u8],
+) -> Result<bool, StoreFault>
+    requires geometry { (S.held store.old).geometry ≡ geometry.now }
+    requires sizes { certificate.now.sizes ≡ sizes_of geometry.now }
+    requires whole { IsCertificateOf geometry.now certificate.now }
+    requires images { S.honest store.old ≡ true → length (S.held store.old).pages ≡ row_count geometry.now }
+    requires in_range { block < geometry.now.blocks }
+    requires room { length page.old ≡ page_bytes geometry.now }
+    ensures named { IfOk result (λ named. S.honest store.old ≡ true → (capacity : ℕ) → Agrees geometry.now capacity (S.held store.old).pages certificate.now →
+        named ≡ (table_class geometry.now (S.held store.old).pages block == 2)) }
+    ensures looks { OnlyLooks S.held S.honest store.old store.new }
+    ensures settled { OnOk result (S.failed store.new ≡ S.failed store.old) }
+    ensures rose { OnErr result (HasRisen (S.failed store.old) (S.failed store.new)) }
+{
+    let entries = geometry.entries();
+    let Some(row) = certificate.directory_row(geometry.translation_pages() + block / entries) else {
+        return Ok(true);
+    };
+    store.load(row, page)?;
+    let (body, _) = page.split_at(geometry.data_bytes());
+    Ok(read_word(body, block % entries) % 256 == NAMED_GROWN)
+}
+
+/// Whether a block is torn.
+pub fn is_torn<S: Store>(
+    store: &mut S,
+    geometry: &Geometry,
+    certificate: &Certificate,
+    block: u32,
+    page: &mut [u8],
+) -> Result<bool, StoreFault>
+    requires geometry { (S.held store.old).geometry ≡ geometry.now }
+    requires sizes { certificate.now.sizes ≡ sizes_of geometry.now }
+    requires whole { IsCertificateOf geometry.now certificate.now }
+    requires images { S.honest store.old ≡ true → length (S.held store.old).pages ≡ row_count geometry.now }
+    requires in_range { block < geometry.now.blocks }
+    requires room { length page.old ≡ page_bytes geometry.now }
+    ensures torn { IfOk result (λ torn. S.honest store.old ≡ true → (capacity : ℕ) → Agrees geometry.now capacity (S.held store.old).pages certificate.now →
+        torn ≡ true → IsTorn geometry.now (S.held store.old).pages block) }
+    ensures fine { IfOk result (λ torn. S.honest store.old ≡ true → (capacity : ℕ) → Agrees geometry.now capacity (S.held store.old).pages certificate.now →
+        torn ≡ false → ¬ IsTorn geometry.now (S.held store.old).pages block) }
+    ensures looks { OnlyLooks S.held S.honest store.old store.new }
+    ensures settled { OnOk result (S.failed store.new ≡ S.failed store.old) }
+    ensures rose { OnErr result (HasRisen (S.failed store.old) (S.failed store.new)) }
+{
+    if certificate.block(block).class != SHOWN_BAD {
+        return Ok(false);
+    }
+    Ok(!is_named(store, geometry, certificate, block, page)?)
+}
+
+// How many pages of a block are sound at its start.
+fn sound_run<S: Store>(
+    store: &mut S,
+    geometry: &Geometry,
+    block: u32,
+    page: &mut [u8],
+) -> Result<u32, StoreFault>
+    requires geometry { (S.held store.old).geometry ≡ geometry.now }
+    requires images { S.honest store.old ≡ true → length (S.held store.old).pages ≡ row_count geometry.now }
+    requires in_range { block < geometry.now.blocks }
+    requires room { length page.old ≡ page_bytes geometry.now }
+    ensures most { IfOk result (λ count. count ≤ geometry.now.pages) }
+    ensures run { IfOk result (λ count. S.honest store.old ≡ true → HasSoundRun geometry.now (S.held store.old).pages block count) }
+    ensures looks { OnlyLooks S.held S.honest store.old store.new }
+    ensures settled { OnOk result (S.failed store.new ≡ S.failed store.old) }
+    ensures rose { OnErr result (HasRisen (S.failed store.old) (S.failed store.new)) }
+{
+    for k in 0..geometry.pages() {
+        let Some(_) = record_at(store, geometry, geometry.row(block, k), page)? else {
+            return Ok(k);
+        };
+    }
+    Ok(geometry.pages())
+}
+
+// Whether none of a block's sound pages from one on has a sequence below the mark.
+fn none_is_marked<S: Store>(
+    store: &mut S,
+    geometry: &Geometry,
+    mark: u64,
+    block: u32,
+    from: u32,
+    page: &mut [u8],
+) -> Result<bool, StoreFault>
+    requires geometry { (S.held store.old).geometry ≡ geometry.now }
+    requires images { S.honest store.old ≡ true → length (S.held store.old).pages ≡ row_count geometry.now }
+    requires in_range { block < geometry.now.blocks }
+    requires room { length page.old ≡ page_bytes geometry.now }
+    ensures none { IfOk result (λ none. S.honest store.old ≡ true → none ≡ true → NoneIsMarked geometry.now (S.held store.old).pages mark block from) }
+    ensures some { IfOk result (λ none. S.honest store.old ≡ true → none ≡ false → ¬ NoneIsMarked geometry.now (S.held store.old).pages mark block from) }
+    ensures looks { OnlyLooks S.held S.honest store.old store.new }
+    ensures settled { OnOk result (S.failed store.new ≡ S.failed store.old) }
+    ensures rose { OnErr result (HasRisen (S.failed store.old) (S.failed store.new)) }
+{
+    for k in from..geometry.pages() {
+        if let Some(found) = record_at(store, geometry, geometry.row(block, k), page)? {
+            if found.sequence < mark {
+                return Ok(false);
+            }
+        }
+    }
+    Ok(true)
+}
+
+// The page from which a block is to be cut, or as many pages as a block has where it isn't.
+fn cut_of<S: Store>(
+    store: &mut S,
+    geometry: &Geometry,
+    certificate: &Certificate,
+    mark: u64,
+    block: u32,
+    page: &mut [u8],
+) -> Result<u32, StoreFault>
+    requires geometry { (S.held store.old).geometry ≡ geometry.now }
+    requires sizes { certificate.now.sizes ≡ sizes_of geometry.now }
+    requires whole { IsCertificateOf geometry.now certificate.now }
+    requires images { S.honest store.old ≡ true → length (S.held store.old).pages ≡ row_count geometry.now }
+    requires in_range { block < geometry.now.blocks }
+    requires room { length page.old ≡ page_bytes geometry.now }
+    ensures most { IfOk result (λ from. from ≤ geometry.now.pages) }
+    ensures finds { IfOk result (λ from. S.honest store.old ≡ true → (capacity : ℕ) → Agrees geometry.now capacity (S.held store.old).pages certificate.now →
+        FindsCut geometry.now (S.held store.old).pages mark block from) }
+    ensures looks { OnlyLooks S.held S.honest store.old store.new }
+    ensures settled { OnOk result (S.failed store.new ≡ S.failed store.old) }
+    ensures rose { OnErr result (HasRisen (S.failed store.old) (S.failed store.new)) }
+{
+    if !is_torn(store, geometry, certificate, block, page)? {
+        return Ok(geometry.pages());
+    }
+    let from = sound_run(store, geometry, block, page)?;
+    if !none_is_marked(store, geometry, mark, block, from, page)? {
+        return Ok(geometry.pages());
+    }
+    Ok(from)
+}
+
+/// Finds for each block the page from which it is to be cut; as many pages as a block has where it isn't. The store is looked at alone.
+///
+/// # Errors
+///
+/// `StoreFault` where a load failed. (This project's.)
+pub fn find_cuts<S: Store>(
+    store: &mut S,
+    geometry: &Geometry,
+    certificate: &Certificate,
+    mark: u64,
+    page: &mut [u8],
+    cuts: &mut [u32],
+) -> Result<(), StoreFault>
+    requires geometry { (S.held store.old).geometry ≡ geometry.now }
+    requires sizes { certificate.now.sizes ≡ sizes_of geometry.now }
+    requires whole { IsCertificateOf geometry.now certificate.now }
+    requires images { S.honest store.old ≡ true → length (S.held store.old).pages ≡ row_count geometry.now }
+    requires room { length page.old ≡ page_bytes geometry.now }
+    requires blocks { length cuts.old ≡ geometry.now.blocks }
+    ensures finds { OnOk result (S.honest store.old ≡ true → (capacity : ℕ) → Agrees geometry.now capacity (S.held store.old).pages certificate.now →
+        FindsCuts geometry.now (S.held store.old).pages mark geometry.now.blocks cuts.new) }
+    ensures looks { OnlyLooks S.held S.honest store.old store.new }
+    ensures settled { OnOk result (S.failed store.new ≡ S.failed store.old) }
+    ensures rose { OnErr result (HasRisen (S.failed store.old) (S.failed store.new)) }
+{
+    for block in 0..geometry.blocks() {
+        cuts[block as usize] = cut_of(store, geometry, certificate, mark, block, page)?;
+    }
+    Ok(())
+}

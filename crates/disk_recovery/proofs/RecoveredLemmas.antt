@@ -1,0 +1,40 @@
+-- A store that was recovered, and the disk of it.
+use Rattle.std.proofs.Common.{◌≡◌, inl, inr, ℕ, Bool, true, List, Result, Ok, Err, IfOk, IfErr, sym, ◌∙◌, subst}
+use Rattle.page_layout.specs.declared.geometry.Geometry.{Geometry}
+use Rattle.page_layout.specs.Page.{Image}
+use Rattle.certificate.specs.Claim.{Claim}
+use Rattle.image_check.specs.Agrees.{Agrees}
+use Rattle.mount.specs.Mounted.{IsMounted}
+use Rattle.file_die.specs.Store.{Held}
+use Rattle.crash_recovery.specs.Taken.{Recovers}
+use Rattle.disk_server.specs.declared.opened.OpenStoreFault.{OpenStoreFault}
+use Rattle.disk_server.specs.Opened.{HasCome, bytes_of}
+use Rattle.disk_server.specs.Stopped.{IsUnopenedLater}
+use Rattle.disk_recovery.specs.Recovered.{HoldsRecovered, IsRecovered, IsUnrecovered}
+
+-- the certificate is that of the store which came back
+pub agrees_again : {S : Type 0} (held : S → Held) (honest : S → Bool) (store mounted : S) (c : Claim) → HasCome held honest store mounted → honest store ≡ true
+    → (honest store ≡ true → IsMounted (held store).geometry 65536 (held store).pages c) → Agrees (held mounted).geometry 65536 (held mounted).pages c
+agrees_again held honest store mounted c come h is =
+    subst (λ (g : Geometry). Agrees g 65536 (held mounted).pages c) (sym (come.geometry h))
+    (subst (λ (image : Image). Agrees (held store).geometry 65536 image c) (sym (come.pages h)) (is h).agrees)
+
+pub recovered_of : {S : Type 0} (held : S → Held) (honest : S → Bool) (store mounted given : S) (mark : ℕ) (changed : Bool) → HasCome held honest store mounted → honest store ≡ true
+    → Recovers mark (held mounted) (held given) changed → IsRecovered mark (held store) (held given)
+recovered_of held honest store mounted given mark changed come h recovers = record {
+  changed = changed;
+  mounted = held mounted;
+  geometry = come.geometry h;
+  pages = come.pages h;
+  recovers = recovers;
+}
+
+pub opened_bytes : {D E S : Type 0} (bytes : D → List ℕ) (held : S → Held) (H G : Type 0) (store given : S) (mark : ℕ) (result : Result D E) → (H → G) → (H → IsRecovered mark (held store) (held given))
+    → IfOk result (λ d. G → bytes d ≡ bytes_of (held given)) → IfOk result (λ d. H → HoldsRecovered mark (held store) (bytes d))
+opened_bytes bytes held H G store given mark (Ok d) to recovered opened = λ h. record { left = held given; recovered = recovered h; bytes_are = opened (to h) }
+opened_bytes bytes held H G store given mark (Err e) to recovered opened = tt
+
+pub opened_fault : {S A : Type 0} (held : S → Held) (honest : S → Bool) (failed : S → ℕ) (store given : S) (capacity mark : ℕ) (result : Result A OpenStoreFault) → honest given ≡ honest store
+    → (honest store ≡ true → IsRecovered mark (held store) (held given)) → IfErr result (IsUnopenedLater held honest failed given capacity) → IfErr result (IsUnrecovered held honest failed store capacity mark)
+opened_fault held honest failed store given capacity mark (Ok d) same recovered later = tt
+opened_fault held honest failed store given capacity mark (Err why) same recovered later = inr (inr (inr (given, same, recovered, later)))

@@ -1,0 +1,2 @@
+-- the disk of a store that a crash may have left torn
+pub mod Recovered

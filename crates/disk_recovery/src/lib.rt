@@ -1,0 +1,10 @@
+//! The disk of a store that a crash may have left torn: what is torn is taken away before it is opened to write.
+//!
+//! - `open_recovered`: mounts a store, takes away what a crash left torn, and opens the disk.
+//!
+//! All of it is this project's.
+#![tactic(auto)]
+
+mod recovered;
+
+pub use recovered::open_recovered;

@@ -1,0 +1,193 @@
+//! The names of the system's files.
+ghost use Rattle.std.specs.Prelude.{◌≡◌, ◌≢◌};
+ghost use Rattle.std.specs.IoError.{error_kind};
+ghost use Rattle.part_files.specs.Names.{anew, as_it_is};
+
+use crate::names::{Names, PartFault};
+use std::fs::{self, File, Metadata, OpenOptions, TryLockError};
+use std::io::{self, Error, ErrorKind};
+use std::os::unix::fs::MetadataExt;
+use std::rt::Files;
+
+/// The names of the system's files. (This project's.)
+#[derive(Drop)]
+pub struct SystemNames<'a, R> {
+    rt: &'a R,
+}
+
+impl<'a, R: Files<File = File>> SystemNames<'a, R> {
+    /// The names that the program's handle `rt` reaches. Nothing is asked.
+    pub fn new(rt: &'a R) -> SystemNames<'a, R> {
+        SystemNames { rt }
+    }
+}
+
+/// What an error of the system comes to. (This project's.)
+pub fn part_fault(error: Error) -> PartFault
+    ensures exists { error_kind error ≡ ErrorKind.AlreadyExists → result ≡ PartFault.Exists }
+    ensures memory { error_kind error ≡ ErrorKind.OutOfMemory → result ≡ PartFault.OutOfMemory }
+    ensures other { error_kind error ≢ ErrorKind.AlreadyExists → error_kind error ≢ ErrorKind.OutOfMemory → result ≡ PartFault.Failed }
+{
+    match error.kind() {
+        ErrorKind::AlreadyExists => PartFault::Exists,
+        ErrorKind::OutOfMemory => PartFault::OutOfMemory,
+        _ => PartFault::Failed,
+    }
+}
+
+// How a file that is to be new is opened.
+fn options_anew() -> OpenOptions
+    ensures { result ≡ anew }
+{
+    let mut options = OpenOptions::new();
+    options.read(true).write(true).create_new(true);
+    options
+}
+
+// How a file that is there is opened.
+fn options_as_it_is() -> OpenOptions
+    ensures { result ≡ as_it_is }
+{
+    let mut options = OpenOptions::new();
+    options.read(true).write(true);
+    options
+}
+
+// Locks a file, if nobody else has it locked.
+fn lock(file: &File) -> Result<(), PartFault> {
+    match file.try_lock() {
+        Ok(()) => Ok(()),
+        Err(TryLockError::WouldBlock) => Err(PartFault::InUse),
+        Err(TryLockError::Error(error)) => Err(part_fault(error)),
+    }
+}
+
+// Whether two files are one.
+fn is_one(first: &Metadata, second: &Metadata) -> bool {
+    first.dev() == second.dev() && first.ino() == second.ino()
+}
+
+// What the system tells of what has a name, if anything has.
+fn found<R: Files>(rt: &R, name: &str) -> Result<Option<Metadata>, PartFault> {
+    match fs::symlink_metadata(rt, name) {
+        Ok(found) => Ok(Some(found)),
+        Err(error) if error.kind() == ErrorKind::NotFound => Ok(None),
+        Err(error) => Err(part_fault(error)),
+    }
+}
+
+// Sees that a name is still that of a file: one that has another file by now is in use.
+fn want_named<R: Files>(rt: &R, name: &str, file: &File) -> Result<(), PartFault> {
+    let Some(standing) = found(rt, name)? else {
+        return Err(PartFault::InUse);
+    };
+    let own = match file.metadata() {
+        Ok(own) => own,
+        Err(error) => return Err(part_fault(error)),
+    };
+    if !standing.is_file() {
+        Err(PartFault::Failed)
+    } else if is_one(&standing, &own) {
+        Ok(())
+    } else {
+        Err(PartFault::InUse)
+    }
+}
+
+// A file that was opened, locked, whose name still is its own.
+fn held<R: Files>(rt: &R, name: &str, opened: io::Result<File>) -> Result<File, PartFault> {
+    let file = match opened {
+        Ok(file) => file,
+        Err(error) => return Err(part_fault(error)),
+    };
+    match lock(&file) {
+        Ok(()) => {}
+        Err(fault) => return Err(fault),
+    }
+    match want_named(rt, name, &file) {
+        Ok(()) => Ok(file),
+        Err(fault) => Err(fault),
+    }
+}
+
+// The folder of a path.
+fn folder_of(path: &str) -> &str {
+    match path.rsplit_once('/') {
+        Some(("", _)) => "/",
+        Some((folder, _)) => folder,
+        None => ".",
+    }
+}
+
+// What a call of the system comes to.
+fn settled(answer: io::Result<()>) -> Result<(), PartFault> {
+    match answer {
+        Ok(()) => Ok(()),
+        Err(error) => Err(part_fault(error)),
+    }
+}
+
+// Syncs the folder of a path.
+fn sync_folder_of<R: Files<File = File>>(rt: &R, path: &str) -> io::Result<()> {
+    fs::open(rt, folder_of(path))?.sync_all()
+}
+
+impl<R: Files<File = File>> Names for SystemNames<'_, R> {
+    ghost use Rattle.std.specs.Prelude.{None};
+
+    type File = File;
+
+    ghost asked = { λ _. None };
+
+    fn make(&mut self, name: &str) -> Result<File, PartFault> {
+        held(self.rt, name, options_anew().open(self.rt, name))
+    }
+
+    fn claim(&mut self, name: &str) -> Result<File, PartFault> {
+        match options_as_it_is().open(self.rt, name) {
+            Err(error) if error.kind() == ErrorKind::NotFound => Err(PartFault::InUse),
+            opened => held(self.rt, name, opened),
+        }
+    }
+
+    fn remove(&mut self, name: &str) -> Result<(), PartFault> {
+        settled(fs::remove_file(self.rt, name))
+    }
+
+    fn link(&mut self, from: &str, to: &str) -> Result<(), PartFault> {
+        settled(fs::hard_link(self.rt, from, to))
+    }
+
+    fn rename(&mut self, from: &str, to: &str) -> Result<(), PartFault> {
+        settled(fs::rename(self.rt, from, to))
+    }
+
+    fn sync_folder(&mut self, name: &str) -> Result<(), PartFault> {
+        settled(sync_folder_of(self.rt, name))
+    }
+
+    fn is_there(&mut self, name: &str) -> Result<bool, PartFault> {
+        match found(self.rt, name) {
+            Ok(found) => Ok(found.is_some()),
+            Err(fault) => Err(fault),
+        }
+    }
+
+    fn is_one_file(&mut self, first: &str, second: &str) -> Result<bool, PartFault> {
+        let Some(first) = found(self.rt, first)? else {
+            return Ok(false);
+        };
+        let Some(second) = found(self.rt, second)? else {
+            return Ok(false);
+        };
+        Ok(is_one(&first, &second))
+    }
+
+    fn has_one_name(&mut self, name: &str) -> Result<bool, PartFault> {
+        match found(self.rt, name) {
+            Ok(Some(found)) => Ok(found.is_file() && found.nlink() == 1),
+            Ok(None) => Ok(false),
+            Err(fault) => Err(fault),
+        }
+    }
+}
