@@ -50,7 +50,7 @@ def areas(mapfile):
 
 
 def picture(die, told, pages):
-    """One square a block: its colour is the class, the red bar how many of its pages are unsound."""
+    """One square a block: its colour is the class, the red bar how many of its pages are unsound. The die's name is as HTML has it."""
     squares, side, across = [], 18, 32
     for number, (kind, unsound) in enumerate(told):
         x, y = number % across * (side + 3), number // across * (side + 3)
@@ -66,8 +66,9 @@ def picture(die, told, pages):
 class Die:
     """What was told of one die."""
 
-    def __init__(self, folder):
-        self.name = folder.name
+    def __init__(self, place, folder):
+        self.place = f"die{place}"
+        self.name = html.escape(folder.name)
         shapes = lines(folder / "geometry.txt")
         self.shape = None if not shapes or is_refused(shapes) else shapes[0].split()[1]
         self.refusal = shapes[0] if is_refused(shapes) else ""
@@ -89,7 +90,7 @@ class Die:
         cells = [self.shape, before, self.mended, self.conflicts(), left - marked, marked, *states, reasons]
         flags = [0, 0, 0, self.conflicts(), left - marked, 0, 0, states[1], 0, reasons]
         marks = ["text"] + ["bad" if flag else "" for flag in flags[1:]]
-        return f'<tr><td><a href="#{self.name}">{self.name}</a></td>' + "".join(
+        return f'<tr><td><a href="#{self.place}">{self.name}</a></td>' + "".join(
             f'<td class="{mark}">{html.escape(str(cell))}</td>' for mark, cell in zip(marks, cells)
         ) + "</tr>"
 
@@ -102,7 +103,7 @@ class Die:
         pages = int(self.shape.split(",")[2])
         reasons = [line for line in self.survey if line.startswith(("reason", "tied", "missing"))]
         told = self.merged[-1:] + reasons[:12] + self.array[-1:]
-        return f'<section id="{self.name}"><h3>{self.name}</h3>{picture(self.name, blocks(self.survey), pages)}<pre>{html.escape(chr(10).join(told))}</pre></section>'
+        return f'<section id="{self.place}"><h3>{self.name}</h3>{picture(self.name, blocks(self.survey), pages)}<pre>{html.escape(chr(10).join(told))}</pre></section>'
 
 
 HEADS = ["die", "shape", "unsound pages, by reading", "pages mended", "rows in conflict", "unsound pages left", "and in blocks marked bad by the factory"]
@@ -110,7 +111,7 @@ HEADS += ["sectors found", "sectors tied", "sectors without a page", "reasons ag
 
 
 def main(results, out):
-    dies = [Die(folder) for folder in sorted(Path(results).iterdir()) if folder.is_dir()]
+    dies = [Die(place, folder) for place, folder in enumerate(sorted(Path(results).iterdir())) if folder.is_dir()]
     key = "".join(f'<span style="background:{colour};color:{"#fff" if name in ("factory", "grown", "closed") else "#222"}">{name}</span>' for name, colour in COLOURS.items())
     page = f"""<!doctype html><html lang="en"><meta charset="utf-8"><title>Dumps of {len(dies)} dies</title><style>{STYLE}</style>
 <h1>Dumps of {len(dies)} dies</h1>

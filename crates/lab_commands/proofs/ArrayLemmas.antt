@@ -1,15 +1,17 @@
 -- What the command `array` comes to where it isn't done.
-use Rattle.std.proofs.Common.{◌≡◌, inl, inr, ℕ, List, Option, Some, None, IfSome, refl}
+use Rattle.std.proofs.Common.{◌≡◌, ◌≢◌, inl, inr, ℕ, Bool, false, subst, List, Option, Some, None, IfSome, refl}
 use Rattle.std.specs.Prelude.{◌⊎◌, IsSomeAnd}
 use Rattle.std.specs.Borrow.{Bor}
 use Rattle.page_layout.specs.declared.geometry.Geometry.{Geometry}
 use Rattle.lab_commands.specs.declared.words.ArrayWords.{ArrayWords}
+use Rattle.lab_commands.specs.declared.files.Standing.{Standing}
+use Rattle.lab_commands.specs.declared.files.Standing.TheVariants as standing
 use Rattle.lab_commands.specs.declared.text.LabFault.{LabFault}
 use Rattle.lab_commands.specs.declared.text.LabFault.TheVariants as fault
-use Rattle.lab_commands.specs.Files.{Answers, AnswersNoMore, IsOpened, Kept}
-use Rattle.lab_commands.specs.Undone.{IsGeometryAt, IsNoGeometry, IsUnmade, IsUnread, IsUnwritten}
-use Rattle.lab_commands.specs.Array.{AreAllowed, AreNotAllowed, IsArrayFault, IsMapNotAllowed, IsUnmapped}
-use Rattle.lab_commands.proofs.UndoneLemmas.{left_all, unwritten_before}
+use Rattle.lab_commands.specs.Files.{Answers, AnswersNoMore, IsOpened, Store}
+use Rattle.lab_commands.specs.Undone.{IsGeometryAt, IsNoGeometry, IsKeptThere, IsMapUnplaced, IsUnmade, IsUnplaced, IsUnread, IsUnwritten}
+use Rattle.lab_commands.specs.Array.{AreAllowed, AreNotAllowed, IsArrayFault, IsMapNotAllowed, IsUnmapped, IsUnput, as_map}
+use Rattle.lab_commands.proofs.UndoneLemmas.{left_all, map_unplaced_before}
 
 -- ---- whether FILE may be written
 
@@ -33,21 +35,28 @@ map_unasked_dump a words file _ k = absurd k
 pub unmapped_before : (a b : Answers) (words : ArrayWords) (told : LabFault) → AnswersNoMore a b → IsUnmapped b words told → IsUnmapped a words told
 unmapped_before a b words told more h = over words.map h
   where
-    over : (m : Option (Bor (List ℕ))) → IsSomeAnd m (λ file. IsUnwritten b file.now told ⊎ (told ≡ fault.OutOfMemory)) → IsSomeAnd m (λ file. IsUnwritten a file.now told ⊎ (told ≡ fault.OutOfMemory))
+    over : (m : Option (Bor (List ℕ))) → IsSomeAnd m (λ file. IsMapUnplaced b file.now words.force told ⊎ (told ≡ fault.OutOfMemory)) → IsSomeAnd m (λ file. IsMapUnplaced a file.now words.force told ⊎ (told ≡ fault.OutOfMemory))
     over None k = absurd k
     over (Some file) k = elim k [
-      | inl unwritten ↦ inl (unwritten_before a b file.now told more unwritten)
+      | inl unwritten ↦ inl (map_unplaced_before a b file.now words.force told more unwritten)
       | inr memory ↦ inr memory
     ]
 
+-- what stands at FILE is not replaced
+pub map_kept_there : (a : Answers) (words : ArrayWords) (file : List ℕ) (what : Standing) (told : LabFault) → a.says file what → what ≢ standing.Nothing → a.says_same words.dump.now file false → IsKeptThere what words.force told
+    → IsMapNotAllowed a words file (as_map told)
+map_kept_there a words file what fault.Exists said some other k = ((what, some, said), other, k)
+map_kept_there a words file what fault.NoFile said some other k = (subst (λ w. a.says file w) k.0 said, other, k.1)
+map_kept_there a words file what _ said some other k = absurd k
+
 -- ---- the command
 
-pub no_geometry : (a : Answers) (words : ArrayWords) (k : Option (List Kept)) (out : Option (List ℕ)) (told : LabFault) → IsNoGeometry words.geometry.now told → IsArrayFault a words k k out out told
-no_geometry a words k out told h = inl (left_all k k out refl, inl h)
+pub no_geometry : (a : Answers) (words : ArrayWords) (k : Option Store) (broke : Bool) (out : Option (List ℕ)) (told : LabFault) → IsNoGeometry words.geometry.now told → IsArrayFault a words k k broke out out told
+no_geometry a words k broke out told h = inl (left_all k k out refl, inl h)
 
-pub not_allowed : (a : Answers) (words : ArrayWords) (g : Geometry) (k after : Option (List Kept)) (out : Option (List ℕ)) (told : LabFault) → IsGeometryAt words.geometry.now g → after ≡ k → AreNotAllowed a words told → IsArrayFault a words k after out out told
-not_allowed a words g k after out told is same h = inl (left_all k after out same, inr (g, is, inl h))
+pub not_allowed : (a : Answers) (words : ArrayWords) (g : Geometry) (k after : Option Store) (broke : Bool) (out : Option (List ℕ)) (told : LabFault) → IsGeometryAt words.geometry.now g → after ≡ k → AreNotAllowed a words told → IsArrayFault a words k after broke out out told
+not_allowed a words g k after broke out told is same h = inl (left_all k after out same, inr (g, is, inl h))
 
-pub not_made : (a : Answers) (words : ArrayWords) (g : Geometry) (k after : Option (List Kept)) (out : Option (List ℕ)) (told : LabFault) → IsGeometryAt words.geometry.now g → AreAllowed a words → after ≡ k → IsUnmade a g words.dump.now words.out.now told
-    → IsArrayFault a words k after out out told
-not_made a words g k after out told is allowed same h = inl (left_all k after out same, inr (g, is, inr (allowed, h)))
+pub not_put : (a : Answers) (words : ArrayWords) (g : Geometry) (k after : Option Store) (broke : Bool) (out : Option (List ℕ)) (told : LabFault) → IsGeometryAt words.geometry.now g → AreAllowed a words → after ≡ k → IsUnput a g words told
+    → IsArrayFault a words k after broke out out told
+not_put a words g k after broke out told is allowed same h = inl (left_all k after out same, inr (g, is, inr (allowed, h)))

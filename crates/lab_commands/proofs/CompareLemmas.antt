@@ -1,8 +1,6 @@
 -- What the command `compare` comes to where it isn't done.
-use Rattle.std.proofs.Common.{◌≡◌, ◌≢◌, inl, inr, ℕ, ◌^◌, List, [], ◌++◌, take, Option, Some, None, IfSome, option_map, refl, ap, sym, subst, ◌∙◌}
+use Rattle.std.proofs.Common.{◌≡◌, ◌≢◌, inl, inr, ℕ, Bool, ◌^◌, List, [], ◌++◌, take, Option, Some, None, IfSome, option_map, refl, ap, sym, subst, ◌∙◌}
 use Rattle.std.proofs.lemmas.Bool.{cases_eq}
-use Rattle.std.specs.declared.io.traits.Take.{Take}
-use Rattle.std.specs.Io.Take.{take_inner, take_limit, take_remaining}
 use Rattle.page_layout.specs.declared.geometry.Geometry.{Geometry}
 use Rattle.certificate.specs.declared.fault.CertFault.{CertFault}
 use Rattle.certificate.specs.Claim.{Claim, Sizes}
@@ -11,7 +9,7 @@ use Rattle.certificate.specs.Spelling.{certificate_bytes}
 use Rattle.lab_commands.specs.declared.words.CompareWords.{CompareWords}
 use Rattle.lab_commands.specs.declared.text.LabFault.{LabFault}
 use Rattle.lab_commands.specs.declared.text.LabFault.TheVariants as fault
-use Rattle.lab_commands.specs.Files.{Answers, AnswersNoMore, Kept}
+use Rattle.lab_commands.specs.Files.{Answers, AnswersNoMore, Store}
 use Rattle.lab_commands.specs.Undone.{IsGeometryAt, IsNoGeometry, IsUnread}
 use Rattle.lab_commands.specs.Compare.{HasNone, IsBroken, IsCertificateAt, IsCompareFault, IsUnheld, looked_at}
 use Rattle.lab_dump.specs.declared.compare.Compared.{Compared}
@@ -43,40 +41,25 @@ same_sizes a b h =
     ∙ (ap (λ (n : ℕ). made_of b.data_bytes b.spare_bytes b.pages n a.sectors) blocks
     ∙ ap (λ (n : ℕ). made_of b.data_bytes b.spare_bytes b.pages b.blocks n) sectors)))
 
--- what was read of a file, of whose reader so many bytes are taken
-pub read_of : {R : Type 0} (remaining : R → Option (List ℕ)) (t : Take R) (reader : R) (items before bytes : List ℕ) → take_limit t ≡ 2 ^ 26 → take_inner t ≡ reader → before ≡ [] → bytes ≡ items → IfSome (take_remaining remaining t) (λ xs. items ≡ before ++ xs)
-    → IfSome (option_map looked_at (remaining reader)) (λ xs. bytes ≡ xs)
-read_of {R} remaining t reader items before bytes limit inner none same read =
-    let limited = subst (λ (l : ℕ). IfSome (option_map (take l) (remaining (take_inner t))) (λ xs. items ≡ before ++ xs)) limit read in
-    let its = subst (λ (r : R). IfSome (option_map looked_at (remaining r)) (λ xs. items ≡ before ++ xs)) inner limited in
-    let alone = subst (λ (b : List ℕ). IfSome (option_map looked_at (remaining reader)) (λ xs. items ≡ b ++ xs)) none its in
-    subst (λ (i : List ℕ). IfSome (option_map looked_at (remaining reader)) (λ xs. i ≡ xs)) (sym same) alone
-
 -- what spells the bytes that were read
-pub spelled_by : (known : Option (List ℕ)) (c : Claim) (items : List ℕ) → IfSome (option_map looked_at known) (λ xs. items ≡ xs) → certificate_bytes c ≡ items → IfSome known (λ bytes. certificate_bytes c ≡ looked_at bytes)
+pub spelled_by : (known : Option (List ℕ)) (c : Claim) (items : List ℕ) → IfSome known (λ xs. items ≡ looked_at xs) → certificate_bytes c ≡ items → IfSome known (λ bytes. certificate_bytes c ≡ looked_at bytes)
 spelled_by None c items read is = tt
 spelled_by (Some bytes) c items read is = is ∙ read
 
 -- and their fault
-pub broken_by : (known : Option (List ℕ)) (f : CertFault) (items : List ℕ) → IfSome (option_map looked_at known) (λ xs. items ≡ xs) → IsFirstFault items f → IfSome known (λ bytes. IsBroken bytes (fault.Certificate f))
+pub broken_by : (known : Option (List ℕ)) (f : CertFault) (items : List ℕ) → IfSome known (λ xs. items ≡ looked_at xs) → IsFirstFault items f → IfSome known (λ bytes. IsBroken bytes (fault.Certificate f))
 broken_by None f items read is = tt
 broken_by (Some bytes) f items read is = subst (λ xs. IsFirstFault xs f) read is
 
--- the certificate's file was not opened
-pub none_read : (a : Answers) (path : List ℕ) (told : LabFault) → IsUnread a path told → HasNone a path told
-none_read a path fault.OutOfMemory k = inl k
-none_read a path (fault.Read word) k = (k.0, inl k)
-none_read a path _ k = absurd k
+pub no_geometry : (a : Answers) (words : CompareWords) (k : Option Store) (broke : Bool) (out : Option (List ℕ)) (told : LabFault) → IsNoGeometry words.geometry.now told → IsCompareFault a words k k broke out out told
+no_geometry a words k broke out told h = inl (left_all k k out refl, inl h)
 
-pub no_geometry : (a : Answers) (words : CompareWords) (k : Option (List Kept)) (out : Option (List ℕ)) (told : LabFault) → IsNoGeometry words.geometry.now told → IsCompareFault a words k k out out told
-no_geometry a words k out told h = inl (left_all k k out refl, inl h)
+pub no_certificate : (a : Answers) (words : CompareWords) (g : Geometry) (k after : Option Store) (broke : Bool) (out : Option (List ℕ)) (told : LabFault) → IsGeometryAt words.geometry.now g → after ≡ k → HasNone a words.certificate.now told → IsCompareFault a words k after broke out out told
+no_certificate a words g k after broke out told is same h = inl (left_all k after out same, inr (g, is, inl h))
 
-pub no_certificate : (a : Answers) (words : CompareWords) (g : Geometry) (k after : Option (List Kept)) (out : Option (List ℕ)) (told : LabFault) → IsGeometryAt words.geometry.now g → after ≡ k → HasNone a words.certificate.now told → IsCompareFault a words k after out out told
-no_certificate a words g k after out told is same h = inl (left_all k after out same, inr (g, is, inl h))
-
-pub not_held : (a : Answers) (words : CompareWords) (g : Geometry) (c : Claim) (k after : Option (List Kept)) (out : Option (List ℕ)) (told : LabFault) → IsGeometryAt words.geometry.now g → IsCertificateAt a words.certificate.now c → after ≡ k → IsUnheld a g c words.dump.now told
-    → IsCompareFault a words k after out out told
-not_held a words g c k after out told is has same h = inl (left_all k after out same, inr (g, is, inr (c, has, h)))
+pub not_held : (a : Answers) (words : CompareWords) (g : Geometry) (c : Claim) (k after : Option Store) (broke : Bool) (out : Option (List ℕ)) (told : LabFault) → IsGeometryAt words.geometry.now g → IsCertificateAt a words.certificate.now c → after ≡ k → IsUnheld a g c words.dump.now told
+    → IsCompareFault a words k after broke out out told
+not_held a words g c k after broke out told is has same h = inl (left_all k after out same, inr (g, is, inr (c, has, h)))
 
 -- ---- the files between
 

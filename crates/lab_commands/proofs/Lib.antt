@@ -10,3 +10,4 @@ pub mod CompareLemmas
 pub mod GeometryLemmas
 pub mod RepairLemmas
 pub mod MergeLemmas
+pub mod NameLemmas

@@ -1,5 +1,5 @@
 -- What the command `merge` comes to.
-use Rattle.std.proofs.Common.{◌≡◌, inl, inr, ℕ, ◌+◌, ◌<◌, Bool, true, false, List, [], ◌∷◌, ◌++◌, length, get_or, map, Option, None, refl, ap, sym, subst, ◌∙◌, arith}
+use Rattle.std.proofs.Common.{◌≡◌, ◌≢◌, ◌⊎◌, inl, inr, ℕ, zero, suc, ◌+◌, ◌<◌, Bool, true, false, List, [], ◌∷◌, ◌++◌, length, get_or, map, Option, None, refl, ap, sym, subst, ◌∙◌, arith}
 use Rattle.std.proofs.lemmas.Bool.{cases_eq}
 use Rattle.std.proofs.lemmas.List.{get_or-map, get_or_append_left, get_or_push, length-map, length_push, map-append}
 use Rattle.std.specs.Borrow.{Bor}
@@ -10,11 +10,13 @@ use Rattle.lab_mend.specs.InStep.{Tell}
 use Rattle.lab_mend.specs.Merged.{IsOfReading, IsUnmerged}
 use Rattle.lab_commands.specs.declared.words.MergeWords.{MergeWords}
 use Rattle.program_words.specs.Met.{texts}
+use Rattle.lab_commands.specs.declared.files.Standing.{Standing}
+use Rattle.lab_commands.specs.declared.files.Standing.TheVariants as standing
 use Rattle.lab_commands.specs.declared.text.LabFault.{LabFault}
 use Rattle.lab_commands.specs.declared.text.LabFault.TheVariants as fault
-use Rattle.lab_commands.specs.Files.{Answers, AnswersNoMore, IsOpened, Kept}
-use Rattle.lab_commands.specs.Undone.{IsGeometryAt, IsNoGeometry, IsUnread, IsUnwritten}
-use Rattle.lab_commands.specs.Merge.{AreOpened, AreOpenedBelow, AreOthersBelow, IsMergeFault, IsSomeUnread, IsUnjoined, IsUnmergedTo, IsUnopened, MayMerge, MayNotMerge, TellsFault, dumps_of}
+use Rattle.lab_commands.specs.Files.{Answers, AnswersNoMore, IsOpened, Stands, Store}
+use Rattle.lab_commands.specs.Undone.{IsGeometryAt, IsKeptThere, IsNoGeometry, IsUnplaced, IsUnread, IsUnwritten}
+use Rattle.lab_commands.specs.Merge.{AreOpened, AreOpenedBelow, AreOthersBelow, HasSame, IsMergeFault, IsSomeUnread, IsUnjoined, IsUnmergedTo, IsUnopened, MayMerge, MayNotMerge, TellsFault, dumps_of}
 use Rattle.lab_commands.proofs.UndoneLemmas.{left_all, opened_before, unread_before}
 
 -- ---- the paths
@@ -55,6 +57,16 @@ unopened_at a b ds n d told l more k =
     let before : IsUnread a (get_or (texts ds) n []) told = subst (λ (path : List ℕ). IsUnread a path told) (sym (path_at ds n d l)) (unread_before a b (get_or ds n d).now told more k) in
     unopened a (texts ds) n told (let count = paths_count ds in omega arith) before
 
+-- each reader that has failed says that a read did
+abbrev pub TellsFailing : {R : Type 0} → (R → Bool) → Type 0 → Type 0
+TellsFailing {R} failed reads = (reader : R) → failed reader ≡ true → reads
+
+-- a reader that has failed, where one of a list has
+pub failed_one : {R : Type 0} (f : R → Bool) (rs : List R) (i : ℕ) → get_or (map f rs) i false ≡ true → (r : R) × (f r ≡ true)
+failed_one f [] i is = absurd (let clash : false ≡ true = is in cc)
+failed_one f (r ∷ rs) zero is = (r, is)
+failed_one f (r ∷ rs) (suc i) is = failed_one f rs i is
+
 -- ---- whether OUT may be written
 
 pub others_more : (a : Answers) (ds : List (Bor (List ℕ))) (out : List ℕ) (n : ℕ) (d : Bor (List ℕ)) (answer : Bool) → n < length ds → AreOthersBelow a (texts ds) out n → a.says_same (get_or ds n d).now out answer → answer ≡ false → AreOthersBelow a (texts ds) out (n + 1)
@@ -70,29 +82,35 @@ unasked_out a words fault.OutOfMemory k = inl k
 unasked_out a words (fault.Write word) k = inl k
 unasked_out a words _ k = absurd k
 
-pub unasked_dumps : (a : Answers) (words : MergeWords) (told : LabFault) → a.says_file words.out.now true → IsSomeUnread a (dumps_of words) told → MayNotMerge a words told
+pub unasked_dumps : (a : Answers) (words : MergeWords) (told : LabFault) → Stands a words.out.now → IsSomeUnread a (dumps_of words) told → MayNotMerge a words told
 unasked_dumps a words fault.OutOfMemory stands k = inr (stands, k)
 unasked_dumps a words (fault.Read word) stands k = inr (stands, k)
 unasked_dumps a words _ stands k = absurd k.2
 
+-- what stands at OUT, and is no dump, is not replaced
+pub merge_kept_there : (a : Answers) (words : MergeWords) (what : Standing) (told : LabFault) → a.says words.out.now what → what ≢ standing.Nothing → HasSame a (dumps_of words) words.out.now false → IsKeptThere what words.force told → MayNotMerge a words told
+merge_kept_there a words what fault.Exists said some other k = ((what, some, said), other, k)
+merge_kept_there a words what fault.NoFile said some other k = (subst (λ w. a.says words.out.now w) k.0 said, other, k.1)
+merge_kept_there a words what _ said some other k = absurd k
+
 -- ---- the dumps and OUT
 
 pub unmerged_as : (a : Answers) (paths : List (List ℕ)) (g : Geometry) (out : List ℕ) (known : List (Option (List ℕ))) (f : MergeFault) (told : LabFault) → AreOpened a paths known → IsOfReading (length paths) f
-    → ((files : List (List ℕ)) → Tell known files → IsUnmerged g files f) → TellsFault f paths out told → IsUnmergedTo a paths g out told
-unmerged_as a paths g out known (merge.WrongLength i) (fault.DumpLength word) opened of h is = record { known = known; opened = opened; place = i; within = of; named = sym is; odd = λ files tell. (h files tell).1 }
-unmerged_as a paths g out known (merge.Source i) (fault.Read word) opened of h is = ((i, of, sym is), (known, opened))
-unmerged_as a paths g out known merge.Target (fault.Write word) opened of h is = (is, (known, opened))
-unmerged_as a paths g out known merge.OutOfMemory fault.OutOfMemory opened of h is = (known, opened)
-unmerged_as a paths g out known _ _ opened of h is = absurd is
+    → ((files : List (List ℕ)) → Tell known files → IsUnmerged g files f) → ((i : ℕ) → f ≡ merge.Source i → a.reads_fail) → (f ≡ merge.Target → a.writes_fail) → TellsFault f paths out told → IsUnmergedTo a paths g out told
+unmerged_as a paths g out known (merge.WrongLength i) (fault.DumpLength word) opened of h reads writes is = record { known = known; opened = opened; place = i; within = of; named = sym is; odd = λ files tell. (h files tell).1 }
+unmerged_as a paths g out known (merge.Source i) (fault.Read word) opened of h reads writes is = ((i, of, sym is), (known, opened), reads i refl)
+unmerged_as a paths g out known merge.Target (fault.Write word) opened of h reads writes is = (is, (known, opened), writes refl)
+unmerged_as a paths g out known merge.OutOfMemory fault.OutOfMemory opened of h reads writes is = (known, opened)
+unmerged_as a paths g out known _ _ opened of h reads writes is = absurd is
 
 -- ---- the command
 
-pub no_geometry : (a : Answers) (words : MergeWords) (k : Option (List Kept)) (out : Option (List ℕ)) (told : LabFault) → IsNoGeometry words.geometry.now told → IsMergeFault a words k k out out told
-no_geometry a words k out told h = inl (left_all k k out refl, inl h)
+pub no_geometry : (a : Answers) (words : MergeWords) (k : Option Store) (broke : Bool) (out : Option (List ℕ)) (told : LabFault) → IsNoGeometry words.geometry.now told → IsMergeFault a words k k broke out out told
+no_geometry a words k broke out told h = inl (left_all k k out refl, inl h)
 
-pub not_allowed : (a : Answers) (words : MergeWords) (g : Geometry) (k after : Option (List Kept)) (out : Option (List ℕ)) (told : LabFault) → IsGeometryAt words.geometry.now g → after ≡ k → MayNotMerge a words told → IsMergeFault a words k after out out told
-not_allowed a words g k after out told is same h = inl (left_all k after out same, inr (g, is, inl h))
+pub not_allowed : (a : Answers) (words : MergeWords) (g : Geometry) (k after : Option Store) (broke : Bool) (out : Option (List ℕ)) (told : LabFault) → IsGeometryAt words.geometry.now g → after ≡ k → MayNotMerge a words told → IsMergeFault a words k after broke out out told
+not_allowed a words g k after broke out told is same h = inl (left_all k after out same, inr (g, is, inl h))
 
-pub not_made : (a : Answers) (words : MergeWords) (g : Geometry) (k after : Option (List Kept)) (out : Option (List ℕ)) (told : LabFault) → IsGeometryAt words.geometry.now g → MayMerge a words → after ≡ k → IsUnjoined a (dumps_of words) g words.out.now told
-    → IsMergeFault a words k after out out told
-not_made a words g k after out told is allowed same h = inl (left_all k after out same, inr (g, is, inr (allowed, h)))
+pub not_put : (a : Answers) (words : MergeWords) (g : Geometry) (k after : Option Store) (broke : Bool) (out : Option (List ℕ)) (told : LabFault) → IsGeometryAt words.geometry.now g → MayMerge a words → after ≡ k
+    → IsUnjoined a (dumps_of words) g words.out.now told ⊎ IsUnplaced a words.out.now words.force told → IsMergeFault a words k after broke out out told
+not_put a words g k after broke out told is allowed same h = inl (left_all k after out same, inr (g, is, inr (allowed, h)))

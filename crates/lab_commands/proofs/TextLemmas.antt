@@ -1,31 +1,25 @@
 -- Parts of a line, one after another.
-use Rattle.std.proofs.Common.{◌≡◌, ℕ, List, [], ◌∷◌, ◌++◌, Option, Result, Ok, Err, ap, sym, ◌∙◌, subst, append_assoc}
+use Rattle.std.proofs.Common.{◌≡◌, ℕ, List, [], ◌∷◌, ◌++◌, Option, Result, Ok, Err, refl, sym, subst}
+use Rattle.std.specs.Result.{IsErrAnd}
 use Rattle.std.specs.Io.KnownBytes.{Appends}
 use Rattle.std.proofs.KnownBytes.{Appends-trans}
-use Rattle.request_stream.specs.declared.reply.ServeFault.{ServeFault}
-use Rattle.request_stream.specs.Frames.{AppendsFront, Sends}
+use Rattle.request_stream.specs.Frames.{AppendsPart}
+use Rattle.request_stream.proofs.Writing.{part_more, part_stop}
+use Rattle.lab_commands.specs.Output.{Puts}
 
--- a beginning of what was due is one of what was due with more behind it
-pub front_more : (a b : Option (List ℕ)) (xs ys : List ℕ) → AppendsFront a b xs → AppendsFront a b (xs ++ ys)
-front_more a b xs ys (sent, more, split, done) = (sent, more ++ ys, sym (append_assoc sent more ys) ∙ ap (λ l. l ++ ys) split, done)
+-- what was put after something else
+pub puts_after : {T E : Type 0} (a b d : Option (List ℕ)) (xs ys : List ℕ) (r : Result T E) → Appends a b xs → Puts b d ys r → Puts a d (xs ++ ys) r
+puts_after a b d xs ys (Ok x) first last = Appends-trans a b d xs ys first last
+puts_after a b d xs ys (Err e) first part = part_more a b d xs ys (xs ++ ys) refl first part
 
--- and so with more before it
-pub front_after : (a b d : Option (List ℕ)) (xs ys : List ℕ) → Appends a b xs → AppendsFront b d ys → AppendsFront a d (xs ++ ys)
-front_after a b d xs ys first (sent, more, split, done) = (xs ++ sent, more, append_assoc xs sent more ∙ ap (λ l. xs ++ l) split, Appends-trans a b d xs sent first done)
+-- a part that has more behind it
+pub part_before : (a b : Option (List ℕ)) (xs ys : List ℕ) → AppendsPart a b xs → AppendsPart a b (xs ++ ys)
+part_before a b xs ys part = part_stop a b xs ys (xs ++ ys) refl part
 
--- what was sent after something else
-pub sends_after : {T : Type 0} (a b d : Option (List ℕ)) (xs ys : List ℕ) (r : Result T ServeFault) → Appends a b xs → Sends b d ys r → Sends a d (xs ++ ys) r
-sends_after a b d xs ys (Ok x) first last = Appends-trans a b d xs ys first last
-sends_after a b d xs ys (Err e) first last = (last.0, front_after a b d xs ys first last.1)
+pub part_after : (a b d : Option (List ℕ)) (xs ys : List ℕ) → Appends a b xs → AppendsPart b d ys → AppendsPart a d (xs ++ ys)
+part_after a b d xs ys first part = part_more a b d xs ys (xs ++ ys) refl first part
 
--- ---- the line of a fault
-
-pub stopped_first : (a b : Option (List ℕ)) (bytes area text : List ℕ) → bytes ≡ area → AppendsFront a b bytes → AppendsFront a b ((area ++ text) ++ (10 ∷ []))
-stopped_first a b bytes area text is front = front_more a b (area ++ text) (10 ∷ []) (front_more a b area text (subst (λ (xs : List ℕ). AppendsFront a b xs) is front))
-
-pub stopped_second : (a b d : Option (List ℕ)) (first bytes area text : List ℕ) → first ≡ area → bytes ≡ text → Appends a b first → AppendsFront b d bytes → AppendsFront a d ((area ++ text) ++ (10 ∷ []))
-stopped_second a b d first bytes area text same is sent front =
-    front_more a d (area ++ text) (10 ∷ []) (front_after a b d area text (subst (λ (xs : List ℕ). Appends a b xs) same sent) (subst (λ (xs : List ℕ). AppendsFront b d xs) is front))
-
-pub sent_both : (a b d : Option (List ℕ)) (first bytes area text : List ℕ) → first ≡ area → bytes ≡ text → Appends a b first → Appends b d bytes → Appends a d (area ++ text)
-sent_both a b d first bytes area text same is sent next = Appends-trans a b d area text (subst (λ (xs : List ℕ). Appends a b xs) same sent) (subst (λ (xs : List ℕ). Appends b d xs) is next)
+-- where a part was put, the answer is a fault
+pub put_failed : {T E : Type 0} (P : E → Type 0) (r : Result T E) (a b : Option (List ℕ)) (due : List ℕ) → IsErrAnd r P → AppendsPart a b due → Puts a b due r
+put_failed P (Ok x) a b due h part = absurd h
+put_failed P (Err e) a b due h part = part

@@ -1,5 +1,5 @@
 -- Why a command ended before it was done.
-use Rattle.std.proofs.Common.{◌≡◌, inl, inr, ℕ, Bool, true, List, Option, Some, None, IfSome, refl, sym, ◌∙◌, subst}
+use Rattle.std.proofs.Common.{◌≡◌, ◌≢◌, inl, inr, ℕ, Bool, true, false, List, Option, Some, None, IfSome, refl, sym, ◌∙◌, subst}
 use Rattle.std.specs.Prelude.{Result, Ok, Err, IfErr}
 use Rattle.std.specs.Result.{IsErrAnd}
 use Rattle.std.proofs.KnownBytes.{Keeps-refl}
@@ -11,10 +11,12 @@ use Rattle.lab_dump.specs.Unmade.{IsUnmade as IsUnmadeBy}
 use Rattle.lab_commands.specs.declared.text.LabFault.{LabFault}
 use Rattle.lab_commands.specs.declared.text.LabFault.TheVariants as fault
 use Rattle.lab_commands.specs.declared.files.FileFault.TheVariants as file
-use Rattle.lab_commands.specs.Files.{Answers, AnswersNoMore, IsOpened, Kept}
-use Rattle.lab_commands.specs.Undone.{IsUnmade, IsUnread, IsUntaken, IsUnwritten, LeavesAll, MayNotWrite, Opens, unmade_as}
+use Rattle.lab_commands.specs.declared.files.Standing.{Standing}
+use Rattle.lab_commands.specs.declared.files.Standing.TheVariants as standing
+use Rattle.lab_commands.specs.Files.{Answers, AnswersNoMore, IsOpened, Stands, Store}
+use Rattle.lab_commands.specs.Undone.{IsKeptThere, IsMapUnplaced, IsUnmade, IsUnplaced, IsUnread, IsUntaken, IsUnwritten, LeavesAll, MayNotWrite, Opens, unmade_as}
 
-pub left_all : (before after : Option (List Kept)) (out : Option (List ℕ)) → after ≡ before → LeavesAll before after out out
+pub left_all : (before after : Option Store) (out : Option (List ℕ)) → after ≡ before → LeavesAll before after out out
 left_all before after out same = record { kept = same; silent = Keeps-refl out }
 
 -- a fault that is handed on
@@ -25,19 +27,34 @@ handed_on P (Err e) told is h = subst P (sym is) h
 -- ---- the files between
 
 pub no_more_first : (a : Answers) → AnswersNoMore a a
-no_more_first a = record { gives_same = λ at bytes h. h; tells_same = refl; fails_same = λ at f h. h }
+no_more_first a = record { gives_same = λ at bytes h. h; tells_same = refl; fails_same = λ at f h. h; reads_same = λ h. h; writes_same = λ h. h; taken_same = λ at h. h }
 
 pub no_more_then : (a b d : Answers) → AnswersNoMore a b → AnswersNoMore b d → AnswersNoMore a d
 no_more_then a b d h k = record {
   gives_same = λ at bytes x. h.gives_same at bytes (k.gives_same at bytes x);
   tells_same = k.tells_same ∙ h.tells_same;
   fails_same = λ at f x. h.fails_same at f (k.fails_same at f x);
+  reads_same = λ x. h.reads_same (k.reads_same x);
+  writes_same = λ x. h.writes_same (k.writes_same x);
+  taken_same = λ at x. h.taken_same at (k.taken_same at x);
 }
 
 pub unwritten_before : (a b : Answers) (path : List ℕ) (told : LabFault) → AnswersNoMore a b → IsUnwritten b path told → IsUnwritten a path told
 unwritten_before a b path fault.OutOfMemory h k = h.fails_same path file.OutOfMemory k
 unwritten_before a b path (fault.Write word) h k = (k.0, h.fails_same path file.Failed k.1)
 unwritten_before a b path _ h k = absurd k
+
+pub unplaced_before : (a b : Answers) (path : List ℕ) (force : Bool) (told : LabFault) → AnswersNoMore a b → IsUnplaced b path force told → IsUnplaced a path force told
+unplaced_before a b path force fault.Exists h k = (k.0, h.taken_same path k.1)
+unplaced_before a b path force fault.OutOfMemory h k = h.fails_same path file.OutOfMemory k
+unplaced_before a b path force (fault.Write word) h k = (k.0, h.fails_same path file.Failed k.1)
+unplaced_before a b path force _ h k = absurd k
+
+pub map_unplaced_before : (a b : Answers) (path : List ℕ) (force : Bool) (told : LabFault) → AnswersNoMore a b → IsMapUnplaced b path force told → IsMapUnplaced a path force told
+map_unplaced_before a b path force fault.MapExists h k = (k.0, h.taken_same path k.1)
+map_unplaced_before a b path force fault.OutOfMemory h k = h.fails_same path file.OutOfMemory k
+map_unplaced_before a b path force (fault.Write word) h k = (k.0, h.fails_same path file.Failed k.1)
+map_unplaced_before a b path force _ h k = absurd k
 
 pub opened_before : (a b : Answers) (path : List ℕ) (known : Option (List ℕ)) → AnswersNoMore a b → IsOpened b path known → IsOpened a path known
 opened_before a b path known h k = record {
@@ -60,16 +77,17 @@ opens_before a b path h k = record { known = k.known; opened = opened_before a b
 pub untaken_before : (a b : Answers) (g : Geometry) (path : List ℕ) (told : LabFault) → AnswersNoMore a b → IsUntaken b g path told → IsUntaken a g path told
 untaken_before a b g path fault.WrongLength h k = record { known = k.known; opened = opened_before a b path k.known h k.opened; other = k.other }
 untaken_before a b g path fault.OutOfMemory h k = opens_before a b path h k
-untaken_before a b g path (fault.Read word) h k = (k.0, opens_before a b path h k.1)
+untaken_before a b g path (fault.Read word) h k = (k.0, opens_before a b path h k.1, h.reads_same k.2)
 untaken_before a b g path _ h k = absurd k
 
 -- ---- the dump and OUT
 
-pub unmade : (a : Answers) (dump out : Bor (List ℕ)) (g : Geometry) (known : Option (List ℕ)) (f : MakeFault) → IsOpened a dump.now known → IfSome known (IsUnmadeBy g f) → IsUnmade a g dump.now out.now (unmade_as f dump out)
-unmade a dump out g known make.WrongLength opened h = inr (inl (record { known = known; opened = opened; other = h }))
-unmade a dump out g known make.Source opened h = inr (inl (refl, record { known = known; opened = opened }))
-unmade a dump out g known make.Target opened h = inr (inr (inr (refl, record { known = known; opened = opened })))
-unmade a dump out g known make.OutOfMemory opened h = inr (inl (record { known = known; opened = opened }))
+pub unmade : (a : Answers) (dump out : Bor (List ℕ)) (g : Geometry) (known : Option (List ℕ)) (f : MakeFault) → IsOpened a dump.now known → IfSome known (IsUnmadeBy g f) → (f ≡ make.Source → a.reads_fail) → (f ≡ make.Target → a.writes_fail)
+    → IsUnmade a g dump.now out.now (unmade_as f dump out)
+unmade a dump out g known make.WrongLength opened h reads writes = inr (inl (record { known = known; opened = opened; other = h }))
+unmade a dump out g known make.Source opened h reads writes = inr (inl (refl, record { known = known; opened = opened }, reads refl))
+unmade a dump out g known make.Target opened h reads writes = inr (inr (inr (refl, record { known = known; opened = opened }, writes refl)))
+unmade a dump out g known make.OutOfMemory opened h reads writes = inr (inl (record { known = known; opened = opened }))
 
 -- ---- whether a file may be written
 
@@ -78,7 +96,13 @@ unasked_file a dump path force fault.OutOfMemory k = inl k
 unasked_file a dump path force (fault.Write word) k = inl k
 unasked_file a dump path force _ k = absurd k
 
-pub unasked_dump : (a : Answers) (dump path : List ℕ) (force : Bool) (told : LabFault) → a.says_file path true → IsUnread a dump told → MayNotWrite a dump path force told
+pub unasked_dump : (a : Answers) (dump path : List ℕ) (force : Bool) (told : LabFault) → Stands a path → IsUnread a dump told → MayNotWrite a dump path force told
 unasked_dump a dump path force fault.OutOfMemory stands k = inr (stands, k)
 unasked_dump a dump path force (fault.Read word) stands k = inr (stands, k)
 unasked_dump a dump path force _ stands k = absurd k
+
+-- what stands at a path, and is no dump, is not replaced
+pub kept_there : (a : Answers) (dump path : List ℕ) (what : Standing) (force : Bool) (told : LabFault) → a.says path what → what ≢ standing.Nothing → a.says_same dump path false → IsKeptThere what force told → MayNotWrite a dump path force told
+kept_there a dump path what force fault.Exists said some other k = ((what, some, said), other, k)
+kept_there a dump path what force fault.NoFile said some other k = (subst (λ w. a.says path w) k.0 said, other, k.1)
+kept_there a dump path what force _ said some other k = absurd k

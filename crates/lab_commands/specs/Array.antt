@@ -1,8 +1,9 @@
 -- What the command `array` comes to.
-use Rattle.std.specs.Prelude.{◌≡◌, ◌⊎◌, ℕ, true, false, List, [], ◌∷◌, map, Option, Some, IfSome, IsSomeAnd}
+use Rattle.std.specs.Prelude.{◌≡◌, ◌⊎◌, ℕ, true, false, List, [], ◌∷◌, map, Option, Some, IfSome, IsSomeAnd, Bool}
 use Rattle.std.specs.Option.{option_map_or}
 use Rattle.std.specs.Io.KnownBytes.{Appends, Keeps}
 use Rattle.page_layout.specs.declared.geometry.Geometry.{Geometry}
+use Rattle.lab_dump.specs.declared.doubts.Doubts.{Doubts}
 use Rattle.lab_dump.specs.declared.held.Held.{Held}
 use Rattle.lab_dump.specs.Held.{state_in}
 use Rattle.lab_dump.specs.Written.{IsWritten}
@@ -11,8 +12,8 @@ use Rattle.lab_commands.specs.Reports.{array_text}
 use Rattle.lab_commands.specs.declared.words.ArrayWords.{ArrayWords}
 use Rattle.lab_commands.specs.declared.text.LabFault.{LabFault}
 use Rattle.lab_commands.specs.declared.text.LabFault.TheVariants as fault
-use Rattle.lab_commands.specs.Files.{Answers, IsOpened, Kept, with_kept}
-use Rattle.lab_commands.specs.Undone.{IsGeometryAt, IsHalfPrinted, IsNoGeometry, IsUnmade, IsUnread, IsUnwritten, LeavesAll, MayNotWrite, MayWrite, form_of}
+use Rattle.lab_commands.specs.Files.{Answers, IsOpened, Store, with_kept}
+use Rattle.lab_commands.specs.Undone.{IsGeometryAt, IsHalfPrinted, IsNoGeometry, IsMapUnplaced, IsUnmade, IsUnplaced, IsUnread, IsUnwritten, LeavesAll, MayNotWrite, MayWrite, form_of}
 
 -- ---- done
 
@@ -27,38 +28,44 @@ AllowsMap a words = IfSome words.map (λ file. a.says_same words.out.now file.no
 abbrev pub AreAllowed : Answers → ArrayWords → Type 0
 AreAllowed a words = IsAllowed a words × AllowsMap a words
 
--- the pieces are made of a dump that reads so: where its bytes are known the pieces, the states and the count are those of the image that
+-- the pieces are made of a dump that reads so: where its bytes are known the pieces, the states and the doubts are those of the image that
 -- they are
-pub record IsMade (a : Answers) (path : List ℕ) (g : Geometry) (pieces : Option (List (List ℕ))) (held : List Held) (unsound : ℕ) : Type 0 where
+pub record IsMade (a : Answers) (path : List ℕ) (g : Geometry) (pieces : Option (List (List ℕ))) (held : List Held) (doubts : Doubts) : Type 0 where
   pub known : Option (List ℕ)
   pub opened : IsOpened a path known
-  pub made : IfSome known (IsWritten g pieces held unsound)
+  pub made : IfSome known (IsWritten g pieces held doubts)
 
--- the array was made beside OUT, with these states and this count
-pub record MadeArray (a : Answers) (words : ArrayWords) (g : Geometry) (pieces : Option (List (List ℕ))) (held : List Held) (unsound : ℕ) : Type 0 where
+-- the array was made beside OUT, with these states and doubts
+pub record MadeArray (a : Answers) (words : ArrayWords) (g : Geometry) (pieces : Option (List (List ℕ))) (held : List Held) (doubts : Doubts) : Type 0 where
   pub geometry_is : IsGeometryAt words.geometry.now g
   pub allowed : AreAllowed a words
-  pub made : IsMade a words.dump.now g pieces held unsound
+  pub made : IsMade a words.dump.now g pieces held doubts
 
 -- the files once a map was put in the place of FILE, where one is wanted
-abbrev pub with_map : Option (List Kept) → ArrayWords → List ℕ → Option (List Kept)
-with_map kept words text = option_map_or (λ file. with_kept kept file.now (Some (text ∷ []))) words.map kept
+abbrev pub with_map : Option Store → ArrayWords → List ℕ → Option Store
+with_map kept words text = option_map_or (λ file. with_kept kept file.now (Some (text ∷ [])) words.force) words.map kept
 
 -- it was put in the place of OUT, and its map in that of FILE, where one is wanted
-pub record PutArray (a : Answers) (words : ArrayWords) (before after : Option (List Kept)) (g : Geometry) (held : List Held) (unsound : ℕ) : Type 0 where
+pub record PutArray (a : Answers) (words : ArrayWords) (before after : Option Store) (g : Geometry) (held : List Held) (doubts : Doubts) : Type 0 where
   pub pieces : Option (List (List ℕ))
-  pub made : MadeArray a words g pieces held unsound
-  pub put : after ≡ with_map (with_kept before words.out.now pieces) words (map_text g (map state_in held))
+  pub made : MadeArray a words g pieces held doubts
+  pub put : after ≡ with_map (with_kept before words.out.now pieces words.force) words (map_text g (map state_in held))
 
 -- and the report printed
-pub record WroteArray (a : Answers) (words : ArrayWords) (before after : Option (List Kept)) (out printed : Option (List ℕ)) : Type 0 where
+pub record WroteArray (a : Answers) (words : ArrayWords) (before after : Option Store) (out printed : Option (List ℕ)) : Type 0 where
   pub g : Geometry
   pub held : List Held
-  pub unsound : ℕ
-  pub put : PutArray a words before after g held unsound
-  pub told : Appends out printed (array_text (form_of words.showing) g (map state_in held) unsound)
+  pub doubts : Doubts
+  pub put : PutArray a words before after g held doubts
+  pub told : Appends out printed (array_text (form_of words.showing) g (map state_in held) doubts)
 
 -- ---- not done
+
+-- how it is told that what stands at FILE is not replaced
+abbrev pub as_map : LabFault → LabFault
+as_map fault.Exists = fault.MapExists
+as_map fault.NoFile = fault.MapNoFile
+as_map told = told
 
 -- OUT may not be written
 abbrev pub IsNotAllowed : Answers → ArrayWords → LabFault → Type 0
@@ -69,6 +76,7 @@ abbrev pub IsMapNotAllowed : Answers → ArrayWords → List ℕ → LabFault �
 IsMapNotAllowed a words file fault.MapIsOut = a.says_same words.out.now file true
 IsMapNotAllowed a words file fault.MapIsDump = MayNotWrite a words.dump.now file words.force fault.IsDump
 IsMapNotAllowed a words file fault.MapExists = MayNotWrite a words.dump.now file words.force fault.Exists
+IsMapNotAllowed a words file fault.MapNoFile = MayNotWrite a words.dump.now file words.force fault.NoFile
 IsMapNotAllowed a words file told = IsUnwritten a words.out.now told ⊎ IsUnwritten a file told ⊎ IsUnread a words.dump.now told
 
 -- a map is wanted, and FILE may not be written
@@ -79,32 +87,36 @@ HasMapFault a words told = IsSomeAnd words.map (λ file. IsMapNotAllowed a words
 abbrev pub AreNotAllowed : Answers → ArrayWords → LabFault → Type 0
 AreNotAllowed a words told = IsNotAllowed a words told ⊎ (IsAllowed a words × HasMapFault a words told)
 
--- a map is wanted, and memory for it was refused, or FILE was not written or not put in its place
+-- a map is wanted, and memory for it was refused, or FILE was not written or not put in its place, or another file has its name meanwhile
 abbrev pub IsUnmapped : Answers → ArrayWords → LabFault → Type 0
-IsUnmapped a words told = IsSomeAnd words.map (λ file. IsUnwritten a file.now told ⊎ (told ≡ fault.OutOfMemory))
+IsUnmapped a words told = IsSomeAnd words.map (λ file. IsMapUnplaced a file.now words.force told ⊎ (told ≡ fault.OutOfMemory))
+
+-- no array was made, or it did not get its name
+abbrev pub IsUnput : Answers → Geometry → ArrayWords → LabFault → Type 0
+IsUnput a g words told = IsUnmade a g words.dump.now words.out.now told ⊎ IsUnplaced a words.out.now words.force told
 
 -- The first of this order: the geometry; whether OUT may be written, and FILE; the dump and OUT.
-abbrev pub IsUnput : Answers → ArrayWords → LabFault → Type 0
-IsUnput a words told =
+abbrev pub IsUndone : Answers → ArrayWords → LabFault → Type 0
+IsUndone a words told =
     IsNoGeometry words.geometry.now told
-    ⊎ ((g : Geometry) × IsGeometryAt words.geometry.now g × (AreNotAllowed a words told ⊎ (AreAllowed a words × IsUnmade a g words.dump.now words.out.now told)))
+    ⊎ ((g : Geometry) × IsGeometryAt words.geometry.now g × (AreNotAllowed a words told ⊎ (AreAllowed a words × IsUnput a g words told)))
 
 -- The array was put in place and nothing printed, but its map was not put in its.
-pub record PutUnmapped (a : Answers) (words : ArrayWords) (before after : Option (List Kept)) (out printed : Option (List ℕ)) (told : LabFault) : Type 0 where
+pub record PutUnmapped (a : Answers) (words : ArrayWords) (before after : Option Store) (out printed : Option (List ℕ)) (told : LabFault) : Type 0 where
   pub g : Geometry
   pub pieces : Option (List (List ℕ))
   pub held : List Held
-  pub unsound : ℕ
-  pub made : MadeArray a words g pieces held unsound
-  pub put : after ≡ with_kept before words.out.now pieces
+  pub doubts : Doubts
+  pub made : MadeArray a words g pieces held doubts
+  pub put : after ≡ with_kept before words.out.now pieces words.force
   pub silent : Keeps out printed
   pub unmapped : IsUnmapped a words told
 
 -- No array was put in place and nothing printed, for one of these reasons; or it was, and no map; or both were, and a
 -- beginning of the report printed.
-abbrev pub IsArrayFault : Answers → ArrayWords → Option (List Kept) → Option (List Kept) → Option (List ℕ) → Option (List ℕ) → LabFault → Type 0
-IsArrayFault a words before after out printed told =
-    (LeavesAll before after out printed × IsUnput a words told)
+abbrev pub IsArrayFault : Answers → ArrayWords → Option Store → Option Store → (broke : Bool) → Option (List ℕ) → Option (List ℕ) → LabFault → Type 0
+IsArrayFault a words before after broke out printed told =
+    (LeavesAll before after out printed × IsUndone a words told)
     ⊎ PutUnmapped a words before after out printed told
-    ⊎ ((g : Geometry) × (held : List Held) × (unsound : ℕ) × PutArray a words before after g held unsound
-    × IsHalfPrinted out printed (array_text (form_of words.showing) g (map state_in held) unsound) told)
+    ⊎ ((g : Geometry) × (held : List Held) × (doubts : Doubts) × PutArray a words before after g held doubts
+    × IsHalfPrinted broke out printed (array_text (form_of words.showing) g (map state_in held) doubts) told)

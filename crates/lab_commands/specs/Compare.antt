@@ -1,5 +1,5 @@
 -- What the command `compare` comes to.
-use Rattle.std.specs.Prelude.{◌≡◌, ◌≢◌, ◌⊎◌, ℕ, ◌^◌, List, take, Option, IfSome}
+use Rattle.std.specs.Prelude.{◌≡◌, ◌≢◌, ◌⊎◌, ℕ, ◌^◌, List, take, Option, IfSome, Bool}
 use Rattle.std.specs.Io.KnownBytes.{Appends}
 use Rattle.page_layout.specs.declared.geometry.Geometry.{Geometry}
 use Rattle.certificate.specs.Claim.{Claim, sizes_of}
@@ -11,14 +11,17 @@ use Rattle.lab_commands.specs.Reports.{compare_text}
 use Rattle.lab_commands.specs.declared.words.CompareWords.{CompareWords}
 use Rattle.lab_commands.specs.declared.text.LabFault.{LabFault}
 use Rattle.lab_commands.specs.declared.text.LabFault.TheVariants as fault
-use Rattle.lab_commands.specs.Files.{Answers, IsOpened, Kept}
+use Rattle.lab_commands.specs.Files.{Answers, IsOpened, Store}
 use Rattle.lab_commands.specs.Undone.{IsGeometryAt, IsHalfPrinted, IsNoGeometry, IsUnread, IsUntaken, LeavesAll, Opens, form_of}
 
 -- ---- the certificate
 
 -- so many bytes of a certificate's file are looked at: no certificate has as many
+abbrev pub most_bytes : ℕ
+most_bytes = 2 ^ 26
+
 abbrev pub looked_at : List ℕ → List ℕ
-looked_at bytes = take (2 ^ 26) bytes
+looked_at bytes = take most_bytes bytes
 
 -- the file's bytes, as far as they are known, spell this claim
 pub record IsCertificateAt (a : Answers) (path : List ℕ) (c : Claim) : Type 0 where
@@ -38,12 +41,10 @@ pub record OpensBroken (a : Answers) (path : List ℕ) (told : LabFault) : Type 
   pub opened : IsOpened a path known
   pub broken : IfSome known (λ bytes. IsBroken bytes told)
 
--- Why there is no certificate: its file was not opened, a read of it failed or memory was refused, or its bytes are none.
+-- Why there is no certificate: its file was not read, or its bytes are none.
 abbrev pub HasNone : Answers → List ℕ → LabFault → Type 0
-HasNone a path (fault.Read told) = (told.now ≡ path) × (IsUnread a path (fault.Read told) ⊎ Opens a path)
 HasNone a path (fault.Certificate broken) = OpensBroken a path (fault.Certificate broken)
-HasNone a path fault.OutOfMemory = IsUnread a path fault.OutOfMemory ⊎ Opens a path
-HasNone a path _ = ⊥
+HasNone a path told = IsUnread a path told
 
 -- ---- done
 
@@ -87,7 +88,7 @@ IsUncompared a words told =
     ⊎ ((c : Claim) × IsCertificateAt a words.certificate.now c × IsUnheld a g c words.dump.now told)))
 
 -- nothing was printed, for one of these reasons, or a beginning of what the dump comes to was
-abbrev pub IsCompareFault : Answers → CompareWords → Option (List Kept) → Option (List Kept) → Option (List ℕ) → Option (List ℕ) → LabFault → Type 0
-IsCompareFault a words before after out printed told =
+abbrev pub IsCompareFault : Answers → CompareWords → Option Store → Option Store → (broke : Bool) → Option (List ℕ) → Option (List ℕ) → LabFault → Type 0
+IsCompareFault a words before after broke out printed told =
     (LeavesAll before after out printed × IsUncompared a words told)
-    ⊎ ((after ≡ before) × ((g : Geometry) × (compared : Compared) × HasCompared a words g compared × IsHalfPrinted out printed (compare_text (form_of words.showing) g compared) told))
+    ⊎ ((after ≡ before) × ((g : Geometry) × (compared : Compared) × HasCompared a words g compared × IsHalfPrinted broke out printed (compare_text (form_of words.showing) g compared) told))

@@ -1,13 +1,14 @@
 -- A document of lines. As plain text: each line and a line feed. As JSON: one array, whose first element names the program and the command, and
 -- whose others are the lines, each on a line of its own.
-use Rattle.std.specs.Prelude.{ℕ, zero, suc, List, [], ◌∷◌, ◌++◌, codes, Option, Some, None, Result, Ok, Err}
+use Rattle.std.specs.Prelude.{◌≡◌, ℕ, zero, suc, Bool, true, List, [], ◌∷◌, ◌++◌, codes, Option, Some, None, Result, Ok, Err}
 use Rattle.std.specs.Io.KnownBytes.{Appends}
 use Rattle.serde_json.specs.Written.{compact_text}
-use Rattle.request_stream.specs.Frames.{AppendsFront}
+use Rattle.request_stream.specs.Frames.{AppendsFront, AppendsPart}
 use Rattle.lab_commands.specs.declared.lines.Line.{Line}
 use Rattle.lab_commands.specs.declared.document.Form.{Form}
 use Rattle.lab_commands.specs.declared.document.Form.TheVariants.{Text, Json}
 use Rattle.lab_commands.specs.declared.document.PrintFault.{PrintFault}
+use Rattle.lab_commands.specs.declared.document.PrintFault.TheVariants.{Failed, OutOfMemory}
 use Rattle.lab_commands.specs.Lines.{line_words}
 use Rattle.lab_commands.specs.Values.{head_data, line_data}
 
@@ -36,7 +37,12 @@ unfoldable pub text_below : Form → (ℕ → Option Line) → ℕ → List ℕ
 text_below form f zero = []
 text_below form f (suc n) = text_below form f n ++ if_text form (f n)
 
--- What was due was printed; or, where printing failed, a beginning of it.
-abbrev pub Prints : {T : Type 0} → Option (List ℕ) → Option (List ℕ) → List ℕ → Result T PrintFault → Type 0
-Prints before after due (Ok done) = Appends before after due
-Prints before after due (Err fault) = AppendsFront before after due
+-- Why it was not: a write failed, and a part of it was printed and never all; or memory was refused, and a beginning of it was.
+abbrev pub Stops : PrintFault → (broke : Bool) → Option (List ℕ) → Option (List ℕ) → List ℕ → Type 0
+Stops Failed broke before after due = (broke ≡ true) × AppendsPart before after due
+Stops OutOfMemory broke before after due = AppendsFront before after due
+
+-- What was due was printed; or it was not, for one of these reasons.
+abbrev pub Prints : {T : Type 0} → (broke : Bool) → Option (List ℕ) → Option (List ℕ) → List ℕ → Result T PrintFault → Type 0
+Prints broke before after due (Ok done) = Appends before after due
+Prints broke before after due (Err fault) = Stops fault broke before after due

@@ -1,5 +1,5 @@
 -- What the command `geometry` comes to.
-use Rattle.std.specs.Prelude.{◌≡◌, ◌⊎◌, ◌<◌, ℕ, All, List, [], length, Option, IfSome, IsPermutation}
+use Rattle.std.specs.Prelude.{◌≡◌, ◌⊎◌, ◌<◌, ℕ, All, List, [], length, Option, IfSome, IsPermutation, Bool}
 use Rattle.std.specs.List.Sorted.{IsSorted}
 use Rattle.std.specs.Io.KnownBytes.{Appends}
 use Rattle.lab_dump.specs.declared.fit.Fit.{Fit}
@@ -8,7 +8,7 @@ use Rattle.lab_commands.specs.Reports.{fits_text}
 use Rattle.lab_commands.specs.declared.words.GeometryWords.{GeometryWords}
 use Rattle.lab_commands.specs.declared.text.LabFault.{LabFault}
 use Rattle.lab_commands.specs.declared.text.LabFault.TheVariants as fault
-use Rattle.lab_commands.specs.Files.{Answers, IsOpened, Kept}
+use Rattle.lab_commands.specs.Files.{Answers, IsOpened, Store}
 use Rattle.lab_commands.specs.Undone.{IsHalfPrinted, IsUnread, LeavesAll, Opens, form_of}
 
 -- ---- done
@@ -36,10 +36,10 @@ pub record FitsNone (a : Answers) (path : List ℕ) : Type 0 where
   pub opened : IsOpened a path known
   pub none : IfSome known (λ bytes. fits_of bytes ≡ [])
 
--- Why no geometries of a dump that was opened were found. When a read fails is the dump's own, and when memory is refused.
+-- Why no geometries of a dump that was opened were found: a read failed, or memory was refused, or none fits it.
 abbrev pub IsUnfitted : Answers → List ℕ → LabFault → Type 0
 IsUnfitted a path fault.NoneFits = FitsNone a path
-IsUnfitted a path (fault.Read told) = (told.now ≡ path) × Opens a path
+IsUnfitted a path (fault.Read told) = (told.now ≡ path) × Opens a path × a.reads_fail
 IsUnfitted a path fault.OutOfMemory = Opens a path
 IsUnfitted a path _ = ⊥
 
@@ -48,7 +48,7 @@ abbrev pub IsUnfound : Answers → List ℕ → LabFault → Type 0
 IsUnfound a path told = IsUnread a path told ⊎ IsUnfitted a path told
 
 -- nothing was printed, for one of these reasons, or a beginning of the list was
-abbrev pub IsGeometryFault : Answers → GeometryWords → Option (List Kept) → Option (List Kept) → Option (List ℕ) → Option (List ℕ) → LabFault → Type 0
-IsGeometryFault a words before after out printed told =
+abbrev pub IsGeometryFault : Answers → GeometryWords → Option Store → Option Store → (broke : Bool) → Option (List ℕ) → Option (List ℕ) → LabFault → Type 0
+IsGeometryFault a words before after broke out printed told =
     (LeavesAll before after out printed × IsUnfound a words.dump.now told)
-    ⊎ ((after ≡ before) × ((fits : List Fit) × AreFound a words.dump.now fits × IsHalfPrinted out printed (fits_text (form_of words.showing) fits) told))
+    ⊎ ((after ≡ before) × ((fits : List Fit) × AreFound a words.dump.now fits × IsHalfPrinted broke out printed (fits_text (form_of words.showing) fits) told))

@@ -12,6 +12,10 @@ pub mod Document
 pub mod Reports
 -- how a refusal is told
 pub mod Text
+-- how a name is printed
+pub mod Names
+-- what is written, all of it or a part
+pub mod Output
 -- where a command ends before its work
 pub mod Undone
 pub mod Rows

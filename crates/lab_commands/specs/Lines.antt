@@ -6,7 +6,12 @@ use Rattle.lab_dump.specs.declared.held.State.{State}
 use Rattle.lab_dump.specs.declared.held.State.TheVariants as state
 use Rattle.lab_dump.specs.declared.fit.Fit.{Fit}
 use Rattle.lab_dump.specs.declared.fit.TableSays.{TableSays}
-use Rattle.lab_dump.specs.declared.fit.TableSays.TheVariants.{Agrees, Silent, Differs}
+use Rattle.lab_dump.specs.declared.fit.TableSays.TheVariants.{Agrees, Short, Silent, Differs}
+use Rattle.lab_dump.specs.declared.doubts.Doubts.{Doubts}
+use Rattle.lab_dump.specs.declared.rows.Rows.{Rows}
+use Rattle.lab_dump.specs.Doubts.{most_older}
+use Rattle.lab_mend.specs.declared.mending.Made.{Made}
+use Rattle.lab_mend.specs.declared.mending.Made.TheVariants as made
 use Rattle.lab_mend.specs.declared.merging.Tally.{Tally}
 use Rattle.lab_commands.specs.declared.lines.Label.{Label}
 use Rattle.lab_commands.specs.declared.lines.Label.TheVariants as label
@@ -14,7 +19,7 @@ use Rattle.lab_commands.specs.declared.lines.Sort.{Sort}
 use Rattle.lab_commands.specs.declared.lines.Sort.TheVariants as sort
 use Rattle.lab_commands.specs.declared.lines.Line.{Line}
 use Rattle.lab_commands.specs.declared.lines.Line.TheVariants.{Pages, NumberRange, Repeated, NotFormatted, TableDamaged, LastSequence, Tied, Missing, Block, PlainBlock, Lost}
-use Rattle.lab_commands.specs.declared.lines.Line.TheVariants.{Mended, MendedCount, Differ, Unsound, Merged, Age}
+use Rattle.lab_commands.specs.declared.lines.Line.TheVariants.{OfRows, Holes, Outside, Mended, MendedCount, Differ, Unsound, Merged, Age, AgeOfRows}
 use Rattle.lab_commands.specs.declared.lines.Line.TheVariants as line
 
 -- ---- words
@@ -40,8 +45,14 @@ class_words c =
 -- what the table of blocks says of the number of blocks
 abbrev pub says_words : TableSays → List ℕ
 says_words Agrees = codes "agrees"
+says_words Short = codes "short"
 says_words Silent = codes "silent"
 says_words Differs = codes "differs"
+
+-- what a mended page is: a sound one, or an erased one
+abbrev pub made_words : Made → List ℕ
+made_words made.Sound = codes "mended"
+made_words made.Erased = codes "erased"
 
 -- ---- parts of lines
 
@@ -74,10 +85,17 @@ tally_words differ t =
     codes "sound " ++ (decimal t.sound ++ (codes " differ " ++ (decimal differ ++ (codes " majority " ++ (decimal t.majority ++ (
     codes " erased " ++ (decimal t.erased ++ (codes " unsound " ++ decimal t.unsound))))))))
 
--- how far the array may be from the last write, by how many pages are neither erased nor sound
-abbrev pub age_words : ℕ → List ℕ
-age_words zero = codes "unsound 0: the array is that of every page that was programmed"
-age_words (suc n) = codes "unsound " ++ (decimal (suc n) ++ (codes ": at most " ++ (decimal (suc n) ++ codes " sectors may be older than the last write")))
+-- how far the array may be from the last write: it is that of every page, or lacks sectors, or so many may be older
+abbrev pub claim_words : Doubts → List ℕ
+claim_words d =
+    if most_older d == 0
+    then (if d.outside == 0 then codes ": the array is that of every page that was programmed"
+    else codes ": of these sectors the array is that of every page that was programmed")
+    else (codes ": at most " ++ (decimal (most_older d) ++ codes " sectors may be older than the last write"))
+
+-- the same behind how many pages are neither erased nor sound, and before what it rests on
+abbrev pub age_words : Doubts → List ℕ
+age_words d = codes "unsound " ++ (decimal d.unsound ++ (claim_words d ++ codes ", if no page was lost behind the last one of its block"))
 
 -- a line, without its line feed
 unfoldable pub line_words : Line → List ℕ
@@ -93,12 +111,16 @@ line_words (Block block s unsound) = block_words block s unsound
 line_words (PlainBlock block unsound) = codes "block " ++ (decimal block ++ (codes " unsound " ++ decimal unsound))
 line_words (Lost sector) = codes "lost sector " ++ decimal sector
 line_words (line.Fit f) = fit_words f
-line_words (Mended row bit) = codes "mended row " ++ (decimal row ++ (codes " bit " ++ decimal bit))
+line_words (Mended how row bit) = made_words how ++ (codes " row " ++ (decimal row ++ (codes " bit " ++ decimal bit)))
 line_words (MendedCount n) = codes "mended " ++ decimal n
 line_words (Differ row) = codes "differ row " ++ decimal row
 line_words (Unsound row) = codes "unsound row " ++ decimal row
 line_words (Merged differ t) = tally_words differ t
-line_words (Age n) = age_words n
+line_words (Age d) = age_words d
+line_words (AgeOfRows n) = codes "unsound " ++ (decimal n ++ codes ": of these rows alone, of others nothing is told")
+line_words (OfRows rows) = codes "rows " ++ (decimal rows.first ++ (codes ".." ++ decimal rows.end))
+line_words (Holes n) = codes "holes " ++ decimal n
+line_words (Outside n) = codes "outside " ++ decimal n
 
 -- ---- which lines there are
 
@@ -110,6 +132,19 @@ outside_line (suc n) = Some (NumberRange (suc n))
 abbrev pub last_line : ℕ → Option Line
 last_line zero = None
 last_line (suc n) = Some (LastSequence (suc n))
+
+-- pages that were lost, or that are of a sector past the last one, where there are some
+abbrev pub hole_line : ℕ → Option Line
+hole_line zero = None
+hole_line (suc n) = Some (Holes (suc n))
+
+abbrev pub past_line : ℕ → Option Line
+past_line zero = None
+past_line (suc n) = Some (Outside (suc n))
+
+-- the rows that were asked for, where not all are
+abbrev pub rows_line : Option Rows → Option Line
+rows_line rows = option_map OfRows rows
 
 abbrev pub repeated_line : Option (ℕ × ℕ) → Option Line
 repeated_line rows = option_map (λ pair. Repeated pair.0 pair.1) rows

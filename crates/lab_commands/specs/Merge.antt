@@ -10,11 +10,12 @@ use Rattle.lab_mend.specs.InStep.{Tell}
 use Rattle.lab_mend.specs.Merged.{IsMerged, IsOwnMerge}
 use Rattle.lab_commands.specs.Reports.{merge_text}
 use Rattle.lab_commands.specs.declared.words.MergeWords.{MergeWords}
+use Rattle.lab_commands.specs.declared.files.Standing.TheVariants as standing
 use Rattle.program_words.specs.Met.{texts}
 use Rattle.lab_commands.specs.declared.text.LabFault.{LabFault}
 use Rattle.lab_commands.specs.declared.text.LabFault.TheVariants as fault
-use Rattle.lab_commands.specs.Files.{Answers, IsOpened, Kept, with_kept}
-use Rattle.lab_commands.specs.Undone.{IsGeometryAt, IsHalfPrinted, IsNoGeometry, IsUnread, IsUnwritten, LeavesAll, form_of}
+use Rattle.lab_commands.specs.Files.{Answers, IsOpened, Stands, Store, with_kept}
+use Rattle.lab_commands.specs.Undone.{IsGeometryAt, IsHalfPrinted, IsNoGeometry, IsUnplaced, IsUnread, IsUnwritten, LeavesAll, form_of}
 
 -- ---- the dumps
 
@@ -45,15 +46,17 @@ abbrev pub HasSame : Answers → List (List ℕ) → List ℕ → Bool → Type 
 HasSame a paths out true = (i : ℕ) × (i < length paths) × a.says_same (get_or paths i []) out true
 HasSame a paths out false = AreOthersBelow a paths out (length paths)
 
--- there is no file OUT, or it is none of the dumps and may be replaced
+-- nothing stands at OUT, or a file that is none of the dumps and may be replaced
 abbrev pub MayMerge : Answers → MergeWords → Type 0
-MayMerge a words = a.says_file words.out.now false ⊎ (a.says_file words.out.now true × HasSame a (dumps_of words) words.out.now false × (words.force ≡ true))
+MayMerge a words =
+    a.says words.out.now standing.Nothing ⊎ (a.says words.out.now standing.File × HasSame a (dumps_of words) words.out.now false × (words.force ≡ true))
 
--- there is such a file: it is one of the dumps, or may not be replaced; or they could not be asked
+-- something stands there: it is one of the dumps, or is not to be replaced, or is no file; or they could not be asked
 abbrev pub MayNotMerge : Answers → MergeWords → LabFault → Type 0
-MayNotMerge a words fault.IsDump = a.says_file words.out.now true × HasSame a (dumps_of words) words.out.now true
-MayNotMerge a words fault.Exists = a.says_file words.out.now true × HasSame a (dumps_of words) words.out.now false × (words.force ≡ false)
-MayNotMerge a words told = IsUnwritten a words.out.now told ⊎ (a.says_file words.out.now true × IsSomeUnread a (dumps_of words) told)
+MayNotMerge a words fault.IsDump = Stands a words.out.now × HasSame a (dumps_of words) words.out.now true
+MayNotMerge a words fault.Exists = Stands a words.out.now × HasSame a (dumps_of words) words.out.now false × (words.force ≡ false)
+MayNotMerge a words fault.NoFile = a.says words.out.now standing.Other × HasSame a (dumps_of words) words.out.now false × (words.force ≡ true)
+MayNotMerge a words told = IsUnwritten a words.out.now told ⊎ (Stands a words.out.now × IsSomeUnread a (dumps_of words) told)
 
 -- ---- done
 
@@ -67,16 +70,16 @@ pub record IsJoined (a : Answers) (paths : List (List ℕ)) (g : Geometry) (piec
   pub own : IsOwnMerge g conflicts unsound pieces
 
 -- the one dump was put in the place of OUT
-pub record PutMerge (a : Answers) (words : MergeWords) (before after : Option (List Kept)) (conflicts unsound : List ℕ) (tally : Tally) : Type 0 where
+pub record PutMerge (a : Answers) (words : MergeWords) (before after : Option Store) (conflicts unsound : List ℕ) (tally : Tally) : Type 0 where
   pub g : Geometry
   pub pieces : Option (List (List ℕ))
   pub geometry_is : IsGeometryAt words.geometry.now g
   pub allowed : MayMerge a words
   pub made : IsJoined a (dumps_of words) g pieces conflicts unsound tally
-  pub put : after ≡ with_kept before words.out.now pieces
+  pub put : after ≡ with_kept before words.out.now pieces words.force
 
 -- and the rows that differ or are unsound and the counts were printed
-pub record WroteMerge (a : Answers) (words : MergeWords) (before after : Option (List Kept)) (out printed : Option (List ℕ)) : Type 0 where
+pub record WroteMerge (a : Answers) (words : MergeWords) (before after : Option Store) (out printed : Option (List ℕ)) : Type 0 where
   pub conflicts : List ℕ
   pub unsound : List ℕ
   pub tally : Tally
@@ -107,11 +110,11 @@ abbrev pub IsUnopened : Answers → List (List ℕ) → LabFault → Type 0
 IsUnopened a paths fault.OutOfMemory = Unit {0}
 IsUnopened a paths told = IsSomeUnread a paths told
 
--- Why dumps that were opened were not merged. When a read or a write fails is the reader's or the file's own, and when memory is refused.
+-- Why dumps that were opened were not merged: a read or a write failed, or memory was refused.
 abbrev pub IsUnmergedTo : Answers → List (List ℕ) → Geometry → List ℕ → LabFault → Type 0
 IsUnmergedTo a paths g out (fault.DumpLength told) = HasOddLength a paths g told.now
-IsUnmergedTo a paths g out (fault.Read told) = IsOneOf paths told.now × OpensEach a paths
-IsUnmergedTo a paths g out (fault.Write told) = (told.now ≡ out) × OpensEach a paths
+IsUnmergedTo a paths g out (fault.Read told) = IsOneOf paths told.now × OpensEach a paths × a.reads_fail
+IsUnmergedTo a paths g out (fault.Write told) = (told.now ≡ out) × OpensEach a paths × a.writes_fail
 IsUnmergedTo a paths g out fault.OutOfMemory = OpensEach a paths
 IsUnmergedTo a paths g out _ = ⊥
 
@@ -132,11 +135,11 @@ abbrev pub IsUnmergedBy : Answers → MergeWords → LabFault → Type 0
 IsUnmergedBy a words told =
     IsNoGeometry words.geometry.now told
     ⊎ ((g : Geometry) × IsGeometryAt words.geometry.now g × (MayNotMerge a words told
-    ⊎ (MayMerge a words × IsUnjoined a (dumps_of words) g words.out.now told)))
+    ⊎ (MayMerge a words × (IsUnjoined a (dumps_of words) g words.out.now told ⊎ IsUnplaced a words.out.now words.force told))))
 
 -- No dump was put in place and nothing printed, for one of these reasons; or it was put in place, and a beginning of the list printed.
-abbrev pub IsMergeFault : Answers → MergeWords → Option (List Kept) → Option (List Kept) → Option (List ℕ) → Option (List ℕ) → LabFault → Type 0
-IsMergeFault a words before after out printed told =
+abbrev pub IsMergeFault : Answers → MergeWords → Option Store → Option Store → (broke : Bool) → Option (List ℕ) → Option (List ℕ) → LabFault → Type 0
+IsMergeFault a words before after broke out printed told =
     (LeavesAll before after out printed × IsUnmergedBy a words told)
     ⊎ ((conflicts : List ℕ) × (unsound : List ℕ) × (tally : Tally) × PutMerge a words before after conflicts unsound tally
-    × IsHalfPrinted out printed (merge_text (form_of words.showing) conflicts unsound tally) told)
+    × IsHalfPrinted broke out printed (merge_text (form_of words.showing) conflicts unsound tally) told)

@@ -1,12 +1,12 @@
 -- What a run of the program comes to.
-use Rattle.std.specs.Prelude.{◌≡◌, ◌⊎◌, ℕ, List, Option, string_bytes}
+use Rattle.std.specs.Prelude.{◌≡◌, ◌⊎◌, ℕ, Bool, List, Option, string_bytes}
 use Rattle.std.specs.Io.KnownBytes.{Appends, Keeps}
 use Rattle.lab_commands.specs.declared.words.Asked.{Asked}
 use Rattle.lab_commands.specs.declared.words.Asked.TheVariants as asked
 use Rattle.lab_commands.specs.Words.{IsAsked, IsNoCommand}
 use Rattle.lab_commands.specs.declared.text.LabFault.{LabFault}
 use Rattle.lab_commands.specs.declared.text.LabFault.TheVariants.{NoSuchCommand, OutOfMemory}
-use Rattle.lab_commands.specs.Files.{Answers, Kept}
+use Rattle.lab_commands.specs.Files.{Answers, Store}
 use Rattle.lab_commands.specs.Text.{IsTold}
 use Rattle.lab_commands.specs.Array.{WroteArray, IsArrayFault}
 use Rattle.lab_commands.specs.Survey.{ToldSurvey, IsSurveyFault}
@@ -19,7 +19,7 @@ use Rattle.lab_commands.specs.Undone.{IsHalfPrinted, LeavesAll}
 -- ---- done
 
 -- the words asked for an array, a merge or a repair, which was written, or for geometries, a survey, a comparison or a text, which was printed
-abbrev pub DoesAsked : Answers → Asked → Option (List Kept) → Option (List Kept) → Option (List ℕ) → Option (List ℕ) → Type 0
+abbrev pub DoesAsked : Answers → Asked → Option Store → Option Store → Option (List ℕ) → Option (List ℕ) → Type 0
 DoesAsked a (asked.Geometry read) before after out printed = (after ≡ before) × ToldFits a read out printed
 DoesAsked a (asked.Array read) before after out printed = WroteArray a read before after out printed
 DoesAsked a (asked.Survey read) before after out printed = (after ≡ before) × ToldSurvey a read out printed
@@ -28,20 +28,20 @@ DoesAsked a (asked.Merge read) before after out printed = WroteMerge a read befo
 DoesAsked a (asked.Repair read) before after out printed = WroteRepair a read before after out printed
 DoesAsked a (asked.Text text) before after out printed = (after ≡ before) × Appends out printed (string_bytes text)
 
-abbrev pub Obeyed : Answers → List (List ℕ) → Option (List Kept) → Option (List Kept) → Option (List ℕ) → Option (List ℕ) → Type 0
+abbrev pub Obeyed : Answers → List (List ℕ) → Option Store → Option Store → Option (List ℕ) → Option (List ℕ) → Type 0
 Obeyed a words before after out printed = (found : Asked) × IsAsked words found × DoesAsked a found before after out printed
 
 -- ---- not done
 
 -- why what was asked for was not done
-abbrev pub IsFaultOf : Answers → Asked → Option (List Kept) → Option (List Kept) → Option (List ℕ) → Option (List ℕ) → LabFault → Type 0
-IsFaultOf a (asked.Geometry read) before after out printed told = IsGeometryFault a read before after out printed told
-IsFaultOf a (asked.Array read) before after out printed told = IsArrayFault a read before after out printed told
-IsFaultOf a (asked.Survey read) before after out printed told = IsSurveyFault a read before after out printed told
-IsFaultOf a (asked.Compare read) before after out printed told = IsCompareFault a read before after out printed told
-IsFaultOf a (asked.Merge read) before after out printed told = IsMergeFault a read before after out printed told
-IsFaultOf a (asked.Repair read) before after out printed told = IsRepairFault a read before after out printed told
-IsFaultOf a (asked.Text text) before after out printed told = (after ≡ before) × IsHalfPrinted out printed (string_bytes text) told
+abbrev pub IsFaultOf : Answers → Asked → Option Store → Option Store → (broke : Bool) → Option (List ℕ) → Option (List ℕ) → LabFault → Type 0
+IsFaultOf a (asked.Geometry read) before after broke out printed told = IsGeometryFault a read before after broke out printed told
+IsFaultOf a (asked.Array read) before after broke out printed told = IsArrayFault a read before after broke out printed told
+IsFaultOf a (asked.Survey read) before after broke out printed told = IsSurveyFault a read before after broke out printed told
+IsFaultOf a (asked.Compare read) before after broke out printed told = IsCompareFault a read before after broke out printed told
+IsFaultOf a (asked.Merge read) before after broke out printed told = IsMergeFault a read before after broke out printed told
+IsFaultOf a (asked.Repair read) before after broke out printed told = IsRepairFault a read before after broke out printed told
+IsFaultOf a (asked.Text text) before after broke out printed told = (after ≡ before) × IsHalfPrinted broke out printed (string_bytes text) told
 
 -- the words are no command, or memory for them was refused
 abbrev pub IsUnasked : List (List ℕ) → LabFault → Type 0
@@ -50,15 +50,21 @@ IsUnasked words OutOfMemory = Unit {0}
 IsUnasked words _ = ⊥
 
 -- Why the words were not obeyed, and what was left then.
-abbrev pub IsRefused : Answers → List (List ℕ) → Option (List Kept) → Option (List Kept) → Option (List ℕ) → Option (List ℕ) → LabFault → Type 0
-IsRefused a words before after out printed told =
+abbrev pub IsRefused : Answers → List (List ℕ) → Option Store → Option Store → (broke : Bool) → Option (List ℕ) → Option (List ℕ) → LabFault → Type 0
+IsRefused a words before after broke out printed told =
     (LeavesAll before after out printed × IsUnasked words told)
-    ⊎ ((found : Asked) × IsAsked words found × IsFaultOf a found before after out printed told)
+    ⊎ ((found : Asked) × IsAsked words found × IsFaultOf a found before after broke out printed told)
 
 -- ---- both
 
+-- What a writer holds before a run and after it, and whether a write to it has failed.
+pub record Written : Type 0 where
+  pub before : Option (List ℕ)
+  pub after : Option (List ℕ)
+  pub broke : Bool
+
 -- status 0 where all was done, with nothing on standard error; else the fault's line there, and its status
-abbrev pub Runs : Answers → List (List ℕ) → Option (List Kept) → Option (List Kept) → Option (List ℕ) → Option (List ℕ) → Option (List ℕ) → Option (List ℕ) → ℕ → Type 0
-Runs a words before after out printed told telling status =
-    (Obeyed a words before after out printed × (status ≡ 0) × Keeps told telling)
-    ⊎ ((fault : LabFault) × IsRefused a words before after out printed fault × IsTold fault told telling status)
+abbrev pub Runs : Answers → List (List ℕ) → Option Store → Option Store → (out err : Written) → ℕ → Type 0
+Runs a words before after out err status =
+    (Obeyed a words before after out.before out.after × (status ≡ 0) × Keeps err.before err.after)
+    ⊎ ((fault : LabFault) × IsRefused a words before after out.broke out.before out.after fault × IsTold fault err.broke err.before err.after status)

@@ -1,5 +1,5 @@
 -- What the command `repair` comes to.
-use Rattle.std.specs.Prelude.{◌≡◌, ◌⊎◌, ℕ, List, Option, IfSome}
+use Rattle.std.specs.Prelude.{◌≡◌, ◌⊎◌, ℕ, List, Option, IfSome, Bool}
 use Rattle.std.specs.Io.KnownBytes.{Appends}
 use Rattle.page_layout.specs.declared.geometry.Geometry.{Geometry}
 use Rattle.lab_dump.specs.declared.rows.Rows.{Rows}
@@ -9,9 +9,9 @@ use Rattle.lab_commands.specs.Reports.{repair_text}
 use Rattle.lab_commands.specs.declared.words.RepairWords.{RepairWords}
 use Rattle.lab_commands.specs.declared.text.LabFault.{LabFault}
 use Rattle.lab_commands.specs.declared.text.LabFault.TheVariants as fault
-use Rattle.lab_commands.specs.Files.{Answers, IsOpened, Kept, with_kept}
+use Rattle.lab_commands.specs.Files.{Answers, IsOpened, Store, with_kept}
 use Rattle.lab_commands.specs.Rows.{AreNoRows, AreRowsAt}
-use Rattle.lab_commands.specs.Undone.{IsGeometryAt, IsNoGeometry, IsHalfPrinted, IsUnmade, LeavesAll, MayNotWrite, MayWrite, form_of}
+use Rattle.lab_commands.specs.Undone.{IsGeometryAt, IsNoGeometry, IsHalfPrinted, IsUnmade, IsUnplaced, LeavesAll, MayNotWrite, MayWrite, form_of}
 
 -- ---- done
 
@@ -24,7 +24,7 @@ pub record IsMended (a : Answers) (path : List ℕ) (g : Geometry) (rows : Optio
   pub own : IsOwnRepair g rows pieces mends
 
 -- the mended dump was put in the place of OUT
-pub record PutRepair (a : Answers) (words : RepairWords) (before after : Option (List Kept)) (mends : List Mend) : Type 0 where
+pub record PutRepair (a : Answers) (words : RepairWords) (before after : Option Store) (mends : List Mend) : Type 0 where
   pub g : Geometry
   pub rows : Option Rows
   pub pieces : Option (List (List ℕ))
@@ -32,10 +32,10 @@ pub record PutRepair (a : Answers) (words : RepairWords) (before after : Option 
   pub rows_are : AreRowsAt words.rows g rows
   pub allowed : MayWrite a words.dump.now words.out.now words.force
   pub made : IsMended a words.dump.now g rows pieces mends
-  pub put : after ≡ with_kept before words.out.now pieces
+  pub put : after ≡ with_kept before words.out.now pieces words.force
 
 -- and what was mended was printed
-pub record WroteRepair (a : Answers) (words : RepairWords) (before after : Option (List Kept)) (out printed : Option (List ℕ)) : Type 0 where
+pub record WroteRepair (a : Answers) (words : RepairWords) (before after : Option Store) (out printed : Option (List ℕ)) : Type 0 where
   pub mends : List Mend
   pub put : PutRepair a words before after mends
   pub told : Appends out printed (repair_text (form_of words.showing) mends)
@@ -48,10 +48,10 @@ IsUnrepairedBy a words told =
     IsNoGeometry words.geometry.now told
     ⊎ ((g : Geometry) × IsGeometryAt words.geometry.now g × (AreNoRows words.rows g told
     ⊎ ((rows : Option Rows) × AreRowsAt words.rows g rows × (MayNotWrite a words.dump.now words.out.now words.force told
-    ⊎ (MayWrite a words.dump.now words.out.now words.force × IsUnmade a g words.dump.now words.out.now told)))))
+    ⊎ (MayWrite a words.dump.now words.out.now words.force × (IsUnmade a g words.dump.now words.out.now told ⊎ IsUnplaced a words.out.now words.force told))))))
 
 -- No dump was put in place and nothing printed, for one of these reasons; or it was put in place, and a beginning of the list printed.
-abbrev pub IsRepairFault : Answers → RepairWords → Option (List Kept) → Option (List Kept) → Option (List ℕ) → Option (List ℕ) → LabFault → Type 0
-IsRepairFault a words before after out printed told =
+abbrev pub IsRepairFault : Answers → RepairWords → Option Store → Option Store → (broke : Bool) → Option (List ℕ) → Option (List ℕ) → LabFault → Type 0
+IsRepairFault a words before after broke out printed told =
     (LeavesAll before after out printed × IsUnrepairedBy a words told)
-    ⊎ ((mends : List Mend) × PutRepair a words before after mends × IsHalfPrinted out printed (repair_text (form_of words.showing) mends) told)
+    ⊎ ((mends : List Mend) × PutRepair a words before after mends × IsHalfPrinted broke out printed (repair_text (form_of words.showing) mends) told)

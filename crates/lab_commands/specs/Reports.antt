@@ -11,6 +11,8 @@ use Rattle.lab_dump.specs.declared.fit.Fit.{Fit}
 use Rattle.lab_mend.specs.declared.merging.Tally.{Tally}
 use Rattle.lab_mend.specs.declared.repairing.Mend.{Mend}
 use Rattle.lab_dump.specs.declared.survey.DieSurvey.{DieSurvey}
+use Rattle.lab_dump.specs.declared.doubts.Doubts.{Doubts}
+use Rattle.lab_dump.specs.declared.rows.Rows.{Rows}
 use Rattle.lab_commands.specs.declared.lines.Label.{Label}
 use Rattle.lab_commands.specs.declared.lines.Label.TheVariants as label
 use Rattle.lab_commands.specs.declared.lines.Sort.TheVariants as sort
@@ -19,8 +21,8 @@ use Rattle.lab_commands.specs.declared.lists.Lines.{Lines}
 use Rattle.lab_commands.specs.declared.lists.Lines.TheVariants as lists
 use Rattle.lab_commands.specs.declared.lines.Line.TheVariants as line
 use Rattle.lab_commands.specs.declared.document.Form.{Form}
-use Rattle.lab_commands.specs.Document.{head_text, line_text, tail_text, text_below}
-use Rattle.lab_commands.specs.Lines.{block_line, key_line, last_line, lost_line, outside_line, repeated_line, table_line, tie_line}
+use Rattle.lab_commands.specs.Document.{head_text, if_text, line_text, tail_text, text_below}
+use Rattle.lab_commands.specs.Lines.{block_line, hole_line, key_line, last_line, lost_line, outside_line, past_line, repeated_line, rows_line, table_line, tie_line}
 
 -- ---- lists
 
@@ -48,7 +50,7 @@ abbrev pub fit_at : List Fit → ℕ → Option Line
 fit_at fits n = option_map line.Fit (slice_get fits n)
 
 abbrev pub mend_at : List Mend → ℕ → Option Line
-mend_at mends n = option_map (λ m. line.Mended m.row m.bit) (slice_get mends n)
+mend_at mends n = option_map (λ m. line.Mended m.made m.row m.bit) (slice_get mends n)
 
 abbrev pub differ_at : List ℕ → ℕ → Option Line
 differ_at rows n = option_map line.Differ (slice_get rows n)
@@ -89,6 +91,15 @@ size_of (lists.Unsound rows) = length rows.now
 abbrev pub some_text : Form → List (Option Line) → List ℕ
 some_text form lines = text_below form (some_at lines) (length lines)
 
+-- ---- what a dump leaves open
+
+-- the pages that were lost, those of a sector past the last one, and how far the array may be from the last write
+abbrev pub doubt_lines : Doubts → List (Option Line)
+doubt_lines d = hole_line d.holes ∷ past_line d.outside ∷ Some (line.Age d) ∷ []
+
+abbrev pub doubts_text : Form → Doubts → List ℕ
+doubts_text form d = some_text form (doubt_lines d)
+
 -- ---- survey
 
 -- the pages of each sort, and the reasons against a mount but for the tables
@@ -112,14 +123,19 @@ keys_text form g states formed =
 abbrev pub blocks_text : Form → Geometry → DieSurvey → List ℕ
 blocks_text form g s = text_below form (block_at (option_map (λ states. states.items) s.blocks) s.unsound.items) g.blocks
 
--- all lines of a survey
-unfoldable pub survey_lines : Form → Geometry → DieSurvey → List ℕ
-survey_lines form g s =
-    some_text form (count_lines s) ++ (keys_text form g s.keys.items s.formed.items
-    ++ (blocks_text form g s ++ line_text form (line.Age s.counts.unsound)))
+-- what a survey ends with: what the dump leaves open, or where some rows alone were looked at, how many of them are neither erased nor sound
+abbrev pub ending_text : Form → Option Rows → DieSurvey → List ℕ
+ending_text form None s = doubts_text form s.doubts
+ending_text form (Some rows) s = line_text form (line.AgeOfRows s.counts.unsound)
 
-abbrev pub survey_text : Form → Geometry → DieSurvey → List ℕ
-survey_text form g s = head_text form (codes "survey") ++ (survey_lines form g s ++ tail_text form)
+-- all lines of a survey
+unfoldable pub survey_lines : Form → Geometry → Option Rows → DieSurvey → List ℕ
+survey_lines form g rows s =
+    if_text form (rows_line rows) ++ (some_text form (count_lines s) ++ (keys_text form g s.keys.items s.formed.items
+    ++ (blocks_text form g s ++ ending_text form rows s)))
+
+abbrev pub survey_text : Form → Geometry → Option Rows → DieSurvey → List ℕ
+survey_text form g rows s = head_text form (codes "survey") ++ (survey_lines form g rows s ++ tail_text form)
 
 -- ---- the others
 
@@ -127,14 +143,14 @@ abbrev pub losses_text : Form → Geometry → List Bool → List ℕ
 losses_text form g lost = text_below form (lost_at lost) g.sectors
 
 abbrev pub compare_text : Form → Geometry → Compared → List ℕ
-compare_text form g told = head_text form (codes "compare") ++ (losses_text form g told.lost.items ++ (line_text form (line.Age told.unsound) ++ tail_text form))
+compare_text form g told = head_text form (codes "compare") ++ (losses_text form g told.lost.items ++ (doubts_text form told.doubts ++ tail_text form))
 
 -- the sectors that are tied, by how all sectors stand
 abbrev pub ties_text : Form → Geometry → List State → List ℕ
 ties_text form g states = text_below form (tie_at states) g.sectors
 
-abbrev pub array_text : Form → Geometry → List State → ℕ → List ℕ
-array_text form g states unsound = head_text form (codes "array") ++ (ties_text form g states ++ (line_text form (line.Age unsound) ++ tail_text form))
+abbrev pub array_text : Form → Geometry → List State → Doubts → List ℕ
+array_text form g states doubts = head_text form (codes "array") ++ (ties_text form g states ++ (doubts_text form doubts ++ tail_text form))
 
 abbrev pub fits_text : Form → List Fit → List ℕ
 fits_text form fits = head_text form (codes "geometry") ++ (text_below form (fit_at fits) (length fits) ++ tail_text form)

@@ -1,5 +1,5 @@
 -- What the command `survey` comes to.
-use Rattle.std.specs.Prelude.{◌≡◌, ◌⊎◌, ℕ, List, Option, IfSome}
+use Rattle.std.specs.Prelude.{◌≡◌, ◌⊎◌, ℕ, List, Option, IfSome, Bool}
 use Rattle.std.specs.Io.KnownBytes.{Appends}
 use Rattle.page_layout.specs.declared.geometry.Geometry.{Geometry}
 use Rattle.lab_dump.specs.declared.rows.Rows.{Rows}
@@ -8,7 +8,7 @@ use Rattle.lab_dump.specs.Surveyed.{IsSurveyOf}
 use Rattle.lab_commands.specs.Reports.{survey_text}
 use Rattle.lab_commands.specs.declared.words.SurveyWords.{SurveyWords}
 use Rattle.lab_commands.specs.declared.text.LabFault.{LabFault}
-use Rattle.lab_commands.specs.Files.{Answers, IsOpened, Kept}
+use Rattle.lab_commands.specs.Files.{Answers, IsOpened, Store}
 use Rattle.lab_commands.specs.Rows.{AreNoRows, AreRowsAt}
 use Rattle.lab_commands.specs.Undone.{IsGeometryAt, IsHalfPrinted, IsNoGeometry, IsUnread, IsUntaken, LeavesAll, form_of}
 
@@ -19,8 +19,7 @@ pub record IsSeen (a : Answers) (path : List ℕ) (g : Geometry) (rows : Option 
   pub seen : IfSome known (IsSurveyOf g rows survey)
 
 -- the words name a geometry and rows, or all, and this is the survey
-pub record HasSurvey (a : Answers) (words : SurveyWords) (g : Geometry) (survey : DieSurvey) : Type 0 where
-  pub rows : Option Rows
+pub record HasSurvey (a : Answers) (words : SurveyWords) (g : Geometry) (rows : Option Rows) (survey : DieSurvey) : Type 0 where
   pub geometry_is : IsGeometryAt words.geometry.now g
   pub rows_are : AreRowsAt words.rows g rows
   pub seen : IsSeen a words.dump.now g rows survey
@@ -28,9 +27,10 @@ pub record HasSurvey (a : Answers) (words : SurveyWords) (g : Geometry) (survey 
 -- the survey was printed
 pub record ToldSurvey (a : Answers) (words : SurveyWords) (out printed : Option (List ℕ)) : Type 0 where
   pub g : Geometry
+  pub rows : Option Rows
   pub survey : DieSurvey
-  pub has : HasSurvey a words g survey
-  pub told : Appends out printed (survey_text (form_of words.showing) g survey)
+  pub has : HasSurvey a words g rows survey
+  pub told : Appends out printed (survey_text (form_of words.showing) g rows survey)
 
 -- why there is no survey: the dump was not opened, or not taken as a whole
 abbrev pub IsUnsurveyed : Answers → Geometry → List ℕ → LabFault → Type 0
@@ -44,7 +44,7 @@ IsUnseen a words told =
     ⊎ ((rows : Option Rows) × AreRowsAt words.rows g rows × IsUnsurveyed a g words.dump.now told)))
 
 -- nothing was printed, for one of these reasons, or a beginning of the survey was
-abbrev pub IsSurveyFault : Answers → SurveyWords → Option (List Kept) → Option (List Kept) → Option (List ℕ) → Option (List ℕ) → LabFault → Type 0
-IsSurveyFault a words before after out printed told =
+abbrev pub IsSurveyFault : Answers → SurveyWords → Option Store → Option Store → (broke : Bool) → Option (List ℕ) → Option (List ℕ) → LabFault → Type 0
+IsSurveyFault a words before after broke out printed told =
     (LeavesAll before after out printed × IsUnseen a words told)
-    ⊎ ((after ≡ before) × ((g : Geometry) × (survey : DieSurvey) × HasSurvey a words g survey × IsHalfPrinted out printed (survey_text (form_of words.showing) g survey) told))
+    ⊎ ((after ≡ before) × ((g : Geometry) × (rows : Option Rows) × (survey : DieSurvey) × HasSurvey a words g rows survey × IsHalfPrinted broke out printed (survey_text (form_of words.showing) g rows survey) told))

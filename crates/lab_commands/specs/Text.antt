@@ -1,14 +1,17 @@
 -- What the program says of a command that ended before it was done.
-use Rattle.std.specs.Prelude.{◌≡◌, ◌⊎◌, ℕ, List, [], ◌∷◌, ◌++◌, codes, Option}
+use Rattle.std.specs.Prelude.{◌≡◌, ◌⊎◌, ℕ, Bool, true, List, [], ◌∷◌, ◌++◌, codes, Option}
 use Rattle.std.specs.Io.KnownBytes.{Appends}
-use Rattle.request_stream.specs.Frames.{AppendsFront}
+use Rattle.request_stream.specs.Frames.{AppendsPart}
 use Rattle.page_layout.specs.declared.geometry.GeometryFault.{GeometryFault}
 use Rattle.page_layout.specs.declared.geometry.GeometryFault.TheVariants as geometry
 use Rattle.certificate.specs.declared.fault.CertFault.{CertFault}
 use Rattle.certificate.specs.declared.fault.CertFault.TheVariants as certificate
 use Rattle.lab_commands.specs.declared.text.LabFault.{LabFault}
 use Rattle.lab_commands.specs.declared.text.LabFault.TheVariants.{NoSuchCommand, BadNumber, Geometry, NoneFits, RowRange, WrongLength, DumpLength, OutOfMemory, Certificate, GeometryDiffers}
-use Rattle.lab_commands.specs.declared.text.LabFault.TheVariants.{IsDump, Exists, MapIsOut, MapIsDump, MapExists, Read, Write}
+use Rattle.lab_commands.specs.declared.text.LabFault.TheVariants.{IsDump, Exists, NoFile, MapIsOut, MapIsDump, MapExists, MapNoFile, Read, Write}
+use Rattle.lab_commands.specs.declared.text.Rest.{Rest}
+use Rattle.lab_commands.specs.declared.text.Rest.TheVariants.{Words, Name}
+use Rattle.lab_commands.specs.Names.{shown}
 
 -- the number and the name of a limit that is broken
 abbrev pub limit_words : GeometryFault → List ℕ
@@ -28,25 +31,32 @@ certificate_words certificate.RowRange = codes "5 RowRange"
 certificate_words certificate.ClassRange = codes "6 ClassRange"
 certificate_words certificate.OutOfMemory = codes "7 OutOfMemory"
 
--- the line, without its line feed
+-- what a line ends with
+abbrev pub rest_words : Rest → List ℕ
+rest_words (Words words) = words.now
+rest_words (Name name) = shown name.now
+
+-- the line, without its line feed; a name in it is as it is printed
 abbrev pub line_of : LabFault → List ℕ
-line_of NoSuchCommand = codes "usage: no such command"
-line_of (BadNumber word) = codes "usage: bad number " ++ word.now
+line_of NoSuchCommand = codes "usage: no such command, see nandlab --help"
+line_of (BadNumber word) = codes "usage: bad number " ++ shown word.now
 line_of (Geometry fault) = codes "refused geometry " ++ limit_words fault
 line_of NoneFits = codes "refused geometry 6 NoneFits"
 line_of RowRange = codes "refused rows 1 RowRange"
 line_of IsDump = codes "refused out 1 IsDump"
 line_of Exists = codes "refused out 2 Exists"
+line_of NoFile = codes "refused out 3 NoFile"
 line_of MapIsOut = codes "refused map 1 IsOut"
 line_of MapIsDump = codes "refused map 2 IsDump"
 line_of MapExists = codes "refused map 3 Exists"
+line_of MapNoFile = codes "refused map 4 NoFile"
 line_of WrongLength = codes "refused image 1 WrongLength"
-line_of (DumpLength path) = codes "refused merge 1 DumpLength " ++ path.now
+line_of (DumpLength path) = codes "refused merge 1 DumpLength " ++ shown path.now
 line_of OutOfMemory = codes "refused image 3 OutOfMemory"
 line_of (Certificate broken) = codes "refused certificate " ++ certificate_words broken
 line_of GeometryDiffers = codes "refused compare 1 GeometryDiffers"
-line_of (Read path) = codes "fault read " ++ path.now
-line_of (Write path) = codes "fault write " ++ path.now
+line_of (Read path) = codes "fault read " ++ shown path.now
+line_of (Write path) = codes "fault write " ++ shown path.now
 
 -- the exit status: 1 refused, 2 usage, 3 input or output
 abbrev pub status_of : LabFault → ℕ
@@ -57,9 +67,11 @@ status_of NoneFits = 1
 status_of RowRange = 1
 status_of IsDump = 1
 status_of Exists = 1
+status_of NoFile = 1
 status_of MapIsOut = 1
 status_of MapIsDump = 1
 status_of MapExists = 1
+status_of MapNoFile = 1
 status_of WrongLength = 1
 status_of (DumpLength path) = 1
 status_of OutOfMemory = 1
@@ -72,9 +84,9 @@ status_of (Write path) = 3
 abbrev pub told_line : LabFault → List ℕ
 told_line fault = line_of fault ++ (10 ∷ [])
 
--- The fault's line was written, and the status is the fault's. Or it could not be written: the status is 3, and a beginning of the line
--- stands there, or nothing.
-abbrev pub IsTold : LabFault → Option (List ℕ) → Option (List ℕ) → ℕ → Type 0
-IsTold fault before after status =
+-- The fault's line was written, and the status is the fault's. Or a write failed: the status is 3, and a beginning of the line
+-- stands there, or nothing, and never all of it.
+abbrev pub IsTold : LabFault → (broke : Bool) → Option (List ℕ) → Option (List ℕ) → ℕ → Type 0
+IsTold fault broke before after status =
     ((status ≡ status_of fault) × Appends before after (told_line fault))
-    ⊎ ((status ≡ 3) × AppendsFront before after (told_line fault))
+    ⊎ ((status ≡ 3) × (broke ≡ true) × AppendsPart before after (told_line fault))

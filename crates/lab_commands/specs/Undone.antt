@@ -4,7 +4,7 @@ use Rattle.std.specs.Borrow.{Bor}
 use Rattle.std.specs.Io.KnownBytes.{Keeps}
 use Rattle.page_layout.specs.declared.geometry.Geometry.{Geometry}
 use Rattle.page_layout.specs.Faults.{HasNumbers, IsFirstFault}
-use Rattle.request_stream.specs.Frames.{AppendsFront}
+use Rattle.request_stream.specs.Frames.{AppendsFront, AppendsPart}
 use Rattle.command_words.specs.declared.numbers.GeometryNumbers.{GeometryNumbers}
 use Rattle.command_words.specs.Numbers.{SpellsGeometry}
 use Rattle.lab_dump.specs.declared.make_fault.MakeFault.{MakeFault}
@@ -14,9 +14,13 @@ use Rattle.lab_commands.specs.declared.document.Form.{Form}
 use Rattle.lab_commands.specs.declared.document.Form.TheVariants.{Text, Json}
 use Rattle.lab_commands.specs.declared.words.Showing.{Showing}
 use Rattle.lab_commands.specs.declared.files.FileFault.TheVariants as file
+use Rattle.lab_commands.specs.declared.files.Standing.{Standing}
+use Rattle.lab_commands.specs.declared.files.Standing.TheVariants as standing
+use Rattle.lab_commands.specs.declared.document.PrintFault.{PrintFault}
+use Rattle.lab_commands.specs.declared.document.PrintFault.TheVariants as print
 use Rattle.lab_commands.specs.declared.text.LabFault.{LabFault}
 use Rattle.lab_commands.specs.declared.text.LabFault.TheVariants as fault
-use Rattle.lab_commands.specs.Files.{Answers, IsOpened, Kept}
+use Rattle.lab_commands.specs.Files.{Answers, IsOpened, Stands, Store}
 
 -- ---- the geometry
 
@@ -47,15 +51,36 @@ IsUnwritten a path (fault.Write told) = (told.now ≡ path) × a.fails path file
 IsUnwritten a path fault.OutOfMemory = a.fails path file.OutOfMemory
 IsUnwritten a path _ = ⊥
 
--- by what the files answered there is no file of a path that is made of this dump, or it is not the dump and may be replaced
-abbrev pub MayWrite : Answers → List ℕ → List ℕ → Bool → Type 0
-MayWrite a dump path force = a.says_file path false ⊎ (a.says_file path true × a.says_same dump path false × (force ≡ true))
+-- a file may be replaced: it is one, or a link to one, and that was asked for
+abbrev pub IsReplaceable : Standing → Bool → Type 0
+IsReplaceable what force = (what ≡ standing.File) × (force ≡ true)
 
--- there is such a file: it is the dump, or may not be replaced; or they could not be asked
+-- what stands somewhere is not replaced: that was not asked for, or it is neither a file nor a link to one
+abbrev pub IsKeptThere : Standing → Bool → LabFault → Type 0
+IsKeptThere what force fault.Exists = force ≡ false
+IsKeptThere what force fault.NoFile = (what ≡ standing.Other) × (force ≡ true)
+IsKeptThere what force _ = ⊥
+
+-- by what the files answered nothing stands at a path that is made of this dump, or a file that is not the dump and may be replaced
+abbrev pub MayWrite : Answers → List ℕ → List ℕ → Bool → Type 0
+MayWrite a dump path force = a.says path standing.Nothing ⊎ (a.says path standing.File × a.says_same dump path false × (force ≡ true))
+
+-- something stands there: it is the dump, or is not to be replaced, or is no file; or they could not be asked
 abbrev pub MayNotWrite : Answers → List ℕ → List ℕ → Bool → LabFault → Type 0
-MayNotWrite a dump path force fault.IsDump = a.says_file path true × a.says_same dump path true
-MayNotWrite a dump path force fault.Exists = a.says_file path true × a.says_same dump path false × (force ≡ false)
-MayNotWrite a dump path force told = IsUnwritten a path told ⊎ (a.says_file path true × IsUnread a dump told)
+MayNotWrite a dump path force fault.IsDump = Stands a path × a.says_same dump path true
+MayNotWrite a dump path force fault.Exists = Stands a path × a.says_same dump path false × (force ≡ false)
+MayNotWrite a dump path force fault.NoFile = a.says path standing.Other × a.says_same dump path false × (force ≡ true)
+MayNotWrite a dump path force told = IsUnwritten a path told ⊎ (Stands a path × IsUnread a dump told)
+
+-- a file that was made did not get this name: a call failed, or another file has it meanwhile, and may not be replaced
+abbrev pub IsUnplaced : Answers → List ℕ → Bool → LabFault → Type 0
+IsUnplaced a path force fault.Exists = (force ≡ false) × a.taken path
+IsUnplaced a path force told = IsUnwritten a path told
+
+-- the same of a map
+abbrev pub IsMapUnplaced : Answers → List ℕ → Bool → LabFault → Type 0
+IsMapUnplaced a path force fault.MapExists = (force ≡ false) × a.taken path
+IsMapUnplaced a path force told = IsUnwritten a path told
 
 -- the file was opened for reading
 pub record Opens (a : Answers) (path : List ℕ) : Type 0 where
@@ -68,16 +93,16 @@ pub record OpensOther (a : Answers) (g : Geometry) (path : List ℕ) : Type 0 wh
   pub opened : IsOpened a path known
   pub other : IfSome known (λ bytes. ¬ (length bytes ≡ image_bytes g))
 
--- Why a dump that was opened was not taken as a whole. When a read fails is the reader's own, and when memory is refused.
+-- Why a dump that was opened was not taken as a whole: a read failed, or memory was refused, or it has another length.
 abbrev pub IsUntaken : Answers → Geometry → List ℕ → LabFault → Type 0
 IsUntaken a g path fault.WrongLength = OpensOther a g path
-IsUntaken a g path (fault.Read told) = (told.now ≡ path) × Opens a path
+IsUntaken a g path (fault.Read told) = (told.now ≡ path) × Opens a path × a.reads_fail
 IsUntaken a g path fault.OutOfMemory = Opens a path
 IsUntaken a g path _ = ⊥
 
 -- a file beside that of a path was not made or not written whole, of a dump that was opened
 abbrev pub IsUnfilled : Answers → List ℕ → List ℕ → LabFault → Type 0
-IsUnfilled a dump path (fault.Write told) = (told.now ≡ path) × Opens a dump
+IsUnfilled a dump path (fault.Write told) = (told.now ≡ path) × Opens a dump × a.writes_fail
 IsUnfilled a dump path _ = ⊥
 
 -- the dump was not opened or not taken as a whole, or the file beside the path was not written or not put in its place
@@ -93,20 +118,22 @@ unmade_as make.OutOfMemory dump out = fault.OutOfMemory
 
 -- ---- what it leaves
 
--- no file was put in its place, and nothing printed
-pub record LeavesAll (before after : Option (List Kept)) (out printed : Option (List ℕ)) : Type 0 where
+-- no file was put in its place, none that was made stands beside it, and nothing was printed
+pub record LeavesAll (before after : Option Store) (out printed : Option (List ℕ)) : Type 0 where
   pub kept : after ≡ before
   pub silent : Keeps out printed
 
--- standard output failed, or memory for a line was refused
-abbrev pub IsUnprinted : LabFault → Type 0
-IsUnprinted (fault.Write told) = told.now ≡ codes "-"
-IsUnprinted fault.OutOfMemory = Unit {0}
-IsUnprinted _ = ⊥
+-- how it is told that a document was not printed whole
+abbrev pub TellsPrint : PrintFault → LabFault → Type 0
+TellsPrint print.Failed (fault.Write told) = told.now ≡ codes "-"
+TellsPrint print.OutOfMemory fault.OutOfMemory = Unit {0}
+TellsPrint _ _ = ⊥
 
--- so that of what was due a beginning stands there
-abbrev pub IsHalfPrinted : Option (List ℕ) → Option (List ℕ) → List ℕ → LabFault → Type 0
-IsHalfPrinted before after due told = IsUnprinted told × AppendsFront before after due
+-- Standard output failed, so that of what was due a part stands there and never all; or memory for a line was refused, and a beginning does.
+abbrev pub IsHalfPrinted : (broke : Bool) → Option (List ℕ) → Option (List ℕ) → List ℕ → LabFault → Type 0
+IsHalfPrinted broke before after due (fault.Write told) = (told.now ≡ codes "-") × (broke ≡ true) × AppendsPart before after due
+IsHalfPrinted broke before after due fault.OutOfMemory = AppendsFront before after due
+IsHalfPrinted broke before after due _ = ⊥
 
 -- the form that was asked for
 abbrev pub form_of : Showing → Form

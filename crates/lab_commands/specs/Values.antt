@@ -4,16 +4,20 @@ use Rattle.serde_json.specs.Data.{Data, Members, number, unsigned, string, array
 use Rattle.serde_json.specs.View.{items_of}
 use Rattle.certificate.specs.declared.block_state.BlockState.{BlockState}
 use Rattle.lab_dump.specs.declared.fit.Fit.{Fit}
+use Rattle.lab_dump.specs.declared.doubts.Doubts.{Doubts}
+use Rattle.lab_dump.specs.declared.rows.Rows.{Rows}
+use Rattle.lab_dump.specs.Doubts.{most_older}
 use Rattle.lab_mend.specs.declared.merging.Tally.{Tally}
+use Rattle.lab_mend.specs.declared.mending.Made.{Made}
 use Rattle.lab_commands.specs.declared.lines.Label.{Label}
 use Rattle.lab_commands.specs.declared.lines.Sort.{Sort}
 use Rattle.lab_commands.specs.declared.lines.Line.{Line}
 use Rattle.lab_commands.specs.declared.lines.Line.TheVariants.{Pages, NumberRange, Repeated, NotFormatted, TableDamaged, LastSequence, Tied, Missing, Block, PlainBlock, Lost}
-use Rattle.lab_commands.specs.declared.lines.Line.TheVariants.{Mended, MendedCount, Differ, Unsound, Merged, Age}
+use Rattle.lab_commands.specs.declared.lines.Line.TheVariants.{OfRows, Holes, Outside, Mended, MendedCount, Differ, Unsound, Merged, Age, AgeOfRows}
 use Rattle.lab_commands.specs.declared.lines.Line.TheVariants as line
 use Rattle.lab_commands.specs.declared.values.Member.{Member}
 use Rattle.lab_commands.specs.declared.values.Member.TheVariants.{Count, Text, Counts}
-use Rattle.lab_commands.specs.Lines.{class_words, label_words, says_words, sort_words}
+use Rattle.lab_commands.specs.Lines.{class_words, label_words, made_words, says_words, sort_words}
 
 abbrev pub count : ℕ → Data
 count n = number (unsigned n)
@@ -85,8 +89,16 @@ fit_data f =
     member (codes "looked") (count f.looked) (member (codes "sectors_told") (count f.sectors_told) (member (codes "sound") (count f.sound.0) (
     member (codes "table") (text (says_words f.table)) (member (codes "unsound") (count f.unsound) no_members))))))))
 
-abbrev pub mended_data : ℕ → ℕ → Data
-mended_data row bit = object (member (codes "bit") (count bit) (member (codes "line") (text (codes "mended")) (member (codes "row") (count row) no_members)))
+abbrev pub mended_data : Made → ℕ → ℕ → Data
+mended_data how row bit = object (member (codes "bit") (count bit) (member (codes "line") (text (made_words how)) (member (codes "row") (count row) no_members)))
+
+-- the rows that were asked for
+abbrev pub rows_data : Rows → Data
+rows_data rows = object (member (codes "end") (count rows.end) (member (codes "first") (count rows.first) (member (codes "line") (text (codes "rows")) no_members)))
+
+-- so many pages, under the name of their line
+abbrev pub doubt_data : List ℕ → ℕ → Data
+doubt_data name n = object (member (codes "line") (text name) (member (codes "pages") (count n) no_members))
 
 abbrev pub mended_count_data : ℕ → Data
 mended_count_data n = object (member (codes "line") (text (codes "repaired")) (member (codes "mended") (count n) no_members))
@@ -100,8 +112,13 @@ merged_data differ t =
     object (member (codes "differ") (count differ) (member (codes "erased") (count t.erased) (member (codes "line") (text (codes "merged")) (
     member (codes "majority") (count t.majority) (member (codes "sound") (count t.sound) (member (codes "unsound") (count t.unsound) no_members))))))
 
-abbrev pub age_data : ℕ → Data
-age_data n = object (member (codes "line") (text (codes "age")) (member (codes "unsound") (count n) no_members))
+-- at most so many sectors may be older, and so many pages are neither erased nor sound
+abbrev pub age_data : Doubts → Data
+age_data d =
+    object (member (codes "line") (text (codes "age")) (member (codes "older") (count (most_older d)) (member (codes "unsound") (count d.unsound) no_members)))
+
+abbrev pub rows_age_data : ℕ → Data
+rows_age_data n = object (member (codes "line") (text (codes "rows_age")) (member (codes "unsound") (count n) no_members))
 
 -- what a document begins with
 abbrev pub head_data : List ℕ → Data
@@ -123,9 +140,13 @@ line_data (Block block s n) = block_data block s n
 line_data (PlainBlock block n) = plain_block_data block n
 line_data (Lost n) = lost_data n
 line_data (line.Fit f) = fit_data f
-line_data (Mended row bit) = mended_data row bit
+line_data (Mended how row bit) = mended_data how row bit
 line_data (MendedCount n) = mended_count_data n
 line_data (Differ row) = row_data (codes "differ") row
 line_data (Unsound row) = row_data (codes "unsound") row
 line_data (Merged differ t) = merged_data differ t
-line_data (Age n) = age_data n
+line_data (Age d) = age_data d
+line_data (AgeOfRows n) = rows_age_data n
+line_data (OfRows rows) = rows_data rows
+line_data (Holes n) = doubt_data (codes "holes") n
+line_data (Outside n) = doubt_data (codes "outside") n

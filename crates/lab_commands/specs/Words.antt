@@ -4,7 +4,7 @@ use Rattle.std.specs.Borrow.{Bor}
 use Rattle.clap.specs.declared.builder.action.ArgAction.TheVariants.{Append}
 use Rattle.clap.specs.Words.{App, Row, Rule, Shape, all_of, first_of, count_of}
 use Rattle.program_words.specs.Grammar.{command_of, flag, option, place, place_of, program_of}
-use Rattle.program_words.specs.Met.{AsksText, NamesCommand, once, texts}
+use Rattle.program_words.specs.Met.{AsksText, NamesCommand, stood, texts}
 use Rattle.program_words.specs.Met as met
 use Rattle.lab_commands.specs.declared.words.ArrayWords.{ArrayWords}
 use Rattle.lab_commands.specs.declared.words.CompareWords.{CompareWords}
@@ -48,8 +48,8 @@ grammar = program_of (codes "nandlab") (geometry ∷ survey ∷ array ∷ compar
 
 -- how a command tells what it does is so
 pub record IsShowingAt (rows : List Row) (read : Showing) : Type 0 where
-  pub json_is : once (count_of (codes "json") rows) ≡ Some read.json
-  pub progress_is : once (count_of (codes "progress") rows) ≡ Some read.progress
+  pub json_is : stood (count_of (codes "json") rows) ≡ read.json
+  pub progress_is : stood (count_of (codes "progress") rows) ≡ read.progress
 
 -- the entry of the words of `geometry` is this
 pub record IsGeometryAt (rows : List Row) (read : GeometryWords) : Type 0 where
@@ -61,7 +61,7 @@ pub record IsArrayAt (rows : List Row) (read : ArrayWords) : Type 0 where
   pub geometry_is : first_of (codes "GEOM") rows ≡ Some read.geometry.now
   pub dump_is : first_of (codes "DUMP") rows ≡ Some read.dump.now
   pub out_is : first_of (codes "OUT") rows ≡ Some read.out.now
-  pub forced : once (count_of (codes "force") rows) ≡ Some read.force
+  pub forced : stood (count_of (codes "force") rows) ≡ read.force
   pub map_is : first_of (codes "map") rows ≡ option_map (λ word. word.now) read.map
   pub showing : IsShowingAt rows read.showing
 
@@ -89,7 +89,7 @@ pub record IsMergeAt (rows : List Row) (read : MergeWords) : Type 0 where
   pub geometry_is : first_of (codes "GEOM") rows ≡ Some read.geometry.now
   pub out_is : first_of (codes "OUT") rows ≡ Some read.out.now
   pub dumps : AreDumpsAt rows read.dumps.items
-  pub forced : once (count_of (codes "force") rows) ≡ Some read.force
+  pub forced : stood (count_of (codes "force") rows) ≡ read.force
   pub showing : IsShowingAt rows read.showing
 
 -- those of the words of `repair` are these
@@ -97,7 +97,7 @@ pub record IsRepairAt (rows : List Row) (read : RepairWords) : Type 0 where
   pub geometry_is : first_of (codes "GEOM") rows ≡ Some read.geometry.now
   pub dump_is : first_of (codes "DUMP") rows ≡ Some read.dump.now
   pub out_is : first_of (codes "OUT") rows ≡ Some read.out.now
-  pub forced : once (count_of (codes "force") rows) ≡ Some read.force
+  pub forced : stood (count_of (codes "force") rows) ≡ read.force
   pub rows_are : first_of (codes "rows") rows ≡ option_map (λ word. word.now) read.rows
   pub showing : IsShowingAt rows read.showing
 

@@ -2,15 +2,16 @@
 ghost use Rattle.std.specs.Prelude.{◌≡◌, OnOk, OnErr, IfOk, IfErr, false, length, map};
 ghost use Rattle.lab_dump.specs.Held.{state_in};
 ghost use Rattle.lab_dump.specs.Map.{map_text};
-ghost use Rattle.lab_commands.specs.Files.{AnswersNoMore};
+ghost use Rattle.lab_commands.specs.Files.{AnswersNoMore, without_part};
 ghost use Rattle.lab_commands.specs.Undone.{IsUnmade, MayWrite};
-ghost use Rattle.lab_commands.specs.Array.{AreAllowed, AreNotAllowed, IsArrayFault, IsMade, IsMapNotAllowed, IsUnmapped, WroteArray, with_map};
+ghost use Rattle.lab_commands.specs.Array.{AreAllowed, AreNotAllowed, IsArrayFault, IsMade, IsMapNotAllowed, IsUnmapped, WroteArray, as_map, with_map};
 
-use crate::files::LabFiles;
+use crate::files::{LabFiles, Standing};
 use crate::opening::{
-    allow, create_beside, geometry_at, has_file, is_dump, is_out, keep, open_file, progress_of,
-    store_file, unmade_as,
+    allow, create_beside, geometry_at, is_dump, is_out, keep, may_replace, open_file, progress_of,
+    standing, store_map, unmade_as,
 };
+use crate::output::Output;
 use crate::printing::{printer, unprinted};
 use crate::reports::print_array;
 use crate::text::LabFault;
@@ -18,9 +19,19 @@ use crate::words::ArrayWords;
 use lab_dump::{Held, Written, print_map, write_array};
 use page_layout::geometry::Geometry;
 use std::alloc::{AllocError, Global};
-use std::io::Write;
 
-// Whether FILE may be written: it is not OUT, and there is no such file, or it is not the dump and may be replaced.
+// How it is told that what stands at FILE is not replaced.
+fn as_map<'a>(fault: LabFault<'a>) -> LabFault<'a>
+    ensures { result ≡ as_map fault.entry }
+{
+    match fault {
+        LabFault::Exists => LabFault::MapExists,
+        LabFault::NoFile => LabFault::MapNoFile,
+        other => other,
+    }
+}
+
+// Whether FILE may be written: it is not OUT, and nothing stands there, or a file that is not the dump and may be replaced.
 fn allow_map<'a, F: LabFiles>(
     files: &mut F,
     words: &ArrayWords<'a>,
@@ -34,17 +45,14 @@ fn allow_map<'a, F: LabFiles>(
     if is_out(files, words.out, file)? {
         return Err(LabFault::MapIsOut);
     }
-    if !has_file(files, file)? {
+    let there = standing(files, file)?;
+    if there == Standing::Nothing {
         return Ok(());
     }
     if is_dump(files, words.dump, file)? {
         return Err(LabFault::MapIsDump);
     }
-    if words.force {
-        Ok(())
-    } else {
-        Err(LabFault::MapExists)
-    }
+    may_replace(there, words.force).map_err(as_map)
 }
 
 // Whether OUT may be written, and FILE, where a map is wanted.
@@ -89,7 +97,7 @@ fn put_map<'a, F: LabFiles>(
         return Ok(());
     };
     match map_of(alloc, geometry, held) {
-        Ok(text) => store_file(files, file, &text),
+        Ok(text) => store_map(files, file, &text, words.force),
         Err(_) => Err(LabFault::OutOfMemory),
     }
 }
@@ -101,19 +109,20 @@ fn make<'a, F: LabFiles>(
     geometry: &Geometry,
     files: &mut F,
 ) -> Result<Written<F::Target>, LabFault<'a>>
-    ensures made { IfOk result (λ written. IsMade (F.answers files.old) words.now.dump.now geometry.now (F.Target.pieces written.target) written.held.items written.unsound) }
+    ensures made { IfOk result (λ written. IsMade (F.answers files.old) words.now.dump.now geometry.now (F.Target.pieces written.target) written.held.items written.doubts) }
     ensures sized { IfOk result (λ written. length written.held.items ≡ geometry.now.sectors) }
     ensures fault { IfErr result (IsUnmade (F.answers files.old) geometry.now words.now.dump.now words.now.out.now) }
     ensures no_more { AnswersNoMore (F.answers files.old) (F.answers files.new) }
-    ensures kept { F.kept files.new ≡ F.kept files.old }
+    ensures beside { OnOk result (without_part (F.kept files.new) ≡ F.kept files.old) }
+    ensures kept { OnErr result (F.kept files.new ≡ F.kept files.old) }
 {
     let mut dump = open_file(files, words.dump, progress_of(words.showing))?;
     let target = create_beside(files, words.out, geometry.sectors(), geometry.data_bytes())?;
     match write_array(alloc, &mut dump, geometry, target) {
         Ok(written) => Ok(written),
-        Err(fault) => {
-            files.discard(words.out);
-            Err(unmade_as(fault, words.dump, words.out))
+        Err(unwritten) => {
+            files.discard(unwritten.target);
+            Err(unmade_as(unwritten.fault, words.dump, words.out))
         }
     }
 }
@@ -124,30 +133,31 @@ fn make<'a, F: LabFiles>(
 /// # Errors
 ///
 /// The first of this order: `BadNumber` where GEOM writes no numbers, `Geometry` where they are no geometry, `IsDump` where OUT is the dump,
-/// `Exists` where there is a file OUT and it may not be replaced, `MapIsOut`, `MapIsDump` or `MapExists` where FILE is OUT or the dump, or is
-/// there and may not be replaced, `Read` where DUMP cannot be opened, `Write` where no file can be made beside OUT, `OutOfMemory` where a
+/// `Exists` where something stands at OUT and is not to be replaced, `NoFile` where that is neither a file nor a link to one, `MapIsOut`,
+/// `MapIsDump`, `MapExists` or `MapNoFile` where FILE is OUT or the dump, or so, `Read` where DUMP cannot be opened, `Write` where no file can be made beside OUT, `OutOfMemory` where a
 /// growth was refused; then each when it happens: `Read` where a read of DUMP fails, `WrongLength` where it has not as many bytes as the
-/// geometry says, `Write` where OUT cannot be written or put in its place. After each of these OUT and FILE are as they were, and nothing was
-/// printed. `Write` of FILE, or `OutOfMemory`, where FILE cannot be made: then OUT was written, and nothing was printed. `Write` of `-` where
+/// geometry says, `Write` where OUT cannot be written or put in its place, `Exists` where another program gave its name to a file meanwhile and it is
+/// not to be replaced. After each of these OUT and FILE are as they were, nothing stands beside them, and nothing was
+/// printed. `Write` of FILE, `MapExists` or `OutOfMemory` where FILE cannot be made: then OUT was written, and nothing was printed. `Write` of `-` where
 /// `out` failed: then both were written.
 ///
 /// (This project's.)
-pub(crate) fn array_command<'a, F: LabFiles, W: Write>(
+pub(crate) fn array_command<'a, F: LabFiles, W: Output>(
     alloc: Global,
     words: ArrayWords<'a>,
     files: &mut F,
     out: &mut W,
 ) -> Result<(), LabFault<'a>>
     ensures ok { OnOk result (WroteArray (F.answers files.old) words.entry (F.kept files.old) (F.kept files.new) (W.contents out.old) (W.contents out.new)) }
-    ensures fault { IfErr result (IsArrayFault (F.answers files.old) words.entry (F.kept files.old) (F.kept files.new) (W.contents out.old) (W.contents out.new)) }
+    ensures fault { IfErr result (IsArrayFault (F.answers files.old) words.entry (F.kept files.old) (F.kept files.new) (W.failed out.new) (W.contents out.old) (W.contents out.new)) }
 {
     let geometry = geometry_at(words.geometry)?;
     allow_both(files, &words)?;
     let written = make(alloc, &words, &geometry, files)?;
-    keep(files, words.out, written.target)?;
+    keep(files, words.out, written.target, words.force)?;
     put_map(alloc, &words, &geometry, &written.held, files)?;
     let printer = printer(alloc, words.showing);
-    match print_array(printer, out, &geometry, &written.held, written.unsound) {
+    match print_array(printer, out, &geometry, &written.held, written.doubts) {
         Ok(()) => Ok(()),
         Err(fault) => Err(unprinted(fault)),
     }

@@ -4,8 +4,9 @@ ghost use Rattle.certificate.specs.Claim.{sizes_of};
 ghost use Rattle.lab_commands.specs.Files.{AnswersNoMore};
 ghost use Rattle.lab_commands.specs.Compare.{HasNone, IsCertificateAt, IsCompareFault, IsCompared, IsUnheld, ToldCompared};
 
-use crate::files::{LabFiles, Progress};
+use crate::files::{FileFault, LabFiles};
 use crate::opening::{geometry_at, open_file, progress_of};
+use crate::output::Output;
 use crate::printing::{printer, unprinted};
 use crate::reports::print_compared;
 use crate::text::LabFault;
@@ -14,7 +15,6 @@ use certificate::{Certificate, read_certificate};
 use lab_dump::{CompareFault, Compared, compare_dump};
 use page_layout::geometry::Geometry;
 use std::alloc::Global;
-use std::io::{self, Read, Write};
 
 // So many bytes of a certificate's file are looked at: no certificate has as many.
 const MOST_BYTES: u64 = 1 << 26;
@@ -30,15 +30,11 @@ fn load_certificate<'a, F: LabFiles>(
     ensures no_more { AnswersNoMore (F.answers files.old) (F.answers files.new) }
     ensures kept { F.kept files.new ≡ F.kept files.old }
 {
-    let reader = open_file(files, path, Progress::Hidden)?;
-    let mut bytes = Vec::new(alloc);
-    match reader.take(MOST_BYTES).read_to_end(&mut bytes) {
-        Ok(_) => (),
-        Err(error) if error.kind() == io::ErrorKind::OutOfMemory => {
-            return Err(LabFault::OutOfMemory);
-        }
-        Err(_) => return Err(LabFault::Read(path)),
-    }
+    let bytes = match files.load(path, MOST_BYTES) {
+        Ok(bytes) => bytes,
+        Err(FileFault::Failed) => return Err(LabFault::Read(path)),
+        Err(FileFault::OutOfMemory) => return Err(LabFault::OutOfMemory),
+    };
     match read_certificate(alloc, &bytes) {
         Ok(certificate) => Ok(certificate),
         Err(broken) => Err(LabFault::Certificate(broken)),
@@ -81,7 +77,7 @@ fn compare_with<'a, F: LabFiles>(
 /// `-` where `out` failed.
 ///
 /// (This project's.)
-pub(crate) fn compare_command<'a, F: LabFiles, W: Write>(
+pub(crate) fn compare_command<'a, F: LabFiles, W: Output>(
     alloc: Global,
     words: CompareWords<'a>,
     files: &mut F,
@@ -89,7 +85,7 @@ pub(crate) fn compare_command<'a, F: LabFiles, W: Write>(
 ) -> Result<(), LabFault<'a>>
     ensures ok { OnOk result (ToldCompared (F.answers files.old) words.entry (W.contents out.old) (W.contents out.new)) }
     ensures kept { F.kept files.new ≡ F.kept files.old }
-    ensures fault { IfErr result (IsCompareFault (F.answers files.old) words.entry (F.kept files.old) (F.kept files.new) (W.contents out.old) (W.contents out.new)) }
+    ensures fault { IfErr result (IsCompareFault (F.answers files.old) words.entry (F.kept files.old) (F.kept files.new) (W.failed out.new) (W.contents out.old) (W.contents out.new)) }
 {
     let geometry = geometry_at(words.geometry)?;
     let certificate = load_certificate(alloc, words.certificate, files)?;

@@ -8,8 +8,8 @@ ghost use Rattle.lab_commands.specs.Values.{head_data, line_data};
 
 use crate::lines::Line;
 use crate::lists::Lines;
+use crate::output::Output;
 use crate::values::{head_value, line_value};
-use request_stream::send;
 use serde_json::Value;
 use std::alloc::{AllocError, Global};
 use std::io::Write;
@@ -90,10 +90,10 @@ fn head(alloc: Global, command: &str) -> Result<Vec<u8>, AllocError>
 }
 
 // Writes bytes, all of them.
-fn put<W: Write>(out: &mut W, bytes: &[u8]) -> Result<(), PrintFault>
-    ensures { Prints (W.contents out.old) (W.contents out.new) bytes.now result }
+fn put<W: Output>(out: &mut W, bytes: &[u8]) -> Result<(), PrintFault>
+    ensures { Prints (W.failed out.new) (W.contents out.old) (W.contents out.new) bytes.now result }
 {
-    match send(out, bytes) {
+    match out.put(bytes) {
         Ok(()) => Ok(()),
         Err(_) => Err(PrintFault::Failed),
     }
@@ -123,8 +123,8 @@ impl Printer {
     }
 
     /// Prints a line, if there is one.
-    pub(crate) fn line<W: Write>(self, out: &mut W, line: Option<Line>) -> Result<(), PrintFault>
-        ensures { Prints (W.contents out.old) (W.contents out.new) (if_text self.form line) result }
+    pub(crate) fn line<W: Output>(self, out: &mut W, line: Option<Line>) -> Result<(), PrintFault>
+        ensures { Prints (W.failed out.new) (W.contents out.old) (W.contents out.new) (if_text self.form line) result }
     {
         match line {
             Some(line) => {
@@ -136,8 +136,8 @@ impl Printer {
     }
 
     /// Prints the lines of a list, in their order.
-    pub(crate) fn list<W: Write>(self, out: &mut W, list: &Lines<'_>) -> Result<(), PrintFault>
-        ensures { Prints (W.contents out.old) (W.contents out.new) (text_below self.form (line_at list.now) (size_of list.now)) result }
+    pub(crate) fn list<W: Output>(self, out: &mut W, list: &Lines<'_>) -> Result<(), PrintFault>
+        ensures { Prints (W.failed out.new) (W.contents out.old) (W.contents out.new) (text_below self.form (line_at list.now) (size_of list.now)) result }
     {
         for number in 0..list.count() {
             self.line(out, list.line(number))?;
@@ -157,16 +157,16 @@ impl Printer {
     }
 
     /// Begins a document of a command.
-    pub(crate) fn begin<W: Write>(self, out: &mut W, command: &str) -> Result<(), PrintFault>
-        ensures { Prints (W.contents out.old) (W.contents out.new) (head_text self.form command.now) result }
+    pub(crate) fn begin<W: Output>(self, out: &mut W, command: &str) -> Result<(), PrintFault>
+        ensures { Prints (W.failed out.new) (W.contents out.old) (W.contents out.new) (head_text self.form command.now) result }
     {
         let text = self.head(command)?;
         put(out, &text)
     }
 
     /// Ends a document.
-    pub(crate) fn end<W: Write>(self, out: &mut W) -> Result<(), PrintFault>
-        ensures { Prints (W.contents out.old) (W.contents out.new) (tail_text self.form) result }
+    pub(crate) fn end<W: Output>(self, out: &mut W) -> Result<(), PrintFault>
+        ensures { Prints (W.failed out.new) (W.contents out.old) (W.contents out.new) (tail_text self.form) result }
     {
         match self.form {
             Form::Text => Ok(()),

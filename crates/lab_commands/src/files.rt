@@ -1,6 +1,5 @@
 //! Where a dump comes from, and where a file of sectors or pages is put.
-use lab_dump::{Dump, PageTarget, Pieces, Target};
-use std::io::Read;
+use lab_dump::{Dump, DumpReader, PageTarget, Pieces, Target};
 use thiserror::Error;
 
 /// A file was not read, asked about, written or put in its place.
@@ -12,6 +11,28 @@ pub enum FileFault {
     /// A growth was refused.
     #[error("out of memory")]
     OutOfMemory,
+}
+
+/// A file was not put in its place.
+#[derive(Clone, Copy, Debug, PartialEq, Eq, Error)]
+pub enum KeepFault {
+    /// Another program gave the name to a file meanwhile, which is not to be replaced.
+    #[error("there is such a file meanwhile")]
+    Taken,
+    /// A call failed.
+    #[error("a file could not be put in its place")]
+    Fails(FileFault),
+}
+
+/// What stands at a path.
+#[derive(Clone, Copy, Debug, PartialEq, Eq)]
+pub enum Standing {
+    /// Nothing.
+    Nothing,
+    /// A file, or a link to one.
+    File,
+    /// A folder, a device, a pipe, a link to one of these or to nothing.
+    Other,
 }
 
 /// Whether a file shows how far it was read. (This project's.)
@@ -27,11 +48,11 @@ pub enum Progress {
 
 /// The files that the words name, by their paths as written: those of the system, or some in memory.
 pub trait LabFiles {
-    ghost use Rattle.std.specs.Prelude.{◌≡◌, List, [], ◌∷◌, ℕ, Option, Some, Result, IfOk, IfErr, IfSome, replicate};
-    ghost use Rattle.lab_commands.specs.Files.{Answers, AnswersNoMore, IsOpened, Kept, kept_after};
+    ghost use Rattle.std.specs.Prelude.{◌≡◌, List, [], ◌∷◌, ℕ, Option, Some, true, Result, IfOk, IfErr, IfSome, replicate};
+    ghost use Rattle.lab_commands.specs.Files.{Answers, AnswersNoMore, IsLoaded, IsOpened, IsUnkept, Store, kept_after, made_after, without_part};
 
     /// What reads a file piece by piece.
-    type Reader: Read + Drop;
+    type Reader: DumpReader + Drop;
 
     /// A dump that can be read at whatever place.
     type Dump: Dump + Drop;
@@ -42,12 +63,13 @@ pub trait LabFiles {
     /// What it may answer. Of the system's files it may be anything.
     ghost answers: { Self → Answers };
 
-    /// The files that were put in their places so far, in order. Of the system's files it isn't known.
-    ghost kept: { Self → Option (List Kept) };
+    /// The files that were put in their places so far, in order, and how many more that were made stand beside theirs. Of the system's files it
+    /// isn't known.
+    ghost kept: { Self → Option Store };
 
-    /// Whether there is a file of this path.
-    fn has(&mut self, path: &str) -> Result<bool, FileFault>
-        ensures said { IfOk result ((answers self.old).says_file path.now) }
+    /// What stands at this path.
+    fn standing(&mut self, path: &str) -> Result<Standing, FileFault>
+        ensures said { IfOk result ((answers self.old).says path.now) }
         ensures failed { IfErr result ((answers self.old).fails path.now) }
         ensures same { self.new ≡ self.old };
 
@@ -60,6 +82,14 @@ pub trait LabFiles {
     /// A reader of a file, from its first byte on. No file is changed.
     fn open(&mut self, path: &str, progress: Progress) -> Result<Self::Reader, FileFault>
         ensures bytes { IfOk result (λ reader. IsOpened (answers self.old) path.now (Self.Reader.remaining reader)) }
+        ensures fails { (reader : Self.Reader) → Self.Reader.failed reader ≡ true → (answers self.old).reads_fail }
+        ensures failed { IfErr result ((answers self.old).fails path.now) }
+        ensures no_more { AnswersNoMore (answers self.old) (answers self.new) }
+        ensures kept { kept self.new ≡ kept self.old };
+
+    /// The first bytes of a file, at most so many. No file is changed.
+    fn load(&mut self, path: &str, most: u64) -> Result<Vec<u8>, FileFault>
+        ensures bytes { IfOk result (λ bytes. IsLoaded (answers self.old) path.now most bytes.items) }
         ensures failed { IfErr result ((answers self.old).fails path.now) }
         ensures no_more { AnswersNoMore (answers self.old) (answers self.new) }
         ensures kept { kept self.new ≡ kept self.old };
@@ -67,30 +97,34 @@ pub trait LabFiles {
     /// A dump of a file, to be read at whatever place. No file is changed.
     fn open_dump(&mut self, path: &str, progress: Progress) -> Result<Self::Dump, FileFault>
         ensures bytes { IfOk result (λ dump. IsOpened (answers self.old) path.now (Self.Dump.bytes dump)) }
+        ensures fails { (dump : Self.Dump) → Self.Dump.failed dump ≡ true → (answers self.old).reads_fail }
         ensures failed { IfErr result ((answers self.old).fails path.now) }
         ensures no_more { AnswersNoMore (answers self.old) (answers self.new) }
         ensures kept { kept self.new ≡ kept self.old };
 
-    /// A new file beside that of this path, of so many pieces of so many zeros.
+    /// A new file beside that of this path, of so many pieces of so many zeros. Where that fails none stands there.
     fn create(&mut self, path: &str, count: u32, size: usize) -> Result<Self::Target, FileFault>
+        ensures fails { (target : Self.Target) → Self.Target.failed target ≡ true → (answers self.old).writes_fail }
         ensures blank { IfOk result (λ target. IfSome (Self.Target.pieces target) (λ ps. ps ≡ replicate count (replicate size 0))) }
         ensures failed { IfErr result ((answers self.old).fails path.now) }
         ensures no_more { AnswersNoMore (answers self.old) (answers self.new) }
-        ensures kept { kept self.new ≡ kept self.old };
+        ensures kept { kept self.new ≡ made_after (kept self.old) result };
 
-    /// Puts the file that was made beside this path in its place, once all of it is stored. Where that fails what stood there still does.
-    fn keep(&mut self, path: &str, target: Self::Target) -> Result<(), FileFault>
-        ensures done { kept self.new ≡ kept_after (kept self.old) path.now (Self.Target.pieces target) result }
-        ensures failed { IfErr result ((answers self.old).fails path.now) }
+    /// Puts a file that was made in the place of this path, once all of it is stored. Where that fails what stood there still does, and the file
+    /// that was made is removed. Only where it may stand over another one does it replace what has the name.
+    fn keep(&mut self, path: &str, target: Self::Target, over: bool) -> Result<(), KeepFault>
+        ensures done { kept self.new ≡ kept_after (without_part (kept self.old)) path.now (Self.Target.pieces target) over result }
+        ensures failed { IfErr result (IsUnkept (answers self.old) path.now over) }
         ensures no_more { AnswersNoMore (answers self.old) (answers self.new) };
 
-    /// Puts a file of these bytes in the place of this path, once all of it is stored. Where that fails what stood there still does.
-    fn store(&mut self, path: &str, bytes: &[u8]) -> Result<(), FileFault>
-        ensures done { kept self.new ≡ kept_after (kept self.old) path.now (Some (bytes.now ∷ [])) result }
-        ensures failed { IfErr result ((answers self.old).fails path.now) };
+    /// Puts a file of these bytes in the place of this path, once all of it is stored. Where that fails what stood there still does. Only where it
+    /// may stand over another one does it replace what has the name.
+    fn store(&mut self, path: &str, bytes: &[u8], over: bool) -> Result<(), KeepFault>
+        ensures done { kept self.new ≡ kept_after (kept self.old) path.now (Some (bytes.now ∷ [])) over result }
+        ensures failed { IfErr result (IsUnkept (answers self.old) path.now over) };
 
-    /// Removes the file that was made beside this path.
-    fn discard(&mut self, path: &str)
+    /// Removes a file that was made.
+    fn discard(&mut self, target: Self::Target)
         ensures no_more { AnswersNoMore (answers self.old) (answers self.new) }
-        ensures kept { kept self.new ≡ kept self.old };
+        ensures kept { kept self.new ≡ without_part (kept self.old) };
 }

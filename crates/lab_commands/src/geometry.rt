@@ -4,13 +4,13 @@ ghost use Rattle.lab_commands.specs.Geometry.{AreFound, IsGeometryFault, IsUnfou
 
 use crate::files::LabFiles;
 use crate::opening::{open_dump, progress_of};
+use crate::output::Output;
 use crate::printing::{printer, unprinted};
 use crate::reports::print_fits;
 use crate::text::LabFault;
 use crate::words::{GeometryWords, Showing};
 use lab_dump::{FindFault, Fit, find_geometries};
 use std::alloc::Global;
-use std::io::Write;
 
 // The geometries that fit a dump.
 fn find_fits<'a, F: LabFiles>(
@@ -46,7 +46,7 @@ fn find_fits<'a, F: LabFiles>(
 /// `Write` of `-` where `out` failed.
 ///
 /// (This project's.)
-pub(crate) fn geometry_command<'a, F: LabFiles, W: Write>(
+pub(crate) fn geometry_command<'a, F: LabFiles, W: Output>(
     alloc: Global,
     words: GeometryWords<'a>,
     files: &mut F,
@@ -54,7 +54,7 @@ pub(crate) fn geometry_command<'a, F: LabFiles, W: Write>(
 ) -> Result<(), LabFault<'a>>
     ensures ok { OnOk result (ToldFits (F.answers files.old) words.entry (W.contents out.old) (W.contents out.new)) }
     ensures kept { F.kept files.new ≡ F.kept files.old }
-    ensures fault { IfErr result (IsGeometryFault (F.answers files.old) words.entry (F.kept files.old) (F.kept files.new) (W.contents out.old) (W.contents out.new)) }
+    ensures fault { IfErr result (IsGeometryFault (F.answers files.old) words.entry (F.kept files.old) (F.kept files.new) (W.failed out.new) (W.contents out.old) (W.contents out.new)) }
 {
     let fits = find_fits(alloc, words.dump, words.showing, files)?;
     match print_fits(printer(alloc, words.showing), out, &fits) {

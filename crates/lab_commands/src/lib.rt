@@ -11,7 +11,9 @@ mod grammar;
 mod lines;
 mod lists;
 mod merge;
+mod names;
 mod opening;
+mod output;
 mod printing;
 mod program;
 mod repair;
@@ -22,6 +24,7 @@ mod text;
 mod values;
 mod words;
 
-pub use files::{FileFault, LabFiles, Progress};
+pub use files::{FileFault, KeepFault, LabFiles, Progress, Standing};
+pub use output::{Output, OutputFault, Stream};
 pub use program::run;
 pub use text::{LabFault, tell};

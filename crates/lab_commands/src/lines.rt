@@ -1,11 +1,12 @@
 //! The lines of the reports.
 ghost use Rattle.std.specs.Prelude.{◌≡◌, ◌++◌, codes};
 ghost use Rattle.std.specs.Fmt.{WritesOnOk, decimal};
-ghost use Rattle.lab_commands.specs.Lines.{block_line, class_words, key_line, label_words, last_line, lost_line, outside_line, repeated_line, says_words, sort_words, table_line, tie_line};
+ghost use Rattle.lab_commands.specs.Lines.{block_line, class_words, hole_line, key_line, label_words, last_line, lost_line, made_words, outside_line, past_line, repeated_line};
+ghost use Rattle.lab_commands.specs.Lines.{rows_line, says_words, sort_words, table_line, tie_line};
 
 use certificate::BlockState;
-use lab_dump::{Fit, State, TableSays};
-use lab_mend::Tally;
+use lab_dump::{Doubts, Fit, Rows, State, TableSays};
+use lab_mend::{Made, Tally};
 use std::fmt;
 
 /// What a page is of.
@@ -54,8 +55,8 @@ pub enum Line {
     Lost(u32),
     /// A geometry that fits.
     Fit(Fit),
-    /// The page of a row was mended by turning a bit.
-    Mended(u32, u32),
+    /// The page of a row was mended to such a page by turning a bit.
+    Mended(Made, u32, u32),
     /// So many pages were mended.
     MendedCount(u64),
     /// Two sound pages of a row differ.
@@ -64,8 +65,16 @@ pub enum Line {
     Unsound(u32),
     /// So many rows differ, and how many others there are of each kind.
     Merged(u64, Tally),
-    /// So many pages are neither erased nor sound: at most so many sectors may be older than the last write.
-    Age(u32),
+    /// So far the array may be from the last write.
+    Age(Doubts),
+    /// So many pages of the rows that were asked for are neither erased nor sound.
+    AgeOfRows(u32),
+    /// These rows alone were looked at.
+    OfRows(Rows),
+    /// So many pages were lost that read as erased.
+    Holes(u32),
+    /// So many sound pages are of a sector past the last one.
+    Outside(u32),
 }
 
 impl Label {
@@ -123,8 +132,19 @@ pub(crate) fn says_text(table: TableSays) -> &'static str
 {
     match table {
         TableSays::Agrees => "agrees",
+        TableSays::Short => "short",
         TableSays::Silent => "silent",
         TableSays::Differs => "differs",
+    }
+}
+
+/// What a mended page is, in words.
+pub(crate) fn made_text(made: Made) -> &'static str
+    ensures { result.now ≡ made_words made }
+{
+    match made {
+        Made::Sound => "mended",
+        Made::Erased => "erased",
     }
 }
 
@@ -235,9 +255,35 @@ impl fmt::Display for TallyText {
     }
 }
 
+// What is claimed of an array by what its dump leaves open.
+#[derive(Clone, Copy)]
+struct ClaimText(Doubts);
+
+impl fmt::Display for ClaimText {
+    ghost use Rattle.std.specs.Prelude.{Some};
+    ghost use Rattle.lab_commands.specs.Lines.{claim_words};
+
+    ghost output = { λ text. Some (claim_words text.0) };
+
+    fn fmt<W: fmt::Write>(&self, f: &mut fmt::Formatter<W>) -> fmt::Result {
+        match (self.0.most_older(), self.0.outside) {
+            (0, 0) => f.write_str(": the array is that of every page that was programmed"),
+            (0, _) => {
+                f.write_str(
+                    ": of these sectors the array is that of every page that was programmed",
+                )
+            }
+            (older, _) => write!(
+                f,
+                ": at most {older} sectors may be older than the last write"
+            ),
+        }
+    }
+}
+
 // How far an array may be from the last write.
 #[derive(Clone, Copy)]
-struct AgeText(u32);
+struct AgeText(Doubts);
 
 impl fmt::Display for AgeText {
     ghost use Rattle.std.specs.Prelude.{Some};
@@ -246,13 +292,47 @@ impl fmt::Display for AgeText {
     ghost output = { λ text. Some (age_words text.0) };
 
     fn fmt<W: fmt::Write>(&self, f: &mut fmt::Formatter<W>) -> fmt::Result {
-        match self.0 {
-            0 => f.write_str("unsound 0: the array is that of every page that was programmed"),
-            unsound => write!(
-                f,
-                "unsound {unsound}: at most {unsound} sectors may be older than the last write"
-            ),
-        }
+        let (unsound, claim) = (self.0.unsound, ClaimText(self.0));
+        write!(
+            f,
+            "unsound {unsound}{claim}, if no page was lost behind the last one of its block"
+        )
+    }
+}
+
+// How many pages of some rows are neither erased nor sound.
+#[derive(Clone, Copy)]
+struct AgeOfRowsText(u32);
+
+impl fmt::Display for AgeOfRowsText {
+    ghost use Rattle.std.specs.Prelude.{◌++◌, codes, Some};
+    ghost use Rattle.std.specs.Fmt.{decimal};
+
+    ghost output = { λ text. Some (codes "unsound " ++ (decimal text.0 ++ codes ": of these rows alone, of others nothing is told")) };
+
+    fn fmt<W: fmt::Write>(&self, f: &mut fmt::Formatter<W>) -> fmt::Result {
+        let unsound = self.0;
+        write!(
+            f,
+            "unsound {unsound}: of these rows alone, of others nothing is told"
+        )
+    }
+}
+
+// A page that was mended, what it is now, and the bit that was turned.
+#[derive(Clone, Copy)]
+struct MendText(Made, u32, u32);
+
+impl fmt::Display for MendText {
+    ghost use Rattle.std.specs.Prelude.{◌++◌, codes, Some};
+    ghost use Rattle.std.specs.Fmt.{decimal};
+    ghost use Rattle.lab_commands.specs.Lines.{made_words};
+
+    ghost output = { λ text. Some (made_words text.0 ++ (codes " row " ++ (decimal text.1 ++ (codes " bit " ++ decimal text.2)))) };
+
+    fn fmt<W: fmt::Write>(&self, f: &mut fmt::Formatter<W>) -> fmt::Result {
+        let (made, row, bit) = (made_text(self.0), self.1, self.2);
+        write!(f, "{made} row {row} bit {bit}")
     }
 }
 
@@ -312,12 +392,16 @@ impl fmt::Display for Line {
             Line::PlainBlock(block, unsound) => two(f, "block ", block, " unsound ", unsound),
             Line::Lost(sector) => one(f, "lost sector ", u64::from(sector)),
             Line::Fit(fit) => FitText(fit).fmt(f),
-            Line::Mended(row, bit) => two(f, "mended row ", row, " bit ", bit),
+            Line::Mended(made, row, bit) => MendText(made, row, bit).fmt(f),
             Line::MendedCount(count) => one(f, "mended ", count),
             Line::Differ(row) => one(f, "differ row ", u64::from(row)),
             Line::Unsound(row) => one(f, "unsound row ", u64::from(row)),
             Line::Merged(differ, tally) => TallyText(differ, tally).fmt(f),
-            Line::Age(unsound) => AgeText(unsound).fmt(f),
+            Line::Age(doubts) => AgeText(doubts).fmt(f),
+            Line::AgeOfRows(unsound) => AgeOfRowsText(unsound).fmt(f),
+            Line::OfRows(rows) => two(f, "rows ", rows.first, "..", rows.end),
+            Line::Holes(pages) => one(f, "holes ", u64::from(pages)),
+            Line::Outside(pages) => one(f, "outside ", u64::from(pages)),
         }
     }
 }
@@ -342,6 +426,35 @@ pub(crate) fn last_line(pages: u32) -> Option<Line>
     } else {
         Some(Line::LastSequence(pages))
     }
+}
+
+/// The line of the pages that were lost, if some were.
+pub(crate) fn hole_line(pages: u32) -> Option<Line>
+    ensures { result ≡ hole_line pages }
+{
+    if pages == 0 {
+        None
+    } else {
+        Some(Line::Holes(pages))
+    }
+}
+
+/// The line of the pages of a sector past the last one, if there are some.
+pub(crate) fn past_line(pages: u32) -> Option<Line>
+    ensures { result ≡ past_line pages }
+{
+    if pages == 0 {
+        None
+    } else {
+        Some(Line::Outside(pages))
+    }
+}
+
+/// The line of the rows that were asked for, where not all were.
+pub(crate) fn rows_line(rows: Option<Rows>) -> Option<Line>
+    ensures { result ≡ rows_line rows }
+{
+    rows.map(Line::OfRows)
 }
 
 /// The reason that two pages share a sequence, if some do.

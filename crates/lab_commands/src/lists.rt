@@ -100,7 +100,7 @@ fn mend_line(mends: &[Mend], number: usize) -> Option<Line>
     ensures { result ≡ mend_at mends.now number }
 {
     let mend = *mends.get(number)?;
-    Some(Line::Mended(mend.row, mend.bit))
+    Some(Line::Mended(mend.made, mend.row, mend.bit))
 }
 
 fn differ_line(rows: &[u32], number: usize) -> Option<Line>

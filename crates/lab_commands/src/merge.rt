@@ -1,13 +1,16 @@
 //! The command `merge GEOM OUT DUMP DUMP..`.
-ghost use Rattle.std.specs.Prelude.{◌≡◌, ◌<◌, ℕ, List, [], get_or, length, map, OnOk, IfOk, IfErr};
+ghost use Rattle.std.specs.Prelude.{◌≡◌, ◌<◌, ℕ, List, [], get_or, length, map, true, OnOk, OnErr, IfOk, IfErr};
 ghost use Rattle.lab_mend.specs.Merged.{IsOfReading};
 ghost use Rattle.program_words.specs.Met.{texts};
-ghost use Rattle.lab_commands.specs.Files.{AnswersNoMore};
+ghost use Rattle.lab_commands.specs.Files.{AnswersNoMore, without_part};
 ghost use Rattle.lab_commands.specs.Merge.{AreOpened, HasSame, IsJoined, IsMergeFault, IsSomeUnread, IsUnjoined, IsUnopened, MayMerge, MayNotMerge, TellsFault, WroteMerge};
 ghost use Rattle.lab_commands.specs.Merge.{dumps_of};
 
-use crate::files::{LabFiles, Progress};
-use crate::opening::{create_beside, geometry_at, has_file, is_dump, keep, open_file, progress_of};
+use crate::files::{LabFiles, Progress, Standing};
+use crate::opening::{
+    create_beside, geometry_at, is_dump, keep, may_replace, open_file, progress_of, standing,
+};
+use crate::output::Output;
 use crate::printing::{printer, unprinted};
 use crate::reports::print_merged;
 use crate::text::LabFault;
@@ -15,7 +18,6 @@ use crate::words::MergeWords;
 use lab_mend::{MergeFault, Merged, merge_dumps};
 use page_layout::geometry::Geometry;
 use std::alloc::Global;
-use std::io::Write;
 
 // Whether a path is that of one of the dumps.
 fn is_some_dump<'a, F: LabFiles>(
@@ -35,23 +37,20 @@ fn is_some_dump<'a, F: LabFiles>(
     Ok(false)
 }
 
-// Whether OUT may be written: there is no such file, or it is none of the dumps and may be replaced.
+// Whether OUT may be written: nothing stands there, or a file that is none of the dumps and may be replaced.
 fn allow_merge<'a, F: LabFiles>(files: &mut F, words: &MergeWords<'a>) -> Result<(), LabFault<'a>>
     ensures ok { OnOk result (MayMerge (F.answers files.old) words.now) }
     ensures fault { IfErr result (MayNotMerge (F.answers files.old) words.now) }
     ensures same { files.new ≡ files.old }
 {
-    if !has_file(files, words.out)? {
+    let there = standing(files, words.out)?;
+    if there == Standing::Nothing {
         return Ok(());
     }
     if is_some_dump(files, &words.dumps, words.out)? {
         return Err(LabFault::IsDump);
     }
-    if words.force {
-        Ok(())
-    } else {
-        Err(LabFault::Exists)
-    }
+    may_replace(there, words.force)
 }
 
 // Opens a reader of each dump, in their order. They are read in step, so the first alone shows how far it is.
@@ -63,6 +62,7 @@ fn open_all<'a, F: LabFiles>(
 ) -> Result<(), LabFault<'a>>
     requires { readers.old.items ≡ [] }
     ensures opened { OnOk result (AreOpened (F.answers files.old) (texts dumps.now) (map F.Reader.remaining readers.new.items)) }
+    ensures fails { OnOk result (0 < length dumps.now → (reader : F.Reader) → F.Reader.failed reader ≡ true → (F.answers files.old).reads_fail) }
     ensures fault { IfErr result (IsUnopened (F.answers files.old) (texts dumps.now)) }
     ensures no_more { AnswersNoMore (F.answers files.old) (F.answers files.new) }
     ensures kept { F.kept files.new ≡ F.kept files.old }
@@ -108,16 +108,17 @@ fn join_by<'a, F: LabFiles>(
     ensures made { IfOk result (λ told. IsJoined (F.answers files.old) (dumps_of words.now) geometry.now (F.Target.pieces told.target) told.conflicts.items told.unsound.items told.tally) }
     ensures fault { IfErr result (IsUnjoined (F.answers files.old) (dumps_of words.now) geometry.now words.now.out.now) }
     ensures no_more { AnswersNoMore (F.answers files.old) (F.answers files.new) }
-    ensures kept { F.kept files.new ≡ F.kept files.old }
+    ensures beside { OnOk result (without_part (F.kept files.new) ≡ F.kept files.old) }
+    ensures kept { OnErr result (F.kept files.new ≡ F.kept files.old) }
 {
     open_all(&words.dumps, progress_of(words.showing), files, readers)?;
     let size = geometry.data_bytes() + geometry.spare_bytes();
     let target = create_beside(files, words.out, geometry.rows(), size)?;
     match merge_dumps(alloc, readers, geometry, target) {
         Ok(merged) => Ok(merged),
-        Err(fault) => {
-            files.discard(words.out);
-            Err(merge_told(fault, &words.dumps, words.out))
+        Err(unmerged) => {
+            files.discard(unmerged.target);
+            Err(merge_told(unmerged.fault, &words.dumps, words.out))
         }
     }
 }
@@ -133,25 +134,27 @@ fn join<'a, F: LabFiles>(
     ensures made { IfOk result (λ told. IsJoined (F.answers files.old) (dumps_of words.now) geometry.now (F.Target.pieces told.target) told.conflicts.items told.unsound.items told.tally) }
     ensures fault { IfErr result (IsUnjoined (F.answers files.old) (dumps_of words.now) geometry.now words.now.out.now) }
     ensures no_more { AnswersNoMore (F.answers files.old) (F.answers files.new) }
-    ensures kept { F.kept files.new ≡ F.kept files.old }
+    ensures beside { OnOk result (without_part (F.kept files.new) ≡ F.kept files.old) }
+    ensures kept { OnErr result (F.kept files.new ≡ F.kept files.old) }
 {
     let mut readers = Vec::new(alloc);
     join_by(alloc, words, geometry, files, &mut readers)
 }
 
 /// The command `merge`: writes one dump of the dumps DUMP, each a reading of one die of the geometry GEOM, to the file OUT, row by row, and prints
-/// of which rows two sound pages differ, of which no page is sound or erased nor the majority sound, and how many rows there are of each kind.
+/// of which rows two sound pages differ, of which no page is sound nor the majority and not all are erased, and how many rows there are of each kind.
 ///
 /// # Errors
 ///
 /// The first of this order: `BadNumber` where GEOM writes no numbers, `Geometry` where they are no geometry, `IsDump` where OUT is one of the
-/// dumps, `Exists` where there is a file OUT and it may not be replaced, `Read` where one of the dumps cannot be opened, `Write` where no file
+/// dumps, `Exists` where something stands at OUT and is not to be replaced, `NoFile` where that is neither a file nor a link to one, `Read` where one of the dumps cannot be opened, `Write` where no file
 /// can be made beside OUT, `OutOfMemory` where a growth was refused; then each when it happens: `Read` where a read of a dump fails,
-/// `DumpLength` where a dump has not as many bytes as the geometry says, `Write` where OUT cannot be written or put in its place. After each of
-/// these OUT is as it was, and nothing was printed. `Write` of `-` where `out` failed: then OUT was written.
+/// `DumpLength` where a dump has not as many bytes as the geometry says, `Write` where OUT cannot be written or put in its place, `Exists` where
+/// another program gave its name to a file meanwhile and it is not to be replaced. After each of these OUT is as it was, nothing stands beside it, and
+/// nothing was printed. `Write` of `-` where `out` failed: then OUT was written.
 ///
 /// (This project's.)
-pub(crate) fn merge_command<'a, F: LabFiles, W: Write>(
+pub(crate) fn merge_command<'a, F: LabFiles, W: Output>(
     alloc: Global,
     words: MergeWords<'a>,
     files: &mut F,
@@ -159,12 +162,12 @@ pub(crate) fn merge_command<'a, F: LabFiles, W: Write>(
 ) -> Result<(), LabFault<'a>>
     requires { 0 < length words.dumps.items }
     ensures ok { OnOk result (WroteMerge (F.answers files.old) words.entry (F.kept files.old) (F.kept files.new) (W.contents out.old) (W.contents out.new)) }
-    ensures fault { IfErr result (IsMergeFault (F.answers files.old) words.entry (F.kept files.old) (F.kept files.new) (W.contents out.old) (W.contents out.new)) }
+    ensures fault { IfErr result (IsMergeFault (F.answers files.old) words.entry (F.kept files.old) (F.kept files.new) (W.failed out.new) (W.contents out.old) (W.contents out.new)) }
 {
     let geometry = geometry_at(words.geometry)?;
     allow_merge(files, &words)?;
     let merged = join(alloc, &words, &geometry, files)?;
-    keep(files, words.out, merged.target)?;
+    keep(files, words.out, merged.target, words.force)?;
     let printer = printer(alloc, words.showing);
     match print_merged(
         printer,

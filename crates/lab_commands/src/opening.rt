@@ -1,9 +1,10 @@
 //! The words and the files that each command begins with.
-ghost use Rattle.std.specs.Prelude.{◌≡◌, [], ◌∷◌, Some, IfOk, IfErr, IfSome, OnOk, OnErr, replicate};
-ghost use Rattle.lab_commands.specs.Files.{AnswersNoMore, IsOpened, with_kept};
-ghost use Rattle.lab_commands.specs.Undone.{IsGeometryAt, IsNoGeometry, IsUnread, IsUnwritten, MayNotWrite, MayWrite, unmade_as};
+ghost use Rattle.std.specs.Prelude.{◌≡◌, ◌≢◌, [], ◌∷◌, Some, true, IfOk, IfErr, IfSome, OnOk, OnErr, replicate};
+ghost use Rattle.lab_commands.specs.declared.files.Standing.TheVariants.{Nothing};
+ghost use Rattle.lab_commands.specs.Files.{AnswersNoMore, IsOpened, with_kept, without_part};
+ghost use Rattle.lab_commands.specs.Undone.{IsGeometryAt, IsKeptThere, IsMapUnplaced, IsNoGeometry, IsReplaceable, IsUnplaced, IsUnread, IsUnwritten, MayNotWrite, MayWrite, unmade_as};
 
-use crate::files::{FileFault, LabFiles, Progress};
+use crate::files::{FileFault, KeepFault, LabFiles, Progress, Standing};
 use crate::text::LabFault;
 use crate::words::Showing;
 use command_words::geometry_numbers;
@@ -46,6 +47,7 @@ pub(crate) fn open_file<'a, F: LabFiles>(
     progress: Progress,
 ) -> Result<F::Reader, LabFault<'a>>
     ensures bytes { IfOk result (λ reader. IsOpened (F.answers files.old) path.now (F.Reader.remaining reader)) }
+    ensures fails { (reader : F.Reader) → F.Reader.failed reader ≡ true → (F.answers files.old).reads_fail }
     ensures fault { IfErr result (IsUnread (F.answers files.old) path.now) }
     ensures no_more { AnswersNoMore (F.answers files.old) (F.answers files.new) }
     ensures kept { F.kept files.new ≡ F.kept files.old }
@@ -64,6 +66,7 @@ pub(crate) fn open_dump<'a, F: LabFiles>(
     progress: Progress,
 ) -> Result<F::Dump, LabFault<'a>>
     ensures bytes { IfOk result (λ dump. IsOpened (F.answers files.old) path.now (F.Dump.bytes dump)) }
+    ensures fails { (dump : F.Dump) → F.Dump.failed dump ≡ true → (F.answers files.old).reads_fail }
     ensures fault { IfErr result (IsUnread (F.answers files.old) path.now) }
     ensures kept { F.kept files.new ≡ F.kept files.old }
 {
@@ -86,14 +89,17 @@ pub(crate) fn unmade_as<'a>(fault: MakeFault, dump: &'a str, out: &'a str) -> La
     }
 }
 
-/// Whether there is a file of a path, which is to be written.
-pub(crate) fn has_file<'a, F: LabFiles>(files: &mut F, path: &'a str) -> Result<bool, LabFault<'a>>
-    ensures said { IfOk result ((F.answers files.old).says_file path.now) }
+/// What stands at a path, which is to be written.
+pub(crate) fn standing<'a, F: LabFiles>(
+    files: &mut F,
+    path: &'a str,
+) -> Result<Standing, LabFault<'a>>
+    ensures said { IfOk result ((F.answers files.old).says path.now) }
     ensures fault { IfErr result (IsUnwritten (F.answers files.old) path.now) }
     ensures same { files.new ≡ files.old }
 {
-    match files.has(path) {
-        Ok(has) => Ok(has),
+    match files.standing(path) {
+        Ok(standing) => Ok(standing),
         Err(FileFault::Failed) => Err(LabFault::Write(path)),
         Err(FileFault::OutOfMemory) => Err(LabFault::OutOfMemory),
     }
@@ -133,7 +139,22 @@ pub(crate) fn is_out<'a, F: LabFiles>(
     }
 }
 
-/// Whether a file of a path may be written that is made of a dump: there is no such file, or it is not the dump and may be replaced.
+/// Whether what stands at a path, and is no dump, may be replaced: a file, or a link to one, where that is asked for.
+pub(crate) fn may_replace<'a>(standing: Standing, force: bool) -> Result<(), LabFault<'a>>
+    requires { standing ≢ Nothing }
+    ensures ok { OnOk result (IsReplaceable standing force) }
+    ensures fault { IfErr result (IsKeptThere standing force) }
+{
+    if !force {
+        return Err(LabFault::Exists);
+    }
+    match standing {
+        Standing::File => Ok(()),
+        Standing::Nothing | Standing::Other => Err(LabFault::NoFile),
+    }
+}
+
+/// Whether a file of a path may be written that is made of a dump: nothing stands there, or a file that is not the dump and may be replaced.
 pub(crate) fn allow<'a, F: LabFiles>(
     files: &mut F,
     dump: &'a str,
@@ -144,13 +165,14 @@ pub(crate) fn allow<'a, F: LabFiles>(
     ensures fault { IfErr result (MayNotWrite (F.answers files.old) dump.now path.now force) }
     ensures same { files.new ≡ files.old }
 {
-    if !has_file(files, path)? {
+    let there = standing(files, path)?;
+    if there == Standing::Nothing {
         return Ok(());
     }
     if is_dump(files, dump, path)? {
         return Err(LabFault::IsDump);
     }
-    if force { Ok(()) } else { Err(LabFault::Exists) }
+    may_replace(there, force)
 }
 
 /// A file of so many pieces of so many zeros beside that of a path.
@@ -160,10 +182,12 @@ pub(crate) fn create_beside<'a, F: LabFiles>(
     count: u32,
     size: usize,
 ) -> Result<F::Target, LabFault<'a>>
+    ensures fails { (target : F.Target) → F.Target.failed target ≡ true → (F.answers files.old).writes_fail }
     ensures blank { IfOk result (λ target. IfSome (F.Target.pieces target) (λ ps. ps ≡ replicate count (replicate size 0))) }
     ensures fault { IfErr result (IsUnwritten (F.answers files.old) path.now) }
     ensures no_more { AnswersNoMore (F.answers files.old) (F.answers files.new) }
-    ensures kept { F.kept files.new ≡ F.kept files.old }
+    ensures made { OnOk result (without_part (F.kept files.new) ≡ F.kept files.old) }
+    ensures kept { OnErr result (F.kept files.new ≡ F.kept files.old) }
 {
     match files.create(path, count, size) {
         Ok(target) => Ok(target),
@@ -172,42 +196,41 @@ pub(crate) fn create_beside<'a, F: LabFiles>(
     }
 }
 
-/// Puts the file beside a path in its place. Where that fails it is removed.
+/// Puts a file that was made in the place of a path. Where that fails it is removed.
 pub(crate) fn keep<'a, F: LabFiles>(
     files: &mut F,
     path: &'a str,
     target: F::Target,
+    force: bool,
 ) -> Result<(), LabFault<'a>>
-    ensures ok { OnOk result (F.kept files.new ≡ with_kept (F.kept files.old) path.now (F.Target.pieces target)) }
-    ensures fault { IfErr result (IsUnwritten (F.answers files.old) path.now) }
+    ensures ok { OnOk result (F.kept files.new ≡ with_kept (without_part (F.kept files.old)) path.now (F.Target.pieces target) force) }
+    ensures fault { IfErr result (IsUnplaced (F.answers files.old) path.now force) }
     ensures no_more { OnOk result (AnswersNoMore (F.answers files.old) (F.answers files.new)) }
-    ensures kept { OnErr result (F.kept files.new ≡ F.kept files.old) }
+    ensures kept { OnErr result (F.kept files.new ≡ without_part (F.kept files.old)) }
 {
-    match files.keep(path, target) {
+    match files.keep(path, target, force) {
         Ok(()) => Ok(()),
-        Err(fault) => {
-            files.discard(path);
-            match fault {
-                FileFault::Failed => Err(LabFault::Write(path)),
-                FileFault::OutOfMemory => Err(LabFault::OutOfMemory),
-            }
-        }
+        Err(KeepFault::Taken) => Err(LabFault::Exists),
+        Err(KeepFault::Fails(FileFault::Failed)) => Err(LabFault::Write(path)),
+        Err(KeepFault::Fails(FileFault::OutOfMemory)) => Err(LabFault::OutOfMemory),
     }
 }
 
-/// Puts a file of these bytes in the place of a path.
-pub(crate) fn store_file<'a, F: LabFiles>(
+/// Puts a map of these bytes in the place of a path.
+pub(crate) fn store_map<'a, F: LabFiles>(
     files: &mut F,
     path: &'a str,
     bytes: &[u8],
+    force: bool,
 ) -> Result<(), LabFault<'a>>
-    ensures ok { OnOk result (F.kept files.new ≡ with_kept (F.kept files.old) path.now (Some (bytes.now ∷ []))) }
-    ensures fault { IfErr result (IsUnwritten (F.answers files.old) path.now) }
+    ensures ok { OnOk result (F.kept files.new ≡ with_kept (F.kept files.old) path.now (Some (bytes.now ∷ [])) force) }
+    ensures fault { IfErr result (IsMapUnplaced (F.answers files.old) path.now force) }
     ensures kept { OnErr result (F.kept files.new ≡ F.kept files.old) }
 {
-    match files.store(path, bytes) {
+    match files.store(path, bytes, force) {
         Ok(()) => Ok(()),
-        Err(FileFault::Failed) => Err(LabFault::Write(path)),
-        Err(FileFault::OutOfMemory) => Err(LabFault::OutOfMemory),
+        Err(KeepFault::Taken) => Err(LabFault::MapExists),
+        Err(KeepFault::Fails(FileFault::Failed)) => Err(LabFault::Write(path)),
+        Err(KeepFault::Fails(FileFault::OutOfMemory)) => Err(LabFault::OutOfMemory),
     }
 }

@@ -1,6 +1,6 @@
 //! How a command prints what it has to say.
 ghost use Rattle.std.specs.Prelude.{◌≡◌};
-ghost use Rattle.lab_commands.specs.Undone.{IsUnprinted, form_of};
+ghost use Rattle.lab_commands.specs.Undone.{TellsPrint, form_of};
 
 use crate::document::{Form, PrintFault, Printer};
 use crate::text::LabFault;
@@ -16,7 +16,7 @@ pub(crate) fn printer(alloc: Global, showing: Showing) -> Printer
 
 /// How it is told that standard output did not take all.
 pub(crate) fn unprinted<'a>(fault: PrintFault) -> LabFault<'a>
-    ensures { IsUnprinted result }
+    ensures { TellsPrint fault result }
 {
     match fault {
         PrintFault::Failed => LabFault::Write("-"),

@@ -1,31 +1,30 @@
 //! The program's commands.
 ghost use Rattle.std.specs.Prelude.{OnOk, IfErr};
 ghost use Rattle.program_words.specs.Met.{texts};
-ghost use Rattle.lab_commands.specs.Program.{IsRefused, Obeyed, Runs};
+ghost use Rattle.lab_commands.specs.Program.{IsRefused, Obeyed, Runs, Written};
 
 use crate::array::array_command;
 use crate::compare::compare_command;
 use crate::files::LabFiles;
 use crate::geometry::geometry_command;
 use crate::merge::merge_command;
+use crate::output::Output;
 use crate::repair::repair_command;
 use crate::survey::survey_command;
 use crate::text::{DONE, LabFault, tell};
 use crate::words::{Asked, parse};
 use program_words::WordsFault;
-use request_stream::send;
 use std::alloc::Global;
-use std::io::Write;
 
 // Does what the words ask.
-fn obey<'a, F: LabFiles, W: Write>(
+fn obey<'a, F: LabFiles, W: Output>(
     alloc: Global,
     words: &'a [&'a str],
     files: &mut F,
     out: &mut W,
 ) -> Result<(), LabFault<'a>>
     ensures ok { OnOk result (Obeyed (F.answers files.old) (texts words.now) (F.kept files.old) (F.kept files.new) (W.contents out.old) (W.contents out.new)) }
-    ensures err { IfErr result (IsRefused (F.answers files.old) (texts words.now) (F.kept files.old) (F.kept files.new) (W.contents out.old) (W.contents out.new)) }
+    ensures err { IfErr result (IsRefused (F.answers files.old) (texts words.now) (F.kept files.old) (F.kept files.new) (W.failed out.new) (W.contents out.old) (W.contents out.new)) }
 {
     match parse(alloc, words) {
         Ok(Asked::Geometry(read)) => geometry_command(alloc, read, files, out),
@@ -34,7 +33,7 @@ fn obey<'a, F: LabFiles, W: Write>(
         Ok(Asked::Compare(read)) => compare_command(alloc, read, files, out),
         Ok(Asked::Merge(read)) => merge_command(alloc, read, files, out),
         Ok(Asked::Repair(read)) => repair_command(alloc, read, files, out),
-        Ok(Asked::Text(text)) => match send(out, text.as_bytes()) {
+        Ok(Asked::Text(text)) => match out.put(text.as_bytes()) {
             Ok(()) => Ok(()),
             Err(_) => Err(LabFault::Write("-")),
         },
@@ -47,17 +46,19 @@ fn obey<'a, F: LabFiles, W: Write>(
 /// program's name. Of a command that was not done one line goes to `err`, and nothing to `out` unless it is `out` that failed.
 ///
 /// (The words, the lines and the statuses are this project's.)
-pub fn run<F: LabFiles, W: Write, E: Write>(
+pub fn run<F: LabFiles, W: Output, E: Output>(
     alloc: Global,
     words: &[&str],
     files: &mut F,
     out: &mut W,
     err: &mut E,
 ) -> u8
-    ensures { Runs (F.answers files.old) (texts words.now) (F.kept files.old) (F.kept files.new) (W.contents out.old) (W.contents out.new) (E.contents err.old) (E.contents err.new) result }
+    ensures { Runs (F.answers files.old) (texts words.now) (F.kept files.old) (F.kept files.new)
+        (record { before = W.contents out.old; after = W.contents out.new; broke = W.failed out.new })
+        (record { before = E.contents err.old; after = E.contents err.new; broke = E.failed err.new }) result }
 {
     match obey(alloc, words, files, out) {
         Ok(()) => DONE,
-        Err(fault) => tell(&fault, err),
+        Err(fault) => tell(alloc, &fault, err),
     }
 }

@@ -1,11 +1,12 @@
 //! The command `repair GEOM DUMP OUT`.
-ghost use Rattle.std.specs.Prelude.{◌≡◌, OnOk, IfOk, IfErr};
-ghost use Rattle.lab_commands.specs.Files.{AnswersNoMore};
+ghost use Rattle.std.specs.Prelude.{◌≡◌, OnOk, OnErr, IfOk, IfErr};
+ghost use Rattle.lab_commands.specs.Files.{AnswersNoMore, without_part};
 ghost use Rattle.lab_commands.specs.Undone.{IsUnmade};
 ghost use Rattle.lab_commands.specs.Repair.{IsMended, IsRepairFault, WroteRepair};
 
 use crate::files::LabFiles;
 use crate::opening::{allow, create_beside, geometry_at, keep, open_file, progress_of, unmade_as};
+use crate::output::Output;
 use crate::printing::{printer, unprinted};
 use crate::reports::print_repaired;
 use crate::rows::rows_at;
@@ -15,7 +16,6 @@ use lab_dump::Rows;
 use lab_mend::{Repaired, repair_dump};
 use page_layout::geometry::Geometry;
 use std::alloc::Global;
-use std::io::Write;
 
 // Makes the mended dump beside its place.
 fn mend<'a, F: LabFiles>(
@@ -28,48 +28,49 @@ fn mend<'a, F: LabFiles>(
     ensures made { IfOk result (λ told. IsMended (F.answers files.old) words.now.dump.now geometry.now rows (F.Target.pieces told.target) told.mends.items) }
     ensures fault { IfErr result (IsUnmade (F.answers files.old) geometry.now words.now.dump.now words.now.out.now) }
     ensures no_more { AnswersNoMore (F.answers files.old) (F.answers files.new) }
-    ensures kept { F.kept files.new ≡ F.kept files.old }
+    ensures beside { OnOk result (without_part (F.kept files.new) ≡ F.kept files.old) }
+    ensures kept { OnErr result (F.kept files.new ≡ F.kept files.old) }
 {
     let mut dump = open_file(files, words.dump, progress_of(words.showing))?;
     let size = geometry.data_bytes() + geometry.spare_bytes();
     let target = create_beside(files, words.out, geometry.rows(), size)?;
     match repair_dump(alloc, &mut dump, geometry, rows, target) {
         Ok(repaired) => Ok(repaired),
-        Err(fault) => {
-            files.discard(words.out);
-            Err(unmade_as(fault, words.dump, words.out))
+        Err(unwritten) => {
+            files.discard(unwritten.target);
+            Err(unmade_as(unwritten.fault, words.dump, words.out))
         }
     }
 }
 
 /// The command `repair`: writes the dump DUMP, of the geometry GEOM, to the file OUT, with each page mended that is neither erased nor sound and
-/// that one bit turned makes sound, and prints which pages were mended, and how many. Where it has the word A..B, pages of the rows A to B - 1
+/// that one bit turned makes sound, or else erased, and prints which pages were mended, and how many. Where it has the word A..B, pages of the rows A to B - 1
 /// alone are mended.
 ///
 /// # Errors
 ///
 /// The first of this order: `BadNumber` where GEOM writes no numbers, `Geometry` where they are no geometry, `BadNumber` where A..B is no two
 /// numbers, `RowRange` where B is less than A or more than the die has rows, `IsDump` where OUT is the dump,
-/// `Exists` where there is a file OUT and it may not be replaced, `Read` where DUMP cannot be opened, `Write` where no file can be made
+/// `Exists` where something stands at OUT and is not to be replaced, `NoFile` where that is neither a file nor a link to one, `Read` where DUMP cannot be opened, `Write` where no file can be made
 /// beside OUT, `OutOfMemory` where a growth was refused; then each when it happens: `Read` where a read of DUMP fails, `WrongLength` where
-/// it has not as many bytes as the geometry says, `Write` where OUT cannot be written or put in its place. After each of these OUT is as it
-/// was, and nothing was printed. `Write` of `-` where `out` failed: then OUT was written.
+/// it has not as many bytes as the geometry says, `Write` where OUT cannot be written or put in its place, `Exists` where another program gave its name to a
+/// file meanwhile and it is not to be replaced. After each of these OUT is as it was, nothing stands beside it, and nothing was printed. `Write` of `-` where `out` failed: then OUT was written.
 ///
 /// (This project's.)
-pub(crate) fn repair_command<'a, F: LabFiles, W: Write>(
+pub(crate) fn repair_command<'a, F: LabFiles, W: Output>(
     alloc: Global,
     words: RepairWords<'a>,
     files: &mut F,
     out: &mut W,
 ) -> Result<(), LabFault<'a>>
     ensures ok { OnOk result (WroteRepair (F.answers files.old) words.entry (F.kept files.old) (F.kept files.new) (W.contents out.old) (W.contents out.new)) }
-    ensures fault { IfErr result (IsRepairFault (F.answers files.old) words.entry (F.kept files.old) (F.kept files.new) (W.contents out.old) (W.contents out.new)) }
+    ensures fault { IfErr result (IsRepairFault (F.answers files.old) words.entry (F.kept files.old) (F.kept files.new) (W.failed out.new) (W.contents out.old) (W.contents out.new)) }
 {
     let geometry = geometry_at(words.geometry)?;
     let rows = rows_at(words.rows, &geometry)?;
     allow(files, words.dump, words.out, words.force)?;
     let repaired = mend(alloc, &words, &geometry, rows, files)?;
-    keep(files, words.out, repaired.target)?;
+    keep(files, words.out, repaired.target, words.force)?;
     match print_repaired(printer(alloc, words.showing), out, &repaired.mends) {
         Ok(()) => Ok(()),
         Err(fault) => Err(unprinted(fault)),

@@ -2,23 +2,25 @@
 ghost use Rattle.std.specs.Prelude.{◌≡◌, option_map, map};
 ghost use Rattle.lab_dump.specs.Held.{state_in};
 ghost use Rattle.lab_commands.specs.Document.{Prints, text_below};
-ghost use Rattle.lab_commands.specs.Reports.{array_text, blocks_text, compare_text, count_lines, fits_text, key_at, keys_text, losses_text, merge_text, repair_text, some_text, survey_lines, survey_text, table_at, ties_text};
+ghost use Rattle.lab_commands.specs.Reports.{array_text, blocks_text, compare_text, count_lines, doubts_text, ending_text, fits_text, key_at, keys_text, losses_text, merge_text, repair_text, some_text, survey_lines, survey_text, table_at, ties_text};
 
 use crate::document::{PrintFault, Printer};
-use crate::lines::{Label, Line, Sort, last_line, outside_line, repeated_line};
+use crate::lines::{
+    Label, Line, Sort, hole_line, last_line, outside_line, past_line, repeated_line, rows_line,
+};
 use crate::lists::Lines;
-use lab_dump::{Compared, DieSurvey, Fit, Held, State};
+use crate::output::Output;
+use lab_dump::{Compared, DieSurvey, Doubts, Fit, Held, Rows, State};
 use lab_mend::{Mend, Tally};
 use page_layout::geometry::Geometry;
-use std::io::Write;
 
 // The pages of each sort, and the reasons against a mount but for the tables.
-fn print_counts<W: Write>(
+fn print_counts<W: Output>(
     printer: Printer,
     out: &mut W,
     survey: &DieSurvey,
 ) -> Result<(), PrintFault>
-    ensures { Prints (W.contents out.old) (W.contents out.new) (some_text printer.form (count_lines survey.now)) result }
+    ensures { Prints (W.failed out.new) (W.contents out.old) (W.contents out.new) (some_text printer.form (count_lines survey.now)) result }
 {
     let counts = survey.counts;
     printer.list(
@@ -38,7 +40,7 @@ fn print_counts<W: Write>(
 }
 
 // The table pages that are a reason against a mount, by how those stand from a place on.
-fn print_tables<W: Write>(
+fn print_tables<W: Output>(
     printer: Printer,
     out: &mut W,
     states: &[State],
@@ -46,20 +48,20 @@ fn print_tables<W: Write>(
     from: u32,
     count: u32,
 ) -> Result<(), PrintFault>
-    ensures { Prints (W.contents out.old) (W.contents out.new) (text_below printer.form (table_at states.now from formed.now) count) result }
+    ensures { Prints (W.failed out.new) (W.contents out.old) (W.contents out.new) (text_below printer.form (table_at states.now from formed.now) count) result }
 {
     printer.list(out, &Lines::Tables(states, from, formed, count))
 }
 
 // The table pages that are a reason against a mount, and the keys that are tied or missing.
-fn print_keys<W: Write>(
+fn print_keys<W: Output>(
     printer: Printer,
     out: &mut W,
     geometry: &Geometry,
     states: &[State],
     formed: &[bool],
 ) -> Result<(), PrintFault>
-    ensures { Prints (W.contents out.old) (W.contents out.new) (keys_text printer.form geometry.now states.now formed.now) result }
+    ensures { Prints (W.failed out.new) (W.contents out.old) (W.contents out.new) (keys_text printer.form geometry.now states.now formed.now) result }
 {
     let (sectors, translations) = (geometry.sectors(), geometry.translation_pages());
     let (first, tables) = (sectors + translations, geometry.table_pages());
@@ -77,7 +79,7 @@ fn print_keys<W: Write>(
 }
 
 // The keys of one kind that are tied or missing, by how those stand from a place on.
-fn print_kind<W: Write>(
+fn print_kind<W: Output>(
     printer: Printer,
     out: &mut W,
     states: &[State],
@@ -85,121 +87,153 @@ fn print_kind<W: Write>(
     from: u32,
     count: u32,
 ) -> Result<(), PrintFault>
-    ensures { Prints (W.contents out.old) (W.contents out.new) (text_below printer.form (key_at of states.now from) count) result }
+    ensures { Prints (W.failed out.new) (W.contents out.old) (W.contents out.new) (text_below printer.form (key_at of states.now from) count) result }
 {
     printer.list(out, &Lines::Keys(of, states, from, count))
 }
 
 // The blocks.
-fn print_blocks<W: Write>(
+fn print_blocks<W: Output>(
     printer: Printer,
     out: &mut W,
     geometry: &Geometry,
     survey: &DieSurvey,
 ) -> Result<(), PrintFault>
-    ensures { Prints (W.contents out.old) (W.contents out.new) (blocks_text printer.form geometry.now survey.now) result }
+    ensures { Prints (W.failed out.new) (W.contents out.old) (W.contents out.new) (blocks_text printer.form geometry.now survey.now) result }
 {
     let count = geometry.blocks();
     printer.list(out, &Lines::Blocks(survey, count))
 }
 
+// What a dump leaves open, and how far the array may be from the last write.
+fn print_doubts<W: Output>(printer: Printer, out: &mut W, doubts: Doubts) -> Result<(), PrintFault>
+    ensures { Prints (W.failed out.new) (W.contents out.old) (W.contents out.new) (doubts_text printer.form doubts) result }
+{
+    printer.list(
+        out,
+        &Lines::Fixed(&[
+            hole_line(doubts.holes),
+            past_line(doubts.outside),
+            Some(Line::Age(doubts)),
+        ]),
+    )
+}
+
+// What a survey ends with.
+fn print_ending<W: Output>(
+    printer: Printer,
+    out: &mut W,
+    rows: Option<Rows>,
+    survey: &DieSurvey,
+) -> Result<(), PrintFault>
+    ensures { Prints (W.failed out.new) (W.contents out.old) (W.contents out.new) (ending_text printer.form rows survey.now) result }
+{
+    match rows {
+        Some(_) => printer.line(out, Some(Line::AgeOfRows(survey.counts.unsound))),
+        None => print_doubts(printer, out, survey.doubts),
+    }
+}
+
 // The lines of a survey.
-fn print_lines<W: Write>(
+fn print_lines<W: Output>(
     printer: Printer,
     out: &mut W,
     geometry: &Geometry,
+    rows: Option<Rows>,
     survey: &DieSurvey,
 ) -> Result<(), PrintFault>
-    ensures { Prints (W.contents out.old) (W.contents out.new) (survey_lines printer.form geometry.now survey.now) result }
+    ensures { Prints (W.failed out.new) (W.contents out.old) (W.contents out.new) (survey_lines printer.form geometry.now rows survey.now) result }
 {
+    printer.line(out, rows_line(rows))?;
     print_counts(printer, out, survey)?;
     print_keys(printer, out, geometry, &survey.keys, &survey.formed)?;
     print_blocks(printer, out, geometry, survey)?;
-    printer.line(out, Some(Line::Age(survey.counts.unsound)))
+    print_ending(printer, out, rows, survey)
 }
 
-/// Prints what a survey says: the pages of each sort, the reasons against a mount, the keys that are tied or missing, the blocks, and the
-/// line of the pages that are neither erased nor sound.
+/// Prints what a survey says: the rows that were asked for, where not all were, the pages of each sort, the reasons against a mount, the keys that
+/// are tied or missing, the blocks, and what the dump leaves open, or of the rows that were asked for the pages that are neither erased nor sound.
 ///
 /// # Errors
 ///
 /// `Failed` where a write failed, `OutOfMemory` where a growth was refused: a beginning of the document stands there, or nothing. (This
 /// project's.)
-pub fn print_survey<W: Write>(
+pub fn print_survey<W: Output>(
     printer: Printer,
     out: &mut W,
     geometry: &Geometry,
+    rows: Option<Rows>,
     survey: &DieSurvey,
 ) -> Result<(), PrintFault>
-    ensures { Prints (W.contents out.old) (W.contents out.new) (survey_text printer.form geometry.now survey.now) result }
+    ensures { Prints (W.failed out.new) (W.contents out.old) (W.contents out.new) (survey_text printer.form geometry.now rows survey.now) result }
 {
     printer.begin(out, "survey")?;
-    print_lines(printer, out, geometry, survey)?;
+    print_lines(printer, out, geometry, rows, survey)?;
     printer.end(out)
 }
 
 // The sectors that have lost a page.
-fn print_losses<W: Write>(
+fn print_losses<W: Output>(
     printer: Printer,
     out: &mut W,
     geometry: &Geometry,
     lost: &[bool],
 ) -> Result<(), PrintFault>
-    ensures { Prints (W.contents out.old) (W.contents out.new) (losses_text printer.form geometry.now lost.now) result }
+    ensures { Prints (W.failed out.new) (W.contents out.old) (W.contents out.new) (losses_text printer.form geometry.now lost.now) result }
 {
     let count = geometry.sectors();
     printer.list(out, &Lines::Losses(lost, count))
 }
 
-/// Prints which sectors have lost a page, and the line of the pages that are neither erased nor sound.
+/// Prints which sectors have lost a page, and what the dump leaves open.
 ///
 /// # Errors
 ///
 /// As of `print_survey`. (This project's.)
-pub fn print_compared<W: Write>(
+pub fn print_compared<W: Output>(
     printer: Printer,
     out: &mut W,
     geometry: &Geometry,
     told: &Compared,
 ) -> Result<(), PrintFault>
-    ensures { Prints (W.contents out.old) (W.contents out.new) (compare_text printer.form geometry.now told.now) result }
+    ensures { Prints (W.failed out.new) (W.contents out.old) (W.contents out.new) (compare_text printer.form geometry.now told.now) result }
 {
     printer.begin(out, "compare")?;
     print_losses(printer, out, geometry, &told.lost)?;
-    printer.line(out, Some(Line::Age(told.unsound)))?;
+    print_doubts(printer, out, told.doubts)?;
     printer.end(out)
 }
 
 // The sectors that are tied.
-fn print_ties<W: Write>(
+fn print_ties<W: Output>(
     printer: Printer,
     out: &mut W,
     geometry: &Geometry,
     held: &[Held],
 ) -> Result<(), PrintFault>
-    ensures { Prints (W.contents out.old) (W.contents out.new) (ties_text printer.form geometry.now (map state_in held.now)) result }
+    ensures { Prints (W.failed out.new) (W.contents out.old) (W.contents out.new) (ties_text printer.form geometry.now (map state_in held.now)) result }
 {
     let count = geometry.sectors();
     printer.list(out, &Lines::Ties(held, count))
 }
 
-/// Prints which sectors are tied, by what is held of each, and the line of the pages that are neither erased nor sound.
+/// Prints which sectors are tied, by what is held of each, and what the dump leaves open.
 ///
 /// # Errors
 ///
 /// As of `print_survey`. (This project's.)
-pub fn print_array<W: Write>(
+pub fn print_array<W: Output>(
     printer: Printer,
     out: &mut W,
     geometry: &Geometry,
     held: &[Held],
-    unsound: u32,
+    doubts: Doubts,
 ) -> Result<(), PrintFault>
-    ensures { Prints (W.contents out.old) (W.contents out.new) (array_text printer.form geometry.now (map state_in held.now) unsound) result }
+    ensures { Prints (W.failed out.new) (W.contents out.old) (W.contents out.new) (array_text printer.form geometry.now (map state_in held.now) doubts) result }
 {
     printer.begin(out, "array")?;
     print_ties(printer, out, geometry, held)?;
-    printer.line(out, Some(Line::Age(unsound)))?;
+    print_doubts(printer, out, doubts)?;
     printer.end(out)
 }
 
@@ -208,8 +242,8 @@ pub fn print_array<W: Write>(
 /// # Errors
 ///
 /// As of `print_survey`. (This project's.)
-pub fn print_fits<W: Write>(printer: Printer, out: &mut W, fits: &[Fit]) -> Result<(), PrintFault>
-    ensures { Prints (W.contents out.old) (W.contents out.new) (fits_text printer.form fits.now) result }
+pub fn print_fits<W: Output>(printer: Printer, out: &mut W, fits: &[Fit]) -> Result<(), PrintFault>
+    ensures { Prints (W.failed out.new) (W.contents out.old) (W.contents out.new) (fits_text printer.form fits.now) result }
 {
     printer.begin(out, "geometry")?;
     printer.list(out, &Lines::Fits(fits))?;
@@ -221,12 +255,12 @@ pub fn print_fits<W: Write>(printer: Printer, out: &mut W, fits: &[Fit]) -> Resu
 /// # Errors
 ///
 /// As of `print_survey`. (This project's.)
-pub fn print_repaired<W: Write>(
+pub fn print_repaired<W: Output>(
     printer: Printer,
     out: &mut W,
     mends: &[Mend],
 ) -> Result<(), PrintFault>
-    ensures { Prints (W.contents out.old) (W.contents out.new) (repair_text printer.form mends.now) result }
+    ensures { Prints (W.failed out.new) (W.contents out.old) (W.contents out.new) (repair_text printer.form mends.now) result }
 {
     printer.begin(out, "repair")?;
     printer.list(out, &Lines::Mends(mends))?;
@@ -240,14 +274,14 @@ pub fn print_repaired<W: Write>(
 /// # Errors
 ///
 /// As of `print_survey`. (This project's.)
-pub fn print_merged<W: Write>(
+pub fn print_merged<W: Output>(
     printer: Printer,
     out: &mut W,
     conflicts: &[u32],
     unsound: &[u32],
     tally: Tally,
 ) -> Result<(), PrintFault>
-    ensures { Prints (W.contents out.old) (W.contents out.new) (merge_text printer.form conflicts.now unsound.now tally) result }
+    ensures { Prints (W.failed out.new) (W.contents out.old) (W.contents out.new) (merge_text printer.form conflicts.now unsound.now tally) result }
 {
     printer.begin(out, "merge")?;
     printer.list(out, &Lines::Conflicts(conflicts))?;

@@ -4,6 +4,7 @@ ghost use Rattle.lab_commands.specs.Survey.{IsSeen, IsSurveyFault, IsUnsurveyed,
 
 use crate::files::LabFiles;
 use crate::opening::{geometry_at, open_file, progress_of};
+use crate::output::Output;
 use crate::printing::{printer, unprinted};
 use crate::reports::print_survey;
 use crate::rows::rows_at;
@@ -12,7 +13,6 @@ use crate::words::{Showing, SurveyWords};
 use lab_dump::{DieSurvey, Rows, SurveyFault, survey_dump};
 use page_layout::geometry::Geometry;
 use std::alloc::Global;
-use std::io::Write;
 
 // The survey of a dump.
 fn survey_of<'a, F: LabFiles>(
@@ -46,7 +46,7 @@ fn survey_of<'a, F: LabFiles>(
 /// has not as many bytes as the geometry says. After each of these nothing was printed. `Write` of `-` where `out` failed.
 ///
 /// (This project's.)
-pub(crate) fn survey_command<'a, F: LabFiles, W: Write>(
+pub(crate) fn survey_command<'a, F: LabFiles, W: Output>(
     alloc: Global,
     words: SurveyWords<'a>,
     files: &mut F,
@@ -54,12 +54,12 @@ pub(crate) fn survey_command<'a, F: LabFiles, W: Write>(
 ) -> Result<(), LabFault<'a>>
     ensures ok { OnOk result (ToldSurvey (F.answers files.old) words.entry (W.contents out.old) (W.contents out.new)) }
     ensures kept { F.kept files.new ≡ F.kept files.old }
-    ensures fault { IfErr result (IsSurveyFault (F.answers files.old) words.entry (F.kept files.old) (F.kept files.new) (W.contents out.old) (W.contents out.new)) }
+    ensures fault { IfErr result (IsSurveyFault (F.answers files.old) words.entry (F.kept files.old) (F.kept files.new) (W.failed out.new) (W.contents out.old) (W.contents out.new)) }
 {
     let geometry = geometry_at(words.geometry)?;
     let rows = rows_at(words.rows, &geometry)?;
     let survey = survey_of(alloc, words.dump, &geometry, rows, words.showing, files)?;
-    match print_survey(printer(alloc, words.showing), out, &geometry, &survey) {
+    match print_survey(printer(alloc, words.showing), out, &geometry, rows, &survey) {
         Ok(()) => Ok(()),
         Err(fault) => Err(unprinted(fault)),
     }

@@ -1,12 +1,13 @@
 //! What the program says when a command ends before it is done: one line, and the exit status.
-ghost use Rattle.std.specs.Prelude.{◌≡◌, ◌∷◌, [], ◌++◌};
-ghost use Rattle.request_stream.specs.Frames.{Sends};
-ghost use Rattle.lab_commands.specs.Text.{IsTold, line_of, status_of};
+ghost use Rattle.std.specs.Prelude.{◌≡◌, ◌∷◌, [], ◌++◌, true, OnErr};
+ghost use Rattle.lab_commands.specs.Output.{Puts};
+ghost use Rattle.lab_commands.specs.Text.{IsTold, line_of, rest_words, status_of, told_line};
 
+use crate::names::put_name;
+use crate::output::{Output, OutputFault};
 use certificate::CertFault;
 use page_layout::geometry::GeometryFault;
-use request_stream::{ServeFault, send};
-use std::io::Write;
+use std::alloc::Global;
 
 /// The exit status of a command that was done.
 pub(crate) const DONE: u8 = 0;
@@ -34,12 +35,16 @@ pub enum LabFault<'a> {
     IsDump,
     /// There is a file of that path already.
     Exists,
+    /// What stands at that path is no file, nor a link to one.
+    NoFile,
     /// The file of the map is the one of the array.
     MapIsOut,
     /// The file of the map is the dump.
     MapIsDump,
     /// There is a file of the map's path already.
     MapExists,
+    /// What stands at the map's path is no file, nor a link to one.
+    MapNoFile,
     /// The dump has not as many bytes as the geometry says.
     WrongLength,
     /// The dump of this path, one of several, has not as many bytes as the geometry says.
@@ -71,9 +76,11 @@ impl LabFault<'_> {
             | LabFault::RowRange
             | LabFault::IsDump
             | LabFault::Exists
+            | LabFault::NoFile
             | LabFault::MapIsOut
             | LabFault::MapIsDump
             | LabFault::MapExists
+            | LabFault::MapNoFile
             | LabFault::WrongLength
             | LabFault::DumpLength(_)
             | LabFault::OutOfMemory
@@ -112,47 +119,89 @@ fn certificate_text(broken: CertFault) -> &'static str
     }
 }
 
-// The line of a fault, without its line feed: two texts, one behind the other.
-fn line<'a>(fault: &LabFault<'a>) -> (&'a str, &'a str)
-    ensures { result.0.now ++ result.1.now ≡ line_of fault.now }
+// What a line ends with, behind its first words.
+#[derive(Clone, Copy)]
+enum Rest<'a> {
+    // These words.
+    Words(&'static str),
+    // A name, or another word of the command line, as it is printed.
+    Name(&'a str),
+}
+
+// The line of a fault, without its line feed: its first words, and the rest.
+fn line<'a>(fault: &LabFault<'a>) -> (&'static str, Rest<'a>)
+    ensures { result.0.now ++ rest_words result.1 ≡ line_of fault.now }
 {
     match *fault {
-        LabFault::NoSuchCommand => ("usage: no such command", ""),
-        LabFault::BadNumber(word) => ("usage: bad number ", word),
-        LabFault::Geometry(broken) => ("refused geometry ", limit(broken)),
-        LabFault::NoneFits => ("refused geometry 6 NoneFits", ""),
-        LabFault::RowRange => ("refused rows 1 RowRange", ""),
-        LabFault::IsDump => ("refused out 1 IsDump", ""),
-        LabFault::Exists => ("refused out 2 Exists", ""),
-        LabFault::MapIsOut => ("refused map 1 IsOut", ""),
-        LabFault::MapIsDump => ("refused map 2 IsDump", ""),
-        LabFault::MapExists => ("refused map 3 Exists", ""),
-        LabFault::WrongLength => ("refused image 1 WrongLength", ""),
-        LabFault::DumpLength(path) => ("refused merge 1 DumpLength ", path),
-        LabFault::OutOfMemory => ("refused image 3 OutOfMemory", ""),
-        LabFault::Certificate(broken) => ("refused certificate ", certificate_text(broken)),
-        LabFault::GeometryDiffers => ("refused compare 1 GeometryDiffers", ""),
-        LabFault::Read(path) => ("fault read ", path),
-        LabFault::Write(path) => ("fault write ", path),
+        LabFault::NoSuchCommand => (
+            "usage: no such command, see nandlab --help",
+            Rest::Words(""),
+        ),
+        LabFault::BadNumber(word) => ("usage: bad number ", Rest::Name(word)),
+        LabFault::Geometry(broken) => ("refused geometry ", Rest::Words(limit(broken))),
+        LabFault::NoneFits => ("refused geometry ", Rest::Words("6 NoneFits")),
+        LabFault::RowRange => ("refused rows ", Rest::Words("1 RowRange")),
+        LabFault::IsDump => ("refused out ", Rest::Words("1 IsDump")),
+        LabFault::Exists => ("refused out ", Rest::Words("2 Exists")),
+        LabFault::NoFile => ("refused out ", Rest::Words("3 NoFile")),
+        LabFault::MapIsOut => ("refused map ", Rest::Words("1 IsOut")),
+        LabFault::MapIsDump => ("refused map ", Rest::Words("2 IsDump")),
+        LabFault::MapExists => ("refused map ", Rest::Words("3 Exists")),
+        LabFault::MapNoFile => ("refused map ", Rest::Words("4 NoFile")),
+        LabFault::WrongLength => ("refused image ", Rest::Words("1 WrongLength")),
+        LabFault::DumpLength(path) => ("refused merge 1 DumpLength ", Rest::Name(path)),
+        LabFault::OutOfMemory => ("refused image ", Rest::Words("3 OutOfMemory")),
+        LabFault::Certificate(broken) => (
+            "refused certificate ",
+            Rest::Words(certificate_text(broken)),
+        ),
+        LabFault::GeometryDiffers => ("refused compare ", Rest::Words("1 GeometryDiffers")),
+        LabFault::Read(path) => ("fault read ", Rest::Name(path)),
+        LabFault::Write(path) => ("fault write ", Rest::Name(path)),
     }
 }
 
-// Writes a line of two texts, and a line feed. `Write` where a write failed, was interrupted or took nothing: a beginning of the line is out.
-fn send_line<E: Write>(err: &mut E, area: &str, text: &str) -> Result<(), ServeFault>
-    ensures { Sends (E.contents err.old) (E.contents err.new) ((area.now ++ text.now) ++ (10 ∷ [])) result }
+// Writes the rest of a line.
+fn put_rest<W: Output>(out: &mut W, rest: Rest<'_>) -> Result<(), OutputFault>
+    ensures bytes { Puts (W.contents out.old) (W.contents out.new) (rest_words rest.entry) result }
+    ensures failed { OnErr result (W.failed out.new ≡ true) }
 {
-    send(err, area.as_bytes())?;
-    send(err, text.as_bytes())?;
-    send(err, b"\n")
+    match rest {
+        Rest::Words(words) => out.put(words.as_bytes()),
+        Rest::Name(name) => put_name(out, name),
+    }
+}
+
+// Writes a line of first words and the rest, and a line feed.
+fn put_line<W: Output>(out: &mut W, area: &str, rest: Rest<'_>) -> Result<(), OutputFault>
+    ensures bytes { Puts (W.contents out.old) (W.contents out.new) ((area.now ++ rest_words rest.entry) ++ (10 ∷ [])) result }
+    ensures failed { OnErr result (W.failed out.new ≡ true) }
+{
+    out.put(area.as_bytes())?;
+    put_rest(out, rest)?;
+    out.put(b"\n")
+}
+
+// Writes the line of a fault, with a line feed: at once, where memory for it is found.
+fn send_line<E: Output>(alloc: Global, fault: &LabFault<'_>, err: &mut E) -> Result<(), OutputFault>
+    ensures bytes { Puts (E.contents err.old) (E.contents err.new) (told_line fault.now) result }
+    ensures failed { OnErr result (E.failed err.new ≡ true) }
+{
+    let (area, rest) = line(fault);
+    let mut made = Vec::new(alloc);
+    match put_line(&mut made, area, rest) {
+        Ok(()) => err.put(&made),
+        Err(_) => put_line(err, area, rest),
+    }
 }
 
 /// Writes the fault's line to `err`, with a line feed, and answers its exit status. Where a write failed, was interrupted or took nothing it
-/// answers 3, and a beginning of the line stands there, or nothing. (The lines and the statuses are this project's.)
-pub fn tell<E: Write>(fault: &LabFault<'_>, err: &mut E) -> u8
-    ensures { IsTold fault.now (E.contents err.old) (E.contents err.new) result }
+/// answers 3, and a beginning of the line stands there, or nothing: never all of it. Of a path, and of a word that is no number, each byte of a
+/// control character and each backslash is written as `\xNN`. (The lines and the statuses are this project's.)
+pub fn tell<E: Output>(alloc: Global, fault: &LabFault<'_>, err: &mut E) -> u8
+    ensures { IsTold fault.now (E.failed err.new) (E.contents err.old) (E.contents err.new) result }
 {
-    let (area, text) = line(fault);
-    match send_line(err, area, text) {
+    match send_line(alloc, fault, err) {
         Ok(()) => fault.status(),
         Err(_) => IO,
     }

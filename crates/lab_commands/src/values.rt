@@ -2,13 +2,13 @@
 ghost use Rattle.std.specs.Prelude.{◌≡◌, codes, map, IfOk};
 ghost use Rattle.serde_json.specs.Data.{array, no_members, object, put as with_member};
 ghost use Rattle.serde_json.specs.View.{items_of, view};
-ghost use Rattle.lab_commands.specs.Values.{block_data, count, fit_data, head_data, key_data, line_data, mended_data, merged_data, pages_data, plain_block_data};
-ghost use Rattle.lab_commands.specs.Values.{reason_pages_data, reason_table_data, repeated_data, text, with_all};
+ghost use Rattle.lab_commands.specs.Values.{age_data, block_data, count, doubt_data, fit_data, head_data, key_data, line_data, mended_data, merged_data, pages_data, plain_block_data};
+ghost use Rattle.lab_commands.specs.Values.{reason_pages_data, reason_table_data, repeated_data, rows_data, text, with_all};
 
-use crate::lines::{Label, Line, Sort, class_text, says_text};
+use crate::lines::{Label, Line, Sort, class_text, made_text, says_text};
 use certificate::BlockState;
-use lab_dump::Fit;
-use lab_mend::Tally;
+use lab_dump::{Doubts, Fit, Rows};
+use lab_mend::{Made, Tally};
 use serde_json::{Map, Value, push, put};
 use std::alloc::{AllocError, Global};
 
@@ -201,15 +201,52 @@ fn fit_value(alloc: Global, fit: Fit) -> Result<Value, AllocError>
     )
 }
 
-fn mended_value(alloc: Global, row: u32, bit: u32) -> Result<Value, AllocError>
-    ensures { IfOk result (λ v. view v ≡ mended_data row bit) }
+fn mended_value(alloc: Global, made: Made, row: u32, bit: u32) -> Result<Value, AllocError>
+    ensures { IfOk result (λ v. view v ≡ mended_data made row bit) }
 {
     object_of(
         alloc,
         &[
             Count("bit", u64::from(bit)),
-            Text("line", "mended"),
+            Text("line", made_text(made)),
             Count("row", u64::from(row)),
+        ],
+    )
+}
+
+// The rows that were asked for.
+fn rows_value(alloc: Global, rows: Rows) -> Result<Value, AllocError>
+    ensures { IfOk result (λ v. view v ≡ rows_data rows) }
+{
+    object_of(
+        alloc,
+        &[
+            Count("end", u64::from(rows.end)),
+            Count("first", u64::from(rows.first)),
+            Text("line", "rows"),
+        ],
+    )
+}
+
+// So many pages, under the name of their line.
+fn doubt_value(alloc: Global, line: &str, pages: u32) -> Result<Value, AllocError>
+    ensures { IfOk result (λ v. view v ≡ doubt_data line.now pages) }
+{
+    object_of(
+        alloc,
+        &[Text("line", line), Count("pages", u64::from(pages))],
+    )
+}
+
+fn age_value(alloc: Global, doubts: Doubts) -> Result<Value, AllocError>
+    ensures { IfOk result (λ v. view v ≡ age_data doubts) }
+{
+    object_of(
+        alloc,
+        &[
+            Text("line", "age"),
+            Count("older", doubts.most_older()),
+            Count("unsound", u64::from(doubts.unsound)),
         ],
     )
 }
@@ -274,11 +311,15 @@ pub(crate) fn line_value(alloc: Global, line: Line) -> Result<Value, AllocError>
         Line::PlainBlock(block, unsound) => plain_block_value(alloc, block, unsound),
         Line::Lost(sector) => single_value(alloc, "lost", "sector", u64::from(sector)),
         Line::Fit(fit) => fit_value(alloc, fit),
-        Line::Mended(row, bit) => mended_value(alloc, row, bit),
+        Line::Mended(made, row, bit) => mended_value(alloc, made, row, bit),
         Line::MendedCount(count) => single_value(alloc, "repaired", "mended", count),
         Line::Differ(row) => single_value(alloc, "differ", "row", u64::from(row)),
         Line::Unsound(row) => single_value(alloc, "unsound", "row", u64::from(row)),
         Line::Merged(differ, tally) => merged_value(alloc, differ, tally),
-        Line::Age(unsound) => single_value(alloc, "age", "unsound", u64::from(unsound)),
+        Line::Age(doubts) => age_value(alloc, doubts),
+        Line::AgeOfRows(unsound) => single_value(alloc, "rows_age", "unsound", u64::from(unsound)),
+        Line::OfRows(rows) => rows_value(alloc, rows),
+        Line::Holes(pages) => doubt_value(alloc, "holes", pages),
+        Line::Outside(pages) => doubt_value(alloc, "outside", pages),
     }
 }

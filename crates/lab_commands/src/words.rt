@@ -108,15 +108,14 @@ pub enum Asked<'a> {
     Text(String),
 }
 
-// How a command tells what it does, where its words say so.
-fn showing_words(found: &CommandWords<'_>) -> Option<Showing>
-    ensures some { IfSome result (IsShowingAt (entries_of found.now)) }
-    ensures none { result ≡ None → (read : Showing) → ¬ IsShowingAt (entries_of found.now) read }
+// How a command tells what it does.
+fn showing_words(found: &CommandWords<'_>) -> Showing
+    ensures { IsShowingAt (entries_of found.now) result }
 {
-    Some(Showing {
-        json: found.once("json")?,
-        progress: found.once("progress")?,
-    })
+    Showing {
+        json: found.stands("json"),
+        progress: found.stands("progress"),
+    }
 }
 
 // The words of the command `geometry`, where they are given.
@@ -126,7 +125,7 @@ fn geometry_words<'a>(found: &CommandWords<'a>) -> Option<GeometryWords<'a>>
 {
     Some(GeometryWords {
         dump: found.word("DUMP")?,
-        showing: showing_words(found)?,
+        showing: showing_words(found),
     })
 }
 
@@ -139,9 +138,9 @@ fn array_words<'a>(found: &CommandWords<'a>) -> Option<ArrayWords<'a>>
         geometry: found.word("GEOM")?,
         dump: found.word("DUMP")?,
         out: found.word("OUT")?,
-        force: found.once("force")?,
+        force: found.stands("force"),
         map: found.word("map"),
-        showing: showing_words(found)?,
+        showing: showing_words(found),
     })
 }
 
@@ -154,7 +153,7 @@ fn survey_words<'a>(found: &CommandWords<'a>) -> Option<SurveyWords<'a>>
         geometry: found.word("GEOM")?,
         dump: found.word("DUMP")?,
         rows: found.word("rows"),
-        showing: showing_words(found)?,
+        showing: showing_words(found),
     })
 }
 
@@ -167,7 +166,7 @@ fn compare_words<'a>(found: &CommandWords<'a>) -> Option<CompareWords<'a>>
         geometry: found.word("GEOM")?,
         certificate: found.word("CERT")?,
         dump: found.word("DUMP")?,
-        showing: showing_words(found)?,
+        showing: showing_words(found),
     })
 }
 
@@ -180,9 +179,9 @@ fn repair_words<'a>(found: &CommandWords<'a>) -> Option<RepairWords<'a>>
         geometry: found.word("GEOM")?,
         dump: found.word("DUMP")?,
         out: found.word("OUT")?,
-        force: found.once("force")?,
+        force: found.stands("force"),
         rows: found.word("rows"),
-        showing: showing_words(found)?,
+        showing: showing_words(found),
     })
 }
 
@@ -204,8 +203,8 @@ fn merge_others<'a>(found: &CommandWords<'a>, dumps: Vec<&'a str>) -> Option<Mer
     Some(MergeWords {
         geometry: found.word("GEOM")?,
         out: found.word("OUT")?,
-        force: found.once("force")?,
-        showing: showing_words(found)?,
+        force: found.stands("force"),
+        showing: showing_words(found),
         dumps,
     })
 }
@@ -259,7 +258,8 @@ fn asked_at<'a>(
     }
 }
 
-/// What the words ask for, of which the first is the program's name: as `clap` reads them. `--force` stands once at most.
+/// What the words ask for, of which the first is the program's name: as `clap` reads them. A word behind two dashes that has none behind it may stand
+/// more than once, which says no more than once.
 ///
 /// # Errors
 ///

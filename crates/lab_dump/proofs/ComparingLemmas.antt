@@ -24,9 +24,7 @@ use Rattle.page_layout.proofs.NewestLemmas.{sequence_at-other, sequence_at-key}
 use Rattle.page_layout.proofs.ArrayLemmas.{mark-page, latest_none}
 use Rattle.certificate.specs.Claim.{Claim}
 use Rattle.image_check.proofs.SurveyLemmas.{latest_more, latest_other}
-use Rattle.lab_dump.specs.Writing.{unsound_below}
-use Rattle.lab_dump.specs.Written.{unsound_of}
-use Rattle.lab_dump.proofs.WritingLemmas.{IsOfNone, sound_whole, unsound_same, sector_same}
+use Rattle.lab_dump.proofs.WritingLemmas.{IsOfNone, sector_same}
 use Rattle.lab_dump.specs.declared.trace.Trace.{Trace}
 use Rattle.lab_dump.specs.declared.trace.Trace.TheVariants.{Never, Once, Tied}
 use Rattle.lab_dump.specs.Lost.{is_there, is_lost_by, said_row, is_lost, lost_of}
@@ -38,21 +36,19 @@ use Rattle.lab_dump.specs.Comparing.{Shows}
 still_tells : (image : Image) (n row : ℕ) (t : Trace) → sequence_at (marks image) (key.Sector n) row ≡ None → Tells t (latest_below (marks image) (key.Sector n) row) → Tells t (latest_below (marks image) (key.Sector n) (row + 1))
 still_tells image n row t none h = subst (λ l. Tells t l) (sym (latest_other (marks image) (key.Sector n) row none)) h
 
-pub nothing_noted : (g : Geometry) (row : ℕ) (image : Image) (traces : List Trace) (unsound more : ℕ) → Shows g row image traces unsound → IsOfNone g image row → more ≡ unsound_below image (row + 1)
-    → Shows g (row + 1) image traces more
-nothing_noted g row image traces unsound more h none count = record {
+pub nothing_noted : (g : Geometry) (row : ℕ) (image : Image) (traces : List Trace) → Shows g row image traces → IsOfNone g image row → Shows g (row + 1) image traces
+nothing_noted g row image traces h none = record {
   traces_of = λ n within. still_tells image n row (get_or traces n Never) (none n within) (h.traces_of n within);
-  unsound_is = count;
 }
 
 -- ---- a page of a sector
 
 -- with what is held of the sector then
-pub sector_noted : (g : Geometry) (row : ℕ) (image : Image) (traces : List Trace) (unsound : ℕ) (p : Page) (r : Record) (n : ℕ) (kept new : Trace)
-    → Shows g row image traces unsound → length traces ≡ g.sectors → n < g.sectors → slice_get image row ≡ Some p → record_of p ≡ Some r → key_of r ≡ key.Sector n → kept ≡ get_or traces n Never
+pub sector_noted : (g : Geometry) (row : ℕ) (image : Image) (traces : List Trace) (p : Page) (r : Record) (n : ℕ) (kept new : Trace)
+    → Shows g row image traces → length traces ≡ g.sectors → n < g.sectors → slice_get image row ≡ Some p → record_of p ≡ Some r → key_of r ≡ key.Sector n → kept ≡ get_or traces n Never
     → ((l : Latest) → Tells kept l → Tells new (step l row (Some r.sequence)))
-    → Shows g (row + 1) image (set traces n new) unsound
-sector_noted g row image traces unsound p r n kept new h size in_range is says same stood tells =
+    → Shows g (row + 1) image (set traces n new)
+sector_noted g row image traces p r n kept new h size in_range is says same stood tells =
     let mark : get_or (marks image) row None ≡ Some r = mark-page image row p is ∙ says in
     let old : Latest = latest_below (marks image) (key.Sector n) row in
     let inside : n < length traces = omega arith in
@@ -68,16 +64,14 @@ sector_noted g row image traces unsound p r n kept new h size in_range is says s
         | inr ne ↦ still_tells image m row (get_or (set traces n new) m Never) (none m ne)
             (subst (λ x. Tells x (latest_below (marks image) (key.Sector m) row)) (sym (get_or-set_other traces n m new Never ne)) (h.traces_of m within))
       ];
-      unsound_is = h.unsound_is ∙ sym (unsound_same image row p is (sound_whole p r says));
     }
 
 -- ---- before the first page
 
-pub nothing_yet : (g : Geometry) (image : Image) → Shows g 0 image (replicate g.sectors Never) 0
+pub nothing_yet : (g : Geometry) (image : Image) → Shows g 0 image (replicate g.sectors Never)
 nothing_yet g image = record {
   traces_of = λ n within. subst (λ l. Tells (get_or (replicate g.sectors Never) n Never) l) (sym (latest_none image (key.Sector n)))
       (subst (λ x. Tells x latest.Never) (sym (get_or-replicate g.sectors n Never Never within)) tt);
-  unsound_is = refl;
 }
 
 -- ---- in the end
@@ -117,7 +111,3 @@ lost_told g c image traces lost size few same each told =
     ∙ (each n (omega arith)
     ∙ (lost_is (said_row c n) c.next (get_or traces n Never) (latest_below (marks image) (key.Sector n) (row_count g)) (told n within)
     ∙ (ap (λ k. is_lost_by (said_row c n) c.next (latest_below (marks image) (key.Sector n) k)) (sym size) ∙ sym (get_or-map-range_with_len f 0 g.sectors n n d within (omega arith))))))
-
-pub unsound_all : (image : Image) (rows : ℕ) → length image ≡ rows → unsound_below image rows ≡ unsound_of image
-unfolding unsound_of
-unsound_all image rows size = ap (λ k. count_by is_broken (take k image)) (sym size) ∙ ap (count_by is_broken) (take-length image)

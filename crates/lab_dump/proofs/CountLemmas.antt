@@ -25,7 +25,7 @@ use Rattle.lab_dump.specs.Noted.{HasUnsound}
 page_at : (image : Image) (row : ℕ) (p : Page) → slice_get image row ≡ Some p → get_or image row p ≡ p
 page_at image row p is = same_Some (get_or image row p) p (sym (slice_get-get_or image row p (slice_get_within image row p is)) ∙ is)
 
-count_more : (test : Page → Bool) (image : Image) (row : ℕ) (p : Page) → slice_get image row ≡ Some p → count_by test (take (row + 1) image) ≡ count_by test (take row image) + one (test p)
+pub count_more : (test : Page → Bool) (image : Image) (row : ℕ) (p : Page) → slice_get image row ≡ Some p → count_by test (take (row + 1) image) ≡ count_by test (take row image) + one (test p)
 count_more test image row p is = by_test (test p) refl
   where
     by_test : (b : Bool) → test p ≡ b → count_by test (take (row + 1) image) ≡ count_by test (take row image) + one (test p)
@@ -94,7 +94,7 @@ few_weaker m n c l h = record {
 
 -- ---- by block
 
-range_last : (a n j : ℕ) → a + n ≡ j → range_with_len a (suc n) ≡ range_with_len a n ++ j ∷ []
+pub range_last : (a n j : ℕ) → a + n ≡ j → range_with_len a (suc n) ≡ range_with_len a n ++ j ∷ []
 range_last a zero j e = let same : a ≡ j = omega arith in ap (λ k. k ∷ []) same
 range_last a (suc n) j e = ap (λ l. a ∷ l) (range_last (a + 1) n j (omega arith))
 

@@ -1,11 +1,15 @@
 -- Which pages are looked at, and what the pages tell.
 use Rattle.std.proofs.Common.{◌≡◌, ◌⊎◌, ℕ, zero, suc, ◌+◌, ◌-◌, ◌*◌, ◌/◌, ◌%◌, ◌<◌, ◌≤◌, List, length, take, drop, refl, sym, ap, ◌∙◌, subst, arith, inl, inr, length-take-le}
-use Rattle.std.proofs.Common.{true, false, slice_range, Some, le_refl}
-use Rattle.std.specs.Prelude.{max, min, nat_lt}
+use Rattle.std.proofs.Common.{Bool, true, false, cond, slice_range, Some, le_refl}
+use Rattle.std.specs.Prelude.{max, min, nat_lt, ◌==◌}
+use Rattle.std.specs.declared.cmp.Ordering.{Ordering}
+use Rattle.std.specs.declared.cmp.Ordering.TheVariants.{Less, Equal}
+use Rattle.std.specs.Ordering.{nat_cmp, ordering_then}
+use Rattle.std.specs.Cmp.{nat_cmp_is}
 use Rattle.std.specs.Int.{div_ceil}
-use Rattle.std.proofs.Math.Nat.{mul-div-le, mul-div_cancel_left}
+use Rattle.std.proofs.Math.Nat.{mul-div-le, mul-div_cancel_left, mul-le-mul_right}
 use Rattle.std.proofs.lemmas.Nat.{div-add-mod', mod_below, row_fits, le-div}
-use Rattle.std.proofs.lemmas.Bool.{eqb-true, cases_lt, cases_eq, cond_below, cond_above}
+use Rattle.std.proofs.lemmas.Bool.{eqb-true, ne_eqb, lt-ltb, ltb-true, cases_lt, cases_eq, cond_below, cond_above}
 use Rattle.std.proofs.lemmas.List.{length-drop, take-take, drop-take, drop-drop}
 use Rattle.std.proofs.lemmas.Grind.{div_ceil_times}
 use Rattle.page_layout.specs.declared.geometry.Geometry.{Geometry}
@@ -25,7 +29,9 @@ use Rattle.lab_dump.specs.Pages.{page_at}
 use Rattle.lab_dump.specs.Sample.{look_at}
 use Rattle.lab_dump.specs.Told.{blocks_of, sectors_of, blocks_by, sectors_by, blocks_at, sectors_at, greatest, told_of}
 use Rattle.lab_dump.specs.declared.told.Told.{Told}
-use Rattle.lab_dump.specs.FitLaws.{IsWithin, WithinLaw, PageLaw, LookedLaw, LookedRiseLaw, LookedAllLaw, GreatestLaw, LowerLaw, TableLaw}
+use Rattle.lab_dump.specs.FitLaws.{IsWithin, WithinLaw, PageLaw, LookedLaw, LookedRiseLaw, LookedAllLaw, GreatestLaw, LowerLaw, TableLaw, ShortLaw, FewerLaw}
+use Rattle.lab_dump.specs.declared.fit.TableSays.TheVariants.{Agrees, Short, Silent, Differs}
+use Rattle.lab_dump.specs.Fits.{table_says, missing_pages, place, rank}
 use Rattle.lab_dump.proofs.ToldLemmas.{used_below, used_more, used_all}
 
 -- ---- the page of a row
@@ -213,3 +219,49 @@ table_law entries blocks u body some size within formed =
     let words = used_all body entries _ (sym count) used in
     let place : u * (length body / 4) ≡ u * entries = ap (λ n. u * n) count in
     omega arith
+
+-- ---- a cut dump
+
+short_by : (a b c : Bool) → cond a Silent (cond b Agrees (cond c Short Differs)) ≡ Short → c ≡ true
+short_by true b c e = absurd (cc)
+short_by false true c e = absurd (cc)
+short_by false false true e = refl
+short_by false false false e = absurd (cc)
+
+says_short : (blocks told : ℕ) → blocks < told → table_says blocks told ≡ Short
+says_short blocks told l =
+    ap (λ b. cond b Silent (cond (told == blocks) Agrees (cond (nat_lt blocks told) Short Differs))) (ne_eqb told 0 (λ e. (let less : blocks < told = l in absurd (omega arith))))
+    ∙ (ap (λ b. cond b Agrees (cond (nat_lt blocks told) Short Differs)) (ne_eqb told blocks (λ e. absurd (omega arith))) ∙ ap (λ b. cond b Short Differs) (lt-ltb blocks told l))
+
+pub short_law : ShortLaw
+short_law blocks pages told some few = (
+  (
+    λ e. ltb-true blocks told (short_by (told == 0) (told == blocks) (nat_lt blocks told) e),
+    says_short blocks told,
+  ),
+  (
+    λ l. elim (cases_lt blocks told) [
+      | inl less ↦ less
+      | inr more ↦
+          (let none : min told 4096 - blocks ≡ 0 = omega arith in
+          let nothing : (min told 4096 - blocks) * pages ≡ 0 * pages = ap (λ d. d * pages) none in
+          absurd (omega arith))
+    ],
+    λ l.
+        let some_block : 1 ≤ min told 4096 - blocks = omega arith in
+        let least : 1 * pages ≤ (min told 4096 - blocks) * pages = mul-le-mul_right pages some_block in
+        omega arith,
+  ),
+)
+
+then_next : (o r : Ordering) → o ≡ Equal → ordering_then o r ≡ r
+then_next o r e = ap (λ x. ordering_then x r) e
+
+then_less : (o r : Ordering) → o ≡ Less → ordering_then o r ≡ Less
+then_less o r e = ap (λ x. ordering_then x r) e
+
+pub fewer_law : FewerLaw
+fewer_law x y same s t l =
+    then_next (nat_cmp y.sound.0 x.sound.0) _ (sym (nat_cmp_is y.sound.0 x.sound.0 Equal (sym same)))
+    ∙ (then_next (nat_cmp (place x.table) (place y.table)) _ (sym (nat_cmp_is (place x.table) (place y.table) Equal (ap place (s ∙ sym t))))
+    ∙ then_less (nat_cmp x.missing y.missing) _ (sym (nat_cmp_is x.missing y.missing Less l)))

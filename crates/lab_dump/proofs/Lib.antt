@@ -7,6 +7,8 @@ pub mod MapLemmas
 pub mod LostLemmas
 pub mod ComparingLemmas
 pub mod CountLemmas
+pub mod DoubtLemmas
+pub mod BoundLemmas
 pub mod KeyLemmas
 pub mod RepeatLemmas
 pub mod MountsLemmas

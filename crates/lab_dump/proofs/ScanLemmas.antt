@@ -1,7 +1,7 @@
 -- A dump that a reader gives, page by page.
 use Rattle.std.proofs.Common.{◌≡◌, ◌⊎◌, ℕ, suc, ◌+◌, ◌-◌, ◌*◌, ◌<◌, ◌≤◌, List, [], ◌∷◌, ◌++◌, length, length-append, append-nil, append_assoc, take}
 use Rattle.std.proofs.Common.{drop, Option, Some, None, IfSome, sym, ap, subst, ◌∙◌, inl, inr, arith}
-use Rattle.std.proofs.Common.{slice_get, Result, Ok, Err, IfErr, OnOk}
+use Rattle.std.proofs.Common.{slice_get, Result, Ok, Err, IfErr, OnErr, OnOk}
 use Rattle.std.specs.Prelude.{slice_range}
 use Rattle.std.specs.Io.KnownBytes.{Consumes, Keeps, IsAtEnd}
 use Rattle.std.proofs.KnownBytes.{Consumes-nil, Consumes-trans, Consumes-kept}
@@ -39,6 +39,10 @@ err_map P Q (Err x) more h = more x h
 pub ok_map : {X Y : Type 0} (P Q : Type 0) (r : Result X Y) → (P → Q) → OnOk r P → OnOk r Q
 ok_map P Q (Ok a) more h = more h
 ok_map P Q (Err x) more h = tt
+
+pub err_all : {X Y : Type 0} (P : Type 0) (r : Result X Y) → P → OnErr r P
+err_all P (Ok a) h = tt
+err_all P (Err x) h = h
 
 -- ---- a cut
 

@@ -29,7 +29,7 @@ use Rattle.lab_dump.specs.declared.held.Held.TheVariants.{Never}
 use Rattle.lab_dump.specs.declared.held.Change.{Change}
 use Rattle.lab_dump.specs.declared.held.Change.TheVariants.{Stays, Newest, Tie}
 use Rattle.lab_dump.specs.Held.{Tells, Moves, pieces_after}
-use Rattle.lab_dump.specs.Writing.{content_below, unsound_below, AreSized, HoldsSector, ReadBelow, Stands, Shows}
+use Rattle.lab_dump.specs.Writing.{content_below, AreSized, HoldsSector, ReadBelow, Stands, Shows}
 
 -- ---- what a page is
 
@@ -75,17 +75,6 @@ look_unsound p e = from (record_of p) (is_erased_page p) refl refl e
       unmarked = is;
     }
 
--- ---- the count of pages that are neither erased nor sound
-
-page_at : (image : Image) (row : ℕ) (p : Page) → slice_get image row ≡ Some p → get_or image row p ≡ p
-page_at image row p is = same_Some (get_or image row p) p (sym (slice_get-get_or image row p (slice_get_within image row p is)) ∙ is)
-
-pub unsound_more : (image : Image) (row : ℕ) (p : Page) → slice_get image row ≡ Some p → is_broken p ≡ true → unsound_below image (row + 1) ≡ unsound_below image row + 1
-unsound_more image row p is e = count_by_more_yes is_broken image row p (slice_get_within image row p is) (ap is_broken (page_at image row p is) ∙ e)
-
-pub unsound_same : (image : Image) (row : ℕ) (p : Page) → slice_get image row ≡ Some p → is_broken p ≡ false → unsound_below image (row + 1) ≡ unsound_below image row
-unsound_same image row p is e = count_by_more_no is_broken image row p (slice_get_within image row p is) (ap is_broken (page_at image row p is) ∙ e)
-
 -- ---- a page that says nothing of a sector
 
 pub if_more : {X : Type 0} (o : Option X) (P Q : X → Type 0) → IfSome o P → ((x : X) → P x → Q x) → IfSome o Q
@@ -109,11 +98,9 @@ still_tells image n row held none h = subst (λ l. Tells held l) (sym (latest_ot
 still_reads : (g : Geometry) (image : Image) (n row : ℕ) → sequence_at (marks image) (key.Sector n) row ≡ None → content_below g image (row + 1) n ≡ content_below g image row n
 still_reads g image n row none = ap (λ l. content_at g image (place_of l)) (latest_other (marks image) (key.Sector n) row none)
 
-pub nothing_noted : (g : Geometry) (row : ℕ) (image : Image) (held : List Held) (unsound more : ℕ) (pieces : Option (List (List ℕ))) → Shows g row image held unsound pieces → IsOfNone g image row
-    → more ≡ unsound_below image (row + 1) → Shows g (row + 1) image held more pieces
-nothing_noted g row image held unsound more pieces h none count = record {
+pub nothing_noted : (g : Geometry) (row : ℕ) (image : Image) (held : List Held) (pieces : Option (List (List ℕ))) → Shows g row image held pieces → IsOfNone g image row → Shows g (row + 1) image held pieces
+nothing_noted g row image held pieces h none = record {
   held_of = λ n within. still_tells image n row (get_or held n Never) (none n within) (h.held_of n within);
-  unsound_is = count;
   pieces_are = if_more pieces (ReadBelow g image row) (ReadBelow g image (row + 1)) h.pieces_are (λ ps read n within. read n within ∙ sym (still_reads g image n row (none n within)));
 }
 
@@ -166,12 +153,12 @@ pub sector_same : (m n : ℕ) → key.Sector n ≡ key.Sector m → m ≡ n
 sector_same m n e = cc
 
 -- a sound page of sector n, with what is held of it then and what that does to its place
-pub sector_noted : (g : Geometry) (row : ℕ) (image : Image) (held : List Held) (unsound : ℕ) (pieces : Option (List (List ℕ))) (p : Page) (r : Record) (n : ℕ) (kept new : Held) (change : Change)
-    → Shows g row image held unsound pieces → IfSome pieces (AreSized g) → length held ≡ g.sectors → n < g.sectors → slice_get image row ≡ Some p → record_of p ≡ Some r → key_of r ≡ key.Sector n → kept ≡ get_or held n kept
+pub sector_noted : (g : Geometry) (row : ℕ) (image : Image) (held : List Held) (pieces : Option (List (List ℕ))) (p : Page) (r : Record) (n : ℕ) (kept new : Held) (change : Change)
+    → Shows g row image held pieces → IfSome pieces (AreSized g) → length held ≡ g.sectors → n < g.sectors → slice_get image row ≡ Some p → record_of p ≡ Some r → key_of r ≡ key.Sector n → kept ≡ get_or held n kept
     → ((l : Latest) (at : ℕ) → Tells kept l → Tells new (step l at (Some r.sequence)))
     → ((l : Latest) (at : ℕ) → Tells kept l → Moves change at (place_of l) (place_of (step l at (Some r.sequence))))
-    → Shows g (row + 1) image (set held n new) unsound (pieces_after change n (content_of_kind g r.kind p.body) (zeros g) pieces)
-sector_noted g row image held unsound pieces p r n kept new change h sized size in_range is says same stood tells moves =
+    → Shows g (row + 1) image (set held n new) (pieces_after change n (content_of_kind g r.kind p.body) (zeros g) pieces)
+sector_noted g row image held pieces p r n kept new change h sized size in_range is says same stood tells moves =
     let mark : get_or (marks image) row None ≡ Some r = mark-page image row p is ∙ says in
     let old : Latest = latest_below (marks image) (key.Sector n) row in
     let inside : n < length held = omega arith in
@@ -188,25 +175,22 @@ sector_noted g row image held unsound pieces p r n kept new change h sized size 
         | inl eq ↦ subst (λ k. Tells (get_or (set held n new) k Never) (latest_below (marks image) (key.Sector k) (row + 1))) (sym eq) (subst (λ x. Tells x (latest_below (marks image) (key.Sector n) (row + 1))) (sym (get_or-set_same held n new Never inside)) told)
         | inr ne ↦ still_tells image m row (get_or (set held n new) m Never) (none m ne) (subst (λ x. Tells x (latest_below (marks image) (key.Sector m) row)) (sym (get_or-set_other held n m new Never ne)) (h.held_of m within))
       ];
-      unsound_is = h.unsound_is ∙ sym (unsound_same image row p is (sound_whole p r says));
       pieces_are = read_after g image row change n (content_of_kind g r.kind p.body) pieces in_range sized h.pieces_are (λ m within ne. still_reads g image m row (none m ne))
           (becomes g image row change (content_of_kind g r.kind p.body) (place_of old) (place_of (latest_below (marks image) (key.Sector n) (row + 1))) moved here);
     }
 
 -- ---- before the first page
 
-pub nothing_yet : (g : Geometry) (image : Image) (pieces : Option (List (List ℕ))) → IfSome pieces (λ ps. ps ≡ replicate g.sectors (zeros g)) → Shows g 0 image (replicate g.sectors Never) 0 pieces
+pub nothing_yet : (g : Geometry) (image : Image) (pieces : Option (List (List ℕ))) → IfSome pieces (λ ps. ps ≡ replicate g.sectors (zeros g)) → Shows g 0 image (replicate g.sectors Never) pieces
 nothing_yet g image pieces blank = record {
   held_of = λ n within. subst (λ l. Tells (get_or (replicate g.sectors Never) n Never) l) (sym (latest_none image (key.Sector n))) (subst (λ x. Tells x latest.Never) (sym (get_or-replicate g.sectors n Never Never within)) tt);
-  unsound_is = refl;
   pieces_are = if_more pieces (λ ps. ps ≡ replicate g.sectors (zeros g)) (ReadBelow g image 0) blank (λ ps e n within.
       ap (λ xs. get_or xs n []) e ∙ (get_or-replicate g.sectors n (zeros g) [] within ∙ sym (ap (λ l. content_at g image (place_of l)) (latest_none image (key.Sector n)))));
 }
 
-pub stands_first : (g : Geometry) (pieces : Option (List (List ℕ))) → IfSome pieces (λ ps. ps ≡ replicate g.sectors (zeros g)) → Stands g 0 (replicate g.sectors Never) (zeros g) 0 pieces
+pub stands_first : (g : Geometry) (pieces : Option (List (List ℕ))) → IfSome pieces (λ ps. ps ≡ replicate g.sectors (zeros g)) → Stands g (replicate g.sectors Never) (zeros g) pieces
 stands_first g pieces blank = record {
   size = length-replicate g.sectors Never;
   blank_is = refl;
-  few = omega arith;
   sized = if_more pieces (λ ps. ps ≡ replicate g.sectors (zeros g)) (AreSized g) blank (λ ps e. ap length e ∙ length-replicate g.sectors (zeros g));
 }

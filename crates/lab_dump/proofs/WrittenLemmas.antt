@@ -26,8 +26,11 @@ use Rattle.lab_dump.specs.declared.held.Held.TheVariants as held
 use Rattle.lab_dump.specs.declared.held.State.{State}
 use Rattle.lab_dump.specs.declared.held.State.TheVariants as state
 use Rattle.lab_dump.specs.Held.{Tells, state_in, state_by}
-use Rattle.lab_dump.specs.Writing.{content_below, unsound_below, AreSized, ReadBelow, Stands, Shows}
-use Rattle.lab_dump.specs.Written.{state_of, states_of, unsound_of, IsWritten, TiedLaw}
+use Rattle.lab_dump.specs.declared.doubts.Doubting.{Doubting}
+use Rattle.lab_dump.specs.Doubts.{IsDoubting}
+use Rattle.lab_dump.proofs.DoubtLemmas.{doubted}
+use Rattle.lab_dump.specs.Writing.{content_below, AreSized, ReadBelow, Stands, Shows}
+use Rattle.lab_dump.specs.Written.{state_of, states_of, IsWritten, TiedLaw}
 
 -- ---- the pieces
 
@@ -73,21 +76,17 @@ states_told g image hs size few told =
 
 -- ---- all of it
 
-unsound_all : (image : Image) (rows : ℕ) → length image ≡ rows → unsound_below image rows ≡ unsound_of image
-unfolding unsound_of
-unsound_all image rows size = ap (λ k. count_by is_broken (take k image)) (sym size) ∙ ap (count_by is_broken) (take-length image)
-
-pub written : (g : Geometry) (hs : List Held) (blank : List ℕ) (unsound rows : ℕ) (pieces : Option (List (List ℕ))) (bytes : List ℕ) → rows ≡ row_count g → Stands g rows hs blank unsound pieces
-    → IsTaken g (λ image. Shows g rows image hs unsound pieces) bytes → IsWritten g pieces hs unsound bytes
-written g hs blank unsound rows pieces bytes all stands taken =
+pub written : (g : Geometry) (hs : List Held) (blank : List ℕ) (d : Doubting) (rows : ℕ) (pieces : Option (List (List ℕ))) (bytes : List ℕ) → rows ≡ row_count g → Stands g hs blank pieces
+    → IsTaken g (λ image. Shows g rows image hs pieces × IsDoubting g rows image d) bytes → IsWritten g pieces hs d.doubts bytes
+written g hs blank d rows pieces bytes all stands taken =
     let image : Image = raw_image g bytes in
     let size : length image ≡ row_count g = length-raw_image g bytes in
-    let shown : Shows g (row_count g) image hs unsound pieces = subst (λ k. Shows g k image hs unsound pieces) all taken.shown in
+    let shown : Shows g (row_count g) image hs pieces = subst (λ k. Shows g k image hs pieces) all taken.shown.0 in
     record {
       whole = taken.whole;
       array = if_both pieces (AreSized g) (ReadBelow g image (row_count g)) (λ ps. ps ≡ array_of g image) stands.sized shown.pieces_are (λ ps sized read. array_read g image ps size sized read);
       states = states_told g image hs size stands.size shown.held_of;
-      unsound_is = shown.unsound_is ∙ unsound_all image (row_count g) size;
+      doubts_is = doubted g image rows d (size ∙ sym all) taken.shown.1;
     }
 
 -- ---- ties

@@ -18,7 +18,9 @@ use Rattle.lab_dump.specs.declared.told.Told.{Told}
 use Rattle.lab_dump.specs.Pages.{page_at}
 use Rattle.lab_dump.specs.Sample.{looked_count, looked_row, look_at, is_sound, sample_of}
 use Rattle.lab_dump.specs.Told.{blocks_of, greatest, told_of}
-use Rattle.lab_dump.specs.Fits.{fit_of, fits_of}
+use Rattle.std.specs.declared.cmp.Ordering.TheVariants.{Less}
+use Rattle.lab_dump.specs.declared.fit.TableSays.TheVariants.{Short}
+use Rattle.lab_dump.specs.Fits.{fit_of, fits_of, missing_pages, rank, table_says}
 
 -- ---- which geometries fit
 
@@ -53,6 +55,16 @@ pub record IsShapedAs (g : Geometry) (f : Fit) : Type 0 where
 abbrev pub OwnLaw : Type 0
 OwnLaw = (g : Geometry) (all : List ℕ) (place : ℕ) → length all ≡ row_count g * page_bytes g → place < looked_count (row_count g)
     → is_sound (look_at g.data_bytes g.spare_bytes all (looked_row (row_count g) place)) ≡ true → (f : Fit) × Contains (fits_of all) f × IsShapedAs g f
+
+-- ---- a cut dump
+
+-- the geometry is said to be too short just where the table has words for more blocks than it has, and a page is missing just then
+abbrev pub ShortLaw : Type 0
+ShortLaw = (blocks pages told : ℕ) → 0 < pages → blocks < 4096 → ((table_says blocks told ≡ Short) ↔ (blocks < told)) × ((0 < missing_pages blocks pages told) ↔ (blocks < told))
+
+-- of two that are too short, with as many sound pages looked at, the one that lacks fewer pages comes first
+abbrev pub FewerLaw : Type 0
+FewerLaw = (x y : Fit) → x.sound.0 ≡ y.sound.0 → x.table ≡ Short → y.table ≡ Short → x.missing < y.missing → rank x y ≡ Less
 
 -- ---- which pages are looked at
 

@@ -1,12 +1,12 @@
 -- The geometries that fit a dump, and their order.
-use Rattle.std.specs.Prelude.{ℕ, ◌+◌, ◌/◌, ◌<◌, ◌≤◌, ◌==◌, ◌&&◌, nat_lt, min, max, if◌then◌else◌, List, [], ◌∷◌, All, length, ◌*◌}
+use Rattle.std.specs.Prelude.{ℕ, ◌+◌, ◌-◌, ◌/◌, ◌<◌, ◌≤◌, ◌==◌, ◌&&◌, nat_lt, min, max, if◌then◌else◌, List, [], ◌∷◌, All, length, ◌*◌}
 use Rattle.std.specs.List.{flat_map, range_with_len}
 use Rattle.std.specs.declared.cmp.Ordering.{Ordering}
 use Rattle.std.specs.Ordering.{nat_cmp, ordering_then}
 use Rattle.page_layout.specs.Limits.{IsWithinLimits}
 use Rattle.lab_dump.specs.declared.fit.Fit.{Fit}
 use Rattle.lab_dump.specs.declared.fit.TableSays.{TableSays}
-use Rattle.lab_dump.specs.declared.fit.TableSays.TheVariants.{Agrees, Silent, Differs}
+use Rattle.lab_dump.specs.declared.fit.TableSays.TheVariants.{Agrees, Short, Silent, Differs}
 use Rattle.lab_dump.specs.declared.sample.Sample.{Sample}
 use Rattle.lab_dump.specs.declared.told.Told.{Told}
 use Rattle.lab_dump.specs.Sample.{sample_of}
@@ -17,7 +17,11 @@ use Rattle.lab_dump.specs.Shape.{data_sizes, page_counts, rows_of, is_shape, has
 
 -- what the table of blocks says of so many blocks, where it has words for as many as are told
 abbrev pub table_says : ℕ → ℕ → TableSays
-table_says blocks told = if told == 0 then Silent else (if told == blocks then Agrees else Differs)
+table_says blocks told = if told == 0 then Silent else (if told == blocks then Agrees else (if nat_lt blocks told then Short else Differs))
+
+-- the pages of the blocks that a dump of so many blocks lacks, where so many are told, of which a die has at most 4096
+abbrev pub missing_pages : ℕ → ℕ → ℕ → ℕ
+missing_pages blocks pages told = (min told 4096 - blocks) * pages
 
 -- the sectors of a geometry of which at least so many are told: as many, within a die's limits
 abbrev pub sectors_from : ℕ → ℕ
@@ -28,6 +32,7 @@ abbrev pub fit_of : ℕ → ℕ → ℕ → ℕ → Sample → Told → Fit
 fit_of data_bytes spare_bytes pages blocks sample told = record {
   sound = record { 0 = sample.sound };
   table = table_says blocks told.blocks;
+  missing = missing_pages blocks pages told.blocks;
   unsound_bytes = sample.unsound * (data_bytes + spare_bytes);
   data_bytes = data_bytes;
   spare_bytes = spare_bytes;
@@ -65,20 +70,21 @@ fits_of all = flat_map (data_fits all) data_sizes
 
 -- ---- their order
 
--- agreeing comes before saying nothing, and that before differing
+-- agreeing comes before having words for more blocks, that before saying nothing, and that before having words for fewer
 abbrev pub place : TableSays → ℕ
 place Agrees = 0
-place Silent = 1
-place Differs = 2
+place Short = 1
+place Silent = 2
+place Differs = 3
 
--- Which of two comes first: the one with more sound pages, then the one that the table agrees to, then the one with fewer bytes in
--- unsound pages, then the one with the smaller numbers.
+-- Which of two comes first: the one with more sound pages, then the one that the table agrees to, then the one with fewer missing pages, then the
+-- one with fewer bytes in unsound pages, then the one with the smaller numbers.
 abbrev pub rank : Fit → Fit → Ordering
 rank x y =
-    ordering_then (nat_cmp y.sound.0 x.sound.0) (ordering_then (nat_cmp (place x.table) (place y.table)) (ordering_then (nat_cmp x.unsound_bytes y.unsound_bytes)
+    ordering_then (nat_cmp y.sound.0 x.sound.0) (ordering_then (nat_cmp (place x.table) (place y.table)) (ordering_then (nat_cmp x.missing y.missing) (ordering_then (nat_cmp x.unsound_bytes y.unsound_bytes)
     (ordering_then (nat_cmp x.data_bytes y.data_bytes) (ordering_then (nat_cmp x.spare_bytes y.spare_bytes) (ordering_then (nat_cmp x.pages y.pages)
     (ordering_then (nat_cmp x.blocks y.blocks) (ordering_then (nat_cmp x.sectors y.sectors) (ordering_then (nat_cmp x.looked y.looked)
-    (ordering_then (nat_cmp x.unsound y.unsound) (ordering_then (nat_cmp x.blocks_told y.blocks_told) (nat_cmp x.sectors_told y.sectors_told)))))))))))
+    (ordering_then (nat_cmp x.unsound y.unsound) (ordering_then (nat_cmp x.blocks_told y.blocks_told) (nat_cmp x.sectors_told y.sectors_told))))))))))))
 
 -- ---- whatever the dump gives
 

@@ -14,6 +14,10 @@ pub mod Writing
 pub mod Written
 -- why no file was made of a dump
 pub mod Unmade
+-- what a dump leaves open of its array
+pub mod Doubts
+-- how many of its sectors may be older
+pub mod Bound
 -- the map of the array
 pub mod Map
 -- which sectors have lost a page, and which never have

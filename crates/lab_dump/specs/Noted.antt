@@ -8,6 +8,7 @@ use Rattle.image_check.specs.Surveyed.{IsSized, IsSurvey}
 use Rattle.lab_dump.specs.declared.seeing.Seeing.{Seeing}
 use Rattle.lab_dump.specs.Count.{AreFew, counts_of, unsound_below}
 use Rattle.lab_dump.specs.Keys.{HasSeen, HasFormed}
+use Rattle.lab_dump.specs.Doubts.{AreFewDoubts, IsDoubting}
 
 -- of each block how many pages of the first rows are neither erased nor sound
 pub record HasUnsound (g : Geometry) (image : Image) (rows : ℕ) (items : List ℕ) : Type 0 where
@@ -23,6 +24,8 @@ pub record Stands (g : Geometry) (rows : ℕ) (s : Seeing) : Type 0 where
   pub few : All (λ n. n ≤ rows) s.unsound.items
   pub seen : length s.seen.items ≡ key_count g
   pub formed : length s.formed.items ≡ table_pages g
+  pub doubting : AreFewDoubts rows s.doubting
+  pub keys : length s.keys.items ≡ key_count g
   pub table : length s.table ≡ g.blocks
 
 -- it has what the first rows of the image show
@@ -32,3 +35,4 @@ pub record Shows (g : Geometry) (rows : ℕ) (image : Image) (s : Seeing) : Type
   pub unsound : HasUnsound g image rows s.unsound.items
   pub seen : HasSeen g (marks image) rows s.seen.items
   pub formed : HasFormed g image rows s.formed.items
+  pub doubting : IsDoubting g rows image s.doubting

@@ -1,5 +1,5 @@
 -- The pieces while the sectors are written.
-use Rattle.std.specs.Prelude.{◌≡◌, ℕ, ◌<◌, ◌≤◌, List, [], length, get_or, take, count_by, Option, Some, IfSome}
+use Rattle.std.specs.Prelude.{◌≡◌, ℕ, ◌<◌, List, [], length, get_or, Option, Some, IfSome}
 use Rattle.page_layout.specs.declared.geometry.Geometry.{Geometry}
 use Rattle.page_layout.specs.declared.record.Record.{Record}
 use Rattle.page_layout.specs.declared.record.Kind.TheVariants as kind
@@ -9,7 +9,6 @@ use Rattle.page_layout.specs.Sound.{record_of}
 use Rattle.page_layout.specs.Greatest.{place_of}
 use Rattle.page_layout.specs.Newest.{latest_below}
 use Rattle.page_layout.specs.Array.{marks, zeros, content_at}
-use Rattle.page_layout.specs.Block.{is_broken}
 use Rattle.lab_dump.specs.declared.held.Held.{Held}
 use Rattle.lab_dump.specs.declared.held.Held.TheVariants.{Never}
 use Rattle.lab_dump.specs.Held.{Tells}
@@ -17,10 +16,6 @@ use Rattle.lab_dump.specs.Held.{Tells}
 -- what sector n reads as by what the first rows say of it
 abbrev pub content_below : Geometry → Image → ℕ → ℕ → List ℕ
 content_below g image rows n = content_at g image (place_of (latest_below (marks image) (Sector n) rows))
-
--- how many of the first rows hold a page that is neither erased nor sound
-abbrev pub unsound_below : Image → ℕ → ℕ
-unsound_below image rows = count_by is_broken (take rows image)
 
 -- a piece for each sector
 abbrev pub AreSized : Geometry → List (List ℕ) → Type 0
@@ -34,10 +29,9 @@ pub record HoldsSector (n : ℕ) (body spare : List ℕ) : Type 0 where
   pub number_is : its.number ≡ n
 
 -- whatever the pages were
-pub record Stands (g : Geometry) (rows : ℕ) (held : List Held) (blank : List ℕ) (unsound : ℕ) (pieces : Option (List (List ℕ))) : Type 0 where
+pub record Stands (g : Geometry) (held : List Held) (blank : List ℕ) (pieces : Option (List (List ℕ))) : Type 0 where
   pub size : length held ≡ g.sectors
   pub blank_is : blank ≡ zeros g
-  pub few : unsound ≤ rows
   pub sized : IfSome pieces (AreSized g)
 
 -- each piece is what the first rows say of its sector
@@ -45,7 +39,6 @@ abbrev pub ReadBelow : Geometry → Image → ℕ → List (List ℕ) → Type 0
 ReadBelow g image rows pieces = (n : ℕ) → n < g.sectors → get_or pieces n [] ≡ content_below g image rows n
 
 -- what the first rows of the image say
-pub record Shows (g : Geometry) (rows : ℕ) (image : Image) (held : List Held) (unsound : ℕ) (pieces : Option (List (List ℕ))) : Type 0 where
+pub record Shows (g : Geometry) (rows : ℕ) (image : Image) (held : List Held) (pieces : Option (List (List ℕ))) : Type 0 where
   pub held_of : (n : ℕ) → n < g.sectors → Tells (get_or held n Never) (latest_below (marks image) (Sector n) rows)
-  pub unsound_is : unsound ≡ unsound_below image rows
   pub pieces_are : IfSome pieces (ReadBelow g image rows)

@@ -1,5 +1,5 @@
 -- What was written in the end.
-use Rattle.std.specs.Prelude.{◌≡◌, ◌↔◌, ℕ, ◌<◌, List, length, map, count_by, Option, IfSome}
+use Rattle.std.specs.Prelude.{◌≡◌, ◌↔◌, ℕ, ◌<◌, List, length, map, Option, IfSome}
 use Rattle.std.specs.List.{range_with_len}
 use Rattle.page_layout.specs.declared.geometry.Geometry.{Geometry}
 use Rattle.page_layout.specs.declared.record.Key.TheVariants.{Sector}
@@ -7,13 +7,14 @@ use Rattle.page_layout.specs.Page.{Image}
 use Rattle.page_layout.specs.Raw.{raw_image}
 use Rattle.page_layout.specs.Newest.{latest_below}
 use Rattle.page_layout.specs.Array.{marks, array_of}
-use Rattle.page_layout.specs.Block.{is_broken}
 use Rattle.image_check.specs.Sector.{IsAmbiguous}
 use Rattle.lab_dump.specs.Scan.{image_bytes}
 use Rattle.lab_dump.specs.declared.held.Held.{Held}
 use Rattle.lab_dump.specs.declared.held.State.{State}
 use Rattle.lab_dump.specs.declared.held.State.TheVariants as state
 use Rattle.lab_dump.specs.Held.{state_in, state_by}
+use Rattle.lab_dump.specs.declared.doubts.Doubts.{Doubts}
+use Rattle.lab_dump.specs.Doubts.{doubts_of}
 
 -- how sector n stands: with no sound page, with a newest one, or with two that share its greatest sequence
 unfoldable pub state_of : Image → ℕ → State
@@ -23,17 +24,13 @@ state_of image n = state_by (latest_below (marks image) (Sector n) (length image
 unfoldable pub states_of : Geometry → Image → List State
 states_of g image = map (state_of image) (range_with_len 0 g.sectors)
 
--- how many pages are neither erased nor sound
-unfoldable pub unsound_of : Image → ℕ
-unsound_of image = count_by is_broken image
-
--- The bytes are as many as an image has, the pieces are the array of the image that they are, and what is held says how each sector
--- stands and how many pages are neither erased nor sound.
-pub record IsWritten (g : Geometry) (pieces : Option (List (List ℕ))) (held : List Held) (unsound : ℕ) (bytes : List ℕ) : Type 0 where
+-- The bytes are as many as an image has, the pieces are the array of the image that they are, what is held says how each sector stands, and
+-- the doubts are those of the image.
+pub record IsWritten (g : Geometry) (pieces : Option (List (List ℕ))) (held : List Held) (doubts : Doubts) (bytes : List ℕ) : Type 0 where
   pub whole : length bytes ≡ image_bytes g
   pub array : IfSome pieces (λ ps. ps ≡ array_of g (raw_image g bytes))
   pub states : map state_in held ≡ states_of g (raw_image g bytes)
-  pub unsound_is : unsound ≡ unsound_of (raw_image g bytes)
+  pub doubts_is : doubts ≡ doubts_of g (raw_image g bytes)
 
 -- a sector is tied just where two of its pages share its greatest sequence
 abbrev pub TiedLaw : Type 0

@@ -1,34 +1,110 @@
 //! The array of a dump.
-ghost use Rattle.std.specs.Prelude.{◌≡◌, length, replicate, OnErr, IfOk, IfErr, IfSome, Err, map};
+ghost use Rattle.std.specs.Prelude.{◌≡◌, length, replicate, true, IfOk, IfErr, IfSome, map};
 ghost use Rattle.page_layout.specs.Array.{zeros};
-ghost use Rattle.lab_dump.specs.Held.{state_in};
+ghost use Rattle.lab_dump.specs.declared.held.Held.TheVariants.{Never};
 ghost use Rattle.lab_dump.specs.Unmade.{IsUnmade};
 ghost use Rattle.lab_dump.specs.Written.{IsWritten, TiedLaw};
 
-use crate::held::{Held, State};
+use crate::doubts::{Doubting, Doubts};
+use crate::dump::DumpReader;
+use crate::held::Held;
 use crate::make_fault::MakeFault;
 use crate::pass::scan;
 use crate::target::Target;
 use crate::writing::Writing;
 use page_layout::geometry::Geometry;
-use std::alloc::Global;
-use std::io::Read;
+use std::alloc::{AllocError, Global};
 
 /// What was written, and what is to be told of it.
 #[derive(Drop)]
 pub struct Written<T> {
     /// What is held of each sector.
     pub held: Vec<Held>,
-    /// The pages that are neither erased nor sound.
-    pub unsound: u32,
+    /// What the dump leaves open.
+    pub doubts: Doubts,
     /// The file.
     pub target: T,
+}
+
+/// Why no file was made of a dump, and the file as far as it was written.
+#[derive(Drop)]
+pub struct Unwritten<T> {
+    /// Why.
+    pub fault: MakeFault,
+    /// The file.
+    pub target: T,
+}
+
+// The memory of a run.
+#[derive(Drop)]
+struct Room {
+    // the page at hand
+    body: Vec<u8>,
+    spare: Vec<u8>,
+    // what is held of each sector
+    held: Vec<Held>,
+    // a sector's bytes where it has none
+    zeros: Vec<u8>,
+}
+
+// Takes all the memory of a run.
+fn take_room(alloc: Global, geometry: &Geometry) -> Result<Room, AllocError>
+    ensures body { IfOk result (λ room. length room.body.items ≡ geometry.now.data_bytes) }
+    ensures spare { IfOk result (λ room. length room.spare.items ≡ geometry.now.spare_bytes) }
+    ensures held { IfOk result (λ room. room.held.items ≡ replicate geometry.now.sectors Never) }
+    ensures blank { IfOk result (λ room. room.zeros.items ≡ zeros geometry.now) }
+{
+    Ok(Room {
+        body: vec![in alloc; 0; geometry.data_bytes()]?,
+        spare: vec![in alloc; 0; geometry.spare_bytes()]?,
+        held: vec![in alloc; Held::Never; geometry.sectors() as usize]?,
+        zeros: vec![in alloc; 0; geometry.data_bytes()]?,
+    })
 }
 
 /// A sector is tied just where two of its pages share its greatest sequence.
 pub fn tied_law()
     ensures { TiedLaw }
 {}
+
+// Writes each sector of a dump, with all the memory that it takes.
+fn write_sectors<R: DumpReader, T: Target + Drop>(
+    room: Room,
+    reader: &mut R,
+    geometry: &Geometry,
+    target: T,
+) -> Result<Written<T>, Unwritten<T>>
+    requires body { length room.body.items ≡ geometry.now.data_bytes }
+    requires spare { length room.spare.items ≡ geometry.now.spare_bytes }
+    requires held { room.held.items ≡ replicate geometry.now.sectors Never }
+    requires blank { room.zeros.items ≡ zeros geometry.now }
+    requires pieces { IfSome (T.pieces target) (λ ps. ps ≡ replicate geometry.now.sectors (zeros geometry.now)) }
+    ensures ok { IfOk result (λ written. IfSome (R.remaining reader.old) (IsWritten geometry.now (T.pieces written.target) written.held.items written.doubts)) }
+    ensures sized { IfOk result (λ written. length written.held.items ≡ geometry.now.sectors) }
+    ensures err { IfErr result (λ unwritten. IfSome (R.remaining reader.old) (IsUnmade geometry.now unwritten.fault)) }
+    ensures source { IfErr result (λ unwritten. unwritten.fault ≡ MakeFault.Source → R.failed reader.new ≡ true) }
+    ensures target { IfErr result (λ unwritten. unwritten.fault ≡ MakeFault.Target → T.failed unwritten.target ≡ true) }
+    ensures memory { IfErr result (λ unwritten. unwritten.fault ≡ MakeFault.OutOfMemory → ⊥) }
+{
+    let (mut body, mut spare) = (room.body, room.spare);
+    let mut writing = Writing {
+        held: room.held,
+        zeros: room.zeros,
+        doubting: Doubting::none(),
+        target,
+    };
+    match scan(reader, geometry, &mut writing, &mut body, &mut spare) {
+        Ok(()) => Ok(Written {
+            held: writing.held,
+            doubts: writing.doubting.doubts,
+            target: writing.target,
+        }),
+        Err(fault) => Err(Unwritten {
+            fault: MakeFault::from(fault),
+            target: writing.target,
+        }),
+    }
+}
 
 /// Writes each sector of a dump to a target, in one pass over the dump: the data area of the sector's newest page, or zeros where that page
 /// is a trim, the sector has none, or two of its pages share its greatest sequence. The target has a piece of zeros for each sector at
@@ -39,34 +115,30 @@ pub fn tied_law()
 ///
 /// # Errors
 ///
-/// `OutOfMemory` where a growth was refused, before any byte was read. Else each when it happens: `WrongLength` where the dump's bytes
-/// ended before the last page or a byte follows it, `Source` where a read failed or was interrupted, `Target` where a write failed.
+/// Each with the target. `OutOfMemory` where a growth was refused, before any byte was read. Else each when it happens: `WrongLength` where the
+/// dump's bytes ended before the last page or a byte follows it, `Source` where a read failed or was interrupted, `Target` where a write failed.
 ///
 /// (This project's rules.)
-pub fn write_array<R: Read, T: Target + Drop>(
+pub fn write_array<R: DumpReader, T: Target + Drop>(
     alloc: Global,
     reader: &mut R,
     geometry: &Geometry,
     target: T,
-) -> Result<Written<T>, MakeFault>
+) -> Result<Written<T>, Unwritten<T>>
     requires { IfSome (T.pieces target) (λ ps. ps ≡ replicate geometry.now.sectors (zeros geometry.now)) }
-    ensures ok { IfOk result (λ written. IfSome (R.remaining reader.old) (IsWritten geometry.now (T.pieces written.target) written.held.items written.unsound)) }
+    ensures ok { IfOk result (λ written. IfSome (R.remaining reader.old) (IsWritten geometry.now (T.pieces written.target) written.held.items written.doubts)) }
     ensures sized { IfOk result (λ written. length written.held.items ≡ geometry.now.sectors) }
-    ensures err { IfErr result (λ fault. IfSome (R.remaining reader.old) (IsUnmade geometry.now fault)) }
-    ensures memory { result ≡ Err MakeFault.OutOfMemory → reader.new ≡ reader.old }
+    ensures err { IfErr result (λ unwritten. IfSome (R.remaining reader.old) (IsUnmade geometry.now unwritten.fault)) }
+    // Whatever the reader and the target do.
+    ensures source { IfErr result (λ unwritten. unwritten.fault ≡ MakeFault.Source → R.failed reader.new ≡ true) }
+    ensures target { IfErr result (λ unwritten. unwritten.fault ≡ MakeFault.Target → T.failed unwritten.target ≡ true) }
+    ensures memory { IfErr result (λ unwritten. unwritten.fault ≡ MakeFault.OutOfMemory → reader.new ≡ reader.old) }
 {
-    let mut body = vec![in alloc; 0; geometry.data_bytes()]?;
-    let mut spare = vec![in alloc; 0; geometry.spare_bytes()]?;
-    let mut writing = Writing {
-        held: vec![in alloc; Held::Never; geometry.sectors() as usize]?,
-        zeros: vec![in alloc; 0; geometry.data_bytes()]?,
-        unsound: 0,
-        target,
-    };
-    scan(reader, geometry, &mut writing, &mut body, &mut spare)?;
-    Ok(Written {
-        held: writing.held,
-        unsound: writing.unsound,
-        target: writing.target,
-    })
+    match take_room(alloc, geometry) {
+        Ok(room) => write_sectors(room, reader, geometry, target),
+        Err(_) => Err(Unwritten {
+            fault: MakeFault::OutOfMemory,
+            target,
+        }),
+    }
 }

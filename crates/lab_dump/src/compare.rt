@@ -1,17 +1,18 @@
 //! What a dump comes to beside a certificate.
-ghost use Rattle.std.specs.Prelude.{◌≡◌, ◌≢◌, ◌↔◌, ℕ, ◌<◌, ◌^◌, false, length, get_or, IfOk, IfErr, IfSome, IsTrue, Err, None};
+ghost use Rattle.std.specs.Prelude.{◌≡◌, ◌≢◌, ◌↔◌, ℕ, ◌<◌, ◌^◌, true, false, length, get_or, IfOk, IfErr, IfSome, IsTrue, Err, None};
 ghost use Rattle.certificate.specs.Claim.{sizes_of};
 ghost use Rattle.lab_dump.specs.declared.trace.Trace.TheVariants.{Never};
 ghost use Rattle.lab_dump.specs.Trace.{lost_in};
 ghost use Rattle.lab_dump.specs.Compared.{IsComparedTo, IsUncompared};
 
 use crate::comparing::Comparing;
+use crate::doubts::{Doubting, Doubts};
+use crate::dump::DumpReader;
 use crate::pass::{ScanFault, scan};
 use crate::trace::Trace;
 use certificate::Certificate;
 use page_layout::geometry::Geometry;
 use std::alloc::{AllocError, Global};
-use std::io::Read;
 use thiserror::Error;
 
 /// Why a dump was not held beside a certificate.
@@ -60,8 +61,8 @@ impl From<AllocError> for CompareFault {
 pub struct Compared {
     /// Of each sector whether it has lost a page.
     pub lost: Vec<bool>,
-    /// The pages that are neither erased nor sound.
-    pub unsound: u32,
+    /// What the dump leaves open.
+    pub doubts: Doubts,
 }
 
 // Whether the certificate is of this geometry.
@@ -77,23 +78,18 @@ fn is_of(geometry: &Geometry, certificate: &Certificate) -> bool
         && said.sectors() == geometry.sectors()
 }
 
-// Of each sector whether it has lost a page, by what is held of it in the end.
-fn lost_sectors(
-    alloc: Global,
-    certificate: &Certificate,
-    traces: &[Trace],
-) -> Result<Vec<bool>, AllocError>
+// Notes of each sector whether it has lost a page, by what is held of it in the end.
+fn note_lost(certificate: &Certificate, traces: &[Trace], lost: &mut [bool])
     requires size { length traces.now ≡ length certificate.now.sectors }
     requires few { length traces.now < 2 ^ 32 }
-    ensures size { IfOk result (λ lost. length lost.items ≡ length traces.now) }
-    ensures each { IfOk result (λ lost. (n : ℕ) → n < length traces.now → get_or lost.items n false ≡ lost_in (get_or certificate.now.sectors n None) certificate.now.next (get_or traces.now n Never)) }
+    requires room { length lost.old ≡ length traces.now }
+    ensures size { length lost.new ≡ length traces.now }
+    ensures each { (n : ℕ) → n < length traces.now → get_or lost.new n false ≡ lost_in (get_or certificate.now.sectors n None) certificate.now.next (get_or traces.now n Never) }
 {
     let next = certificate.next_sequence();
-    let mut lost = vec![in alloc; false; traces.len()]?;
     for n in 0..traces.len() {
         lost[n] = traces[n].is_lost(certificate.sector_row(n as u32), next);
     }
-    Ok(lost)
 }
 
 /// Holds a dump beside a certificate that was made of its die before, in one pass over the dump: which sectors have lost a page since. A sector
@@ -102,10 +98,10 @@ fn lost_sectors(
 ///
 /// # Errors
 ///
-/// `GeometryDiffers` where the certificate is of another geometry, before any byte was read. Else each when it happens: `OutOfMemory` where a
-/// growth was refused, `WrongLength` where the dump's bytes ended before the last page or a byte follows it, `Source` where a read failed or
+/// `GeometryDiffers` where the certificate is of another geometry, and `OutOfMemory` where a growth was refused, both before any byte was read.
+/// Else each when it happens: `WrongLength` where the dump's bytes ended before the last page or a byte follows it, `Source` where a read failed or
 /// was interrupted. (This project's rules.)
-pub fn compare_dump<R: Read>(
+pub fn compare_dump<R: DumpReader>(
     alloc: Global,
     reader: &mut R,
     geometry: &Geometry,
@@ -117,6 +113,8 @@ pub fn compare_dump<R: Read>(
     // Whatever the reader does.
     ensures differs { (result ≡ Err CompareFault.GeometryDiffers) ↔ (certificate.now.sizes ≢ sizes_of geometry.now) }
     ensures unread { result ≡ Err CompareFault.GeometryDiffers → reader.new ≡ reader.old }
+    ensures memory { result ≡ Err CompareFault.OutOfMemory → reader.new ≡ reader.old }
+    ensures source { result ≡ Err CompareFault.Source → R.failed reader.new ≡ true }
 {
     if !is_of(geometry, certificate) {
         return Err(CompareFault::GeometryDiffers);
@@ -125,11 +123,13 @@ pub fn compare_dump<R: Read>(
     let mut spare = vec![in alloc; 0; geometry.spare_bytes()]?;
     let mut comparing = Comparing {
         traces: vec![in alloc; Trace::Never; geometry.sectors() as usize]?,
-        unsound: 0,
+        doubting: Doubting::none(),
     };
+    let mut lost = vec![in alloc; false; geometry.sectors() as usize]?;
     scan(reader, geometry, &mut comparing, &mut body, &mut spare)?;
+    note_lost(certificate, &comparing.traces, &mut lost);
     Ok(Compared {
-        lost: lost_sectors(alloc, certificate, &comparing.traces)?,
-        unsound: comparing.unsound,
+        lost,
+        doubts: comparing.doubting.doubts,
     })
 }

@@ -1,6 +1,6 @@
 //! A geometry, with what a dump says for it.
-ghost use Rattle.std.specs.Prelude.{◌≡◌, ◌++◌, OnOk};
-ghost use Rattle.lab_dump.specs.Fits.{fit_of, table_says, sectors_from};
+ghost use Rattle.std.specs.Prelude.{◌≡◌, ◌≤◌};
+ghost use Rattle.lab_dump.specs.Fits.{fit_of, missing_pages, table_says, sectors_from};
 
 use crate::sample::Sample;
 use crate::told::Told;
@@ -12,20 +12,25 @@ use std::cmp::Reverse;
 pub enum TableSays {
     /// It has words for as many blocks.
     Agrees,
+    /// It has words for more blocks: the dump is cut, or this is not its geometry.
+    Short,
     /// There is no sound table page.
     Silent,
-    /// It has words for another number of blocks.
+    /// It has words for fewer blocks.
     Differs,
 }
 
 /// A geometry that fits a dump, with what the dump says for it. The best comes first: by the fields in their order, so the one with the most
-/// sound pages, then the one that the table of blocks agrees to, then the one with the fewest bytes in unsound pages.
+/// sound pages, then the one that the table of blocks agrees to, then, where the table has words for more blocks, the one with the fewest missing
+/// pages, then the one with the fewest bytes in unsound pages.
 #[derive(Clone, Copy, Debug, PartialEq, Eq, PartialOrd, Ord)]
 pub struct Fit {
     /// The sound pages of those that were looked at.
     pub sound: Reverse<u32>,
     /// What the table of blocks says of the number of blocks.
     pub table: TableSays,
+    /// The pages that the dump lacks, where the table of blocks has words for more blocks, of which a die has at most 4096; else 0.
+    pub missing: u64,
     /// The bytes of the pages that were looked at and are neither sound nor erased.
     pub unsound_bytes: u64,
     /// The bytes of a page's data area.
@@ -56,9 +61,19 @@ fn table_says(blocks: u32, told: u64) -> TableSays
         TableSays::Silent
     } else if told == u64::from(blocks) {
         TableSays::Agrees
+    } else if told > u64::from(blocks) {
+        TableSays::Short
     } else {
         TableSays::Differs
     }
+}
+
+// The pages that a dump of so many blocks of so many pages lacks, where so many blocks are told: of a die at most 4096.
+fn missing_pages(blocks: u32, pages: u32, told: u64) -> u64
+    requires { pages ≤ 256 }
+    ensures { result ≡ missing_pages blocks pages told }
+{
+    told.min(4096).saturating_sub(u64::from(blocks)) * u64::from(pages)
 }
 
 // The sectors of a geometry of which at least so many are told.
@@ -77,6 +92,7 @@ pub(crate) fn fit_of(geometry: &Geometry, sample: Sample, told: Told) -> Fit
     Fit {
         sound: Reverse(sample.sound),
         table: table_says(geometry.blocks(), told.blocks),
+        missing: missing_pages(geometry.blocks(), geometry.pages(), told.blocks),
         unsound_bytes: u64::from(sample.unsound) * u64::from(data_bytes + spare_bytes),
         data_bytes,
         spare_bytes,

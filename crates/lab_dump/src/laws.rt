@@ -1,7 +1,9 @@
 //! What the definitions in `specs/` come to, proved: each function's contract is the law, and its body is empty.
+ghost use Rattle.lab_dump.specs.Bound.{BoundLaw, HoleLostLaw, KeptLaw, OwnRowLaw};
+ghost use Rattle.lab_dump.specs.Doubts.{HoleLaw};
 ghost use Rattle.lab_dump.specs.Lost.{LostLaw, NoneLostLaw};
 ghost use Rattle.lab_dump.specs.Map.{AreasLaw};
-ghost use Rattle.lab_dump.specs.FitLaws.{FitLaw, OnceLaw, OwnLaw, PageLaw, LookedLaw, LookedRiseLaw, LookedAllLaw, GreatestLaw, WithinLaw, LowerLaw, TableLaw};
+ghost use Rattle.lab_dump.specs.FitLaws.{FewerLaw, FitLaw, OnceLaw, OwnLaw, ShortLaw, PageLaw, LookedLaw, LookedRiseLaw, LookedAllLaw, GreatestLaw, WithinLaw, LowerLaw, TableLaw};
 
 /// The areas of a map have each sector once, each begins where the one before it has ended, and neighbours differ.
 pub fn areas_law()
@@ -20,12 +22,35 @@ pub fn none_lost_law()
     ensures { NoneLostLaw }
 {}
 
+/// What a hole is: a row is told as one just where its page is erased and one behind it in its block is not. Of a die whose blocks were programmed in
+/// order, and of whose erased pages none reads otherwise, each is a page that was lost.
+pub fn hole_laws()
+    ensures hole { HoleLaw }
+    ensures lost { HoleLostLaw }
+{}
+
+/// How many sectors of a dump may be older than the last write. Where each page of the dump is that of the die, or not sound, and no page was lost
+/// that reads as erased and stands behind the last one of its block that does not: each sector whose newest page is gone has a row of its own that
+/// is neither erased nor sound, or a hole; so there are at most as many of them as `Doubts::most_older` says; and every other one reads as it did.
+pub fn bound_laws()
+    ensures own { OwnRowLaw }
+    ensures bound { BoundLaw }
+    ensures kept { KeptLaw }
+{}
+
 /// Which geometries fit a dump: those within a die's limits that come to its bytes and of which some page that is looked at is sound, each
 /// once. A die's own geometry is one of them.
 pub fn fit_laws()
     ensures fit { FitLaw }
     ensures once { OnceLaw }
     ensures own { OwnLaw }
+{}
+
+/// A geometry is too short just where the table of blocks has words for more blocks, and then pages are missing; of two such ones with as many sound
+/// pages the one that lacks fewer comes first.
+pub fn short_laws()
+    ensures short { ShortLaw }
+    ensures fewer { FewerLaw }
 {}
 
 /// Which pages are looked at: pages of the raw image, each once, and all of them where they are at most 4096.

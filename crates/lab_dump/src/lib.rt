@@ -16,6 +16,7 @@ mod array;
 mod compare;
 mod comparing;
 mod counts;
+mod doubts;
 mod dump;
 mod find;
 mod fit;
@@ -39,14 +40,18 @@ mod told;
 mod trace;
 mod writing;
 
-pub use array::{Written, write_array};
+pub use array::{Unwritten, Written, write_array};
 pub use compare::{CompareFault, Compared, compare_dump};
 pub use counts::{PageCounts, sorts_law};
-pub use dump::{Dump, DumpFault};
+pub use doubts::Doubts;
+pub use dump::{Dump, DumpFault, DumpReader};
 pub use find::{FindFault, find_geometries};
 pub use fit::{Fit, TableSays};
 pub use held::{Held, State};
-pub use laws::{areas_law, fit_laws, looked_laws, lost_law, none_lost_law, told_laws};
+pub use laws::{
+    areas_law, bound_laws, fit_laws, hole_laws, looked_laws, lost_law, none_lost_law, short_laws,
+    told_laws,
+};
 pub use look::{Look, look_at, look_with};
 pub use make_fault::MakeFault;
 pub use map::print_map;

@@ -1,15 +1,16 @@
 //! The pass over the pages of a dump.
-ghost use Rattle.std.specs.Prelude.{◌≡◌, ◌⊎◌, ◌+◌, ◌++◌, length, OnOk, IfErr, IfSome};
+ghost use Rattle.std.specs.Prelude.{◌≡◌, ◌⊎◌, ◌+◌, ◌++◌, length, true, Err, OnOk, IfErr, IfSome};
 ghost use Rattle.std.specs.Io.KnownBytes.{Consumes, IsAtEnd};
 ghost use Rattle.page_layout.specs.Geometry.{row_count};
 ghost use Rattle.page_layout.specs.Page.{Image};
 ghost use Rattle.lab_dump.specs.Rows.{within};
 ghost use Rattle.lab_dump.specs.Scan.{HasMore, IsCut, IsReadTo, IsTaken, IsUntaken};
+ghost use Rattle.lab_dump.specs.declared.pass.Cut.TheVariants as cuts;
 ghost use Rattle.lab_dump.specs.declared.pass.ScanFault.TheVariants as faults;
 
+use crate::dump::DumpReader;
 use crate::rows::{Rows, show_page};
 use page_layout::geometry::Geometry;
-use std::io::Read;
 use thiserror::Error;
 
 /// Why a dump was not taken whole.
@@ -43,7 +44,7 @@ impl From<Stopped> for ScanFault {
 
 /// What takes the pages of a dump one by one, by rising row.
 pub trait Taker {
-    ghost use Rattle.std.specs.Prelude.{◌≡◌, ◌<◌, ◌+◌, ℕ, length, slice_get, OnOk, Option, Some, None};
+    ghost use Rattle.std.specs.Prelude.{◌≡◌, ◌<◌, ◌+◌, ℕ, length, slice_get, OnOk, OnErr, Option, Some, None};
     ghost use Rattle.page_layout.specs.declared.geometry.Geometry.{Geometry};
     ghost use Rattle.page_layout.specs.Geometry.{row_count};
     ghost use Rattle.page_layout.specs.Page.{Image, page};
@@ -58,11 +59,14 @@ pub trait Taker {
     /// What it has of this image's first pages, of which there are so many.
     ghost shows: { Self → Geometry → ℕ → Image → Type 0 };
 
+    /// What holds of it where it stopped: why it did.
+    ghost stopped: { Self → Type 0 };
+
     /// Takes the page of a row: its data area and its spare area.
     ///
     /// # Errors
     ///
-    /// `Stopped` where it wants no more pages. Nothing is said of it then.
+    /// `Stopped` where it wants no more pages. Nothing else is said of it then.
     fn take(
         &mut self,
         geometry: &Geometry,
@@ -76,7 +80,8 @@ pub trait Taker {
         requires stands { stands self.old geometry.now row }
         ensures asked { OnOk result (asked self.new ≡ asked self.old) }
         ensures stands { OnOk result (stands self.new geometry.now (row + 1)) }
-        ensures shows { OnOk result ((image : Image) → shows self.old geometry.now row image → slice_get image row ≡ Some (page body.now spare.now) → shows self.new geometry.now (row + 1) image) };
+        ensures shows { OnOk result ((image : Image) → shows self.old geometry.now row image → slice_get image row ≡ Some (page body.now spare.now) → shows self.new geometry.now (row + 1) image) }
+        ensures stopped { OnErr result (stopped self.new) };
 }
 
 /// Why a buffer was not filled.
@@ -107,9 +112,10 @@ impl From<Cut> for ScanFault {
 ///
 /// `Ended` where the reader's bytes ended before the buffer was full, `Failed` where a read failed or was interrupted. The buffer then holds
 /// anything, and the reader gave fewer bytes than the buffer has. (This project's rules.)
-pub fn fill<R: Read>(reader: &mut R, buffer: &mut [u8]) -> Result<(), Cut>
+pub fn fill<R: DumpReader>(reader: &mut R, buffer: &mut [u8]) -> Result<(), Cut>
     ensures whole { OnOk result (Consumes (R.remaining reader.old) (R.remaining reader.new) buffer.new) }
     ensures cut { IfErr result (IsCut (length buffer.new) (R.remaining reader.old) (R.remaining reader.new)) }
+    ensures failed { result ≡ Err cuts.Failed → R.failed reader.new ≡ true }
 {
     let mut count = 0;
     while count < buffer.len() {
@@ -123,16 +129,17 @@ pub fn fill<R: Read>(reader: &mut R, buffer: &mut [u8]) -> Result<(), Cut>
 }
 
 // The next page: its data area and then its spare area.
-fn read_page<R: Read>(reader: &mut R, body: &mut [u8], spare: &mut [u8]) -> Result<(), Cut>
+fn read_page<R: DumpReader>(reader: &mut R, body: &mut [u8], spare: &mut [u8]) -> Result<(), Cut>
     ensures whole { OnOk result (Consumes (R.remaining reader.old) (R.remaining reader.new) (body.new ++ spare.new)) }
     ensures cut { IfErr result (IsCut (length body.new + length spare.new) (R.remaining reader.old) (R.remaining reader.new)) }
+    ensures failed { result ≡ Err cuts.Failed → R.failed reader.new ≡ true }
 {
     fill(reader, body)?;
     fill(reader, spare)
 }
 
 // Hands the page of each row asked for to the taker, in row order, as the reader gives them, and an erased one in place of each other.
-fn take_pages<R: Read, T: Taker>(
+fn take_pages<R: DumpReader, T: Taker>(
     reader: &mut R,
     geometry: &Geometry,
     rows: Option<Rows>,
@@ -148,6 +155,8 @@ fn take_pages<R: Read, T: Taker>(
     ensures stands { OnOk result (T.stands taker.new geometry.now (row_count geometry.now)) }
     ensures read { OnOk result (IsReadTo geometry.now (row_count geometry.now) (R.remaining reader.old) (R.remaining reader.new) (λ image. T.shows taker.new geometry.now (row_count geometry.now) (within geometry.now rows image))) }
     ensures untaken { IfErr result (λ fault. IfSome (R.remaining reader.old) (IsUntaken geometry.now fault)) }
+    ensures source { result ≡ Err faults.Source → R.failed reader.new ≡ true }
+    ensures stopped { result ≡ Err faults.Stopped → T.stopped taker.new }
 {
     for row in 0..geometry.rows() {
         read_page(reader, body, spare)?;
@@ -163,9 +172,10 @@ fn take_pages<R: Read, T: Taker>(
 ///
 /// `WrongLength` where a byte is left, `Source` where a read failed or was interrupted. (This project's rules.)
 #[tactic(auto, using(crate::proofs::ScanLemmas::end_of_cut, crate::proofs::ScanLemmas::one_more))]
-pub fn expect_end<R: Read>(reader: &mut R) -> Result<(), ScanFault>
+pub fn expect_end<R: DumpReader>(reader: &mut R) -> Result<(), ScanFault>
     ensures ok { OnOk result (IsAtEnd (R.remaining reader.old)) }
     ensures err { IfErr result (λ fault. (fault ≡ faults.Source) ⊎ ((fault ≡ faults.WrongLength) × HasMore (R.remaining reader.old))) }
+    ensures source { result ≡ Err faults.Source → R.failed reader.new ≡ true }
 {
     let mut byte = [0];
     match fill(reader, &mut byte) {
@@ -183,7 +193,7 @@ pub fn expect_end<R: Read>(reader: &mut R) -> Result<(), ScanFault>
 /// `WrongLength` where the reader's bytes ended before the last page or a byte follows it, `Source` where a read failed or was
 /// interrupted, `Stopped` where the taker stopped: each when it happens. (This project's rules.)
 #[tactic(auto, unfolding(crate::specs::Rows::within))]
-pub fn scan<R: Read, T: Taker>(
+pub fn scan<R: DumpReader, T: Taker>(
     reader: &mut R,
     geometry: &Geometry,
     taker: &mut T,
@@ -198,6 +208,8 @@ pub fn scan<R: Read, T: Taker>(
     ensures stands { OnOk result (T.stands taker.new geometry.now (row_count geometry.now)) }
     ensures taken { OnOk result (IfSome (R.remaining reader.old) (IsTaken geometry.now (T.shows taker.new geometry.now (row_count geometry.now)))) }
     ensures untaken { IfErr result (λ fault. IfSome (R.remaining reader.old) (IsUntaken geometry.now fault)) }
+    ensures source { result ≡ Err faults.Source → R.failed reader.new ≡ true }
+    ensures stopped { result ≡ Err faults.Stopped → T.stopped taker.new }
 {
     scan_rows(reader, geometry, None, taker, body, spare)
 }
@@ -209,7 +221,7 @@ pub fn scan<R: Read, T: Taker>(
 ///
 /// `WrongLength` where the reader's bytes ended before the last page or a byte follows it, `Source` where a read failed or was
 /// interrupted, `Stopped` where the taker stopped: each when it happens. (This project's rules.)
-pub fn scan_rows<R: Read, T: Taker>(
+pub fn scan_rows<R: DumpReader, T: Taker>(
     reader: &mut R,
     geometry: &Geometry,
     rows: Option<Rows>,
@@ -225,6 +237,8 @@ pub fn scan_rows<R: Read, T: Taker>(
     ensures stands { OnOk result (T.stands taker.new geometry.now (row_count geometry.now)) }
     ensures taken { OnOk result (IfSome (R.remaining reader.old) (IsTaken geometry.now (λ image. T.shows taker.new geometry.now (row_count geometry.now) (within geometry.now rows image)))) }
     ensures untaken { IfErr result (λ fault. IfSome (R.remaining reader.old) (IsUntaken geometry.now fault)) }
+    ensures source { result ≡ Err faults.Source → R.failed reader.new ≡ true }
+    ensures stopped { result ≡ Err faults.Stopped → T.stopped taker.new }
 {
     take_pages(reader, geometry, rows, taker, body, spare)?;
     expect_end(reader)

@@ -4,7 +4,10 @@ ghost use Rattle.page_layout.specs.Page.{Image};
 ghost use Rattle.lab_dump.specs.Noted.{Stands, Shows};
 
 use crate::counts::{PageCounts, note_unsound};
+use crate::doubts::Doubting;
+use crate::held::State;
 use crate::keys::{blank_table, note_formed, note_seen};
+use crate::look::look_with;
 use crate::pass::{Stopped, Taker};
 use bad_blocks::Table;
 use image_check::Survey;
@@ -24,6 +27,9 @@ pub(crate) struct Seeing {
     pub(crate) seen: Vec<bool>,
     // of each table page, whether its newest page is well formed
     pub(crate) formed: Vec<bool>,
+    pub(crate) doubting: Doubting,
+    // room for how each key stands, which is known in the end
+    pub(crate) keys: Vec<State>,
     // scratch, to read table pages into
     table: Table,
 }
@@ -41,13 +47,15 @@ impl Seeing {
             unsound: vec![in alloc; 0; geometry.blocks() as usize]?,
             seen: vec![in alloc; false; keys as usize]?,
             formed: vec![in alloc; false; geometry.table_pages() as usize]?,
+            doubting: Doubting::none(),
+            keys: vec![in alloc; State::Absent; keys as usize]?,
             table: blank_table(alloc, geometry.blocks())?,
         })
     }
 }
 
 impl Taker for Seeing {
-    ghost use Rattle.std.specs.Prelude.{◌≡◌, ◌<◌, ◌+◌, ℕ, length, slice_get, OnOk, Some};
+    ghost use Rattle.std.specs.Prelude.{◌≡◌, ◌<◌, ◌+◌, ℕ, length, slice_get, OnOk, OnErr, Some};
     ghost use Rattle.page_layout.specs.Geometry.{row_count};
     ghost use Rattle.page_layout.specs.Page.{Image, page};
     ghost use Rattle.lab_dump.specs.Noted.{Stands, Shows};
@@ -55,6 +63,9 @@ impl Taker for Seeing {
     ghost stands = { λ s g rows. Stands g rows s };
 
     ghost shows = { λ s g rows image. Shows g rows image s };
+
+    // it never stops
+    ghost stopped = { λ _. ⊥ };
 
     fn take(
         &mut self,
@@ -66,6 +77,8 @@ impl Taker for Seeing {
         let found = self.survey.see(row, body, spare);
         let erased = is_erased(body, spare);
         self.counts = self.counts.step(geometry, found, erased);
+        let look = look_with(found, body, spare);
+        self.doubting = self.doubting.step(geometry, row, look);
         note_unsound(geometry, &mut self.unsound, row, found, erased);
         note_seen(geometry, &mut self.seen, found);
         note_formed(

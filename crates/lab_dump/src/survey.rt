@@ -1,16 +1,21 @@
 //! The survey of a dump.
-ghost use Rattle.std.specs.Prelude.{◌≡◌, ℕ, ◌<◌, false, length, get_or, IfOk, IfErr, IfSome, IsPermutation, option_map};
+ghost use Rattle.std.specs.Prelude.{◌≡◌, ◌↔◌, ◌⊎◌, ℕ, ◌<◌, true, false, length, get_or, Err, OnErr, IfOk, IfErr, IfSome, IsPermutation, IsTrue, option_map};
+ghost use Rattle.page_layout.specs.declared.geometry.Geometry.{Geometry};
 ghost use Rattle.page_layout.specs.Geometry.{key_count, row_count, table_pages};
 ghost use Rattle.page_layout.specs.Page.{Image};
+ghost use Rattle.page_layout.specs.Raw.{raw_image};
 ghost use Rattle.image_check.specs.Newest.{place_in, blank};
 ghost use Rattle.image_check.specs.Refused.{IsMemory};
 ghost use Rattle.image_check.specs.Surveyed.{IsSized, Surveys};
-ghost use Rattle.lab_dump.specs.declared.held.State.TheVariants.{Absent};
+ghost use Rattle.lab_dump.specs.declared.held.State.TheVariants.{Absent, Found};
 ghost use Rattle.lab_dump.specs.Keys.{state_seen};
 ghost use Rattle.lab_dump.specs.Noted.{Stands, Shows};
-ghost use Rattle.lab_dump.specs.Surveyed.{BlocksAs, IsSurveyed, IsSurveyOf, IsWhole, IsUnsurveyed, MountsLaw};
+ghost use Rattle.lab_dump.specs.Rows.{within};
+ghost use Rattle.lab_dump.specs.Surveyed.{AreAll, AreFormed, BlocksAs, IsFormedAt, IsReadable, IsSurveyed, IsSurveyOf, IsWhole, IsUnsurveyed, LooksReadable, MountsLaw, TellsBlocks};
 
 use crate::counts::PageCounts;
+use crate::doubts::Doubts;
+use crate::dump::DumpReader;
 use crate::held::State;
 use crate::pass::{ScanFault, scan_rows};
 use crate::repeated::first_repeated;
@@ -20,7 +25,6 @@ use certificate::BlockState;
 use image_check::{Newest, Refusal, Survey, describe_blocks};
 use page_layout::geometry::Geometry;
 use std::alloc::{AllocError, Global};
-use std::io::Read;
 use thiserror::Error;
 
 /// Why a dump was not surveyed.
@@ -77,6 +81,8 @@ pub struct DieSurvey {
     /// The state of each block, where every number is in range, no two sound pages share a sequence, and each table page has a newest page,
     /// which is well formed.
     pub blocks: Option<Vec<BlockState>>,
+    /// What the dump leaves open.
+    pub doubts: Doubts,
 }
 
 /// A die mounts for a cache of at least as many entries as there are stale sectors, and of 1 to 65,536, just where its survey has no reason
@@ -96,57 +102,134 @@ fn state_seen(row: Option<u32>, seen: bool) -> State
     }
 }
 
-// How each key stands.
-fn key_states(alloc: Global, newest: &[Newest], seen: &[bool]) -> Result<Vec<State>, AllocError>
-    requires { length seen.now ≡ length newest.now }
-    ensures size { IfOk result (λ states. length states.items ≡ length newest.now) }
-    ensures each { IfOk result (λ states. (i : ℕ) → i < length newest.now → get_or states.items i Absent ≡ state_seen (place_in (get_or newest.now i blank)) (get_or seen.now i false)) }
+// Notes how each key stands.
+fn note_keys(newest: &[Newest], seen: &[bool], keys: &mut [State])
+    requires seen { length seen.now ≡ length newest.now }
+    requires room { length keys.old ≡ length newest.now }
+    ensures size { length keys.new ≡ length newest.now }
+    ensures each { (i : ℕ) → i < length newest.now → get_or keys.new i Absent ≡ state_seen (place_in (get_or newest.now i blank)) (get_or seen.now i false) }
 {
-    let mut states = vec![in alloc; State::Absent; newest.len()]?;
     for i in 0..newest.len() {
-        states[i] = state_seen(newest[i].row(), seen[i]);
+        keys[i] = state_seen(newest[i].row(), seen[i]);
     }
-    Ok(states)
 }
 
 // Whether a growth was refused.
 fn is_memory(refusal: Refusal) -> bool
-    ensures { result ≡ false → IsMemory refusal → ⊥ }
+    ensures { IsTrue result ↔ IsMemory refusal }
 {
     matches!(refusal, Refusal::OutOfMemory)
 }
 
+// What is known of the blocks.
+#[derive(Drop)]
+enum Blocks {
+    // the state of each
+    Known(Vec<BlockState>),
+    // the pages have one of the first three faults
+    Unreadable,
+    // a growth was refused
+    Refused,
+}
+
 // The state of each block, where the pages have none of the first three faults.
-fn blocks_of(alloc: Global, survey: &mut Survey) -> Result<Option<Vec<BlockState>>, AllocError>
+fn blocks_of(alloc: Global, survey: &mut Survey) -> Blocks
     requires { IsSized survey.old.geometry (row_count survey.old.geometry) survey.old }
-    ensures blocks { IfOk result (λ blocks. (image : Image) → Surveys survey.old.geometry image survey.old → BlocksAs survey.old.geometry image (option_map (λ states. states.items) blocks)) }
-    ensures size { IfOk result (λ blocks. IfSome blocks (λ states. length states.items ≡ survey.old.geometry.blocks)) }
+    ensures blocks { (image : Image) → Surveys survey.old.geometry image survey.old → TellsBlocks survey.old.geometry image result }
+    ensures size { AreAll survey.old.geometry result }
     ensures permutation { IsPermutation survey.old.pairs.items survey.new.pairs.items }
 {
     match describe_blocks(alloc, survey) {
-        Ok(states) => Ok(Some(states)),
-        Err(refusal) if is_memory(refusal) => Err(AllocError),
-        Err(_) => Ok(None),
+        Ok(states) => Blocks::Known(states),
+        Err(refusal) if is_memory(refusal) => Blocks::Refused,
+        Err(_) => Blocks::Unreadable,
+    }
+}
+
+// Whether a key has a newest page.
+fn is_found(state: State) -> bool
+    ensures { IsTrue result ↔ (state ≡ Found) }
+{
+    match state {
+        State::Found => true,
+        State::Absent | State::Tied => false,
+    }
+}
+
+// Whether a table page has a newest page that is well formed.
+fn is_formed_at(geometry: &Geometry, keys: &[State], formed: &[bool], u: u32) -> bool
+    requires keys { length keys.now ≡ key_count geometry.now }
+    requires formed { length formed.now ≡ table_pages geometry.now }
+    requires within { u < table_pages geometry.now }
+    ensures { IsTrue result ↔ IsFormedAt geometry.now keys.now formed.now u }
+{
+    let first = geometry.sectors() + geometry.translation_pages();
+    is_found(keys[(first + u) as usize]) && formed[u as usize]
+}
+
+// Whether each table page has one.
+fn are_formed(geometry: &Geometry, keys: &[State], formed: &[bool]) -> bool
+    requires keys { length keys.now ≡ key_count geometry.now }
+    requires formed { length formed.now ≡ table_pages geometry.now }
+    ensures { IsTrue result ↔ AreFormed geometry.now (table_pages geometry.now) keys.now formed.now }
+{
+    for u in 0..geometry.table_pages() {
+        if !is_formed_at(geometry, keys, formed, u) {
+            return false;
+        }
+    }
+    true
+}
+
+// Whether the pages have none of the first three faults, by what was seen of them.
+fn looks_readable(
+    geometry: &Geometry,
+    counts: PageCounts,
+    repeated: Option<(u32, u32)>,
+    keys: &[State],
+    formed: &[bool],
+) -> bool
+    requires keys { length keys.now ≡ key_count geometry.now }
+    requires formed { length formed.now ≡ table_pages geometry.now }
+    ensures { IsTrue result ↔ LooksReadable geometry.now counts repeated keys.now formed.now }
+{
+    counts.outside == 0 && repeated.is_none() && are_formed(geometry, keys, formed)
+}
+
+// The blocks' states, where they are known and the pages look readable; that they do not is an answer, whatever memory there is.
+fn told_blocks(blocks: Blocks, readable: bool) -> Result<Option<Vec<BlockState>>, AllocError>
+    ensures refused { OnErr result (readable ≡ true) }
+    ensures told { IfOk result (λ told. (g : Geometry) (image : Image) → (readable ≡ false → IsReadable g image → ⊥) → TellsBlocks g image blocks → BlocksAs g image (option_map (λ states. states.items) told)) }
+    ensures size { IfOk result (λ told. (g : Geometry) → AreAll g blocks → IfSome told (λ states. length states.items ≡ g.blocks)) }
+{
+    match blocks {
+        Blocks::Known(states) => Ok(Some(states)),
+        Blocks::Unreadable => Ok(None),
+        Blocks::Refused if readable => Err(AllocError),
+        Blocks::Refused => Ok(None),
     }
 }
 
 // What was seen in the end.
-fn conclude(alloc: Global, seeing: Seeing) -> Result<DieSurvey, AllocError>
-    requires { Stands seeing.survey.geometry (row_count seeing.survey.geometry) seeing }
-    ensures whole { IfOk result (IsWhole seeing.survey.geometry) }
-    ensures survey { IfOk result (λ s. (image : Image) → length image ≡ row_count seeing.survey.geometry → Shows seeing.survey.geometry (row_count seeing.survey.geometry) image seeing → IsSurveyed seeing.survey.geometry image s) }
+fn conclude(alloc: Global, geometry: &Geometry, seeing: Seeing) -> Result<DieSurvey, AllocError>
+    requires { Stands geometry.now (row_count geometry.now) seeing }
+    ensures whole { IfOk result (IsWhole geometry.now) }
+    ensures survey { IfOk result (λ s. (image : Image) → length image ≡ row_count geometry.now → Shows geometry.now (row_count geometry.now) image seeing → IsSurveyed geometry.now image s) }
+    ensures memory { OnErr result ((image : Image) → length image ≡ row_count geometry.now → Shows geometry.now (row_count geometry.now) image seeing → IsReadable geometry.now image) }
 {
-    let mut survey = seeing.survey;
-    let keys = key_states(alloc, &survey.newest, &seeing.seen)?;
-    let blocks = blocks_of(alloc, &mut survey)?;
+    let (mut survey, mut keys) = (seeing.survey, seeing.keys);
+    note_keys(&survey.newest, &seeing.seen, &mut keys);
+    let blocks = blocks_of(alloc, &mut survey);
     let repeated = first_repeated(&mut survey.pairs);
+    let readable = looks_readable(geometry, seeing.counts, repeated, &keys, &seeing.formed);
     Ok(DieSurvey {
         counts: seeing.counts,
         repeated,
         keys,
         formed: seeing.formed,
         unsound: seeing.unsound,
-        blocks,
+        blocks: told_blocks(blocks, readable)?,
+        doubts: seeing.doubting.doubts,
     })
 }
 
@@ -155,9 +238,10 @@ fn conclude(alloc: Global, seeing: Seeing) -> Result<DieSurvey, AllocError>
 ///
 /// # Errors
 ///
-/// `OutOfMemory` where a growth was refused. Else each when it happens: `WrongLength` where the dump's bytes ended before the last page or a
-/// byte follows it, `Source` where a read failed or was interrupted. (This project's rules.)
-pub fn survey_dump<R: Read>(
+/// `OutOfMemory` where a growth was refused: before any byte was read, or for the blocks' states, which are told of a dump alone whose numbers
+/// are in range, whose sequences differ, and whose table pages are whole. Else each when it happens: `WrongLength` where the dump's bytes ended
+/// before the last page or a byte follows it, `Source` where a read failed or was interrupted. (This project's rules.)
+pub fn survey_dump<R: DumpReader>(
     alloc: Global,
     reader: &mut R,
     geometry: &Geometry,
@@ -166,10 +250,12 @@ pub fn survey_dump<R: Read>(
     ensures whole { IfOk result (IsWhole geometry.now) }
     ensures ok { IfOk result (λ survey. IfSome (R.remaining reader.old) (IsSurveyOf geometry.now rows survey)) }
     ensures err { IfErr result (λ fault. IfSome (R.remaining reader.old) (IsUnsurveyed geometry.now fault)) }
+    ensures source { result ≡ Err SurveyFault.Source → R.failed reader.new ≡ true }
+    ensures memory { result ≡ Err SurveyFault.OutOfMemory → (reader.new ≡ reader.old) ⊎ IfSome (R.remaining reader.old) (λ bytes. IsReadable geometry.now (within geometry.now rows (raw_image geometry.now bytes))) }
 {
     let mut body = vec![in alloc; 0; geometry.data_bytes()]?;
     let mut spare = vec![in alloc; 0; geometry.spare_bytes()]?;
     let mut seeing = Seeing::new(alloc, geometry)?;
     scan_rows(reader, geometry, rows, &mut seeing, &mut body, &mut spare)?;
-    Ok(conclude(alloc, seeing)?)
+    Ok(conclude(alloc, geometry, seeing)?)
 }

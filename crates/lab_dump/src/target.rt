@@ -8,15 +8,18 @@ pub struct TargetFault;
 
 /// A file of pieces of one size, one behind another, that is being written.
 pub trait Pieces {
-    ghost use Rattle.std.specs.Prelude.{ℕ, List, Option};
+    ghost use Rattle.std.specs.Prelude.{ℕ, Bool, List, Option};
 
     /// The pieces, in order, where they are known. Of a file of the system they aren't.
     ghost pieces: { Self → Option (List (List ℕ)) };
+
+    /// Whether a write to it has failed so far. Of a file of the system it may be anything.
+    ghost failed: { Self → Bool };
 }
 
 /// A file with a piece for each sector, that is written out of order. It is handed zeros, or a sound page.
 pub trait Target: Pieces {
-    ghost use Rattle.std.specs.Prelude.{◌≡◌, OnOk, option_map, set, replicate, length};
+    ghost use Rattle.std.specs.Prelude.{◌≡◌, OnOk, OnErr, true, option_map, set, replicate, length};
     ghost use Rattle.lab_dump.specs.Writing.{HoldsSector};
 
     /// Writes a page's data area as the piece of this number, counted from 0, in place of what stood there. It is as long as each piece.
@@ -27,7 +30,8 @@ pub trait Target: Pieces {
     /// Where it could not be written. Nothing is promised of the file then.
     fn put(&mut self, number: u32, body: &[u8], spare: &[u8]) -> Result<(), TargetFault>
         requires { HoldsSector number body.now spare.now }
-        ensures { OnOk result (Self.pieces self.new ≡ option_map (λ ps. set ps number body.now) (Self.pieces self.old)) };
+        ensures written { OnOk result (Self.pieces self.new ≡ option_map (λ ps. set ps number body.now) (Self.pieces self.old)) }
+        ensures failed { OnErr result (Self.failed self.new ≡ true) };
 
     /// Writes zeros as the piece of this number, in place of what stood there. They are as many as each piece has.
     ///
@@ -36,12 +40,13 @@ pub trait Target: Pieces {
     /// As of `put`.
     fn blank(&mut self, number: u32, zeros: &[u8]) -> Result<(), TargetFault>
         requires { zeros.now ≡ replicate (length zeros.now) 0 }
-        ensures { OnOk result (Self.pieces self.new ≡ option_map (λ ps. set ps number zeros.now) (Self.pieces self.old)) };
+        ensures written { OnOk result (Self.pieces self.new ≡ option_map (λ ps. set ps number zeros.now) (Self.pieces self.old)) }
+        ensures failed { OnErr result (Self.failed self.new ≡ true) };
 }
 
 /// A file with a piece for each row: its page, the data area and then the spare area.
 pub trait PageTarget: Pieces {
-    ghost use Rattle.std.specs.Prelude.{◌≡◌, OnOk, option_map, set};
+    ghost use Rattle.std.specs.Prelude.{◌≡◌, OnOk, OnErr, true, option_map, set};
 
     /// Writes the bytes of the page of this row in place of what stood there. They are as many as each page has.
     ///
@@ -49,5 +54,6 @@ pub trait PageTarget: Pieces {
     ///
     /// Where they could not be written. Nothing is promised of the file then.
     fn put_page(&mut self, row: u32, bytes: &[u8]) -> Result<(), TargetFault>
-        ensures { OnOk result (Self.pieces self.new ≡ option_map (λ ps. set ps row bytes.now) (Self.pieces self.old)) };
+        ensures written { OnOk result (Self.pieces self.new ≡ option_map (λ ps. set ps row bytes.now) (Self.pieces self.old)) }
+        ensures failed { OnErr result (Self.failed self.new ≡ true) };
 }

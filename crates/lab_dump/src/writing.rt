@@ -1,5 +1,5 @@
 //! What takes the pages and writes the sectors.
-ghost use Rattle.std.specs.Prelude.{◌≡◌, ◌<◌, ◌≤◌, ◌+◌, ℕ, List, OnOk, length, slice_get, Some};
+ghost use Rattle.std.specs.Prelude.{◌≡◌, ◌<◌, ◌≤◌, ◌+◌, ℕ, List, OnOk, OnErr, true, length, slice_get, Some};
 ghost use Rattle.page_layout.specs.Geometry.{row_count};
 ghost use Rattle.page_layout.specs.Page.{Page, Image, page};
 ghost use Rattle.page_layout.specs.Array.{content_of_kind, zeros};
@@ -8,6 +8,7 @@ ghost use Rattle.lab_dump.specs.Held.{pieces_after};
 ghost use Rattle.page_layout.specs.declared.record.Kind.TheVariants as kinds;
 ghost use Rattle.lab_dump.specs.Writing.{HoldsSector, Stands, Shows};
 
+use crate::doubts::Doubting;
 use crate::held::{Change, Held};
 use crate::look::{Look, look_at};
 use crate::pass::{Stopped, Taker};
@@ -21,8 +22,7 @@ pub struct Writing<T> {
     pub(crate) held: Vec<Held>,
     // a sector's bytes where it has none
     pub(crate) zeros: Vec<u8>,
-    // the pages that are neither erased nor sound
-    pub(crate) unsound: u32,
+    pub(crate) doubting: Doubting,
     pub(crate) target: T,
 }
 
@@ -38,7 +38,8 @@ fn put_change<T: Target>(
 ) -> Result<(), TargetFault>
     requires blank { blank.now ≡ zeros geometry.now }
     requires sound { kind ≡ kinds.Sector → HoldsSector sector areas.0.now areas.1.now }
-    ensures { OnOk result (T.pieces target.new ≡ pieces_after change sector (content_of_kind geometry.now kind areas.entry.0.now) (zeros geometry.now) (T.pieces target.old)) }
+    ensures written { OnOk result (T.pieces target.new ≡ pieces_after change sector (content_of_kind geometry.now kind areas.entry.0.now) (zeros geometry.now) (T.pieces target.old)) }
+    ensures failed { OnErr result (T.failed target.new ≡ true) }
 {
     match change {
         Change::Stays => Ok(()),
@@ -59,10 +60,12 @@ impl<T: Target> Writing<T> {
     ) -> Result<(), Stopped>
         requires row_in { row < row_count geometry.now }
         requires looked { record_of (page body.now spare.now) ≡ Some found.now }
-        requires stands { Stands geometry.now row self.old.held.items self.old.zeros.items self.old.unsound (T.pieces self.old.target) }
-        ensures stands { OnOk result (Stands geometry.now (row + 1) self.new.held.items self.new.zeros.items self.new.unsound (T.pieces self.new.target)) }
-        ensures shows { OnOk result ((image : Image) (p : Page) → Shows geometry.now row image self.old.held.items self.old.unsound (T.pieces self.old.target) → slice_get image row ≡ Some p → body.now ≡ p.body → record_of p ≡ Some found.now
-            → Shows geometry.now (row + 1) image self.new.held.items self.new.unsound (T.pieces self.new.target)) }
+        requires stands { Stands geometry.now self.old.held.items self.old.zeros.items (T.pieces self.old.target) }
+        ensures stands { OnOk result (Stands geometry.now self.new.held.items self.new.zeros.items (T.pieces self.new.target)) }
+        ensures shows { OnOk result ((image : Image) (p : Page) → Shows geometry.now row image self.old.held.items (T.pieces self.old.target) → slice_get image row ≡ Some p → body.now ≡ p.body → record_of p ≡ Some found.now
+            → Shows geometry.now (row + 1) image self.new.held.items (T.pieces self.new.target)) }
+        ensures doubting { self.new.doubting ≡ self.old.doubting }
+        ensures failed { OnErr result (T.failed self.new.target ≡ true) }
     {
         let Key::Sector(sector) = found.key() else {
             return Ok(());
@@ -88,14 +91,17 @@ impl<T: Target> Writing<T> {
 }
 
 impl<T: Target> Taker for Writing<T> {
-    ghost use Rattle.std.specs.Prelude.{◌≡◌, ◌<◌, ◌+◌, ℕ, length, slice_get, OnOk, Some};
+    ghost use Rattle.std.specs.Prelude.{◌≡◌, ◌<◌, ◌+◌, ℕ, length, slice_get, OnOk, OnErr, Some, true};
     ghost use Rattle.page_layout.specs.Geometry.{row_count};
     ghost use Rattle.page_layout.specs.Page.{Image, page};
+    ghost use Rattle.lab_dump.specs.Doubts.{AreFewDoubts, IsDoubting};
     ghost use Rattle.lab_dump.specs.Writing.{Stands, Shows};
 
-    ghost stands = { λ s g rows. Stands g rows s.held.items s.zeros.items s.unsound (T.pieces s.target) };
+    ghost stands = { λ s g rows. Stands g s.held.items s.zeros.items (T.pieces s.target) × AreFewDoubts rows s.doubting };
 
-    ghost shows = { λ s g rows image. Shows g rows image s.held.items s.unsound (T.pieces s.target) };
+    ghost shows = { λ s g rows image. Shows g rows image s.held.items (T.pieces s.target) × IsDoubting g rows image s.doubting };
+
+    ghost stopped = { λ s. T.failed s.target ≡ true };
 
     fn take(
         &mut self,
@@ -104,12 +110,11 @@ impl<T: Target> Taker for Writing<T> {
         body: &[u8],
         spare: &[u8],
     ) -> Result<(), Stopped> {
-        match look_at(geometry, body, spare) {
+        let look = look_at(geometry, body, spare);
+        self.doubting = self.doubting.step(geometry, row, look);
+        match look {
             Look::Erased => Ok(()),
-            Look::Unsound => {
-                self.unsound += 1;
-                Ok(())
-            }
+            Look::Unsound => Ok(()),
             Look::Sound(found) => self.take_sound(geometry, row, &found, body, spare),
         }
     }

@@ -1,22 +1,29 @@
 -- Which page is written of a row.
-use Rattle.std.proofs.Common.{◌≡◌, ◌⊎◌, inl, inr, ℕ, zero, suc, ◌<◌, Bool, true, false, cond, List, [], ◌∷◌, length, get_or, replicate, Option, Some, None, refl, sym, ap, ◌∙◌, subst, arith}
-use Rattle.std.specs.Prelude.{All, IsSome, is_some, nat_le, ◌&&◌}
-use Rattle.std.specs.List.{filter, list_all, Contains}
-use Rattle.std.proofs.lemmas.Bool.{and_parts, and_cases, leb-true, cases_Bool, true≢false}
+use Rattle.std.proofs.Common.{◌≡◌, ◌⊎◌, inl, inr, ℕ, zero, suc, ◌+◌, ◌*◌, ◌<◌, Bool, true, false, cond, List, [], ◌∷◌, length, get_or, map, replicate, Option, Some, None, refl, sym, ap, ◌∙◌, subst, arith}
+use Rattle.std.specs.Prelude.{All, IsSome, is_some, nat_le, ◌&&◌, ◌==◌, not, slice_get}
+use Rattle.std.specs.List.{filter, list_all, range_with_len, Contains}
+use Rattle.std.proofs.lemmas.Bool.{and_parts, and_cases, leb-true, cases_Bool, true≢false, eqb-true}
 use Rattle.std.proofs.lemmas.List.{get_or_default}
 use Rattle.std.proofs.lemmas.List.Elements.{All-nil, All-cons, All-contains}
+use Rattle.std.proofs.lemmas.List.Folds.{list_all-append, list_all_at}
+use Rattle.std.proofs.lemmas.List.FromFn.{fill_by_all}
+use Rattle.std.proofs.lemmas.List.{length-append}
 use Rattle.std.proofs.lemmas.Slice.Eq.{bytes_eq-Decides}
 use Rattle.page_layout.specs.declared.geometry.Geometry.{Geometry}
 use Rattle.page_layout.specs.declared.record.Record.{Record}
 use Rattle.page_layout.specs.Page.{Page, page}
 use Rattle.page_layout.specs.Raw.{bytes_of_page}
+use Rattle.page_layout.specs.Geometry.{page_bytes}
 use Rattle.page_layout.specs.Sound.{record_of, is_filled, is_erased_page}
+use Rattle.page_layout.specs.Block.{is_programmed}
+use Rattle.page_layout.proofs.RecordLemmas.{erased_no_record}
 use Rattle.lab_dump.specs.PageBytes.{page_of, is_sound}
 use Rattle.lab_dump.proofs.PageLemmas.{page_again}
 use Rattle.lab_mend.specs.declared.choice.Origin.{Origin}
 use Rattle.lab_mend.specs.declared.choice.Origin.TheVariants.{Sound, Conflict, Majority, Erased, Unsound}
-use Rattle.lab_mend.specs.Majority.{majority}
-use Rattle.lab_mend.specs.Choice.{is_same, zero_page, chosen, by_erased, by_majority, by_sound, choice, NoneSound, Means, AreSized, ChoiceLaw, AreAmong, OrderLaw, ZeroLaw}
+use Rattle.lab_mend.specs.Majority.{majority, majority_byte, column}
+use Rattle.lab_mend.proofs.MajorityLemmas.{majority_set}
+use Rattle.lab_mend.specs.Choice.{is_same, zero_page, chosen, by_programmed, by_majority, by_sound, choice, NoneSound, AllErased, IsFirstProgrammed, Means, AreSized, ChoiceLaw, ErasedLaw, AreAmong, OrderLaw, ZeroLaw}
 
 -- ---- pages of a list
 
@@ -125,19 +132,54 @@ same_size g ps p q sized a b =
 
 -- ---- the law of the choice
 
-erased_means : (g : Geometry) (ps : List Page) → NoneSound ps → (erased : List Page) → filter is_erased_page ps ≡ erased → Means g ps (by_erased g ps erased).its (by_erased g ps erased).origin
-erased_means g ps none [] e = (none, none_kept is_erased_page ps e, refl)
-erased_means g ps none (p ∷ more) e = let k = first_kept is_erased_page ps p more e in (none, k.in_list, k.passes)
+-- a page that does not count as programmed is erased
+left_erased : (b : Bool) → not b ≡ false → b ≡ true
+left_erased true e = refl
+left_erased false e = absurd (true≢false e)
+
+left_programmed : (b : Bool) → not b ≡ true → b ≡ false
+left_programmed true e = absurd (true≢false (sym e))
+left_programmed false e = refl
+
+all_erased : (ps : List Page) → All (λ p. is_programmed p ≡ false) ps → AllErased ps
+all_erased ps h k d l = left_erased (is_erased_page (get_or ps k d)) (h k d l)
+
+-- a page is the first of a list that is not erased, and of a longer one whose first page is erased
+one_later : (x : Page) (xs : List Page) (p : Page) → is_erased_page x ≡ true → IsFirstProgrammed xs p → IsFirstProgrammed (x ∷ xs) p
+one_later x xs p erased h = record {
+  place = suc h.place;
+  at = h.at;
+  programmed = h.programmed;
+  before = earlier;
+}
+  where
+    earlier : (j : ℕ) (q : Page) → j < suc h.place → slice_get (x ∷ xs) j ≡ Some q → is_erased_page q ≡ true
+    earlier zero q l at = let same : x ≡ q = cc in ap is_erased_page (sym same) ∙ erased
+    earlier (suc j) q l at = h.before j q (omega arith) at
+
+first_programmed : (ps : List Page) (p : Page) (more : List Page) → filter is_programmed ps ≡ p ∷ more → IsFirstProgrammed ps p
+first_programmed [] p more e = absurd (cc)
+first_programmed (x ∷ xs) p more e = elim (cases_Bool (is_programmed x)) [
+  | inl is ↦
+      let here : x ∷ filter is_programmed xs ≡ p ∷ more = sym (ap (λ b. cond b (x ∷ filter is_programmed xs) (filter is_programmed xs)) is) ∙ e in
+      let same : x ≡ p = cc in
+      record { place = 0; at = ap Some same; programmed = ap is_erased_page (sym same) ∙ left_programmed (is_erased_page x) is; before = λ j q l at. absurd (omega arith) }
+  | inr is ↦ one_later x xs p (left_erased (is_erased_page x) is) (first_programmed xs p more (sym (ap (λ b. cond b (x ∷ filter is_programmed xs) (filter is_programmed xs)) is) ∙ e))
+]
+
+programmed_means : (g : Geometry) (ps : List Page) → NoneSound ps → (programmed : List Page) → filter is_programmed ps ≡ programmed → Means g ps (by_programmed g ps programmed).its (by_programmed g ps programmed).origin
+programmed_means g ps none [] e = (all_erased ps (none_kept is_programmed ps e), refl)
+programmed_means g ps none (p ∷ more) e = (none, first_programmed ps p more e)
 
 majority_means : (g : Geometry) (ps : List Page) → NoneSound ps → Means g ps (by_majority g ps).its (by_majority g ps).origin
 unfolding by_majority
 majority_means g ps none = by (nat_le 3 (length ps) && is_sound (majority g ps)) refl
   where
-    by : (b : Bool) → (nat_le 3 (length ps) && is_sound (majority g ps)) ≡ b → Means g ps (cond b (chosen (majority g ps) Majority) (by_erased g ps (filter is_erased_page ps))).its (cond b (chosen (majority g ps) Majority) (by_erased g ps (filter is_erased_page ps))).origin
+    by : (b : Bool) → (nat_le 3 (length ps) && is_sound (majority g ps)) ≡ b → Means g ps (cond b (chosen (majority g ps) Majority) (by_programmed g ps (filter is_programmed ps))).its (cond b (chosen (majority g ps) Majority) (by_programmed g ps (filter is_programmed ps))).origin
     by true is =
         let both = and_parts (nat_le 3 (length ps)) (is_sound (majority g ps)) is in
         (none, leb-true 3 (length ps) both.0, refl, both.1)
-    by false is = erased_means g ps none (filter is_erased_page ps) refl
+    by false is = programmed_means g ps none (filter is_programmed ps) refl
 
 sound_means : (g : Geometry) (ps : List Page) → AreSized g ps → (sound : List Page) → filter is_sound ps ≡ sound → Means g ps (by_sound g ps sound).its (by_sound g ps sound).origin
 sound_means g ps sized [] e = majority_means g ps (none_sound ps (none_kept is_sound ps e))
@@ -173,18 +215,21 @@ choice_law g ps sized = sound_means g ps sized (filter is_sound ps) refl
 
 -- ---- the law of the order
 
+erased_there : (ps : List Page) (p : Page) → AllErased ps → Contains ps p → IsSome (record_of p) → ⊥
+erased_there ps p all at sound = true≢false (sym sound ∙ ap is_some (erased_no_record p (All-contains (λ q. is_erased_page q ≡ true) ps p all at)))
+
 sound_there : (ps : List Page) (p : Page) → NoneSound ps → Contains ps p → IsSome (record_of p) → ⊥
 sound_there ps p none at sound = true≢false (sym sound ∙ ap is_some (All-contains (λ q. record_of q ≡ None) ps p none at))
 
 ordered : (g : Geometry) (ps qs : List Page) (p x y : Page) (a b : Origin) → AreAmong ps qs → AreAmong qs ps → Contains ps p → IsSome (record_of p) → Means g ps x a → Means g qs y b → chosen x a ≡ chosen y b
 ordered g ps qs p x y Majority b to from at sound h k = absurd (sound_there ps p h.0 at sound)
-ordered g ps qs p x y Erased b to from at sound h k = absurd (sound_there ps p h.0 at sound)
+ordered g ps qs p x y Erased b to from at sound h k = absurd (erased_there ps p h.0 at sound)
 ordered g ps qs p x y Unsound b to from at sound h k = absurd (sound_there ps p h.0 at sound)
 ordered g ps qs p x y Sound Majority to from at sound h k = absurd (sound_there qs p k.0 (to p at) sound)
-ordered g ps qs p x y Sound Erased to from at sound h k = absurd (sound_there qs p k.0 (to p at) sound)
+ordered g ps qs p x y Sound Erased to from at sound h k = absurd (erased_there qs p k.0 (to p at) sound)
 ordered g ps qs p x y Sound Unsound to from at sound h k = absurd (sound_there qs p k.0 (to p at) sound)
 ordered g ps qs p x y Conflict Majority to from at sound h k = absurd (sound_there qs p k.0 (to p at) sound)
-ordered g ps qs p x y Conflict Erased to from at sound h k = absurd (sound_there qs p k.0 (to p at) sound)
+ordered g ps qs p x y Conflict Erased to from at sound h k = absurd (erased_there qs p k.0 (to p at) sound)
 ordered g ps qs p x y Conflict Unsound to from at sound h k = absurd (sound_there qs p k.0 (to p at) sound)
 ordered g ps qs p x y Sound Sound to from at sound h k = ap (λ z. chosen z Sound) (k.2 x (to x h.0) h.1)
 ordered g ps qs p x y Conflict Conflict to from at sound h k = ap (λ z. chosen z Conflict) (h.0 ∙ sym k.0)
@@ -198,6 +243,80 @@ sized_among g ps qs sized from k d l =
 pub order_law : OrderLaw
 order_law g ps qs p sized to from at sound =
     ordered g ps qs p (choice g ps).its (choice g qs).its (choice g ps).origin (choice g qs).origin to from at sound (choice_law g ps sized) (choice_law g qs (sized_among g ps qs sized from))
+
+-- ---- rows that are erased in every reading
+
+-- the page has the die's sizes, and is erased
+record IsBlank (g : Geometry) (p : Page) : Type 0 where
+  body_size : length p.body ≡ g.data_bytes
+  spare_size : length p.spare ≡ g.spare_bytes
+  erased : is_erased_page p ≡ true
+
+filled_bytes : (p : Page) → is_erased_page p ≡ true → list_all (λ b. b == 255) (bytes_of_page p) ≡ true
+unfolding is_filled
+filled_bytes p e = list_all-append (λ b. b == 255) p.body p.spare ∙ e
+
+byte_set : (p : Page) (j : ℕ) → is_erased_page p ≡ true → j < length (bytes_of_page p) → get_or (bytes_of_page p) j 0 ≡ 255
+byte_set p j e l = elim (cases_Bool (get_or (bytes_of_page p) j 0 == 255)) [
+  | inl set ↦ eqb-true (get_or (bytes_of_page p) j 0) 255 set
+  | inr unset ↦ absurd (true≢false (sym (filled_bytes p e) ∙ list_all_at (λ b. b == 255) (bytes_of_page p) j 0 l unset))
+]
+
+blank_size : (g : Geometry) (p : Page) → IsBlank g p → length (bytes_of_page p) ≡ page_bytes g
+blank_size g p h = let body = h.body_size in let spare = h.spare_size in omega (arith, length-append p.body p.spare)
+
+blank_byte : (g : Geometry) (p : Page) (j : ℕ) → IsBlank g p → j < page_bytes g → get_or (bytes_of_page p) j 0 ≡ 255
+blank_byte g p j h l = let size = blank_size g p h in byte_set p j h.erased (omega arith)
+
+-- the majority of erased pages is the first of them
+erased_majority : (g : Geometry) (p : Page) (ps : List Page) → ((q : Page) → Contains (p ∷ ps) q → IsBlank g q) → majority g (p ∷ ps) ≡ p
+unfolding majority
+erased_majority g p ps each =
+    let first : IsBlank g p = each p (contains_first p ps) in
+    let bytes : bytes_of_page p ≡ map (λ j. majority_byte (column (p ∷ ps) j)) (range_with_len 0 (page_bytes g)) =
+    fill_by_all (λ j. majority_byte (column (p ∷ ps) j)) (bytes_of_page p) (page_bytes g) 0 (blank_size g p first)
+    (λ j l. blank_byte g p j first l ∙ sym (ap majority_byte (column_set g (p ∷ ps) j l each) ∙ majority_set (length (p ∷ ps)) (omega arith))) in
+    ap (page_of g.data_bytes) (sym bytes) ∙ (ap (λ n. page_of n (bytes_of_page p)) (sym first.body_size) ∙ page_again p)
+  where
+    column_set : (g : Geometry) (ps : List Page) (j : ℕ) → j < page_bytes g → ((q : Page) → Contains ps q → IsBlank g q) → column ps j ≡ replicate (length ps) 255
+    column_set g [] j l each = refl
+    column_set g (q ∷ qs) j l each =
+        ap (λ x. x ∷ column qs j) (blank_byte g q j (each q (contains_first q qs)) l) ∙ ap (λ xs. 255 ∷ xs) (column_set g qs j l (λ r at. each r (contains_later q r qs at)))
+
+dropped : (f : Page → Bool) (ps : List Page) → ((q : Page) → Contains ps q → f q ≡ false) → filter f ps ≡ []
+dropped f [] h = refl
+dropped f (p ∷ ps) h = ap (λ b. cond b (p ∷ filter f ps) (filter f ps)) (h p (contains_first p ps)) ∙ dropped f ps (λ q at. h q (contains_later p q ps at))
+
+blank_unsound : (g : Geometry) (p : Page) → IsBlank g p → is_sound p ≡ false
+blank_unsound g p h = ap is_some (erased_no_record p h.erased)
+
+-- nothing is sound or programmed, nor the majority sound
+erased_origin : (g : Geometry) (p : Page) (ps : List Page) → ((q : Page) → Contains (p ∷ ps) q → IsBlank g q) → (choice g (p ∷ ps)).origin ≡ Erased
+unfolding choice by_majority
+erased_origin g p ps each =
+    let all : List Page = p ∷ ps in
+    let none : filter is_sound all ≡ [] = dropped is_sound all (λ q at. blank_unsound g q (each q at)) in
+    let unsound : (nat_le 3 (length all) && is_sound (majority g all)) ≡ false =
+    and_left (nat_le 3 (length all)) (is_sound (majority g all)) (ap is_sound (erased_majority g p ps each) ∙ blank_unsound g p (each p (contains_first p ps))) in
+    let unprogrammed : filter is_programmed all ≡ [] = dropped is_programmed all (λ q at. ap not (each q at).erased) in
+    ap (λ xs. (by_sound g all xs).origin) none ∙ (ap (λ b. (cond b (chosen (majority g all) Majority) (by_programmed g all (filter is_programmed all))).origin) unsound
+    ∙ ap (λ xs. (by_programmed g all xs).origin) unprogrammed)
+  where
+    and_left : (a b : Bool) → b ≡ false → (a && b) ≡ false
+    and_left true b e = e
+    and_left false b e = refl
+
+blank_in : (g : Geometry) (ps : List Page) → AreSized g ps → AllErased ps → (q : Page) → Contains ps q → IsBlank g q
+blank_in g ps sized all q at =
+    let sizes = All-contains (λ (x : Page). (length x.body ≡ g.data_bytes) × (length x.spare ≡ g.spare_bytes)) ps q sized at in
+    record { body_size = sizes.0; spare_size = sizes.1; erased = All-contains (λ (x : Page). is_erased_page x ≡ true) ps q all at }
+
+pub erased_law : ErasedLaw
+erased_law g [] sized some = absurd (omega arith)
+erased_law g (p ∷ ps) sized some = (
+  λ e. let means : Means g (p ∷ ps) (choice g (p ∷ ps)).its Erased = subst (Means g (p ∷ ps) (choice g (p ∷ ps)).its) e (choice_law g (p ∷ ps) sized) in means.0,
+  λ all. erased_origin g p ps (blank_in g (p ∷ ps) sized all),
+)
 
 -- ---- zeros
 

@@ -12,14 +12,14 @@ use Rattle.page_layout.specs.declared.geometry.Geometry.{Geometry}
 use Rattle.page_layout.specs.Geometry.{page_bytes}
 use Rattle.page_layout.specs.Page.{Page}
 use Rattle.page_layout.specs.Raw.{bytes_of_page}
-use Rattle.page_layout.specs.Sound.{is_erased_page}
+use Rattle.page_layout.specs.Block.{is_programmed}
 use Rattle.lab_dump.specs.PageBytes.{page_of, is_sound}
 use Rattle.lab_dump.proofs.PageLemmas.{bytes_again}
 use Rattle.lab_mend.specs.declared.choice.Origin.TheVariants.{Sound, Conflict, Majority, Erased, Unsound}
 use Rattle.lab_mend.specs.Pages.{piece_at, page_in, pages_in}
 use Rattle.lab_mend.specs.Majority.{majority}
-use Rattle.lab_mend.specs.Choice.{is_same, zero_page, chosen, by_erased, by_majority, by_sound, choice}
-use Rattle.lab_mend.specs.Found.{sound_below, erased_below, HasOne, HasTwo, BeginsWith, WritesChoice}
+use Rattle.lab_mend.specs.Choice.{is_same, zero_page, chosen, by_programmed, by_majority, by_sound, choice}
+use Rattle.lab_mend.specs.Found.{sound_below, programmed_below, HasOne, HasTwo, BeginsWith, WritesChoice}
 
 -- ---- the pages of a row
 
@@ -99,31 +99,31 @@ two_more sound q h = record {
   apart = list_all-append (is_same h.its) h.more (q ∷ []) ∙ and_left (list_all (is_same h.its) h.more) (list_all (is_same h.its) (q ∷ [])) h.apart;
 }
 
--- ---- the first erased page
+-- ---- the first page that is not erased
 
-pub erased_none : (g : Geometry) (bytes : List ℕ) → erased_below g bytes 0 ≡ []
-erased_none g bytes = kept_none is_erased_page g bytes
+pub programmed_none : (g : Geometry) (bytes : List ℕ) → programmed_below g bytes 0 ≡ []
+programmed_none g bytes = kept_none is_programmed g bytes
 
-pub erased_no : (g : Geometry) (bytes : List ℕ) (i : ℕ) → is_erased_page (page_in g bytes i) ≡ false → erased_below g bytes i ≡ [] → erased_below g bytes (i + 1) ≡ []
-erased_no g bytes i e none = kept_no is_erased_page g bytes i e ∙ none
+pub programmed_no : (g : Geometry) (bytes : List ℕ) (i : ℕ) → is_programmed (page_in g bytes i) ≡ false → programmed_below g bytes i ≡ [] → programmed_below g bytes (i + 1) ≡ []
+programmed_no g bytes i e none = kept_no is_programmed g bytes i e ∙ none
 
-erased_stays : (g : Geometry) (bytes : List ℕ) (count j i : ℕ) → BeginsWith g bytes count (erased_below g bytes i) j → BeginsWith g bytes count (erased_below g bytes (i + 1)) j
-erased_stays g bytes count j i h = by (is_erased_page (page_in g bytes i)) refl
+programmed_stays : (g : Geometry) (bytes : List ℕ) (count j i : ℕ) → BeginsWith g bytes count (programmed_below g bytes i) j → BeginsWith g bytes count (programmed_below g bytes (i + 1)) j
+programmed_stays g bytes count j i h = by (is_programmed (page_in g bytes i)) refl
   where
-    by : (b : Bool) → is_erased_page (page_in g bytes i) ≡ b → BeginsWith g bytes count (erased_below g bytes (i + 1)) j
-    by true is = record { within = h.within; more = h.more ++ page_in g bytes i ∷ []; are = kept_yes is_erased_page g bytes i is ∙ ap (λ xs. xs ++ page_in g bytes i ∷ []) h.are }
-    by false is = record { within = h.within; more = h.more; are = kept_no is_erased_page g bytes i is ∙ h.are }
+    by : (b : Bool) → is_programmed (page_in g bytes i) ≡ b → BeginsWith g bytes count (programmed_below g bytes (i + 1)) j
+    by true is = record { within = h.within; more = h.more ++ page_in g bytes i ∷ []; are = kept_yes is_programmed g bytes i is ∙ ap (λ xs. xs ++ page_in g bytes i ∷ []) h.are }
+    by false is = record { within = h.within; more = h.more; are = kept_no is_programmed g bytes i is ∙ h.are }
 
-erased_on : (g : Geometry) (bytes : List ℕ) (count j i n : ℕ) → BeginsWith g bytes count (erased_below g bytes i) j → BeginsWith g bytes count (erased_below g bytes (i + n)) j
-erased_on g bytes count j i zero h = subst (λ k. BeginsWith g bytes count (erased_below g bytes k) j) (omega arith) h
-erased_on g bytes count j i (suc n) h = subst (λ k. BeginsWith g bytes count (erased_below g bytes k) j) (omega arith) (erased_stays g bytes count j (i + n) (erased_on g bytes count j i n h))
+programmed_on : (g : Geometry) (bytes : List ℕ) (count j i n : ℕ) → BeginsWith g bytes count (programmed_below g bytes i) j → BeginsWith g bytes count (programmed_below g bytes (i + n)) j
+programmed_on g bytes count j i zero h = subst (λ k. BeginsWith g bytes count (programmed_below g bytes k) j) (omega arith) h
+programmed_on g bytes count j i (suc n) h = subst (λ k. BeginsWith g bytes count (programmed_below g bytes k) j) (omega arith) (programmed_stays g bytes count j (i + n) (programmed_on g bytes count j i n h))
 
-pub erased_found : (g : Geometry) (bytes : List ℕ) (count i : ℕ) → i < count → erased_below g bytes i ≡ [] → is_erased_page (page_in g bytes i) ≡ true → BeginsWith g bytes count (erased_below g bytes count) i
-erased_found g bytes count i within none e =
-    let here : BeginsWith g bytes count (erased_below g bytes (i + 1)) i =
-    record { within = within; more = []; are = kept_yes is_erased_page g bytes i e ∙ ap (λ xs. xs ++ page_in g bytes i ∷ []) none } in
+pub programmed_found : (g : Geometry) (bytes : List ℕ) (count i : ℕ) → i < count → programmed_below g bytes i ≡ [] → is_programmed (page_in g bytes i) ≡ true → BeginsWith g bytes count (programmed_below g bytes count) i
+programmed_found g bytes count i within none e =
+    let here : BeginsWith g bytes count (programmed_below g bytes (i + 1)) i =
+    record { within = within; more = []; are = kept_yes is_programmed g bytes i e ∙ ap (λ xs. xs ++ page_in g bytes i ∷ []) none } in
     let all : i + 1 + (count - (i + 1)) ≡ count = omega arith in
-    subst (λ k. BeginsWith g bytes count (erased_below g bytes k) i) all (erased_on g bytes count i (i + 1) (count - (i + 1)) here)
+    subst (λ k. BeginsWith g bytes count (programmed_below g bytes k) i) all (programmed_on g bytes count i (i + 1) (count - (i + 1)) here)
 
 -- ---- what is written
 
@@ -146,29 +146,29 @@ pub choice_unsound : (g : Geometry) (bytes : List ℕ) (count : ℕ) → sound_b
 unfolding choice
 choice_unsound g bytes count none = ap (by_sound g (pages_in g bytes count)) none
 
-pub erased_written : (g : Geometry) (bytes out : List ℕ) (count i : ℕ) → BeginsWith g bytes count (erased_below g bytes count) i → out ≡ piece_at bytes (page_bytes g) i
-    → WritesChoice (by_erased g (pages_in g bytes count) (erased_below g bytes count)) Erased out
-erased_written g bytes out count i h e =
-    subst (λ xs. WritesChoice (by_erased g (pages_in g bytes count) xs) Erased out) (sym h.are) (record { origin_is = refl; bytes_are = e ∙ sym (bytes_of_page_in g bytes i) })
+pub programmed_written : (g : Geometry) (bytes out : List ℕ) (count i : ℕ) → BeginsWith g bytes count (programmed_below g bytes count) i → out ≡ piece_at bytes (page_bytes g) i
+    → WritesChoice (by_programmed g (pages_in g bytes count) (programmed_below g bytes count)) Unsound out
+programmed_written g bytes out count i h e =
+    subst (λ xs. WritesChoice (by_programmed g (pages_in g bytes count) xs) Unsound out) (sym h.are) (record { origin_is = refl; bytes_are = e ∙ sym (bytes_of_page_in g bytes i) })
 
 first_page : (g : Geometry) (bytes : List ℕ) (count : ℕ) (d : Page) → 0 < count → get_or (pages_in g bytes count) 0 d ≡ page_in g bytes 0
 unfolding pages_in
 first_page g bytes count d some = get_or-map-range_with_len (page_in g bytes) 0 count 0 0 d some (omega arith)
 
-pub first_written : (g : Geometry) (bytes out : List ℕ) (count : ℕ) → 0 < count → erased_below g bytes count ≡ [] → out ≡ piece_at bytes (page_bytes g) 0
-    → WritesChoice (by_erased g (pages_in g bytes count) (erased_below g bytes count)) Unsound out
-first_written g bytes out count some none e =
-    subst (λ xs. WritesChoice (by_erased g (pages_in g bytes count) xs) Unsound out) (sym none)
+pub erased_written : (g : Geometry) (bytes out : List ℕ) (count : ℕ) → 0 < count → programmed_below g bytes count ≡ [] → out ≡ piece_at bytes (page_bytes g) 0
+    → WritesChoice (by_programmed g (pages_in g bytes count) (programmed_below g bytes count)) Erased out
+erased_written g bytes out count some none e =
+    subst (λ xs. WritesChoice (by_programmed g (pages_in g bytes count) xs) Erased out) (sym none)
     (record { origin_is = refl; bytes_are = e ∙ (sym (bytes_of_page_in g bytes 0) ∙ ap bytes_of_page (sym (first_page g bytes count (zero_page g) some))) })
 
 -- whether the majority is written
 pub majority_test : (g : Geometry) (bytes : List ℕ) (count : ℕ) (b : Bool) → b ≡ (nat_le 3 count && is_sound (majority g (pages_in g bytes count)))
-    → by_majority g (pages_in g bytes count) ≡ cond b (chosen (majority g (pages_in g bytes count)) Majority) (by_erased g (pages_in g bytes count) (erased_below g bytes count))
+    → by_majority g (pages_in g bytes count) ≡ cond b (chosen (majority g (pages_in g bytes count)) Majority) (by_programmed g (pages_in g bytes count) (programmed_below g bytes count))
 unfolding by_majority
 majority_test g bytes count b is =
     let ps : List Page = pages_in g bytes count in
     let same : (nat_le 3 (length ps) && is_sound (majority g ps)) ≡ b = ap (λ n. nat_le 3 n && is_sound (majority g ps)) (length-pages_in g bytes count) ∙ sym is in
-    ap (λ t. cond t (chosen (majority g ps) Majority) (by_erased g ps (filter is_erased_page ps))) same
+    ap (λ t. cond t (chosen (majority g ps) Majority) (by_programmed g ps (filter is_programmed ps))) same
 
 pub few_readings : (count : ℕ) (b : Bool) → count < 3 → false ≡ (nat_le 3 count && b)
 few_readings count b l = sym (and_left (nat_le 3 count) b (lt-leb 3 count l))

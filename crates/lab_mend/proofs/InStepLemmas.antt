@@ -1,5 +1,5 @@
 -- Readers that are read in step.
-use Rattle.std.proofs.Common.{◌≡◌, ◌≢◌, ◌⊎◌, inl, inr, ℕ, suc, ◌+◌, ◌-◌, ◌*◌, ◌<◌, ◌≤◌, List, [], ◌++◌, length, get_or, set, map, take, drop, Option, Some, None, refl, sym, ap, ◌∙◌, subst, arith, length-append, length-drop}
+use Rattle.std.proofs.Common.{◌≡◌, ◌≢◌, ◌⊎◌, inl, inr, ℕ, suc, ◌+◌, ◌-◌, ◌*◌, ◌<◌, ◌≤◌, List, [], ◌++◌, length, get_or, set, map, take, drop, Bool, true, false, Option, Some, None, refl, sym, ap, ◌∙◌, subst, arith, length-append, length-drop}
 use Rattle.std.specs.Prelude.{slice_range}
 use Rattle.std.specs.Io.KnownBytes.{Consumes, IsAtEnd}
 use Rattle.std.proofs.lemmas.Bool.{cases_eq}
@@ -83,6 +83,10 @@ known_set f xs i y = map-set f xs i y
 -- the others stay
 pub known_other : {X : Type 0} (f : X → Option (List ℕ)) (xs : List X) (i j : ℕ) (y : X) → j ≢ i → get_or (map f (set xs i y)) j None ≡ get_or (map f xs) j None
 known_other f xs i j y ne = ap (λ ks. get_or ks j None) (map-set f xs i y) ∙ get_or-set_other (map f xs) i j (f y) None ne
+
+-- one of them that has failed
+pub failed_at : {X : Type 0} (f : X → Bool) (xs : List X) (i : ℕ) (y : X) → i < length xs → f y ≡ true → get_or (map f (set xs i y)) i false ≡ true
+failed_at f xs i y l e = ap (λ ks. get_or ks i false) (map-set f xs i y) ∙ (get_or-set_same (map f xs) i (f y) false (omega (arith, length-map xs f)) ∙ e)
 
 -- ---- all of them
 

@@ -1,11 +1,12 @@
 -- What more than half of several pages say.
-use Rattle.std.proofs.Common.{◌≡◌, ◌↔◌, inl, inr, ℕ, zero, suc, add-one, lit<, lit≤, ◌+◌, ◌-◌, ◌*◌, ◌/◌, ◌%◌, ◌^◌, ◌<◌, ◌≤◌, Bool, true, false, cond, eqb, List, [], ◌∷◌, ◌++◌, length, get_or, map, take, drop, refl, sym, ap, ◌∙◌, subst, arith}
+use Rattle.std.proofs.Common.{◌≡◌, ◌↔◌, inl, inr, ℕ, zero, suc, add-one, lit<, lit≤, ◌+◌, ◌-◌, ◌*◌, ◌/◌, ◌%◌, ◌^◌, ◌<◌, ◌≤◌, Bool, true, false, cond, eqb, List, [], ◌∷◌, ◌++◌, length, get_or, map, take, drop, replicate, refl, sym, ap, ◌∙◌, subst, arith}
 use Rattle.std.specs.Prelude.{nat_lt, count_by, sum_by, bit_and}
 use Rattle.std.specs.List.{range_with_len}
 use Rattle.std.specs.Int.{bit_at}
 use Rattle.std.proofs.Math.Nat.{pow-suc}
 use Rattle.std.proofs.lemmas.Bool.{cases_lt, lt-ltb, le-ltb}
-use Rattle.std.proofs.lemmas.List.{length-map, map-id, get_or-take, get_or-drop}
+use Rattle.std.proofs.lemmas.List.{length-map, length-replicate, map-id, get_or-take, get_or-drop}
+use Rattle.std.proofs.lemmas.List.Folds.{sum_by-replicate}
 use Rattle.std.proofs.lemmas.List.FromFn.{length-map-range_with_len, get_or-map-range_with_len, map-range_with_len_more, fill_by_all}
 use Rattle.std.proofs.lemmas.List.Sums.{sum_by_push, sum_by-cons}
 use Rattle.std.proofs.lemmas.Nat.{pow_below}
@@ -126,6 +127,32 @@ majority_law g pages k within =
       λ e. subst (λ n. n < 2 * count_by (λ p. eqb (page_bit p k) 1) pages) few (subst (λ v. length bytes < 2 * v) all (said.0 (sym bit ∙ e))),
       λ l. bit ∙ said.1 (subst (λ v. length bytes < 2 * v) (sym all) (subst (λ n. n < 2 * count_by (λ p. eqb (page_bit p k) 1) pages) (sym few) l)),
     )
+
+-- ---- of bytes FFh
+
+byte_same : (f h : ℕ → ℕ) (n : ℕ) → ((b : ℕ) → b < n → f b ≡ h b) → byte_of f n ≡ byte_of h n
+byte_same f h zero e = byte_none f ∙ sym (byte_none h)
+byte_same f h (suc n) e =
+    let before : byte_of f n ≡ byte_of h n = byte_same f h n (λ b l. e b (omega arith)) in
+    let last : f n ≡ h n = e n (omega arith) in
+    ap (byte_of f) (sym (add-one n)) ∙ (byte_more f n ∙ (ap (λ x. x + f n * 2 ^ n) before ∙ (ap (λ x. byte_of h n + x * 2 ^ n) last ∙ (sym (byte_more h n) ∙ ap (byte_of h) (add-one n)))))
+
+byte_ones : byte_of (λ b. 1) 8 ≡ 255
+unfolding byte_of
+byte_ones = refl
+
+bit_set : (b : ℕ) → b < 8 → bit_at 255 b ≡ 1
+bit_set b l = ap (λ x. bit_at x b) (sym byte_ones) ∙ bit_of_byte (λ c. 1) (λ c. lit< tt) 8 b l
+
+votes_set : (n b : ℕ) → b < 8 → votes (replicate n 255) b ≡ n
+votes_set n b l = sum_by-replicate (λ x. bit_at x b) n 255 ∙ (ap (λ k. n * k) (bit_set b l) ∙ omega arith)
+
+-- more than half of some bytes FFh is FFh
+pub majority_set : (n : ℕ) → 0 < n → majority_byte (replicate n 255) ≡ 255
+majority_set n some =
+    let set : ℕ = 255 in
+    byte_same (majority_bit (replicate n 255)) (λ b. 1) 8
+    (λ b l. ap one_of (lt-ltb (length (replicate n 255)) (2 * votes (replicate n 255) b) (let all = votes_set n b l in omega (arith, length-replicate n set)))) ∙ byte_ones
 
 -- ---- of pages that stand one behind another
 

@@ -1,8 +1,9 @@
 -- Which bit of a page is mended.
-use Rattle.std.proofs.Common.{◌≡◌, ◌⊎◌, inl, inr, ℕ, ◌<◌, ◌≤◌, Bool, true, false, cond, List, length, get_or, Option, Some, None, refl, sym, ap, ◌∙◌, subst, arith}
+use Rattle.std.proofs.Common.{◌≡◌, ◌⊎◌, inl, inr, ℕ, zero, suc, ◌<◌, ◌≤◌, Bool, true, false, cond, List, length, get_or, Option, Some, None, refl, sym, ap, ◌∙◌, subst, arith}
 use Rattle.std.specs.Prelude.{is_some, not, ◌&&◌, nat_lt}
 use Rattle.std.specs.List.{range_with_len, position, position_or_len}
-use Rattle.std.proofs.lemmas.Bool.{and_parts, and_from}
+use Rattle.std.proofs.lemmas.Bool.{and_parts, and_from, cases_Bool, cases_eq}
+use Rattle.std.proofs.lemmas.Option.{same_Some}
 use Rattle.std.proofs.lemmas.List.FromFn.{length-range_with_len, get_or-range_with_len}
 use Rattle.std.proofs.lemmas.List.Sums.{position_or_len_is}
 use Rattle.std.proofs.lemmas.List.Quantifiers.{position-Some}
@@ -13,7 +14,10 @@ use Rattle.page_layout.specs.Sound.{record_of, is_erased_page}
 use Rattle.page_layout.specs.Block.{is_broken}
 use Rattle.lab_dump.specs.PageBytes.{is_sound, page_of, bits_of, bit_count}
 use Rattle.lab_mend.specs.Bits.{turned, turned_bytes}
-use Rattle.lab_mend.specs.Mend.{lowest_bit, mend_of, turned_if, mended, IsMend, MendLaw, IsOneBitOff, MendedLaw, KeptLaw, AgainLaw}
+use Rattle.lab_mend.specs.declared.mending.Made.{Made}
+use Rattle.lab_mend.specs.declared.mending.Made.TheVariants.{Sound, Erased}
+use Rattle.lab_mend.specs.declared.mending.Turned.{Turned}
+use Rattle.lab_mend.specs.Mend.{lowest_bit, erased_bit, first_turn, mend_of, turned_if, mended, Makes, IsMend, IsMade, MendLaw, IsOneBitOff, MendedLaw, KeptLaw, AgainLaw}
 use Rattle.lab_mend.proofs.BitLemmas.{count_page, turned_page, turned_law}
 
 -- ---- the first number that passes
@@ -51,6 +55,21 @@ first_from f n k e =
     let inside : k < n = (let l = h.0 in omega arith) in
     record { within = inside; here = ap f (sym (at k inside)) ∙ h.1; before = λ j l. ap f (sym (at j (omega arith))) ∙ h.2 j l }
 
+-- none passes before the end where there is no first one
+none_from : (f : ℕ → Bool) (n : ℕ) → position f (range_with_len 0 n) ≡ None → (j : ℕ) → j < n → f j ≡ false
+none_from f n e j l = by_steps n (omega arith) j l
+  where
+    -- below each number none passes, since the first that did would be found
+    by_steps : (m : ℕ) → m ≤ n → (i : ℕ) → i < m → f i ≡ false
+    by_steps zero le i less = absurd (omega arith)
+    by_steps (suc m) le i less = elim (cases_eq i m) [
+      | inl same ↦ subst (λ k. f k ≡ false) (sym same) (elim (cases_Bool (f m)) [
+        | inl passes ↦ absurd (let found : position f (range_with_len 0 n) ≡ Some m = first_is f n m (omega arith) passes (λ k k_less. by_steps m (omega arith) k k_less) in let clash : Some m ≡ None = sym found ∙ e in cc)
+        | inr fails ↦ fails
+      ])
+      | inr ne ↦ by_steps m (omega arith) i (omega arith)
+    ]
+
 -- ---- the lowest bit
 
 pub lowest_is : (p : Page) (k : ℕ) → k < bit_count p → is_sound (turned p k) ≡ true → ((j : ℕ) → j < k → is_sound (turned p j) ≡ false) → lowest_bit p ≡ Some k
@@ -64,6 +83,24 @@ lowest_none p none = first_none (λ j. is_sound (turned p j)) (bit_count p) none
 pub lowest_from : (p : Page) (k : ℕ) → lowest_bit p ≡ Some k → IsFirst (λ j. is_sound (turned p j)) (bit_count p) k
 unfolding lowest_bit
 lowest_from p k e = first_from (λ j. is_sound (turned p j)) (bit_count p) k e
+
+pub lowest_nowhere : (p : Page) → lowest_bit p ≡ None → (j : ℕ) → j < bit_count p → is_sound (turned p j) ≡ false
+unfolding lowest_bit
+lowest_nowhere p e = none_from (λ j. is_sound (turned p j)) (bit_count p) e
+
+-- ---- the bit that leaves a page erased
+
+pub erased_is : (p : Page) (k : ℕ) → k < bit_count p → is_erased_page (turned p k) ≡ true → ((j : ℕ) → j < k → is_erased_page (turned p j) ≡ false) → erased_bit p ≡ Some k
+unfolding erased_bit
+erased_is p k within here before = first_is (λ j. is_erased_page (turned p j)) (bit_count p) k within here before
+
+pub erased_none : (p : Page) → ((j : ℕ) → j < bit_count p → is_erased_page (turned p j) ≡ false) → erased_bit p ≡ None
+unfolding erased_bit
+erased_none p none = first_none (λ j. is_erased_page (turned p j)) (bit_count p) none
+
+pub erased_from : (p : Page) (k : ℕ) → erased_bit p ≡ Some k → IsFirst (λ j. is_erased_page (turned p j)) (bit_count p) k
+unfolding erased_bit
+erased_from p k e = first_from (λ j. is_erased_page (turned p j)) (bit_count p) k e
 
 -- ---- tests of pages
 
@@ -98,46 +135,75 @@ sound_whole p e = ap (λ b. not (is_erased_page p) && not b) e ∙ both (is_eras
     both true = refl
     both false = refl
 
+erased_whole : (p : Page) → is_erased_page p ≡ true → is_broken p ≡ false
+erased_whole p e = ap (λ b. not b && not (is_some (record_of p))) e
+
 -- ---- the mend
 
-pub mend_broken : (p : Page) → is_broken p ≡ true → mend_of p ≡ lowest_bit p
+pub mend_broken : (p : Page) → is_broken p ≡ true → mend_of p ≡ first_turn (lowest_bit p) (erased_bit p)
 unfolding mend_of
-mend_broken p e = ap (λ b. cond b (lowest_bit p) None) e
+mend_broken p e = ap (λ b. cond b (first_turn (lowest_bit p) (erased_bit p)) None) e
 
 pub mend_whole : (p : Page) → is_broken p ≡ false → mend_of p ≡ None
 unfolding mend_of
-mend_whole p e = ap (λ b. cond b (lowest_bit p) None) e
+mend_whole p e = ap (λ b. cond b (first_turn (lowest_bit p) (erased_bit p)) None) e
 
-no_mend : {k : ℕ} {o : Option ℕ} → o ≡ None → o ≡ Some k → ⊥
+no_mend : {t : Turned} {o : Option Turned} → o ≡ None → o ≡ Some t → ⊥
 no_mend a b = cc
 
-mend_from : (p : Page) (k : ℕ) → mend_of p ≡ Some k → IsMend p k
-mend_from p k e = by (is_broken p) refl
+-- what is turned first is a mend of a broken page
+first_mends : (p : Page) (t : Turned) → IsBroken p → (low out : Option ℕ) → lowest_bit p ≡ low → erased_bit p ≡ out → first_turn low out ≡ Some t → IsMend p t
+first_mends p t broken (Some k) out low_is out_is e =
+    let first = lowest_from p k low_is in
+    let same : record { bit = k; made = Sound } ≡ t = same_Some (record { bit = k; made = Sound }) t e in
+    subst (IsMend p) same (record {
+      unsound = broken.unsound;
+      unerased = broken.unerased;
+      within = first.within;
+      makes = (first.here, λ j l. none_of (record_of (turned p j)) (first.before j l));
+    })
+first_mends p t broken None (Some k) low_is out_is e =
+    let first = erased_from p k out_is in
+    let same : record { bit = k; made = Erased } ≡ t = same_Some (record { bit = k; made = Erased }) t e in
+    subst (IsMend p) same (record {
+      unsound = broken.unsound;
+      unerased = broken.unerased;
+      within = first.within;
+      makes = (λ j l. none_of (record_of (turned p j)) (lowest_nowhere p low_is j l), first.here, first.before);
+    })
+first_mends p t broken None None low_is out_is e = absurd (cc)
+
+mend_from : (p : Page) (t : Turned) → mend_of p ≡ Some t → IsMend p t
+mend_from p t e = by (is_broken p) refl
   where
-    by : (b : Bool) → is_broken p ≡ b → IsMend p k
-    by true is =
-        let broken = broken_from p is in
-        let first = lowest_from p k (sym (mend_broken p is) ∙ e) in
-        record {
-          unsound = broken.unsound;
-          unerased = broken.unerased;
-          within = first.within;
-          sound = first.here;
-          lowest = λ j l. none_of (record_of (turned p j)) (first.before j l);
-        }
+    by : (b : Bool) → is_broken p ≡ b → IsMend p t
+    by true is = first_mends p t (broken_from p is) (lowest_bit p) (erased_bit p) refl refl (sym (mend_broken p is) ∙ e)
     by false is = absurd (no_mend (mend_whole p is) e)
 
-mend_is : (p : Page) (k : ℕ) → IsMend p k → mend_of p ≡ Some k
-mend_is p k h =
-    mend_broken p (broken_is p h.unsound h.unerased)
-    ∙ lowest_is p k h.within h.sound (λ j l. none_is (record_of (turned p j)) (h.lowest j l))
+-- a mend is what is turned first
+turn_is : (p : Page) (k : ℕ) (m : Made) → k < bit_count p → Makes p m k → first_turn (lowest_bit p) (erased_bit p) ≡ Some (record { bit = k; made = m })
+turn_is p k Sound within makes = ap (λ o. first_turn o (erased_bit p)) (lowest_is p k within makes.0 (λ j l. none_is (record_of (turned p j)) (makes.1 j l)))
+turn_is p k Erased within makes =
+    ap (λ o. first_turn o (erased_bit p)) (lowest_none p (λ j l. none_is (record_of (turned p j)) (makes.0 j l))) ∙ ap (first_turn None) (erased_is p k within makes.1 makes.2)
+
+mend_is : (p : Page) (t : Turned) → IsMend p t → mend_of p ≡ Some t
+mend_is p t h = mend_broken p (broken_is p h.unsound h.unerased) ∙ turn_is p t.bit t.made h.within h.makes
 
 pub mend_law : MendLaw
-mend_law p k = (mend_from p k, mend_is p k)
+mend_law p t = (mend_from p t, mend_is p t)
 
 -- ---- the mended page
 
-pub mended_by : (p : Page) (o : Option ℕ) → mend_of p ≡ o → mended p ≡ turned_if p o
+-- what the word says of the page with the bit turned
+pub made_by : (p : Page) (k : ℕ) (m : Made) → Makes p m k → IsMade m (turned p k)
+made_by p k Sound h = h.0
+made_by p k Erased h = h.1
+
+made_whole : (m : Made) (q : Page) → IsMade m q → is_broken q ≡ false
+made_whole Sound q h = sound_whole q h
+made_whole Erased q h = erased_whole q h
+
+pub mended_by : (p : Page) (o : Option Turned) → mend_of p ≡ o → mended p ≡ turned_if p o
 unfolding mended
 mended_by p o e = ap (turned_if p) e
 
@@ -147,22 +213,22 @@ kept_law p e = mended_by p None (mend_whole p e)
 pub mended_law : MendedLaw
 mended_law p = by (mend_of p) refl
   where
-    by : (o : Option ℕ) → mend_of p ≡ o → (mended p ≡ p) ⊎ IsOneBitOff p (mended p)
+    by : (o : Option Turned) → mend_of p ≡ o → (mended p ≡ p) ⊎ IsOneBitOff p (mended p)
     by None e = inl (mended_by p None e)
-    by (Some k) e =
-        let mend = mend_from p k e in
-        let same : turned p k ≡ mended p = sym (mended_by p (Some k) e) in
-        inr (subst (IsOneBitOff p) same (record { bit = k; mend_is = e; sound = mend.sound; differs = turned_law p k mend.within }))
+    by (Some t) e =
+        let mend = mend_from p t e in
+        let same : turned p t.bit ≡ mended p = sym (mended_by p (Some t) e) in
+        inr (subst (IsOneBitOff p) same (record { turn = t; mend_is = e; made = made_by p t.bit t.made mend.makes; differs = turned_law p t.bit mend.within }))
 
 -- what a repair leaves is mended no further
 pub again_none : (p : Page) → mend_of (mended p) ≡ None
 again_none p = by (mend_of p) refl
   where
-    by : (o : Option ℕ) → mend_of p ≡ o → mend_of (mended p) ≡ None
+    by : (o : Option Turned) → mend_of p ≡ o → mend_of (mended p) ≡ None
     by None e = ap mend_of (mended_by p None e) ∙ e
-    by (Some k) e =
-        let mend = mend_from p k e in
-        ap mend_of (mended_by p (Some k) e) ∙ mend_whole (turned p k) (sound_whole (turned p k) mend.sound)
+    by (Some t) e =
+        let mend = mend_from p t e in
+        ap mend_of (mended_by p (Some t) e) ∙ mend_whole (turned p t.bit) (made_whole t.made (turned p t.bit) (made_by p t.bit t.made mend.makes))
 
 pub again_law : AgainLaw
 again_law p = mended_by (mended p) None (again_none p)
@@ -176,3 +242,11 @@ found_in size bytes k room within here before =
 
 pub none_in : (size : ℕ) (bytes : List ℕ) → size ≤ length bytes → ((j : ℕ) → j < bits_of bytes → is_sound (page_of size (turned_bytes bytes j)) ≡ false) → lowest_bit (page_of size bytes) ≡ None
 none_in size bytes room none = lowest_none (page_of size bytes) (λ j l. ap is_sound (turned_page size bytes j room) ∙ none j (subst (λ n. j < n) (count_page size bytes) l))
+
+pub erased_in : (size : ℕ) (bytes : List ℕ) (k : ℕ) → size ≤ length bytes → k < bits_of bytes → is_erased_page (page_of size (turned_bytes bytes k)) ≡ true
+    → ((j : ℕ) → j < k → is_erased_page (page_of size (turned_bytes bytes j)) ≡ false) → erased_bit (page_of size bytes) ≡ Some k
+erased_in size bytes k room within here before =
+    erased_is (page_of size bytes) k (subst (λ n. k < n) (sym (count_page size bytes)) within) (ap is_erased_page (turned_page size bytes k room) ∙ here) (λ j l. ap is_erased_page (turned_page size bytes j room) ∙ before j l)
+
+pub unerased_in : (size : ℕ) (bytes : List ℕ) → size ≤ length bytes → ((j : ℕ) → j < bits_of bytes → is_erased_page (page_of size (turned_bytes bytes j)) ≡ false) → erased_bit (page_of size bytes) ≡ None
+unerased_in size bytes room none = erased_none (page_of size bytes) (λ j l. ap is_erased_page (turned_page size bytes j room) ∙ none j (subst (λ n. j < n) (count_page size bytes) l))

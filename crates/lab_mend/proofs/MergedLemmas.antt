@@ -1,5 +1,5 @@
 -- What the pieces, the rows and the counts are once all rows were taken.
-use Rattle.std.proofs.Common.{◌≡◌, ℕ, suc, ◌+◌, ◌-◌, ◌*◌, ◌<◌, ◌≤◌, List, [], length, get_or, map, take, drop, Option, sym, ap, ◌∙◌, subst, arith}
+use Rattle.std.proofs.Common.{◌≡◌, ◌⊎◌, inl, inr, ℕ, suc, ◌+◌, ◌-◌, ◌*◌, ◌<◌, ◌≤◌, Bool, true, false, List, [], length, get_or, map, take, drop, Option, refl, sym, ap, ◌∙◌, subst, arith}
 use Rattle.std.specs.Prelude.{slice_range}
 use Rattle.std.specs.List.{range_with_len}
 use Rattle.std.proofs.Math.Nat.{mul-le-mul_right}
@@ -16,15 +16,13 @@ use Rattle.lab_dump.specs.declared.pass.Cut.TheVariants as cut
 use Rattle.lab_dump.specs.declared.pass.ScanFault.{ScanFault}
 use Rattle.lab_dump.specs.declared.pass.ScanFault.TheVariants as scan
 use Rattle.lab_dump.proofs.ScanLemmas.{if_both}
-use Rattle.lab_mend.specs.declared.merging.RowFault.{RowFault}
-use Rattle.lab_mend.specs.declared.merging.RowFault.TheVariants as row
 use Rattle.lab_mend.specs.declared.merging.Tally.{Tally}
 use Rattle.lab_mend.specs.declared.merge.MergeFault.{MergeFault}
 use Rattle.lab_mend.specs.declared.merge.MergeFault.TheVariants as fault
 use Rattle.lab_mend.specs.Pages.{page_in, pages_in}
 use Rattle.lab_mend.specs.InStep.{AreAt, AreRead, CutAt, LongAt, HaveEnded}
 use Rattle.lab_mend.specs.Merging.{unsound_below, piece_of, Shows, AreOwn, Stands}
-use Rattle.lab_mend.specs.Merged.{row_of, IsMerged, IsUnmerged, fault_of_cut, fault_of_end, fault_of_row}
+use Rattle.lab_mend.specs.Merged.{row_of, IsMerged, IsUnmerged, fault_of_cut, fault_of_end, IsPinned}
 
 -- ---- the pages of a row
 
@@ -92,13 +90,25 @@ unmerged_end g files i scan.WrongLength f h e = let long = h.long in subst (IsUn
 unmerged_end g files i scan.Source f h e = subst (IsUnmerged g files) (sym e) h
 unmerged_end g files i scan.Stopped f h e = absurd h
 
-pub unmerged_row : (g : Geometry) (files : List (List ℕ)) (r : RowFault) (f : MergeFault) → f ≡ fault_of_row r → IsUnmerged g files f
-unmerged_row g files row.Target f e = subst (IsUnmerged g files) (sym e) tt
-unmerged_row g files row.OutOfMemory f e = subst (IsUnmerged g files) (sym e) tt
-
 pub unmerged_memory : (g : Geometry) (files : List (List ℕ)) (f : MergeFault) → f ≡ fault.OutOfMemory → IsUnmerged g files f
 unmerged_memory g files f e = subst (IsUnmerged g files) (sym e) tt
 
 -- by the size that the code has
 pub unmerged_row_cut : (g : Geometry) (files : List (List ℕ)) (n size i : ℕ) (c : Cut) (f : MergeFault) → size ≡ page_bytes g → n < row_count g → CutAt files (n * page_bytes g + size) i c → f ≡ fault_of_cut i c → IsUnmerged g files f
 unmerged_row_cut g files n size i c f one within h e = unmerged_cut g files n i c f within (subst (λ k. CutAt files (n * page_bytes g + k) i c) one h) e
+
+-- ---- what has failed
+
+pub pinned_cut : (failed : List Bool) (target : Bool) (i : ℕ) (c : Cut) (f : MergeFault) → (c ≡ cut.Failed → get_or failed i false ≡ true) → f ≡ fault_of_cut i c → IsPinned failed target f
+pinned_cut failed target i cut.Ended f h e = subst (IsPinned failed target) (sym e) tt
+pinned_cut failed target i cut.Failed f h e = subst (IsPinned failed target) (sym e) (h refl)
+
+pub pinned_end : (failed : List Bool) (target : Bool) (i : ℕ) (s : ScanFault) (f : MergeFault) → (s ≡ scan.WrongLength) ⊎ (get_or failed i false ≡ true) → f ≡ fault_of_end i s → IsPinned failed target f
+pinned_end failed target i scan.WrongLength f h e = subst (IsPinned failed target) (sym e) tt
+pinned_end failed target i scan.Source f (inl other) e = absurd (cc)
+pinned_end failed target i scan.Source f (inr h) e = subst (IsPinned failed target) (sym e) h
+pinned_end failed target i scan.Stopped f (inl other) e = absurd (cc)
+pinned_end failed target i scan.Stopped f (inr h) e = subst (IsPinned failed target) (sym e) h
+
+pub pinned_target : (failed : List Bool) (target : Bool) (f : MergeFault) → target ≡ true → f ≡ fault.Target → IsPinned failed target f
+pinned_target failed target f h e = subst (IsPinned failed target) (sym e) h

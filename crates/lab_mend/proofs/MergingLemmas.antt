@@ -1,5 +1,5 @@
 -- What one row more makes of what is written and told.
-use Rattle.std.proofs.Common.{◌≡◌, ◌≢◌, ◌⊎◌, inl, inr, ℕ, ◌+◌, ◌<◌, Bool, true, false, cond, eqb, List, [], ◌∷◌, ◌++◌, length, get_or, set, replicate, Option, Some, None, IfSome, refl, sym, ap, ◌∙◌, subst, arith, append-nil, add-zero}
+use Rattle.std.proofs.Common.{◌≡◌, ◌≢◌, ◌⊎◌, inl, inr, ℕ, ◌+◌, ◌<◌, ◌≤◌, Bool, true, false, cond, eqb, List, [], ◌∷◌, ◌++◌, length, get_or, set, replicate, Option, Some, None, IfSome, refl, sym, ap, ◌∙◌, subst, arith, append-nil, add-zero, length-append}
 use Rattle.std.specs.Prelude.{All, count_by, option_map, nat_le, ◌&&◌}
 use Rattle.std.specs.List.{range_with_len, filter, list_all, Contains}
 use Rattle.std.proofs.lemmas.Bool.{cases_eq, cases_lt}
@@ -11,16 +11,16 @@ use Rattle.page_layout.specs.declared.geometry.Geometry.{Geometry}
 use Rattle.page_layout.specs.Geometry.{row_count, page_bytes}
 use Rattle.page_layout.specs.Page.{Page}
 use Rattle.page_layout.specs.Raw.{bytes_of_page}
-use Rattle.page_layout.specs.Sound.{is_erased_page}
+use Rattle.page_layout.specs.Block.{is_programmed}
 use Rattle.lab_dump.specs.PageBytes.{is_sound}
 use Rattle.lab_dump.proofs.ScanLemmas.{if_more}
 use Rattle.lab_mend.specs.declared.choice.Origin.{Origin}
 use Rattle.lab_mend.specs.declared.choice.Origin.TheVariants.{Sound, Conflict, Majority, Erased, Unsound}
 use Rattle.lab_mend.specs.declared.merging.Tally.{Tally}
 use Rattle.lab_mend.specs.Majority.{majority}
-use Rattle.lab_mend.specs.Choice.{is_same, zero_page, chosen, by_erased, by_majority, by_sound, choice}
+use Rattle.lab_mend.specs.Choice.{is_same, zero_page, chosen, by_programmed, by_majority, by_sound, choice}
 use Rattle.lab_mend.specs.Found.{WritesChoice}
-use Rattle.lab_mend.specs.Merging.{named, counted, place_of, is_from, with_unsound, conflicts_below, unsound_below, tally_below, piece_of, Shows, AreOwn, AreListed, AreFew, Stands}
+use Rattle.lab_mend.specs.Merging.{named, counted, place_of, is_from, with_unsound, conflicts_below, unsound_below, tally_below, piece_of, Shows, AreOwn, AreListed, AreFew, HasRoom, Stands}
 use Rattle.lab_mend.proofs.MajorityLemmas.{range_more}
 
 -- ---- the rows that are named
@@ -129,6 +129,29 @@ unsound_listed_more n rows Unsound h = record {
 pub unsound_listed_next : (n : ℕ) (old new : List ℕ) (o : Origin) → new ≡ with_unsound old n o → AreListed n old → AreListed (n + 1) new
 unsound_listed_next n old new o is h = subst (AreListed (n + 1)) (sym is) (unsound_listed_more n old o h)
 
+pub room_named : (all n : ℕ) (rows new : List ℕ) (o : Origin) (old_room new_room : ℕ) → HasRoom all n rows old_room → new ≡ named rows n o → new_room ≡ old_room → HasRoom all (n + 1) new new_room
+room_named all n rows new o old_room new_room h is same = record { few = (let size = ap length is in let more = by o in let few = h.few in omega arith); room = (let room = h.room in omega arith) }
+  where
+    by : (x : Origin) → length (named rows n x) ≤ length rows + 1
+    by Sound = omega arith
+    by Conflict = omega (arith, length-append rows (n ∷ []))
+    by Majority = omega arith
+    by Erased = omega arith
+    by Unsound = omega arith
+
+pub room_unsound : (all n : ℕ) (rows new : List ℕ) (o : Origin) (old_room new_room : ℕ) → HasRoom all n rows old_room → new ≡ with_unsound rows n o → new_room ≡ old_room → HasRoom all (n + 1) new new_room
+room_unsound all n rows new o old_room new_room h is same = record { few = (let size = ap length is in let more = by o in let few = h.few in omega arith); room = (let room = h.room in omega arith) }
+  where
+    by : (x : Origin) → length (with_unsound rows n x) ≤ length rows + 1
+    by Sound = omega arith
+    by Conflict = omega arith
+    by Majority = omega arith
+    by Erased = omega arith
+    by Unsound = omega (arith, length-append rows (n ∷ []))
+
+pub room_first : (all capacity : ℕ) (rows : List ℕ) → rows ≡ [] → all ≤ capacity → HasRoom all 0 rows capacity
+room_first all capacity rows none room = record { few = (let size = ap length none in omega arith); room = room }
+
 pub none_listed : AreListed 0 []
 none_listed = record { within = All-nil (λ (r : ℕ). r < 0); rising = λ i j d l k. absurd (omega arith) }
 
@@ -207,7 +230,7 @@ shows_more g of n rows t pages o old scratch pieces within stands h are written 
 
 -- ---- a row of which two sound pages differ
 
-not_conflict : (g : Geometry) (pages erased : List Page) → (by_erased g pages erased).origin ≡ Conflict → ⊥
+not_conflict : (g : Geometry) (pages programmed : List Page) → (by_programmed g pages programmed).origin ≡ Conflict → ⊥
 not_conflict g pages [] e = cc
 not_conflict g pages (p ∷ more) e = cc
 
@@ -215,9 +238,9 @@ no_conflict : (g : Geometry) (pages : List Page) → (by_majority g pages).origi
 unfolding by_majority
 no_conflict g pages e = by (nat_le 3 (length pages) && is_sound (majority g pages)) e
   where
-    by : (b : Bool) → (cond b (chosen (majority g pages) Majority) (by_erased g pages (filter is_erased_page pages))).origin ≡ Conflict → ⊥
+    by : (b : Bool) → (cond b (chosen (majority g pages) Majority) (by_programmed g pages (filter is_programmed pages))).origin ≡ Conflict → ⊥
     by true is = cc
-    by false is = not_conflict g pages (filter is_erased_page pages) is
+    by false is = not_conflict g pages (filter is_programmed pages) is
 
 conflict_page : (g : Geometry) (pages : List Page) → (choice g pages).origin ≡ Conflict → (choice g pages).its ≡ zero_page g
 unfolding choice

@@ -1,6 +1,6 @@
 -- What the pieces and the list are once all pages were taken.
 use Rattle.std.proofs.Common.{◌≡◌, ℕ, ◌<◌, Bool, true, false, cond, List, [], ◌∷◌, length, get_or, slice_get, All, Option, Some, None, refl, sym, ap, ◌∙◌, subst, arith}
-use Rattle.std.specs.Prelude.{IsSome, option_map}
+use Rattle.std.specs.Prelude.{option_map}
 use Rattle.std.specs.List.{range_with_len, filter_map, cons_option}
 use Rattle.std.proofs.lemmas.List.Elements.{All-nil, All-cons}
 use Rattle.std.proofs.lemmas.List.{same_lists, get_or_default, length-map}
@@ -9,7 +9,6 @@ use Rattle.page_layout.specs.declared.geometry.Geometry.{Geometry}
 use Rattle.page_layout.specs.Geometry.{row_count, page_bytes}
 use Rattle.page_layout.specs.Page.{Page, Image, page}
 use Rattle.page_layout.specs.Raw.{raw_image, bytes_of_page}
-use Rattle.page_layout.specs.Sound.{record_of}
 use Rattle.page_layout.proofs.RawLemmas.{length-raw_image}
 use Rattle.lab_dump.specs.Scan.{IsTaken}
 use Rattle.lab_dump.specs.Rows.{is_asked}
@@ -20,11 +19,12 @@ use Rattle.lab_mend.specs.declared.repairing.Mend.{Mend}
 use Rattle.lab_dump.specs.PageBytes.{page_of, bit_count, bits_of}
 use Rattle.lab_dump.proofs.PageLemmas.{bytes_again}
 use Rattle.lab_mend.specs.Bits.{turned}
-use Rattle.lab_mend.specs.Mend.{mend_of, mended, turned_if}
-use Rattle.lab_mend.specs.Repairing.{mend_at, mend_in, mends_below, piece_of, piece_at, AreMendedBelow, IsOwn, AreOwn, OwnLaw, Shows, Stands}
+use Rattle.lab_mend.specs.declared.mending.Turned.{Turned}
+use Rattle.lab_mend.specs.Mend.{mend_of, mended, turned_if, IsMade}
+use Rattle.lab_mend.specs.Repairing.{as_mend, mend_at, mend_in, mends_below, piece_of, piece_at, AreMendedBelow, IsOwn, AreOwn, OwnLaw, Shows, Stands}
 use Rattle.lab_mend.specs.Repaired.{pieces_of, IsRepaired, RowsLaw}
 use Rattle.lab_mend.proofs.BitLemmas.{count_page, count_turned, turned_twice}
-use Rattle.lab_mend.proofs.MendLemmas.{mend_law, mended_by}
+use Rattle.lab_mend.proofs.MendLemmas.{made_by, mend_law, mended_by}
 
 -- ---- one page
 
@@ -32,9 +32,9 @@ use Rattle.lab_mend.proofs.MendLemmas.{mend_law, mended_by}
 pub back_again : (p : Page) → turned_if (mended p) (mend_of p) ≡ p
 back_again p = by (mend_of p) refl
   where
-    by : (o : Option ℕ) → mend_of p ≡ o → turned_if (mended p) o ≡ p
+    by : (o : Option Turned) → mend_of p ≡ o → turned_if (mended p) o ≡ p
     by None e = mended_by p None e
-    by (Some k) e = ap (λ q. turned q k) (mended_by p (Some k) e) ∙ turned_twice p k ((mend_law p k).0 e).within
+    by (Some t) e = ap (λ q. turned q t.bit) (mended_by p (Some t) e) ∙ turned_twice p t.bit ((mend_law p t).0 e).within
 
 asked_mend : (asked : Option Rows) (row : ℕ) (p : Page) → is_asked asked row ≡ true → mend_at asked row p ≡ mend_of p
 asked_mend asked row p is = ap (λ b. cond b (mend_of p) None) is
@@ -43,7 +43,7 @@ unasked_mend : (asked : Option Rows) (row : ℕ) (p : Page) → is_asked asked r
 unasked_mend asked row p is = ap (λ b. cond b (mend_of p) None) is
 
 -- a page of these bytes was mended, with this bit, and its bytes are these now
-pub mended_own : (g : Geometry) (asked : Option Rows) (row : ℕ) (was now : List ℕ) (bit : Option ℕ) → is_asked asked row ≡ true → bit ≡ mend_of (page_of g.data_bytes was)
+pub mended_own : (g : Geometry) (asked : Option Rows) (row : ℕ) (was now : List ℕ) (bit : Option Turned) → is_asked asked row ≡ true → bit ≡ mend_of (page_of g.data_bytes was)
     → page_of g.data_bytes now ≡ mended (page_of g.data_bytes was) → length now ≡ page_bytes g → IsOwn g asked row bit now
 mended_own g asked row was now bit is named after size = record {
   size = size;
@@ -57,7 +57,7 @@ mended_own g asked row was now bit is named after size = record {
 pub unasked_own : (g : Geometry) (asked : Option Rows) (row : ℕ) (now : List ℕ) → is_asked asked row ≡ false → length now ≡ page_bytes g → IsOwn g asked row None now
 unasked_own g asked row now is size = record { size = size; bit_is = unasked_mend asked row (page_of g.data_bytes now) is }
 
-pub asked_bit : (asked : Option Rows) (row : ℕ) (p : Page) (bit : Option ℕ) → is_asked asked row ≡ true → bit ≡ mend_of p → bit ≡ mend_at asked row p
+pub asked_bit : (asked : Option Rows) (row : ℕ) (p : Page) (bit : Option Turned) → is_asked asked row ≡ true → bit ≡ mend_of p → bit ≡ mend_at asked row p
 asked_bit asked row p bit is e = e ∙ sym (asked_mend asked row p is)
 
 pub unasked_bit : (asked : Option Rows) (row : ℕ) (p : Page) → is_asked asked row ≡ false → None ≡ mend_at asked row p
@@ -74,17 +74,20 @@ mended_piece g was now after = sym (bytes_again g.data_bytes now) ∙ ap bytes_o
 
 -- a named row's page, whatever it was
 pub own_law : OwnLaw
-own_law g asked row piece k h = by (is_asked asked row) refl
+own_law g asked row piece t h = by (is_asked asked row) refl
   where
     q : Page
     q = page_of g.data_bytes piece
 
-    by : (b : Bool) → is_asked asked row ≡ b → (is_asked asked row ≡ true) × IsSome (record_of q) × (k < bits_of piece)
-    by false e = absurd (let none : None ≡ Some k = sym (unasked_mend asked row (turned q k) e) ∙ h.bit_is in cc)
+    k : ℕ
+    k = t.bit
+
+    by : (b : Bool) → is_asked asked row ≡ b → (is_asked asked row ≡ true) × IsMade t.made q × (k < bits_of piece)
+    by false e = absurd (let none : None ≡ Some t = sym (unasked_mend asked row (turned q k) e) ∙ h.bit_is in cc)
     by true e =
-        let mend = (mend_law (turned q k) k).0 (sym (asked_mend asked row (turned q k) e) ∙ h.bit_is) in
+        let mend = (mend_law (turned q k) t).0 (sym (asked_mend asked row (turned q k) e) ∙ h.bit_is) in
         let within : k < bit_count q = subst (λ n. k < n) (count_turned q k) mend.within in
-        (e, subst (λ (p : Page). IsSome (record_of p)) (turned_twice q k within) mend.sound, subst (λ n. k < n) (count_page g.data_bytes piece) within)
+        (e, subst (λ (p : Page). IsMade t.made p) (turned_twice q k within) (made_by (turned q k) k t.made mend.makes), subst (λ n. k < n) (count_page g.data_bytes piece) within)
 
 -- ---- all of them
 
@@ -125,11 +128,11 @@ listed_all asked image (row ∷ rows) = by (slice_get image row) (listed_all ask
     rest : List Mend
     rest = filter_map (λ r. mend_in asked r (slice_get image r)) rows
 
-    of_bit : (o : Option ℕ) (b : Bool) → is_asked asked row ≡ b → All (λ m. is_asked asked m.row ≡ true) rest
-        → All (λ m. is_asked asked m.row ≡ true) (cons_option (option_map (λ k. record { row = row; bit = k }) (cond b o None)) rest)
+    of_bit : (o : Option Turned) (b : Bool) → is_asked asked row ≡ b → All (λ m. is_asked asked m.row ≡ true) rest
+        → All (λ m. is_asked asked m.row ≡ true) (cons_option (option_map (as_mend row) (cond b o None)) rest)
     of_bit o false e h = h
     of_bit None true e h = h
-    of_bit (Some k) true e h = All-cons (λ (m : Mend). is_asked asked m.row ≡ true) (record { row = row; bit = k }) rest e h
+    of_bit (Some t) true e h = All-cons (λ (m : Mend). is_asked asked m.row ≡ true) (as_mend row t) rest e h
 
     by : (o : Option Page) → All (λ m. is_asked asked m.row ≡ true) rest → All (λ m. is_asked asked m.row ≡ true) (cons_option (mend_in asked row o) rest)
     by None h = h

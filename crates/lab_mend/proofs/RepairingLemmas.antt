@@ -1,5 +1,5 @@
 -- What one page more makes of the list and of the pieces.
-use Rattle.std.proofs.Common.{◌≡◌, ◌≢◌, inl, inr, ℕ, ◌+◌, ◌<◌, true, false, cond, eqb, List, [], ◌∷◌, ◌++◌, length, get_or, set, Option, Some, None, IfSome, refl, sym, ap, ◌∙◌, subst, arith, append-nil}
+use Rattle.std.proofs.Common.{◌≡◌, ◌≢◌, inl, inr, ℕ, ◌+◌, ◌<◌, ◌≤◌, true, false, cond, eqb, List, [], ◌∷◌, ◌++◌, length, get_or, set, Option, Some, None, IfSome, refl, sym, ap, ◌∙◌, subst, arith, append-nil, length-append}
 use Rattle.std.specs.Prelude.{All, slice_get, option_map}
 use Rattle.std.specs.List.{range_with_len, filter_map, cons_option}
 use Rattle.std.proofs.lemmas.Bool.{cases_eq, cases_Bool}
@@ -14,8 +14,9 @@ use Rattle.page_layout.specs.Geometry.{row_count, page_bytes}
 use Rattle.page_layout.specs.Page.{Page, Image}
 use Rattle.lab_dump.proofs.ScanLemmas.{if_more}
 use Rattle.lab_dump.specs.declared.rows.Rows.{Rows}
+use Rattle.lab_mend.specs.declared.mending.Turned.{Turned}
 use Rattle.lab_mend.specs.declared.repairing.Mend.{Mend}
-use Rattle.lab_mend.specs.Repairing.{mend_at, mend_in, noted, mends_below, piece_at, AreMendedBelow, Shows, named_bit, IsOwn, AreOwn, AreListed, Stands}
+use Rattle.lab_mend.specs.Repairing.{as_mend, mend_at, mend_in, noted, mends_below, piece_at, AreMendedBelow, Shows, named_turn, IsOwn, AreOwn, AreListed, HasRoom, Stands}
 
 -- ---- the list of an image
 
@@ -32,9 +33,12 @@ range_more n =
     sym (map-id (range_with_len 0 (n + 1)))
     ∙ (map-range_with_len_more (λ (k : ℕ). k) 0 n n (omega arith) ∙ ap (λ xs. xs ++ n ∷ []) (map-id (range_with_len 0 n)))
 
-noted_is : (ms : List Mend) (row : ℕ) (o : Option ℕ) → ms ++ cons_option (option_map (λ k. record { row = row; bit = k }) o) [] ≡ noted ms row o
+noted_is : (ms : List Mend) (row : ℕ) (o : Option Turned) → ms ++ cons_option (option_map (as_mend row) o) [] ≡ noted ms row o
 noted_is ms row None = append-nil ms
-noted_is ms row (Some k) = refl
+noted_is ms row (Some t) = refl
+
+abbrev turn_in : Mend → Turned
+turn_in m = record { bit = m.bit; made = m.made }
 
 pub mends_more : (asked : Option Rows) (image : Image) (row : ℕ) (p : Page) → slice_get image row ≡ Some p → mends_below asked image (row + 1) ≡ noted (mends_below asked image row) row (mend_at asked row p)
 unfolding mends_below
@@ -56,31 +60,31 @@ differ_eqb a b ne = grind (arith, nat_tests)
 same_eqb : (a : ℕ) → eqb a a ≡ true
 same_eqb a = grind (arith, nat_tests)
 
-pub named_none : (ms : List Mend) (row : ℕ) → All (λ m. m.row < row) ms → named_bit ms row ≡ None
+pub named_none : (ms : List Mend) (row : ℕ) → All (λ m. m.row < row) ms → named_turn ms row ≡ None
 named_none [] row h = refl
 named_none (m ∷ ms) row h =
     let less : m.row < row = All-head (λ (x : Mend). x.row < row) m ms h in
     let other : eqb m.row row ≡ false = differ_eqb m.row row (λ e. (omega arith)) in
-    ap (λ b. cond b (Some m.bit) (named_bit ms row)) other ∙ named_none ms row (All-tail (λ (x : Mend). x.row < row) m ms h)
+    ap (λ b. cond b (Some (turn_in m)) (named_turn ms row)) other ∙ named_none ms row (All-tail (λ (x : Mend). x.row < row) m ms h)
 
-named_push_same : (ms : List Mend) (row k : ℕ) → named_bit ms row ≡ None → named_bit (ms ++ record { row = row; bit = k } ∷ []) row ≡ Some k
+named_push_same : (ms : List Mend) (row : ℕ) (k : Turned) → named_turn ms row ≡ None → named_turn (ms ++ as_mend row k ∷ []) row ≡ Some k
 named_push_same [] row k e = ap (λ b. cond b (Some k) None) (same_eqb row)
 named_push_same (m ∷ ms) row k e = elim (cases_Bool (eqb m.row row)) [
-  | inl is ↦ absurd (let said : Some m.bit ≡ None = sym (ap (λ b. cond b (Some m.bit) (named_bit ms row)) is) ∙ e in cc)
+  | inl is ↦ absurd (let said : Some (turn_in m) ≡ None = sym (ap (λ b. cond b (Some (turn_in m)) (named_turn ms row)) is) ∙ e in cc)
   | inr is ↦
-      ap (λ b. cond b (Some m.bit) (named_bit (ms ++ record { row = row; bit = k } ∷ []) row)) is
-      ∙ named_push_same ms row k (sym (ap (λ b. cond b (Some m.bit) (named_bit ms row)) is) ∙ e)
+      ap (λ b. cond b (Some (turn_in m)) (named_turn (ms ++ as_mend row k ∷ []) row)) is
+      ∙ named_push_same ms row k (sym (ap (λ b. cond b (Some (turn_in m)) (named_turn ms row)) is) ∙ e)
 ]
 
-named_push_other : (ms : List Mend) (row k j : ℕ) → row ≢ j → named_bit (ms ++ record { row = row; bit = k } ∷ []) j ≡ named_bit ms j
+named_push_other : (ms : List Mend) (row : ℕ) (k : Turned) (j : ℕ) → row ≢ j → named_turn (ms ++ as_mend row k ∷ []) j ≡ named_turn ms j
 named_push_other [] row k j ne = ap (λ b. cond b (Some k) None) (differ_eqb row j ne)
-named_push_other (m ∷ ms) row k j ne = ap (cond (eqb m.row j) (Some m.bit)) (named_push_other ms row k j ne)
+named_push_other (m ∷ ms) row k j ne = ap (cond (eqb m.row j) (Some (turn_in m))) (named_push_other ms row k j ne)
 
-pub named_same : (ms : List Mend) (row : ℕ) (o : Option ℕ) → All (λ m. m.row < row) ms → named_bit (noted ms row o) row ≡ o
+pub named_same : (ms : List Mend) (row : ℕ) (o : Option Turned) → All (λ m. m.row < row) ms → named_turn (noted ms row o) row ≡ o
 named_same ms row None h = named_none ms row h
 named_same ms row (Some k) h = named_push_same ms row k (named_none ms row h)
 
-pub named_other : (ms : List Mend) (row j : ℕ) (o : Option ℕ) → row ≢ j → named_bit (noted ms row o) j ≡ named_bit ms j
+pub named_other : (ms : List Mend) (row j : ℕ) (o : Option Turned) → row ≢ j → named_turn (noted ms row o) j ≡ named_turn ms j
 named_other ms row j None ne = refl
 named_other ms row j (Some k) ne = named_push_other ms row k j ne
 
@@ -89,26 +93,26 @@ named_other ms row j (Some k) ne = named_push_other ms row k j ne
 wider : (row : ℕ) (ms : List Mend) → All (λ m. m.row < row) ms → All (λ m. m.row < row + 1) ms
 wider row ms h = All-weaker (λ (m : Mend). m.row < row) (λ (m : Mend). m.row < row + 1) (λ m l. (omega arith)) ms h
 
-pub listed_noted : (ms : List Mend) (row : ℕ) (o : Option ℕ) → AreListed row ms → AreListed (row + 1) (noted ms row o)
+pub listed_noted : (ms : List Mend) (row : ℕ) (o : Option Turned) → AreListed row ms → AreListed (row + 1) (noted ms row o)
 listed_noted ms row None h = record { within = wider row ms h.within; rising = h.rising }
 listed_noted ms row (Some k) h =
-    let m : Mend = record { row = row; bit = k } in
+    let m : Mend = as_mend row k in
     record {
       within = All-push (λ (x : Mend). x.row < row + 1) ms m (wider row ms h.within) (omega arith);
       rising = all_pairs_push (λ (a b : Mend). a.row < b.row) ms m h.rising h.within;
     }
 
-pub own_noted : (g : Geometry) (asked : Option Rows) (row : ℕ) (ms : List Mend) (o : Option ℕ) (piece : List ℕ) (ps : List (List ℕ)) → row < row_count g → AreListed row ms → IsOwn g asked row o piece → AreOwn g asked row ms ps → AreOwn g asked (row + 1) (noted ms row o) (set ps row piece)
+pub own_noted : (g : Geometry) (asked : Option Rows) (row : ℕ) (ms : List Mend) (o : Option Turned) (piece : List ℕ) (ps : List (List ℕ)) → row < row_count g → AreListed row ms → IsOwn g asked row o piece → AreOwn g asked row ms ps → AreOwn g asked (row + 1) (noted ms row o) (set ps row piece)
 own_noted g asked row ms o piece ps within listed own h = record {
   size = length-set ps row piece ∙ h.size;
   each = λ j l. elim (cases_eq row j) [
     | inl same ↦
-        subst (λ x. IsOwn g asked x (named_bit (noted ms row o) x) (get_or (set ps row piece) x [])) same
+        subst (λ x. IsOwn g asked x (named_turn (noted ms row o) x) (get_or (set ps row piece) x [])) same
         (subst (λ x. IsOwn g asked row x (get_or (set ps row piece) row [])) (sym (named_same ms row o listed.within))
         (subst (λ x. IsOwn g asked row o x) (sym (get_or-set_same ps row piece [] (let size = h.size in omega arith))) own))
     | inr ne ↦
         subst (λ x. IsOwn g asked j x (get_or (set ps row piece) j [])) (sym (named_other ms row j o ne))
-        (subst (λ x. IsOwn g asked j (named_bit ms j) x) (sym (get_or-set_other ps row j piece [] (λ e. ne (sym e)))) (h.each j (omega arith)))
+        (subst (λ x. IsOwn g asked j (named_turn ms j) x) (sym (get_or-set_other ps row j piece [] (λ e. ne (sym e)))) (h.each j (omega arith)))
   ];
 }
 
@@ -125,7 +129,7 @@ if_set : (pieces : Option (List (List ℕ))) (P Q : List (List ℕ) → Type 0) 
 if_set None P Q row piece h more = tt
 if_set (Some ps) P Q row piece h more = more ps h
 
-pub stands_more : (g : Geometry) (asked : Option Rows) (row : ℕ) (ms : List Mend) (o : Option ℕ) (scratch : List ℕ) (pieces : Option (List (List ℕ))) → row < row_count g → Stands g asked row ms scratch pieces → IsOwn g asked row o scratch
+pub stands_more : (g : Geometry) (asked : Option Rows) (row : ℕ) (ms : List Mend) (o : Option Turned) (scratch : List ℕ) (pieces : Option (List (List ℕ))) → row < row_count g → Stands g asked row ms scratch pieces → IsOwn g asked row o scratch
     → Stands g asked (row + 1) (noted ms row o) scratch (option_map (λ ps. set ps row scratch) pieces)
 stands_more g asked row ms o scratch pieces within h own = record {
   scratch_size = h.scratch_size;
@@ -144,6 +148,13 @@ shows_more g asked row image p ms scratch pieces within stands h at is = record 
   pieces_are = both_set pieces (AreOwn g asked row ms) (AreMendedBelow asked image row) (AreMendedBelow asked image (row + 1)) row scratch stands.own h.pieces_are
       (λ ps own each. subst (λ x. AreMendedBelow asked image (row + 1) (set ps row x)) (sym is) (mended_more asked image row p ps at (let size = own.size in omega arith) each));
 }
+
+pub room_more : (all rows : ℕ) (ms new : List Mend) (o : Option Turned) (capacity after : ℕ) → HasRoom all rows ms capacity → new ≡ noted ms rows o → after ≡ capacity → HasRoom all (rows + 1) new after
+room_more all rows ms new o capacity after h is same = record { few = (let size = ap length is in let more = by o in let few = h.few in omega arith); room = (let room = h.room in omega arith) }
+  where
+    by : (x : Option Turned) → length (noted ms rows x) ≤ length ms + 1
+    by None = omega arith
+    by (Some t) = omega (arith, length-append ms (as_mend rows t ∷ []))
 
 -- ---- before the first page
 

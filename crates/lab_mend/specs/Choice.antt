@@ -1,11 +1,12 @@
 -- Which page is written of a row of which several readings of one die have a page each.
-use Rattle.std.specs.Prelude.{◌≡◌, ◌≢◌, ◌≤◌, nat_le, ◌&&◌, if◌then◌else◌, Bool, true, false, All, List, [], ◌∷◌, length, replicate, get_or, None, IsSome}
+use Rattle.std.specs.Prelude.{◌≡◌, ◌≢◌, ◌↔◌, ℕ, ◌<◌, ◌≤◌, nat_le, ◌&&◌, if◌then◌else◌, Bool, true, false, All, List, [], ◌∷◌, length, replicate, get_or, slice_get, Some, None, IsSome}
 use Rattle.std.specs.List.{filter, list_all, Contains}
 use Rattle.std.specs.Str.{bytes_eq}
 use Rattle.page_layout.specs.declared.geometry.Geometry.{Geometry}
 use Rattle.page_layout.specs.Page.{Page, page}
 use Rattle.page_layout.specs.Raw.{bytes_of_page}
 use Rattle.page_layout.specs.Sound.{record_of, is_erased_page}
+use Rattle.page_layout.specs.Block.{is_programmed}
 use Rattle.lab_dump.specs.PageBytes.{is_sound}
 use Rattle.lab_mend.specs.declared.choice.Origin.{Origin}
 use Rattle.lab_mend.specs.declared.choice.Origin.TheVariants.{Sound, Conflict, Majority, Erased, Unsound}
@@ -27,14 +28,14 @@ pub record Choice : Type 0 where
 abbrev pub chosen : Page → Origin → Choice
 chosen p origin = record { its = p; origin = origin }
 
--- an erased page, if one of these is, else the first one as it is
-abbrev pub by_erased : Geometry → List Page → List Page → Choice
-by_erased g pages [] = chosen (get_or pages 0 (zero_page g)) Unsound
-by_erased g pages (e ∷ more) = chosen e Erased
+-- the first of those that are not erased, as it is; where there is none, an erased page
+abbrev pub by_programmed : Geometry → List Page → List Page → Choice
+by_programmed g pages [] = chosen (get_or pages 0 (zero_page g)) Erased
+by_programmed g pages (p ∷ more) = chosen p Unsound
 
 -- of three or more the majority of each bit, where that is sound
 unfoldable pub by_majority : Geometry → List Page → Choice
-by_majority g pages = if nat_le 3 (length pages) && is_sound (majority g pages) then chosen (majority g pages) Majority else by_erased g pages (filter is_erased_page pages)
+by_majority g pages = if nat_le 3 (length pages) && is_sound (majority g pages) then chosen (majority g pages) Majority else by_programmed g pages (filter is_programmed pages)
 
 -- the sound one, where all that are sound are one page
 abbrev pub by_sound : Geometry → List Page → List Page → Choice
@@ -50,16 +51,23 @@ choice g pages = by_sound g pages (filter is_sound pages)
 abbrev pub NoneSound : List Page → Type 0
 NoneSound pages = All (λ p. record_of p ≡ None) pages
 
-abbrev pub NoneErased : List Page → Type 0
-NoneErased pages = All (λ p. is_erased_page p ≡ false) pages
+abbrev pub AllErased : List Page → Type 0
+AllErased pages = All (λ p. is_erased_page p ≡ true) pages
+
+-- the page is the first of these that is not erased
+pub record IsFirstProgrammed (pages : List Page) (p : Page) : Type 0 where
+  pub place : ℕ
+  pub at : slice_get pages place ≡ Some p
+  pub programmed : is_erased_page p ≡ false
+  pub before : (j : ℕ) (q : Page) → j < place → slice_get pages j ≡ Some q → is_erased_page q ≡ true
 
 -- what each origin says of a page that is written
 abbrev pub Means : Geometry → List Page → Page → Origin → Type 0
 Means g pages p Sound = Contains pages p × IsSome (record_of p) × ((q : Page) → Contains pages q → IsSome (record_of q) → q ≡ p)
 Means g pages p Conflict = (p ≡ zero_page g) × (a : Page) × (b : Page) × Contains pages a × Contains pages b × IsSome (record_of a) × IsSome (record_of b) × (a ≢ b)
 Means g pages p Majority = NoneSound pages × (3 ≤ length pages) × (p ≡ majority g pages) × IsSome (record_of p)
-Means g pages p Erased = NoneSound pages × Contains pages p × (is_erased_page p ≡ true)
-Means g pages p Unsound = NoneSound pages × NoneErased pages × (p ≡ get_or pages 0 (zero_page g))
+Means g pages p Erased = AllErased pages × (p ≡ get_or pages 0 (zero_page g))
+Means g pages p Unsound = NoneSound pages × IsFirstProgrammed pages p
 
 -- the areas of these pages have the die's lengths
 abbrev pub AreSized : Geometry → List Page → Type 0
@@ -68,6 +76,10 @@ AreSized g pages = All (λ p. (length p.body ≡ g.data_bytes) × (length p.spar
 -- Of any pages of the die the origin that is told is true.
 abbrev pub ChoiceLaw : Type 0
 ChoiceLaw = (g : Geometry) (pages : List Page) → AreSized g pages → Means g pages (choice g pages).its (choice g pages).origin
+
+-- A row counts as erased just where its page is erased in every reading: one that any of them has programmed never does.
+abbrev pub ErasedLaw : Type 0
+ErasedLaw = (g : Geometry) (pages : List Page) → AreSized g pages → 0 < length pages → ((choice g pages).origin ≡ Erased) ↔ AllErased pages
 
 -- each page of the one list is a page of the other
 abbrev pub AreAmong : List Page → List Page → Type 0

@@ -4,7 +4,7 @@ use Rattle.std.specs.List.{filter, list_all}
 use Rattle.page_layout.specs.declared.geometry.Geometry.{Geometry}
 use Rattle.page_layout.specs.Page.{Page}
 use Rattle.page_layout.specs.Raw.{bytes_of_page}
-use Rattle.page_layout.specs.Sound.{is_erased_page}
+use Rattle.page_layout.specs.Block.{is_programmed}
 use Rattle.lab_dump.specs.PageBytes.{is_sound}
 use Rattle.lab_mend.specs.declared.choice.Origin.{Origin}
 use Rattle.lab_mend.specs.declared.choice.Agreed.{Agreed}
@@ -16,8 +16,9 @@ use Rattle.lab_mend.specs.Choice.{Choice, is_same}
 abbrev pub sound_below : Geometry → List ℕ → ℕ → List Page
 sound_below g bytes i = filter is_sound (pages_in g bytes i)
 
-abbrev pub erased_below : Geometry → List ℕ → ℕ → List Page
-erased_below g bytes i = filter is_erased_page (pages_in g bytes i)
+-- those that are not erased
+abbrev pub programmed_below : Geometry → List ℕ → ℕ → List Page
+programmed_below g bytes i = filter is_programmed (pages_in g bytes i)
 
 -- the first of these pages is page i of the row, and all others are the same page
 pub record HasOne (g : Geometry) (bytes : List ℕ) (count : ℕ) (sound : List Page) (i : ℕ) : Type 0 where
@@ -40,15 +41,15 @@ IsAgreed g bytes count sound (One i) = HasOne g bytes count sound i
 IsAgreed g bytes count sound Apart = HasTwo sound
 
 -- the first of these pages is page i of the row
-pub record BeginsWith (g : Geometry) (bytes : List ℕ) (count : ℕ) (erased : List Page) (i : ℕ) : Type 0 where
+pub record BeginsWith (g : Geometry) (bytes : List ℕ) (count : ℕ) (programmed : List Page) (i : ℕ) : Type 0 where
   pub within : i < count
   pub more : List Page
-  pub are : erased ≡ page_in g bytes i ∷ more
+  pub are : programmed ≡ page_in g bytes i ∷ more
 
--- the first erased page, or that there is none
-abbrev pub IsFirstErased : Geometry → List ℕ → ℕ → List Page → Option ℕ → Type 0
-IsFirstErased g bytes count erased None = erased ≡ []
-IsFirstErased g bytes count erased (Some i) = BeginsWith g bytes count erased i
+-- the first page that is not erased, or that there is none
+abbrev pub IsFirstProgrammed : Geometry → List ℕ → ℕ → List Page → Option ℕ → Type 0
+IsFirstProgrammed g bytes count programmed None = programmed ≡ []
+IsFirstProgrammed g bytes count programmed (Some i) = BeginsWith g bytes count programmed i
 
 -- the bytes of what is chosen were written, and its origin is told
 pub record WritesChoice (c : Choice) (origin : Origin) (bytes : List ℕ) : Type 0 where

@@ -1,24 +1,42 @@
--- What becomes of a page that is neither erased nor sound, and one bit away from a sound one. The seal decides.
-use Rattle.std.specs.Prelude.{◌≡◌, ◌↔◌, ◌⊎◌, ℕ, ◌<◌, false, if◌then◌else◌, Option, Some, None, IsSome}
+-- What becomes of a page that is neither erased nor sound, and one bit away from a sound one, or from an erased one. The seal decides first.
+use Rattle.std.specs.Prelude.{◌≡◌, ◌↔◌, ◌⊎◌, ℕ, ◌<◌, true, false, if◌then◌else◌, Option, Some, None, IsSome}
 use Rattle.std.specs.List.{range_with_len, position}
 use Rattle.page_layout.specs.Page.{Page}
 use Rattle.page_layout.specs.Sound.{record_of, is_erased_page}
 use Rattle.page_layout.specs.Block.{is_broken}
 use Rattle.lab_dump.specs.PageBytes.{is_sound, bit_count}
+use Rattle.lab_mend.specs.declared.mending.Made.{Made}
+use Rattle.lab_mend.specs.declared.mending.Made.TheVariants.{Sound, Erased}
+use Rattle.lab_mend.specs.declared.mending.Turned.{Turned}
 use Rattle.lab_mend.specs.Bits.{turned, DiffersAt}
 
 -- the lowest bit whose turning makes the page sound, if there is one
 unfoldable pub lowest_bit : Page → Option ℕ
 lowest_bit p = position (λ k. is_sound (turned p k)) (range_with_len 0 (bit_count p))
 
--- the bit that is turned of a page: of one that is neither erased nor sound that one, of any other none
-unfoldable pub mend_of : Page → Option ℕ
-mend_of p = if is_broken p then lowest_bit p else None
+-- the lowest bit whose turning leaves the page as an erase does, if there is one
+unfoldable pub erased_bit : Page → Option ℕ
+erased_bit p = position (λ k. is_erased_page (turned p k)) (range_with_len 0 (bit_count p))
 
--- the page with this bit turned, if there is one
-abbrev pub turned_if : Page → Option ℕ → Page
+-- a page with this bit turned, if there is one
+abbrev pub turned_at : Page → Option ℕ → Page
+turned_at p None = p
+turned_at p (Some k) = turned p k
+
+-- the bit that makes a page sound, and where there is none the one that leaves it erased
+abbrev pub first_turn : Option ℕ → Option ℕ → Option Turned
+first_turn (Some k) erased = Some (record { bit = k; made = Sound })
+first_turn None (Some k) = Some (record { bit = k; made = Erased })
+first_turn None None = None
+
+-- what is turned of a page: of one that is neither erased nor sound that one, of any other none
+unfoldable pub mend_of : Page → Option Turned
+mend_of p = if is_broken p then first_turn (lowest_bit p) (erased_bit p) else None
+
+-- the page with that bit turned
+abbrev pub turned_if : Page → Option Turned → Page
 turned_if p None = p
-turned_if p (Some k) = turned p k
+turned_if p (Some t) = turned p t.bit
 
 -- the mended page
 unfoldable pub mended : Page → Page
@@ -26,26 +44,36 @@ mended p = turned_if p (mend_of p)
 
 -- ---- laws
 
--- the page is neither erased nor sound, and this is the lowest bit whose turning makes it sound
-pub record IsMend (p : Page) (k : ℕ) : Type 0 where
+-- what the word of a mend says of the page with that bit turned: it is the lowest bit that makes the page sound, or none does, and it is the lowest
+-- that leaves the page erased
+abbrev pub Makes : Page → Made → ℕ → Type 0
+Makes p Sound k = IsSome (record_of (turned p k)) × ((j : ℕ) → j < k → record_of (turned p j) ≡ None)
+Makes p Erased k = ((j : ℕ) → j < bit_count p → record_of (turned p j) ≡ None) × (is_erased_page (turned p k) ≡ true) × ((j : ℕ) → j < k → is_erased_page (turned p j) ≡ false)
+
+-- the page is neither erased nor sound, and this is the bit that is turned
+pub record IsMend (p : Page) (t : Turned) : Type 0 where
   pub unsound : record_of p ≡ None
   pub unerased : is_erased_page p ≡ false
-  pub within : k < bit_count p
-  pub sound : IsSome (record_of (turned p k))
-  pub lowest : (j : ℕ) → j < k → record_of (turned p j) ≡ None
+  pub within : t.bit < bit_count p
+  pub makes : Makes p t.made t.bit
 
 -- `mend_of` is that bit, and none where there is no such bit.
 abbrev pub MendLaw : Type 0
-MendLaw = (p : Page) (k : ℕ) → (mend_of p ≡ Some k) ↔ IsMend p k
+MendLaw = (p : Page) (t : Turned) → (mend_of p ≡ Some t) ↔ IsMend p t
 
--- the other page is sound, and one bit away
+-- what the word says of the mended page
+abbrev pub IsMade : Made → Page → Type 0
+IsMade Sound q = IsSome (record_of q)
+IsMade Erased q = is_erased_page q ≡ true
+
+-- the other page is sound, or erased, as the word says, and one bit away
 pub record IsOneBitOff (p q : Page) : Type 0 where
-  pub bit : ℕ
-  pub mend_is : mend_of p ≡ Some bit
-  pub sound : IsSome (record_of q)
-  pub differs : DiffersAt p q bit
+  pub turn : Turned
+  pub mend_is : mend_of p ≡ Some turn
+  pub made : IsMade turn.made q
+  pub differs : DiffersAt p q turn.bit
 
--- A mended page is the page as it was, or sound and one bit away from it.
+-- A mended page is the page as it was, or sound and one bit away from it, or erased and one bit away.
 abbrev pub MendedLaw : Type 0
 MendedLaw = (p : Page) → (mended p ≡ p) ⊎ IsOneBitOff p (mended p)
 

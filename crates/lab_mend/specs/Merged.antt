@@ -1,5 +1,5 @@
 -- What was written of several readings in the end, and why nothing was.
-use Rattle.std.specs.Prelude.{◌≡◌, ℕ, ◌*◌, ◌<◌, List, [], length, get_or, map, Option, IfSome}
+use Rattle.std.specs.Prelude.{◌≡◌, ℕ, ◌*◌, ◌<◌, Bool, true, false, List, [], length, get_or, map, Option, IfSome}
 use Rattle.std.specs.List.{range_with_len}
 use Rattle.page_layout.specs.declared.geometry.Geometry.{Geometry}
 use Rattle.page_layout.specs.Geometry.{row_count, page_bytes}
@@ -10,8 +10,6 @@ use Rattle.lab_dump.specs.declared.pass.Cut.{Cut}
 use Rattle.lab_dump.specs.declared.pass.Cut.TheVariants as cut
 use Rattle.lab_dump.specs.declared.pass.ScanFault.{ScanFault}
 use Rattle.lab_dump.specs.declared.pass.ScanFault.TheVariants as scan
-use Rattle.lab_mend.specs.declared.merging.RowFault.{RowFault}
-use Rattle.lab_mend.specs.declared.merging.RowFault.TheVariants as row
 use Rattle.lab_mend.specs.declared.merging.Tally.{Tally}
 use Rattle.lab_mend.specs.declared.merge.MergeFault.{MergeFault}
 use Rattle.lab_mend.specs.declared.merge.MergeFault.TheVariants as fault
@@ -22,7 +20,7 @@ abbrev pub row_of : Geometry → List (List ℕ) → ℕ → List Page
 row_of g files row = map (λ file. page_from g file (row * page_bytes g)) files
 
 -- Each reading has as many bytes as an image. The pieces are the pages that are written of the rows, in order; the rows that are named are those of
--- which two sound pages differ, and those of which the first reading's page was written as it is, by rising row; and the others are counted by
+-- which two sound pages differ, and those of which a page was written as it is that is neither erased nor sound, by rising row; and the others are counted by
 -- what was written of them.
 pub record IsMerged (g : Geometry) (files : List (List ℕ)) (conflicts unsound : List ℕ) (tally : Tally) (pieces : Option (List (List ℕ))) : Type 0 where
   pub whole : (i : ℕ) → i < length files → length (get_or files i []) ≡ image_bytes g
@@ -51,6 +49,18 @@ IsOfReading count (fault.Source i) = i < count
 IsOfReading count fault.Target = Unit {0}
 IsOfReading count fault.OutOfMemory = Unit {0}
 
+-- A fault of a reading or of the file says that it has failed; want of memory is none of a run that has begun.
+abbrev pub IsPinned : List Bool → Bool → MergeFault → Type 0
+IsPinned failed target (fault.WrongLength i) = Unit {0}
+IsPinned failed target (fault.Source i) = get_or failed i false ≡ true
+IsPinned failed target fault.Target = target ≡ true
+IsPinned failed target fault.OutOfMemory = ⊥
+
+-- a page of each of so many readings, and one more
+pub record IsRoom (g : Geometry) (count : ℕ) (pages scratch : List ℕ) : Type 0 where
+  pub pages_size : length pages ≡ count * page_bytes g
+  pub scratch_size : length scratch ≡ page_bytes g
+
 -- the fault of a reading that ended early or failed
 abbrev pub fault_of_cut : ℕ → Cut → MergeFault
 fault_of_cut i cut.Ended = fault.WrongLength i
@@ -61,8 +71,3 @@ abbrev pub fault_of_end : ℕ → ScanFault → MergeFault
 fault_of_end i scan.WrongLength = fault.WrongLength i
 fault_of_end i scan.Source = fault.Source i
 fault_of_end i scan.Stopped = fault.Source i
-
--- of a row that was not written
-abbrev pub fault_of_row : RowFault → MergeFault
-fault_of_row row.Target = fault.Target
-fault_of_row row.OutOfMemory = fault.OutOfMemory

@@ -20,7 +20,7 @@ named rows row Majority = rows
 named rows row Erased = rows
 named rows row Unsound = rows
 
--- the rows of which the first reading's page is written as it is, with one more
+-- the rows of which a page is written as it is that is neither erased nor sound, with one more
 abbrev pub with_unsound : List ℕ → ℕ → Origin → List ℕ
 with_unsound rows row Sound = rows
 with_unsound rows row Conflict = rows
@@ -53,7 +53,7 @@ is_from g rows origin row = place_of (choice g (rows row)).origin == place_of or
 unfoldable pub conflicts_below : Geometry → (ℕ → List Page) → ℕ → List ℕ
 conflicts_below g rows n = filter (is_from g rows Conflict) (range_with_len 0 n)
 
--- the first rows of which no page is sound or erased, nor the majority sound
+-- the first rows of which no page is sound, nor the majority, and some page is not erased
 unfoldable pub unsound_below : Geometry → (ℕ → List Page) → ℕ → List ℕ
 unsound_below g rows n = filter (is_from g rows Unsound) (range_with_len 0 n)
 
@@ -88,6 +88,11 @@ pub record AreOwn (g : Geometry) (n : ℕ) (conflicts : List ℕ) (pieces : List
 pub record AreListed (n : ℕ) (conflicts : List ℕ) : Type 0 where
   pub within : All (λ row. row < n) conflicts
   pub rising : AllPairs (λ a b. a < b) conflicts
+
+-- so many rows at most are named, and there is room for all of the die's
+pub record HasRoom (rows n : ℕ) (named : List ℕ) (capacity : ℕ) : Type 0 where
+  pub few : length named ≤ n
+  pub room : rows ≤ capacity
 
 pub record AreFew (n : ℕ) (tally : Tally) : Type 0 where
   pub sound : tally.sound ≤ n

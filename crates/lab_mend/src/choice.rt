@@ -3,13 +3,13 @@ ghost use Rattle.std.specs.Prelude.{◌≡◌, ◌<◌, ◌≤◌, ◌+◌, ◌*
 ghost use Rattle.std.specs.Str.{bytes_eq};
 ghost use Rattle.page_layout.specs.Geometry.{page_bytes};
 ghost use Rattle.page_layout.specs.Raw.{bytes_of_page};
-ghost use Rattle.page_layout.specs.Sound.{is_erased_page};
+ghost use Rattle.page_layout.specs.Block.{is_programmed};
 ghost use Rattle.lab_dump.specs.PageBytes.{is_sound};
 ghost use Rattle.lab_mend.specs.Choice;
-ghost use Rattle.lab_mend.specs.Choice.{by_erased, by_majority};
+ghost use Rattle.lab_mend.specs.Choice.{by_programmed, by_majority};
 ghost use Rattle.lab_mend.specs.Majority.{majority};
 ghost use Rattle.lab_mend.specs.Pages.{page_in, pages_in, piece_at};
-ghost use Rattle.lab_mend.specs.Found.{IsAgreed, IsFirstErased, WritesChoice, erased_below, sound_below};
+ghost use Rattle.lab_mend.specs.Found.{IsAgreed, IsFirstProgrammed, WritesChoice, programmed_below, sound_below};
 
 use crate::majority::write_majority;
 use lab_dump::is_sound;
@@ -25,9 +25,9 @@ pub enum Origin {
     Conflict,
     /// No page is sound, and of three or more readings the majority of each bit is.
     Majority,
-    /// No page is sound, nor the majority; the page is erased.
+    /// The page is erased in every reading.
     Erased,
-    /// No page is sound or erased, nor is the majority sound: the first reading's page as it is.
+    /// No page is sound, nor the majority, and in some reading the page is not erased: as the first of these has it.
     Unsound,
 }
 
@@ -133,23 +133,23 @@ fn agree(geometry: &Geometry, pages: &[u8], count: usize) -> Agreed
     agreed
 }
 
-// Whether a page is erased.
-fn is_erased_at(geometry: &Geometry, pages: &[u8], i: usize) -> bool
+// Whether a page is not erased.
+fn is_programmed_at(geometry: &Geometry, pages: &[u8], i: usize) -> bool
     requires { i * page_bytes geometry.now + page_bytes geometry.now ≤ length pages.now }
-    ensures { result ≡ is_erased_page (page_in geometry.now pages.now i) }
+    ensures { result ≡ is_programmed (page_in geometry.now pages.now i) }
 {
     let size = geometry.data_bytes() + geometry.spare_bytes();
     let (body, spare) = page_at(pages, size, i).split_at(geometry.data_bytes());
-    is_erased(body, spare)
+    !is_erased(body, spare)
 }
 
-// The first erased page, if there is one.
-fn find_erased(geometry: &Geometry, pages: &[u8], count: usize) -> Option<usize>
+// The first page that is not erased, if there is one.
+fn find_programmed(geometry: &Geometry, pages: &[u8], count: usize) -> Option<usize>
     requires { length pages.now ≡ count * page_bytes geometry.now }
-    ensures { IsFirstErased geometry.now pages.now count (erased_below geometry.now pages.now count) result }
+    ensures { IsFirstProgrammed geometry.now pages.now count (programmed_below geometry.now pages.now count) result }
 {
     for i in 0..count {
-        if is_erased_at(geometry, pages, i) {
+        if is_programmed_at(geometry, pages, i) {
             return Some(i);
         }
     }
@@ -175,20 +175,20 @@ fn blank_page(geometry: &Geometry, out: &mut [u8])
 }
 
 // Writes the page that is chosen where no page is sound, nor the majority.
-fn choose_erased(geometry: &Geometry, pages: &[u8], count: usize, out: &mut [u8]) -> Origin
+fn choose_programmed(geometry: &Geometry, pages: &[u8], count: usize, out: &mut [u8]) -> Origin
     requires some { 0 < count }
     requires whole { length pages.now ≡ count * page_bytes geometry.now }
     requires room { length out.old ≡ page_bytes geometry.now }
-    ensures { WritesChoice (by_erased geometry.now (pages_in geometry.now pages.now count) (erased_below geometry.now pages.now count)) result out.new }
+    ensures { WritesChoice (by_programmed geometry.now (pages_in geometry.now pages.now count) (programmed_below geometry.now pages.now count)) result out.new }
 {
-    match find_erased(geometry, pages, count) {
+    match find_programmed(geometry, pages, count) {
         Some(i) => {
             copy_page(geometry, pages, i, out);
-            Origin::Erased
+            Origin::Unsound
         }
         None => {
             copy_page(geometry, pages, 0, out);
-            Origin::Unsound
+            Origin::Erased
         }
     }
 }
@@ -217,7 +217,7 @@ fn choose_majority(geometry: &Geometry, pages: &[u8], count: usize, out: &mut [u
     if has_majority(geometry, pages, count, out) {
         Origin::Majority
     } else {
-        choose_erased(geometry, pages, count, out)
+        choose_programmed(geometry, pages, count, out)
     }
 }
 

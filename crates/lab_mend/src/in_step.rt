@@ -1,9 +1,10 @@
 //! Readers of one die that are read in step, a page of each at a time.
-ghost use Rattle.std.specs.Prelude.{◌≡◌, ◌<◌, ◌+◌, ◌*◌, ℕ, List, length, map, OnOk, IfErr};
+ghost use Rattle.std.specs.Prelude.{◌≡◌, ◌⊎◌, ◌<◌, ◌+◌, ◌*◌, ℕ, List, length, map, get_or, true, false, OnOk, IfErr};
+ghost use Rattle.lab_dump.specs.declared.pass.Cut.TheVariants as cuts;
+ghost use Rattle.lab_dump.specs.declared.pass.ScanFault.TheVariants as faults;
 ghost use Rattle.lab_mend.specs.InStep.{AreAt, AreRead, HaveEnded, IsLongAt, IsShortAt};
 
-use lab_dump::{Cut, ScanFault, expect_end, fill};
-use std::io::Read;
+use lab_dump::{Cut, DumpReader, ScanFault, expect_end, fill};
 
 // Why a page was not read: of which reader, counted from 0, and why.
 #[derive(Clone, Copy)]
@@ -20,7 +21,7 @@ pub(crate) struct ReadingFault {
 }
 
 // Reads a piece of this size from each, one behind another.
-pub(crate) fn read_row<R: Read>(
+pub(crate) fn read_row<R: DumpReader>(
     readers: &mut [R],
     size: usize,
     pieces: &mut [u8],
@@ -30,6 +31,7 @@ pub(crate) fn read_row<R: Read>(
     ensures reading { IfErr result (λ r. r.reading < length readers.old) }
     ensures count { OnOk result (length readers.new ≡ length readers.old) }
     ensures cut { IfErr result (λ r. (files : List (List ℕ)) (at : ℕ) → AreAt (map R.remaining readers.old) files at → IsShortAt files (at + size) r) }
+    ensures failed { IfErr result (λ r. r.cut ≡ cuts.Failed → get_or (map R.failed readers.new) r.reading false ≡ true) }
 {
     for reading in 0..readers.len() {
         let piece = &mut pieces[reading * size..reading * size + size];
@@ -42,10 +44,11 @@ pub(crate) fn read_row<R: Read>(
 }
 
 // Sees that none of them has a byte left.
-pub(crate) fn expect_ends<R: Read>(readers: &mut [R]) -> Result<(), ReadingFault>
+pub(crate) fn expect_ends<R: DumpReader>(readers: &mut [R]) -> Result<(), ReadingFault>
     ensures ended { OnOk result ((files : List (List ℕ)) (at : ℕ) → AreAt (map R.remaining readers.old) files at → HaveEnded files at) }
     ensures reading { IfErr result (λ r. r.reading < length readers.old) }
     ensures long { IfErr result (λ r. (files : List (List ℕ)) (at : ℕ) → AreAt (map R.remaining readers.old) files at → IsLongAt files at r) }
+    ensures failed { IfErr result (λ r. (r.fault ≡ faults.WrongLength) ⊎ (get_or (map R.failed readers.new) r.reading false ≡ true)) }
 {
     for reading in 0..readers.len() {
         match expect_end(&mut readers[reading]) {

@@ -1,6 +1,6 @@
 //! What the definitions come to.
 ghost use Rattle.lab_mend.specs.Bits.{TurnedLaw};
-ghost use Rattle.lab_mend.specs.Choice.{ChoiceLaw, OrderLaw, ZeroLaw};
+ghost use Rattle.lab_mend.specs.Choice.{ChoiceLaw, ErasedLaw, OrderLaw, ZeroLaw};
 ghost use Rattle.lab_mend.specs.Majority.{MajorityLaw};
 ghost use Rattle.lab_mend.specs.Mend.{AgainLaw, KeptLaw, MendLaw, MendedLaw};
 ghost use Rattle.lab_mend.specs.Repaired.{RowsLaw};
@@ -49,6 +49,11 @@ pub fn majority_law()
 /// Of any pages of the die the origin that is told of the page that is written is true.
 pub fn choice_law()
     ensures { ChoiceLaw }
+{}
+
+/// A row counts as erased just where its page is erased in every reading.
+pub fn erased_law()
+    ensures { ErasedLaw }
 {}
 
 /// Where some page is sound, it does not matter in which order the readings come, nor how often one comes.

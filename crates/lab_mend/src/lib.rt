@@ -1,7 +1,7 @@
 //! Dumps whose pages are mended, in one pass.
 //!
-//! - `repair_dump`: each page that is neither erased nor sound, and that one bit turned makes sound, is written with that bit turned; every other
-//!   page is written as it is, and so is each of a row that is not asked for.
+//! - `repair_dump`: each page that is neither erased nor sound, and that one bit turned makes sound, or else erased, is written with that bit turned;
+//!   every other page is written as it is, and so is each of a row that is not asked for.
 //! - `merge_dumps`: several readings of one die made into one, row by row: of each row the page that is sound, where all the sound ones are one
 //!   page; a row of which two sound pages differ is named, and neither is taken.
 #![tactic(auto)]
@@ -19,10 +19,11 @@ mod seal;
 
 pub use choice::Origin;
 pub use laws::{
-    again_law, choice_law, kept_law, majority_law, mend_law, mended_law, order_law, own_law,
-    rows_law, turned_law, zero_law,
+    again_law, choice_law, erased_law, kept_law, majority_law, mend_law, mended_law, order_law,
+    own_law, rows_law, turned_law, zero_law,
 };
-pub use merge::{MergeFault, Merged, merge_dumps};
+pub use mending::Made;
+pub use merge::{MergeFault, Merged, Unmerged, merge_dumps};
 pub use merging::Tally;
 pub use repair::{Repaired, repair_dump};
 pub use repairing::{Mend, Repairing};

@@ -1,18 +1,17 @@
 //! The merge of several readings of one die.
-ghost use Rattle.std.specs.Prelude.{◌≡◌, ◌<◌, ◌*◌, ℕ, List, [], length, map, OnOk, IfOk, IfErr, IfSome};
+ghost use Rattle.std.specs.Prelude.{◌≡◌, ◌<◌, ◌≤◌, ◌*◌, ℕ, List, [], length, map, get_or, true, false, vec_capacity, OnOk, IfOk, IfErr, IfSome};
 ghost use Rattle.page_layout.specs.Geometry.{page_bytes, row_count};
 ghost use Rattle.page_layout.specs.Page.{Page};
 ghost use Rattle.lab_dump.specs.Scan.{image_bytes};
 ghost use Rattle.lab_mend.specs.InStep.{AreAt, Tell};
-ghost use Rattle.lab_mend.specs.Merging.{AreListed, Shows, Stands, unsound_below};
-ghost use Rattle.lab_mend.specs.Merged.{IsMerged, IsOfReading, IsOwnMerge, IsUnmerged, row_of};
+ghost use Rattle.lab_mend.specs.Merging.{AreListed, HasRoom, Shows, Stands, unsound_below};
+ghost use Rattle.lab_mend.specs.Merged.{IsMerged, IsOfReading, IsOwnMerge, IsPinned, IsRoom, IsUnmerged, row_of};
 
 use crate::in_step::{ReadingCut, ReadingFault, expect_ends, read_row};
-use crate::merging::{Merging, RowFault, Tally};
-use lab_dump::{Cut, PageTarget, ScanFault};
+use crate::merging::{Merging, Tally};
+use lab_dump::{Cut, DumpReader, PageTarget, ScanFault, TargetFault};
 use page_layout::geometry::Geometry;
 use std::alloc::{AllocError, Global};
-use std::io::Read;
 use thiserror::Error;
 
 /// Why readings were not merged.
@@ -58,28 +57,24 @@ impl From<ReadingFault> for MergeFault {
     }
 }
 
-impl From<RowFault> for MergeFault {
-    ghost use Rattle.lab_mend.specs.Merged.{fault_of_row};
-
-    ghost from_gives = { λ row fault. fault ≡ fault_of_row row };
-
-    fn from(fault: RowFault) -> MergeFault {
-        match fault {
-            RowFault::Target => MergeFault::Target,
-            RowFault::OutOfMemory => MergeFault::OutOfMemory,
-        }
-    }
-}
-
-impl From<AllocError> for MergeFault {
+impl From<TargetFault> for MergeFault {
     ghost use Rattle.std.specs.Prelude.{◌≡◌};
     ghost use Rattle.lab_mend.specs.declared.merge.MergeFault.{MergeFault};
 
-    ghost from_gives = { λ _ fault. fault ≡ MergeFault.OutOfMemory };
+    ghost from_gives = { λ _ fault. fault ≡ MergeFault.Target };
 
-    fn from(_error: AllocError) -> MergeFault {
-        MergeFault::OutOfMemory
+    fn from(_fault: TargetFault) -> MergeFault {
+        MergeFault::Target
     }
+}
+
+/// Why readings were not merged, and the file as far as it was written.
+#[derive(Drop)]
+pub struct Unmerged<T> {
+    /// Why.
+    pub fault: MergeFault,
+    /// The file.
+    pub target: T,
 }
 
 /// What was written, and what is to be told of it.
@@ -87,7 +82,7 @@ impl From<AllocError> for MergeFault {
 pub struct Merged<T> {
     /// The rows of which two sound pages differ, by rising row.
     pub conflicts: Vec<u32>,
-    /// The rows of which no page is sound or erased, nor the majority sound, by rising row.
+    /// The rows of which no page is sound, nor the majority, and some page is not erased, by rising row.
     pub unsound: Vec<u32>,
     /// How many of the other rows there are, by what was written of them.
     pub tally: Tally,
@@ -96,7 +91,7 @@ pub struct Merged<T> {
 }
 
 // Reads the rows in step and writes each.
-fn merge_rows<R: Read, T: PageTarget>(
+fn merge_rows<R: DumpReader, T: PageTarget>(
     readers: &mut [R],
     geometry: &Geometry,
     pages: &mut [u8],
@@ -106,6 +101,8 @@ fn merge_rows<R: Read, T: PageTarget>(
     requires whole { length pages.old ≡ length readers.old * page_bytes geometry.now }
     requires stands { Stands geometry.now 0 merging.old.conflicts.items merging.old.tally merging.old.scratch.items (T.pieces merging.old.target) }
     requires none { merging.old.unsound.items ≡ [] }
+    requires conflicts_room { HasRoom (row_count geometry.now) 0 merging.old.conflicts.items (vec_capacity merging.old.conflicts) }
+    requires unsound_room { HasRoom (row_count geometry.now) 0 merging.old.unsound.items (vec_capacity merging.old.unsound) }
     requires shows { (rows : ℕ → List Page) → Shows geometry.now rows 0 merging.old.conflicts.items merging.old.tally (T.pieces merging.old.target) }
     ensures stands { OnOk result (Stands geometry.now (row_count geometry.now) merging.new.conflicts.items merging.new.tally merging.new.scratch.items (T.pieces merging.new.target)) }
     ensures shows { OnOk result ((files : List (List ℕ)) → AreAt (map R.remaining readers.old) files 0
@@ -117,6 +114,7 @@ fn merge_rows<R: Read, T: PageTarget>(
     ensures read { OnOk result ((files : List (List ℕ)) → AreAt (map R.remaining readers.old) files 0 → AreAt (map R.remaining readers.new) files (image_bytes geometry.now)) }
     ensures reading { IfErr result (IsOfReading (length readers.old)) }
     ensures unmerged { IfErr result (λ fault. (files : List (List ℕ)) → AreAt (map R.remaining readers.old) files 0 → IsUnmerged geometry.now files fault) }
+    ensures pinned { IfErr result (IsPinned (map R.failed readers.new) (T.failed merging.new.target)) }
 {
     let size = geometry.data_bytes() + geometry.spare_bytes();
     for row in 0..geometry.rows() {
@@ -126,6 +124,106 @@ fn merge_rows<R: Read, T: PageTarget>(
     Ok(())
 }
 
+// Reads the rows in step, writes each, and sees that no reader has a byte left.
+fn merge_all<R: DumpReader, T: PageTarget>(
+    readers: &mut [R],
+    geometry: &Geometry,
+    pages: &mut [u8],
+    merging: &mut Merging<T>,
+) -> Result<(), MergeFault>
+    requires some { 0 < length readers.old }
+    requires whole { length pages.old ≡ length readers.old * page_bytes geometry.now }
+    requires stands { Stands geometry.now 0 merging.old.conflicts.items merging.old.tally merging.old.scratch.items (T.pieces merging.old.target) }
+    requires none { merging.old.unsound.items ≡ [] }
+    requires conflicts_room { HasRoom (row_count geometry.now) 0 merging.old.conflicts.items (vec_capacity merging.old.conflicts) }
+    requires unsound_room { HasRoom (row_count geometry.now) 0 merging.old.unsound.items (vec_capacity merging.old.unsound) }
+    requires shows { (rows : ℕ → List Page) → Shows geometry.now rows 0 merging.old.conflicts.items merging.old.tally (T.pieces merging.old.target) }
+    ensures ok { OnOk result ((files : List (List ℕ)) → Tell (map R.remaining readers.old) files → IsMerged geometry.now files merging.new.conflicts.items merging.new.unsound.items merging.new.tally (T.pieces merging.new.target)) }
+    ensures own { OnOk result (IsOwnMerge geometry.now merging.new.conflicts.items merging.new.unsound.items (T.pieces merging.new.target)) }
+    ensures reading { IfErr result (IsOfReading (length readers.old)) }
+    ensures err { IfErr result (λ fault. (files : List (List ℕ)) → Tell (map R.remaining readers.old) files → IsUnmerged geometry.now files fault) }
+    ensures pinned { IfErr result (IsPinned (map R.failed readers.new) (T.failed merging.new.target)) }
+{
+    merge_rows(readers, geometry, pages, merging)?;
+    expect_ends(readers)?;
+    Ok(())
+}
+
+// The memory of a run.
+#[derive(Drop)]
+struct Room {
+    // a page of each reading, one behind another
+    pages: Vec<u8>,
+    // the page at hand
+    scratch: Vec<u8>,
+    // the rows that are named
+    conflicts: Vec<u32>,
+    unsound: Vec<u32>,
+}
+
+// Takes all the memory of a run over so many readings.
+fn take_room(alloc: Global, geometry: &Geometry, count: usize) -> Result<Room, AllocError>
+    ensures sized { IfOk result (λ room. IsRoom geometry.now count room.pages.items room.scratch.items) }
+    ensures conflicts { IfOk result (λ room. (room.conflicts.items ≡ []) × (row_count geometry.now ≤ vec_capacity room.conflicts)) }
+    ensures unsound { IfOk result (λ room. (room.unsound.items ≡ []) × (row_count geometry.now ≤ vec_capacity room.unsound)) }
+{
+    let size = geometry.data_bytes() + geometry.spare_bytes();
+    let Some(all) = size.checked_mul(count) else {
+        return Err(AllocError);
+    };
+    Ok(Room {
+        pages: vec![in alloc; 0; all]?,
+        scratch: vec![in alloc; 0; size]?,
+        conflicts: Vec::with_capacity(alloc, geometry.rows() as usize)?,
+        unsound: Vec::with_capacity(alloc, geometry.rows() as usize)?,
+    })
+}
+
+// Merges readings with all the memory that it takes.
+fn merge_with<R: DumpReader, T: PageTarget + Drop>(
+    room: Room,
+    readers: &mut [R],
+    geometry: &Geometry,
+    target: T,
+) -> Result<Merged<T>, Unmerged<T>>
+    requires some { 0 < length readers.old }
+    requires room { IsRoom geometry.now (length readers.old) room.pages.items room.scratch.items }
+    requires conflicts { (room.conflicts.items ≡ []) × (row_count geometry.now ≤ vec_capacity room.conflicts) }
+    requires unsound { (room.unsound.items ≡ []) × (row_count geometry.now ≤ vec_capacity room.unsound) }
+    requires pieces { IfSome (T.pieces target) (λ ps. length ps ≡ row_count geometry.now) }
+    ensures ok { IfOk result (λ told. (files : List (List ℕ)) → Tell (map R.remaining readers.old) files → IsMerged geometry.now files told.conflicts.items told.unsound.items told.tally (T.pieces told.target)) }
+    ensures own { IfOk result (λ told. IsOwnMerge geometry.now told.conflicts.items told.unsound.items (T.pieces told.target)) }
+    ensures reading { IfErr result (λ unmerged. IsOfReading (length readers.old) unmerged.fault) }
+    ensures err { IfErr result (λ unmerged. (files : List (List ℕ)) → Tell (map R.remaining readers.old) files → IsUnmerged geometry.now files unmerged.fault) }
+    ensures pinned { IfErr result (λ unmerged. IsPinned (map R.failed readers.new) (T.failed unmerged.target) unmerged.fault) }
+{
+    let mut pages = room.pages;
+    let mut merging = Merging {
+        conflicts: room.conflicts,
+        unsound: room.unsound,
+        tally: Tally {
+            sound: 0,
+            majority: 0,
+            erased: 0,
+            unsound: 0,
+        },
+        scratch: room.scratch,
+        target,
+    };
+    match merge_all(readers, geometry, &mut pages, &mut merging) {
+        Ok(()) => Ok(Merged {
+            conflicts: merging.conflicts,
+            unsound: merging.unsound,
+            tally: merging.tally,
+            target: merging.target,
+        }),
+        Err(fault) => Err(Unmerged {
+            fault,
+            target: merging.target,
+        }),
+    }
+}
+
 /// Writes one page for each row to a target, made of several readings of one die, in one pass over all of them in step. Of the row's pages, one of
 /// each reading:
 ///
@@ -133,59 +231,44 @@ fn merge_rows<R: Read, T: PageTarget>(
 /// - where two sound ones differ, 00h bytes, which are never sound, and the row is named;
 /// - where none is sound and there are three or more readings, the page that has each bit set which more than half of them have set, if that is
 ///   sound;
-/// - else an erased page, if one is erased;
-/// - else the first reading's page as it is, and the row is named.
+/// - else the first page that is not erased, as it is, and the row is named: a reading that failed may be all FFh;
+/// - else an erased page: it is erased in every reading.
 ///
 /// The target has a piece for each row, of as many bytes as a page has. A page with the same bytes as the first reading's is not hashed again. The
-/// memory is that of a page of each reading and one more, and four bytes or more for each row that is named.
+/// memory is that of a page of each reading and one more, and eight bytes a row.
 ///
 /// For readers that tell their bytes, and a target that tells its pieces, these are those pages of the images that the bytes are, and the rows that
 /// are named and counted are those of them. Of any readers each piece has as many bytes as a page, and a row that is named has 00h bytes alone.
 ///
 /// # Errors
 ///
-/// `OutOfMemory` where a growth was refused: at first, before any byte was read, or where a row was to be named. Else each when it happens:
+/// Each with the target. `OutOfMemory` where a growth was refused, before any byte was read. Else each when it happens:
 /// `WrongLength` where the bytes of the reading of that number ended before the last page or a byte follows it, `Source` where a read of the
 /// reading of that number failed or was interrupted, `Target` where a write failed.
 ///
 /// (This project's rules.)
-pub fn merge_dumps<R: Read, T: PageTarget + Drop>(
+pub fn merge_dumps<R: DumpReader, T: PageTarget + Drop>(
     alloc: Global,
     readers: &mut [R],
     geometry: &Geometry,
     target: T,
-) -> Result<Merged<T>, MergeFault>
+) -> Result<Merged<T>, Unmerged<T>>
     requires some { 0 < length readers.old }
     requires pieces { IfSome (T.pieces target) (λ ps. length ps ≡ row_count geometry.now) }
     ensures ok { IfOk result (λ told. (files : List (List ℕ)) → Tell (map R.remaining readers.old) files → IsMerged geometry.now files told.conflicts.items told.unsound.items told.tally (T.pieces told.target)) }
-    // Whatever the readers give.
+    ensures err { IfErr result (λ unmerged. (files : List (List ℕ)) → Tell (map R.remaining readers.old) files → IsUnmerged geometry.now files unmerged.fault) }
+    // Whatever the readers and the target do.
     ensures own { IfOk result (λ told. IsOwnMerge geometry.now told.conflicts.items told.unsound.items (T.pieces told.target)) }
-    ensures reading { IfErr result (IsOfReading (length readers.old)) }
-    ensures err { IfErr result (λ fault. (files : List (List ℕ)) → Tell (map R.remaining readers.old) files → IsUnmerged geometry.now files fault) }
+    ensures reading { IfErr result (λ unmerged. IsOfReading (length readers.old) unmerged.fault) }
+    ensures source { IfErr result (λ unmerged. (i : ℕ) → unmerged.fault ≡ MergeFault.Source i → get_or (map R.failed readers.new) i false ≡ true) }
+    ensures target { IfErr result (λ unmerged. unmerged.fault ≡ MergeFault.Target → T.failed unmerged.target ≡ true) }
+    ensures memory { IfErr result (λ unmerged. unmerged.fault ≡ MergeFault.OutOfMemory → readers.new ≡ readers.old) }
 {
-    let size = geometry.data_bytes() + geometry.spare_bytes();
-    let Some(all) = size.checked_mul(readers.len()) else {
-        return Err(MergeFault::OutOfMemory);
-    };
-    let mut pages = vec![in alloc; 0; all]?;
-    let mut merging = Merging {
-        conflicts: Vec::new(alloc),
-        unsound: Vec::new(alloc),
-        tally: Tally {
-            sound: 0,
-            majority: 0,
-            erased: 0,
-            unsound: 0,
-        },
-        scratch: vec![in alloc; 0; size]?,
-        target,
-    };
-    merge_rows(readers, geometry, &mut pages, &mut merging)?;
-    expect_ends(readers)?;
-    Ok(Merged {
-        conflicts: merging.conflicts,
-        unsound: merging.unsound,
-        tally: merging.tally,
-        target: merging.target,
-    })
+    match take_room(alloc, geometry, readers.len()) {
+        Ok(room) => merge_with(room, readers, geometry, target),
+        Err(_) => Err(Unmerged {
+            fault: MergeFault::OutOfMemory,
+            target,
+        }),
+    }
 }

@@ -1,14 +1,13 @@
 //! The rows as they are written.
-ghost use Rattle.std.specs.Prelude.{◌≡◌, ◌<◌, ◌+◌, ◌*◌, ◌^◌, ℕ, List, length, OnOk};
+ghost use Rattle.std.specs.Prelude.{◌≡◌, ◌<◌, ◌+◌, ◌*◌, ◌^◌, ℕ, List, length, true, vec_capacity, OnOk, OnErr};
 ghost use Rattle.page_layout.specs.Geometry.{page_bytes, row_count};
 ghost use Rattle.page_layout.specs.Page.{Page};
 ghost use Rattle.lab_mend.specs.Pages.{pages_in};
-ghost use Rattle.lab_mend.specs.Merging.{AreListed, Shows, Stands, counted, named, unsound_below, with_unsound};
+ghost use Rattle.lab_mend.specs.Merging.{AreListed, HasRoom, Shows, Stands, counted, named, unsound_below, with_unsound};
 
 use crate::choice::{Origin, choose};
-use lab_dump::PageTarget;
+use lab_dump::{PageTarget, TargetFault};
 use page_layout::geometry::Geometry;
-use std::alloc::AllocError;
 
 /// How many rows there are whose sound pages do not differ, by what was written of them.
 #[derive(Clone, Copy, Debug, PartialEq, Eq)]
@@ -17,30 +16,10 @@ pub struct Tally {
     pub sound: u32,
     /// The majority of each bit, which is sound.
     pub majority: u32,
-    /// An erased page.
+    /// An erased page: every reading's is.
     pub erased: u32,
-    /// The first reading's page as it is, which is neither erased nor sound.
+    /// The first page that is not erased, as it is. It is not sound.
     pub unsound: u32,
-}
-
-// Why a row was not written.
-#[derive(Clone, Copy)]
-pub(crate) enum RowFault {
-    // it could not be
-    Target,
-    // it was to be named, and a growth was refused
-    OutOfMemory,
-}
-
-impl From<AllocError> for RowFault {
-    ghost use Rattle.std.specs.Prelude.{◌≡◌};
-    ghost use Rattle.lab_mend.specs.declared.merging.RowFault.{RowFault};
-
-    ghost from_gives = { λ _ fault. fault ≡ RowFault.OutOfMemory };
-
-    fn from(_error: AllocError) -> RowFault {
-        RowFault::OutOfMemory
-    }
 }
 
 // What was written so far.
@@ -48,7 +27,7 @@ impl From<AllocError> for RowFault {
 pub(crate) struct Merging<T> {
     // the rows of which two sound pages differ
     pub(crate) conflicts: Vec<u32>,
-    // those of which the first reading's page was written as it is
+    // those of which a page was written as it is that is neither erased nor sound
     pub(crate) unsound: Vec<u32>,
     pub(crate) tally: Tally,
     // the page at hand
@@ -77,29 +56,27 @@ impl Tally {
     }
 }
 
-// Names a row of which two sound pages differ.
-fn name_conflict(conflicts: &mut Vec<u32>, row: u32, origin: Origin) -> Result<(), AllocError>
-    ensures { OnOk result (conflicts.new.items ≡ named conflicts.old.items row origin) }
+// Names a row of which two sound pages differ. The list has room for it.
+fn name_conflict(conflicts: &mut Vec<u32>, row: u32, origin: Origin)
+    requires { length conflicts.old.items < vec_capacity conflicts.old }
+    ensures named { conflicts.new.items ≡ named conflicts.old.items row origin }
+    ensures room { vec_capacity conflicts.new ≡ vec_capacity conflicts.old }
 {
     match origin {
-        Origin::Conflict => {
-            conflicts.push(row)?;
-            Ok(())
-        }
-        Origin::Sound | Origin::Majority | Origin::Erased | Origin::Unsound => Ok(()),
+        Origin::Conflict => conflicts.push_reserved(row),
+        Origin::Sound | Origin::Majority | Origin::Erased | Origin::Unsound => (),
     }
 }
 
-// Names a row of which the first reading's page is written as it is.
-fn name_unsound(unsound: &mut Vec<u32>, row: u32, origin: Origin) -> Result<(), AllocError>
-    ensures { OnOk result (unsound.new.items ≡ with_unsound unsound.old.items row origin) }
+// Names a row of which a page is written as it is that is neither erased nor sound.
+fn name_unsound(unsound: &mut Vec<u32>, row: u32, origin: Origin)
+    requires { length unsound.old.items < vec_capacity unsound.old }
+    ensures named { unsound.new.items ≡ with_unsound unsound.old.items row origin }
+    ensures room { vec_capacity unsound.new ≡ vec_capacity unsound.old }
 {
     match origin {
-        Origin::Unsound => {
-            unsound.push(row)?;
-            Ok(())
-        }
-        Origin::Sound | Origin::Conflict | Origin::Majority | Origin::Erased => Ok(()),
+        Origin::Unsound => unsound.push_reserved(row),
+        Origin::Sound | Origin::Conflict | Origin::Majority | Origin::Erased => (),
     }
 }
 
@@ -111,11 +88,16 @@ impl<T: PageTarget> Merging<T> {
         row: u32,
         pages: &[u8],
         count: usize,
-    ) -> Result<(), RowFault>
+    ) -> Result<(), TargetFault>
         requires row_in { row < row_count geometry.now }
         requires some { 0 < count }
         requires whole { length pages.now ≡ count * page_bytes geometry.now }
+        requires conflicts_room { HasRoom (row_count geometry.now) row self.old.conflicts.items (vec_capacity self.old.conflicts) }
+        requires unsound_room { HasRoom (row_count geometry.now) row self.old.unsound.items (vec_capacity self.old.unsound) }
         requires stands { Stands geometry.now row self.old.conflicts.items self.old.tally self.old.scratch.items (T.pieces self.old.target) }
+        ensures conflicts_room { HasRoom (row_count geometry.now) (row + 1) self.new.conflicts.items (vec_capacity self.new.conflicts) }
+        ensures unsound_room { HasRoom (row_count geometry.now) (row + 1) self.new.unsound.items (vec_capacity self.new.unsound) }
+        ensures failed { OnErr result (T.failed self.new.target ≡ true) }
         ensures stands { OnOk result (Stands geometry.now (row + 1) self.new.conflicts.items self.new.tally self.new.scratch.items (T.pieces self.new.target)) }
         ensures unsound { OnOk result ((rows : ℕ → List Page) → rows row ≡ pages_in geometry.now pages.now count
             → self.old.unsound.items ≡ unsound_below geometry.now rows row → self.new.unsound.items ≡ unsound_below geometry.now rows (row + 1)) }
@@ -124,12 +106,12 @@ impl<T: PageTarget> Merging<T> {
             → Shows geometry.now rows (row + 1) self.new.conflicts.items self.new.tally (T.pieces self.new.target)) }
     {
         let origin = choose(geometry, pages, count, &mut self.scratch);
-        name_conflict(&mut self.conflicts, row, origin)?;
-        name_unsound(&mut self.unsound, row, origin)?;
+        name_conflict(&mut self.conflicts, row, origin);
+        name_unsound(&mut self.unsound, row, origin);
         self.tally = self.tally.count(origin);
         match self.target.put_page(row, &self.scratch) {
             Ok(()) => Ok(()),
-            Err(_) => Err(RowFault::Target),
+            Err(fault) => Err(fault),
         }
     }
 }

@@ -6,11 +6,11 @@ ghost use Rattle.std.specs.Prelude.{◌≡◌};
 mod progress;
 mod system;
 
-use lab_commands::{LabFault, run, tell};
+use lab_commands::{LabFault, Output, Stream, run, tell};
 use program_words::{WordsFault, word_slices, words_found};
 use std::env;
+use std::fs::File;
 use std::io::{IsTerminal, Write};
-use std::os::unix::fs::FileExt;
 use std::process::ExitCode;
 use std::rt::{Env, Files};
 use system::SystemFiles;
@@ -27,18 +27,15 @@ fn words_fault(fault: WordsFault) -> LabFault<'static>
 }
 
 // Does what the words of the command line say, over the system's files.
-fn run_over<S: Env + Files + AllocGlobal, W: Write, E: Write, P: Write + IsTerminal + Drop>(
-    system: &S,
-    out: &mut W,
-    err: &mut E,
-    screen: P,
-) -> u8
-where
-    S::File: FileExt,
-{
+fn run_over<
+    S: Env + Files<File = File> + AllocGlobal,
+    W: Output,
+    E: Output,
+    P: Write + IsTerminal + Drop,
+>(system: &S, out: &mut W, err: &mut E, screen: P) -> u8 {
     let kept = match words_found(system.alloc(), env::args(system)) {
         Ok(kept) => kept,
-        Err(fault) => return tell(&words_fault(fault), err),
+        Err(fault) => return tell(system.alloc(), &words_fault(fault), err),
     };
     match word_slices(system.alloc(), &kept) {
         Ok(words) => {
@@ -46,10 +43,15 @@ where
             let mut files = SystemFiles::new(system, screen, is_watched);
             run(system.alloc(), &words, &mut files, out, err)
         }
-        Err(_) => tell(&LabFault::OutOfMemory, err),
+        Err(_) => tell(system.alloc(), &LabFault::OutOfMemory, err),
     }
 }
 
 fn main(rt: HostRuntime) -> ExitCode {
-    ExitCode::from(run_over(&rt, &mut rt.stdout(), &mut rt.stderr(), rt.stderr()))
+    ExitCode::from(run_over(
+        &rt,
+        &mut Stream::new(rt.stdout()),
+        &mut Stream::new(rt.stderr()),
+        rt.stderr(),
+    ))
 }

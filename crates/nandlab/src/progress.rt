@@ -1,4 +1,5 @@
 //! How far a file was read, on a screen.
+use lab_dump::{DumpFault, DumpReader};
 use std::io::{self, Read, Seek, SeekFrom, Write};
 
 /// Shows how much of a file was read, as a line that is renewed.
@@ -63,9 +64,17 @@ impl<R, E> Metered<R, E> {
     }
 }
 
-impl<R: Read, E: Write> Read for Metered<R, E> {
-    fn read(&mut self, buf: &mut [u8]) -> io::Result<usize> {
-        let count = self.reader.read(buf)?;
+impl<R: Read, E: Write> DumpReader for Metered<R, E> {
+    ghost use Rattle.std.specs.Prelude.{None, true};
+
+    ghost remaining = { λ _. None };
+
+    ghost failed = { λ _. true };
+
+    fn read(&mut self, buffer: &mut [u8]) -> Result<usize, DumpFault> {
+        let Ok(count) = self.reader.read(buffer) else {
+            return Err(DumpFault);
+        };
         if let Some(meter) = &mut self.meter {
             meter.advance(count as u64);
         }

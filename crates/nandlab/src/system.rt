@@ -1,15 +1,19 @@
 //! The files of the system.
+ghost use Rattle.std.specs.Prelude.{ℕ, List, false, IfErr};
+ghost use Rattle.lab_commands.specs.Files.{IsUnkept, unknown};
+
 use crate::progress::{Meter, Metered, size_of};
-use lab_commands::{FileFault, LabFiles, Progress};
+use lab_commands::{FileFault, KeepFault, LabFiles, Progress, Standing};
 use lab_dump::{Dump, DumpFault, PageTarget, Pieces, Target, TargetFault};
-use std::fs::{self, File, OpenFile};
+use part_files::{PartFault, SystemNames, discard, new_part, part_name, publish_new, publish_over};
+use std::fs::{self, File, Metadata};
 use std::io::{self, BufReader, Error, ErrorKind, Read, Seek, SeekFrom, Write};
 use std::os::unix::fs::FileExt;
 use std::path::PathBuf;
 use std::rt::Files;
 
-// How many names beside a file are tried: a run that was killed may have left some.
-const NAMES: u32 = 100;
+// What the name of a part says of who made it.
+const PROGRAM: &str = "nandlab";
 
 // The bytes that a dump's reader asks the system for at once.
 const READ_AHEAD: usize = 262_144;
@@ -22,8 +26,6 @@ pub struct SystemFiles<'a, R, E> {
     screen: Option<E>,
     // whether somebody looks at it
     is_watched: bool,
-    // the name of the file that was made beside another one
-    made: Option<String>,
 }
 
 /// A file of the system that is read at whatever place.
@@ -33,27 +35,28 @@ pub struct DumpFile<F, E> {
     meter: Option<Meter<E>>,
 }
 
-/// A file of sectors or pages of the system, that is being written.
+/// A file of sectors or pages of the system, that is being written. It is locked as long as it is open.
 #[derive(Drop)]
-pub struct PieceFile<F> {
-    file: F,
+pub struct PieceFile {
+    file: File,
+    // the name of the part
+    name: String,
     // the bytes of a sector or a page
     size: u32,
 }
 
-impl<'a, R: Files + AllocGlobal, E: Write> SystemFiles<'a, R, E> {
+impl<'a, R: Files<File = File> + AllocGlobal, E: Write> SystemFiles<'a, R, E> {
     /// The files that the program's handle `rt` reaches, and a screen to show progress on, which somebody may look at. Nothing is opened.
     pub fn new(rt: &'a R, screen: E, is_watched: bool) -> SystemFiles<'a, R, E> {
         SystemFiles {
             rt,
             screen: Some(screen),
             is_watched,
-            made: None,
         }
     }
 
     // A meter for a file, where it is to show how far it was read.
-    fn meter(&mut self, file: &mut R::File, progress: Progress) -> Option<Meter<E>> {
+    fn meter(&mut self, file: &mut File, progress: Progress) -> Option<Meter<E>> {
         let shows = match progress {
             Progress::Hidden => false,
             Progress::IfWatched => self.is_watched,
@@ -76,46 +79,116 @@ fn fault_of(error: Error) -> FileFault {
     }
 }
 
-// A new file beside a path, under a name that no file has, with that name.
-fn new_beside<R: Files + AllocGlobal>(rt: &R, path: &str) -> io::Result<(R::File, String)> {
-    for number in 0..NAMES {
-        let name = format!(in rt.alloc(); "{path}.part{number}")?;
-        match File::create_new(rt, name.as_str()) {
-            Ok(file) => return Ok((file, name)),
-            Err(error) if error.kind() == ErrorKind::AlreadyExists => {}
-            Err(error) => return Err(error),
-        }
+// Why a part was not made.
+fn part_fault_of(fault: PartFault) -> FileFault {
+    match fault {
+        PartFault::OutOfMemory => FileFault::OutOfMemory,
+        PartFault::InUse | PartFault::Exists | PartFault::Failed => FileFault::Failed,
     }
-    Err(Error::from(ErrorKind::AlreadyExists))
+}
+
+// Why a part did not get a name that no file may have.
+fn keep_fault_of(fault: PartFault) -> KeepFault
+    ensures { (path : List ℕ) → IsUnkept unknown path false result }
+{
+    match fault {
+        PartFault::Exists => KeepFault::Taken,
+        fault => KeepFault::Fails(part_fault_of(fault)),
+    }
+}
+
+// A new part beside a path, with its name. It is locked as long as it is open.
+fn new_beside<R: Files<File = File> + AllocGlobal>(
+    rt: &R,
+    path: &str,
+) -> Result<(File, String), FileFault> {
+    let Ok(name) = part_name(rt.alloc(), path, PROGRAM) else {
+        return Err(FileFault::OutOfMemory);
+    };
+    match new_part(&mut SystemNames::new(rt), name.as_str()) {
+        Ok(file) => Ok((file, name)),
+        Err(fault) => Err(part_fault_of(fault)),
+    }
 }
 
 // The same, of so many zeros.
-fn new_zeros<R: Files + AllocGlobal>(
+fn new_zeros<R: Files<File = File> + AllocGlobal>(
     rt: &R,
     path: &str,
     size: u64,
-) -> io::Result<(R::File, String)> {
+) -> Result<(File, String), FileFault> {
     let (file, name) = new_beside(rt, path)?;
     match file.set_len(size) {
         Ok(()) => Ok((file, name)),
         Err(error) => {
-            let _ = fs::remove_file(rt, name.as_str());
-            Err(error)
+            discard(&mut SystemNames::new(rt), name.as_str());
+            Err(fault_of(error))
         }
     }
 }
 
-// Writes a new file, has it stored, and renames it.
-fn put_new<R: Files + AllocGlobal>(
+// Gives a part its name once it is stored: one that no file has, or where it may stand over another file, whatever file has it.
+fn publish<R: Files<File = File>>(
     rt: &R,
-    file: &mut R::File,
+    file: &File,
     name: &str,
     path: &str,
-    bytes: &[u8],
-) -> io::Result<()> {
-    file.write_all(bytes)?;
-    file.sync_all()?;
-    fs::rename(rt, name, path)
+    over: bool,
+) -> Result<(), KeepFault>
+    ensures { IfErr result (IsUnkept unknown path.now over) }
+{
+    match file.sync_all() {
+        Ok(()) => {}
+        Err(error) => return Err(KeepFault::Fails(fault_of(error))),
+    }
+    let mut names = SystemNames::new(rt);
+    if over {
+        return match publish_over(&mut names, name, path) {
+            Ok(()) => Ok(()),
+            Err(fault) => Err(KeepFault::Fails(part_fault_of(fault))),
+        };
+    }
+    match publish_new(&mut names, name, path) {
+        Ok(()) => Ok(()),
+        Err(fault) => Err(keep_fault_of(fault)),
+    }
+}
+
+// The same; where that fails the part is removed.
+fn put_in_place<R: Files<File = File>>(
+    rt: &R,
+    file: &File,
+    name: &str,
+    path: &str,
+    over: bool,
+) -> Result<(), KeepFault>
+    ensures { IfErr result (IsUnkept unknown path.now over) }
+{
+    match publish(rt, file, name, path, over) {
+        Ok(()) => Ok(()),
+        Err(fault) => {
+            discard(&mut SystemNames::new(rt), name);
+            Err(fault)
+        }
+    }
+}
+
+// What stands at a path that is no link, or where a link leads.
+fn standing_of(found: &Metadata) -> Standing {
+    if found.is_file() {
+        Standing::File
+    } else {
+        Standing::Other
+    }
+}
+
+// What stands where a link leads: nothing that may be replaced, where it leads nowhere.
+fn behind_link<R: Files>(rt: &R, path: &str) -> Result<Standing, FileFault> {
+    match fs::metadata(rt, path) {
+        Ok(found) => Ok(standing_of(&found)),
+        Err(error) if error.kind() == ErrorKind::NotFound => Ok(Standing::Other),
+        Err(error) => Err(fault_of(error)),
+    }
 }
 
 // The path that a path leads to: of one that no file has, that of its folder, and its name.
@@ -163,7 +236,7 @@ impl<F: Read + Seek, E: Write> Dump for DumpFile<F, E> {
     }
 }
 
-impl<F: FileExt> PieceFile<F> {
+impl PieceFile {
     // Writes the bytes of a piece.
     fn put_piece(&mut self, number: u32, bytes: &[u8]) -> Result<(), TargetFault> {
         let at = u64::from(number) * u64::from(self.size);
@@ -174,13 +247,15 @@ impl<F: FileExt> PieceFile<F> {
     }
 }
 
-impl<F> Pieces for PieceFile<F> {
-    ghost use Rattle.std.specs.Prelude.{None};
+impl Pieces for PieceFile {
+    ghost use Rattle.std.specs.Prelude.{None, true};
 
     ghost pieces = { λ _. None };
+
+    ghost failed = { λ _. true };
 }
 
-impl<F: FileExt> Target for PieceFile<F> {
+impl Target for PieceFile {
     fn put(&mut self, number: u32, body: &[u8], _spare: &[u8]) -> Result<(), TargetFault> {
         self.put_piece(number, body)
     }
@@ -190,33 +265,31 @@ impl<F: FileExt> Target for PieceFile<F> {
     }
 }
 
-impl<F: FileExt> PageTarget for PieceFile<F> {
+impl PageTarget for PieceFile {
     fn put_page(&mut self, row: u32, bytes: &[u8]) -> Result<(), TargetFault> {
         self.put_piece(row, bytes)
     }
 }
 
-impl<R: Files + AllocGlobal, E: Write + Drop> LabFiles for SystemFiles<'_, R, E>
-where
-    R::File: FileExt,
-{
+impl<R: Files<File = File> + AllocGlobal, E: Write + Drop> LabFiles for SystemFiles<'_, R, E> {
     ghost use Rattle.std.specs.Prelude.{None};
     ghost use Rattle.lab_commands.specs.Files.{unknown};
 
-    type Reader = Metered<BufReader<R::File>, E>;
+    type Reader = Metered<BufReader<File>, E>;
 
-    type Dump = DumpFile<R::File, E>;
+    type Dump = DumpFile<File, E>;
 
-    type Target = PieceFile<R::File>;
+    type Target = PieceFile;
 
     ghost answers = { λ _. unknown };
 
     ghost kept = { λ _. None };
 
-    fn has(&mut self, path: &str) -> Result<bool, FileFault> {
+    fn standing(&mut self, path: &str) -> Result<Standing, FileFault> {
         match fs::symlink_metadata(self.rt, path) {
-            Ok(_) => Ok(true),
-            Err(error) if error.kind() == ErrorKind::NotFound => Ok(false),
+            Ok(found) if found.is_symlink() => behind_link(self.rt, path),
+            Ok(found) => Ok(standing_of(&found)),
+            Err(error) if error.kind() == ErrorKind::NotFound => Ok(Standing::Nothing),
             Err(error) => Err(fault_of(error)),
         }
     }
@@ -235,60 +308,60 @@ where
         &mut self,
         path: &str,
         progress: Progress,
-    ) -> Result<Metered<BufReader<R::File>, E>, FileFault> {
+    ) -> Result<Metered<BufReader<File>, E>, FileFault> {
         let mut file = fs::open(self.rt, path).map_err(fault_of)?;
         let meter = self.meter(&mut file, progress);
         let reader = BufReader::with_capacity(self.rt.alloc(), READ_AHEAD, file).map_err(fault_of)?;
         Ok(Metered::new(reader, meter))
     }
 
+    fn load(&mut self, path: &str, most: u64) -> Result<Vec<u8>, FileFault> {
+        let file = fs::open(self.rt, path).map_err(fault_of)?;
+        let mut bytes = Vec::new(self.rt.alloc());
+        match file.take(most).read_to_end(&mut bytes) {
+            Ok(_) => Ok(bytes),
+            Err(error) => Err(fault_of(error)),
+        }
+    }
+
     fn open_dump(
         &mut self,
         path: &str,
         progress: Progress,
-    ) -> Result<DumpFile<R::File, E>, FileFault> {
+    ) -> Result<DumpFile<File, E>, FileFault> {
         let mut file = fs::open(self.rt, path).map_err(fault_of)?;
         let meter = self.meter(&mut file, progress);
         Ok(DumpFile { file, meter })
     }
 
-    fn create(
-        &mut self,
-        path: &str,
-        count: u32,
-        size: usize,
-    ) -> Result<PieceFile<R::File>, FileFault> {
+    fn create(&mut self, path: &str, count: u32, size: usize) -> Result<PieceFile, FileFault> {
         let Ok(size) = u32::try_from(size) else {
             return Err(FileFault::Failed);
         };
         let all = u64::from(count) * u64::from(size);
-        let (file, name) = new_zeros(self.rt, path, all).map_err(fault_of)?;
-        self.made = Some(name);
-        Ok(PieceFile { file, size })
+        let (file, name) = new_zeros(self.rt, path, all)?;
+        Ok(PieceFile { file, name, size })
     }
 
-    fn keep(&mut self, path: &str, target: PieceFile<R::File>) -> Result<(), FileFault> {
-        target.file.sync_all().map_err(fault_of)?;
-        match &self.made {
-            Some(made) => fs::rename(self.rt, made.as_str(), path).map_err(fault_of),
-            None => Err(FileFault::Failed),
-        }
+    fn keep(&mut self, path: &str, target: PieceFile, over: bool) -> Result<(), KeepFault> {
+        put_in_place(self.rt, &target.file, target.name.as_str(), path, over)
     }
 
-    fn store(&mut self, path: &str, bytes: &[u8]) -> Result<(), FileFault> {
-        let (mut file, name) = new_beside(self.rt, path).map_err(fault_of)?;
-        match put_new(self.rt, &mut file, name.as_str(), path, bytes) {
-            Ok(()) => Ok(()),
+    fn store(&mut self, path: &str, bytes: &[u8], over: bool) -> Result<(), KeepFault> {
+        let (mut file, name) = match new_beside(self.rt, path) {
+            Ok(made) => made,
+            Err(fault) => return Err(KeepFault::Fails(fault)),
+        };
+        match file.write_all(bytes) {
+            Ok(()) => put_in_place(self.rt, &file, name.as_str(), path, over),
             Err(error) => {
-                let _ = fs::remove_file(self.rt, name.as_str());
-                Err(fault_of(error))
+                discard(&mut SystemNames::new(self.rt), name.as_str());
+                Err(KeepFault::Fails(fault_of(error)))
             }
         }
     }
 
-    fn discard(&mut self, _path: &str) {
-        if let Some(made) = &self.made {
-            let _ = fs::remove_file(self.rt, made.as_str());
-        }
+    fn discard(&mut self, target: PieceFile) {
+        discard(&mut SystemNames::new(self.rt), target.name.as_str());
     }
 }

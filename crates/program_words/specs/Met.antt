@@ -19,6 +19,11 @@ once zero = Some false
 once (suc zero) = Some true
 once (suc (suc n)) = None
 
+-- whether a word stood, however often, by how often it did
+abbrev pub stood : ℕ → Bool
+stood zero = false
+stood (suc n) = true
+
 -- ---- an error
 
 -- it is the text of help or of the version

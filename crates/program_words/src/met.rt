@@ -27,6 +27,13 @@ impl<'a> CommandWords<'a> {
         }
     }
 
+    /// Whether a flag stands, once or more.
+    pub fn stands(&self, id: &str) -> bool
+        ensures { result ≡ Rattle.program_words.specs.Met.stood (count_of id.now (entries_of self.now)) }
+    {
+        self.matches.get_count(id) > 0
+    }
+
     /// The word in a place, or the one behind an option.
     pub fn word(&self, id: &str) -> Option<&'a str>
         ensures { option_map (λ word. word.now) result ≡ first_of id.now (entries_of self.now) }

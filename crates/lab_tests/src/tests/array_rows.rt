@@ -9,7 +9,9 @@ const ARRAY: &str = "nandlab array 64,32,8,32,32 dump.bin out.bin";
 
 const FORCED: &str = "nandlab array 64,32,8,32,32 dump.bin out.bin --force";
 
-const SURE: &str = "unsound 0: the array is that of every page that was programmed\n";
+// Seven erased pages stand before that of the last row.
+const TOLD: &str =
+    "holes 7\nunsound 0: at most 7 sectors may be older than the last write, if no page was lost behind the last one of its block\n";
 
 // The newest pages first: a sector twice, one that is trimmed, one in the last row.
 const PAGES: [Written; 6] = [
@@ -35,7 +37,7 @@ const TIED: [Written; 5] = [
 const OTHERS: [Step; 8] = [
     Step::Run(ARRAY, 1, "refused out 2 Exists\n"),
     Step::Holds("out.bin", Made::Text("other")),
-    Step::Run(FORCED, 0, SURE),
+    Step::Run(FORCED, 0, TOLD),
     Step::Holds("out.bin", SHOWN),
     Step::Run(
         "nandlab array 64,32,8,32,32 dump.bin dump.bin --force",
@@ -53,6 +55,29 @@ const OTHERS: [Step; 8] = [
         "refused out 2 Exists\n",
     ),
     Step::Holds("dump.bin", Made::Dump(&PAGES)),
+];
+
+// Nothing but a file or a link to one is replaced, and a name that another program gave away meanwhile is not taken.
+const TAKEN: [Step; 11] = [
+    Step::Trouble(Trouble::Device("out.bin")),
+    Step::Run(ARRAY, 1, "refused out 2 Exists\n"),
+    Step::Run(FORCED, 1, "refused out 3 NoFile\n"),
+    Step::Trouble(Trouble::Device("map")),
+    Step::Run(
+        "nandlab array 64,32,8,32,32 dump.bin out.bin --map map --force",
+        1,
+        "refused map 4 NoFile\n",
+    ),
+    Step::Trouble(Trouble::Raced("out.bin")),
+    Step::Run(ARRAY, 1, "refused out 2 Exists\n"),
+    Step::Lacks("out.bin"),
+    Step::Run(FORCED, 0, TOLD),
+    Step::Trouble(Trouble::Raced("map")),
+    Step::Half(
+        "nandlab array 64,32,8,32,32 dump.bin new.bin --map map",
+        1,
+        "refused map 3 Exists\n",
+    ),
 ];
 
 // A read in pieces changes nothing; each failure has its line, and leaves no file.
@@ -81,7 +106,7 @@ const TROUBLES: [Step; 20] = [
 
 const PIECES: [Step; 4] = [
     Step::Trouble(Trouble::Pieces(7)),
-    Step::Run(ARRAY, 0, SURE),
+    Step::Run(ARRAY, 0, TOLD),
     Step::Holds("out.bin", SHOWN),
     Step::Closed(FORCED, 1),
 ];
@@ -107,18 +132,43 @@ const FIRST: [Step; 5] = [
     Step::Run(FORCED, 3, "fault read dump.bin\n"),
 ];
 
-const DOCUMENT: &str = r#"[{"command":"array","line":"command","program":"nandlab"},
-{"key":"sector","line":"tied","number":0},
-{"key":"sector","line":"tied","number":3},
-{"line":"age","unsound":0}
+// A name is told on one line, with nothing in it that a terminal obeys, and so is a word that is no number.
+const NAMES: [Step; 3] = [
+    Step::Run(
+        "nandlab array 64,32,8,32,32 no\ndump\u{1b}[2J\u{9b}2J\u{e9}\\\u{7f} out.bin",
+        3,
+        "fault read no\\x0adump\\x1b[2J\\xc2\\x9b2J\u{e9}\\x5c\\x7f\n",
+    ),
+    Step::Run(
+        "nandlab array 64,32\r,8 dump.bin out.bin",
+        2,
+        "usage: bad number 64,32\\x0d,8\n",
+    ),
+    Step::Run(
+        "nandlab array --json 64,32,8,32,32 --force dump.bin out.bin --json --force",
+        0,
+        AGAIN,
+    ),
+];
+
+const AGAIN: &str = r#"[{"command":"array","line":"command","program":"nandlab"},
+{"line":"holes","pages":7},
+{"line":"age","older":7,"unsound":0}
 ]
 "#;
 
-const CASES: [Case; 8] = [
+const DOCUMENT: &str = r#"[{"command":"array","line":"command","program":"nandlab"},
+{"key":"sector","line":"tied","number":0},
+{"key":"sector","line":"tied","number":3},
+{"line":"age","older":0,"unsound":0}
+]
+"#;
+
+const CASES: [Case; 11] = [
     Case {
         name: "sectors",
         files: &[("dump.bin", Made::Dump(&PAGES))],
-        steps: &[Step::Run(ARRAY, 0, SURE), Step::Holds("out.bin", SHOWN)],
+        steps: &[Step::Run(ARRAY, 0, TOLD), Step::Holds("out.bin", SHOWN)],
     },
     Case {
         name: "ties",
@@ -127,7 +177,7 @@ const CASES: [Case; 8] = [
             Step::Run(
                 ARRAY,
                 0,
-                "tied sector 0\ntied sector 3\nunsound 0: the array is that of every page that was programmed\n",
+                "tied sector 0\ntied sector 3\nunsound 0: the array is that of every page that was programmed, if no page was lost behind the last one of its block\n",
             ),
             Step::Holds("out.bin", Made::Disk(&[(1, 0x11)])),
             Step::Run(
@@ -145,10 +195,40 @@ const CASES: [Case; 8] = [
             Step::Run(
                 ARRAY,
                 0,
-                "unsound 2: at most 2 sectors may be older than the last write\n",
+                "holes 11\nunsound 2: at most 13 sectors may be older than the last write, if no page was lost behind the last one of its block\n",
             ),
             Step::Holds("out.bin", Made::Disk(&[(3, 0x31), (31, 0x99)])),
         ],
+    },
+    // sectors 3 and 31 are past the last one
+    Case {
+        name: "too few sectors",
+        files: &[
+            ("dump.bin", Made::Dump(&PAGES)),
+            ("whole.bin", Made::Dump(&TIED)),
+        ],
+        steps: &[
+            Step::Run(
+                "nandlab array 64,32,8,32,3 dump.bin out.bin",
+                0,
+                "holes 7\noutside 4\nunsound 0: at most 7 sectors may be older than the last write, if no page was lost behind the last one of its block\n",
+            ),
+            Step::Run(
+                "nandlab array 64,32,8,32,2 whole.bin few.bin",
+                0,
+                "tied sector 0\noutside 2\nunsound 0: of these sectors the array is that of every page that was programmed, if no page was lost behind the last one of its block\n",
+            ),
+        ],
+    },
+    Case {
+        name: "names that are taken",
+        files: &[("dump.bin", Made::Dump(&PAGES))],
+        steps: &TAKEN,
+    },
+    Case {
+        name: "names that are no plain text",
+        files: &[("dump.bin", Made::Dump(&PAGES))],
+        steps: &NAMES,
     },
     Case {
         name: "lengths",
@@ -206,7 +286,7 @@ const MAPPED: &str = "nandlab array 64,32,8,32,32 dump.bin out.bin --map map";
 
 // The map beside OUT: what it holds, and each refusal of its path.
 const MAPS: [Step; 15] = [
-    Step::Run(MAPPED, 0, SURE),
+    Step::Run(MAPPED, 0, TOLD),
     Step::Holds("out.bin", SHOWN),
     Step::Holds("map", Made::Text(MAP)),
     Step::Run(
@@ -228,7 +308,7 @@ const MAPS: [Step; 15] = [
     Step::Run(
         "nandlab array 64,32,8,32,32 dump.bin new.bin --map map --force",
         0,
-        SURE,
+        TOLD,
     ),
     // two files are put in their places before standard output fails
     Step::Closed(

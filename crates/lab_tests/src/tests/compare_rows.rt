@@ -7,7 +7,8 @@ use test_images::{META, TABLE_0, TABLE_1, Written, page};
 
 const COMPARE: &str = "nandlab compare 64,32,8,32,32 cert.bin dump.bin";
 
-const SURE: &str = "unsound 0: the array is that of every page that was programmed\n";
+const SURE: &str =
+    "unsound 0: the array is that of every page that was programmed, if no page was lost behind the last one of its block\n";
 
 // The certificate was made after sequence 9: sectors 3, 4 and 5 had their pages in the rows 8, 9 and 10.
 const BEFORE: Made = Made::Certificate((10, &[META, (1, 1, 3, 3, 0)], &[(3, 8), (4, 9), (5, 10)]));
@@ -46,7 +47,8 @@ const TROUBLES: [Step; 13] = [
 
 const DOCUMENT: &str = r#"[{"command":"compare","line":"command","program":"nandlab"},
 {"line":"lost","sector":5},
-{"line":"age","unsound":0}
+{"line":"holes","pages":1},
+{"line":"age","older":1,"unsound":0}
 ]
 "#;
 
@@ -58,7 +60,7 @@ const CASES: [Case; 3] = [
             Step::Run(
                 COMPARE,
                 0,
-                "lost sector 5\nunsound 0: the array is that of every page that was programmed\n",
+                "lost sector 5\nholes 1\nunsound 0: at most 1 sectors may be older than the last write, if no page was lost behind the last one of its block\n",
             ),
             Step::Run(
                 "nandlab compare 64,32,8,32,32 cert.bin dump.bin --json",

@@ -1,8 +1,11 @@
 //! Files in memory, whose reads and writes can fail.
-use lab_commands::{FileFault, LabFiles, Progress};
-use lab_dump::{Dump, DumpFault, PageTarget, Pieces, Target, TargetFault};
+ghost use Rattle.std.specs.Prelude.{IfErr};
+ghost use Rattle.lab_commands.specs.Files.{IsUnkept, unknown};
+
+use lab_commands::{FileFault, KeepFault, LabFiles, Progress, Standing};
+use lab_dump::{Dump, DumpFault, DumpReader, PageTarget, Pieces, Target, TargetFault};
 use std::alloc::{AllocError, Global};
-use std::io::{self, ErrorKind, Read, Write};
+use std::io::{self, ErrorKind, Write};
 
 /// What goes wrong with the files.
 #[derive(Clone, Copy)]
@@ -23,6 +26,10 @@ pub enum Trouble {
     WritesEnd(u32),
     /// No file that was made can be put in its place.
     Unkept,
+    /// Another file has this name, where a file that was made is to be put in its place.
+    Raced(&'static str),
+    /// What stands at this path is a device.
+    Device(&'static str),
     /// No map can be stored.
     Unstored,
     /// No memory is found for a reader.
@@ -49,16 +56,34 @@ pub struct MemoryReader {
     fails: bool,
 }
 
-impl Read for MemoryReader {
-    fn read(&mut self, buf: &mut [u8]) -> io::Result<usize> {
+impl MemoryReader {
+    /// One of these bytes, of which no read fails.
+    pub fn new(alloc: Global, bytes: &[u8]) -> Result<MemoryReader, AllocError> {
+        Ok(MemoryReader {
+            bytes: Vec::from_slice(alloc, bytes)?,
+            at: 0,
+            most: usize::MAX,
+            fails: false,
+        })
+    }
+}
+
+impl DumpReader for MemoryReader {
+    ghost use Rattle.std.specs.Prelude.{None, true};
+
+    ghost remaining = { λ _. None };
+
+    ghost failed = { λ _. true };
+
+    fn read(&mut self, buffer: &mut [u8]) -> Result<usize, DumpFault> {
         let Some(left) = self.bytes.get(self.at..) else {
             return Ok(0);
         };
         if left.is_empty() && self.fails {
-            return Err(io::Error::from(ErrorKind::BrokenPipe));
+            return Err(DumpFault);
         }
-        let n = buf.len().min(left.len()).min(self.most);
-        buf[..n].copy_from_slice(&left[..n]);
+        let n = buffer.len().min(left.len()).min(self.most);
+        buffer[..n].copy_from_slice(&left[..n]);
         self.at = self.at.saturating_add(n);
         Ok(n)
     }
@@ -133,9 +158,11 @@ impl Beside {
 }
 
 impl Pieces for Beside {
-    ghost use Rattle.std.specs.Prelude.{None};
+    ghost use Rattle.std.specs.Prelude.{None, true};
 
     ghost pieces = { λ _. None };
+
+    ghost failed = { λ _. true };
 }
 
 impl Target for Beside {
@@ -154,13 +181,15 @@ impl PageTarget for Beside {
     }
 }
 
-/// Files in memory, what goes wrong with them, and how many were put in their places. A run that fails tells the name of its case.
+/// Files in memory, what goes wrong with them, how many were put in their places, and how many more that were made were neither put there nor
+/// removed. A run that fails tells the name of its case.
 #[derive(Drop)]
 pub struct MemoryFiles {
     pub case: &'static str,
     pub alloc: Global,
     pub trouble: Trouble,
     pub kept: usize,
+    pub beside: usize,
     files: Vec<MemoryFile>,
 }
 
@@ -177,6 +206,7 @@ impl MemoryFiles {
             alloc,
             trouble: Trouble::Calm,
             kept: 0,
+            beside: 0,
             files: Vec::new(alloc),
         }
     }
@@ -234,14 +264,19 @@ impl MemoryFiles {
     }
 
     // Puts these bytes in the place of a path.
-    fn keep_bytes(&mut self, path: &str, bytes: Vec<u8>) -> Result<(), FileFault> {
-        if matches!(self.trouble, Trouble::Unkept) {
-            return Err(FileFault::Failed);
+    fn keep_bytes(&mut self, path: &str, bytes: Vec<u8>, over: bool) -> Result<(), KeepFault>
+        ensures { IfErr result (IsUnkept unknown path.now over) }
+    {
+        let trouble = self.trouble;
+        match trouble {
+            Trouble::Unkept => return Err(KeepFault::Fails(FileFault::Failed)),
+            Trouble::Raced(name) if !over && name == plain(path) => return Err(KeepFault::Taken),
+            _ => (),
         }
         self.kept = self.kept.saturating_add(1);
         match self.put(path, bytes) {
             Ok(()) => Ok(()),
-            Err(_) => Err(FileFault::OutOfMemory),
+            Err(_) => Err(KeepFault::Fails(FileFault::OutOfMemory)),
         }
     }
 }
@@ -260,11 +295,14 @@ impl LabFiles for MemoryFiles {
 
     ghost kept = { λ _. None };
 
-    fn has(&mut self, path: &str) -> Result<bool, FileFault> {
-        if matches!(self.trouble, Trouble::Unasked) {
-            return Err(FileFault::Failed);
+    fn standing(&mut self, path: &str) -> Result<Standing, FileFault> {
+        let trouble = self.trouble;
+        match trouble {
+            Trouble::Unasked => Err(FileFault::Failed),
+            Trouble::Device(name) if name == plain(path) => Ok(Standing::Other),
+            _ if self.contents(path).is_some() => Ok(Standing::File),
+            _ => Ok(Standing::Nothing),
         }
-        Ok(self.contents(path).is_some())
     }
 
     fn is_same(&mut self, first: &str, second: &str) -> Result<bool, FileFault> {
@@ -297,6 +335,20 @@ impl LabFiles for MemoryFiles {
         }
     }
 
+    fn load(&mut self, path: &str, _most: u64) -> Result<Vec<u8>, FileFault> {
+        if matches!(self.trouble, Trouble::NoMemory) {
+            return Err(FileFault::OutOfMemory);
+        }
+        let fails = match self.trouble {
+            Trouble::ReadsEnd(n) => n < self.length(path),
+            _ => false,
+        };
+        if fails {
+            return Err(FileFault::Failed);
+        }
+        self.given(path)
+    }
+
     fn open_dump(&mut self, path: &str, _progress: Progress) -> Result<MemoryDump, FileFault> {
         if matches!(self.trouble, Trouble::NoMemory) {
             return Err(FileFault::OutOfMemory);
@@ -310,32 +362,38 @@ impl LabFiles for MemoryFiles {
 
     fn create(&mut self, _path: &str, count: u32, size: usize) -> Result<Beside, FileFault> {
         match self.beside(count, size) {
-            Ok(made) => Ok(made),
+            Ok(made) => {
+                self.beside = self.beside.saturating_add(1);
+                Ok(made)
+            }
             Err(fault) => Err(fault),
         }
     }
 
-    fn keep(&mut self, path: &str, target: Beside) -> Result<(), FileFault> {
-        match self.keep_bytes(path, target.bytes) {
+    fn keep(&mut self, path: &str, target: Beside, over: bool) -> Result<(), KeepFault> {
+        self.beside = self.beside.wrapping_sub(1);
+        match self.keep_bytes(path, target.bytes, over) {
             Ok(()) => Ok(()),
             Err(fault) => Err(fault),
         }
     }
 
-    fn store(&mut self, path: &str, bytes: &[u8]) -> Result<(), FileFault> {
+    fn store(&mut self, path: &str, bytes: &[u8], over: bool) -> Result<(), KeepFault> {
         if matches!(self.trouble, Trouble::Unstored) {
-            return Err(FileFault::Failed);
+            return Err(KeepFault::Fails(FileFault::Failed));
         }
         let Ok(copy) = Vec::from_slice(self.alloc, bytes) else {
-            return Err(FileFault::OutOfMemory);
+            return Err(KeepFault::Fails(FileFault::OutOfMemory));
         };
-        match self.keep_bytes(path, copy) {
+        match self.keep_bytes(path, copy, over) {
             Ok(()) => Ok(()),
             Err(fault) => Err(fault),
         }
     }
 
-    fn discard(&mut self, _path: &str) {}
+    fn discard(&mut self, _target: Beside) {
+        self.beside = self.beside.wrapping_sub(1);
+    }
 }
 
 /// Standard output that is closed.

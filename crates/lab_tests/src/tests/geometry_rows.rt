@@ -17,13 +17,13 @@ const PAGES: [Written; 4] = [
 // The page of sector 30 is not sound, so the die has at least four sectors. In other areas no page is sound, and the table has 32 blocks.
 const TOLD: &str =
     "geometry 64,32,8,32,4 looked 256 sound 3 unsound 1 table agrees blocks 32 sectors 4
-geometry 64,32,4,64,4 looked 256 sound 3 unsound 1 table differs blocks 32 sectors 4
-geometry 64,32,16,16,4 looked 256 sound 3 unsound 1 table differs blocks 32 sectors 4\n";
+geometry 64,32,16,16,4 looked 256 sound 3 unsound 1 table short blocks 32 sectors 4
+geometry 64,32,4,64,4 looked 256 sound 3 unsound 1 table differs blocks 32 sectors 4\n";
 
 const DOCUMENT: &str = r#"[{"command":"geometry","line":"command","program":"nandlab"},
 {"blocks_told":32,"geometry":[64,32,8,32,4],"line":"geometry","looked":256,"sectors_told":4,"sound":3,"table":"agrees","unsound":1},
-{"blocks_told":32,"geometry":[64,32,4,64,4],"line":"geometry","looked":256,"sectors_told":4,"sound":3,"table":"differs","unsound":1},
-{"blocks_told":32,"geometry":[64,32,16,16,4],"line":"geometry","looked":256,"sectors_told":4,"sound":3,"table":"differs","unsound":1}
+{"blocks_told":32,"geometry":[64,32,16,16,4],"line":"geometry","looked":256,"sectors_told":4,"sound":3,"table":"short","unsound":1},
+{"blocks_told":32,"geometry":[64,32,4,64,4],"line":"geometry","looked":256,"sectors_told":4,"sound":3,"table":"differs","unsound":1}
 ]
 "#;
 
@@ -47,7 +47,7 @@ const TROUBLES: [Step; 9] = [
     Step::Run(
         "nandlab geometry dump.bin more",
         2,
-        "usage: no such command\n",
+        "usage: no such command, see nandlab --help\n",
     ),
 ];
 

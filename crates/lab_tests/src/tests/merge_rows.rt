@@ -26,14 +26,14 @@ const OTHERS: [Written; 4] = [
     page!(17, Sector 30, sequence 8, fill 0x34),
 ];
 
-// Row 0 is sound in the second alone, row 9 in none, but by the majority of all three; row 20 is erased in the second alone.
+// Row 0 is sound in the second alone, row 9 in none, but by the majority of all three; row 20 is erased in the second alone, so it is unsound.
 const A: Made = Made::Changed(&PAGES, &[(5, 0x03), (866, 0x00), (1920, 0x00)]);
 
 const B: Made = Made::Changed(&PAGES, &[(870, 0x00)]);
 
 const C: Made = Made::Changed(&PAGES, &[(6, 0x03), (880, 0x00), (1925, 0x00)]);
 
-// Row 1 is sound in none, but by the majority; row 9 in the second alone; row 20 is erased in the third alone; and the majority of row 21 is erased, not sound.
+// Row 1 is sound in none, but by the majority; row 9 in the second alone; row 20 is erased in the third alone, and unsound; and the majority of row 21 is erased, not sound.
 const FIRST: Made = Made::Changed(
     &PAGES,
     &[(103, 0x03), (871, 0x03), (1920, 0x00), (2016, 0x00)],
@@ -44,7 +44,7 @@ const SECOND: Made = Made::Changed(&OTHERS, &[(105, 0x03), (1923, 0x07), (2019, 
 const THIRD: Made = Made::Changed(&PAGES, &[(107, 0x03), (871, 0x03), (2106, 0x07)]);
 
 const EACH: &str =
-    "differ row 17\nunsound row 21\nsound 2 differ 1 majority 1 erased 251 unsound 1\n";
+    "differ row 17\nunsound row 20\nunsound row 21\nsound 2 differ 1 majority 1 erased 250 unsound 2\n";
 
 const TROUBLES: [Step; 17] = [
     Step::Trouble(Trouble::ReadsEnd(24575)),
@@ -76,7 +76,7 @@ const WORDS: [Step; 10] = [
     Step::Run(
         "nandlab merge 64,32,8,32,32 new.bin a.bin",
         2,
-        "usage: no such command\n",
+        "usage: no such command, see nandlab --help\n",
     ),
     Step::Run(
         "nandlab merge 64,32,8,32 new.bin a.bin b.bin",
@@ -105,7 +105,8 @@ const WORDS: [Step; 10] = [
 
 const DOCUMENT: &str = r#"[{"command":"merge","line":"command","program":"nandlab"},
 {"line":"differ","row":17},
-{"differ":1,"erased":252,"line":"merged","majority":0,"sound":3,"unsound":0}
+{"line":"unsound","row":20},
+{"differ":1,"erased":251,"line":"merged","majority":0,"sound":3,"unsound":1}
 ]
 "#;
 
@@ -117,18 +118,21 @@ const CASES: [Case; 5] = [
             Step::Run(
                 THREE,
                 0,
-                "sound 3 differ 0 majority 1 erased 252 unsound 0\n",
+                "unsound row 20\nsound 3 differ 0 majority 1 erased 251 unsound 1\n",
             ),
-            Step::Holds("out.bin", Made::Dump(&PAGES)),
+            Step::Holds("out.bin", Made::Changed(&PAGES, &[(1920, 0x00)])),
         ],
     },
-    // of a row that differs nothing is taken, and of one that is sound in none the first reading's page
+    // of a row that differs nothing is taken, and of one that is sound in none the first page that is not erased
     Case {
         name: "a row of each kind",
         files: &[("a.bin", FIRST), ("b.bin", SECOND), ("c.bin", THIRD)],
         steps: &[
             Step::Run(THREE, 0, EACH),
-            Step::Holds("out.bin", Made::Zeroed(&PAGES, 17, &[(2016, 0x00)])),
+            Step::Holds(
+                "out.bin",
+                Made::Zeroed(&PAGES, 17, &[(1920, 0x00), (2016, 0x00)]),
+            ),
         ],
     },
     Case {
@@ -139,7 +143,7 @@ const CASES: [Case; 5] = [
             Step::Run(
                 TWO,
                 0,
-                "differ row 17\nsound 3 differ 1 majority 0 erased 252 unsound 0\n",
+                "differ row 17\nunsound row 20\nsound 3 differ 1 majority 0 erased 251 unsound 1\n",
             ),
             Step::Run(
                 "nandlab merge --json 64,32,8,32,32 json.bin a.bin b.bin",

@@ -22,16 +22,23 @@ const SPOILED: Made = Made::Changed(
     &[(866, 0x30), (1704, 0x06), (5, 0x03), (4800, 0xFE)],
 );
 
+// Both rows that one bit makes sound are mended; and all.
 const MENDED: Made = Made::Changed(&PAGES, &[(5, 0x03), (4800, 0xFE)]);
 
+const WHOLE: Made = Made::Changed(&PAGES, &[(5, 0x03)]);
+
 const SAID: &str = "mended row 9 bit 16\nmended row 17 bit 576\nmended 2\n";
+
+const SAID_OF_ALL: &str =
+    "mended row 9 bit 16\nmended row 17 bit 576\nerased row 50 bit 0\nmended 3\n";
 
 const ROW_9: Made = Made::Changed(&PAGES, &[(1704, 0x06), (5, 0x03), (4800, 0xFE)]);
 
 const DOCUMENT: &str = r#"[{"command":"repair","line":"command","program":"nandlab"},
 {"bit":16,"line":"mended","row":9},
 {"bit":576,"line":"mended","row":17},
-{"line":"repaired","mended":2}
+{"bit":0,"line":"erased","row":50},
+{"line":"repaired","mended":3}
 ]
 "#;
 
@@ -53,7 +60,7 @@ const ROWS: [Step; 20] = [
         0,
         DOCUMENT,
     ),
-    Step::Holds("all.bin", MENDED),
+    Step::Holds("all.bin", WHOLE),
     Step::Run(
         "nandlab repair 64,32,8,32,32 dump.bin both.bin --rows 9..18",
         0,
@@ -67,7 +74,7 @@ const ROWS: [Step; 20] = [
     ),
     Step::Holds("before.bin", ROW_9),
     Step::Run(
-        "nandlab repair 64,32,8,32,32 dump.bin after.bin --rows 18..256",
+        "nandlab repair 64,32,8,32,32 dump.bin after.bin --rows 18..50",
         0,
         "mended 0\n",
     ),
@@ -149,8 +156,8 @@ const OTHERS: [Step; 8] = [
         "fault read none.bin\n",
     ),
     Step::Trouble(Trouble::Pieces(5)),
-    Step::Run(FORCED, 0, SAID),
-    Step::Holds("out.bin", MENDED),
+    Step::Run(FORCED, 0, SAID_OF_ALL),
+    Step::Holds("out.bin", WHOLE),
 ];
 
 const CASES: [Case; 4] = [
@@ -158,8 +165,8 @@ const CASES: [Case; 4] = [
         name: "mends",
         files: &[("dump.bin", SPOILED)],
         steps: &[
-            Step::Run(REPAIR, 0, SAID),
-            Step::Holds("out.bin", MENDED),
+            Step::Run(REPAIR, 0, SAID_OF_ALL),
+            Step::Holds("out.bin", WHOLE),
             Step::Closed(FORCED, 1),
             Step::Holds("dump.bin", SPOILED),
         ],

@@ -1,14 +1,13 @@
 //! Runs of the program over files in memory, and what they have to answer: cases, each a list of steps over files of its own.
 use super::dumps::{Made, bytes_of};
 use super::files::{Closed, MemoryFiles, Trouble};
-use lab_commands::run;
+use lab_commands::{Output, Stream, run};
 use std::alloc::{AllocError, Global};
 use std::fmt::Debug;
-use std::io::Write;
 use std::process::Abort;
 use std::test::Fail;
 
-/// A step of a case.
+/// A step of a case. After each run no file that was made stands beside its place.
 pub enum Step {
     /// From now on this goes wrong.
     Trouble(Trouble),
@@ -45,7 +44,7 @@ fn hold<T: PartialEq + Debug>(rt: &impl Abort, place: &impl Debug, found: &T, ex
     assert_eq!(rt; *found, *expected, "{place:?}");
 }
 
-fn run_line<O: Write, E: Write>(
+fn run_line<O: Output, E: Output>(
     files: &mut MemoryFiles,
     line: &str,
     out: &mut O,
@@ -75,6 +74,7 @@ fn expect_said(
         err,
     };
     hold_run(rt, &(files.case, line), &ran, status, said);
+    hold(rt, &(files.case, line), &files.beside, &0);
     Ok(())
 }
 
@@ -126,10 +126,11 @@ fn expect_closed(
 ) -> Result<(), AllocError> {
     let before = files.kept;
     let mut err: Vec<u8> = Vec::new(files.alloc);
-    let answered = run_line(files, line, &mut Closed, &mut err)?;
+    let answered = run_line(files, line, &mut Stream::new(Closed), &mut err)?;
     let said: &[u8] = b"fault write -\n";
     hold(rt, &(files.case, line), &err.as_slice(), &said);
     hold(rt, &(files.case, line), &answered, &3);
+    hold(rt, &(files.case, line), &files.beside, &0);
     hold(
         rt,
         &(files.case, line),

@@ -25,7 +25,7 @@ block 7 unsound 0\nblock 8 unsound 0\nblock 9 unsound 0\nblock 10 unsound 0\nblo
 block 14 unsound 0\nblock 15 unsound 0\nblock 16 unsound 0\nblock 17 unsound 0\nblock 18 unsound 0\nblock 19 unsound 0\nblock 20 unsound 0
 block 21 unsound 0\nblock 22 unsound 0\nblock 23 unsound 0\nblock 24 unsound 0\nblock 25 unsound 0\nblock 26 unsound 0\nblock 27 unsound 0
 block 28 unsound 0\nblock 29 unsound 0\nblock 30 unsound 0\nblock 31 unsound 0
-unsound 1: at most 1 sectors may be older than the last write\n";
+holes 7\noutside 1\nunsound 1: at most 8 sectors may be older than the last write, if no page was lost behind the last one of its block\n";
 
 const DOCUMENT: &str = r#"[{"command":"survey","line":"command","program":"nandlab"},
 {"count":3,"line":"pages","sort":"data"},
@@ -73,15 +73,17 @@ const DOCUMENT: &str = r#"[{"command":"survey","line":"command","program":"nandl
 {"block":29,"line":"block","unsound":0},
 {"block":30,"line":"block","unsound":0},
 {"block":31,"line":"block","unsound":0},
-{"line":"age","unsound":1}
+{"line":"holes","pages":7},
+{"line":"outside","pages":1},
+{"line":"age","older":8,"unsound":1}
 ]
 "#;
 
 const SOME_ROWS: &str = "nandlab survey 64,32,8,32,32 dump.bin --rows 8..24";
 
-// Of these rows alone: no table page, and not the page of the last row.
+// Of these rows alone: no table page, and not the page of the last row, and no word of the die's sectors.
 const TOLD_OF_ROWS: &str =
-    "pages data 2\npages trim 1\npages translation 0\npages table 0\npages erased 252\npages unsound 1
+    "rows 8..24\npages data 2\npages trim 1\npages translation 0\npages table 0\npages erased 252\npages unsound 1
 reason NumberRange pages 1\nreason SequenceRepeated row 9 row 10\nreason NotFormatted table 0\nreason NotFormatted table 1
 missing translation 0\nmissing translation 1\nmissing table 0\nmissing table 1
 block 0 unsound 0\nblock 1 unsound 0\nblock 2 unsound 1\nblock 3 unsound 0\nblock 4 unsound 0\nblock 5 unsound 0\nblock 6 unsound 0
@@ -89,7 +91,7 @@ block 7 unsound 0\nblock 8 unsound 0\nblock 9 unsound 0\nblock 10 unsound 0\nblo
 block 14 unsound 0\nblock 15 unsound 0\nblock 16 unsound 0\nblock 17 unsound 0\nblock 18 unsound 0\nblock 19 unsound 0\nblock 20 unsound 0
 block 21 unsound 0\nblock 22 unsound 0\nblock 23 unsound 0\nblock 24 unsound 0\nblock 25 unsound 0\nblock 26 unsound 0\nblock 27 unsound 0
 block 28 unsound 0\nblock 29 unsound 0\nblock 30 unsound 0\nblock 31 unsound 0
-unsound 1: at most 1 sectors may be older than the last write\n";
+unsound 1: of these rows alone, of others nothing is told\n";
 
 const CASES: [Case; 2] = [
     Case {

@@ -3,7 +3,7 @@ use super::dumps::Made;
 use super::runs::{Case, Step, expect_cases};
 use std::test::Fail;
 
-const NONE: &str = "usage: no such command\n";
+const NONE: &str = "usage: no such command, see nandlab --help\n";
 
 const CASES: [Case; 1] = [Case {
     name: "words",
@@ -19,17 +19,11 @@ const CASES: [Case; 1] = [Case {
             NONE,
         ),
         Step::Run(
-            "nandlab array 64,32,8,32,32 dump.bin out.bin --force --force",
-            2,
-            NONE,
-        ),
-        Step::Run(
             "nandlab array 64,32,8,32,32 dump.bin out.bin --rows 0..9",
             2,
             NONE,
         ),
         Step::Run("nandlab survey 64,32,8,32,32 dump.bin --rows", 2, NONE),
-        Step::Run("nandlab geometry dump.bin --json --json", 2, NONE),
         Step::Run("nandlab --json geometry dump.bin", 2, NONE),
         Step::Run("nandlab --version", 0, "nandlab 0.1.0\n"),
         Step::Closed("nandlab --version", 0),

@@ -7,48 +7,53 @@ use Rattle.lab_dump.specs.Map.{map_text}
 use Rattle.lab_commands.specs.Undone.{IsUnmade}
 use Rattle.lab_commands.specs.Array.{IsArrayFault, IsMade, MadeArray, PutArray, with_map}
 use Rattle.lab_commands.specs.Files.{AnswersNoMore, with_kept}
-use Rattle.request_stream.specs.Frames.{AppendsFront}
+use Rattle.lab_commands.specs.Document.{Stops}
+use Rattle.lab_commands.proofs.PrintLemmas.{half_printed}
 use Rattle.lab_commands.specs.Reports.{array_text}
-use Rattle.lab_commands.proofs.ArrayLemmas.{no_geometry, not_allowed, not_made, unmapped_before}
-use Rattle.lab_commands.proofs.UndoneLemmas.{handed_on, no_more_then, unwritten_before}
+use Rattle.lab_commands.proofs.ArrayLemmas.{no_geometry, not_allowed, not_put, unmapped_before}
+use Rattle.lab_commands.proofs.UndoneLemmas.{handed_on, no_more_then, unplaced_before}
 use Rattle.lab_commands.proofs.array.array_command.Goals as goal
 
 pub returns-in_err-geometry-clause-fault : goal.returns-in_err-geometry-clause-fault
 returns-in_err-geometry-clause-fault g c =
     let a = g.F.LabFiles.answers c.args.files.now in
     let k = g.F.LabFiles.kept c.args.files.now in
-    let o = g.W.Write.contents c.args.out.now in
-    handed_on (IsArrayFault a c.args.words k k o o) _ _ c.from_residual.ensures.1 (no_geometry a c.args.words k o _ c.in_err-geometry.ensures.fault)
+    let o = g.W.Output.contents c.args.out.now in
+    let broke = g.W.Output.failed c.args.out.now in
+    handed_on (IsArrayFault a c.args.words k k broke o o) _ _ c.from_residual.ensures.1 (no_geometry a c.args.words k broke o _ c.in_err-geometry.ensures.fault)
 
 pub returns-in_err-allow_both-clause-fault : goal.returns-in_err-allow_both-clause-fault
 returns-in_err-allow_both-clause-fault g c =
     let a = g.F.LabFiles.answers c.args.files.now in
     let k = g.F.LabFiles.kept c.args.files.now in
-    let o = g.W.Write.contents c.args.out.now in
-    handed_on (IsArrayFault a c.args.words k (g.F.LabFiles.kept c.allow_both.new.files) o o) _ _ c.from_residual-in_err-allow_both.ensures.1
-    (not_allowed a c.args.words c.in_ok-geometry.geometry k _ o _ c.in_ok-geometry.ensures.ok (ap g.F.LabFiles.kept c.in_err-allow_both.ensures.same) c.in_err-allow_both.ensures.fault)
+    let o = g.W.Output.contents c.args.out.now in
+    let broke = g.W.Output.failed c.args.out.now in
+    handed_on (IsArrayFault a c.args.words k (g.F.LabFiles.kept c.allow_both.new.files) broke o o) _ _ c.from_residual-in_err-allow_both.ensures.1
+    (not_allowed a c.args.words c.in_ok-geometry.geometry k _ broke o _ c.in_ok-geometry.ensures.ok (ap g.F.LabFiles.kept c.in_err-allow_both.ensures.same) c.in_err-allow_both.ensures.fault)
 
 pub returns-in_err-written-clause-fault : goal.returns-in_err-written-clause-fault
 returns-in_err-written-clause-fault g c =
     let a = g.F.LabFiles.answers c.args.files.now in
     let k = g.F.LabFiles.kept c.args.files.now in
-    let o = g.W.Write.contents c.args.out.now in
+    let o = g.W.Output.contents c.args.out.now in
+    let broke = g.W.Output.failed c.args.out.now in
     let same = c.in_ok-allow_both.ensures.same in
-    handed_on (IsArrayFault a c.args.words k (g.F.LabFiles.kept c.make.new.files) o o) _ _ c.from_residual-in_err-written.ensures.1
-    (not_made a c.args.words c.in_ok-geometry.geometry k _ o _ c.in_ok-geometry.ensures.ok c.in_ok-allow_both.ensures.ok (c.in_err-written.ensures.kept ∙ ap g.F.LabFiles.kept same)
-    (subst (λ f. IsUnmade (g.F.LabFiles.answers f) c.in_ok-geometry.geometry c.args.words.dump.now c.args.words.out.now c.in_err-written.field-0.0) same c.in_err-written.ensures.fault))
+    handed_on (IsArrayFault a c.args.words k (g.F.LabFiles.kept c.make.new.files) broke o o) _ _ c.from_residual-in_err-written.ensures.1
+    (not_put a c.args.words c.in_ok-geometry.geometry k _ broke o _ c.in_ok-geometry.ensures.ok c.in_ok-allow_both.ensures.ok (c.in_err-written.ensures.kept ∙ ap g.F.LabFiles.kept same)
+    (inl (subst (λ f. IsUnmade (g.F.LabFiles.answers f) c.in_ok-geometry.geometry c.args.words.dump.now c.args.words.out.now c.in_err-written.field-0.0) same c.in_err-written.ensures.fault)))
 
 pub returns-in_err-keep-clause-fault : goal.returns-in_err-keep-clause-fault
 returns-in_err-keep-clause-fault g c =
     let a = g.F.LabFiles.answers c.args.files.now in
     let b = g.F.LabFiles.answers c.make.new.files in
     let k = g.F.LabFiles.kept c.args.files.now in
-    let o = g.W.Write.contents c.args.out.now in
+    let o = g.W.Output.contents c.args.out.now in
+    let broke = g.W.Output.failed c.args.out.now in
     let same = c.in_ok-allow_both.ensures.same in
     let more : AnswersNoMore a b = subst (λ f. AnswersNoMore (g.F.LabFiles.answers f) b) same c.in_ok-written.ensures.no_more in
-    handed_on (IsArrayFault a c.args.words k (g.F.LabFiles.kept c.keep.new.files) o o) _ _ c.from_residual-in_err-keep.ensures.1
-    (not_made a c.args.words c.in_ok-geometry.geometry k _ o _ c.in_ok-geometry.ensures.ok c.in_ok-allow_both.ensures.ok (c.in_err-keep.ensures.kept ∙ (c.in_ok-written.ensures.kept ∙ ap g.F.LabFiles.kept same))
-    (inr (inr (inl (unwritten_before a b c.args.words.out.now _ more c.in_err-keep.ensures.fault)))))
+    handed_on (IsArrayFault a c.args.words k (g.F.LabFiles.kept c.keep.new.files) broke o o) _ _ c.from_residual-in_err-keep.ensures.1
+    (not_put a c.args.words c.in_ok-geometry.geometry k _ broke o _ c.in_ok-geometry.ensures.ok c.in_ok-allow_both.ensures.ok (c.in_err-keep.ensures.kept ∙ (c.in_ok-written.ensures.beside ∙ ap g.F.LabFiles.kept same))
+    (inr (unplaced_before a b c.args.words.out.now c.args.words.force _ more c.in_err-keep.ensures.fault)))
 
 pub returns-in_err-put_map-clause-fault : goal.returns-in_err-put_map-clause-fault
 returns-in_err-put_map-clause-fault g c =
@@ -56,27 +61,28 @@ returns-in_err-put_map-clause-fault g c =
     let b = g.F.LabFiles.answers c.make.new.files in
     let d = g.F.LabFiles.answers c.keep.new.files in
     let k = g.F.LabFiles.kept c.args.files.now in
-    let o = g.W.Write.contents c.args.out.now in
+    let o = g.W.Output.contents c.args.out.now in
+    let broke = g.W.Output.failed c.args.out.now in
     let same = c.in_ok-allow_both.ensures.same in
     let words = c.args.words in
     let geometry = c.in_ok-geometry.geometry in
     let pieces = g.F.Target.Pieces.pieces c.in_ok-written.written.target in
     let held = c.in_ok-written.written.held.items in
-    let unsound = c.in_ok-written.written.unsound in
+    let doubts = c.in_ok-written.written.doubts in
     let first : AnswersNoMore a b = subst (λ f. AnswersNoMore (g.F.LabFiles.answers f) b) same c.in_ok-written.ensures.no_more in
-    let made : MadeArray a words geometry pieces held unsound = record {
+    let made : MadeArray a words geometry pieces held doubts = record {
       geometry_is = c.in_ok-geometry.ensures.ok;
       allowed = c.in_ok-allow_both.ensures.ok;
-      made = subst (λ f. IsMade (g.F.LabFiles.answers f) words.dump.now geometry pieces held unsound) same c.in_ok-written.ensures.made;
+      made = subst (λ f. IsMade (g.F.LabFiles.answers f) words.dump.now geometry pieces held doubts) same c.in_ok-written.ensures.made;
     } in
-    handed_on (IsArrayFault a words k (g.F.LabFiles.kept c.put_map.new.files) o o) _ _ c.from_residual-in_err-put_map.ensures.1
+    handed_on (IsArrayFault a words k (g.F.LabFiles.kept c.put_map.new.files) broke o o) _ _ c.from_residual-in_err-put_map.ensures.1
     (inr (inl (record {
       g = geometry;
       pieces = pieces;
       held = held;
-      unsound = unsound;
+      doubts = doubts;
       made = made;
-      put = c.in_err-put_map.ensures.kept ∙ (c.in_ok-keep.ensures.ok ∙ ap (λ x. with_kept x words.out.now pieces) (c.in_ok-written.ensures.kept ∙ ap g.F.LabFiles.kept same));
+      put = c.in_err-put_map.ensures.kept ∙ (c.in_ok-keep.ensures.ok ∙ ap (λ x. with_kept x words.out.now pieces words.force) (c.in_ok-written.ensures.beside ∙ ap g.F.LabFiles.kept same));
       silent = Keeps-refl o;
       unmapped = unmapped_before a d words _ (no_more_then a b d first c.in_ok-keep.ensures.no_more) c.in_err-put_map.ensures.fault;
     })))
@@ -88,24 +94,24 @@ returns-in-Ok-clause-ok g c =
     let geometry = c.in_ok-geometry.geometry in
     let pieces = g.F.Target.Pieces.pieces c.in_ok-written.written.target in
     let held = c.in_ok-written.written.held.items in
-    let unsound = c.in_ok-written.written.unsound in
+    let doubts = c.in_ok-written.written.doubts in
     record {
       g = geometry;
       held = held;
-      unsound = unsound;
+      doubts = doubts;
       put = record {
         pieces = pieces;
         made = record {
           geometry_is = c.in_ok-geometry.ensures.ok;
           allowed = c.in_ok-allow_both.ensures.ok;
-          made = subst (λ f. IsMade (g.F.LabFiles.answers f) words.dump.now geometry pieces held unsound) same c.in_ok-written.ensures.made;
+          made = subst (λ f. IsMade (g.F.LabFiles.answers f) words.dump.now geometry pieces held doubts) same c.in_ok-written.ensures.made;
         };
         put = c.in_ok-put_map.ensures.ok
             ∙ (ap (λ (hs : List Held). with_map (g.F.LabFiles.kept c.keep.new.files) words (map_text geometry (map state_in hs))) c.deref.ensures.value
-            ∙ ap (λ x. with_map x words (map_text geometry (map state_in held))) (c.in_ok-keep.ensures.ok ∙ ap (λ x. with_kept x words.out.now pieces) (c.in_ok-written.ensures.kept ∙ ap g.F.LabFiles.kept same)));
+            ∙ ap (λ x. with_map x words (map_text geometry (map state_in held))) (c.in_ok-keep.ensures.ok ∙ ap (λ x. with_kept x words.out.now pieces words.force) (c.in_ok-written.ensures.beside ∙ ap g.F.LabFiles.kept same)));
       };
-      told = subst (λ f. Appends (g.W.Write.contents c.args.out.now) (g.W.Write.contents c.print_array.new.out) (array_text f geometry (map state_in held) unsound)) c.printer-printer.ensures
-          (subst (λ (hs : List Held). Appends (g.W.Write.contents c.args.out.now) (g.W.Write.contents c.print_array.new.out) (array_text c.printer-printer.result.form geometry (map state_in hs) unsound)) c.deref-2.ensures.value c.in-Ok.ensures);
+      told = subst (λ f. Appends (g.W.Output.contents c.args.out.now) (g.W.Output.contents c.print_array.new.out) (array_text f geometry (map state_in held) doubts)) c.printer-printer.ensures
+          (subst (λ (hs : List Held). Appends (g.W.Output.contents c.args.out.now) (g.W.Output.contents c.print_array.new.out) (array_text c.printer-printer.result.form geometry (map state_in hs) doubts)) c.deref-2.ensures.value c.in-Ok.ensures);
     }
 
 pub returns-clause-fault : goal.returns-clause-fault
@@ -116,26 +122,24 @@ returns-clause-fault g c =
     let geometry = c.in_ok-geometry.geometry in
     let pieces = g.F.Target.Pieces.pieces c.in_ok-written.written.target in
     let held = c.in_ok-written.written.held.items in
-    let unsound = c.in_ok-written.written.unsound in
-    let put : PutArray a words (g.F.LabFiles.kept c.args.files.now) (g.F.LabFiles.kept c.put_map.new.files) geometry held unsound = record {
+    let doubts = c.in_ok-written.written.doubts in
+    let put : PutArray a words (g.F.LabFiles.kept c.args.files.now) (g.F.LabFiles.kept c.put_map.new.files) geometry held doubts = record {
       pieces = pieces;
       made = record {
         geometry_is = c.in_ok-geometry.ensures.ok;
         allowed = c.in_ok-allow_both.ensures.ok;
-        made = subst (λ f. IsMade (g.F.LabFiles.answers f) words.dump.now geometry pieces held unsound) same c.in_ok-written.ensures.made;
+        made = subst (λ f. IsMade (g.F.LabFiles.answers f) words.dump.now geometry pieces held doubts) same c.in_ok-written.ensures.made;
       };
       put = c.in_ok-put_map.ensures.ok
           ∙ (ap (λ (hs : List Held). with_map (g.F.LabFiles.kept c.keep.new.files) words (map_text geometry (map state_in hs))) c.deref.ensures.value
-          ∙ ap (λ x. with_map x words (map_text geometry (map state_in held))) (c.in_ok-keep.ensures.ok ∙ ap (λ x. with_kept x words.out.now pieces) (c.in_ok-written.ensures.kept ∙ ap g.F.LabFiles.kept same)));
+          ∙ ap (λ x. with_map x words (map_text geometry (map state_in held))) (c.in_ok-keep.ensures.ok ∙ ap (λ x. with_kept x words.out.now pieces words.force) (c.in_ok-written.ensures.beside ∙ ap g.F.LabFiles.kept same)));
     } in
     inr (inr (
       geometry,
       held,
-      unsound,
+      doubts,
       put,
-      (
-        c.unprinted.ensures,
-        subst (λ f. AppendsFront (g.W.Write.contents c.args.out.now) (g.W.Write.contents c.print_array.new.out) (array_text f geometry (map state_in held) unsound)) c.printer-printer.ensures
-            (subst (λ (hs : List Held). AppendsFront (g.W.Write.contents c.args.out.now) (g.W.Write.contents c.print_array.new.out) (array_text c.printer-printer.result.form geometry (map state_in hs) unsound)) c.deref-2.ensures.value c.in-Err.ensures),
-      ),
+      half_printed c.in-Err.fault _ _ _ _ _ c.unprinted.ensures
+          (subst (λ f. Stops c.in-Err.fault (g.W.Output.failed c.print_array.new.out) (g.W.Output.contents c.args.out.now) (g.W.Output.contents c.print_array.new.out) (array_text f geometry (map state_in held) doubts)) c.printer-printer.ensures
+          (subst (λ (hs : List Held). Stops c.in-Err.fault (g.W.Output.failed c.print_array.new.out) (g.W.Output.contents c.args.out.now) (g.W.Output.contents c.print_array.new.out) (array_text c.printer-printer.result.form geometry (map state_in hs) doubts)) c.deref-2.ensures.value c.in-Err.ensures)),
     ))

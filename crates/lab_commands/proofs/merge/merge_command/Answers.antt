@@ -1,49 +1,54 @@
 use Rattle.std.proofs.Common.{inl, inr, ℕ, List, ap, subst, ◌∙◌}
 use Rattle.std.specs.Io.KnownBytes.{Appends}
-use Rattle.request_stream.specs.Frames.{AppendsFront}
+use Rattle.lab_commands.specs.Document.{Stops}
+use Rattle.lab_commands.proofs.PrintLemmas.{half_printed}
 use Rattle.lab_commands.specs.Reports.{merge_text}
 use Rattle.lab_commands.specs.Merge.{IsJoined, IsMergeFault, IsUnjoined, PutMerge, dumps_of}
 use Rattle.lab_commands.specs.Files.{AnswersNoMore, with_kept}
-use Rattle.lab_commands.proofs.MergeLemmas.{no_geometry, not_allowed, not_made}
-use Rattle.lab_commands.proofs.UndoneLemmas.{handed_on, unwritten_before}
+use Rattle.lab_commands.proofs.MergeLemmas.{no_geometry, not_allowed, not_put}
+use Rattle.lab_commands.proofs.UndoneLemmas.{handed_on, unplaced_before}
 use Rattle.lab_commands.proofs.merge.merge_command.Goals as goal
 
 pub returns-in_err-geometry-clause-fault : goal.returns-in_err-geometry-clause-fault
 returns-in_err-geometry-clause-fault g c =
     let a = g.F.LabFiles.answers c.args.files.now in
     let k = g.F.LabFiles.kept c.args.files.now in
-    let o = g.W.Write.contents c.args.out.now in
-    handed_on (IsMergeFault a c.args.words k k o o) _ _ c.from_residual.ensures.1 (no_geometry a c.args.words k o _ c.in_err-geometry.ensures.fault)
+    let o = g.W.Output.contents c.args.out.now in
+    let broke = g.W.Output.failed c.args.out.now in
+    handed_on (IsMergeFault a c.args.words k k broke o o) _ _ c.from_residual.ensures.1 (no_geometry a c.args.words k broke o _ c.in_err-geometry.ensures.fault)
 
 pub returns-in_err-allow_merge-clause-fault : goal.returns-in_err-allow_merge-clause-fault
 returns-in_err-allow_merge-clause-fault g c =
     let a = g.F.LabFiles.answers c.args.files.now in
     let k = g.F.LabFiles.kept c.args.files.now in
-    let o = g.W.Write.contents c.args.out.now in
-    handed_on (IsMergeFault a c.args.words k (g.F.LabFiles.kept c.allow_merge.new.files) o o) _ _ c.from_residual-in_err-allow_merge.ensures.1
-    (not_allowed a c.args.words c.in_ok-geometry.geometry k _ o _ c.in_ok-geometry.ensures.ok (ap g.F.LabFiles.kept c.in_err-allow_merge.ensures.same) c.in_err-allow_merge.ensures.fault)
+    let o = g.W.Output.contents c.args.out.now in
+    let broke = g.W.Output.failed c.args.out.now in
+    handed_on (IsMergeFault a c.args.words k (g.F.LabFiles.kept c.allow_merge.new.files) broke o o) _ _ c.from_residual-in_err-allow_merge.ensures.1
+    (not_allowed a c.args.words c.in_ok-geometry.geometry k _ broke o _ c.in_ok-geometry.ensures.ok (ap g.F.LabFiles.kept c.in_err-allow_merge.ensures.same) c.in_err-allow_merge.ensures.fault)
 
 pub returns-in_err-merged-clause-fault : goal.returns-in_err-merged-clause-fault
 returns-in_err-merged-clause-fault g c =
     let a = g.F.LabFiles.answers c.args.files.now in
     let k = g.F.LabFiles.kept c.args.files.now in
-    let o = g.W.Write.contents c.args.out.now in
+    let o = g.W.Output.contents c.args.out.now in
+    let broke = g.W.Output.failed c.args.out.now in
     let same = c.in_ok-allow_merge.ensures.same in
-    handed_on (IsMergeFault a c.args.words k (g.F.LabFiles.kept c.join.new.files) o o) _ _ c.from_residual-in_err-merged.ensures.1
-    (not_made a c.args.words c.in_ok-geometry.geometry k _ o _ c.in_ok-geometry.ensures.ok c.in_ok-allow_merge.ensures.ok (c.in_err-merged.ensures.kept ∙ ap g.F.LabFiles.kept same)
-    (subst (λ f. IsUnjoined (g.F.LabFiles.answers f) (dumps_of c.args.words) c.in_ok-geometry.geometry c.args.words.out.now c.in_err-merged.field-0.0) same c.in_err-merged.ensures.fault))
+    handed_on (IsMergeFault a c.args.words k (g.F.LabFiles.kept c.join.new.files) broke o o) _ _ c.from_residual-in_err-merged.ensures.1
+    (not_put a c.args.words c.in_ok-geometry.geometry k _ broke o _ c.in_ok-geometry.ensures.ok c.in_ok-allow_merge.ensures.ok (c.in_err-merged.ensures.kept ∙ ap g.F.LabFiles.kept same)
+    (inl (subst (λ f. IsUnjoined (g.F.LabFiles.answers f) (dumps_of c.args.words) c.in_ok-geometry.geometry c.args.words.out.now c.in_err-merged.field-0.0) same c.in_err-merged.ensures.fault)))
 
 pub returns-in_err-keep-clause-fault : goal.returns-in_err-keep-clause-fault
 returns-in_err-keep-clause-fault g c =
     let a = g.F.LabFiles.answers c.args.files.now in
     let b = g.F.LabFiles.answers c.join.new.files in
     let k = g.F.LabFiles.kept c.args.files.now in
-    let o = g.W.Write.contents c.args.out.now in
+    let o = g.W.Output.contents c.args.out.now in
+    let broke = g.W.Output.failed c.args.out.now in
     let same = c.in_ok-allow_merge.ensures.same in
     let more : AnswersNoMore a b = subst (λ f. AnswersNoMore (g.F.LabFiles.answers f) b) same c.in_ok-merged.ensures.no_more in
-    handed_on (IsMergeFault a c.args.words k (g.F.LabFiles.kept c.keep.new.files) o o) _ _ c.from_residual-in_err-keep.ensures.1
-    (not_made a c.args.words c.in_ok-geometry.geometry k _ o _ c.in_ok-geometry.ensures.ok c.in_ok-allow_merge.ensures.ok (c.in_err-keep.ensures.kept ∙ (c.in_ok-merged.ensures.kept ∙ ap g.F.LabFiles.kept same))
-    (inr (inl (unwritten_before a b c.args.words.out.now _ more c.in_err-keep.ensures.fault))))
+    handed_on (IsMergeFault a c.args.words k (g.F.LabFiles.kept c.keep.new.files) broke o o) _ _ c.from_residual-in_err-keep.ensures.1
+    (not_put a c.args.words c.in_ok-geometry.geometry k _ broke o _ c.in_ok-geometry.ensures.ok c.in_ok-allow_merge.ensures.ok (c.in_err-keep.ensures.kept ∙ (c.in_ok-merged.ensures.beside ∙ ap g.F.LabFiles.kept same))
+    (inr (unplaced_before a b c.args.words.out.now c.args.words.force _ more c.in_err-keep.ensures.fault)))
 
 pub returns-in-Ok-clause-ok : goal.returns-in-Ok-clause-ok
 returns-in-Ok-clause-ok g c =
@@ -64,11 +69,11 @@ returns-in-Ok-clause-ok g c =
         geometry_is = c.in_ok-geometry.ensures.ok;
         allowed = c.in_ok-allow_merge.ensures.ok;
         made = subst (λ f. IsJoined (g.F.LabFiles.answers f) (dumps_of words) geometry pieces conflicts unsound tally) same c.in_ok-merged.ensures.made;
-        put = c.in_ok-keep.ensures.ok ∙ ap (λ x. with_kept x words.out.now pieces) (c.in_ok-merged.ensures.kept ∙ ap g.F.LabFiles.kept same);
+        put = c.in_ok-keep.ensures.ok ∙ ap (λ x. with_kept x words.out.now pieces words.force) (c.in_ok-merged.ensures.beside ∙ ap g.F.LabFiles.kept same);
       };
-      told = subst (λ f. Appends (g.W.Write.contents c.args.out.now) (g.W.Write.contents c.print_merged.new.out) (merge_text f conflicts unsound tally)) c.printer-printer.ensures
-          (subst (λ (rows : List ℕ). Appends (g.W.Write.contents c.args.out.now) (g.W.Write.contents c.print_merged.new.out) (merge_text c.printer-printer.result.form conflicts rows tally)) c.deref-2.ensures.value
-          (subst (λ (rows : List ℕ). Appends (g.W.Write.contents c.args.out.now) (g.W.Write.contents c.print_merged.new.out) (merge_text c.printer-printer.result.form rows c.deref-2.result.now tally)) c.deref.ensures.value c.in-Ok.ensures));
+      told = subst (λ f. Appends (g.W.Output.contents c.args.out.now) (g.W.Output.contents c.print_merged.new.out) (merge_text f conflicts unsound tally)) c.printer-printer.ensures
+          (subst (λ (rows : List ℕ). Appends (g.W.Output.contents c.args.out.now) (g.W.Output.contents c.print_merged.new.out) (merge_text c.printer-printer.result.form conflicts rows tally)) c.deref-2.ensures.value
+          (subst (λ (rows : List ℕ). Appends (g.W.Output.contents c.args.out.now) (g.W.Output.contents c.print_merged.new.out) (merge_text c.printer-printer.result.form rows c.deref-2.result.now tally)) c.deref.ensures.value c.in-Ok.ensures));
     }
 
 pub returns-clause-fault : goal.returns-clause-fault
@@ -87,17 +92,15 @@ returns-clause-fault g c =
       geometry_is = c.in_ok-geometry.ensures.ok;
       allowed = c.in_ok-allow_merge.ensures.ok;
       made = subst (λ f. IsJoined (g.F.LabFiles.answers f) (dumps_of words) geometry pieces conflicts unsound tally) same c.in_ok-merged.ensures.made;
-      put = c.in_ok-keep.ensures.ok ∙ ap (λ x. with_kept x words.out.now pieces) (c.in_ok-merged.ensures.kept ∙ ap g.F.LabFiles.kept same);
+      put = c.in_ok-keep.ensures.ok ∙ ap (λ x. with_kept x words.out.now pieces words.force) (c.in_ok-merged.ensures.beside ∙ ap g.F.LabFiles.kept same);
     } in
     inr (
       conflicts,
       unsound,
       tally,
       put,
-      (
-        c.unprinted.ensures,
-        subst (λ f. AppendsFront (g.W.Write.contents c.args.out.now) (g.W.Write.contents c.print_merged.new.out) (merge_text f conflicts unsound tally)) c.printer-printer.ensures
-            (subst (λ (rows : List ℕ). AppendsFront (g.W.Write.contents c.args.out.now) (g.W.Write.contents c.print_merged.new.out) (merge_text c.printer-printer.result.form conflicts rows tally)) c.deref-2.ensures.value
-            (subst (λ (rows : List ℕ). AppendsFront (g.W.Write.contents c.args.out.now) (g.W.Write.contents c.print_merged.new.out) (merge_text c.printer-printer.result.form rows c.deref-2.result.now tally)) c.deref.ensures.value c.in-Err.ensures)),
-      ),
+      half_printed c.in-Err.fault _ _ _ _ _ c.unprinted.ensures
+          (subst (λ f. Stops c.in-Err.fault (g.W.Output.failed c.print_merged.new.out) (g.W.Output.contents c.args.out.now) (g.W.Output.contents c.print_merged.new.out) (merge_text f conflicts unsound tally)) c.printer-printer.ensures
+          (subst (λ (rows : List ℕ). Stops c.in-Err.fault (g.W.Output.failed c.print_merged.new.out) (g.W.Output.contents c.args.out.now) (g.W.Output.contents c.print_merged.new.out) (merge_text c.printer-printer.result.form conflicts rows tally)) c.deref-2.ensures.value
+          (subst (λ (rows : List ℕ). Stops c.in-Err.fault (g.W.Output.failed c.print_merged.new.out) (g.W.Output.contents c.args.out.now) (g.W.Output.contents c.print_merged.new.out) (merge_text c.printer-printer.result.form rows c.deref-2.result.now tally)) c.deref.ensures.value c.in-Err.ensures))),
     )

@@ -20,5 +20,6 @@ loop-place-preserved g c =
     record {
       no_more = no_more_then a b (g.F.LabFiles.answers c.open_file.new.files) inv.no_more c.in_ok-reader.ensures.no_more;
       kept = c.in_ok-reader.ensures.kept ∙ inv.kept;
-      opened = opened_more g.F.Reader.Read.remaining a b c.args.dumps.now c.loop-place.readers.items c.push.new.self.items c.in_ok-reader.reader c.loop-place.place _ (omega arith) inv.no_more inv.opened c.in_ok-reader.ensures.bytes c.in-Ok.ensures.items;
+      opened = opened_more g.F.Reader.DumpReader.remaining a b c.args.dumps.now c.loop-place.readers.items c.push.new.self.items c.in_ok-reader.reader c.loop-place.place _ (omega arith) inv.no_more inv.opened c.in_ok-reader.ensures.bytes c.in-Ok.ensures.items;
+      fails = λ some reader failed. inv.no_more.reads_same (c.in_ok-reader.ensures.fails reader failed);
     }

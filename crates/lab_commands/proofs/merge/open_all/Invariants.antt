@@ -1,12 +1,14 @@
-use Rattle.std.proofs.Common.{◌≡◌, map}
+use Rattle.std.proofs.Common.{◌≡◌, ◌<◌, map}
 use Rattle.program_words.specs.Met.{texts}
 use Rattle.lab_commands.specs.Files.{AnswersNoMore}
 use Rattle.lab_commands.specs.Merge.{AreOpenedBelow}
+use Rattle.lab_commands.proofs.MergeLemmas.{TellsFailing}
 use Rattle.lab_commands.proofs.merge.open_all.Given as goal
 
 abbrev pub invariant-loop-place : goal.invariant-loop-place
 invariant-loop-place g l = record {
   no_more : AnswersNoMore (g.F.LabFiles.answers l.fn.files) (g.F.LabFiles.answers l.files);
   kept : g.F.LabFiles.kept l.files ≡ g.F.LabFiles.kept l.fn.files;
-  opened : AreOpenedBelow (g.F.LabFiles.answers l.fn.files) (texts l.dumps) (map g.F.Reader.Read.remaining l.readers.items) l.place;
+  opened : AreOpenedBelow (g.F.LabFiles.answers l.fn.files) (texts l.dumps) (map g.F.Reader.DumpReader.remaining l.readers.items) l.place;
+  fails : 0 < l.place → TellsFailing g.F.Reader.DumpReader.failed (g.F.LabFiles.answers l.fn.files).reads_fail;
 }

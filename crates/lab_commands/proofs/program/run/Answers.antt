@@ -3,4 +3,4 @@ use Rattle.std.proofs.KnownBytes.{Keeps-refl}
 use Rattle.lab_commands.proofs.program.run.Goals as goal
 
 pub returns-in-Ok : goal.returns-in-Ok
-returns-in-Ok g c = inl (c.in-Ok.ensures.ok, refl, Keeps-refl (g.E.Write.contents c.args.err.now))
+returns-in-Ok g c = inl (c.in-Ok.ensures.ok, refl, Keeps-refl (g.E.Output.contents c.args.err.now))

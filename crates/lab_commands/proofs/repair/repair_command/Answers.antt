@@ -2,57 +2,63 @@ use Rattle.std.proofs.Common.{inl, inr, List, ap, subst, ◌∙◌}
 use Rattle.std.specs.Io.KnownBytes.{Appends}
 use Rattle.lab_mend.specs.declared.repairing.Mend.{Mend}
 use Rattle.lab_commands.specs.Undone.{IsUnmade}
-use Rattle.request_stream.specs.Frames.{AppendsFront}
+use Rattle.lab_commands.specs.Document.{Stops}
+use Rattle.lab_commands.proofs.PrintLemmas.{half_printed}
 use Rattle.lab_commands.specs.Reports.{repair_text}
 use Rattle.lab_commands.specs.Repair.{IsMended, IsRepairFault, PutRepair}
 use Rattle.lab_commands.specs.Files.{AnswersNoMore, with_kept}
-use Rattle.lab_commands.proofs.RepairLemmas.{no_geometry, no_rows, not_allowed, not_made}
-use Rattle.lab_commands.proofs.UndoneLemmas.{handed_on, unwritten_before}
+use Rattle.lab_commands.proofs.RepairLemmas.{no_geometry, no_rows, not_allowed, not_put}
+use Rattle.lab_commands.proofs.UndoneLemmas.{handed_on, unplaced_before}
 use Rattle.lab_commands.proofs.repair.repair_command.Goals as goal
 
 pub returns-in_err-geometry-clause-fault : goal.returns-in_err-geometry-clause-fault
 returns-in_err-geometry-clause-fault g c =
     let a = g.F.LabFiles.answers c.args.files.now in
     let k = g.F.LabFiles.kept c.args.files.now in
-    let o = g.W.Write.contents c.args.out.now in
-    handed_on (IsRepairFault a c.args.words k k o o) _ _ c.from_residual.ensures.1 (no_geometry a c.args.words k o _ c.in_err-geometry.ensures.fault)
+    let o = g.W.Output.contents c.args.out.now in
+    let broke = g.W.Output.failed c.args.out.now in
+    handed_on (IsRepairFault a c.args.words k k broke o o) _ _ c.from_residual.ensures.1 (no_geometry a c.args.words k broke o _ c.in_err-geometry.ensures.fault)
 
 pub returns-in_err-rows-clause-fault : goal.returns-in_err-rows-clause-fault
 returns-in_err-rows-clause-fault g c =
     let a = g.F.LabFiles.answers c.args.files.now in
     let k = g.F.LabFiles.kept c.args.files.now in
-    let o = g.W.Write.contents c.args.out.now in
-    handed_on (IsRepairFault a c.args.words k k o o) _ _ c.from_residual-in_err-rows.ensures.1 (no_rows a c.args.words c.in_ok-geometry.geometry k o _ c.in_ok-geometry.ensures.ok c.in_err-rows.ensures.fault)
+    let o = g.W.Output.contents c.args.out.now in
+    let broke = g.W.Output.failed c.args.out.now in
+    handed_on (IsRepairFault a c.args.words k k broke o o) _ _ c.from_residual-in_err-rows.ensures.1 (no_rows a c.args.words c.in_ok-geometry.geometry k broke o _ c.in_ok-geometry.ensures.ok c.in_err-rows.ensures.fault)
 
 pub returns-in_err-allow-clause-fault : goal.returns-in_err-allow-clause-fault
 returns-in_err-allow-clause-fault g c =
     let a = g.F.LabFiles.answers c.args.files.now in
     let k = g.F.LabFiles.kept c.args.files.now in
-    let o = g.W.Write.contents c.args.out.now in
-    handed_on (IsRepairFault a c.args.words k (g.F.LabFiles.kept c.allow.new.files) o o) _ _ c.from_residual-in_err-allow.ensures.1
-    (not_allowed a c.args.words c.in_ok-geometry.geometry c.in_ok-rows.rows k _ o _ c.in_ok-geometry.ensures.ok c.in_ok-rows.ensures.ok (ap g.F.LabFiles.kept c.in_err-allow.ensures.same) c.in_err-allow.ensures.fault)
+    let o = g.W.Output.contents c.args.out.now in
+    let broke = g.W.Output.failed c.args.out.now in
+    handed_on (IsRepairFault a c.args.words k (g.F.LabFiles.kept c.allow.new.files) broke o o) _ _ c.from_residual-in_err-allow.ensures.1
+    (not_allowed a c.args.words c.in_ok-geometry.geometry c.in_ok-rows.rows k _ broke o _ c.in_ok-geometry.ensures.ok c.in_ok-rows.ensures.ok (ap g.F.LabFiles.kept c.in_err-allow.ensures.same) c.in_err-allow.ensures.fault)
 
 pub returns-in_err-repaired-clause-fault : goal.returns-in_err-repaired-clause-fault
 returns-in_err-repaired-clause-fault g c =
     let a = g.F.LabFiles.answers c.args.files.now in
     let k = g.F.LabFiles.kept c.args.files.now in
-    let o = g.W.Write.contents c.args.out.now in
+    let o = g.W.Output.contents c.args.out.now in
+    let broke = g.W.Output.failed c.args.out.now in
     let same = c.in_ok-allow.ensures.same in
-    handed_on (IsRepairFault a c.args.words k (g.F.LabFiles.kept c.mend.new.files) o o) _ _ c.from_residual-in_err-repaired.ensures.1
-    (not_made a c.args.words c.in_ok-geometry.geometry c.in_ok-rows.rows k _ o _ c.in_ok-geometry.ensures.ok c.in_ok-rows.ensures.ok c.in_ok-allow.ensures.ok (c.in_err-repaired.ensures.kept ∙ ap g.F.LabFiles.kept same)
-    (subst (λ f. IsUnmade (g.F.LabFiles.answers f) c.in_ok-geometry.geometry c.args.words.dump.now c.args.words.out.now c.in_err-repaired.field-0.0) same c.in_err-repaired.ensures.fault))
+    handed_on (IsRepairFault a c.args.words k (g.F.LabFiles.kept c.mend.new.files) broke o o) _ _ c.from_residual-in_err-repaired.ensures.1
+    (not_put a c.args.words c.in_ok-geometry.geometry c.in_ok-rows.rows k _ broke o _ c.in_ok-geometry.ensures.ok c.in_ok-rows.ensures.ok c.in_ok-allow.ensures.ok (c.in_err-repaired.ensures.kept ∙ ap g.F.LabFiles.kept same)
+    (inl (subst (λ f. IsUnmade (g.F.LabFiles.answers f) c.in_ok-geometry.geometry c.args.words.dump.now c.args.words.out.now c.in_err-repaired.field-0.0) same c.in_err-repaired.ensures.fault)))
 
 pub returns-in_err-keep-clause-fault : goal.returns-in_err-keep-clause-fault
 returns-in_err-keep-clause-fault g c =
     let a = g.F.LabFiles.answers c.args.files.now in
     let b = g.F.LabFiles.answers c.mend.new.files in
     let k = g.F.LabFiles.kept c.args.files.now in
-    let o = g.W.Write.contents c.args.out.now in
+    let o = g.W.Output.contents c.args.out.now in
+    let broke = g.W.Output.failed c.args.out.now in
     let same = c.in_ok-allow.ensures.same in
     let more : AnswersNoMore a b = subst (λ f. AnswersNoMore (g.F.LabFiles.answers f) b) same c.in_ok-repaired.ensures.no_more in
-    handed_on (IsRepairFault a c.args.words k (g.F.LabFiles.kept c.keep.new.files) o o) _ _ c.from_residual-in_err-keep.ensures.1
-    (not_made a c.args.words c.in_ok-geometry.geometry c.in_ok-rows.rows k _ o _ c.in_ok-geometry.ensures.ok c.in_ok-rows.ensures.ok c.in_ok-allow.ensures.ok (c.in_err-keep.ensures.kept ∙ (c.in_ok-repaired.ensures.kept ∙ ap g.F.LabFiles.kept same))
-    (inr (inr (inl (unwritten_before a b c.args.words.out.now _ more c.in_err-keep.ensures.fault)))))
+    handed_on (IsRepairFault a c.args.words k (g.F.LabFiles.kept c.keep.new.files) broke o o) _ _ c.from_residual-in_err-keep.ensures.1
+    (not_put a c.args.words c.in_ok-geometry.geometry c.in_ok-rows.rows k _ broke o _ c.in_ok-geometry.ensures.ok c.in_ok-rows.ensures.ok c.in_ok-allow.ensures.ok (c.in_err-keep.ensures.kept ∙ (c.in_ok-repaired.ensures.beside ∙ ap g.F.LabFiles.kept same))
+    (inr (unplaced_before a b c.args.words.out.now c.args.words.force _ more c.in_err-keep.ensures.fault)))
 
 pub returns-in-Ok-clause-ok : goal.returns-in-Ok-clause-ok
 returns-in-Ok-clause-ok g c =
@@ -72,9 +78,9 @@ returns-in-Ok-clause-ok g c =
         rows_are = c.in_ok-rows.ensures.ok;
         allowed = c.in_ok-allow.ensures.ok;
         made = subst (λ f. IsMended (g.F.LabFiles.answers f) words.dump.now geometry rows pieces mends) same c.in_ok-repaired.ensures.made;
-        put = c.in_ok-keep.ensures.ok ∙ ap (λ x. with_kept x words.out.now pieces) (c.in_ok-repaired.ensures.kept ∙ ap g.F.LabFiles.kept same);
+        put = c.in_ok-keep.ensures.ok ∙ ap (λ x. with_kept x words.out.now pieces words.force) (c.in_ok-repaired.ensures.beside ∙ ap g.F.LabFiles.kept same);
       };
-      told = subst (λ f. Appends (g.W.Write.contents c.args.out.now) (g.W.Write.contents c.print_repaired.new.out) (repair_text f mends)) c.printer.ensures (subst (λ (ms : List Mend). Appends (g.W.Write.contents c.args.out.now) (g.W.Write.contents c.print_repaired.new.out) (repair_text c.printer.result.form ms)) c.deref.ensures.value c.in-Ok.ensures);
+      told = subst (λ f. Appends (g.W.Output.contents c.args.out.now) (g.W.Output.contents c.print_repaired.new.out) (repair_text f mends)) c.printer.ensures (subst (λ (ms : List Mend). Appends (g.W.Output.contents c.args.out.now) (g.W.Output.contents c.print_repaired.new.out) (repair_text c.printer.result.form ms)) c.deref.ensures.value c.in-Ok.ensures);
     }
 
 pub returns-clause-fault : goal.returns-clause-fault
@@ -94,6 +100,10 @@ returns-clause-fault g c =
       rows_are = c.in_ok-rows.ensures.ok;
       allowed = c.in_ok-allow.ensures.ok;
       made = subst (λ f. IsMended (g.F.LabFiles.answers f) words.dump.now geometry rows pieces mends) same c.in_ok-repaired.ensures.made;
-      put = c.in_ok-keep.ensures.ok ∙ ap (λ x. with_kept x words.out.now pieces) (c.in_ok-repaired.ensures.kept ∙ ap g.F.LabFiles.kept same);
+      put = c.in_ok-keep.ensures.ok ∙ ap (λ x. with_kept x words.out.now pieces words.force) (c.in_ok-repaired.ensures.beside ∙ ap g.F.LabFiles.kept same);
     } in
-    inr (mends, put, (c.unprinted.ensures, subst (λ f. AppendsFront (g.W.Write.contents c.args.out.now) (g.W.Write.contents c.print_repaired.new.out) (repair_text f mends)) c.printer.ensures (subst (λ (ms : List Mend). AppendsFront (g.W.Write.contents c.args.out.now) (g.W.Write.contents c.print_repaired.new.out) (repair_text c.printer.result.form ms)) c.deref.ensures.value c.in-Err.ensures)))
+    let a = g.W.Output.contents c.args.out.now in
+    let b = g.W.Output.contents c.print_repaired.new.out in
+    let broke = g.W.Output.failed c.print_repaired.new.out in
+    let stops = subst (λ f. Stops c.in-Err.fault broke a b (repair_text f mends)) c.printer.ensures (subst (λ (ms : List Mend). Stops c.in-Err.fault broke a b (repair_text c.printer.result.form ms)) c.deref.ensures.value c.in-Err.ensures) in
+    inr (mends, put, half_printed c.in-Err.fault _ _ _ _ _ c.unprinted.ensures stops)

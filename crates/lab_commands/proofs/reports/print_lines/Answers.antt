@@ -1,23 +1,56 @@
 use Rattle.std.proofs.Common.{Bool, List, subst}
 use Rattle.std.specs.Io.KnownBytes.{Appends}
 use Rattle.lab_dump.specs.declared.held.State.{State}
-use Rattle.request_stream.specs.Frames.{AppendsFront}
-use Rattle.lab_commands.proofs.PrintLemmas.{failed, front_after, front_more, prints_after}
+use Rattle.lab_commands.specs.Document.{Stops, if_text}
 use Rattle.lab_commands.specs.Reports.{keys_text, survey_lines}
+use Rattle.lab_commands.proofs.PrintLemmas.{failed, prints_after, stops_after, stops_more}
 use Rattle.lab_commands.proofs.reports.print_lines.Goals as goal
+
+pub returns-in_err-line : goal.returns-in_err-line
+unfolding survey_lines
+returns-in_err-line g c =
+    failed c.in_err-line.field-0.0 c.from_residual.result (g.W.Output.failed c.line.new.out) _ _ _ c.from_residual.ensures.1
+    (stops_more c.in_err-line.field-0.0 (g.W.Output.failed c.line.new.out) _ _ _ _ (subst (λ l. Stops c.in_err-line.field-0.0 (g.W.Output.failed c.line.new.out) (g.W.Output.contents c.args.out.now) (g.W.Output.contents c.line.new.out) (if_text c.args.printer.form l)) c.rows_line.ensures c.in_err-line.ensures))
 
 pub returns-in_err-print_counts : goal.returns-in_err-print_counts
 unfolding survey_lines
-returns-in_err-print_counts g c = failed _ c.from_residual.result _ _ _ c.from_residual.ensures.1 (front_more _ _ _ _ c.in_err-print_counts.ensures)
+returns-in_err-print_counts g c =
+    let rows = subst (λ l. Appends (g.W.Output.contents c.args.out.now) (g.W.Output.contents c.line.new.out) (if_text c.args.printer.form l)) c.rows_line.ensures c.in_ok-line.ensures in
+    failed _ c.from_residual-in_err-print_counts.result _ _ _ _ c.from_residual-in_err-print_counts.ensures.1
+    (stops_after _ _ _ _ _ _ _ rows (stops_more _ _ _ _ _ _ c.in_err-print_counts.ensures))
 
 pub returns-in_err-print_keys : goal.returns-in_err-print_keys
 unfolding survey_lines
-returns-in_err-print_keys g c = failed _ c.from_residual-in_err-print_keys.result _ _ _ c.from_residual-in_err-print_keys.ensures.1 (front_after _ _ _ _ _ c.in_ok-print_counts.ensures (front_more _ _ _ _ (subst (λ (fs : List Bool). AppendsFront (g.W.Write.contents c.print_counts.new.out) (g.W.Write.contents c.print_keys.new.out) (keys_text c.args.printer.form c.args.geometry.now c.args.survey.now.keys.items fs)) c.deref-2.ensures.value (subst (λ (ss : List State). AppendsFront (g.W.Write.contents c.print_counts.new.out) (g.W.Write.contents c.print_keys.new.out) (keys_text c.args.printer.form c.args.geometry.now ss c.deref-2.result.now)) c.deref.ensures.value c.in_err-print_keys.ensures))))
+returns-in_err-print_keys g c =
+    let o = g.W.Output.contents in
+    let form = c.args.printer.form in
+    let geo = c.args.geometry.now in
+    let rows = subst (λ l. Appends (o c.args.out.now) (o c.line.new.out) (if_text form l)) c.rows_line.ensures c.in_ok-line.ensures in
+    let keys = subst (λ (fs : List Bool). Stops c.in_err-print_keys.field-0.0 (g.W.Output.failed c.print_keys.new.out) (o c.print_counts.new.out) (o c.print_keys.new.out) (keys_text form geo c.args.survey.now.keys.items fs)) c.deref-2.ensures.value
+    (subst (λ (ss : List State). Stops c.in_err-print_keys.field-0.0 (g.W.Output.failed c.print_keys.new.out) (o c.print_counts.new.out) (o c.print_keys.new.out) (keys_text form geo ss c.deref-2.result.now)) c.deref.ensures.value c.in_err-print_keys.ensures) in
+    failed c.in_err-print_keys.field-0.0 c.from_residual-in_err-print_keys.result (g.W.Output.failed c.print_keys.new.out) _ _ _ c.from_residual-in_err-print_keys.ensures.1
+    (stops_after c.in_err-print_keys.field-0.0 (g.W.Output.failed c.print_keys.new.out) _ _ _ _ _ rows (stops_after c.in_err-print_keys.field-0.0 (g.W.Output.failed c.print_keys.new.out) _ _ _ _ _ c.in_ok-print_counts.ensures (stops_more c.in_err-print_keys.field-0.0 (g.W.Output.failed c.print_keys.new.out) _ _ _ _ keys)))
 
 pub returns-in_err-print_blocks : goal.returns-in_err-print_blocks
 unfolding survey_lines
-returns-in_err-print_blocks g c = failed _ c.from_residual-in_err-print_blocks.result _ _ _ c.from_residual-in_err-print_blocks.ensures.1 (front_after _ _ _ _ _ c.in_ok-print_counts.ensures (front_after _ _ _ _ _ (subst (λ (fs : List Bool). Appends (g.W.Write.contents c.print_counts.new.out) (g.W.Write.contents c.print_keys.new.out) (keys_text c.args.printer.form c.args.geometry.now c.args.survey.now.keys.items fs)) c.deref-2.ensures.value (subst (λ (ss : List State). Appends (g.W.Write.contents c.print_counts.new.out) (g.W.Write.contents c.print_keys.new.out) (keys_text c.args.printer.form c.args.geometry.now ss c.deref-2.result.now)) c.deref.ensures.value c.in_ok-print_keys.ensures)) (front_more _ _ _ _ c.in_err-print_blocks.ensures)))
+returns-in_err-print_blocks g c =
+    let o = g.W.Output.contents in
+    let form = c.args.printer.form in
+    let geo = c.args.geometry.now in
+    let rows = subst (λ l. Appends (o c.args.out.now) (o c.line.new.out) (if_text form l)) c.rows_line.ensures c.in_ok-line.ensures in
+    let keys = subst (λ (fs : List Bool). Appends (o c.print_counts.new.out) (o c.print_keys.new.out) (keys_text form geo c.args.survey.now.keys.items fs)) c.deref-2.ensures.value
+    (subst (λ (ss : List State). Appends (o c.print_counts.new.out) (o c.print_keys.new.out) (keys_text form geo ss c.deref-2.result.now)) c.deref.ensures.value c.in_ok-print_keys.ensures) in
+    failed _ c.from_residual-in_err-print_blocks.result _ _ _ _ c.from_residual-in_err-print_blocks.ensures.1
+    (stops_after _ _ _ _ _ _ _ rows (stops_after _ _ _ _ _ _ _ c.in_ok-print_counts.ensures (stops_after _ _ _ _ _ _ _ keys (stops_more _ _ _ _ _ _ c.in_err-print_blocks.ensures))))
 
 pub returns : goal.returns
 unfolding survey_lines
-returns g c = prints_after _ _ _ _ _ c.line.result c.in_ok-print_counts.ensures (prints_after _ _ _ _ _ c.line.result (subst (λ (fs : List Bool). Appends (g.W.Write.contents c.print_counts.new.out) (g.W.Write.contents c.print_keys.new.out) (keys_text c.args.printer.form c.args.geometry.now c.args.survey.now.keys.items fs)) c.deref-2.ensures.value (subst (λ (ss : List State). Appends (g.W.Write.contents c.print_counts.new.out) (g.W.Write.contents c.print_keys.new.out) (keys_text c.args.printer.form c.args.geometry.now ss c.deref-2.result.now)) c.deref.ensures.value c.in_ok-print_keys.ensures)) (prints_after _ _ _ _ _ c.line.result c.in_ok-print_blocks.ensures c.line.ensures))
+returns g c =
+    let o = g.W.Output.contents in
+    let form = c.args.printer.form in
+    let geo = c.args.geometry.now in
+    let r = c.print_ending.result in
+    let rows = subst (λ l. Appends (o c.args.out.now) (o c.line.new.out) (if_text form l)) c.rows_line.ensures c.in_ok-line.ensures in
+    let keys = subst (λ (fs : List Bool). Appends (o c.print_counts.new.out) (o c.print_keys.new.out) (keys_text form geo c.args.survey.now.keys.items fs)) c.deref-2.ensures.value
+    (subst (λ (ss : List State). Appends (o c.print_counts.new.out) (o c.print_keys.new.out) (keys_text form geo ss c.deref-2.result.now)) c.deref.ensures.value c.in_ok-print_keys.ensures) in
+    prints_after _ _ _ _ _ _ r rows (prints_after _ _ _ _ _ _ r c.in_ok-print_counts.ensures (prints_after _ _ _ _ _ _ r keys (prints_after _ _ _ _ _ _ r c.in_ok-print_blocks.ensures c.print_ending.ensures)))

@@ -1,11 +1,11 @@
-use Rattle.lab_commands.proofs.PrintLemmas.{failed, front_after, front_more, prints_after}
+use Rattle.lab_commands.proofs.PrintLemmas.{failed, stops_after, stops_more, prints_after}
 use Rattle.lab_commands.proofs.reports.print_survey.Goals as goal
 
 pub returns-in_err-begin : goal.returns-in_err-begin
-returns-in_err-begin g c = failed _ c.from_residual.result _ _ _ c.from_residual.ensures.1 (front_more _ _ _ _ c.in_err-begin.ensures)
+returns-in_err-begin g c = failed _ c.from_residual.result _ _ _ _ c.from_residual.ensures.1 (stops_more _ _ _ _ _ _ c.in_err-begin.ensures)
 
 pub returns-in_err-print_lines : goal.returns-in_err-print_lines
-returns-in_err-print_lines g c = failed _ c.from_residual-in_err-print_lines.result _ _ _ c.from_residual-in_err-print_lines.ensures.1 (front_after _ _ _ _ _ c.in_ok-begin.ensures (front_more _ _ _ _ c.in_err-print_lines.ensures))
+returns-in_err-print_lines g c = failed _ c.from_residual-in_err-print_lines.result _ _ _ _ c.from_residual-in_err-print_lines.ensures.1 (stops_after _ _ _ _ _ _ _ c.in_ok-begin.ensures (stops_more _ _ _ _ _ _ c.in_err-print_lines.ensures))
 
 pub returns : goal.returns
-returns g c = prints_after _ _ _ _ _ c.end.result c.in_ok-begin.ensures (prints_after _ _ _ _ _ c.end.result c.in_ok-print_lines.ensures c.end.ensures)
+returns g c = prints_after _ _ _ _ _ _ c.end.result c.in_ok-begin.ensures (prints_after _ _ _ _ _ _ c.end.result c.in_ok-print_lines.ensures c.end.ensures)

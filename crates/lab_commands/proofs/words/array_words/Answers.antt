@@ -1,4 +1,4 @@
-use Rattle.std.proofs.Common.{sym, ◌∙◌}
+use Rattle.std.proofs.Common.{sym}
 use Rattle.std.specs.Borrow.{Bor}
 use Rattle.clap.specs.Walk.{Text}
 use Rattle.program_words.proofs.WordLemmas.{entry_of, lacks}
@@ -19,7 +19,7 @@ returns-clause-some c =
       geometry_is = entry_of (λ (w : Bor Text). w.now) _ _ _ c.word.ensures c.in_ok-word.was;
       dump_is = entry_of (λ (w : Bor Text). w.now) _ _ _ c.word-2.ensures c.in_ok-word-2.was;
       out_is = entry_of (λ (w : Bor Text). w.now) _ _ _ c.word-3.ensures c.in_ok-word-3.was;
-      forced = sym c.once.ensures ∙ c.in_ok-once.was;
+      forced = sym c.stands.ensures;
       map_is = sym c.word-4.ensures;
-      showing = c.in_ok-showing_words.ensures.some;
+      showing = c.showing_words.ensures;
     }

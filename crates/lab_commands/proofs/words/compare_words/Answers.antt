@@ -18,5 +18,5 @@ returns-clause-some c =
       geometry_is = entry_of (λ (w : Bor Text). w.now) _ _ _ c.word.ensures c.in_ok-word.was;
       certificate_is = entry_of (λ (w : Bor Text). w.now) _ _ _ c.word-2.ensures c.in_ok-word-2.was;
       dump_is = entry_of (λ (w : Bor Text). w.now) _ _ _ c.word-3.ensures c.in_ok-word-3.was;
-      showing = c.in_ok-showing_words.ensures.some;
+      showing = c.showing_words.ensures;
     }

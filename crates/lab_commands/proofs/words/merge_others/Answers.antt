@@ -1,4 +1,4 @@
-use Rattle.std.proofs.Common.{sym, ◌∙◌}
+use Rattle.std.proofs.Common.{sym}
 use Rattle.std.specs.Borrow.{Bor}
 use Rattle.clap.specs.Walk.{Text}
 use Rattle.program_words.proofs.WordLemmas.{entry_of, lacks}
@@ -16,6 +16,6 @@ returns-clause-some c =
       geometry_is = entry_of (λ (w : Bor Text). w.now) _ _ _ c.word.ensures c.in_ok-word.was;
       out_is = entry_of (λ (w : Bor Text). w.now) _ _ _ c.word-2.ensures c.in_ok-word-2.was;
       dumps = c.requires;
-      forced = sym c.once.ensures ∙ c.in_ok-once.was;
-      showing = c.in_ok-showing_words.ensures.some;
+      forced = sym c.stands.ensures;
+      showing = c.showing_words.ensures;
     }

@@ -16,5 +16,5 @@ returns-clause-some c =
       geometry_is = entry_of (λ (w : Bor Text). w.now) _ _ _ c.word.ensures c.in_ok-word.was;
       dump_is = entry_of (λ (w : Bor Text). w.now) _ _ _ c.word-2.ensures c.in_ok-word-2.was;
       rows_are = sym c.word-3.ensures;
-      showing = c.in_ok-showing_words.ensures.some;
+      showing = c.showing_words.ensures;
     }

@@ -21,7 +21,7 @@ pub returns-in-Ok-eq0-clause-cut : goal.returns-in-Ok-eq0-clause-cut
 returns-in-Ok-eq0-clause-cut g c =
     let from = c.loop-count.count in
     let few = length-take-le from c.loop-count.buffer c.loop-count.invariant.1 in
-    cut_ended _ c.in-Ok-eq0.field-0 _ _ _ (take from c.loop-count.buffer) c.read.new.buf c.loop-count.invariant.2 (search rules) (search rules) c.in-Ok-eq0.ensures.bytes.0 (c.in-Ok-eq0.ensures.bytes.1 (search rules) (search rules))
+    cut_ended _ c.in-Ok-eq0.field-0 _ _ _ (take from c.loop-count.buffer) c.read.new.buffer c.loop-count.invariant.2 (search rules) (search rules) c.in-Ok-eq0.ensures.bytes.0 (c.in-Ok-eq0.ensures.bytes.1 (search rules) (search rules))
 
 pub returns-in-Err-clause-cut : goal.returns-in-Err-clause-cut
 returns-in-Err-clause-cut g c =
@@ -34,5 +34,5 @@ loop-count-preserved g c =
     let from = c.loop-count.count in
     let room = length c.loop-count.buffer - from in
     let within = c.loop-count.invariant.1 in
-    let part = front_and_more from room c.in-Ok.n c.loop-count.buffer c.read.new.buf within c.in-Ok.ensures.bound.0 in
+    let part = front_and_more from room c.in-Ok.n c.loop-count.buffer c.read.new.buffer within c.in-Ok.ensures.bound.0 in
     (search rules, search rules, subst (Consumes _ _) (sym part) (Consumes-trans _ _ _ _ _ c.loop-count.invariant.2 c.in-Ok.ensures.bytes.0))

@@ -8,14 +8,14 @@ use Rattle.lab_dump.proofs.pass.read_page.Goals as goal
 
 pub returns-clause-whole : goal.returns-clause-whole
 returns-clause-whole g c =
-    let a = g.R.Read.remaining c.args.reader.now in
-    let b = g.R.Read.remaining c.fill.new.reader in
-    let d = g.R.Read.remaining c.fill-2.new.reader in
+    let a = g.R.DumpReader.remaining c.args.reader.now in
+    let b = g.R.DumpReader.remaining c.fill.new.reader in
+    let d = g.R.DumpReader.remaining c.fill-2.new.reader in
     ok_map (Consumes b d c.fill-2.new.buffer) (Consumes a d (c.fill.new.buffer ++ c.fill-2.new.buffer)) c.fill-2.result (λ h. Consumes-trans a b d c.fill.new.buffer c.fill-2.new.buffer c.in_ok-fill.ensures.whole h) c.fill-2.ensures.whole
 
 pub returns-clause-cut : goal.returns-clause-cut
 returns-clause-cut g c =
-    let a = g.R.Read.remaining c.args.reader.now in
-    let b = g.R.Read.remaining c.fill.new.reader in
-    let d = g.R.Read.remaining c.fill-2.new.reader in
+    let a = g.R.DumpReader.remaining c.args.reader.now in
+    let b = g.R.DumpReader.remaining c.fill.new.reader in
+    let d = g.R.DumpReader.remaining c.fill-2.new.reader in
     err_map (IsCut (length c.fill-2.new.buffer) b d) (IsCut (length c.fill.new.buffer + length c.fill-2.new.buffer) a d) c.fill-2.result (λ cut h. cut_after (length c.fill-2.new.buffer) (length c.fill.new.buffer + length c.fill-2.new.buffer) a b d c.fill.new.buffer cut c.in_ok-fill.ensures.whole (omega arith) h) c.fill-2.ensures.cut

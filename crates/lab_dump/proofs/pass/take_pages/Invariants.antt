@@ -10,5 +10,5 @@ invariant-loop-row g l =
       stands : g.T.Taker.stands l.taker l.geometry l.row;
       body_whole : length l.body ≡ l.geometry.data_bytes;
       spare_whole : length l.spare ≡ l.geometry.spare_bytes;
-      read : IsReadTo l.geometry l.row (g.R.Read.remaining l.fn.reader) (g.R.Read.remaining l.reader) (λ image. g.T.Taker.shows l.taker l.geometry l.row (within l.geometry l.rows image));
+      read : IsReadTo l.geometry l.row (g.R.DumpReader.remaining l.fn.reader) (g.R.DumpReader.remaining l.reader) (λ image. g.T.Taker.shows l.taker l.geometry l.row (within l.geometry l.rows image));
     }

@@ -1,4 +1,4 @@
-use Rattle.std.proofs.Common.{inl, inr}
+use Rattle.std.proofs.Common.{inl, inr, true≢false, sym, ◌∙◌}
 use Rattle.lab_dump.proofs.RepeatLemmas.{no_claim, readable, unreadable}
 use Rattle.lab_dump.proofs.survey.blocks_of.Goals as goal
 
@@ -11,6 +11,6 @@ pub returns-in-Err-2-clause-blocks : goal.returns-in-Err-2-clause-blocks
 returns-in-Err-2-clause-blocks c = λ image h whole.
     let g = c.args.survey.now.geometry in
     elim (c.in-Err.ensures.err 1 image (no_claim g) h) [
-      | inl memory ↦ absurd (c.is_memory.ensures c.if-is_memory.false memory)
+      | inl memory ↦ absurd (true≢false (sym (c.is_memory.ensures.1 memory) ∙ c.if-is_memory.false))
       | inr fails ↦ unreadable g 1 image (no_claim g) c.in-Err.refusal c.in-Err.ensures.kind fails whole
     ]

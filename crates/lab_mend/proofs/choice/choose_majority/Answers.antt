@@ -13,4 +13,4 @@ returns-then-has_majority c =
 pub returns-else-has_majority : goal.returns-else-has_majority
 returns-else-has_majority c =
     let test = majority_test c.args.geometry.now c.args.pages.now c.args.count false (sym c.if-has_majority.false ∙ c.has_majority.ensures.is) in
-    subst (λ (x : Choice). WritesChoice x c.choose_erased.result c.choose_erased.new.out) (sym test) c.choose_erased.ensures
+    subst (λ (x : Choice). WritesChoice x c.choose_programmed.result c.choose_programmed.new.out) (sym test) c.choose_programmed.ensures

@@ -1,12 +1,12 @@
-use Rattle.std.proofs.Common.{◌≡◌, inl, inr, [], length, get_or, sym, ◌∙◌, subst, arith}
+use Rattle.std.proofs.Common.{◌≡◌, inl, inr, [], length, get_or, Err, sym, ap, ◌∙◌, subst, arith}
 use Rattle.std.proofs.lemmas.Bool.{cases_eq}
 use Rattle.std.proofs.lemmas.List.{length-set}
-use Rattle.lab_mend.proofs.InStepLemmas.{at_end, known_other, files_count, still_at}
+use Rattle.lab_mend.proofs.InStepLemmas.{failed_at, at_end, known_other, files_count, still_at}
 use Rattle.lab_mend.proofs.in_step.expect_ends.Goals as goal
 
 pub loop-reading-preserved : goal.loop-reading-preserved
 loop-reading-preserved g c =
-    let f = g.R.Read.remaining in
+    let f = g.R.DumpReader.remaining in
     let rs = c.loop-reading.readers in
     let first = c.args.readers.now in
     let i = c.loop-reading.reading in
@@ -22,7 +22,13 @@ loop-reading-preserved g c =
       ];
     }
 
+pub returns-in-Err-clause-failed : goal.returns-in-Err-clause-failed
+returns-in-Err-clause-failed g c = elim c.in-Err.ensures.err [
+  | inl is ↦ inr (failed_at g.R.DumpReader.failed c.loop-reading.readers c.loop-reading.reading c.expect_end.new.reader (omega arith) (c.expect_end.ensures.source (c.in-Err.is ∙ ap Err is)))
+  | inr is ↦ inl is.0
+]
+
 pub returns-clause-ended : goal.returns-clause-ended
 returns-clause-ended g c = λ files at start i l.
-    let count = files_count g.R.Read.remaining c.args.readers.now files at start in
+    let count = files_count g.R.DumpReader.remaining c.args.readers.now files at start in
     c.loop-reading.invariant.ended files at start i (omega arith)

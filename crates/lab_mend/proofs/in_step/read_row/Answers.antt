@@ -1,15 +1,15 @@
-use Rattle.std.proofs.Common.{◌≡◌, ℕ, ◌+◌, ◌-◌, ◌*◌, ◌<◌, ◌≤◌, List, [], length, get_or, map, Option, None, rules, sym, ◌∙◌, subst, arith}
+use Rattle.std.proofs.Common.{◌≡◌, ℕ, ◌+◌, ◌-◌, ◌*◌, ◌<◌, ◌≤◌, List, [], length, get_or, map, Option, None, Err, rules, sym, ap, ◌∙◌, subst, arith}
 use Rattle.std.specs.Io.KnownBytes.{Consumes}
 use Rattle.std.proofs.lemmas.List.{length-map, length-set}
 use borrow.Rule.Slice.PartMut.{put_mid}
 use Rattle.lab_dump.specs.Scan.{IsCut}
 use Rattle.lab_mend.specs.InStep.{IsAt, AreBetween}
-use Rattle.lab_mend.proofs.InStepLemmas.{cut_at, known_at, known_set, files_count, piece_room, between_more, between_all}
+use Rattle.lab_mend.proofs.InStepLemmas.{failed_at, cut_at, known_at, known_set, files_count, piece_room, between_more, between_all}
 use Rattle.lab_mend.proofs.in_step.read_row.Goals as goal
 
 pub returns-in-Err-clause-cut : goal.returns-in-Err-clause-cut
 returns-in-Err-clause-cut g c = λ files at start.
-    let f = g.R.Read.remaining in
+    let f = g.R.DumpReader.remaining in
     let rs = c.loop-reading.readers in
     let i = c.loop-reading.reading in
     let r = c.index-readers-reading.result in
@@ -20,9 +20,12 @@ returns-in-Err-clause-cut g c = λ files at start.
     let size : length c.fill.new.buffer ≡ c.args.size = omega arith in
     cut_at (f (get_or rs i r)) (f c.fill.new.reader) files i at c.args.size c.in-Err.cut within old (subst (λ n. IsCut n (f (get_or rs i r)) (f c.fill.new.reader) c.in-Err.cut) size c.in-Err.ensures.cut)
 
+pub returns-in-Err-clause-failed : goal.returns-in-Err-clause-failed
+returns-in-Err-clause-failed g c = λ is. failed_at g.R.DumpReader.failed c.loop-reading.readers c.loop-reading.reading c.fill.new.reader (omega arith) (c.fill.ensures.failed (c.in-Err.is ∙ ap Err is))
+
 pub loop-reading-preserved : goal.loop-reading-preserved
 loop-reading-preserved g c =
-    let f = g.R.Read.remaining in
+    let f = g.R.DumpReader.remaining in
     let rs = c.loop-reading.readers in
     let i = c.loop-reading.reading in
     let r = c.index-readers-reading.result in
@@ -45,6 +48,6 @@ loop-reading-preserved g c =
 
 pub returns-clause-read : goal.returns-clause-read
 returns-clause-read g c = λ files at start.
-    let f = g.R.Read.remaining in
+    let f = g.R.DumpReader.remaining in
     let rs = c.loop-reading.readers in
     between_all (map f rs) files at c.args.size c.loop-reading.pieces c.loop-reading.reading (omega (arith, length-map rs f)) (c.loop-reading.invariant.between files at start)

@@ -7,5 +7,5 @@ invariant-loop-reading g l =
     record {
       count : length l.readers ≡ length l.initial.readers;
       room : length l.pieces ≡ length l.initial.pieces;
-      between : (files : List (List ℕ)) (at : ℕ) → AreAt (map g.R.Read.remaining l.initial.readers) files at → AreBetween (map g.R.Read.remaining l.readers) files at l.size l.pieces l.reading;
+      between : (files : List (List ℕ)) (at : ℕ) → AreAt (map g.R.DumpReader.remaining l.initial.readers) files at → AreBetween (map g.R.DumpReader.remaining l.readers) files at l.size l.pieces l.reading;
     }

@@ -8,12 +8,12 @@ use Rattle.lab_mend.specs.Repairing.{piece_of}
 use Rattle.lab_mend.proofs.RepairedLemmas.{mended_own, mended_piece, unasked_own, asked_bit, unasked_bit, asked_piece, unasked_piece}
 use Rattle.lab_mend.proofs.mending.write_page.Goals as goal
 
-pub returns-then-is_asked-clause-bit : goal.returns-then-is_asked-clause-bit
-returns-then-is_asked-clause-bit c =
+pub returns-then-is_asked-clause-turn : goal.returns-then-is_asked-clause-turn
+returns-then-is_asked-clause-turn c =
     let d = c.args.geometry.now.data_bytes in
     let is : is_asked c.args.rows c.args.row ≡ true = sym c.is_asked.ensures ∙ c.if-is_asked.true in
     asked_bit c.args.rows c.args.row (page c.args.body.now c.args.spare.now) c.mend_page.result is
-    (c.mend_page.ensures.bit ∙ ap mend_of (ap (page_of d) c.join_page.ensures ∙ page_joined c.args.body.now c.args.spare.now d c.requires.body_whole))
+    (c.mend_page.ensures.turn ∙ ap mend_of (ap (page_of d) c.join_page.ensures ∙ page_joined c.args.body.now c.args.spare.now d c.requires.body_whole))
 
 pub returns-then-is_asked-clause-piece : goal.returns-then-is_asked-clause-piece
 returns-then-is_asked-clause-piece c =
@@ -26,10 +26,10 @@ returns-then-is_asked-clause-piece c =
 pub returns-then-is_asked-clause-own : goal.returns-then-is_asked-clause-own
 returns-then-is_asked-clause-own c =
     mended_own c.args.geometry.now c.args.rows c.args.row c.join_page.new.bytes c.mend_page.new.bytes c.mend_page.result (sym c.is_asked.ensures ∙ c.if-is_asked.true)
-    c.mend_page.ensures.bit c.mend_page.ensures.after (omega arith)
+    c.mend_page.ensures.turn c.mend_page.ensures.after (omega arith)
 
-pub returns-else-is_asked-clause-bit : goal.returns-else-is_asked-clause-bit
-returns-else-is_asked-clause-bit c = unasked_bit c.args.rows c.args.row (page c.args.body.now c.args.spare.now) (sym c.is_asked.ensures ∙ c.if-is_asked.false)
+pub returns-else-is_asked-clause-turn : goal.returns-else-is_asked-clause-turn
+returns-else-is_asked-clause-turn c = unasked_bit c.args.rows c.args.row (page c.args.body.now c.args.spare.now) (sym c.is_asked.ensures ∙ c.if-is_asked.false)
 
 pub returns-else-is_asked-clause-piece : goal.returns-else-is_asked-clause-piece
 returns-else-is_asked-clause-piece c =

@@ -6,7 +6,7 @@ use Rattle.lab_mend.specs.InStep.{AreAt}
 use Rattle.lab_mend.specs.Merged.{row_of}
 use Rattle.lab_mend.specs.Merging.{AreListed}
 use Rattle.lab_mend.proofs.MergingLemmas.{none_listed, none_unsound}
-use Rattle.lab_mend.proofs.MergedLemmas.{row_read, row_next, unmerged_row_cut}
+use Rattle.lab_mend.proofs.MergedLemmas.{pinned_cut, row_read, row_next, unmerged_row_cut}
 use Rattle.lab_mend.proofs.merge.merge_rows.Goals as goal
 
 pub returns-in_err-read_row-clause-unmerged : goal.returns-in_err-read_row-clause-unmerged
@@ -17,23 +17,30 @@ returns-in_err-read_row-clause-unmerged g c =
     let row = c.loop-row.row in
     rw p.1 (λ files at. unmerged_row_cut geo files row _ _ _ _ (omega arith) (omega arith) (c.in_err-read_row.ensures.cut files (row * page_bytes geo) (inv.read files at)) p.2)
 
+pub returns-in_err-read_row-clause-pinned : goal.returns-in_err-read_row-clause-pinned
+returns-in_err-read_row-clause-pinned g c =
+    let p = err_from_is_err_and c.from_residual.result c.from_residual.ensures.1 in
+    rw p.1 (pinned_cut _ _ _ _ _ c.in_err-read_row.ensures.failed p.2)
+
 pub loop-row-preserved : goal.loop-row-preserved
 loop-row-preserved g c =
     let inv = c.loop-row.invariant in
     let geo = c.args.geometry.now in
     let row = c.loop-row.row in
-    let known = map g.R.Read.remaining c.read_row.new.readers in
+    let known = map g.R.DumpReader.remaining c.read_row.new.readers in
     record {
       count = omega arith;
       room = omega arith;
       stands = c.in_ok-take_row.ensures.stands;
       shows = λ files at. c.in_ok-take_row.ensures.shows (row_of geo files)
-          (row_read geo known files row (length c.read_row.new.readers) _ c.read_row.new.pieces (omega arith) (sym (length-map c.read_row.new.readers g.R.Read.remaining)) (c.in_ok-read_row.ensures.read files (row * page_bytes geo) (inv.read files at)))
+          (row_read geo known files row (length c.read_row.new.readers) _ c.read_row.new.pieces (omega arith) (sym (length-map c.read_row.new.readers g.R.DumpReader.remaining)) (c.in_ok-read_row.ensures.read files (row * page_bytes geo) (inv.read files at)))
           (inv.shows files at);
       unsound = λ files at. c.in_ok-take_row.ensures.unsound (row_of geo files)
-          (row_read geo known files row (length c.read_row.new.readers) _ c.read_row.new.pieces (omega arith) (sym (length-map c.read_row.new.readers g.R.Read.remaining)) (c.in_ok-read_row.ensures.read files (row * page_bytes geo) (inv.read files at)))
+          (row_read geo known files row (length c.read_row.new.readers) _ c.read_row.new.pieces (omega arith) (sym (length-map c.read_row.new.readers g.R.DumpReader.remaining)) (c.in_ok-read_row.ensures.read files (row * page_bytes geo) (inv.read files at)))
           (inv.unsound files at);
       listed = c.in_ok-take_row.ensures.listed inv.listed;
+      conflicts_room = c.take_row.ensures.conflicts_room;
+      unsound_room = c.take_row.ensures.unsound_room;
       read = λ files at. row_next geo known files row _ c.read_row.new.pieces (omega arith) (c.in_ok-read_row.ensures.read files (row * page_bytes geo) (inv.read files at));
     }
 
@@ -45,5 +52,7 @@ loop-row-init g c = record {
   shows = λ files at. c.requires.shows (row_of c.args.geometry.now files);
   unsound = λ files at. c.requires.none ∙ none_unsound c.args.geometry.now (row_of c.args.geometry.now files);
   listed = subst (AreListed 0) (sym c.requires.none) none_listed;
-  read = λ files at. (let none : 0 ≡ 0 * page_bytes c.args.geometry.now = omega arith in subst (λ (n : ℕ). AreAt (map g.R.Read.remaining c.args.readers.now) files n) none at);
+  conflicts_room = c.requires.conflicts_room;
+  unsound_room = c.requires.unsound_room;
+  read = λ files at. (let none : 0 ≡ 0 * page_bytes c.args.geometry.now = omega arith in subst (λ (n : ℕ). AreAt (map g.R.DumpReader.remaining c.args.readers.now) files n) none at);
 }

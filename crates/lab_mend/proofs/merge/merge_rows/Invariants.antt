@@ -1,7 +1,8 @@
 use Rattle.std.proofs.Common.{◌≡◌, ℕ, ◌*◌, List, length, map}
-use Rattle.page_layout.specs.Geometry.{page_bytes}
+use Rattle.std.specs.Prelude.{vec_capacity}
+use Rattle.page_layout.specs.Geometry.{page_bytes, row_count}
 use Rattle.lab_mend.specs.InStep.{AreAt}
-use Rattle.lab_mend.specs.Merging.{AreListed, Shows, Stands, unsound_below}
+use Rattle.lab_mend.specs.Merging.{AreListed, HasRoom, Shows, Stands, unsound_below}
 use Rattle.lab_mend.specs.Merged.{row_of}
 use Rattle.lab_mend.proofs.merge.merge_rows.Given as goal
 
@@ -11,8 +12,10 @@ invariant-loop-row g l =
       count : length l.readers ≡ length l.initial.readers;
       room : length l.pages ≡ length l.initial.pages;
       stands : Stands l.geometry l.row l.merging.conflicts.items l.merging.tally l.merging.scratch.items (g.T.Pieces.pieces l.merging.target);
-      shows : (files : List (List ℕ)) → AreAt (map g.R.Read.remaining l.initial.readers) files 0 → Shows l.geometry (row_of l.geometry files) l.row l.merging.conflicts.items l.merging.tally (g.T.Pieces.pieces l.merging.target);
-      unsound : (files : List (List ℕ)) → AreAt (map g.R.Read.remaining l.initial.readers) files 0 → l.merging.unsound.items ≡ unsound_below l.geometry (row_of l.geometry files) l.row;
+      shows : (files : List (List ℕ)) → AreAt (map g.R.DumpReader.remaining l.initial.readers) files 0 → Shows l.geometry (row_of l.geometry files) l.row l.merging.conflicts.items l.merging.tally (g.T.Pieces.pieces l.merging.target);
+      unsound : (files : List (List ℕ)) → AreAt (map g.R.DumpReader.remaining l.initial.readers) files 0 → l.merging.unsound.items ≡ unsound_below l.geometry (row_of l.geometry files) l.row;
       listed : AreListed l.row l.merging.unsound.items;
-      read : (files : List (List ℕ)) → AreAt (map g.R.Read.remaining l.initial.readers) files 0 → AreAt (map g.R.Read.remaining l.readers) files (l.row * page_bytes l.geometry);
+      conflicts_room : HasRoom (row_count l.geometry) l.row l.merging.conflicts.items (vec_capacity l.merging.conflicts);
+      unsound_room : HasRoom (row_count l.geometry) l.row l.merging.unsound.items (vec_capacity l.merging.unsound);
+      read : (files : List (List ℕ)) → AreAt (map g.R.DumpReader.remaining l.initial.readers) files 0 → AreAt (map g.R.DumpReader.remaining l.readers) files (l.row * page_bytes l.geometry);
     }

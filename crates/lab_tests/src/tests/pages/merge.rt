@@ -1,7 +1,7 @@
 //! Three readings of one die, each with pages of its own that are wrong.
 use super::{PAGE, PAGES};
 use crate::tests::dumps::{changed, set};
-use crate::tests::files::Beside;
+use crate::tests::files::{Beside, MemoryReader};
 use lab_mend::{MergeFault, Tally, merge_dumps};
 use page_layout::geometry::Geometry;
 use std::alloc::Global;
@@ -16,7 +16,7 @@ const OTHERS: &[Written] = &[
     page!(9, Sector 4, sequence 6, fill 0x44),
 ];
 
-// What is changed of each reading: row 1 by the majority, row 9 from the second, row 20 erased in the third, row 21 in none.
+// What is changed of each reading: row 1 by the majority, row 9 from the second, row 20 erased in the third alone, and unsound, as row 21 is.
 const FIRST: &[(usize, u8)] = &[
     (PAGE + 7, 3),
     (PAGE * 9 + 7, 3),
@@ -31,13 +31,13 @@ const THIRD: &[(usize, u8)] = &[(PAGE + 11, 3), (PAGE * 9 + 7, 3), (PAGE * 21 + 
 const TALLY: Tally = Tally {
     sound: 2,
     majority: 1,
-    erased: 251,
-    unsound: 1,
+    erased: 250,
+    unsound: 2,
 };
 
 // What the readings come to: row 8, of which two sound pages differ, of 00h bytes.
 fn merged(alloc: Global, geometry: &Geometry) -> Result<Vec<u8>, Fail> {
-    let mut want = changed(alloc, geometry, PAGES, &[(PAGE * 21, 0)])?;
+    let mut want = changed(alloc, geometry, PAGES, &[(PAGE * 20, 0), (PAGE * 21, 0)])?;
     set(&mut want, PAGE * 8, PAGE, 0);
     Ok(want)
 }
@@ -46,14 +46,21 @@ fn merged(alloc: Global, geometry: &Geometry) -> Result<Vec<u8>, Fail> {
 fn are_merged(
     alloc: Global,
     geometry: &Geometry,
-    mut readers: [&[u8]; 3],
+    dumps: [&[u8]; 3],
     want: &[u8],
 ) -> Result<bool, Fail> {
     let target = Beside::new(vec![in alloc; 0u8; want.len()]?, PAGE);
-    let told = merge_dumps(alloc, &mut readers, geometry, target)?;
+    let mut readers = [
+        MemoryReader::new(alloc, dumps[0])?,
+        MemoryReader::new(alloc, dumps[1])?,
+        MemoryReader::new(alloc, dumps[2])?,
+    ];
+    let Ok(told) = merge_dumps(alloc, &mut readers, geometry, target) else {
+        return Ok(false);
+    };
     Ok(
         told.conflicts.as_slice() == [8u32].as_slice()
-            && told.unsound.as_slice() == [21u32].as_slice()
+            && told.unsound.as_slice() == [20u32, 21].as_slice()
             && told.tally == TALLY
             && told.target.bytes.as_slice() == want,
     )
@@ -75,10 +82,13 @@ fn each_origin(rt: HostRuntime) -> Result<(), Fail> {
 // Whether the second of two readings is named, which has no byte.
 fn is_second_named(alloc: Global, geometry: &Geometry, dump: &[u8]) -> Result<bool, Fail> {
     let target = Beside::new(vec![in alloc; 0u8; dump.len()]?, PAGE);
-    let mut readers = [dump, &[]];
+    let mut readers = [
+        MemoryReader::new(alloc, dump)?,
+        MemoryReader::new(alloc, &[])?,
+    ];
     match merge_dumps(alloc, &mut readers, geometry, target) {
         Ok(_) => Ok(false),
-        Err(fault) => Ok(fault == MergeFault::WrongLength(1)),
+        Err(unmerged) => Ok(unmerged.fault == MergeFault::WrongLength(1)),
     }
 }
 

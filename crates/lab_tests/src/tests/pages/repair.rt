@@ -1,15 +1,15 @@
 //! A dump with pages that are one bit and two bits away from sound ones, of which all are mended or those of some rows.
 use super::{PAGE, PAGES};
-use crate::tests::files::Beside;
+use crate::tests::files::{Beside, MemoryReader};
 use lab_dump::Rows;
-use lab_mend::{Mend, repair_dump};
+use lab_mend::{Made, Mend, repair_dump};
 use page_layout::geometry::Geometry;
 use std::alloc::Global;
 use std::test::Fail;
 use test_images::image_of;
 
 // The bits that are turned of the dump, each byte with its bits. Row 8 loses one of its data area, row 9 one of its spare area; rows 1 and 20 have
-// two turned, and row 21 is an erased page that lost a bit, which is no sound one away.
+// two turned, and row 21 is an erased page that lost a bit.
 const TURNED: &[(usize, u8)] = &[
     (PAGE + 7, 0x03),
     (PAGE * 8 + 5, 0x10),
@@ -18,9 +18,23 @@ const TURNED: &[(usize, u8)] = &[
     (PAGE * 21, 0x80),
 ];
 
-const ROW_8: Mend = Mend { row: 8, bit: 44 };
+const ROW_8: Mend = Mend {
+    row: 8,
+    bit: 44,
+    made: Made::Sound,
+};
 
-const ROW_9: Mend = Mend { row: 9, bit: 584 };
+const ROW_9: Mend = Mend {
+    row: 9,
+    bit: 584,
+    made: Made::Sound,
+};
+
+const ROW_21: Mend = Mend {
+    row: 21,
+    bit: 7,
+    made: Made::Erased,
+};
 
 // The rows that are asked for, and the pages that are mended then.
 struct Case {
@@ -33,12 +47,12 @@ const CASES: &[Case] = &[
     Case {
         name: "no rows named",
         rows: None,
-        mends: &[ROW_8, ROW_9],
+        mends: &[ROW_8, ROW_9, ROW_21],
     },
     Case {
         name: "every row",
         rows: Some(Rows { first: 0, end: 256 }),
-        mends: &[ROW_8, ROW_9],
+        mends: &[ROW_8, ROW_9, ROW_21],
     },
     Case {
         name: "both rows",
@@ -56,7 +70,7 @@ const CASES: &[Case] = &[
             first: 9,
             end: 0xFFFF_FFFF,
         }),
-        mends: &[ROW_9],
+        mends: &[ROW_9, ROW_21],
     },
     Case {
         name: "the rows after row 9",
@@ -64,7 +78,7 @@ const CASES: &[Case] = &[
             first: 10,
             end: 256,
         }),
-        mends: &[],
+        mends: &[ROW_21],
     },
     Case {
         name: "the empty range",
@@ -101,8 +115,10 @@ fn holds(alloc: Global, geometry: &Geometry, dump: &[u8], case: &Case) -> Result
     let mut want = Vec::from_slice(alloc, dump)?;
     turn_back(&mut want, case.mends);
     let target = Beside::new(vec![in alloc; 0u8; dump.len()]?, PAGE);
-    let mut reader = dump;
-    let told = repair_dump(alloc, &mut reader, geometry, case.rows, target)?;
+    let mut reader = MemoryReader::new(alloc, dump)?;
+    let Ok(told) = repair_dump(alloc, &mut reader, geometry, case.rows, target) else {
+        return Ok(false);
+    };
     Ok(told.mends.as_slice() == case.mends && told.target.bytes == want)
 }
 

@@ -1,24 +1,29 @@
-use Rattle.std.proofs.Common.{◌∙◌, sym, ap, ◌+◌}
+use Rattle.std.proofs.Common.{◌∙◌, ◌+◌, sym, subst}
 use Rattle.page_layout.specs.Page.{page}
-use Rattle.lab_dump.proofs.WritingLemmas.{look_sound, look_erased, look_unsound, unmarked_none, unsound_same, unsound_more}
+use Rattle.lab_dump.specs.declared.doubts.Doubting.{Doubting}
+use Rattle.lab_dump.specs.Doubts.{IsDoubting}
+use Rattle.lab_dump.proofs.WritingLemmas.{look_sound, look_erased, look_unsound, unmarked_none}
 use Rattle.lab_dump.proofs.ComparingLemmas.{nothing_noted}
 use Rattle.lab_dump.proofs.comparing.ComparingTaker.take.Goals as goal
 
 pub returns-in-Erased-clause-shows : goal.returns-in-Erased-clause-shows
-returns-in-Erased-clause-shows c = λ image shown at.
+returns-in-Erased-clause-shows c = λ image h at.
     let geo = c.args.geometry.now in
     let p = page c.args.body.now c.args.spare.now in
-    let seen = look_erased p (sym c.look_at.ensures ∙ c.in-Erased.is) in
-    nothing_noted geo c.args.row image _ _ _ shown (unmarked_none geo image c.args.row p at seen.unmarked) (shown.unsound_is ∙ sym (unsound_same image c.args.row p at seen.broken_is))
+    let seen = look_erased p (sym c.look_at-look.ensures ∙ c.in-Erased.is) in
+    (nothing_noted geo c.args.row image _ h.0 (unmarked_none geo image c.args.row p at seen.unmarked), c.step-self.ensures.is image p h.1 at c.look_at-look.ensures)
 
 pub returns-in-Unsound-clause-shows : goal.returns-in-Unsound-clause-shows
-returns-in-Unsound-clause-shows c = λ image shown at.
+returns-in-Unsound-clause-shows c = λ image h at.
     let geo = c.args.geometry.now in
     let p = page c.args.body.now c.args.spare.now in
-    let seen = look_unsound p (sym c.look_at.ensures ∙ c.in-Unsound.is) in
-    nothing_noted geo c.args.row image _ _ _ shown (unmarked_none geo image c.args.row p at seen.unmarked) (ap (λ k. k + 1) shown.unsound_is ∙ sym (unsound_more image c.args.row p at seen.broken_is))
+    let seen = look_unsound p (sym c.look_at-look.ensures ∙ c.in-Unsound.is) in
+    (nothing_noted geo c.args.row image _ h.0 (unmarked_none geo image c.args.row p at seen.unmarked), c.step-self.ensures.is image p h.1 at c.look_at-look.ensures)
 
 pub returns-in-Sound-clause-shows : goal.returns-in-Sound-clause-shows
 returns-in-Sound-clause-shows c = λ image shown at.
-    let p = page c.args.body.now c.args.spare.now in
-    c.take_sound.ensures.shows image p shown at (look_sound p c.in-Sound.found (sym c.look_at.ensures ∙ c.in-Sound.is))
+    let geo = c.args.geometry.now in
+    let p = page c.args.body.now c.args.spare.now in (
+      c.take_sound.ensures.shows image p shown.0 at (look_sound p c.in-Sound.found (sym c.look_at-look.ensures ∙ c.in-Sound.is)),
+      subst (λ (d : Doubting). IsDoubting geo (c.args.row + 1) image d) (sym c.take_sound.ensures.doubting) (c.step-self.ensures.is image p shown.1 at c.look_at-look.ensures),
+    )

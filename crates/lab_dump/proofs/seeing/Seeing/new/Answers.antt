@@ -17,6 +17,8 @@ returns-clause-stands c =
       few = subst (λ xs. All (λ n. n ≤ 0) xs) (sym unsound) (few_start c.blocks-2.result);
       seen = omega (arith, c.in_ok-vec-2.ensures.len);
       formed = omega (arith, c.in_ok-vec-3.ensures.len);
+      doubting = c.none-2.ensures.few;
+      keys = omega (arith, c.in_ok-vec-4.ensures.len);
       table = omega (arith, c.in_ok-blank_table.ensures);
     }
 
@@ -30,4 +32,5 @@ returns-clause-shows c = λ image.
       unsound = unsound_start g image c.in_ok-vec.field-0.items (c.in_ok-vec.ensures.items_if_clones_equal (λ y e. e) ∙ ap (λ n. replicate n 0) c.blocks-2.ensures);
       seen = seen_start g (marks image) c.in_ok-vec-2.field-0.items (c.in_ok-vec-2.ensures.items_if_clones_equal (λ y e. e) ∙ ap (λ n. replicate n false) keys);
       formed = formed_start g image c.in_ok-vec-3.field-0.items (omega (arith, c.in_ok-vec-3.ensures.len));
+      doubting = c.none-2.ensures.is g image;
     }

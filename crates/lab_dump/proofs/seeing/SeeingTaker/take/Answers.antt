@@ -7,6 +7,7 @@ use Rattle.page_layout.proofs.ArrayLemmas.{mark-page}
 use Rattle.image_check.specs.Surveyed.{IsSurvey}
 use Rattle.lab_dump.specs.Count.{counted}
 use Rattle.lab_dump.proofs.CountLemmas.{counts_more}
+use Rattle.lab_dump.proofs.DoubtLemmas.{look_from}
 use Rattle.lab_dump.proofs.seeing.SeeingTaker.take.Goals as goal
 
 pub returns-clause-shows : goal.returns-clause-shows
@@ -27,4 +28,5 @@ returns-clause-shows c = λ image h at.
       unsound = rw unsound_is (c.note_unsound.ensures.noted image p (rw c.deref_mut.ensures.value h.unsound) at erased found);
       seen = rw seen_is (c.note_seen.ensures (marks image) row (rw c.deref_mut-2.ensures.value h.seen) (mark-page image row p at ∙ sym found));
       formed = rw formed_is (c.note_formed.ensures.formed image p (rw c.deref_mut-3.ensures.value h.formed) (rw c.deref.ensures.value survey.newest) at found refl);
+      doubting = c.step-self-2.ensures.is image p h.doubting at (look_from p c.see-found.result c.look_with-look.result found c.look_with-look.ensures);
     }

@@ -1,0 +1,11 @@
+use Rattle.lab_dump.proofs.BoundLemmas.{own_row_law, bound_law, kept_law}
+use Rattle.lab_dump.proofs.laws.bound_laws.Goals as goal
+
+pub returns-clause-own : goal.returns-clause-own
+returns-clause-own c = own_row_law
+
+pub returns-clause-bound : goal.returns-clause-bound
+returns-clause-bound c = bound_law
+
+pub returns-clause-kept : goal.returns-clause-kept
+returns-clause-kept c = kept_law

@@ -1,5 +1,0 @@
-use Rattle.lab_dump.proofs.KeyLemmas.{AreStated}
-use Rattle.lab_dump.proofs.survey.key_states.Given as goal
-
-abbrev pub invariant-loop-i : goal.invariant-loop-i
-invariant-loop-i l = AreStated l.newest l.seen l.i l.states.items

@@ -1,0 +1,111 @@
+-- What a dump leaves open of its array: the pages that may have been the newest of a sector, and the sectors that the geometry leaves out.
+use Rattle.std.specs.Prelude.{◌≡◌, ◌↔◌, ℕ, zero, suc, ◌+◌, ◌/◌, ◌%◌, ◌<◌, ◌≤◌, ◌==◌, ◌&&◌, nat_lt, not, if◌then◌else◌, Bool, true, false, length, count_by, take, slice_get, Option, Some, None}
+use Rattle.std.specs.List.{list_any, range_with_len}
+use Rattle.page_layout.specs.declared.geometry.Geometry.{Geometry}
+use Rattle.page_layout.specs.declared.record.Record.{Record}
+use Rattle.page_layout.specs.declared.record.Key.{Key}
+use Rattle.page_layout.specs.declared.record.Key.TheVariants.{Sector, Translation, Table}
+use Rattle.page_layout.specs.Page.{Page, Image}
+use Rattle.page_layout.specs.Sound.{record_of, is_erased_page}
+use Rattle.page_layout.specs.Key.{key_of}
+use Rattle.page_layout.specs.Block.{is_broken, is_programmed}
+use Rattle.lab_dump.specs.declared.doubts.Doubts.{Doubts}
+use Rattle.lab_dump.specs.declared.doubts.Doubting.{Doubting}
+
+-- ---- holes
+
+-- whether the row has a page that passes a test
+abbrev pub has_page : (Page → Bool) → Option Page → Bool
+has_page test None = false
+has_page test (Some p) = test p
+
+-- whether the row's page is as an erase leaves it
+abbrev pub is_erased_at : Image → ℕ → Bool
+is_erased_at image row = has_page is_erased_page (slice_get image row)
+
+-- whether it has a page that is not
+abbrev pub is_programmed_at : Image → ℕ → Bool
+is_programmed_at image row = has_page is_programmed (slice_get image row)
+
+-- The row's page is erased, and one behind it in its block is not. A block is programmed in order, so it was lost.
+pub record IsHole (g : Geometry) (image : Image) (row : ℕ) : Type 0 where
+  pub erased : is_erased_at image row ≡ true
+  pub later : ℕ
+  pub behind : row < later
+  pub same_block : later / g.pages ≡ row / g.pages
+  pub programmed : is_programmed_at image later ≡ true
+
+-- whether a row stands behind another one in its block, and has a page that is not erased
+abbrev pub shows_hole : Geometry → Image → ℕ → ℕ → Bool
+shows_hole g image row later = nat_lt row later && ((later / g.pages == row / g.pages) && is_programmed_at image later)
+
+-- whether a row is a hole that the first rows show
+abbrev pub is_hole_below : Geometry → Image → ℕ → ℕ → Bool
+is_hole_below g image rows row = is_erased_at image row && list_any (shows_hole g image row) (range_with_len 0 rows)
+
+-- Whether a row is a hole.
+-- Law: just where its page is erased and one behind it in its block is not (`HoleLaw`).
+unfoldable pub is_hole : Geometry → Image → ℕ → Bool
+is_hole g image row = is_hole_below g image (length image) row
+
+-- how many rows are holes
+unfoldable pub holes_of : Geometry → Image → ℕ
+holes_of g image = count_by (is_hole g image) (range_with_len 0 (length image))
+
+-- ---- sectors that the geometry leaves out
+
+-- whether a key is a sector at or past the number of sectors
+abbrev pub is_past : Geometry → Key → Bool
+is_past g (Sector n) = not (nat_lt n g.sectors)
+is_past g (Translation t) = false
+is_past g (Table u) = false
+
+-- whether there is a record, and it is of such a sector
+abbrev pub is_outside : Geometry → Option Record → Bool
+is_outside g None = false
+is_outside g (Some r) = is_past g (key_of r)
+
+-- ---- together
+
+-- how many pages are neither erased nor sound, how many are holes, and how many are sound and of a sector that the geometry leaves out
+unfoldable pub doubts_of : Geometry → Image → Doubts
+doubts_of g image = record {
+  unsound = count_by is_broken image;
+  holes = holes_of g image;
+  outside = count_by (λ p. is_outside g (record_of p)) image;
+}
+
+-- the pages that may each have been the newest of one sector
+abbrev pub most_older : Doubts → ℕ
+most_older d = d.unsound + d.holes
+
+-- ---- as the pages pass
+
+-- how many erased pages stand behind the last one that is not, in the block of the last of the first rows
+unfoldable pub ending : Geometry → Image → ℕ → ℕ
+ending g image zero = 0
+ending g image (suc row) = if is_erased_at image row then (if row % g.pages == 0 then 1 else ending g image row + 1) else 0
+
+-- how many of the first rows are holes that these rows show
+unfoldable pub holes_below : Geometry → Image → ℕ → ℕ
+holes_below g image zero = 0
+holes_below g image (suc row) = if is_erased_at image row then holes_below g image row else holes_below g image row + (if row % g.pages == 0 then 0 else ending g image row)
+
+-- what the first rows of the image come to
+pub record IsDoubting (g : Geometry) (rows : ℕ) (image : Image) (d : Doubting) : Type 0 where
+  pub unsound_is : d.doubts.unsound ≡ count_by is_broken (take rows image)
+  pub holes_is : d.doubts.holes ≡ holes_below g image rows
+  pub outside_is : d.doubts.outside ≡ count_by (λ p. is_outside g (record_of p)) (take rows image)
+  pub ending_is : d.ending ≡ ending g image rows
+
+-- no more than the rows, whatever the pages were
+pub record AreFewDoubts (rows : ℕ) (d : Doubting) : Type 0 where
+  pub unsound : d.doubts.unsound ≤ rows
+  pub holes : d.doubts.holes + d.ending ≤ rows
+  pub outside : d.doubts.outside ≤ rows
+
+-- ---- law
+
+-- A row is told as a hole just where it is one.
+abbrev pub HoleLaw : Type 0
+HoleLaw = (g : Geometry) (image : Image) (row : ℕ) → (is_hole g image row ≡ true) ↔ IsHole g image row

@@ -1,0 +1,1 @@
+use Rattle.lab_mend.proofs.mending.turn_first.Goals as goal
