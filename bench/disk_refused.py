@@ -1,14 +1,16 @@
 #!/usr/bin/python3
 """Holds what `nanddisk` refuses, and what it leaves: files that are there, in use, of the wrong length or shape, read-only, shrunk while they are served, a full
-file system, and hostile streams.
+file system, a `create` that is killed at each of its calls, syncs that fail, and hostile streams.
 
 Usage: disk_refused.py NANDDISK [STREAMS [SEED]]
 
 Of the hostile streams (10,000 without a number) half are random bytes, and half a good session of which bytes were changed, cut or doubled; a third goes to a disk that is served
 read-only, whose file has to stay as it is to the byte. Each ends with status 0 or 3, in time and in little memory, and after each hundred the disk is mounted.
 
-The read-only and the full file system are tmpfs, so this is for root. Asks for Debian's python3-libnbd, which is for the system's Python."""
+The read-only and the full file system are tmpfs, so this is for root. Asks for Debian's strace and python3-libnbd, which is for the system's Python."""
 
+import fcntl
+import itertools
 import json
 import os
 import random
@@ -117,6 +119,91 @@ def shrunk(program, folder):
     assert server.wait() == 0
 
 
+def left_parts(program, folder):
+    """A disk that has the name of a part too, as a killed `create` may leave it, is not touched by the next `create`, whatever program named the part."""
+    path = os.path.join(folder, "d.nand")
+    for number, part in enumerate(("d.nand.part", ".d.nand.nanddisk-part")):
+        assert told([program, "create", "--geometry", GEOMETRY, path]) == (0, "")
+        client, server = start([program, "serve", path])
+        client.pwrite(b"\x5a" * SIZE, 0)
+        client.shutdown()
+        assert server.wait() == 0
+        image = open(path, "rb").read()
+        part = os.path.join(folder, part)
+        os.link(path, part)
+        other = os.path.join(folder, f"d{number}.nand")
+        for end in ("", ".json"):
+            os.rename(path + end, other + end)
+        assert told([program, "create", "--geometry", GEOMETRY, path]) == (0, ""), part
+        assert open(other, "rb").read() == image, f"create has changed another disk, by {part}"
+        for name in (path, path + ".json", part):
+            if os.path.exists(name):
+                os.remove(name)
+    # one that another run is at is not taken
+    with open(os.path.join(folder, ".d.nand.nanddisk-part"), "wb") as file:
+        fcntl.flock(file, fcntl.LOCK_EX)
+        hold([program, "create", "--geometry", GEOMETRY, path], 1, f"refused: {path} is in use")
+
+
+# The calls by which a `create` locks, names, syncs and removes files.
+CALLS = ("link", "linkat", "unlink", "unlinkat", "rename", "fsync", "fdatasync", "flock")
+
+
+def killed_creates(program, folder):
+    """A `create` is killed as it enters each of its calls: a whole disk is left, or nothing that refuses the next `create`; and that one leaves a disk that was renamed as it was."""
+    place = os.path.join(folder, "killed")
+    os.mkdir(place)
+    path, other = os.path.join(place, "e.nand"), os.path.join(place, "f.nand")
+    create = [program, "create", "--geometry", GEOMETRY, path]
+    kills = whole = 0
+    for call, number in itertools.product(CALLS, range(1, 100)):
+        kill = ["strace", "-o", os.devnull, "-e", f"trace={call}", "-e", f"inject={call}:signal=SIGKILL:when={number}"]
+        if number == 1:
+            done = 1
+        elif not done:
+            continue
+        done = subprocess.run([*kill, *create], stdout=subprocess.DEVNULL, stderr=subprocess.DEVNULL).returncode
+        if not done:
+            for end in ("", ".json"):
+                os.remove(path + end)
+            continue
+        kills += 1
+        if os.path.exists(path):
+            whole += 1
+            hold(create, 1, f"refused: {path} exists")
+            assert told([program, "info", path])[0] == 0, ("no whole disk", call, number)
+            image = open(path, "rb").read()
+            for end in ("", ".json"):
+                os.rename(path + end, other + end)
+        assert told(create) == (0, ""), (call, number, os.listdir(place))
+        assert told([program, "info", path])[0] == 0, (call, number)
+        if os.path.exists(other):
+            assert open(other, "rb").read() == image, ("create has changed a disk that was renamed", call, number)
+        for name in os.listdir(place):
+            assert not name.endswith("-part"), (call, number, name)
+            os.remove(os.path.join(place, name))
+    assert kills > 5 and whole > 0, (kills, whole)
+
+
+def failed_syncs(program, folder):
+    """After a sync that failed nothing is answered but that it failed, whatever the next sync of the system says."""
+    path = os.path.join(folder, "g.nand")
+    told([program, "create", "--geometry", GEOMETRY, path])
+    client, server = start(["strace", "-f", "-o", os.devnull, "-e", "trace=fdatasync", "-e", "inject=fdatasync:error=EIO:when=1", program, "serve", path])
+    client.pwrite(b"\x5a" * 512, 0)
+    failed = []
+    for call in (client.flush, client.flush, lambda: client.pread(512, 0), lambda: client.pwrite(bytes(512), 0), client.flush):
+        try:
+            call()
+            failed.append("done")
+        except nbd.Error as error:
+            failed.append(error.errno)
+    assert failed == ["EIO"] * 5, failed
+    client.shutdown()
+    assert server.wait() == 3
+    assert server.stderr.read().decode() == f"fault serve: {path} failed\n"
+
+
 def file_systems(program, folder):
     """A full file system takes no disk, and one that is read-only serves it for reading alone."""
     mounted = os.path.join(folder, "mounted")
@@ -131,6 +218,9 @@ def file_systems(program, folder):
         hold([program, "serve", path], 3, f"fault read {path}")
         client, server = start([program, "serve", "--read-only", path])
         assert client.is_read_only() and client.pread(512, 0) == bytes(512)
+        assert client.can_flush()
+        client.flush()
+        assert client.pread(512, 0) == bytes(512)
         client.set_strict_mode(0)
         try:
             client.pwrite(bytes(512), 0)
@@ -203,6 +293,9 @@ def main():
     with tempfile.TemporaryDirectory() as folder:
         refused_files(program, folder)
         shrunk(program, folder)
+        left_parts(program, folder)
+        killed_creates(program, folder)
+        failed_syncs(program, folder)
         file_systems(program, folder)
         most = streams(program, folder, count, draw)
     print(f"each refusal as said; {count} hostile streams: named ends, in at most {most} KiB")

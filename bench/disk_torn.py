@@ -27,10 +27,23 @@ import tempfile
 
 import nbd
 
-GEOMETRY = "512,32,4,40,80"
-SECTOR = 512
-SIZE = 80 * SECTOR
 LINE = re.compile(r"^\d+\s+(\w+)\((.*)\)\s+=\s+(\d+)$")
+
+
+class Shape:
+    """A geometry, and what follows of it."""
+
+    def __init__(self, sector, spare, pages, blocks, sectors):
+        self.words = f"{sector},{spare},{pages},{blocks},{sectors}"
+        self.sector, self.size = sector, sector * sectors
+
+    def sectors(self, array):
+        return [array[at : at + self.sector] for at in range(0, self.size, self.sector)]
+
+
+SMALL = Shape(512, 32, 4, 40, 80)
+# so many pages that 10,000 are programmed with no erase, and so with no sync
+LARGE = Shape(64, 32, 64, 300, 2000)
 
 
 def start(command):
@@ -75,20 +88,25 @@ def events_of(log):
     return found
 
 
-def run(program, path, log, requests, draw, words):
+# What `strace` is told to have the syncs of a server do nothing.
+NO_SYNCS = ["-e", "inject=fdatasync,fsync:retval=0"]
+
+
+def run(program, shape, path, log, requests, draw, words, flushes=True, syncs=True):
     """The requests that were sent, each with its place, its bytes and whether it is to last; a flush has none."""
-    command = ["strace", "-f", "-e", "trace=pwrite64,fdatasync,fsync,write", "-xx", "-s", "1000000", "-o", log, program, "serve", *words, path]
-    client, server = start(command)
+    watch = ["strace", "-f", "-e", "trace=pwrite64,fdatasync,fsync,write", "-xx", "-s", "1000000", "-o", log]
+    client, server = start([*watch, *([] if syncs else NO_SYNCS), program, "serve", *words, path])
     sent = []
     for _ in range(requests):
-        what = draw.randrange(12)
+        what = draw.randrange(12) if flushes else 2
         if what == 0:
             client.flush()
             sent.append((0, b"", True))
             continue
-        count = draw.choice((SECTOR, SECTOR, SECTOR, 700, 2 * SECTOR))
-        offset = draw.randrange((SIZE - count) // SECTOR + 1) * SECTOR
-        lasts = draw.randrange(8) == 0
+        count = draw.choice((1, 1, 1, 1.5, 2))
+        count = int(count * shape.sector)
+        offset = draw.randrange((shape.size - count) // shape.sector + 1) * shape.sector
+        lasts = flushes and draw.randrange(8) == 0
         body = bytes(count) if what == 1 else draw.randbytes(count)
         flags = nbd.CMD_FLAG_FUA if lasts else 0
         if what == 1:
@@ -96,18 +114,45 @@ def run(program, path, log, requests, draw, words):
         else:
             client.pwrite(body, offset, flags)
         sent.append((offset, body, lasts))
-    client.shutdown()
-    assert server.wait() == 0, server.stderr.read()
+    if flushes:
+        client.shutdown()
+        assert server.wait() == 0, server.stderr.read()
+    else:
+        # the flush at a session's end would sync
+        os.kill(child_of(server.pid), signal.SIGKILL)
+        server.wait()
+    server.stderr.close()
     return sent
 
 
-def array_of(program, path):
+def child_of(pid):
+    """The process that `strace` watches."""
+    with open(f"/proc/{pid}/task/{pid}/children", encoding="ascii") as children:
+        return int(children.read().split()[0])
+
+
+def array_of(program, shape, path):
     """All bytes of a disk, by a server of it."""
     client, server = start([program, "serve", path])
-    found = client.pread(SIZE, 0)
+    found = client.pread(shape.size, 0)
     client.shutdown()
     assert server.wait() == 0, server.stderr.read()
+    server.stderr.close()
     return found
+
+
+def takes_writes(program, shape, path, what):
+    """The disk takes a write and a flush."""
+    client, server = start([program, "serve", path])
+    try:
+        client.pwrite(b"\x5a" * shape.sector, 0)
+        client.flush()
+        assert client.pread(shape.sector, 0) == b"\x5a" * shape.sector, what
+    except nbd.Error as error:
+        raise AssertionError(("no write is taken", what, error.errno)) from error
+    client.shutdown()
+    assert server.wait() == 0, server.stderr.read()
+    server.stderr.close()
 
 
 def after(array, request):
@@ -115,26 +160,39 @@ def after(array, request):
     return array[:offset] + body + array[offset + len(body) :]
 
 
-def sectors(array):
-    return [array[at : at + SECTOR] for at in range(0, SIZE, SECTOR)]
-
-
 class Run:
-    """What a run came to: the file before it, its events, and the array after each number of requests."""
+    """What a run came to: the file before it, its events, and what each sector was after each request that changed it."""
 
-    def __init__(self, image, events, sent):
-        self.image, self.events = image, events
-        self.arrays = [bytes(SIZE)]
-        for request in sent:
-            self.arrays.append(after(self.arrays[-1], request))
-        self.sectors = [sectors(array) for array in self.arrays]
+    def __init__(self, shape, image, events, sent):
+        self.shape, self.image, self.events, self.sent = shape, image, events, sent
+        # of each sector the numbers of requests after which it was another, and what it was
+        self.states = [[(0, bytes(shape.sector))] for _ in range(shape.size // shape.sector)]
+        array = bytearray(shape.size)
+        for number, (offset, body, _) in enumerate(sent, 1):
+            array[offset : offset + len(body)] = body
+            for sector in self.touched(offset, body):
+                at = sector * shape.sector
+                self.states[sector].append((number, bytes(array[at : at + shape.sector])))
+
+    def touched(self, offset, body):
+        return range(offset // self.shape.sector, -(-(offset + len(body)) // self.shape.sector)) if body else ()
 
     def answered(self, count):
         """How many requests were answered within so many events."""
         return sum(event.kind == "reply" for event in self.events[:count])
 
+    def floors(self, done):
+        """Of each sector the number of requests that it lasts of, where so many were answered: those up to the last flush, or its last durable change."""
+        flushed = max((n for n, (_, body, _) in enumerate(self.sent[:done], 1) if not body), default=0)
+        floors = [flushed] * len(self.states)
+        for number, (offset, body, lasts) in enumerate(self.sent[:done], 1):
+            if lasts:
+                for sector in self.touched(offset, body):
+                    floors[sector] = max(floors[sector], number)
+        return floors
+
     def last_sync(self, count):
-        """The number of events up to the last sync within so many, and of the requests that were answered then."""
+        """The number of events up to the last sync within so many."""
         for at in range(count, 0, -1):
             if self.events[at - 1].kind == "sync":
                 return at
@@ -149,54 +207,90 @@ class Run:
             image[offset : offset + len(body)] = body
         return bytes(image)
 
-    def hold(self, found, first, last, what):
-        """Each sector is as after one of these numbers of requests."""
-        last = min(last, len(self.sectors) - 1)
-        for number, sector in enumerate(sectors(found)):
-            assert any(self.sectors[n][number] == sector for n in range(first, last + 1)), (what, number)
+    def hold(self, found, floors, last, what):
+        """Each sector is as after one of these numbers of requests, from its floor on."""
+        for number, sector in enumerate(self.shape.sectors(found)):
+            states = self.states[number]
+            first = max(at for at, (since, _) in enumerate(states) if since <= floors[number])
+            assert any(state == sector for since, state in states[first:] if since <= last), (what, number)
 
 
-def look(program, folder, image, sync_words=()):
+def look(program, shape, folder, image):
     path = os.path.join(folder, "cut.nand")
     with open(path, "wb") as file:
         file.write(image)
-    return array_of(program, path)
+    return array_of(program, shape, path)
 
 
 def pieces(event, draw):
     """A random part of a write's halves of sectors."""
-    step = 256
+    step = 256 if len(event.body) > 256 else 48
     return [(event.offset + at, event.body[at : at + step]) for at in range(0, len(event.body), step) if draw.randrange(2)]
 
 
 def cuts(program, folder, run, draw):
     """Each cut, and each tear."""
     count = 0
+    sectors = len(run.states)
     for at, event in enumerate(run.events):
         if event.kind != "write":
             continue
         done = run.answered(at)
         if at % 4 == 0:
-            run.hold(look(program, folder, run.image_of(at)), done, done + 1, ("cut", at))
+            run.hold(look(program, run.shape, folder, run.image_of(at)), [done] * sectors, done + 1, ("cut", at))
             count += 1
         part = event.body[: draw.randrange(len(event.body))]
-        run.hold(look(program, folder, run.image_of(at, [(event.offset, part)])), done, done + 1, ("torn", at))
+        run.hold(look(program, run.shape, folder, run.image_of(at, [(event.offset, part)])), [done] * sectors, done + 1, ("torn", at))
         count += 1
     return count
 
 
 def losses(program, folder, run, draw, always, each):
-    """Files that a host that lost power may have left, at random events."""
+    """Files that a host that lost power may have left, at random events. The disk takes writes after each."""
     for _ in range(each):
-        at = draw.randrange(len(run.events))
+        at = draw.randrange(len(run.events)) + 1
         sync = run.last_sync(at)
         rest = []
         for event in run.events[sync:at]:
             if event.kind == "write":
                 rest += draw.choice(([], [(event.offset, event.body)], pieces(event, draw)))
-        first = run.answered(at) if always else run.answered(sync)
-        run.hold(look(program, folder, run.image_of(sync, rest)), first, run.answered(at) + 1, ("lost", at))
+        done = run.answered(at)
+        floors = [done] * len(run.states) if always else run.floors(done)
+        run.hold(look(program, run.shape, folder, run.image_of(sync, rest)), floors, done + 1, ("lost", at))
+        takes_writes(program, run.shape, os.path.join(folder, "cut.nand"), ("lost", at))
     return each
+
+
+def noted(program, shape, folder, requests, draw, words, **how):
+    """A run over a new disk, with all its writes and replies."""
+    path, log = os.path.join(folder, "disk.nand"), os.path.join(folder, "log")
+    subprocess.run([program, "create", "--geometry", shape.words, path], check=True, stdout=subprocess.DEVNULL)
+    image = open(path, "rb").read()
+    os.link(path + ".json", os.path.join(folder, "cut.nand.json"))
+    sent = run(program, shape, path, log, requests, draw, words, **how)
+    found = Run(shape, image, events_of(log), sent)
+    assert found.image_of(len(found.events)) == open(path, "rb").read(), "the noted writes are not all"
+    assert found.answered(len(found.events)) == len(sent), "the noted replies are not all"
+    return found
+
+
+def told(found, cut, lost):
+    writes = sum(event.kind == "write" for event in found.events)
+    syncs = sum(event.kind == "sync" for event in found.events)
+    return f"{writes} writes, {syncs} syncs; {cut} cut or torn files, {lost} of lost power: nothing lost"
+
+
+def never_synced(program, requests, draw):
+    """A server whose syncs do nothing loses what it answered, and that is seen."""
+    with tempfile.TemporaryDirectory() as folder:
+        found = noted(program, SMALL, folder, requests, draw, [], syncs=False)
+        assert found.last_sync(len(found.events)) == 0
+        for tried in range(1, 21):
+            try:
+                losses(program, folder, found, draw, False, 1)
+            except AssertionError:
+                return tried
+    raise AssertionError("a server that never syncs loses nothing")
 
 
 def main():
@@ -207,19 +301,15 @@ def main():
     draw = random.Random(int(sys.argv[3]) if len(sys.argv) > 3 else 35)
     for words in ([], ["--sync", "always"]):
         with tempfile.TemporaryDirectory() as folder:
-            path, log = os.path.join(folder, "disk.nand"), os.path.join(folder, "log")
-            subprocess.run([program, "create", "--geometry", GEOMETRY, path], check=True, stdout=subprocess.DEVNULL)
-            image = open(path, "rb").read()
-            os.link(path + ".json", os.path.join(folder, "cut.nand.json"))
-            sent = run(program, path, log, requests, draw, words)
-            noted = Run(image, events_of(log), sent)
-            assert noted.image_of(len(noted.events)) == open(path, "rb").read(), "the noted writes are not all"
-            assert noted.answered(len(noted.events)) == len(sent), "the noted replies are not all"
-            cut = cuts(program, folder, noted, draw)
-            lost = losses(program, folder, noted, draw, bool(words), requests)
-            writes = sum(event.kind == "write" for event in noted.events)
-            syncs = sum(event.kind == "sync" for event in noted.events)
-            print(f"{' '.join(words) or '--sync erases'}: {writes} writes, {syncs} syncs; {cut} cut or torn files, {lost} of lost power: nothing lost")
+            found = noted(program, SMALL, folder, requests, draw, words)
+            cut = cuts(program, folder, found, draw)
+            lost = losses(program, folder, found, draw, bool(words), requests)
+            print(f"{' '.join(words) or '--sync erases'}: {told(found, cut, lost)}", flush=True)
+    with tempfile.TemporaryDirectory() as folder:
+        found = noted(program, LARGE, folder, 10000, draw, [], flushes=False)
+        assert found.last_sync(len(found.events)) == 0, "a page was synced"
+        print(f"10,000 changes with no sync: {told(found, 0, losses(program, folder, found, draw, False, 20))}", flush=True)
+    print(f"a server whose syncs do nothing is seen after {never_synced(program, requests, draw)} losses")
 
 
 if __name__ == "__main__":

@@ -27,12 +27,13 @@ BUILT = Path(__file__).resolve().parent.parent / "crates/nandlab/out/nandlab"
 LAB = str(Path(os.environ.get("LAB", BUILT)).resolve())
 
 
+NONE = "usage: no such command, see nandlab --help\n"
 COMMANDS = ["geometry", "survey", "array", "compare", "merge", "repair"]
 FORMS = random.Random("forms")
 
 
-def line_of(told):
-    """The line that an object of a document stands for."""
+def line_of(told, outside):
+    """The line that an object of a document stands for, where so many pages are of sectors that the geometry has not."""
     kind = told.pop("line")
     if kind == "pages":
         return f"pages {told['sort']} {told['count']}"
@@ -50,14 +51,20 @@ def line_of(told):
     if kind == "geometry":
         names = {"looked": "looked", "sound": "sound", "unsound": "unsound", "table": "table", "blocks": "blocks_told", "sectors": "sectors_told"}
         return f"geometry {','.join(map(str, told['geometry']))} " + " ".join(f"{name} {told[key]}" for name, key in names.items())
-    if kind == "mended":
-        return f"mended row {told['row']} bit {told['bit']}"
+    if kind in ("mended", "erased"):
+        return f"{kind} row {told['row']} bit {told['bit']}"
+    if kind == "rows":
+        return f"rows {told['first']}..{told['end']}"
+    if kind == "rows_age":
+        return rows_age_text(told["unsound"])
     if kind == "repaired":
         return f"mended {told['mended']}"
     if kind == "merged":
         return " ".join(f"{name} {told[name]}" for name in ["sound", "differ", "majority", "erased", "unsound"])
+    if kind in ("holes", "outside"):
+        return f"{kind} {told['pages']}"
     if kind == "age":
-        return age_text(told["unsound"])
+        return age_text(told["unsound"], told["older"], outside)
     ((of, number),) = told.items()
     return f"{kind} {of} {number}"
 
@@ -68,7 +75,8 @@ def lines_of(command, text):
     objects = [json.dumps(told, sort_keys=True, separators=(",", ":")) for told in document]
     assert text == "[" + ",\n".join(objects) + "\n]\n", text
     assert document[0] == {"command": command, "line": "command", "program": "nandlab"}, text
-    return "".join(line_of(told) + "\n" for told in document[1:])
+    outside = sum(told["pages"] for told in document[1:] if told["line"] == "outside")
+    return "".join(line_of(told, outside) + "\n" for told in document[1:])
 
 
 def run(words, folder):
@@ -81,14 +89,38 @@ def run(words, folder):
     return done.returncode, out, done.stderr.decode()
 
 
-def age_text(unsound):
-    if unsound == 0:
-        return "unsound 0: the array is that of every page that was programmed"
-    return f"unsound {unsound}: at most {unsound} sectors may be older than the last write"
+def age_text(unsound, older, outside):
+    if older > 0:
+        claim = f"at most {older} sectors may be older than the last write"
+    else:
+        claim = ("of these sectors " if outside else "") + "the array is that of every page that was programmed"
+    return f"unsound {unsound}: {claim}, if no page was lost behind the last one of its block"
 
 
-def age_line(image):
-    return age_text(sum(1 for r, e in zip(image.records, image.erased) if r is None and not e)) + "\n"
+def rows_age_text(unsound):
+    return f"unsound {unsound}: of these rows alone, of others nothing is told"
+
+
+def unsound_of(image):
+    """How many pages are neither erased nor sound."""
+    return sum(1 for r, e in zip(image.records, image.erased) if r is None and not e)
+
+
+def holes_of(image):
+    """How many erased pages stand before one of their block that is not: a block is programmed in order, so they were lost."""
+    pages, holes = image.g.pages, 0
+    for first in range(0, image.g.rows, pages):
+        last = max((row for row in range(first, first + pages) if not image.erased[row]), default=first)
+        holes += sum(image.erased[first:last])
+    return holes
+
+
+def age_lines(image):
+    """What the dump leaves open."""
+    unsound, holes = unsound_of(image), holes_of(image)
+    outside = sum(x is not None and x.key()[0] == "sector" and x.number >= image.g.sectors for x in image.records)
+    told = f"holes {holes}\n" * (holes > 0) + f"outside {outside}\n" * (outside > 0)
+    return told + age_text(unsound, unsound + holes, outside) + "\n"
 
 
 def some_rows(rng, g):
@@ -108,7 +140,7 @@ def array_of(image):
         except ref.Refused:
             sectors.append(bytes(g.data))
             told += f"tied sector {n}\n"
-    told += age_line(image)
+    told += age_lines(image)
     return b"".join(sectors), told
 
 
@@ -142,8 +174,8 @@ def is_well_formed(image, page):
     return all(w % 256 < 3 if b < g.blocks else w == ref.NONE for w, b in zip(words, blocks))
 
 
-def survey_of(image):
-    """The lines of `survey`."""
+def survey_of(image, asked):
+    """The lines of `survey`, where these words ask for rows."""
     g = image.g
     limits = {"sector": g.sectors, "translation": g.translation, "table": g.tables}
     sound = [x for x in image.records if x is not None]
@@ -178,7 +210,10 @@ def survey_of(image):
         else:
             kind, pointer, live, wear = shown.blocks[b]
             lines.append(f"block {b} class {CLASSES[kind]} pointer {pointer} live {live} wear {wear} unsound {unsound}")
-    return "".join(line + "\n" for line in lines) + age_line(image), shown
+    text = "".join(line + "\n" for line in lines)
+    if asked:
+        return f"rows {asked[1]}\n" + text + rows_age_text(unsound_of(image)) + "\n", shown
+    return text + age_lines(image), shown
 
 
 def mounts_as_told(image, told, shown):
@@ -218,7 +253,7 @@ def survey_case(rng, folder):
     if asked:
         pages = [page if row in rows else b"\xff" * g.page for row, page in enumerate(pages_of(g, raw))]
         image = ref.Image(g, b"".join(pages))
-    told, shown = survey_of(image)
+    told, shown = survey_of(image, asked)
     assert answer == (0, told, ""), (g.words(), answer, told)
     mounts_as_told(image, told, shown)
     assert [p.name for p in folder.iterdir()] == ["dump.bin"]
@@ -320,7 +355,7 @@ def compare_case(rng, folder):
             want = (1, "", "refused image 1 WrongLength\n")
         else:
             told = "".join(f"lost sector {n}\n" for n in lost_of(image, certificate))
-            want = (0, told + age_line(image), "")
+            want = (0, told + age_lines(image), "")
     except ref.Refused as refused:
         want = (1, "", refused.line)
     assert answer == want, (asked.words(), answer, want)
@@ -389,10 +424,13 @@ def case(rng, folder):
 
 
 def geometry_case(rng, folder):
-    _, image = dump_for(rng)
+    g, image = dump_for(rng)
     raw = image.raw()
     if rng.random() < 0.1:
         raw = raw[: rng.randrange(len(raw))]
+    elif rng.random() < 0.3:
+        # the last blocks are missing
+        raw = raw[: g.page * g.pages * rng.randrange(g.blocks // 2, g.blocks)]
     (folder / "dump.bin").write_bytes(raw)
     told = "".join(
         f"geometry {','.join(map(str, numbers))} looked {looked} sound {sound} unsound {unsound} table {table} blocks {blocks} sectors {sectors}\n"
@@ -418,8 +456,10 @@ def pages_of(g, raw):
 
 
 def damaged(rng, g, raw):
-    """The dump with some bits turned: of a page one, or two, or many."""
+    """The dump with some bits turned: of a page one, or two, or many. Some pages are lost, and read as erased."""
     pages = pages_of(g, raw)
+    for row in rng.sample(range(g.rows), rng.choice([0, 0, 2])):
+        pages[row] = b"\xff" * g.page
     for row in rng.sample(range(g.rows), rng.choice([0, 1, 3, 6])):
         for _ in range(rng.choice([1, 1, 2, 20])):
             pages[row] = turned(pages[row], rng.randrange(8 * g.page))
@@ -427,16 +467,19 @@ def damaged(rng, g, raw):
 
 
 def mended(g, raw, rows):
-    """The dump with each page of these rows mended that one bit turned makes sound, and the report."""
+    """The dump with each page of these rows mended that one bit turned makes sound, or else erased, and the report."""
     pages, told = pages_of(g, raw), ""
     for row, page in enumerate(pages):
         if row not in rows or is_sound(g, page) or page == b"\xff" * g.page:
             continue
-        bit = next((bit for bit in range(8 * g.page) if is_sound(g, turned(page, bit))), None)
-        if bit is not None:
-            pages[row] = turned(page, bit)
-            told += f"mended row {row} bit {bit}\n"
-    return b"".join(pages), told + f"mended {told.count('mended')}\n"
+        tests = {"mended": lambda other: is_sound(g, other), "erased": lambda other: other == b"\xff" * g.page}
+        for word, test in tests.items():
+            bit = next((bit for bit in range(8 * g.page) if test(turned(page, bit))), None)
+            if bit is not None:
+                pages[row] = turned(page, bit)
+                told += f"{word} row {row} bit {bit}\n"
+                break
+    return b"".join(pages), told + f"mended {len(told.splitlines())}\n"
 
 
 def repair_case(rng, folder):
@@ -463,16 +506,18 @@ def choice(g, pages):
         return (sound.pop(), "sound") if len(sound) == 1 else (bytes(g.page), "differ")
     if len(pages) >= 3 and is_sound(g, majority(pages)):
         return majority(pages), "majority"
-    erased = b"\xff" * g.page
-    return (erased, "erased") if erased in pages else (pages[0], "unsound")
+    programmed = [page for page in pages if page != b"\xff" * g.page]
+    return (programmed[0], "unsound") if programmed else (pages[0], "erased")
 
 
 def merge_case(rng, folder):
     g, image = dump_for(rng)
     readings = [damaged(rng, g, image.raw()) for _ in range(rng.choice([2, 2, 3, 4]))]
     if rng.random() < 0.5:
-        # another page, or an erased one, in one reading
+        # another page, or an erased one, in one reading, of a row that may be unsound in the others
         place, row, data = rng.randrange(len(readings)), rng.randrange(g.rows), rng.randbytes(g.data)
+        if rng.random() < 0.5:
+            readings = [raw[: row * g.page] + rng.randbytes(g.page) + raw[(row + 1) * g.page :] for raw in readings]
         other = data + ref.spare_of(g, ref.Record(1, 0, 1, 0), data)
         page = rng.choice([other, b"\xff" * g.page])
         readings[place] = readings[place][: row * g.page] + page + readings[place][(row + 1) * g.page :]
@@ -501,23 +546,23 @@ def refusals(folder):
         (["array", "64,32,8,32,32", "dump.bin", "out.bin", "--map", "./out.bin"], (1, "", "refused map 1 IsOut\n")),
         (["array", "64,32,8,32,32", "dump.bin", "out.bin", "--map", "./dump.bin", "--force"], (1, "", "refused map 2 IsDump\n")),
         (["array", "64,32,8,32,32", "dump.bin", "out.bin", "--map", "stood.map"], (1, "", "refused map 3 Exists\n")),
-        (["array", "64,32,8,32,32", "dump.bin", "out.bin", "--map"], (2, "", "usage: no such command\n")),
+        (["array", "64,32,8,32,32", "dump.bin", "out.bin", "--map"], (2, "", NONE)),
         (["geometry", "dump.bin"], (1, "", "refused geometry 6 NoneFits\n")),
         (["geometry", "none.bin"], (3, "", "fault read none.bin\n")),
-        (["geometry", "64,32,8,32,32", "dump.bin"], (2, "", "usage: no such command\n")),
+        (["geometry", "64,32,8,32,32", "dump.bin"], (2, "", NONE)),
         (["repair", "64,32,8,32,32", "dump.bin", "./dump.bin", "--force"], (1, "", "refused out 1 IsDump\n")),
         (["repair", "64,32,8,32,32", "none.bin", "out.bin"], (3, "", "fault read none.bin\n")),
         (["repair", "64,32,8,32,32", "dump.bin", "none/out.bin"], (3, "", "fault write none/out.bin\n")),
-        (["repair", "64,32,8,32,32", "dump.bin"], (2, "", "usage: no such command\n")),
+        (["repair", "64,32,8,32,32", "dump.bin"], (2, "", NONE)),
         (["repair", "64,32,8,32,32", "none.bin", "dump.bin", "--rows", "9..8"], (1, "", "refused rows 1 RowRange\n")),
         (["repair", "64,32,8,32,32", "none.bin", "dump.bin", "--rows", "0..257"], (1, "", "refused rows 1 RowRange\n")),
         (["repair", "64,32,8,32,32", "none.bin", "dump.bin", "--rows", "0-9"], (2, "", "usage: bad number 0-9\n")),
         (["survey", "64,32,8,32,32", "none.bin", "--rows", ".."], (2, "", "usage: bad number ..\n")),
         (["survey", "64,32,8,32,32", "none.bin", "--rows", "0..4294967296"], (2, "", "usage: bad number 0..4294967296\n")),
         (["survey", "63,32,8,32,32", "none.bin", "--rows", ".."], (1, "", "refused geometry 1 DataSize\n")),
-        (["survey", "64,32,8,32,32", "none.bin", "--rows"], (2, "", "usage: no such command\n")),
-        (["array", "64,32,8,32,32", "none.bin", "out.bin", "--rows", "0..9"], (2, "", "usage: no such command\n")),
-        (["merge", "64,32,8,32,32", "out.bin", "dump.bin"], (2, "", "usage: no such command\n")),
+        (["survey", "64,32,8,32,32", "none.bin", "--rows"], (2, "", NONE)),
+        (["array", "64,32,8,32,32", "none.bin", "out.bin", "--rows", "0..9"], (2, "", NONE)),
+        (["merge", "64,32,8,32,32", "out.bin", "dump.bin"], (2, "", NONE)),
         (["merge", "64,32,8,32", "out.bin", "dump.bin", "dump.bin"], (2, "", "usage: bad number 64,32,8,32\n")),
         (["merge", "64,32,8,32,32", "dump.bin", "--force", "stood.map", "./dump.bin"], (1, "", "refused out 1 IsDump\n")),
         (["merge", "64,32,8,32,32", "stood.map", "dump.bin", "dump.bin"], (1, "", "refused out 2 Exists\n")),
@@ -527,20 +572,27 @@ def refusals(folder):
         (["array", "63,32,8,32,32", "dump.bin", "out.bin"], (1, "", "refused geometry 1 DataSize\n")),
         (["array", "64,32,8,32,32", "none.bin", "out.bin"], (3, "", "fault read none.bin\n")),
         (["array", "64,32,8,32,32", "dump.bin", "none/out.bin"], (3, "", "fault write none/out.bin\n")),
-        (["array", "64,32,8,32,32", "dump.bin"], (2, "", "usage: no such command\n")),
+        (["array", "64,32,8,32,32", "dump.bin"], (2, "", NONE)),
         (["survey", "64,32,8,32", "dump.bin"], (2, "", "usage: bad number 64,32,8,32\n")),
         (["survey", "63,32,8,32,32", "dump.bin"], (1, "", "refused geometry 1 DataSize\n")),
         (["survey", "64,32,8,32,32", "none.bin"], (3, "", "fault read none.bin\n")),
-        (["survey", "64,32,8,32,32"], (2, "", "usage: no such command\n")),
-        (["survey", "64,32,8,32,32", "dump.bin", "--force"], (2, "", "usage: no such command\n")),
+        (["survey", "64,32,8,32,32"], (2, "", NONE)),
+        (["survey", "64,32,8,32,32", "dump.bin", "--force"], (2, "", NONE)),
         (["compare", "64,32,8,32", "die.cert", "dump.bin"], (2, "", "usage: bad number 64,32,8,32\n")),
         (["compare", "63,32,8,32,32", "die.cert", "dump.bin"], (1, "", "refused geometry 1 DataSize\n")),
         (["compare", "64,32,8,32,32", "none.cert", "dump.bin"], (3, "", "fault read none.cert\n")),
         (["compare", "64,32,8,32,32", "dump.bin", "dump.bin"], (1, "", "refused certificate 2 Short\n")),
-        (["compare", "64,32,8,32,32", "die.cert"], (2, "", "usage: no such command\n")),
-        (["array", "64,32,8,32,32", "dump.bin", "out.bin", "--force", "--force"], (2, "", "usage: no such command\n")),
-        (["arrays"], (2, "", "usage: no such command\n")),
-        ([], (2, "", "usage: no such command\n")),
+        (["compare", "64,32,8,32,32", "die.cert"], (2, "", NONE)),
+        (["array", "64,32,8,32,32", "none.bin", "out.bin", "--force", "--force", "--json", "--json"], (3, "", "fault read none.bin\n")),
+        (["array", "64,32,8,32,32", "dump.bin", "/dev/null"], (1, "", "refused out 2 Exists\n")),
+        (["array", "64,32,8,32,32", "dump.bin", "/dev/null", "--force"], (1, "", "refused out 3 NoFile\n")),
+        (["array", "64,32,8,32,32", "dump.bin", "out.bin", "--map", "/dev/null", "--force"], (1, "", "refused map 4 NoFile\n")),
+        (["array", "64,32,8,32,32", "dump.bin", ".", "--force"], (1, "", "refused out 3 NoFile\n")),
+        (["merge", "64,32,8,32,32", "/dev/null", "dump.bin", "dump.bin", "--force"], (1, "", "refused out 3 NoFile\n")),
+        (["geometry", "no\ndump\x1b[2J\x9b2J é\\\x7f"], (3, "", "fault read no\\x0adump\\x1b[2J\\xc2\\x9b2J é\\x5c\\x7f\n")),
+        (["survey", "64,32\r", "dump.bin"], (2, "", "usage: bad number 64,32\\x0d\n")),
+        (["arrays"], (2, "", NONE)),
+        ([], (2, "", NONE)),
         (["--version"], (0, "nandlab 0.1.0\n", "")),
     ]:
         answer = run(words, folder)
@@ -548,9 +600,28 @@ def refusals(folder):
     (folder / "link").symlink_to("nowhere")
     answer = run(["array", "64,32,8,32,32", "dump.bin", "link"], folder)
     assert answer == (1, "", "refused out 2 Exists\n"), answer
+    answer = run(["array", "64,32,8,32,32", "dump.bin", "link", "--force"], folder)
+    assert answer == (1, "", "refused out 3 NoFile\n"), answer
     (folder / "link").unlink()
+    races(folder)
     assert left_in(folder, "dump.bin") == {"stood.map": b"stood"}
     clear(folder)
+
+
+def races(folder):
+    """Runs on one OUT at once: without `--force` one at most is told that it was done. A part that a killed run left is made anew."""
+    g = ref.Geometry(64, 32, 8, 32, 32)
+    (folder / "whole.bin").write_bytes(b"\xff" * (g.rows * g.page))
+    part = folder / ".raced.bin.nandlab-part"
+    for _ in range(5):
+        part.write_bytes(b"left behind")
+        runs = [subprocess.Popen([LAB, "array", g.words(), "whole.bin", "raced.bin"], cwd=folder, stdout=subprocess.DEVNULL, stderr=subprocess.PIPE) for _ in range(6)]
+        told = sorted((run.wait(), run.stderr.read().decode()) for run in runs)
+        assert told[0] == (0, ""), told
+        assert all(one in [(1, "refused out 2 Exists\n"), (3, "fault write raced.bin\n")] for one in told[1:]), told
+        assert (folder / "raced.bin").read_bytes() == bytes(g.sectors * g.data) and not part.exists()
+        (folder / "raced.bin").unlink()
+    (folder / "whole.bin").unlink()
 
 
 def full_dump(path, g):

@@ -61,6 +61,8 @@ def verdict_of(said):
     verdicts = re.findall(r"^logic=(\S+)", said, re.MULTILINE)
     counts = re.findall(r"^only=(\d+) proved=(\d+)", said, re.MULTILINE)
     messages = messages_of(said)
+    if not messages and re.search(r"^rt: the library \S+ did not build", said, re.MULTILINE):
+        return "none", said[-160:]
     # a library that was built first has a verdict of its own
     if not messages and (counts[-1][0] == counts[-1][1] if counts else verdicts[-1:] == ["proved"]):
         return "proves", ""

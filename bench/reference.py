@@ -532,8 +532,9 @@ def geometries(raw):
         least = [least_of(record, body, entries) for record, body in zip(records, bodies) if record]
         blocks, sectors = max(b for b, _ in least), max(s for _, s in least)
         for g in shapes:
-            table = "silent" if blocks == 0 else "agrees" if blocks == g.blocks else "differs"
-            order = (-sound, ["agrees", "silent", "differs"].index(table), unsound * page, data, spare, g.pages)
+            table = "silent" if blocks == 0 else "agrees" if blocks == g.blocks else "short" if blocks > g.blocks else "differs"
+            missing = max(0, min(blocks, 4096) - g.blocks) * g.pages
+            order = (-sound, ["agrees", "short", "silent", "differs"].index(table), missing, unsound * page, data, spare, g.pages)
             numbers = data, spare, g.pages, g.blocks, min(max(sectors, 1), 1048576)
             found.append((order, numbers, len(pages), sound, unsound, table, blocks, sectors))
     return [fit[1:] for fit in sorted(found)]

@@ -1,13 +1,10 @@
 #!/usr/bin/env python3
 """How many sectors a die gives.
 
-    capacity.py                             a table for usual dies
-    capacity.py DATA SPARE PAGES BLOCKS [GOOD]   one die; GOOD blocks of it are good, else all
-    [PROGRAM=..] capacity.py --check        holds the numbers against what `nandctl format` refuses
-
 A die serves writes while as many blocks are good as its geometry needs (`need` of docs/FORMATS.md). So the most sectors
 are the most for which no more blocks are needed than there are."""
 
+import argparse
 import subprocess
 import sys
 import tempfile
@@ -111,15 +108,27 @@ def check():
             print(f"{die}: {sectors} sectors, and no more")
 
 
-def main(words):
-    if words == ["--check"]:
+def geometry(word):
+    """The four numbers of a die, as GEOM has its first four; a fifth, the sectors, is passed over."""
+    numbers = [int(it) for it in word.split(",")]
+    if len(numbers) not in (4, 5):
+        raise ValueError(word)
+    return tuple(numbers[:4])
+
+
+def main():
+    words = argparse.ArgumentParser(description="Tells how many sectors a die gives: a table for usual dies, or the line of one.")
+    words.add_argument("die", metavar="DATA,SPARE,PAGES,BLOCKS", type=geometry, nargs="?", help="one die, as GEOM begins")
+    words.add_argument("--good", metavar="N", type=int, help="so many of its blocks are good (default: all)")
+    words.add_argument("--check", action="store_true", help="holds the numbers against what `nandctl format` refuses (PROGRAM=.. names the program)")
+    asked = words.parse_args()
+    if asked.check:
         check()
-    elif not words:
+    elif asked.die is None:
         table(USUAL)
     else:
-        data, spare, pages, blocks, *good = (int(word) for word in words)
-        print(line(data, spare, pages, blocks, good[0] if good else blocks))
+        print(line(*asked.die, asked.good or asked.die[3]))
 
 
 if __name__ == "__main__":
-    main(sys.argv[1:])
+    main()

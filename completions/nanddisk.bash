@@ -1,0 +1,28 @@
+# bash completion of nanddisk, written by bench/completions.py
+_nanddisk()
+{
+    local word="${COMP_WORDS[COMP_CWORD]}" before="${COMP_WORDS[COMP_CWORD-1]}"
+    COMPREPLY=()
+    if [ "$COMP_CWORD" -eq 1 ]; then
+        mapfile -t COMPREPLY < <(compgen -W "create serve info --help --version" -- "$word")
+        return
+    fi
+    case "$before" in
+        --cache) return ;;
+        --from) compopt -o filenames; mapfile -t COMPREPLY < <(compgen -f -- "$word"); return ;;
+        --geometry) return ;;
+        --size) return ;;
+        --sync) mapfile -t COMPREPLY < <(compgen -W "erases always" -- "$word"); return ;;
+    esac
+    if [[ "$word" == -* ]]; then
+        case "${COMP_WORDS[1]}" in
+            create) mapfile -t COMPREPLY < <(compgen -W "--size --geometry --from --cache --help" -- "$word") ;;
+            serve) mapfile -t COMPREPLY < <(compgen -W "--read-only --sync --help" -- "$word") ;;
+            info) mapfile -t COMPREPLY < <(compgen -W "--json --help" -- "$word") ;;
+        esac
+        return
+    fi
+    compopt -o filenames
+    mapfile -t COMPREPLY < <(compgen -f -- "$word")
+}
+complete -F _nanddisk nanddisk

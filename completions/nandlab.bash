@@ -1,0 +1,28 @@
+# bash completion of nandlab, written by bench/completions.py
+_nandlab()
+{
+    local word="${COMP_WORDS[COMP_CWORD]}" before="${COMP_WORDS[COMP_CWORD-1]}"
+    COMPREPLY=()
+    if [ "$COMP_CWORD" -eq 1 ]; then
+        mapfile -t COMPREPLY < <(compgen -W "geometry survey array compare merge repair --help --version" -- "$word")
+        return
+    fi
+    case "$before" in
+        --map) compopt -o filenames; mapfile -t COMPREPLY < <(compgen -f -- "$word"); return ;;
+        --rows) return ;;
+    esac
+    if [[ "$word" == -* ]]; then
+        case "${COMP_WORDS[1]}" in
+            geometry) mapfile -t COMPREPLY < <(compgen -W "--json --progress --help" -- "$word") ;;
+            survey) mapfile -t COMPREPLY < <(compgen -W "--rows --json --progress --help" -- "$word") ;;
+            array) mapfile -t COMPREPLY < <(compgen -W "--force --map --json --progress --help" -- "$word") ;;
+            compare) mapfile -t COMPREPLY < <(compgen -W "--json --progress --help" -- "$word") ;;
+            merge) mapfile -t COMPREPLY < <(compgen -W "--force --json --progress --help" -- "$word") ;;
+            repair) mapfile -t COMPREPLY < <(compgen -W "--force --rows --json --progress --help" -- "$word") ;;
+        esac
+        return
+    fi
+    compopt -o filenames
+    mapfile -t COMPREPLY < <(compgen -f -- "$word")
+}
+complete -F _nandlab nandlab
