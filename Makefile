@@ -1,4 +1,4 @@
-# Builds and installs the three programs. Each is proved before it is built: the first time takes half an hour of four cores, a
+# Builds and installs the three programs. Each is proved before it is built: the first time takes an hour or more, a
 # second one seconds. Wants the Rattle kit's `rt` on the path; `make install` takes PREFIX and DESTDIR.
 PREFIX ?= /usr/local
 PROGRAMS = nandctl nandlab nanddisk
