@@ -4,9 +4,9 @@
     bench/manual.py            writes them
     bench/manual.py --check    says which of them are not what would be written; status 1 if any
 
-A page of docs/ is taken section by section, but for those on what is proved. What it may have is what these pages use: headings, paragraphs, lists,
-tables, blocks of code, and inside a line `code`, **strong**, *emphasis* and links. A table of two columns is a list of what its first column names; of
-another one each row is a line, its cells told by the heads.
+A page of docs/ is taken section by section, and behind it the sections of FORMATS that belong to the program. What it may have is what these pages
+use: headings, paragraphs, lists, tables, blocks of code, and inside a line `code`, **strong**, *emphasis* and links. A table of two columns is a list
+of what its first column names; of another one each row is a line, its cells told by the heads.
 """
 
 import re
@@ -15,15 +15,13 @@ import textwrap
 from pathlib import Path
 
 TOP = Path(__file__).resolve().parent.parent
-# page, its one line, the page of docs/ that it is made of
+# page, its one line, the page of docs/ that it is made of, and sections of FORMATS.md
 PAGES = {
-    "nandctl": ("check and read raw images of a NAND die", "NANDCTL.md"),
-    "nandlab": ("tools for recovery laboratories, on dumps of one NAND die", "LABORATORY.md"),
-    "nanddisk": ("a NAND die in a file, served as a disk by NBD", "DISK.md"),
+    "nandctl": ("check and read raw images of a NAND die", "NANDCTL.md", ()),
+    "nandlab": ("tools for recovery laboratories, on dumps of one NAND die", "LABORATORY.md", ("Refusals of `nandlab`",)),
+    "nanddisk": ("a NAND die in a file, served as a disk by NBD", "DISK.md", ("Texts of `nanddisk`",)),
 }
-# sections for those who read contracts, not for users
 DATE = "2026-11-27"
-LEFT_OUT = {"what is proved", "how what is above is proved", "what stands", "the die over a store", "the disk over it"}
 SEE = {"nandctl": ("nandlab", "nanddisk"), "nandlab": ("nandctl", "nanddisk"), "nanddisk": ("nandctl", "nandlab")}
 WIDTH = 78
 
@@ -129,18 +127,12 @@ def version():
 
 
 def page_of(name):
-    about, source = PAGES[name]
+    about, source, others = PAGES[name]
     text = (TOP / "docs" / source).read_text()
-    parts = parts_of(text)
+    parts = parts_of(text) + [(2, heading, said) for _, heading, said in parts_of((TOP / "docs/FORMATS.md").read_text()) if heading in others]
     out = [f'.\\" Written by bench/manual.py from docs/{source}', f'.TH {name.upper()} 1 "{DATE}" "Kothlaim {version()}" "User Commands"',
            ".SH NAME", f"{name} \\- {plain(about)}", ".SH SYNOPSIS", *synopsis_of(name, text), ".SH DESCRIPTION"]
-    skipped = 0
     for depth, heading, said in parts:
-        if skipped and depth > skipped:
-            continue
-        skipped = depth if heading.lower() in LEFT_OUT else 0
-        if skipped:
-            continue
         if depth == 2:
             out.append(f".SH {plain(heading.upper().replace('`', ''))}")
         elif depth == 3:
