@@ -10,7 +10,7 @@ process that a command starts, so that other work on the machine disturbs it lit
 ends; its seconds are those of a processor since the line before. The first of a crate is left out, since the libraries are read
 before it: that is a column of its own.
 
-Prints a Markdown table for bench/RESULTS.md, and on standard error each crate as it ends. The whole takes as long as its sum says.
+Prints a Markdown table, and on standard error each crate as it ends. The whole takes as long as its sum says.
 """
 
 import os

@@ -5,7 +5,7 @@
 
 It starts the command at the top of the repository, hands its lines on, and looks twice a second at each process that it started: which
 crate that proves, and the time of a processor that it has used. What an earlier run on this machine proved is kept and costs nothing, so
-a whole table wants a machine that has kept nothing, or --anew. Prints a Markdown table for bench/RESULTS.md after the command's last line.
+a whole table wants a machine that has kept nothing, or --anew. Prints a Markdown table after the command's last line.
 """
 
 import os

@@ -8,6 +8,7 @@
                                         the edits of a file, one after another; lines '# NAME' stand between them
     bench/planted.py --first PATH ..    any of these, but first this module or function of the crate is checked alone, as `laws`: what
                                         that refuses is done in seconds, and the whole check is run where it lets the bug through
+    bench/planted.py --table            tries none: brings bench/planted.tsv in line with the edits that there are
 
 A bug of planted/CRATE may stand in a crate below (`file: ../OTHER/specs/..`), which then is proved first, and is refused by a law of CRATE.
 The whole check of the crate is run over what earlier checks kept (crates/*/out). Of each bug one line is printed:
@@ -18,9 +19,14 @@ The whole check of the crate is run over what earlier checks kept (crates/*/out)
     unfit     its texts do not stand once in the sources
     none      the check came to no verdict
 
+The last verdict of each edit stands in bench/planted.tsv: crate, edit (`must-fail/NAME`, `bend/NAME`), verdict, by what, day, and a number of the
+edit's text. An edit whose text has changed since, or that has no line, is `untried`.
+
 Answers 1 where any is not refused. It is no part of the gate, which tries crates/CRATE/must-fail.
 """
 
+import datetime
+import hashlib
 import pathlib
 import re
 import shutil
@@ -31,6 +37,7 @@ import tempfile
 import edits
 
 TOP = edits.TOP
+TABLE = TOP / "bench" / "planted.tsv"
 PARTS = ("src", "specs", "proofs")
 # a name that stands nowhere, or a text that is none of the language; in a proof a field that a bent definition lacks is none of these
 NAMELESS = re.compile(
@@ -111,12 +118,17 @@ def try_edit(room, name, pairs_file, first):
     return verdict, why
 
 
+def pieces_of(file):
+    """The edits of one file of bends, each its name and its text."""
+    pieces = (piece.partition("\n") for piece in re.split(r"^# ", file.read_text(encoding="utf-8"), flags=re.MULTILINE)[1:])
+    return [(name.strip(), text) for name, _, text in pieces]
+
+
 def bends_of(file, room):
     """The edits of one file, as files of their own."""
     found = []
-    for piece in re.split(r"^# ", file.read_text(encoding="utf-8"), flags=re.MULTILINE)[1:]:
-        name, _, text = piece.partition("\n")
-        path = room / f"{name.strip()}.edit"
+    for name, text in pieces_of(file):
+        path = room / f"{name}.edit"
         path.write_text(text, encoding="utf-8")
         found.append(path)
     return found
@@ -131,6 +143,33 @@ def wanted(words, room):
         return [(name, sorted((TOP / "crates" / name / "must-fail").glob("*.edit"))) for name in words[1:]]
     names = words or sorted(folder.name for folder in (TOP / "planted").iterdir())
     return [(name.split("/")[0], sorted((TOP / "planted").glob(name + (".edit" if "/" in name else "/*.edit")))) for name in names]
+
+
+def named_edits():
+    """Every edit: its crate and name, and its text."""
+    found = {}
+    for path in TOP.glob("planted/*/*.edit"):
+        found[path.parent.name, path.stem] = path.read_text(encoding="utf-8")
+    for path in TOP.glob("crates/*/must-fail/*.edit"):
+        found[path.parent.parent.name, f"must-fail/{path.stem}"] = path.read_text(encoding="utf-8")
+    for path in TOP.glob("bench/bends/*.txt"):
+        for name, text in pieces_of(path):
+            found[path.stem, f"bend/{name}"] = text
+    return found
+
+
+def write_table(news):
+    """Writes the table anew: what this run found, what stood there of edits whose text is the same, and the others untried."""
+    lines = TABLE.read_text(encoding="utf-8").splitlines()[1:] if TABLE.exists() else []
+    old = {(crate, name): rest for crate, name, *rest in (line.split("\t") for line in lines)}
+    rows = ["crate\tedit\tverdict\tby what\tday\ttext"]
+    for (crate, name), text in sorted(named_edits().items()):
+        number = hashlib.sha256(text.encode()).hexdigest()[:8]
+        told = news.get((crate, name)) or old.get((crate, name), ["untried", "", "", number])[:3]
+        if (crate, name) not in news and (crate, name) in old and old[crate, name][3] != number:
+            told = ["untried", f"its earlier text was {told[0]}" if told[0] != "untried" else told[1], ""]
+        rows.append("\t".join((crate, name, *told, number)))
+    TABLE.write_text("\n".join(rows) + "\n", encoding="utf-8")
 
 
 def below(names):
@@ -155,11 +194,15 @@ def copy_crates(room, kept):
 
 
 def main():
-    room = pathlib.Path(tempfile.mkdtemp())
-    counts = {}
+    counts, news = {}, {}
     first, words = None, sys.argv[1:]
+    if words == ["--table"]:
+        write_table(news)
+        return 0
+    room = pathlib.Path(tempfile.mkdtemp())
     if words[:1] == ["--first"]:
         first, words = words[1], words[2:]
+    sort = {"--bends": "bend/", "--must-fail": "must-fail/"}.get(words[0] if words else "", "")
     try:
         for file in ("crates.txt", "HANDLES"):
             shutil.copy(TOP / file, room)
@@ -172,9 +215,11 @@ def main():
             for file in files:
                 verdict, why = try_edit(room, name, file, first)
                 counts[verdict] = counts.get(verdict, 0) + 1
+                news[name, sort + file.stem] = [verdict, " ".join(why.split())[:160], str(datetime.date.today())]
                 print(f"{verdict:8} {name}/{file.stem}  {why[:200]}", flush=True)
     finally:
         shutil.rmtree(room)
+        write_table(news)
     print(", ".join(f"{count} {verdict}" for verdict, count in sorted(counts.items())))
     return 0 if set(counts) == {"refused"} else 1
 
