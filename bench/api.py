@@ -50,7 +50,7 @@ def clean(signature):
 def told(lines):
     """A docstring as paragraphs, points of lists and tables of Markdown; what every call has, its source in this project, is left out."""
     text = "\n".join(re.sub(r"^\s*///? ?", "", line) for line in lines)
-    text = re.sub(r"\(This project(?:'s(?: rules?)?)?\.\)|^Source: this project\.|Source: this project\.$| \(this project\)", "", text, flags=re.MULTILINE)
+    text = re.sub(r"\(This\s+project(?:'s(?:\s+rules?)?)?\.\)|Source:\s+this\s+project\.| \(this\s+project\)", "", text)
     text = re.sub(r"\[(`[^`\]]+`)\]", r"\1", text).replace("# Errors\n\n", "Errors: ")
     parts = re.split(r"\n\s*\n|\n(?=- )", text)
     return [part if part.startswith("|") else " ".join(part.split()) for part in parts if part.strip()]
@@ -99,7 +99,7 @@ def wrapped(paragraphs, indent=""):
 
 def entry(signature, paragraphs):
     """A call of a type, and below it what is said of it."""
-    return [f"- `{signature}`", *wrapped(paragraphs, "  ")]
+    return [f"- `{signature}`" + (":" if paragraphs else ""), *wrapped(paragraphs, "  ")]
 
 
 def variants_of(body):
