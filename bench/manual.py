@@ -4,9 +4,9 @@
     bench/manual.py            writes them
     bench/manual.py --check    says which of them are not what would be written; status 1 if any
 
-A page of docs/ is taken section by section, and behind it the sections of FORMATS that belong to the program. What it may have is what these pages
-use: headings, paragraphs, lists, tables, blocks of code, and inside a line `code`, **strong**, *emphasis* and links. A table of two columns is a list
-of what its first column names; of another one each row is a line, its cells told by the heads.
+A page of docs/ is taken section by section, and behind it the sections of FORMATS that belong to the program. What it may have is what these pages use: headings, paragraphs, lists,
+tables, blocks of code, and inside a line `code`, **strong**, *emphasis* and links. A table of two columns is a list of what its first column names; of
+another one each row is a line, its cells told by the heads.
 """
 
 import re
@@ -15,14 +15,18 @@ import textwrap
 from pathlib import Path
 
 TOP = Path(__file__).resolve().parent.parent
-# page, its one line, the page of docs/ that it is made of, and sections of FORMATS.md
+# page, its one line, the page of docs/ that it is made of
 PAGES = {
-    "nandctl": ("check and read raw images of a NAND die", "NANDCTL.md", ()),
-    "nandlab": ("tools for recovery laboratories, on dumps of one NAND die", "LABORATORY.md", ("Refusals of `nandlab`",)),
-    "nanddisk": ("a NAND die in a file, served as a disk by NBD", "DISK.md", ("Texts of `nanddisk`",)),
+    "nandctl": ("check and read raw images of a NAND die", "NANDCTL.md"),
+    "nandlab": ("tools for recovery laboratories, on dumps of one NAND die", "LABORATORY.md"),
+    "nanddisk": ("a NAND die in a file, served as a disk by NBD", "DISK.md"),
 }
+# sections for those who read contracts, not for users
 DATE = "2026-11-27"
+LEFT_OUT = {"what is proved", "how what is above is proved", "what stands", "the die over a store", "the disk over it"}
 SEE = {"nandctl": ("nandlab", "nanddisk"), "nandlab": ("nandctl", "nanddisk"), "nanddisk": ("nandctl", "nandlab")}
+# sections of FORMATS.md that stand behind a page's own
+BEHIND = {"nandlab": ("Refusals of `nandlab`",), "nanddisk": ("Texts of `nanddisk`",)}
 WIDTH = 78
 
 
@@ -112,6 +116,15 @@ def parts_of(markdown):
     return [(len(found[it]), found[it + 1], found[it + 2]) for it in range(1, len(found), 3)]
 
 
+def behind(name):
+    """The roff of the sections of FORMATS that belong to a page."""
+    out = []
+    for _, heading, said in parts_of((TOP / "docs/FORMATS.md").read_text()):
+        if heading in BEHIND.get(name, ()):
+            out += [f".SH {plain(heading.upper().replace('`', ''))}", *body_of(said)[1:]]
+    return out
+
+
 def synopsis_of(name, markdown):
     """The forms of the program's words: the first column of the first table of the page that has them."""
     for rows in re.findall(r"(?:^\|.*\n)+", markdown, re.M):
@@ -127,18 +140,25 @@ def version():
 
 
 def page_of(name):
-    about, source, others = PAGES[name]
+    about, source = PAGES[name]
     text = (TOP / "docs" / source).read_text()
-    parts = parts_of(text) + [(2, heading, said) for _, heading, said in parts_of((TOP / "docs/FORMATS.md").read_text()) if heading in others]
+    parts = parts_of(text)
     out = [f'.\\" Written by bench/manual.py from docs/{source}', f'.TH {name.upper()} 1 "{DATE}" "Kothlaim {version()}" "User Commands"',
            ".SH NAME", f"{name} \\- {plain(about)}", ".SH SYNOPSIS", *synopsis_of(name, text), ".SH DESCRIPTION"]
+    skipped = 0
     for depth, heading, said in parts:
+        if skipped and depth > skipped:
+            continue
+        skipped = depth if heading.lower() in LEFT_OUT else 0
+        if skipped:
+            continue
         if depth == 2:
             out.append(f".SH {plain(heading.upper().replace('`', ''))}")
         elif depth == 3:
             out.append(f".SS {plain(heading.replace('`', ''))}")
         body = body_of(said)
         out += body[1:] if body and body[0] == ".PP" else body
+    out += behind(name)
     out += [".SH SEE ALSO", ",\n".join(f".BR {it} (1)" for it in SEE[name]).replace(",\n", " ,\n")]
     return "\n".join(out) + "\n"
 
