@@ -25,8 +25,6 @@ PAGES = {
 DATE = "2026-11-27"
 LEFT_OUT = {"what is proved", "how what is above is proved", "what stands", "the die over a store", "the disk over it"}
 SEE = {"nandctl": ("nandlab", "nanddisk"), "nandlab": ("nandctl", "nanddisk"), "nanddisk": ("nandctl", "nandlab")}
-# sections of FORMATS.md that stand behind a page's own
-BEHIND = {"nandlab": ("Refusals of `nandlab`",), "nanddisk": ("Texts of `nanddisk`",)}
 WIDTH = 78
 
 
@@ -114,6 +112,10 @@ def parts_of(markdown):
     """The heading, the depth and the text of each part of a page."""
     found = re.split(r"^(#{1,3}) (.*)$", markdown, flags=re.M)
     return [(len(found[it]), found[it + 1], found[it + 2]) for it in range(1, len(found), 3)]
+
+
+# sections of FORMATS.md that stand behind a page's own
+BEHIND = {"nandlab": ("Refusals of `nandlab`",), "nanddisk": ("Texts of `nanddisk`",)}
 
 
 def behind(name):
