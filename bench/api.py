@@ -14,14 +14,14 @@ import textwrap
 from pathlib import Path
 
 TOP = Path(__file__).resolve().parent.parent
-# a crate, what it is, the items that are shown, and those that only crates above it use
+# a crate, what it is, the items that are shown, and those that crates above it use, or readers of dumps
 CRATES = [
-    ("page_layout", "Geometry and pages", ("Geometry", "GeometryFault", "PageSource", "SourceFault", "ImageSlice", "ImageFault"), ()),
+    ("page_layout", "Geometry and pages", ("Geometry", "GeometryFault", "PageSource", "SourceFault"), ()),
     ("onfi_cycles", "Bus, driver, die", ("Bus", "BusFault", "Driver", "Nand", "Outcome"), ("Status",)),
     ("mount", "Format and mount", ("format", "FormatFault", "mount", "mount_counted", "Mounted"), ()),
     ("certificate", "Certificate", ("read_certificate", "write_certificate", "CertFault", "Certificate"), ("BlockState",)),
-    ("image_check", "Checker and plain scan", ("check", "check_stream", "Accepted", "Refusal", "sector", "sector_in", "SectorFault"),
-     ("describe_blocks", "Newest", "find_stale", "Survey")),
+    ("image_check", "Checker", ("check", "check_stream", "Accepted", "Refusal"),
+     ("sector", "sector_in", "SectorFault", "describe_blocks", "Newest", "find_stale", "Survey")),
     ("ftl_device", "Device", ("Device", "DeviceFault", "StartFault"), ()),
 ]
 WIDTH = 150
