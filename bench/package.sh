@@ -9,7 +9,7 @@ root=$(mktemp -d)
 trap 'rm -rf "$root"' EXIT
 chmod 755 "$root"
 make install DESTDIR="$root" PREFIX=/usr
-gzip -9n "$root"/usr/share/man/man1/*.1
+gzip -9n "$root"/usr/share/man/man*/*
 mkdir "$root/DEBIAN"
 cat >"$root/DEBIAN/control" <<END
 Package: kothlaim
