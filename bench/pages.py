@@ -5,7 +5,7 @@
     bench/pages.py --words    prints how many words each has
 
 Of README, CHANGELOG, CONTRIBUTING, docs/, bench/ and examples/: each link leads to a file that is there, and to a heading of it where it names one; no cell of a
-table has more than forty words, of README fifteen; README has at most 125 lines. Prints what is not so, and answers 1 then.
+table has more than forty words, of README fifteen; README has at most 125 lines; docs/MAP.md names each page. Prints what is not so, and answers 1 then.
 """
 
 import functools
@@ -46,6 +46,13 @@ def links_of(path):
             yield f"no heading for {link}"
 
 
+def unnamed():
+    """The pages that the map does not name."""
+    page = TOP / "docs" / "MAP.md"
+    named = {(page.parent / link.partition("#")[0]).resolve() for link in LINK.findall(page.read_text(encoding="utf-8"))}
+    return [f"docs/MAP.md: no {path.relative_to(TOP)}" for path in PAGES if path not in named and path != page]
+
+
 def cells_of(path, most):
     """The cells of a page's tables that are too long."""
     for row in re.findall(r"^\|.*$", CODE.sub("", path.read_text(encoding="utf-8")), re.MULTILINE):
@@ -56,7 +63,7 @@ def cells_of(path, most):
 
 
 def main():
-    wrong = []
+    wrong = unnamed() if sys.argv[1:] != ["--words"] else []
     for path in PAGES:
         name = path.relative_to(TOP)
         readme = path == TOP / "README.md"
