@@ -80,7 +80,9 @@ def verdict_of(said):
         return ("unread" if messages else "none"), messages[0][1] if messages else said[-160:]
     if not messages:
         return "none", said[-160:]
-    return "refused", f"{messages[0][0] or ''} {messages[0][1]}"
+    # an open goal says more than an answer whose form broke
+    file, text = next((it for it in messages if it[1].startswith("must prove")), messages[0])
+    return "refused", f"{file or ''} {text}"
 
 
 def restore(room, name):
