@@ -8,7 +8,7 @@ use Rattle.page_layout.specs.Flash.{Flash, Leads}
 use Rattle.page_layout.specs.Recording.{Recording}
 use Rattle.page_layout.specs.Sound.{version_for}
 use Rattle.page_layout.specs.Raw.{raw_image, raw_bytes}
-use Rattle.page_layout.specs.Version.{is_old}
+use Rattle.page_layout.specs.Version.{is_old, old_pages}
 use Rattle.certificate.specs.Claim.{Claim}
 use Rattle.promises.specs.Legal.{IsLegal}
 use Rattle.image_check.specs.Mountable.{IsMountable}
@@ -17,8 +17,11 @@ use Rattle.nand_die.specs.Made.{loaded_flash}
 use Rattle.mount.specs.Log.{failures}
 use Rattle.allocation.specs.State.{free_count}
 use Rattle.collection.specs.Safe.{ram, image_in}
+use Rattle.collection.specs.Renew.{IsNextDue}
 use Rattle.ftl_device.specs.declared.device.Device.{Device}
 use Rattle.ftl_device.specs.Begin.{is_bad_in}
+use Rattle.ftl_device.specs.Renewed.{HasOldTablesOnly}
+use Rattle.ftl_device.specs.Brings.{BringsOne}
 use Rattle.ftl_device.specs.declared.fault.DeviceFault.{DeviceFault}
 use Rattle.command_words.specs.declared.words.ServeWords.{ServeWords}
 use Rattle.commands.specs.declared.files.FileFault.{FileFault}
@@ -26,7 +29,7 @@ use Rattle.commands.specs.declared.text.CommandFault.{CommandFault}
 use Rattle.commands.specs.Check.{AsksForCapacity}
 use Rattle.commands.specs.Files.{Left, Stored, with_store, written, unwritten}
 use Rattle.commands.specs.Migrate.{Calls, DoesMigrate, EndsShort, MigratesDie, migrated_line}
-use Rattle.commands.specs.Serve.{bad_in, checked_words, flash_behind}
+use Rattle.commands.specs.Serve.{Driver, bad_in, checked_words, flash_behind, recorded_of}
 use Rattle.commands.specs.Text.{device_words, line_of}
 
 -- WHATEVER CAME OF THE CALLS, the bytes are those of the die's pages. Its array is that of the image before, and it mounts. One legal log leads to the die,
@@ -95,3 +98,13 @@ CallsCountedLaw {N} flash recorded honest calm programs erases failed = (count c
     → image_in flash last'.engine ≡ image_in flash last.engine
     → RenewsWithRoom flash recorded honest calm programs erases failed count first last
     → RenewsWithRoom flash recorded honest calm programs erases failed count' first last' → count ≡ count'
+
+-- THE NUMBER IS NO MORE THAN THE PAGES OF VERSION 1 that are newest in the image before, whatever room was made; and it is 0 where only table pages are
+abbrev pub NumberLaw : Type 0
+NumberLaw = (g : Geometry) (capacity : ℕ) (c : Claim) (s : Flash) (after : List ℕ) (count : ℕ) → MigratesDie g capacity c s after (Ok count)
+    → (count ≤ old_pages g s.image) × (HasOldTablesOnly s.image → count ≡ 0)
+
+-- THE FIRST CALL begins with the lowest row of IMAGE that has a page to be brought forward
+abbrev pub FirstPageLaw : Type 0
+FirstPageLaw = (g : Geometry) (capacity : ℕ) (c : Claim) (s : Flash) (after : List ℕ) (count : ℕ) → (m : MigratesDie g capacity c s after (Ok (suc count)))
+    → (next : Device Driver) × (one : BringsOne flash_behind recorded_of m.first next) × IsNextDue 0 one.row s.image

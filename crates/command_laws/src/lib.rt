@@ -7,7 +7,7 @@ ghost use Rattle.command_laws.specs.Rescues.{NoGainLaw, NoneAilsLaw};
 ghost use Rattle.command_laws.specs.Loads.{KnownLaw, InputLaw};
 ghost use Rattle.command_laws.specs.Images.{HeldLaw, OtherGeometryLaw, AcceptedLaw, SpelledLaw, FormattedLaw, ServedLaw};
 ghost use Rattle.commands.specs.Serve.{flash_behind, recorded_of, is_honest, is_calm_as, programs_of, erases_of, failures_of};
-ghost use Rattle.command_laws.specs.Migrations.{CallsCountedLaw, MigratedLaw, SettledLaw, ShortLaw, MigrateDoneLaw, MigrateStopsLaw};
+ghost use Rattle.command_laws.specs.Migrations.{CallsCountedLaw, MigratedLaw, FirstPageLaw, NumberLaw, SettledLaw, ShortLaw, MigrateDoneLaw, MigrateStopsLaw};
 ghost use Rattle.command_laws.specs.Lines.{ToldLaw, WholeLineLaw, UnprintedLaw, FailedStoreLaw, StoresInOrderLaw, UnstoredLaw};
 
 use commands::FileStore;
@@ -43,11 +43,14 @@ pub fn line_laws()
 {}
 
 /// What a migration makes of a die in memory: the array stays, the image mounts, and nothing failed; where no call was refused no newest page is of version 1
-/// and none is stale; how it ends short; and that the calls which brought a page forward have one number, where nine blocks are free as each begins. (This project.)
+/// and none is stale; how it ends short; the number of calls that brought a page forward is no more than the pages of version 1, and the first
+/// one brings that of lowest row; and they have one number, where nine blocks are free as each begins. (This project.)
 pub fn migration_laws()
     ensures migrated { MigratedLaw }
     ensures settled { SettledLaw }
     ensures short { ShortLaw }
+    ensures number { NumberLaw }
+    ensures first { FirstPageLaw }
     ensures calls { CallsCountedLaw flash_behind recorded_of is_honest is_calm_as programs_of erases_of failures_of }
 {}
 

@@ -1,2 +1,4 @@
+pub mod BroughtLemmas
 mod CollectionLemmas
 mod DeviceLemmas
+mod OrderLemmas

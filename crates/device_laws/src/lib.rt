@@ -6,7 +6,11 @@ ghost use Rattle.device_laws.specs.Collections.{VictimLaw, PinnedFirstLaw, NoneW
 ghost use Rattle.device_laws.specs.Logs.{NothingLaw, LedLaw, TakesLaw, LegalCallLaw};
 ghost use Rattle.device_laws.specs.Turns.{GoesOnLaw, BeginsLaw, RescueFirstLaw};
 ghost use Rattle.device_laws.specs.Reads.{KeepsRowsLaw, RefusedReadLaw, ReadFaultsLaw};
+ghost use Rattle.device_laws.specs.Brought.{CountedByLaw, FewProgramsLaw, OneRenewedLaw, RoomLogLaw};
+ghost use Rattle.device_laws.specs.FlushOrder.{HighestLastLaw, LastTableLaw, SpelledTableLaw};
 ghost use Rattle.device_laws.specs.Flushes.{NoneStaleLaw, NoTableOldLaw, OneFailureLaw, ShownShortLaw, CallFailuresLaw};
+
+use onfi_cycles::Nand;
 
 /// Which block is collected for a call: the pinned one, and else a closed one of the fewest newest pages, with fewer than nine blocks free. As
 /// it is erased no sector is on the moved list; translation pages are written lowest first, and only those that have to be; room is five free
@@ -55,4 +59,22 @@ pub fn flush_laws()
     ensures one { OneFailureLaw }
     ensures short { ShownShortLaw }
     ensures failures { CallFailuresLaw }
+{}
+
+/// In which order a flush programs its pages, whatever the die does: of the first translation pages the highest that lacks a row is last, while free
+/// blocks are left for each; and the last table page is last of all. A table page spells the table as it is then. (This project.)
+pub fn order_laws<N: Nand>()
+    ensures highest { HighestLastLaw N.flash N.recorded N.honest }
+    ensures last { LastTableLaw N.flash N.recorded N.honest }
+    ensures spelled { SpelledTableLaw N.flash N.recorded N.honest }
+{}
+
+/// How many calls of `migrate_one` answered `true`, one after another, from one device on, also where room had to be made for them: the image
+/// that they leave tells it, with the pages of version 1 that each call's room left where they were. With nine blocks free such a call
+/// programs two pages at most, beside those that fail, and renews the page that was found. The log of making room leads from die to die. (This project.)
+pub fn brought_laws<N: Nand>()
+    ensures counted { CountedByLaw N.flash N.recorded }
+    ensures few { FewProgramsLaw }
+    ensures renewed { OneRenewedLaw N.flash N.recorded }
+    ensures room { RoomLogLaw N.flash N.recorded }
 {}

@@ -1,2 +1,3 @@
 mod EndLemmas
 mod LineLemmas
+mod RestLemmas

@@ -1,2 +1,3 @@
 pub mod Ends
 pub mod Lines
+pub mod RestWords

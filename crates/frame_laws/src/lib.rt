@@ -1,9 +1,12 @@
-//! Laws on a stream of requests: what is said where it ends or fails; and on a line of which a part was written. They stand in no crate that others rest on, so that a new one has
-//! nothing proved again.
+//! Laws on a stream of requests: what is said where it ends or fails; on a line of which a part was written; and on rests between requests of NBD. They stand in no crate
+//! that others rest on, so that a new one has nothing proved again.
 #![tactic(auto)]
 
 ghost use Rattle.frame_laws.specs.Ends.{AtEndLaw, NoHeaderLaw, CutLaw};
-ghost use Rattle.frame_laws.specs.Lines.{PartLaw};
+ghost use Rattle.frame_laws.specs.Lines.{PartLaw, SentLineLaw};
+ghost use Rattle.frame_laws.specs.RestWords.{RestWordLaw};
+
+use nbd_stream::Disk;
 
 /// A stream that ends at the end of a request or inside one has ended; a bad frame is twelve bytes that are no header; and a read that failed
 /// came inside a request. (This project.)
@@ -13,7 +16,14 @@ pub fn end_laws()
     ensures cut { CutLaw }
 {}
 
-/// A part of a line is a beginning of it, and never all of it. (This project.)
+/// A part of a line is a beginning of it, and never all of it; and a line is sent whole, or a write failed and a part of it was. (This project.)
 pub fn line_laws()
-    ensures { PartLaw }
+    ensures part { PartLaw }
+    ensures sent { SentLineLaw }
+{}
+
+/// A rest that is told of a disk between two requests of NBD came after a change, and is what the disk itself says of it; and where none is told the
+/// disk is as it was. (This project.)
+pub fn rest_laws<D: Disk>()
+    ensures { RestWordLaw D.contents D.honest D.calm D.rests }
 {}

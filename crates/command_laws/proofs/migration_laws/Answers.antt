@@ -1,5 +1,5 @@
 use Rattle.commands.specs.Serve.{flash_behind, recorded_of, is_honest, is_calm_as, programs_of, erases_of, failures_of}
-use Rattle.command_laws.proofs.MigrationLemmas.{calls_counted, migrated, settled, short}
+use Rattle.command_laws.proofs.MigrationLemmas.{calls_counted, first_page, migrated, number, settled, short}
 use Rattle.command_laws.proofs.migration_laws.Goals as goal
 
 pub returns-clause-migrated : goal.returns-clause-migrated
@@ -10,6 +10,12 @@ returns-clause-settled c = settled
 
 pub returns-clause-short : goal.returns-clause-short
 returns-clause-short c = short
+
+pub returns-clause-number : goal.returns-clause-number
+returns-clause-number c = number
+
+pub returns-clause-first : goal.returns-clause-first
+returns-clause-first c = first_page
 
 pub returns-clause-calls : goal.returns-clause-calls
 returns-clause-calls c = calls_counted flash_behind recorded_of is_honest is_calm_as programs_of erases_of failures_of

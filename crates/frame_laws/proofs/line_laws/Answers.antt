@@ -1,5 +1,5 @@
-use Rattle.frame_laws.proofs.LineLemmas.{part}
+use Rattle.frame_laws.proofs.LineLemmas.{part, sent}
 use Rattle.frame_laws.proofs.line_laws.Goals as goal
 
 pub returns : goal.returns
-returns c = part
+returns c = record { part = part; sent = sent }
