@@ -30,10 +30,13 @@ LAB = str(Path(os.environ.get("LAB", BUILT)).resolve())
 NONE = "usage: no such command, see nandlab --help\n"
 COMMANDS = ["geometry", "survey", "array", "compare", "merge", "repair"]
 FORMS = random.Random("forms")
+# which of the last lines some dump had, and whether one with factory marks left nothing open
+SEEN = set()
 
 
-def line_of(told, outside):
-    """The line that an object of a document stands for, where so many pages are of sectors that the geometry has not."""
+def line_of(told, outside, rewritten):
+    """The line that an object of a document stands for, where so many pages are of sectors that the geometry has not, and so many of blocks that
+    were written again."""
     kind = told.pop("line")
     if kind == "pages":
         return f"pages {told['sort']} {told['count']}"
@@ -61,10 +64,10 @@ def line_of(told, outside):
         return f"mended {told['mended']}"
     if kind == "merged":
         return " ".join(f"{name} {told[name]}" for name in ["sound", "differ", "majority", "erased", "unsound"])
-    if kind in ("holes", "outside"):
+    if kind in ("factory", "rewritten", "holes", "outside"):
         return f"{kind} {told['pages']}"
     if kind == "age":
-        return age_text(told["unsound"], told["older"], outside)
+        return age_text(told["unsound"], told["older"], outside, rewritten)
     ((of, number),) = told.items()
     return f"{kind} {of} {number}"
 
@@ -75,8 +78,8 @@ def lines_of(command, text):
     objects = [json.dumps(told, sort_keys=True, separators=(",", ":")) for told in document]
     assert text == "[" + ",\n".join(objects) + "\n]\n", text
     assert document[0] == {"command": command, "line": "command", "program": "nandlab"}, text
-    outside = sum(told["pages"] for told in document[1:] if told["line"] == "outside")
-    return "".join(line_of(told, outside) + "\n" for told in document[1:])
+    outside, rewritten = (sum(told["pages"] for told in document[1:] if told["line"] == line) for line in ["outside", "rewritten"])
+    return "".join(line_of(told, outside, rewritten) + "\n" for told in document[1:])
 
 
 def run(words, folder):
@@ -89,38 +92,44 @@ def run(words, folder):
     return done.returncode, out, done.stderr.decode()
 
 
-def age_text(unsound, older, outside):
+def age_text(unsound, older, outside, rewritten):
     if older > 0:
         claim = f"at most {older} sectors may be older than the last write"
     else:
         claim = ("of these sectors " if outside else "") + "the array is that of every page that was programmed"
-    return f"unsound {unsound}: {claim}, if no page was lost behind the last one of its block"
+    moved = ", nor a newest one in a rewritten block" if rewritten else ""
+    return f"unsound {unsound}: {claim}, if no page was lost behind the last one of its block{moved}"
 
 
 def rows_age_text(unsound):
     return f"unsound {unsound}: of these rows alone, of others nothing is told"
 
 
-def unsound_of(image):
-    """How many pages are neither erased nor sound."""
-    return sum(1 for r, e in zip(image.records, image.erased) if r is None and not e)
+def unsound_of(image, block):
+    """How many pages of a block are neither erased nor sound."""
+    rows = range(block * image.g.pages, (block + 1) * image.g.pages)
+    return sum(image.records[row] is None and not image.erased[row] for row in rows)
 
 
-def holes_of(image):
+def holes_of(image, block):
     """How many erased pages stand before one of their block that is not: a block is programmed in order, so they were lost."""
-    pages, holes = image.g.pages, 0
-    for first in range(0, image.g.rows, pages):
-        last = max((row for row in range(first, first + pages) if not image.erased[row]), default=first)
-        holes += sum(image.erased[first:last])
-    return holes
+    first, end = block * image.g.pages, (block + 1) * image.g.pages
+    last = max((row for row in range(first, end) if not image.erased[row]), default=first)
+    return sum(image.erased[first:last])
 
 
 def age_lines(image):
-    """What the dump leaves open."""
-    unsound, holes = unsound_of(image), holes_of(image)
+    """What the dump leaves open, by block: blocks that the table names factory bad, those that were written again, and all others."""
+    blocks = range(image.g.blocks)
+    factory = {block for block in blocks if ref.named(image, block) == 1}
+    rewritten = set(ref.written_again(image))
+    others = set(blocks) - factory - rewritten
+    unsound, holes = (sum(count(image, block) for block in others) for count in [unsound_of, holes_of])
+    marks, moved = (sum(unsound_of(image, block) + holes_of(image, block) for block in some) for some in [factory, rewritten])
     outside = sum(x is not None and x.key()[0] == "sector" and x.number >= image.g.sectors for x in image.records)
-    told = f"holes {holes}\n" * (holes > 0) + f"outside {outside}\n" * (outside > 0)
-    return told + age_text(unsound, unsound + holes, outside) + "\n"
+    named = {"factory": marks, "rewritten": moved, "holes": holes, "outside": outside}
+    SEEN.update({name for name, count in named.items() if count > 0} | {"none" for _ in [0] if unsound + holes == 0 and marks > 0})
+    return "".join(f"{name} {count}\n" for name, count in named.items() if count > 0) + age_text(unsound, unsound + holes, outside, moved) + "\n"
 
 
 def some_rows(rng, g):
@@ -212,7 +221,7 @@ def survey_of(image, asked):
             lines.append(f"block {b} class {CLASSES[kind]} pointer {pointer} live {live} wear {wear} unsound {unsound}")
     text = "".join(line + "\n" for line in lines)
     if asked:
-        return f"rows {asked[1]}\n" + text + rows_age_text(unsound_of(image)) + "\n", shown
+        return f"rows {asked[1]}\n" + text + rows_age_text(len(broken)) + "\n", shown
     return text + age_lines(image), shown
 
 
@@ -363,12 +372,48 @@ def compare_case(rng, folder):
     assert [p.name for p in folder.iterdir()] == ["dump.bin"]
 
 
+def name_grown(rng, image, block, sequence):
+    """A newer table page names a block grown bad, in an erased page of another block."""
+    g, u = image.g, block // image.g.entries
+    row = image.newest("table", u)
+    free = [r for r in range(g.rows) if image.erased[r] and r // g.pages != block]
+    if row is None or not free:
+        return
+    data = bytearray(image.data[row])
+    data[4 * (block % g.entries)] = 2
+    image.put(rng.choice(free), ref.Record(4, u, sequence, 0), bytes(data))
+
+
+def grow_bad(rng, image):
+    """A page of a block fails, and its content is written again elsewhere, whole or all but one page; the table names the block grown bad."""
+    g = image.g
+    block = rng.randrange(g.blocks)
+    rows = range(block * g.pages, (block + 1) * g.pages)
+    sequence = 1 + max([x.sequence for x in image.records if x is not None], default=0)
+    compare.spoil(image, rng.choice(rows), rng.randbytes(g.data), rng.randbytes(g.spare))
+    keys = sorted({image.records[r].key() for r in rows if image.records[r] is not None})
+    if keys and rng.random() < 0.4:
+        keys.remove(rng.choice(keys))
+    for kind, number in keys:
+        free = [r for r in range(g.rows) if image.erased[r] and r not in rows]
+        made = max((image.records[r] for r in rows if image.records[r] is not None and image.records[r].key() == (kind, number)), key=lambda x: x.sequence)
+        if free and sequence < 2**63:
+            old = image.newest(kind, number)
+            image.put(rng.choice(free), ref.Record(made.kind, number, sequence, 0), image.data[old])
+            sequence += 1
+    if sequence < 2**63:
+        name_grown(rng, image, block, sequence)
+
+
 def dump_for(rng):
     g = ref.Geometry(*rng.choice(compare.GEOMETRIES))
-    image = ref.Image(g, b"\xff" * (g.rows * g.page))
-    if rng.random() < 0.5:
+    image = compare.fresh(rng, g) if rng.random() < 0.5 else ref.Image(g, b"\xff" * (g.rows * g.page))
+    if rng.random() < 0.7:
         compare.tables_of(rng, image)
-    compare.fill(rng, image)
+    if rng.random() < 0.9:
+        compare.fill(rng, image)
+    for _ in range(rng.choice([0, 0, 1, 2])):
+        grow_bad(rng, image)
     rows = [r for r, x in enumerate(image.records) if x is not None and x.kind == 1]
     if rows and rng.random() < 0.3:
         # two pages of one sector with one sequence
@@ -683,6 +728,7 @@ def main():
             geometry_case(random.Random(f"geometry {seed}.{i}"), folder)
             repair_case(random.Random(f"repair {seed}.{i}"), folder)
             merge_case(random.Random(f"merge {seed}.{i}"), folder)
+        assert cases < 100 or SEEN == {"factory", "rewritten", "holes", "outside", "none"}, SEEN
         print(f"each of the six commands over {cases} dumps agrees with the reference, and the refusals")
 
 

@@ -128,6 +128,32 @@ class Image:
         return max(rows, key=lambda r: self.records[r].sequence) if rows else None
 
 
+def named(image, block):
+    """The class that the newest table has for a block: 0 good, 1 factory bad, 2 grown bad. 0 too where no page of the table is the newest."""
+    u, entry = divmod(block, image.g.entries)
+    rows = image.of_key("table", u)
+    top = [r for r in rows if image.records[r].sequence == max(image.records[q].sequence for q in rows)]
+    return image.data[top[0]][4 * entry] if len(top) == 1 else 0
+
+
+def written_again(image):
+    """The blocks that the newest table names grown bad, and of which each sound page has a newer page of its key. None where two pages share
+    the greatest sequence of a key, or a sound page is of a key that the die has not."""
+    g, top, found = image.g, {}, []
+    limits = {"sector": g.sectors, "translation": g.translation, "table": g.tables}
+    sound = [x for x in image.records if x is not None]
+    for x in sound:
+        top[x.key()] = max(top.get(x.key(), 0), x.sequence)
+    shared = [x.key() for x in sound if x.sequence == top[x.key()]]
+    if len(shared) != len(set(shared)) or any(x.number >= limits[x.key()[0]] for x in sound):
+        return []
+    for block in range(g.blocks):
+        pages = [x for x in image.records[block * g.pages : (block + 1) * g.pages] if x is not None]
+        if named(image, block) == 2 and all(x.sequence < top[x.key()] for x in pages):
+            found.append(block)
+    return found
+
+
 def sector(image, n):
     if n >= image.g.sectors:
         raise Refused("sector", 1, "OutOfRange")

@@ -11,3 +11,4 @@ pub mod GeometryLemmas
 pub mod RepairLemmas
 pub mod MergeLemmas
 pub mod NameLemmas
+pub mod NameLaws

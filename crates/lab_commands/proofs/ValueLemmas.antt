@@ -8,7 +8,7 @@ use Rattle.serde_json.specs.declared.value.Value.{Value}
 use Rattle.serde_json.specs.Written.{has_float}
 use Rattle.lab_commands.specs.declared.lines.Line.{Line}
 use Rattle.lab_commands.specs.declared.lines.Line.TheVariants.{Pages, NumberRange, Repeated, NotFormatted, TableDamaged, LastSequence, Tied, Missing, Block, PlainBlock, Lost}
-use Rattle.lab_commands.specs.declared.lines.Line.TheVariants.{OfRows, Holes, Outside, Mended, MendedCount, Differ, Unsound, Merged, Age, AgeOfRows}
+use Rattle.lab_commands.specs.declared.lines.Line.TheVariants.{OfRows, Factory, Rewritten, Holes, Outside, Mended, MendedCount, Differ, Unsound, Merged, Age, AgeOfRows}
 use Rattle.lab_commands.specs.declared.lines.Line.TheVariants as line
 use Rattle.lab_commands.specs.declared.values.Member.{Member}
 use Rattle.lab_commands.specs.Values.{count, line_data, member_data, member_name, with_all}
@@ -60,5 +60,7 @@ no_float (Merged differ t) = refl
 no_float (Age d) = refl
 no_float (AgeOfRows n) = refl
 no_float (OfRows rows) = refl
+no_float (Factory n) = refl
+no_float (Rewritten n) = refl
 no_float (Holes n) = refl
 no_float (Outside n) = refl

@@ -1,5 +1,5 @@
 -- The lines of the reports, in words.
-use Rattle.std.specs.Prelude.{ℕ, zero, suc, ◌==◌, if◌then◌else◌, Bool, true, false, List, ◌++◌, codes, Option, Some, None, option_map}
+use Rattle.std.specs.Prelude.{ℕ, zero, suc, ◌==◌, if◌then◌else◌, Bool, true, false, List, [], ◌++◌, codes, Option, Some, None, option_map}
 use Rattle.std.specs.Fmt.{decimal}
 use Rattle.certificate.specs.declared.block_state.BlockState.{BlockState}
 use Rattle.lab_dump.specs.declared.held.State.{State}
@@ -19,7 +19,7 @@ use Rattle.lab_commands.specs.declared.lines.Sort.{Sort}
 use Rattle.lab_commands.specs.declared.lines.Sort.TheVariants as sort
 use Rattle.lab_commands.specs.declared.lines.Line.{Line}
 use Rattle.lab_commands.specs.declared.lines.Line.TheVariants.{Pages, NumberRange, Repeated, NotFormatted, TableDamaged, LastSequence, Tied, Missing, Block, PlainBlock, Lost}
-use Rattle.lab_commands.specs.declared.lines.Line.TheVariants.{OfRows, Holes, Outside, Mended, MendedCount, Differ, Unsound, Merged, Age, AgeOfRows}
+use Rattle.lab_commands.specs.declared.lines.Line.TheVariants.{OfRows, Factory, Rewritten, Holes, Outside, Mended, MendedCount, Differ, Unsound, Merged, Age, AgeOfRows}
 use Rattle.lab_commands.specs.declared.lines.Line.TheVariants as line
 
 -- ---- words
@@ -93,9 +93,13 @@ claim_words d =
     else codes ": of these sectors the array is that of every page that was programmed")
     else (codes ": at most " ++ (decimal (most_older d) ++ codes " sectors may be older than the last write"))
 
+-- what it rests on besides, where there are pages of blocks that were written again
+abbrev pub moved_words : ℕ → List ℕ
+moved_words n = if n == 0 then [] else codes ", nor a newest one in a rewritten block"
+
 -- the same behind how many pages are neither erased nor sound, and before what it rests on
 abbrev pub age_words : Doubts → List ℕ
-age_words d = codes "unsound " ++ (decimal d.unsound ++ (claim_words d ++ codes ", if no page was lost behind the last one of its block"))
+age_words d = codes "unsound " ++ (decimal d.unsound ++ (claim_words d ++ (codes ", if no page was lost behind the last one of its block" ++ moved_words d.rewritten)))
 
 -- a line, without its line feed
 unfoldable pub line_words : Line → List ℕ
@@ -119,6 +123,8 @@ line_words (Merged differ t) = tally_words differ t
 line_words (Age d) = age_words d
 line_words (AgeOfRows n) = codes "unsound " ++ (decimal n ++ codes ": of these rows alone, of others nothing is told")
 line_words (OfRows rows) = codes "rows " ++ (decimal rows.first ++ (codes ".." ++ decimal rows.end))
+line_words (Factory n) = codes "factory " ++ decimal n
+line_words (Rewritten n) = codes "rewritten " ++ decimal n
 line_words (Holes n) = codes "holes " ++ decimal n
 line_words (Outside n) = codes "outside " ++ decimal n
 
@@ -132,6 +138,15 @@ outside_line (suc n) = Some (NumberRange (suc n))
 abbrev pub last_line : ℕ → Option Line
 last_line zero = None
 last_line (suc n) = Some (LastSequence (suc n))
+
+-- pages of bad blocks that leave nothing open, where there are some
+abbrev pub factory_line : ℕ → Option Line
+factory_line zero = None
+factory_line (suc n) = Some (Factory (suc n))
+
+abbrev pub rewritten_line : ℕ → Option Line
+rewritten_line zero = None
+rewritten_line (suc n) = Some (Rewritten (suc n))
 
 -- pages that were lost, or that are of a sector past the last one, where there are some
 abbrev pub hole_line : ℕ → Option Line

@@ -1,5 +1,5 @@
 -- How a name is printed: on one line, with nothing in it that a terminal obeys.
-use Rattle.std.specs.Prelude.{ℕ, zero, suc, ◌/◌, ◌%◌, ◌==◌, ◌&&◌, ◌||◌, if◌then◌else◌, Bool, List, [], ◌∷◌, ◌++◌, length, get_or}
+use Rattle.std.specs.Prelude.{◌≡◌, ℕ, zero, suc, ◌<◌, ◌/◌, ◌%◌, ◌==◌, ◌&&◌, ◌||◌, if◌then◌else◌, Bool, false, All, List, [], ◌∷◌, ◌++◌, length, get_or}
 use Rattle.std.specs.Char.{digit_char}
 use Rattle.std.specs.Int.{is_in_range}
 
@@ -31,3 +31,22 @@ shown_below name (suc place) = shown_below name place ++ shown_at name place
 -- a name as it is printed
 abbrev pub shown : List ℕ → List ℕ
 shown name = shown_below name (length name)
+
+-- ---- laws
+
+-- whether a byte is a control character of ASCII: one below 20h, of which the line feed is one, or 7Fh
+abbrev pub is_control : ℕ → Bool
+is_control byte = is_in_range 0 31 byte || (byte == 127)
+
+-- no byte is a control character of ASCII, and no two that stand together are one past ASCII
+pub record IsQuiet (text : List ℕ) : Type 0 where
+  pub bytes : (i : ℕ) → i < length text → is_control (get_or text i 0) ≡ false
+  pub pairs : (i : ℕ) → is_control_pair (get_or text i 0) (get_or text (suc i) 0) ≡ false
+
+-- What is printed of a name holds no control character, and so no line feed.
+abbrev pub QuietLaw : Type 0
+QuietLaw = (name : List ℕ) → All (λ byte. byte < 256) name → IsQuiet (shown name)
+
+-- Names that are printed alike are the same.
+abbrev pub ApartLaw : Type 0
+ApartLaw = (first second : List ℕ) → All (λ byte. byte < 256) first → All (λ byte. byte < 256) second → shown first ≡ shown second → first ≡ second

@@ -22,7 +22,7 @@ use Rattle.lab_commands.specs.declared.lists.Lines.TheVariants as lists
 use Rattle.lab_commands.specs.declared.lines.Line.TheVariants as line
 use Rattle.lab_commands.specs.declared.document.Form.{Form}
 use Rattle.lab_commands.specs.Document.{head_text, if_text, line_text, tail_text, text_below}
-use Rattle.lab_commands.specs.Lines.{block_line, hole_line, key_line, last_line, lost_line, outside_line, past_line, repeated_line, rows_line, table_line, tie_line}
+use Rattle.lab_commands.specs.Lines.{block_line, factory_line, hole_line, key_line, last_line, lost_line, outside_line, past_line, repeated_line, rewritten_line, rows_line, table_line, tie_line}
 
 -- ---- lists
 
@@ -93,9 +93,10 @@ some_text form lines = text_below form (some_at lines) (length lines)
 
 -- ---- what a dump leaves open
 
--- the pages that were lost, those of a sector past the last one, and how far the array may be from the last write
+-- the pages of bad blocks that leave nothing open, those that were lost, those of a sector past the last one, and how far the array may be from the
+-- last write
 abbrev pub doubt_lines : Doubts → List (Option Line)
-doubt_lines d = hole_line d.holes ∷ past_line d.outside ∷ Some (line.Age d) ∷ []
+doubt_lines d = factory_line d.factory ∷ rewritten_line d.rewritten ∷ hole_line d.holes ∷ past_line d.outside ∷ Some (line.Age d) ∷ []
 
 abbrev pub doubts_text : Form → Doubts → List ℕ
 doubts_text form d = some_text form (doubt_lines d)

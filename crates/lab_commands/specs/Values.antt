@@ -13,7 +13,7 @@ use Rattle.lab_commands.specs.declared.lines.Label.{Label}
 use Rattle.lab_commands.specs.declared.lines.Sort.{Sort}
 use Rattle.lab_commands.specs.declared.lines.Line.{Line}
 use Rattle.lab_commands.specs.declared.lines.Line.TheVariants.{Pages, NumberRange, Repeated, NotFormatted, TableDamaged, LastSequence, Tied, Missing, Block, PlainBlock, Lost}
-use Rattle.lab_commands.specs.declared.lines.Line.TheVariants.{OfRows, Holes, Outside, Mended, MendedCount, Differ, Unsound, Merged, Age, AgeOfRows}
+use Rattle.lab_commands.specs.declared.lines.Line.TheVariants.{OfRows, Factory, Rewritten, Holes, Outside, Mended, MendedCount, Differ, Unsound, Merged, Age, AgeOfRows}
 use Rattle.lab_commands.specs.declared.lines.Line.TheVariants as line
 use Rattle.lab_commands.specs.declared.values.Member.{Member}
 use Rattle.lab_commands.specs.declared.values.Member.TheVariants.{Count, Text, Counts}
@@ -148,5 +148,7 @@ line_data (Merged differ t) = merged_data differ t
 line_data (Age d) = age_data d
 line_data (AgeOfRows n) = rows_age_data n
 line_data (OfRows rows) = rows_data rows
+line_data (Factory n) = doubt_data (codes "factory") n
+line_data (Rewritten n) = doubt_data (codes "rewritten") n
 line_data (Holes n) = doubt_data (codes "holes") n
 line_data (Outside n) = doubt_data (codes "outside") n

@@ -25,6 +25,7 @@ mod values;
 mod words;
 
 pub use files::{FileFault, KeepFault, LabFiles, Progress, Standing};
+pub use names::name_laws;
 pub use output::{Output, OutputFault, Stream};
 pub use program::run;
 pub use text::{LabFault, tell};

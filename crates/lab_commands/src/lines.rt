@@ -1,7 +1,7 @@
 //! The lines of the reports.
 ghost use Rattle.std.specs.Prelude.{◌≡◌, ◌++◌, codes};
 ghost use Rattle.std.specs.Fmt.{WritesOnOk, decimal};
-ghost use Rattle.lab_commands.specs.Lines.{block_line, class_words, hole_line, key_line, label_words, last_line, lost_line, made_words, outside_line, past_line, repeated_line};
+ghost use Rattle.lab_commands.specs.Lines.{block_line, class_words, factory_line, hole_line, key_line, label_words, last_line, lost_line, made_words, outside_line, past_line, repeated_line, rewritten_line};
 ghost use Rattle.lab_commands.specs.Lines.{rows_line, says_words, sort_words, table_line, tie_line};
 
 use certificate::BlockState;
@@ -71,6 +71,10 @@ pub enum Line {
     AgeOfRows(u32),
     /// These rows alone were looked at.
     OfRows(Rows),
+    /// So many pages that are neither erased nor sound, or were lost and read as erased, are of blocks that the table names factory bad.
+    Factory(u32),
+    /// So many are of grown bad blocks whose content was written again.
+    Rewritten(u32),
     /// So many pages were lost that read as erased.
     Holes(u32),
     /// So many sound pages are of a sector past the last one.
@@ -281,6 +285,24 @@ impl fmt::Display for ClaimText {
     }
 }
 
+// What a claim rests on where there are blocks that were written again.
+#[derive(Clone, Copy)]
+struct RewrittenText(u32);
+
+impl fmt::Display for RewrittenText {
+    ghost use Rattle.std.specs.Prelude.{Some};
+    ghost use Rattle.lab_commands.specs.Lines.{moved_words};
+
+    ghost output = { λ text. Some (moved_words text.0) };
+
+    fn fmt<W: fmt::Write>(&self, f: &mut fmt::Formatter<W>) -> fmt::Result {
+        match self.0 {
+            0 => f.write_str(""),
+            _ => f.write_str(", nor a newest one in a rewritten block"),
+        }
+    }
+}
+
 // How far an array may be from the last write.
 #[derive(Clone, Copy)]
 struct AgeText(Doubts);
@@ -292,10 +314,14 @@ impl fmt::Display for AgeText {
     ghost output = { λ text. Some (age_words text.0) };
 
     fn fmt<W: fmt::Write>(&self, f: &mut fmt::Formatter<W>) -> fmt::Result {
-        let (unsound, claim) = (self.0.unsound, ClaimText(self.0));
+        let (unsound, claim, rewritten) = (
+            self.0.unsound,
+            ClaimText(self.0),
+            RewrittenText(self.0.rewritten),
+        );
         write!(
             f,
-            "unsound {unsound}{claim}, if no page was lost behind the last one of its block"
+            "unsound {unsound}{claim}, if no page was lost behind the last one of its block{rewritten}"
         )
     }
 }
@@ -400,6 +426,8 @@ impl fmt::Display for Line {
             Line::Age(doubts) => AgeText(doubts).fmt(f),
             Line::AgeOfRows(unsound) => AgeOfRowsText(unsound).fmt(f),
             Line::OfRows(rows) => two(f, "rows ", rows.first, "..", rows.end),
+            Line::Factory(pages) => one(f, "factory ", u64::from(pages)),
+            Line::Rewritten(pages) => one(f, "rewritten ", u64::from(pages)),
             Line::Holes(pages) => one(f, "holes ", u64::from(pages)),
             Line::Outside(pages) => one(f, "outside ", u64::from(pages)),
         }
@@ -425,6 +453,28 @@ pub(crate) fn last_line(pages: u32) -> Option<Line>
         None
     } else {
         Some(Line::LastSequence(pages))
+    }
+}
+
+/// The line of the pages of blocks that the table names factory bad, if there are some.
+pub(crate) fn factory_line(pages: u32) -> Option<Line>
+    ensures { result ≡ factory_line pages }
+{
+    if pages == 0 {
+        None
+    } else {
+        Some(Line::Factory(pages))
+    }
+}
+
+/// The line of the pages of blocks that were written again, if there are some.
+pub(crate) fn rewritten_line(pages: u32) -> Option<Line>
+    ensures { result ≡ rewritten_line pages }
+{
+    if pages == 0 {
+        None
+    } else {
+        Some(Line::Rewritten(pages))
     }
 }
 

@@ -6,6 +6,12 @@ ghost use Rattle.lab_commands.specs.Output.{Puts};
 
 use crate::output::{Output, OutputFault};
 
+/// What is printed of a name holds no control character, and so no line feed; and names that differ are printed differently.
+pub fn name_laws()
+    ensures quiet { told.QuietLaw }
+    ensures apart { told.ApartLaw }
+{}
+
 // The first of the two bytes of a control character past ASCII.
 const LEAD: u8 = 0xC2;
 

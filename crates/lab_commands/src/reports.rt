@@ -6,7 +6,8 @@ ghost use Rattle.lab_commands.specs.Reports.{array_text, blocks_text, compare_te
 
 use crate::document::{PrintFault, Printer};
 use crate::lines::{
-    Label, Line, Sort, hole_line, last_line, outside_line, past_line, repeated_line, rows_line,
+    Label, Line, Sort, factory_line, hole_line, last_line, outside_line, past_line, repeated_line,
+    rewritten_line, rows_line,
 };
 use crate::lists::Lines;
 use crate::output::Output;
@@ -112,6 +113,8 @@ fn print_doubts<W: Output>(printer: Printer, out: &mut W, doubts: Doubts) -> Res
     printer.list(
         out,
         &Lines::Fixed(&[
+            factory_line(doubts.factory),
+            rewritten_line(doubts.rewritten),
             hole_line(doubts.holes),
             past_line(doubts.outside),
             Some(Line::Age(doubts)),

@@ -319,6 +319,8 @@ pub(crate) fn line_value(alloc: Global, line: Line) -> Result<Value, AllocError>
         Line::Age(doubts) => age_value(alloc, doubts),
         Line::AgeOfRows(unsound) => single_value(alloc, "rows_age", "unsound", u64::from(unsound)),
         Line::OfRows(rows) => rows_value(alloc, rows),
+        Line::Factory(pages) => doubt_value(alloc, "factory", pages),
+        Line::Rewritten(pages) => doubt_value(alloc, "rewritten", pages),
         Line::Holes(pages) => doubt_value(alloc, "holes", pages),
         Line::Outside(pages) => doubt_value(alloc, "outside", pages),
     }

@@ -1,9 +1,8 @@
 -- How many sectors of a dump may be older than the last write.
-use Rattle.std.proofs.Common.{◌≡◌, ◌≢◌, ◌⊎◌, inl, inr, ℕ, zero, suc, ◌+◌, ◌<◌, ◌≤◌, List, [], ◌∷◌, length, get_or, take, Option, Some, None}
-use Rattle.std.proofs.Common.{Bool, true, false, refl, sym, ap, ◌∙◌, subst, arith, slice_get, count_by}
+use Rattle.std.proofs.Common.{◌≡◌, ◌≢◌, ◌⊎◌, inl, inr, ℕ, zero, suc, ◌+◌, ◌/◌, ◌<◌, ◌≤◌, List, [], ◌∷◌, length, get_or, Option, Some, None}
+use Rattle.std.proofs.Common.{Bool, true, false, refl, sym, ap, ◌∙◌, subst, arith, slice_get}
 use Rattle.std.specs.Prelude.{◌&&◌, ◌||◌, not, nat_lt, is_some}
 use Rattle.std.specs.List.{range_with_len}
-use Rattle.std.proofs.Math.Seq.{take-length}
 use Rattle.std.proofs.lemmas.Bool.{cases_Bool, cases_lt, lt-ltb, le-ltb, ltb-true, and_from, and_parts, true≢false}
 use Rattle.std.proofs.lemmas.List.{get_or_past}
 use Rattle.page_layout.specs.declared.geometry.Geometry.{Geometry}
@@ -20,10 +19,12 @@ use Rattle.page_layout.proofs.RecordLemmas.{erased_no_record}
 use Rattle.page_layout.proofs.NewestLemmas.{Forgets, newest_forgets, newest-record, newest-within}
 use Rattle.page_layout.proofs.ArrayLemmas.{length-marks, mark-page, mark-same, sector-same}
 use Rattle.lab_dump.specs.Count.{one}
-use Rattle.lab_dump.specs.Doubts.{has_page, is_erased_at, is_programmed_at, is_hole, holes_of, doubts_of, most_older, IsHole}
+use Rattle.image_check.specs.Blocks.{is_factory}
+use Rattle.lab_dump.specs.Bad.{is_excused, is_rewritten}
+use Rattle.lab_dump.specs.Doubts.{has_page, is_erased_at, is_programmed_at, is_unsound_at, is_hole, rows_of, doubts_of, most_older, IsHole}
 use Rattle.lab_dump.specs.Bound.{IsDumpOf, IsInOrder, is_gone_from, is_gone, HasOwnRow, OwnRowLaw, BoundLaw, KeptLaw, HoleLostLaw}
 use Rattle.lab_dump.proofs.CountLemmas.{broken_of}
-use Rattle.lab_dump.proofs.DoubtLemmas.{upto, upto_more, upto_none, upto_pages, hole_law, sorted}
+use Rattle.lab_dump.proofs.DoubtLemmas.{upto, upto_more, upto_none, hole_law, sorted}
 
 -- ---- pages of rows
 
@@ -94,6 +95,13 @@ own_row_law g die dump n of e =
         | inl erased ↦ inr ((hole_law g dump row).1 (of.followed row programmed (ap (has_page is_erased_page) there.1 ∙ erased)))
         | inr not_erased ↦ inl (ap (has_page is_broken) there.1 ∙ broken_of there.0 not_erased (ap is_some unsound))
       ];
+      stays_open = elim (cases_Bool (is_factory g dump (row / g.pages))) [
+        | inl factory ↦ absurd (let clash : Some found.0 ≡ None = sym found.1 ∙ of.unused row factory in cc)
+        | inr used ↦ elim (cases_Bool (is_rewritten g dump (row / g.pages))) [
+          | inl rewritten ↦ absurd (true≢false (sym e ∙ of.moved n row lost.newest_is rewritten))
+          | inr kept ↦ ap (λ b. b || is_rewritten g dump (row / g.pages)) used ∙ kept
+        ]
+      ];
     }
 
 -- ---- counts
@@ -148,13 +156,18 @@ row_below rows (Some row) = nat_lt row rows
 abbrev is_lost_below : Image → Image → ℕ → ℕ → Bool
 is_lost_below die dump rows n = is_gone die dump n && row_below rows (newest (marks die) (Sector n))
 
-abbrev is_told : Geometry → Image → ℕ → Bool
-is_told g dump row = has_page is_broken (slice_get dump row) || is_hole g dump row
+abbrev is_open : Geometry → Image → ℕ → Bool
+is_open g dump row = not (is_excused g dump (row / g.pages))
 
-told_by : (a b : Bool) → (a ≡ true) ⊎ (b ≡ true) → (a || b) ≡ true
-told_by true b e = refl
-told_by false b (inl e) = absurd (true≢false (sym e))
-told_by false b (inr e) = e
+abbrev is_told : Geometry → Image → ℕ → Bool
+is_told g dump row = (is_unsound_at dump row && is_open g dump row) || (is_hole g dump row && is_open g dump row)
+
+told_by : (a b c : Bool) → (a ≡ true) ⊎ (b ≡ true) → c ≡ true → ((a && c) || (b && c)) ≡ true
+told_by true b true (inl e) h = refl
+told_by true b true (inr e) h = refl
+told_by false b true (inl e) h = absurd (true≢false (sym e))
+told_by false b true (inr e) h = ap (λ t. t && true) e
+told_by a b false e h = absurd (true≢false (sym h))
 
 below_last : (rows : ℕ) (o : Option ℕ) → row_below (suc rows) o ≡ true → (row_below rows o ≡ true) ⊎ (o ≡ Some rows)
 below_last rows None e = inl e
@@ -201,7 +214,7 @@ bounded g die dump sectors (suc rows) of = by (bounded g die dump sectors rows o
           | inr last ↦
               (let own = own_row_law g die dump n of last.0 in
               let at : own.row ≡ rows = row_same own.row rows (sym own.newest_is ∙ last.1) in
-              let told : is_told g dump own.row ≡ true = told_by (has_page is_broken (slice_get dump own.row)) (is_hole g dump own.row) own.broken in
+              let told : is_told g dump own.row ≡ true = told_by (is_unsound_at dump own.row) (is_hole g dump own.row) (is_open g dump own.row) own.broken (ap not own.stays_open) in
               absurd (true≢false (sym told ∙ (ap (is_told g dump) at ∙ e))))
         ]) in
         let a = upto_more (is_told g dump) rows in
@@ -212,7 +225,7 @@ bounded g die dump sectors (suc rows) of = by (bounded g die dump sectors rows o
         row_same a b s = cc
 
 pub bound_law : BoundLaw
-unfolding doubts_of holes_of
+unfolding doubts_of rows_of
 bound_law g die dump sectors of =
     let rows = length dump in
     let gone : upto (is_gone die dump) sectors ≤ upto (is_lost_below die dump rows) sectors = upto_le (is_gone die dump) (is_lost_below die dump rows) sectors (λ n l e.
@@ -221,8 +234,7 @@ bound_law g die dump sectors of =
     let size = of.size in
     and_from (is_gone die dump n) (row_below rows (newest (marks die) (Sector n))) e (ap (row_below rows) lost.newest_is ∙ lt-ltb lost.row rows (omega (arith, length-marks die)))) in
     let told = bounded g die dump sectors rows of in
-    let apart = upto_either (λ row. has_page is_broken (slice_get dump row)) (is_hole g dump) rows in
-    let broken : upto (λ row. has_page is_broken (slice_get dump row)) rows ≡ count_by is_broken dump = upto_pages is_broken dump rows (omega arith) ∙ ap (count_by is_broken) (take-length dump) in
+    let apart = upto_either (λ row. is_unsound_at dump row && is_open g dump row) (λ row. is_hole g dump row && is_open g dump row) rows in
     omega arith
 
 -- ---- every other sector

@@ -17,8 +17,7 @@ use Rattle.page_layout.specs.Sound.{record_of, is_erased_page, code_of}
 use Rattle.page_layout.proofs.RecordLemmas.{erased_no_record}
 use Rattle.page_layout.specs.Block.{is_broken}
 use Rattle.lab_dump.specs.declared.counts.PageCounts.{PageCounts}
-use Rattle.lab_dump.specs.Count.{AreFew, SortsLaw, no_counts, one, counts_of, counted, is_of_kind, is_outside, is_last, is_broken_page, is_unsound_in, unsound_below}
-use Rattle.lab_dump.specs.Noted.{HasUnsound}
+use Rattle.lab_dump.specs.Count.{AreFew, HasUnsound, SortsLaw, no_counts, one, counts_of, counted, is_of_kind, is_outside, is_last, is_broken_page, is_unsound_in, unsound_below}
 
 -- ---- counts
 
@@ -31,6 +30,9 @@ count_more test image row p is = by_test (test p) refl
     by_test : (b : Bool) → test p ≡ b → count_by test (take (row + 1) image) ≡ count_by test (take row image) + one (test p)
     by_test true e = count_by_more_yes test image row p (slice_get_within image row p is) (ap test (page_at image row p is) ∙ e) ∙ ap (λ b. count_by test (take row image) + one b) (sym e)
     by_test false e = count_by_more_no test image row p (slice_get_within image row p is) (ap test (page_at image row p is) ∙ e) ∙ (omega arith ∙ ap (λ b. count_by test (take row image) + one b) (sym e))
+
+pub counted_more : (test : Page → Bool) (image : Image) (row : ℕ) (p : Page) (old more : ℕ) → slice_get image row ≡ Some p → old ≡ count_by test (take row image) → more ≡ one (test p) → old + more ≡ count_by test (take (row + 1) image)
+counted_more test image row p old more is before now = ap (λ k. k + more) before ∙ (ap (λ k. count_by test (take row image) + k) now ∙ sym (count_more test image row p is))
 
 pub counts_more : (g : Geometry) (image : Image) (row : ℕ) (p : Page) (c new : PageCounts) → slice_get image row ≡ Some p → c ≡ counts_of g (take row image) → new ≡ counted g c (record_of p) (is_erased_page p) → new ≡ counts_of g (take (row + 1) image)
 unfolding counts_of

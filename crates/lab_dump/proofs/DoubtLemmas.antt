@@ -1,29 +1,23 @@
 -- What one page more leaves open, and how the holes are counted.
 use Rattle.std.proofs.Common.{◌≡◌, ◌≢◌, ◌↔◌, inl, inr, ℕ, zero, suc, add-one, ◌+◌, ◌*◌, ◌/◌, ◌%◌, ◌<◌, ◌≤◌, List, [], ◌∷◌, ◌++◌, length, get_or, take, Option, Some, None}
-use Rattle.std.proofs.Common.{Bool, true, false, refl, sym, ap, ◌∙◌, subst, arith, slice_get, cond, count_by}
-use Rattle.std.specs.Prelude.{◌==◌, ◌&&◌, ◌||◌, not, nat_lt, is_some}
+use Rattle.std.proofs.Common.{Bool, true, false, refl, sym, ap, ◌∙◌, subst, arith, slice_get, cond, count_by, set, replicate, All}
+use Rattle.std.specs.Prelude.{◌==◌, ◌&&◌, ◌||◌, not, nat_lt}
 use Rattle.std.specs.List.{list_any, range_with_len}
 use Rattle.std.proofs.Math.Nat.{mul-le-mul_right, mod-lt}
-use Rattle.std.proofs.Math.Seq.{take-length}
 use Rattle.std.proofs.lemmas.Bool.{cases_Bool, cases_eq, cases_order, eq-eqb, eqb-true, ne_eqb, lt-ltb, le-ltb, ltb-true, and_from, and_parts, true≢false}
+use Rattle.std.proofs.lemmas.List.{get_or-set_same, get_or-set_other, get_or-replicate, get_or_default, length-set, length-replicate}
 use Rattle.std.proofs.lemmas.List.Folds.{list_any-append}
 use Rattle.std.proofs.lemmas.List.Sums.{sum_by_push}
 use Rattle.std.proofs.lemmas.Nat.{div-add-mod'}
 use Rattle.std.proofs.lemmas.Option.{slice_get_within}
 use Rattle.page_layout.specs.declared.geometry.Geometry.{Geometry}
-use Rattle.page_layout.specs.declared.record.Record.{Record}
 use Rattle.page_layout.specs.Page.{Page, Image}
-use Rattle.page_layout.specs.Sound.{record_of, is_erased_page}
-use Rattle.page_layout.specs.Block.{is_broken, is_programmed}
-use Rattle.page_layout.proofs.RecordLemmas.{erased_no_record}
-use Rattle.lab_dump.specs.declared.look.Look.{Look}
-use Rattle.lab_dump.specs.declared.look.Look.TheVariants as look
-use Rattle.lab_dump.specs.declared.doubts.Doubts.{Doubts}
-use Rattle.lab_dump.specs.declared.doubts.Doubting.{Doubting}
-use Rattle.lab_dump.specs.Look.{look_by, look_of}
+use Rattle.page_layout.specs.Sound.{is_erased_page}
+use Rattle.page_layout.specs.Block.{is_programmed}
 use Rattle.lab_dump.specs.Count.{one}
-use Rattle.lab_dump.specs.Doubts.{has_page, is_erased_at, is_programmed_at, shows_hole, is_hole_below, is_hole, holes_of, is_outside, doubts_of, ending, holes_below, IsHole, IsDoubting, HoleLaw}
-use Rattle.lab_dump.proofs.CountLemmas.{range_last, count_more, whole_erased, whole_sound, broken_of}
+use Rattle.lab_dump.specs.Doubts.{has_page, is_erased_at, is_programmed_at, shows_hole, is_hole_below, is_hole, IsHole, HoleLaw}
+use Rattle.lab_dump.specs.Doubting.{HasHoles, carried, ending, holes_below}
+use Rattle.lab_dump.proofs.CountLemmas.{range_last, count_more}
 
 -- ---- how many of the first numbers pass a test
 
@@ -165,9 +159,6 @@ shown_now g image n row l e = shown_more g image n row ∙ ap (λ b. shown g ima
 abbrev is_open : Geometry → Image → ℕ → ℕ → Bool
 is_open g image n row = is_erased_at image row && ((n / g.pages == row / g.pages) && not (shown g image n row))
 
-abbrev carried : Geometry → Image → ℕ → ℕ
-carried g image n = cond (n % g.pages == 0) 0 (ending g image n)
-
 -- a row of the image is erased or not
 pub sorted : (image : Image) (row : ℕ) (b : Bool) → row < length image → is_erased_at image row ≡ b → is_programmed_at image row ≡ not b
 sorted [] row b l e = absurd (omega arith)
@@ -235,114 +226,152 @@ open_count g image (suc n) l = elim (cases_eq (suc n % g.pages) 0) [
         let sum : upto (is_open g image (suc n)) (suc n) ≡ 0 = omega arith in
         sum ∙ ap (λ b. cond b (cond (n % g.pages == 0) 1 (ending g image n + 1)) 0) (sym e)
 
--- ---- the holes that the first rows show
+-- ---- the holes that the first rows show, of one block
 
-shown_holes : (g : Geometry) (image : Image) (n : ℕ) → n ≤ length image → holes_below g image n ≡ upto (is_hole_below g image n) n
+abbrev is_hole_in : Geometry → Image → ℕ → ℕ → ℕ → Bool
+is_hole_in g image n block row = is_hole_below g image n row && (row / g.pages == block)
+
+abbrev is_open_in : Geometry → Image → ℕ → ℕ → ℕ → Bool
+is_open_in g image n block row = is_open g image n row && (row / g.pages == block)
+
+-- the last of the first rows is none of them
+last_none : (g : Geometry) (image : Image) (n block : ℕ) → one (is_hole_in g image (suc n) block n) ≡ 0
+last_none g image n block =
+    let last : is_hole_below g image (suc n) n ≡ false = ap (λ b. is_erased_at image n && b) (shown_none g image (suc n) n (omega arith)) ∙ no_right (is_erased_at image n) in
+    ap (λ b. one (b && (n / g.pages == block))) last
+
+-- an erased page shows none
+holes_kept : (g : Geometry) (image : Image) (n block : ℕ) → n < length image → is_erased_at image n ≡ true → holes_below g image (suc n) block ≡ holes_below g image n block
 unfolding holes_below
-shown_holes g image zero l = refl
-shown_holes g image (suc n) l = by (shown_holes g image n (omega arith)) (is_erased_at image n) refl
-  where
-    last : is_hole_below g image (suc n) n ≡ false
-    last = ap (λ b. is_erased_at image n && b) (shown_none g image (suc n) n (omega arith)) ∙ no_right (is_erased_at image n)
+holes_kept g image n block l e =
+    let before : upto (is_hole_in g image (suc n) block) n ≡ upto (is_hole_in g image n block) n = upto_same (is_hole_in g image (suc n) block) (is_hole_in g image n block) n (λ row less.
+    ap (λ t. (is_erased_at image row && t) && (row / g.pages == block)) (shown_kept g image n row less (sorted image n true (omega arith) e))) in
+    let more = upto_more (is_hole_in g image (suc n) block) n in
+    let last = last_none g image n block in
+    omega arith
 
-    by : holes_below g image n ≡ upto (is_hole_below g image n) n → (b : Bool) → is_erased_at image n ≡ b → cond (is_erased_at image n) (holes_below g image n) (holes_below g image n + carried g image n) ≡ upto (is_hole_below g image (suc n)) (suc n)
-    by old true e =
-        let before : upto (is_hole_below g image (suc n)) n ≡ upto (is_hole_below g image n) n = upto_same (is_hole_below g image (suc n)) (is_hole_below g image n) n (λ row less.
-        ap (λ t. is_erased_at image row && t) (shown_kept g image n row less (sorted image n true (omega arith) e))) in
-        let more = upto_more (is_hole_below g image (suc n)) n in
-        let one_last : one (is_hole_below g image (suc n) n) ≡ 0 = ap one last in
-        let sum : holes_below g image n ≡ upto (is_hole_below g image (suc n)) (suc n) = omega arith in
-        ap (λ b. cond b (holes_below g image n) (holes_below g image n + carried g image n)) e ∙ sum
-    by old false e =
-        let before : upto (is_hole_below g image (suc n)) n ≡ upto (is_hole_below g image n) n + upto (is_open g image n) n = upto_sum (is_hole_below g image n) (is_open g image n) (is_hole_below g image (suc n)) n (λ row less.
-        ap (λ t. one (is_erased_at image row && t)) (shown_now g image n row less (sorted image n false (omega arith) e)) ∙ hole_parts (is_erased_at image row) (shown g image n row) (n / g.pages == row / g.pages)) in
-        let opened = open_count g image n (omega arith) in
-        let more = upto_more (is_hole_below g image (suc n)) n in
-        let one_last : one (is_hole_below g image (suc n) n) ≡ 0 = ap one last in
-        let sum : holes_below g image n + carried g image n ≡ upto (is_hole_below g image (suc n)) (suc n) = omega arith in
-        ap (λ b. cond b (holes_below g image n) (holes_below g image n + carried g image n)) e ∙ sum
+in_parts : (e s a q : Bool) → one ((e && (s || a)) && q) ≡ one ((e && s) && q) + one ((e && (a && not s)) && q)
+in_parts e s a true =
+    ap one (all_right (e && (s || a)))
+    ∙ (hole_parts e s a ∙ (ap (λ t. one t + one (e && (a && not s))) (sym (all_right (e && s))) ∙ ap (λ t. one ((e && s) && true) + one t) (sym (all_right (e && (a && not s))))))
+in_parts e s a false =
+    let x : one ((e && (s || a)) && false) ≡ 0 = ap one (no_right (e && (s || a))) in
+    let y : one ((e && s) && false) ≡ 0 = ap one (no_right (e && s)) in
+    let z : one ((e && (a && not s)) && false) ≡ 0 = ap one (no_right (e && (a && not s))) in
+    omega arith
+
+-- those that a page would make holes of are of its block
+open_in : (g : Geometry) (image : Image) (n block : ℕ) → n ≤ length image → upto (is_open_in g image n block) n ≡ cond (n / g.pages == block) (carried g image n) 0
+open_in g image n block l = elim (cases_eq (n / g.pages) block) [
+  | inl same ↦
+      (let all : upto (is_open_in g image n block) n ≡ upto (is_open g image n) n = upto_same (is_open_in g image n block) (is_open g image n) n (λ row less. elim (cases_eq (n / g.pages) (row / g.pages)) [
+        | inl here ↦ ap (λ b. is_open g image n row && b) (eq-eqb (row / g.pages) block (sym here ∙ same)) ∙ all_right (is_open g image n row)
+        | inr there ↦
+            (let none : is_open g image n row ≡ false = apart row there in
+            ap (λ b. b && (row / g.pages == block)) none ∙ sym none)
+      ]) in
+      all ∙ (open_count g image n l ∙ ap (λ b. cond b (carried g image n) 0) (sym (eq-eqb (n / g.pages) block same))))
+  | inr other ↦
+      (let none : upto (is_open_in g image n block) n ≡ 0 = upto_none (is_open_in g image n block) n (λ row less. elim (cases_eq (n / g.pages) (row / g.pages)) [
+        | inl here ↦ ap (λ b. is_open g image n row && b) (ne_eqb (row / g.pages) block (λ e. other (here ∙ e))) ∙ no_right (is_open g image n row)
+        | inr there ↦ ap (λ b. b && (row / g.pages == block)) (apart row there)
+      ]) in
+      none ∙ ap (λ b. cond b (carried g image n) 0) (sym (ne_eqb (n / g.pages) block other)))
+]
+  where
+    apart : (row : ℕ) → n / g.pages ≢ row / g.pages → is_open g image n row ≡ false
+    apart row there = ap (λ b. is_erased_at image row && (b && not (shown g image n row))) (ne_eqb (n / g.pages) (row / g.pages) there) ∙ no_right (is_erased_at image row)
+
+-- any other page shows those that end the rows before it
+holes_shown : (g : Geometry) (image : Image) (n block : ℕ) → n < length image → is_erased_at image n ≡ false → holes_below g image (suc n) block ≡ holes_below g image n block + cond (n / g.pages == block) (carried g image n) 0
+unfolding holes_below
+holes_shown g image n block l e =
+    let before : upto (is_hole_in g image (suc n) block) n ≡ upto (is_hole_in g image n block) n + upto (is_open_in g image n block) n = upto_sum (is_hole_in g image n block) (is_open_in g image n block) (is_hole_in g image (suc n) block) n (λ row less.
+    ap (λ t. one ((is_erased_at image row && t) && (row / g.pages == block))) (shown_now g image n row less (sorted image n false (omega arith) e))
+    ∙ in_parts (is_erased_at image row) (shown g image n row) (n / g.pages == row / g.pages) (row / g.pages == block)) in
+    let opened = open_in g image n block (omega arith) in
+    let more = upto_more (is_hole_in g image (suc n) block) n in
+    let last = last_none g image n block in
+    omega arith
 
 -- ---- one page more
 
-pub nothing_doubted : (g : Geometry) (image : Image) (d : Doubting) → d.doubts.unsound ≡ 0 → d.doubts.holes ≡ 0 → d.doubts.outside ≡ 0 → d.ending ≡ 0 → IsDoubting g 0 image d
-unfolding holes_below ending
-nothing_doubted g image d unsound holes outside end = record { unsound_is = unsound; holes_is = holes; outside_is = outside; ending_is = end }
+here_is : (image : Image) (row : ℕ) (p : Page) (b : Bool) → slice_get image row ≡ Some p → is_erased_page p ≡ b → is_erased_at image row ≡ b
+here_is image row p b is e = ap (has_page is_erased_page) is ∙ e
 
--- what a page is by its record
-pub look_from : (p : Page) (o : Option Record) (l : Look) → o ≡ record_of p → l ≡ look_by o (is_erased_page p) → l ≡ look_of p
-unfolding look_of
-look_from p o l found is = is ∙ ap (λ x. look_by x (is_erased_page p)) found
-
--- what a page counts for
-pub record Counts (g : Geometry) (p : Page) (erased broken outside : Bool) : Type 0 where
-  pub erased_is : is_erased_page p ≡ erased
-  pub broken_is : is_broken p ≡ broken
-  pub outside_is : is_outside g (record_of p) ≡ outside
-
-pub counts_erased : (g : Geometry) (p : Page) → look_of p ≡ look.Erased → Counts g p true false false
-unfolding look_of
-counts_erased g p e = from (record_of p) (is_erased_page p) refl refl e
-  where
-    from : (o : Option Record) (b : Bool) → record_of p ≡ o → is_erased_page p ≡ b → look_by o b ≡ look.Erased → Counts g p true false false
-    from (Some r) b is was e = absurd (cc)
-    from None true is was e = record { erased_is = was; broken_is = whole_erased p was; outside_is = ap (is_outside g) is }
-    from None false is was e = absurd (cc)
-
-pub counts_unsound : (g : Geometry) (p : Page) → look_of p ≡ look.Unsound → Counts g p false true false
-unfolding look_of
-counts_unsound g p e = from (record_of p) (is_erased_page p) refl refl e
-  where
-    from : (o : Option Record) (b : Bool) → record_of p ≡ o → is_erased_page p ≡ b → look_by o b ≡ look.Unsound → Counts g p false true false
-    from (Some r) b is was e = absurd (cc)
-    from None true is was e = absurd (cc)
-    from None false is was e = record { erased_is = was; broken_is = broken_of p was (ap is_some is); outside_is = ap (is_outside g) is }
-
-pub counts_sound : (g : Geometry) (p : Page) (r : Record) → look_of p ≡ look.Sound r → Counts g p false false (is_outside g (Some r))
-unfolding look_of
-counts_sound g p r e = from (record_of p) (is_erased_page p) refl refl e
-  where
-    from : (o : Option Record) (b : Bool) → record_of p ≡ o → is_erased_page p ≡ b → look_by o b ≡ look.Sound r → Counts g p false false (is_outside g (Some r))
-    from (Some x) true is was e = absurd (let clash : Some x ≡ None = sym is ∙ erased_no_record p was in cc)
-    from (Some x) false is was e = record { erased_is = was; broken_is = whole_sound p (ap is_some is); outside_is = ap (is_outside g) is ∙ (let same : x ≡ r = cc in ap (λ y. is_outside g (Some y)) same) }
-    from None true is was e = absurd (cc)
-    from None false is was e = absurd (cc)
-
-pub page_passes : (g : Geometry) (row : ℕ) (image : Image) (p : Page) (erased broken outside : Bool) (old new : Doubting) → IsDoubting g row image old → slice_get image row ≡ Some p → Counts g p erased broken outside
-    → new.doubts.unsound ≡ old.doubts.unsound + one broken → new.doubts.outside ≡ old.doubts.outside + one outside
-    → new.doubts.holes ≡ old.doubts.holes + cond erased 0 (cond (row % g.pages == 0) 0 old.ending) → new.ending ≡ cond erased (cond (row % g.pages == 0) 0 old.ending + 1) 0 → IsDoubting g (row + 1) image new
-unfolding holes_below ending
-page_passes g row image p erased broken outside old new h is counts unsound past holes end =
+pub ending_erased : (g : Geometry) (image : Image) (row n : ℕ) (p : Page) → slice_get image row ≡ Some p → is_erased_page p ≡ true → n ≡ carried g image row → n + 1 ≡ ending g image (row + 1)
+unfolding ending
+ending_erased g image row n p is e h =
     let next : row + 1 ≡ suc row = add-one row in
-    let unsound_more = count_more is_broken image row p is in
-    let past_more = count_more (λ q. is_outside g (record_of q)) image row p is in
-    let here : is_erased_at image row ≡ erased = ap (has_page is_erased_page) is ∙ counts.erased_is in
-    record {
-      unsound_is = unsound ∙ (ap (λ k. k + one broken) h.unsound_is ∙ (ap (λ b. count_by is_broken (take row image) + one b) (sym counts.broken_is) ∙ sym unsound_more));
-      outside_is = past ∙ (ap (λ k. k + one outside) h.outside_is ∙ (ap (λ b. count_by (λ q. is_outside g (record_of q)) (take row image) + one b) (sym counts.outside_is) ∙ sym past_more));
-      holes_is = holes ∙ (ap (λ k. k + cond erased 0 (cond (row % g.pages == 0) 0 old.ending)) h.holes_is
-          ∙ (ap (λ k. holes_below g image row + cond erased 0 (cond (row % g.pages == 0) 0 k)) h.ending_is ∙ (holes_by erased ∙ (ap (λ b. cond b (holes_below g image row) (holes_below g image row + carried g image row)) (sym here) ∙ ap (holes_below g image) (sym next)))));
-      ending_is = end ∙ (ap (λ k. cond erased (cond (row % g.pages == 0) 0 k + 1) 0) h.ending_is ∙ (ends_by erased (row % g.pages == 0) ∙ (ap (λ b. cond b (cond (row % g.pages == 0) 1 (ending g image row + 1)) 0) (sym here) ∙ ap (ending g image) (sym next))));
-    }
+    ap (λ k. k + 1) h ∙ (by (row % g.pages == 0) ∙ (ap (λ b. cond b (cond (row % g.pages == 0) 1 (ending g image row + 1)) 0) (sym (here_is image row p true is e)) ∙ ap (ending g image) (sym next)))
   where
-    holes_by : (b : Bool) → holes_below g image row + cond b 0 (carried g image row) ≡ cond b (holes_below g image row) (holes_below g image row + carried g image row)
-    holes_by true = omega arith
-    holes_by false = refl
+    by : (c : Bool) → cond c 0 (ending g image row) + 1 ≡ cond c 1 (ending g image row + 1)
+    by true = refl
+    by false = refl
 
-    ends_by : (b c : Bool) → cond b (cond c 0 (ending g image row) + 1) 0 ≡ cond b (cond c 1 (ending g image row + 1)) 0
-    ends_by true true = refl
-    ends_by true false = refl
-    ends_by false c = refl
+pub ending_other : (g : Geometry) (image : Image) (row : ℕ) (p : Page) → slice_get image row ≡ Some p → is_erased_page p ≡ false → 0 ≡ ending g image (row + 1)
+unfolding ending
+ending_other g image row p is e =
+    let next : row + 1 ≡ suc row = add-one row in
+    ap (λ b. cond b (cond (row % g.pages == 0) 1 (ending g image row + 1)) 0) (sym (here_is image row p false is e)) ∙ ap (ending g image) (sym next)
 
--- ---- all pages
+pub holes_none : (g : Geometry) (image : Image) (row : ℕ) (p : Page) (items : List ℕ) → HasHoles g image row items → slice_get image row ≡ Some p → is_erased_page p ≡ true → HasHoles g image (row + 1) items
+holes_none g image row p items h is e = record {
+  size = h.size;
+  at = λ b l. h.at b l ∙ sym (ap (λ n. holes_below g image n b) (add-one row) ∙ holes_kept g image row b (slice_get_within image row p is) (here_is image row p true is e));
+}
 
-pub doubted : (g : Geometry) (image : Image) (rows : ℕ) (d : Doubting) → length image ≡ rows → IsDoubting g rows image d → d.doubts ≡ doubts_of g image
-unfolding doubts_of holes_of is_hole
-doubted g image rows d size h =
-    let all : take rows image ≡ image = ap (λ k. take k image) (sym size) ∙ take-length image in
-    let unsound : d.doubts.unsound ≡ count_by is_broken image = h.unsound_is ∙ ap (count_by is_broken) all in
-    let outside : d.doubts.outside ≡ count_by (λ p. is_outside g (record_of p)) image = h.outside_is ∙ ap (count_by (λ p. is_outside g (record_of p))) all in
-    let holes : d.doubts.holes ≡ upto (is_hole_below g image (length image)) (length image) = h.holes_is ∙ (ap (holes_below g image) (sym size) ∙ shown_holes g image (length image) (omega arith)) in
-    rw (← unsound, ← outside, ← holes) refl
+pub holes_set : (g : Geometry) (image : Image) (row block d new : ℕ) (p : Page) (items : List ℕ) → HasHoles g image row items → slice_get image row ≡ Some p → is_erased_page p ≡ false → block ≡ row / g.pages → block < g.blocks
+    → new ≡ get_or items block d + carried g image row → HasHoles g image (row + 1) (set items block new)
+holes_set g image row block d new p items h is e at within more =
+    let in_items : block < length items = omega (arith, h.size) in
+    let shows = λ (b : ℕ). ap (λ n. holes_below g image n b) (add-one row) ∙ holes_shown g image row b (slice_get_within image row p is) (here_is image row p false is e) in
+    record {
+      size = length-set items block new ∙ h.size;
+      at = λ b l. elim (cases_eq b block) [
+        | inl same ↦
+            (let old : new ≡ holes_below g image row block + carried g image row = more ∙ ap (λ k. k + carried g image row) (get_or_default items block d 0 in_items ∙ h.at block within) in
+            let all : holes_below g image (row + 1) block ≡ holes_below g image row block + carried g image row = shows block ∙ ap (λ c. holes_below g image row block + cond c (carried g image row) 0) (eq-eqb (row / g.pages) block (sym at)) in
+            subst (λ k. get_or (set items block new) k 0 ≡ holes_below g image (row + 1) k) (sym same) (get_or-set_same items block new 0 in_items ∙ (old ∙ sym all)))
+        | inr ne ↦
+            (let same : holes_below g image (row + 1) b ≡ holes_below g image row b + 0 = shows b ∙ ap (λ c. holes_below g image row b + cond c (carried g image row) 0) (ne_eqb (row / g.pages) b (λ x. ne (sym x ∙ sym at))) in
+            let old = h.at b l in
+            get_or-set_other items block b new 0 ne ∙ omega arith)
+      ];
+    }
+
+pub holes_start : (g : Geometry) (image : Image) (items : List ℕ) → items ≡ replicate g.blocks 0 → HasHoles g image 0 items
+unfolding holes_below
+holes_start g image items e = record {
+  size = ap length e ∙ length-replicate g.blocks 0;
+  at = λ b l. ap (λ xs. get_or xs b 0) e ∙ get_or-replicate g.blocks b 0 0 l;
+}
+
+pub ending_start : (g : Geometry) (image : Image) → 0 ≡ ending g image 0
+unfolding ending
+ending_start g image = refl
+
+-- ---- bounds
+
+-- no block has more holes than there were rows, with the erased pages that end them
+pub few_erased : (items : List ℕ) (row end more : ℕ) → All (λ n. n + end ≤ row) items → more ≤ end → All (λ n. n + (more + 1) ≤ row + 1) items
+few_erased items row end more h l i d k = let a = h i d k in omega arith
+
+pub few_set : (items : List ℕ) (row end more block d : ℕ) → All (λ n. n + end ≤ row) items → more ≤ end → block < length items → All (λ n. n + 0 ≤ row + 1) (set items block (get_or items block d + more))
+few_set items row end more block d h l within i e k = elim (cases_eq i block) [
+  | inl same ↦
+      (let new = get_or items block d + more in
+      let here : get_or (set items block new) i e ≡ new = ap (λ j. get_or (set items block new) j e) same ∙ get_or-set_same items block new e within in
+      let a = h block d within in
+      omega arith)
+  | inr ne ↦
+      (let there : get_or (set items block (get_or items block d + more)) i e ≡ get_or items i e = get_or-set_other items block i (get_or items block d + more) e ne in
+      let a = h i e (omega (arith, length-set items block (get_or items block d + more))) in
+      omega arith)
+]
+
+pub few_nothing : (n : ℕ) → All (λ x. x + 0 ≤ 0) (replicate n 0)
+few_nothing n i d l = let none : ℕ = 0 in let here = get_or-replicate n i none d (omega (arith, length-replicate n none)) in omega arith
 
 -- ---- law
 

@@ -8,6 +8,9 @@ pub mod LostLemmas
 pub mod ComparingLemmas
 pub mod CountLemmas
 pub mod DoubtLemmas
+pub mod TraceLemmas
+pub mod BadLemmas
+pub mod ConcludeLemmas
 pub mod BoundLemmas
 pub mod KeyLemmas
 pub mod RepeatLemmas

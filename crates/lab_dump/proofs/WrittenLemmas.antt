@@ -26,9 +26,10 @@ use Rattle.lab_dump.specs.declared.held.Held.TheVariants as held
 use Rattle.lab_dump.specs.declared.held.State.{State}
 use Rattle.lab_dump.specs.declared.held.State.TheVariants as state
 use Rattle.lab_dump.specs.Held.{Tells, state_in, state_by}
-use Rattle.lab_dump.specs.declared.doubts.Doubting.{Doubting}
-use Rattle.lab_dump.specs.Doubts.{IsDoubting}
-use Rattle.lab_dump.proofs.DoubtLemmas.{doubted}
+use Rattle.lab_dump.specs.declared.doubting.Doubting.{Doubting}
+use Rattle.lab_dump.specs.declared.doubts.Doubts.{Doubts}
+use Rattle.lab_dump.specs.Doubts.{doubts_of}
+use Rattle.lab_dump.specs.Doubting.{IsDoubting}
 use Rattle.lab_dump.specs.Writing.{content_below, AreSized, ReadBelow, Stands, Shows}
 use Rattle.lab_dump.specs.Written.{state_of, states_of, IsWritten, TiedLaw}
 
@@ -76,17 +77,18 @@ states_told g image hs size few told =
 
 -- ---- all of it
 
-pub written : (g : Geometry) (hs : List Held) (blank : List ℕ) (d : Doubting) (rows : ℕ) (pieces : Option (List (List ℕ))) (bytes : List ℕ) → rows ≡ row_count g → Stands g hs blank pieces
-    → IsTaken g (λ image. Shows g rows image hs pieces × IsDoubting g rows image d) bytes → IsWritten g pieces hs d.doubts bytes
-written g hs blank d rows pieces bytes all stands taken =
+pub written : (g : Geometry) (hs : List Held) (blank : List ℕ) (d : Doubting) (told : Doubts) (pieces : Option (List (List ℕ))) (bytes : List ℕ) → Stands g hs blank pieces
+    → ((image : Image) → length image ≡ row_count g → IsDoubting g (row_count g) image d → told ≡ doubts_of g image)
+    → IsTaken g (λ image. Shows g (row_count g) image hs pieces × IsDoubting g (row_count g) image d) bytes → IsWritten g pieces hs told bytes
+written g hs blank d told pieces bytes stands concluded taken =
     let image : Image = raw_image g bytes in
     let size : length image ≡ row_count g = length-raw_image g bytes in
-    let shown : Shows g (row_count g) image hs pieces = subst (λ k. Shows g k image hs pieces) all taken.shown.0 in
+    let shown : Shows g (row_count g) image hs pieces = taken.shown.0 in
     record {
       whole = taken.whole;
       array = if_both pieces (AreSized g) (ReadBelow g image (row_count g)) (λ ps. ps ≡ array_of g image) stands.sized shown.pieces_are (λ ps sized read. array_read g image ps size sized read);
       states = states_told g image hs size stands.size shown.held_of;
-      doubts_is = doubted g image rows d (size ∙ sym all) taken.shown.1;
+      doubts_is = concluded image size taken.shown.1;
     }
 
 -- ---- ties

@@ -1,4 +1,5 @@
--- How many sectors of a dump may be older than the last write: at most as many as it has pages that are neither erased nor sound, and holes.
+-- How many sectors of a dump may be older than the last write: at most as many as it has pages that are neither erased nor sound, and holes, but for
+-- those of bad blocks whose pages leave nothing open.
 use Rattle.std.specs.Prelude.{◌≡◌, ◌⊎◌, ℕ, ◌/◌, ◌<◌, ◌≤◌, not, Bool, true, false, length, get_or, slice_get, count_by, Option, Some, None, is_some}
 use Rattle.std.specs.List.{range_with_len}
 use Rattle.page_layout.specs.declared.geometry.Geometry.{Geometry}
@@ -8,21 +9,9 @@ use Rattle.page_layout.specs.Sound.{record_of}
 use Rattle.page_layout.specs.Newest.{newest}
 use Rattle.page_layout.specs.Array.{marks, sector_of}
 use Rattle.page_layout.specs.OneArray.{AreDistinct}
-use Rattle.page_layout.specs.Block.{is_broken}
-use Rattle.lab_dump.specs.Doubts.{has_page, is_erased_at, is_programmed_at, is_hole, IsHole, doubts_of, most_older}
-
--- ---- a dump of a die
-
--- The dump is one of a die that had these pages: each of its pages is that of the die, or not sound, and one that the die had programmed and that
--- reads as erased stands before one of its block that does not.
-pub record IsDumpOf (g : Geometry) (die dump : Image) : Type 0 where
-  pub size : length dump ≡ length die
-  pub page : (row : ℕ) (p q : Page) → slice_get die row ≡ Some p → slice_get dump row ≡ Some q → (q ≡ p) ⊎ (record_of q ≡ None)
-  pub followed : (row : ℕ) → is_programmed_at die row ≡ true → is_erased_at dump row ≡ true → IsHole g dump row
-
--- a block is programmed in order: no erased page stands before one of its block that is not
-abbrev pub IsInOrder : Geometry → Image → Type 0
-IsInOrder g image = (row later : ℕ) → row < later → later / g.pages ≡ row / g.pages → is_programmed_at image later ≡ true → is_erased_at image row ≡ false
+use Rattle.image_check.specs.Blocks.{is_factory}
+use Rattle.lab_dump.specs.Bad.{is_excused, is_rewritten}
+use Rattle.lab_dump.specs.Doubts.{is_erased_at, is_programmed_at, is_unsound_at, is_hole, IsHole, doubts_of, most_older}
 
 -- ---- sectors whose newest page is gone
 
@@ -35,12 +24,32 @@ is_gone_from dump (Some row) = not (is_some (get_or (marks dump) row None))
 unfoldable pub is_gone : Image → Image → ℕ → Bool
 is_gone die dump n = is_gone_from dump (newest (marks die) (Sector n))
 
--- the row is that of the sector's newest page, and of no other sector's, and its page is neither erased nor sound, or a hole
+-- ---- a dump of a die
+
+-- The dump is one of a die that had these pages: each of its pages is that of the die, or not sound. One that the die had programmed and that
+-- reads as erased stands before one of its block that does not. The die has no sound page in a block that the dump's newest table names factory. No
+-- page that was the newest of its sector is gone from a block that was written again.
+pub record IsDumpOf (g : Geometry) (die dump : Image) : Type 0 where
+  pub size : length dump ≡ length die
+  pub page : (row : ℕ) (p q : Page) → slice_get die row ≡ Some p → slice_get dump row ≡ Some q → (q ≡ p) ⊎ (record_of q ≡ None)
+  pub followed : (row : ℕ) → is_programmed_at die row ≡ true → is_erased_at dump row ≡ true → IsHole g dump row
+  pub unused : (row : ℕ) → is_factory g dump (row / g.pages) ≡ true → get_or (marks die) row None ≡ None
+  pub moved : (n row : ℕ) → newest (marks die) (Sector n) ≡ Some row → is_rewritten g dump (row / g.pages) ≡ true → is_gone die dump n ≡ false
+
+-- a block is programmed in order: no erased page stands before one of its block that is not
+abbrev pub IsInOrder : Geometry → Image → Type 0
+IsInOrder g image = (row later : ℕ) → row < later → later / g.pages ≡ row / g.pages → is_programmed_at image later ≡ true → is_erased_at image row ≡ false
+
+-- ---- a row of its own
+
+-- the row is that of the sector's newest page, and of no other sector's, and its page is neither erased nor sound, or a hole, in a block that is
+-- not excused
 pub record HasOwnRow (g : Geometry) (die dump : Image) (n : ℕ) : Type 0 where
   pub row : ℕ
   pub newest_is : newest (marks die) (Sector n) ≡ Some row
   pub own : (m : ℕ) → newest (marks die) (Sector m) ≡ Some row → m ≡ n
-  pub broken : (has_page is_broken (slice_get dump row) ≡ true) ⊎ (is_hole g dump row ≡ true)
+  pub broken : (is_unsound_at dump row ≡ true) ⊎ (is_hole g dump row ≡ true)
+  pub stays_open : is_excused g dump (row / g.pages) ≡ false
 
 -- ---- laws
 

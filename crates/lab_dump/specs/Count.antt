@@ -1,5 +1,5 @@
 -- How many pages of an image are of each sort.
-use Rattle.std.specs.Prelude.{◌≡◌, ℕ, ◌+◌, ◌-◌, ◌/◌, ◌^◌, ◌≤◌, ◌==◌, ◌&&◌, not, nat_lt, if◌then◌else◌, Bool, false, length, count_by, slice_get, Option, Some, None, is_some}
+use Rattle.std.specs.Prelude.{◌≡◌, ℕ, ◌+◌, ◌-◌, ◌/◌, ◌^◌, ◌<◌, ◌≤◌, ◌==◌, ◌&&◌, not, nat_lt, if◌then◌else◌, Bool, false, List, length, get_or, count_by, slice_get, Option, Some, None, is_some}
 use Rattle.std.specs.List.{range_with_len}
 use Rattle.page_layout.specs.declared.geometry.Geometry.{Geometry}
 use Rattle.page_layout.specs.declared.record.Record.{Record}
@@ -97,6 +97,11 @@ is_unsound_in g image block row = (row / g.pages == block) && is_broken_page (sl
 -- how many of the first rows are so
 unfoldable pub unsound_below : Geometry → Image → ℕ → ℕ → ℕ
 unsound_below g image rows block = count_by (is_unsound_in g image block) (range_with_len 0 rows)
+
+-- of each block how many
+pub record HasUnsound (g : Geometry) (image : Image) (rows : ℕ) (items : List ℕ) : Type 0 where
+  pub size : length items ≡ g.blocks
+  pub at : (b : ℕ) → b < g.blocks → get_or items b 0 ≡ unsound_below g image rows b
 
 -- how many pages of a block are neither erased nor sound
 abbrev pub unsound_in : Geometry → Image → ℕ → ℕ

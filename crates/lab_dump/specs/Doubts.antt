@@ -10,7 +10,8 @@ use Rattle.page_layout.specs.Sound.{record_of, is_erased_page}
 use Rattle.page_layout.specs.Key.{key_of}
 use Rattle.page_layout.specs.Block.{is_broken, is_programmed}
 use Rattle.lab_dump.specs.declared.doubts.Doubts.{Doubts}
-use Rattle.lab_dump.specs.declared.doubts.Doubting.{Doubting}
+use Rattle.image_check.specs.Blocks.{is_factory}
+use Rattle.lab_dump.specs.Bad.{is_excused, is_rewritten}
 
 -- ---- holes
 
@@ -67,11 +68,26 @@ is_outside g (Some r) = is_past g (key_of r)
 
 -- ---- together
 
--- how many pages are neither erased nor sound, how many are holes, and how many are sound and of a sector that the geometry leaves out
+-- how many rows pass a test that are of blocks which pass another one
+unfoldable pub rows_of : Geometry → Image → (ℕ → Bool) → (ℕ → Bool) → ℕ
+rows_of g image test block = count_by (λ row. test row && block (row / g.pages)) (range_with_len 0 (length image))
+
+-- whether the row's page is neither erased nor sound
+abbrev pub is_unsound_at : Image → ℕ → Bool
+is_unsound_at image row = has_page is_broken (slice_get image row)
+
+-- how many rows of blocks that pass a test are so, or are holes
+abbrev pub doubtful_of : Geometry → Image → (ℕ → Bool) → ℕ
+doubtful_of g image block = rows_of g image (is_unsound_at image) block + rows_of g image (is_hole g image) block
+
+-- how many pages are neither erased nor sound, how many are holes, how many of both stand in bad blocks whose pages leave nothing open, by why they
+-- do, and how many are sound and of a sector that the geometry leaves out
 unfoldable pub doubts_of : Geometry → Image → Doubts
 doubts_of g image = record {
-  unsound = count_by is_broken image;
-  holes = holes_of g image;
+  unsound = rows_of g image (is_unsound_at image) (λ b. not (is_excused g image b));
+  holes = rows_of g image (is_hole g image) (λ b. not (is_excused g image b));
+  factory = doubtful_of g image (is_factory g image);
+  rewritten = doubtful_of g image (is_rewritten g image);
   outside = count_by (λ p. is_outside g (record_of p)) image;
 }
 
@@ -79,33 +95,13 @@ doubts_of g image = record {
 abbrev pub most_older : Doubts → ℕ
 most_older d = d.unsound + d.holes
 
--- ---- as the pages pass
-
--- how many erased pages stand behind the last one that is not, in the block of the last of the first rows
-unfoldable pub ending : Geometry → Image → ℕ → ℕ
-ending g image zero = 0
-ending g image (suc row) = if is_erased_at image row then (if row % g.pages == 0 then 1 else ending g image row + 1) else 0
-
--- how many of the first rows are holes that these rows show
-unfoldable pub holes_below : Geometry → Image → ℕ → ℕ
-holes_below g image zero = 0
-holes_below g image (suc row) = if is_erased_at image row then holes_below g image row else holes_below g image row + (if row % g.pages == 0 then 0 else ending g image row)
-
--- what the first rows of the image come to
-pub record IsDoubting (g : Geometry) (rows : ℕ) (image : Image) (d : Doubting) : Type 0 where
-  pub unsound_is : d.doubts.unsound ≡ count_by is_broken (take rows image)
-  pub holes_is : d.doubts.holes ≡ holes_below g image rows
-  pub outside_is : d.doubts.outside ≡ count_by (λ p. is_outside g (record_of p)) (take rows image)
-  pub ending_is : d.ending ≡ ending g image rows
-
--- no more than the rows, whatever the pages were
-pub record AreFewDoubts (rows : ℕ) (d : Doubting) : Type 0 where
-  pub unsound : d.doubts.unsound ≤ rows
-  pub holes : d.doubts.holes + d.ending ≤ rows
-  pub outside : d.doubts.outside ≤ rows
-
 -- ---- law
 
 -- A row is told as a hole just where it is one.
 abbrev pub HoleLaw : Type 0
 HoleLaw = (g : Geometry) (image : Image) (row : ℕ) → (is_hole g image row ≡ true) ↔ IsHole g image row
+
+-- Each page that is neither erased nor sound, and each hole, is told once: as one that may have been the newest of a sector, or as one of a block
+-- that is excused.
+abbrev pub ToldOnceLaw : Type 0
+ToldOnceLaw = (g : Geometry) (image : Image) → (d : Doubts) → d ≡ doubts_of g image → d.unsound + d.holes + d.factory + d.rewritten ≡ count_by is_broken image + holes_of g image

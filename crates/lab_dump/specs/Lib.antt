@@ -14,8 +14,14 @@ pub mod Writing
 pub mod Written
 -- why no file was made of a dump
 pub mod Unmade
+-- bad blocks whose pages leave nothing open
+pub mod Bad
 -- what a dump leaves open of its array
 pub mod Doubts
+-- what a pass notes of that
+pub mod Doubting
+-- what all of it comes to
+pub mod Concluding
 -- how many of its sectors may be older
 pub mod Bound
 -- the map of the array
@@ -24,8 +30,6 @@ pub mod Map
 pub mod Lost
 -- what is held of a sector while it is compared
 pub mod Trace
--- what a pass notes that compares
-pub mod Comparing
 -- what a comparison comes to
 pub mod Compared
 -- how many pages are of each sort

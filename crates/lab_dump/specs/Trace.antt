@@ -1,5 +1,5 @@
--- What is held of a sector once some rows were looked at, and what it comes to in the end.
-use Rattle.std.specs.Prelude.{◌≡◌, ℕ, ◌&&◌, nat_lt, not, Bool, true, Option, is_some}
+-- What is held of a key once some rows were looked at, and what it comes to in the end.
+use Rattle.std.specs.Prelude.{◌≡◌, ℕ, ◌&&◌, nat_lt, not, Bool, true, false, Option, Some, None, is_some}
 use Rattle.std.specs.Int.{w64, from_le_bytes}
 use Rattle.page_layout.specs.declared.newest.Latest.{Latest}
 use Rattle.page_layout.specs.declared.newest.Latest.TheVariants as latest
@@ -19,3 +19,15 @@ abbrev pub lost_in : Option ℕ → ℕ → Trace → Bool
 lost_in said next Never = is_some said
 lost_in said next (Once at kept) = not (is_there said at) && nat_lt (from_le_bytes w64 kept) next
 lost_in said next (Tied kept) = true
+
+-- the row of the newest page, or none
+abbrev pub place_in : Trace → Option ℕ
+place_in Never = None
+place_in (Once row kept) = Some row
+place_in (Tied kept) = None
+
+-- two pages share the greatest sequence
+abbrev pub is_tied_in : Trace → Bool
+is_tied_in Never = false
+is_tied_in (Once row kept) = false
+is_tied_in (Tied kept) = true

@@ -2,10 +2,13 @@
 ghost use Rattle.std.specs.Prelude.{◌≡◌, length, replicate, true, IfOk, IfErr, IfSome, map};
 ghost use Rattle.page_layout.specs.Array.{zeros};
 ghost use Rattle.lab_dump.specs.declared.held.Held.TheVariants.{Never};
+ghost use Rattle.page_layout.specs.Page.{Image};
+ghost use Rattle.lab_dump.specs.Doubting.{IsDoubting, Stands};
 ghost use Rattle.lab_dump.specs.Unmade.{IsUnmade};
 ghost use Rattle.lab_dump.specs.Written.{IsWritten, TiedLaw};
 
-use crate::doubts::{Doubting, Doubts};
+use crate::doubting::Doubting;
+use crate::doubts::Doubts;
 use crate::dump::DumpReader;
 use crate::held::Held;
 use crate::make_fault::MakeFault;
@@ -45,6 +48,8 @@ struct Room {
     held: Vec<Held>,
     // a sector's bytes where it has none
     zeros: Vec<u8>,
+    // what is left open
+    doubting: Doubting,
 }
 
 // Takes all the memory of a run.
@@ -53,12 +58,15 @@ fn take_room(alloc: Global, geometry: &Geometry) -> Result<Room, AllocError>
     ensures spare { IfOk result (λ room. length room.spare.items ≡ geometry.now.spare_bytes) }
     ensures held { IfOk result (λ room. room.held.items ≡ replicate geometry.now.sectors Never) }
     ensures blank { IfOk result (λ room. room.zeros.items ≡ zeros geometry.now) }
+    ensures stands { IfOk result (λ room. Stands geometry.now 0 room.doubting) }
+    ensures doubting { IfOk result (λ room. (image : Image) → IsDoubting geometry.now 0 image room.doubting) }
 {
     Ok(Room {
         body: vec![in alloc; 0; geometry.data_bytes()]?,
         spare: vec![in alloc; 0; geometry.spare_bytes()]?,
         held: vec![in alloc; Held::Never; geometry.sectors() as usize]?,
         zeros: vec![in alloc; 0; geometry.data_bytes()]?,
+        doubting: Doubting::new(alloc, geometry)?,
     })
 }
 
@@ -78,6 +86,8 @@ fn write_sectors<R: DumpReader, T: Target + Drop>(
     requires spare { length room.spare.items ≡ geometry.now.spare_bytes }
     requires held { room.held.items ≡ replicate geometry.now.sectors Never }
     requires blank { room.zeros.items ≡ zeros geometry.now }
+    requires stands { Stands geometry.now 0 room.doubting }
+    requires doubting { (image : Image) → IsDoubting geometry.now 0 image room.doubting }
     requires pieces { IfSome (T.pieces target) (λ ps. ps ≡ replicate geometry.now.sectors (zeros geometry.now)) }
     ensures ok { IfOk result (λ written. IfSome (R.remaining reader.old) (IsWritten geometry.now (T.pieces written.target) written.held.items written.doubts)) }
     ensures sized { IfOk result (λ written. length written.held.items ≡ geometry.now.sectors) }
@@ -90,13 +100,13 @@ fn write_sectors<R: DumpReader, T: Target + Drop>(
     let mut writing = Writing {
         held: room.held,
         zeros: room.zeros,
-        doubting: Doubting::none(),
+        doubting: room.doubting,
         target,
     };
     match scan(reader, geometry, &mut writing, &mut body, &mut spare) {
         Ok(()) => Ok(Written {
+            doubts: writing.doubting.conclude(geometry),
             held: writing.held,
-            doubts: writing.doubting.doubts,
             target: writing.target,
         }),
         Err(fault) => Err(Unwritten {

@@ -1,12 +1,12 @@
 //! What a dump comes to beside a certificate.
-ghost use Rattle.std.specs.Prelude.{◌≡◌, ◌≢◌, ◌↔◌, ℕ, ◌<◌, ◌^◌, true, false, length, get_or, IfOk, IfErr, IfSome, IsTrue, Err, None};
+ghost use Rattle.std.specs.Prelude.{◌≡◌, ◌≢◌, ◌↔◌, ℕ, ◌<◌, ◌≤◌, ◌^◌, true, false, length, get_or, IfOk, IfErr, IfSome, IsTrue, Err, None};
 ghost use Rattle.certificate.specs.Claim.{sizes_of};
 ghost use Rattle.lab_dump.specs.declared.trace.Trace.TheVariants.{Never};
 ghost use Rattle.lab_dump.specs.Trace.{lost_in};
 ghost use Rattle.lab_dump.specs.Compared.{IsComparedTo, IsUncompared};
 
-use crate::comparing::Comparing;
-use crate::doubts::{Doubting, Doubts};
+use crate::doubting::Doubting;
+use crate::doubts::Doubts;
 use crate::dump::DumpReader;
 use crate::pass::{ScanFault, scan};
 use crate::trace::Trace;
@@ -80,14 +80,14 @@ fn is_of(geometry: &Geometry, certificate: &Certificate) -> bool
 
 // Notes of each sector whether it has lost a page, by what is held of it in the end.
 fn note_lost(certificate: &Certificate, traces: &[Trace], lost: &mut [bool])
-    requires size { length traces.now ≡ length certificate.now.sectors }
+    requires size { length certificate.now.sectors ≤ length traces.now }
     requires few { length traces.now < 2 ^ 32 }
-    requires room { length lost.old ≡ length traces.now }
-    ensures size { length lost.new ≡ length traces.now }
-    ensures each { (n : ℕ) → n < length traces.now → get_or lost.new n false ≡ lost_in (get_or certificate.now.sectors n None) certificate.now.next (get_or traces.now n Never) }
+    requires room { length lost.old ≡ length certificate.now.sectors }
+    ensures size { length lost.new ≡ length lost.old }
+    ensures each { (n : ℕ) → n < length lost.old → get_or lost.new n false ≡ lost_in (get_or certificate.now.sectors n None) certificate.now.next (get_or traces.now n Never) }
 {
     let next = certificate.next_sequence();
-    for n in 0..traces.len() {
+    for n in 0..lost.len() {
         lost[n] = traces[n].is_lost(certificate.sector_row(n as u32), next);
     }
 }
@@ -121,15 +121,12 @@ pub fn compare_dump<R: DumpReader>(
     }
     let mut body = vec![in alloc; 0; geometry.data_bytes()]?;
     let mut spare = vec![in alloc; 0; geometry.spare_bytes()]?;
-    let mut comparing = Comparing {
-        traces: vec![in alloc; Trace::Never; geometry.sectors() as usize]?,
-        doubting: Doubting::none(),
-    };
+    let mut doubting = Doubting::new(alloc, geometry)?;
     let mut lost = vec![in alloc; false; geometry.sectors() as usize]?;
-    scan(reader, geometry, &mut comparing, &mut body, &mut spare)?;
-    note_lost(certificate, &comparing.traces, &mut lost);
+    scan(reader, geometry, &mut doubting, &mut body, &mut spare)?;
+    note_lost(certificate, &doubting.traces, &mut lost);
     Ok(Compared {
         lost,
-        doubts: comparing.doubting.doubts,
+        doubts: doubting.conclude(geometry),
     })
 }

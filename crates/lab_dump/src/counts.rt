@@ -3,8 +3,7 @@ ghost use Rattle.std.specs.Prelude.{◌≡◌, ◌+◌, ◌-◌, ◌/◌, ◌<�
 ghost use Rattle.page_layout.specs.Geometry.{row_count};
 ghost use Rattle.page_layout.specs.Page.{Page, Image};
 ghost use Rattle.page_layout.specs.Sound.{record_of, is_erased_page};
-ghost use Rattle.lab_dump.specs.Count.{AreFew, SortsLaw, counted, is_last, is_of_kind, is_outside, no_counts};
-ghost use Rattle.lab_dump.specs.Noted.{HasUnsound};
+ghost use Rattle.lab_dump.specs.Count.{AreFew, HasUnsound, SortsLaw, counted, is_last, is_of_kind, is_outside, no_counts};
 
 use page_layout::geometry::Geometry;
 use page_layout::record::{Key, Kind, Record};
@@ -67,6 +66,14 @@ fn is_last(found: Option<Record>) -> bool
         Some(found) => !(found.sequence < u64::MAX),
         None => false,
     }
+}
+
+// 1 where there is a record whose number is out of range, else 0.
+pub(crate) fn one_strange(geometry: &Geometry, found: Option<Record>) -> u32
+    ensures is { result ≡ Rattle.lab_dump.specs.Count.one (is_outside geometry.now found) }
+    ensures small { result ≤ 1 }
+{
+    one(is_outside(geometry, found))
 }
 
 fn one(is: bool) -> u32

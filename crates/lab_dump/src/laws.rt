@@ -1,6 +1,7 @@
 //! What the definitions in `specs/` come to, proved: each function's contract is the law, and its body is empty.
 ghost use Rattle.lab_dump.specs.Bound.{BoundLaw, HoleLostLaw, KeptLaw, OwnRowLaw};
-ghost use Rattle.lab_dump.specs.Doubts.{HoleLaw};
+ghost use Rattle.lab_dump.specs.Bad.{RewrittenLaw, RewrittenToldLaw};
+ghost use Rattle.lab_dump.specs.Doubts.{HoleLaw, ToldOnceLaw};
 ghost use Rattle.lab_dump.specs.Lost.{LostLaw, NoneLostLaw};
 ghost use Rattle.lab_dump.specs.Map.{AreasLaw};
 ghost use Rattle.lab_dump.specs.FitLaws.{FewerLaw, FitLaw, OnceLaw, OwnLaw, ShortLaw, PageLaw, LookedLaw, LookedRiseLaw, LookedAllLaw, GreatestLaw, WithinLaw, LowerLaw, TableLaw};
@@ -29,9 +30,21 @@ pub fn hole_laws()
     ensures lost { HoleLostLaw }
 {}
 
-/// How many sectors of a dump may be older than the last write. Where each page of the dump is that of the die, or not sound, and no page was lost
-/// that reads as erased and stands behind the last one of its block that does not: each sector whose newest page is gone has a row of its own that
-/// is neither erased nor sound, or a hole; so there are at most as many of them as `Doubts::most_older` says; and every other one reads as it did.
+/// What a block is that was written again: one is told only where the newest table names it grown, and there is a newer page of the key of each sound
+/// page in it; where each sound page is of a key of the die, and no two share the greatest sequence of theirs, each such block is told. Each page that is
+/// neither erased nor sound, and each hole, is counted once: as one that may have been the newest of its sector, or as one of a block that the newest
+/// table names factory, or that was written again.
+pub fn bad_block_laws()
+    ensures rewritten { RewrittenLaw }
+    ensures told { RewrittenToldLaw }
+    ensures once { ToldOnceLaw }
+{}
+
+/// How many sectors of a dump may be older than the last write. Where each page of the dump is that of the die, or not sound, no page was lost
+/// that reads as erased and stands behind the last one of its block that does not, the die has no sound page in a block that the newest table names
+/// factory, and none that was the newest of its sector is gone from a block that was written again: each sector whose newest page is gone has a row of
+/// its own that is neither erased nor sound, or a hole; so there are at most as many of them as `Doubts::most_older` says; and every other one reads as
+/// it did.
 pub fn bound_laws()
     ensures own { OwnRowLaw }
     ensures bound { BoundLaw }

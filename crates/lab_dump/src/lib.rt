@@ -14,8 +14,9 @@
 mod area;
 mod array;
 mod compare;
-mod comparing;
+mod concluding;
 mod counts;
+mod doubting;
 mod doubts;
 mod dump;
 mod find;
@@ -49,8 +50,8 @@ pub use find::{FindFault, find_geometries};
 pub use fit::{Fit, TableSays};
 pub use held::{Held, State};
 pub use laws::{
-    areas_law, bound_laws, fit_laws, hole_laws, looked_laws, lost_law, none_lost_law, short_laws,
-    told_laws,
+    areas_law, bad_block_laws, bound_laws, fit_laws, hole_laws, looked_laws, lost_law,
+    none_lost_law, short_laws, told_laws,
 };
 pub use look::{Look, look_at, look_with};
 pub use make_fault::MakeFault;

@@ -3,11 +3,10 @@ ghost use Rattle.std.specs.Prelude.{◌≡◌, IfOk};
 ghost use Rattle.page_layout.specs.Page.{Image};
 ghost use Rattle.lab_dump.specs.Noted.{Stands, Shows};
 
-use crate::counts::{PageCounts, note_unsound};
-use crate::doubts::Doubting;
+use crate::counts::PageCounts;
+use crate::doubting::Doubting;
 use crate::held::State;
 use crate::keys::{blank_table, note_formed, note_seen};
-use crate::look::look_with;
 use crate::pass::{Stopped, Taker};
 use bad_blocks::Table;
 use image_check::Survey;
@@ -21,8 +20,6 @@ pub(crate) struct Seeing {
     // what a certificate is made of
     pub(crate) survey: Survey,
     pub(crate) counts: PageCounts,
-    // of each block, how many pages are neither erased nor sound
-    pub(crate) unsound: Vec<u32>,
     // of each key, whether there is a sound page of it
     pub(crate) seen: Vec<bool>,
     // of each table page, whether its newest page is well formed
@@ -44,10 +41,9 @@ impl Seeing {
         Ok(Seeing {
             survey: Survey::new(alloc, geometry)?,
             counts: PageCounts::none(),
-            unsound: vec![in alloc; 0; geometry.blocks() as usize]?,
             seen: vec![in alloc; false; keys as usize]?,
             formed: vec![in alloc; false; geometry.table_pages() as usize]?,
-            doubting: Doubting::none(),
+            doubting: Doubting::new(alloc, geometry)?,
             keys: vec![in alloc; State::Absent; keys as usize]?,
             table: blank_table(alloc, geometry.blocks())?,
         })
@@ -77,9 +73,7 @@ impl Taker for Seeing {
         let found = self.survey.see(row, body, spare);
         let erased = is_erased(body, spare);
         self.counts = self.counts.step(geometry, found, erased);
-        let look = look_with(found, body, spare);
-        self.doubting = self.doubting.step(geometry, row, look);
-        note_unsound(geometry, &mut self.unsound, row, found, erased);
+        self.doubting.step(geometry, row, found, body, spare);
         note_seen(geometry, &mut self.seen, found);
         note_formed(
             geometry,

@@ -217,7 +217,7 @@ fn conclude(alloc: Global, geometry: &Geometry, seeing: Seeing) -> Result<DieSur
     ensures survey { IfOk result (λ s. (image : Image) → length image ≡ row_count geometry.now → Shows geometry.now (row_count geometry.now) image seeing → IsSurveyed geometry.now image s) }
     ensures memory { OnErr result ((image : Image) → length image ≡ row_count geometry.now → Shows geometry.now (row_count geometry.now) image seeing → IsReadable geometry.now image) }
 {
-    let (mut survey, mut keys) = (seeing.survey, seeing.keys);
+    let (mut survey, mut keys, mut doubting) = (seeing.survey, seeing.keys, seeing.doubting);
     note_keys(&survey.newest, &seeing.seen, &mut keys);
     let blocks = blocks_of(alloc, &mut survey);
     let repeated = first_repeated(&mut survey.pairs);
@@ -227,9 +227,9 @@ fn conclude(alloc: Global, geometry: &Geometry, seeing: Seeing) -> Result<DieSur
         repeated,
         keys,
         formed: seeing.formed,
-        unsound: seeing.unsound,
+        doubts: doubting.conclude(geometry),
+        unsound: doubting.unsound,
         blocks: told_blocks(blocks, readable)?,
-        doubts: seeing.doubting.doubts,
     })
 }
 

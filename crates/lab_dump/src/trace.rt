@@ -1,11 +1,11 @@
-//! What is held of each sector, in few bytes: there is one for each.
+//! What is held of each key, in few bytes: there is one for each.
 ghost use Rattle.std.specs.Prelude.{◌≡◌, Some};
 ghost use Rattle.page_layout.specs.Greatest.{step};
 ghost use Rattle.page_layout.specs.declared.newest.Latest.{Latest};
 ghost use Rattle.lab_dump.specs.Lost;
-ghost use Rattle.lab_dump.specs.Trace.{Tells, lost_in};
+ghost use Rattle.lab_dump.specs.Trace.{Tells, lost_in, place_in, is_tied_in};
 
-/// What is known of the newest page of a sector once some rows were looked at: what `Latest` says, but for the rows of a tie. A sequence stands
+/// What is known of the newest page of a key once some rows were looked at: what `Latest` says, but for the rows of a tie. A sequence stands
 /// lowest byte first: as a number it would be padded.
 #[derive(Clone, Copy)]
 pub enum Trace {
@@ -28,7 +28,7 @@ fn is_there(said: Option<u32>, row: u32) -> bool
 }
 
 impl Trace {
-    // What is held with one sound page of the sector more, of this row, which is later than all so far.
+    // What is held with one sound page of the key more, of this row, which is later than all so far.
     pub(crate) fn step(self, row: u32, sequence: u64) -> Trace
         ensures { (latest : Latest) → Tells self latest → Tells result (step latest row (Some sequence)) }
     {
@@ -44,6 +44,23 @@ impl Trace {
         } else {
             self
         }
+    }
+
+    // The row of the newest page, or `None` where there is none: no page is of the key, or two share its greatest sequence.
+    pub(crate) fn row(self) -> Option<u32>
+        ensures { result ≡ place_in self }
+    {
+        match self {
+            Trace::Once(row, _) => Some(row),
+            Trace::Never | Trace::Tied(_) => None,
+        }
+    }
+
+    // Whether two pages share the greatest sequence.
+    pub(crate) fn is_tied(self) -> bool
+        ensures { result ≡ is_tied_in self }
+    {
+        matches!(self, Trace::Tied(_))
     }
 
     // Whether the sector has lost a page, by the row that is said of it and the sequence that was next.

@@ -8,13 +8,12 @@ ghost use Rattle.lab_dump.specs.Held.{pieces_after};
 ghost use Rattle.page_layout.specs.declared.record.Kind.TheVariants as kinds;
 ghost use Rattle.lab_dump.specs.Writing.{HoldsSector, Stands, Shows};
 
-use crate::doubts::Doubting;
+use crate::doubting::Doubting;
 use crate::held::{Change, Held};
-use crate::look::{Look, look_at};
 use crate::pass::{Stopped, Taker};
 use crate::target::{Target, TargetFault};
 use page_layout::geometry::Geometry;
-use page_layout::record::{Key, Kind, Record};
+use page_layout::record::{Key, Kind, Record, read_record};
 
 /// The sectors of an image as they are written: what is held of each, and the file that they go to.
 #[derive(Drop)]
@@ -94,10 +93,11 @@ impl<T: Target> Taker for Writing<T> {
     ghost use Rattle.std.specs.Prelude.{◌≡◌, ◌<◌, ◌+◌, ℕ, length, slice_get, OnOk, OnErr, Some, true};
     ghost use Rattle.page_layout.specs.Geometry.{row_count};
     ghost use Rattle.page_layout.specs.Page.{Image, page};
-    ghost use Rattle.lab_dump.specs.Doubts.{AreFewDoubts, IsDoubting};
+    ghost use Rattle.lab_dump.specs.Doubting as doubting;
+    ghost use Rattle.lab_dump.specs.Doubting.{IsDoubting};
     ghost use Rattle.lab_dump.specs.Writing.{Stands, Shows};
 
-    ghost stands = { λ s g rows. Stands g s.held.items s.zeros.items (T.pieces s.target) × AreFewDoubts rows s.doubting };
+    ghost stands = { λ s g rows. Stands g s.held.items s.zeros.items (T.pieces s.target) × doubting.Stands g rows s.doubting };
 
     ghost shows = { λ s g rows image. Shows g rows image s.held.items (T.pieces s.target) × IsDoubting g rows image s.doubting };
 
@@ -110,12 +110,11 @@ impl<T: Target> Taker for Writing<T> {
         body: &[u8],
         spare: &[u8],
     ) -> Result<(), Stopped> {
-        let look = look_at(geometry, body, spare);
-        self.doubting = self.doubting.step(geometry, row, look);
-        match look {
-            Look::Erased => Ok(()),
-            Look::Unsound => Ok(()),
-            Look::Sound(found) => self.take_sound(geometry, row, &found, body, spare),
+        let found = read_record(geometry, body, spare);
+        self.doubting.step(geometry, row, found, body, spare);
+        match found {
+            Some(found) => self.take_sound(geometry, row, &found, body, spare),
+            None => Ok(()),
         }
     }
 }

@@ -33,6 +33,28 @@ const TIED: [Written; 5] = [
     page!(12, Sector 1, sequence 7, fill 0x11),
 ];
 
+// A table whose words for blocks 16 to 31 begin with 01h: factory bad.
+const MARKED: [Written; 3] = [
+    page!(0, Table 1, sequence 1, fill 0x01),
+    page!(1, Table 0, sequence 2, fill 0),
+    page!(8, Sector 3, sequence 9, fill 0x33),
+];
+
+const MARKED_DOCUMENT: &str = r#"[{"command":"array","line":"command","program":"nandlab"},
+{"line":"factory","pages":8},
+{"line":"age","older":0,"unsound":0}
+]
+"#;
+
+// One whose words for them begin with 02h: grown bad.
+const GROWN: [Written; 5] = [
+    page!(0, Table 0, sequence 1, fill 0),
+    page!(1, Table 1, sequence 8, fill 0x02),
+    page!(8, Sector 3, sequence 9, fill 0x33),
+    page!(128, Sector 3, sequence 5, fill 0x31),
+    page!(136, Sector 5, sequence 6, fill 0x55),
+];
+
 // OUT is there already, and is replaced where that is asked for; the dump never is.
 const OTHERS: [Step; 8] = [
     Step::Run(ARRAY, 1, "refused out 2 Exists\n"),
@@ -164,7 +186,7 @@ const DOCUMENT: &str = r#"[{"command":"array","line":"command","program":"nandla
 ]
 "#;
 
-const CASES: [Case; 11] = [
+const CASES: [Case; 13] = [
     Case {
         name: "sectors",
         files: &[("dump.bin", Made::Dump(&PAGES))],
@@ -198,6 +220,43 @@ const CASES: [Case; 11] = [
                 "holes 11\nunsound 2: at most 13 sectors may be older than the last write, if no page was lost behind the last one of its block\n",
             ),
             Step::Holds("out.bin", Made::Disk(&[(3, 0x31), (31, 0x99)])),
+        ],
+    },
+    // the table names blocks 16 to 31 factory bad; the mark stands in the last page of block 20
+    Case {
+        name: "a factory mark",
+        files: &[("dump.bin", Made::Changed(&MARKED, &[(16096, 0)]))],
+        steps: &[
+            Step::Run(
+                ARRAY,
+                0,
+                "factory 8\nunsound 0: the array is that of every page that was programmed, if no page was lost behind the last one of its block\n",
+            ),
+            Step::Run(
+                "nandlab array 64,32,8,32,32 dump.bin new.bin --json",
+                0,
+                MARKED_DOCUMENT,
+            ),
+        ],
+    },
+    // the table names them grown bad; what block 16 had is written again, and block 17 has the newest page of sector 5
+    Case {
+        name: "grown bad blocks",
+        files: &[
+            ("dump.bin", Made::Changed(&GROWN, &[(12384, 0)])),
+            ("both.bin", Made::Changed(&GROWN, &[(12384, 0), (13152, 0)])),
+        ],
+        steps: &[
+            Step::Run(
+                ARRAY,
+                0,
+                "rewritten 1\nunsound 0: the array is that of every page that was programmed, if no page was lost behind the last one of its block, nor a newest one in a rewritten block\n",
+            ),
+            Step::Run(
+                "nandlab array 64,32,8,32,32 both.bin new.bin",
+                0,
+                "rewritten 1\nunsound 1: at most 1 sectors may be older than the last write, if no page was lost behind the last one of its block, nor a newest one in a rewritten block\n",
+            ),
         ],
     },
     // sectors 3 and 31 are past the last one

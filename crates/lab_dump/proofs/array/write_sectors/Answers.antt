@@ -1,8 +1,8 @@
-use Rattle.std.proofs.Common.{◌≡◌, List, sym, subst, refl}
+use Rattle.std.proofs.Common.{◌≡◌, List, sym, subst}
 use Rattle.page_layout.specs.Geometry.{row_count}
 use Rattle.lab_dump.specs.Scan.{IsTaken}
 use Rattle.lab_dump.specs.declared.held.Held.{Held}
-use Rattle.lab_dump.specs.Doubts.{IsDoubting}
+use Rattle.lab_dump.specs.Doubting.{IsDoubting}
 use Rattle.lab_dump.specs.Writing.{Shows}
 use Rattle.lab_dump.specs.Written.{IsWritten}
 use Rattle.lab_dump.proofs.WritingLemmas.{nothing_yet, if_more}
@@ -13,7 +13,7 @@ pub scan-requires-clause-shows : goal.scan-requires-clause-shows
 scan-requires-clause-shows g c = λ image.
     let geo = c.args.geometry.now in
     let pieces = g.T.Pieces.pieces c.args.target in
-    (subst (λ (hs : List Held). Shows geo 0 image hs pieces) (sym c.requires.held) (nothing_yet geo image pieces c.requires.pieces), c.none.ensures.is geo image)
+    (subst (λ (hs : List Held). Shows geo 0 image hs pieces) (sym c.requires.held) (nothing_yet geo image pieces c.requires.pieces), c.requires.doubting image)
 
 pub returns-in-Ok-clause-ok : goal.returns-in-Ok-clause-ok
 returns-in-Ok-clause-ok g c =
@@ -21,5 +21,5 @@ returns-in-Ok-clause-ok g c =
     let taker = c.scan.new.taker in
     let pieces = g.T.Pieces.pieces taker.target in
     if_more (g.R.DumpReader.remaining c.args.reader.now) (IsTaken geo (λ image. Shows geo (row_count geo) image taker.held.items pieces × IsDoubting geo (row_count geo) image taker.doubting))
-    (IsWritten geo pieces taker.held.items taker.doubting.doubts) c.in-Ok.ensures.taken
-    (λ bytes taken. written geo taker.held.items taker.zeros.items taker.doubting (row_count geo) pieces bytes refl c.in-Ok.ensures.stands.0 taken)
+    (IsWritten geo pieces taker.held.items c.conclude.result) c.in-Ok.ensures.taken
+    (λ bytes taken. written geo taker.held.items taker.zeros.items taker.doubting c.conclude.result pieces bytes c.in-Ok.ensures.stands.0 c.conclude.ensures.is taken)

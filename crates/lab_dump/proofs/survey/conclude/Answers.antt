@@ -1,4 +1,5 @@
-use Rattle.std.proofs.Common.{◌≡◌, List, Bool, length, true≢false, ap, sym, subst, ◌∙◌}
+use Rattle.std.proofs.Common.{◌≡◌, ℕ, List, Bool, length, get_or, true≢false, ap, sym, subst, ◌∙◌}
+use Rattle.std.specs.Global.{Vec}
 use Rattle.std.specs.Vec.{with_items}
 use Rattle.std.proofs.lemmas.List.{with_items_is}
 use Rattle.page_layout.specs.Geometry.{row_count}
@@ -9,7 +10,6 @@ use Rattle.lab_dump.specs.Count.{unsound_below}
 use Rattle.lab_dump.specs.Surveyed.{AreAll, LooksReadable, TellsBlocks}
 use Rattle.lab_dump.proofs.ScanLemmas.{err_all}
 use Rattle.lab_dump.proofs.CountLemmas.{counts_whole}
-use Rattle.lab_dump.proofs.DoubtLemmas.{doubted}
 use Rattle.lab_dump.proofs.KeyLemmas.{keys_stated, formed_all}
 use Rattle.lab_dump.proofs.MountsLemmas.{looks_of, readable_of}
 use Rattle.lab_dump.proofs.survey.conclude.Goals as goal
@@ -37,7 +37,7 @@ returns-clause-whole c =
     record {
       keys = ap (λ (xs : List State). length xs) keys_is ∙ (c.note_keys.ensures.size ∙ (ap (λ (xs : List Newest). length xs) c.deref.ensures.value ∙ c.requires.sized.newest));
       formed = c.requires.formed;
-      unsound = c.requires.unsound;
+      unsound = ap (λ (v : Vec ℕ). length v.items) c.conclude.ensures.unsound ∙ c.requires.doubting.unsound;
       blocks = c.in_ok-told_blocks.ensures.size geo (subst (λ k. AreAll k c.blocks_of-blocks.result) c.requires.geometry_is c.blocks_of-blocks.ensures.size);
     }
 
@@ -59,11 +59,11 @@ returns-clause-survey c = λ image whole h.
       repeated = repeats;
       keys = rw keys_is stand;
       formed = well;
-      unsound = λ b l. h.unsound.at b l ∙ ap (λ n. unsound_below geo image n b) (sym whole);
+      unsound = λ b l. ap (λ (v : Vec ℕ). get_or v.items b 0) c.conclude.ensures.unsound ∙ (h.doubting.unsound.at b l ∙ ap (λ n. unsound_below geo image n b) (sym whole));
       blocks = c.in_ok-told_blocks.ensures.told geo image (λ e r.
           let looks : LooksReadable geo s.counts repeated c.deref-3.result.now c.deref-4.result.now =
           subst (λ (ks : List State). LooksReadable geo s.counts repeated ks c.deref-4.result.now) (sym keys_at)
           (subst (λ (fs : List Bool). LooksReadable geo s.counts repeated c.note_keys.new.keys fs) (sym c.deref-4.ensures.value) (looks_of geo image s.counts repeated c.note_keys.new.keys s.formed.items counts repeats stand well r)) in
           true≢false (sym (c.looks_readable-readable.ensures.1 looks) ∙ e)) blocks;
-      doubts_is = doubted geo image (row_count geo) s.doubting whole h.doubting;
+      doubts_is = c.conclude.ensures.is image whole h.doubting;
     }

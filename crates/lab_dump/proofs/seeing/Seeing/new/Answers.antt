@@ -1,24 +1,21 @@
-use Rattle.std.proofs.Common.{◌≡◌, ◌+◌, ◌≤◌, All, replicate, false, ap, sym, subst, ◌∙◌, arith}
+use Rattle.std.proofs.Common.{◌≡◌, ◌+◌, replicate, false, ap, ◌∙◌, arith}
 use Rattle.page_layout.specs.Geometry.{key_count}
 use Rattle.page_layout.specs.Array.{marks}
-use Rattle.lab_dump.proofs.CountLemmas.{counts_none, few_none, few_start, unsound_start}
+use Rattle.lab_dump.proofs.CountLemmas.{counts_none, few_none}
 use Rattle.lab_dump.proofs.KeyLemmas.{seen_start, formed_start}
 use Rattle.lab_dump.proofs.seeing.Seeing.new.Goals as goal
 
 pub returns-clause-stands : goal.returns-clause-stands
 returns-clause-stands c =
     let g = c.args.geometry.now in
-    let unsound = c.in_ok-vec.ensures.items_if_clones_equal (λ y e. e) in
     record {
       geometry_is = c.in_ok-new.ensures.sized.geometry_is;
       sized = c.in_ok-new.ensures.sized;
       counts = few_none c.none.result c.none.ensures;
-      unsound = omega (arith, c.in_ok-vec.ensures.len);
-      few = subst (λ xs. All (λ n. n ≤ 0) xs) (sym unsound) (few_start c.blocks-2.result);
-      seen = omega (arith, c.in_ok-vec-2.ensures.len);
-      formed = omega (arith, c.in_ok-vec-3.ensures.len);
-      doubting = c.none-2.ensures.few;
-      keys = omega (arith, c.in_ok-vec-4.ensures.len);
+      seen = omega (arith, c.in_ok-vec.ensures.len);
+      formed = omega (arith, c.in_ok-vec-2.ensures.len);
+      doubting = c.in_ok-new-2.ensures.stands;
+      keys = omega (arith, c.in_ok-vec-3.ensures.len);
       table = omega (arith, c.in_ok-blank_table.ensures);
     }
 
@@ -29,8 +26,7 @@ returns-clause-shows c = λ image.
     record {
       survey = c.in_ok-new.ensures.survey image;
       counts = counts_none g image c.none.result c.none.ensures;
-      unsound = unsound_start g image c.in_ok-vec.field-0.items (c.in_ok-vec.ensures.items_if_clones_equal (λ y e. e) ∙ ap (λ n. replicate n 0) c.blocks-2.ensures);
-      seen = seen_start g (marks image) c.in_ok-vec-2.field-0.items (c.in_ok-vec-2.ensures.items_if_clones_equal (λ y e. e) ∙ ap (λ n. replicate n false) keys);
-      formed = formed_start g image c.in_ok-vec-3.field-0.items (omega (arith, c.in_ok-vec-3.ensures.len));
-      doubting = c.none-2.ensures.is g image;
+      seen = seen_start g (marks image) c.in_ok-vec.field-0.items (c.in_ok-vec.ensures.items_if_clones_equal (λ y e. e) ∙ ap (λ n. replicate n false) keys);
+      formed = formed_start g image c.in_ok-vec-2.field-0.items (omega (arith, c.in_ok-vec-2.ensures.len));
+      doubting = c.in_ok-new-2.ensures.is image;
     }

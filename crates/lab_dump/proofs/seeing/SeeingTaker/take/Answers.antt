@@ -7,7 +7,6 @@ use Rattle.page_layout.proofs.ArrayLemmas.{mark-page}
 use Rattle.image_check.specs.Surveyed.{IsSurvey}
 use Rattle.lab_dump.specs.Count.{counted}
 use Rattle.lab_dump.proofs.CountLemmas.{counts_more}
-use Rattle.lab_dump.proofs.DoubtLemmas.{look_from}
 use Rattle.lab_dump.proofs.seeing.SeeingTaker.take.Goals as goal
 
 pub returns-clause-shows : goal.returns-clause-shows
@@ -19,14 +18,12 @@ returns-clause-shows c = λ image h at.
     let found = c.see-found.ensures.found in
     let erased = c.is_erased-erased.ensures in
     let survey : IsSurvey g image (row + 1) c.see-found.new.self = subst (λ k. IsSurvey k image (row + 1) c.see-found.new.self) same (c.see-found.ensures.survey image (subst (λ k. IsSurvey k image row c.args.self.now.survey) (sym same) h.survey) at) in
-    let unsound_is : (with_items c.args.self.now.unsound c.note_unsound.new.unsound).items ≡ c.note_unsound.new.unsound = with_items_is c.args.self.now.unsound c.note_unsound.new.unsound (c.note_unsound.auto.unsound ∙ c.deref_mut.ensures.len) in
-    let seen_is : (with_items c.args.self.now.seen c.note_seen.new.seen).items ≡ c.note_seen.new.seen = with_items_is c.args.self.now.seen c.note_seen.new.seen (c.note_seen.auto.seen ∙ c.deref_mut-2.ensures.len) in
-    let formed_is : (with_items c.args.self.now.formed c.note_formed.new.formed).items ≡ c.note_formed.new.formed = with_items_is c.args.self.now.formed c.note_formed.new.formed (c.note_formed.auto.formed ∙ c.deref_mut-3.ensures.len) in
+    let seen_is : (with_items c.args.self.now.seen c.note_seen.new.seen).items ≡ c.note_seen.new.seen = with_items_is c.args.self.now.seen c.note_seen.new.seen (c.note_seen.auto.seen ∙ c.deref_mut.ensures.len) in
+    let formed_is : (with_items c.args.self.now.formed c.note_formed.new.formed).items ≡ c.note_formed.new.formed = with_items_is c.args.self.now.formed c.note_formed.new.formed (c.note_formed.auto.formed ∙ c.deref_mut-2.ensures.len) in
     record {
       survey = survey;
       counts = counts_more g image row p c.args.self.now.counts c.step-self.result at h.counts (c.step-self.ensures ∙ (ap (λ f. counted g c.args.self.now.counts f c.is_erased-erased.result) found ∙ ap (counted g c.args.self.now.counts _) erased));
-      unsound = rw unsound_is (c.note_unsound.ensures.noted image p (rw c.deref_mut.ensures.value h.unsound) at erased found);
-      seen = rw seen_is (c.note_seen.ensures (marks image) row (rw c.deref_mut-2.ensures.value h.seen) (mark-page image row p at ∙ sym found));
-      formed = rw formed_is (c.note_formed.ensures.formed image p (rw c.deref_mut-3.ensures.value h.formed) (rw c.deref.ensures.value survey.newest) at found refl);
-      doubting = c.step-self-2.ensures.is image p h.doubting at (look_from p c.see-found.result c.look_with-look.result found c.look_with-look.ensures);
+      seen = rw seen_is (c.note_seen.ensures (marks image) row (rw c.deref_mut.ensures.value h.seen) (mark-page image row p at ∙ sym found));
+      formed = rw formed_is (c.note_formed.ensures.formed image p (rw c.deref_mut-2.ensures.value h.formed) (rw c.deref.ensures.value survey.newest) at found refl);
+      doubting = c.step.ensures.is image h.doubting at;
     }

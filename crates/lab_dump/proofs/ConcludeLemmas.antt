@@ -1,0 +1,430 @@
+-- What all pages leave open, summed up block by block.
+use Rattle.std.proofs.Common.{◌≡◌, ◌≢◌, ◌⊎◌, inl, inr, ℕ, zero, suc, add-one, ◌+◌, ◌*◌, ◌/◌, ◌%◌, ◌^◌, ◌<◌, ◌≤◌, Bool, true, false, List, [], ◌∷◌, length, get_or, set, take, replicate, Option, Some, None, refl, sym, ap, ◌∙◌, subst, arith, slice_get, cond, count_by}
+use Rattle.std.specs.Prelude.{◌==◌, ◌&&◌, ◌||◌, not, nat_lt, slice_index, slice_range}
+use Rattle.std.specs.Int.{w32, from_le_bytes, div_ceil}
+use Rattle.std.specs.Global.{Vec}
+use Rattle.std.specs.List.{list_any, range_with_len}
+use Rattle.std.proofs.Math.Seq.{take-length}
+use Rattle.std.proofs.Math.Nat.{mul-le-mul_right, mod-lt, div-lt_iff_lt-mul}
+use Rattle.std.proofs.lemmas.Bool.{cases_Bool, cases_eq, cases_order, eq-eqb, ne_eqb, eqb-true, lt-ltb, le-ltb, and_parts, true≢false}
+use Rattle.std.proofs.lemmas.List.{places, get_or-set_same, get_or-set_other, get_or_default, length-set}
+use Rattle.page_layout.specs.declared.geometry.Geometry.{Geometry}
+use Rattle.page_layout.specs.declared.record.Key.TheVariants.{Table}
+use Rattle.page_layout.specs.declared.newest.Latest.{Latest}
+use Rattle.page_layout.specs.Geometry.{entries, key_count, row_count, table_pages, translation_pages}
+use Rattle.page_layout.specs.Greatest.{place_of}
+use Rattle.page_layout.specs.Page.{Page, Image, body_at}
+use Rattle.page_layout.specs.Sound.{record_of}
+use Rattle.page_layout.specs.Newest.{latest_below, newest}
+use Rattle.page_layout.specs.Live.{is_in_block}
+use Rattle.page_layout.specs.Array.{marks}
+use Rattle.page_layout.specs.Block.{is_broken}
+use Rattle.page_layout.specs.Word.{word_at}
+use Rattle.page_layout.proofs.ArrayLemmas.{latest-newest, length-marks}
+use Rattle.image_check.specs.Blocks.{body_in, is_factory, table_body, table_class, word_of_block}
+use Rattle.image_check.specs.Survey.{HasTableBytes}
+use Rattle.lab_dump.specs.declared.trace.Trace.{Trace}
+use Rattle.lab_dump.specs.declared.trace.Trace.TheVariants.{Never}
+use Rattle.lab_dump.specs.declared.doubts.Doubts.{Doubts}
+use Rattle.lab_dump.specs.declared.doubting.Doubting.{Doubting}
+use Rattle.lab_dump.specs.declared.concluding.Excuse.{Excuse}
+use Rattle.lab_dump.specs.declared.concluding.Excuse.TheVariants.{Open, Factory, Rewritten}
+use Rattle.lab_dump.specs.Trace.{is_tied_in, place_in}
+use Rattle.lab_dump.specs.Count as sorts
+use Rattle.lab_dump.specs.Count.{HasUnsound, one, is_unsound_in, unsound_below}
+use Rattle.lab_dump.specs.Bad.{is_excused, is_plain, is_rewritten, is_tied, keeps_below, key_at, latest_at, strange_of, ties_below}
+use Rattle.lab_dump.specs.Doubts.{doubtful_of, doubts_of, has_page, holes_of, is_hole, is_hole_below, is_outside, is_unsound_at, rows_of, ToldOnceLaw}
+use Rattle.lab_dump.specs.Doubting.{HasHoles, HasTraces, IsDoubting, holes_below}
+use Rattle.lab_dump.specs.Concluding.{IsSeen, added, capped, excuse_by, excuse_of, keeps_in, ties_in}
+use Rattle.lab_dump.proofs.DoubtLemmas.{upto, upto_more, upto_none, upto_same, upto_sum, upto_pages, some_pages}
+use Rattle.lab_dump.proofs.TraceLemmas.{held_at, key_found, tells_place, tells_tied}
+use Rattle.lab_dump.proofs.BadLemmas.{any_at, any_more, any_same}
+
+-- ---- ties, and the blocks that keep a newest page
+
+pub ties_are : (g : Geometry) (image : Image) (traces : List Trace) → length image ≡ row_count g → HasTraces g (marks image) (row_count g) traces → ties_in traces (length traces) ≡ ties_below g image (key_count g)
+ties_are g image traces size h =
+    ap (ties_in traces) h.size
+    ∙ any_same (λ i. is_tied_in (get_or traces i Never)) (λ i. is_tied (latest_at g image (length image) i)) (key_count g)
+    (λ i l. tells_tied (get_or traces i Never) (latest_at g image (row_count g) i) (held_at g (marks image) (row_count g) i traces Never h l) ∙ ap (λ n. is_tied (latest_at g image n i)) (sym size))
+
+pub keeps_are : (g : Geometry) (image : Image) (traces : List Trace) (block : ℕ) → length image ≡ row_count g → HasTraces g (marks image) (row_count g) traces → keeps_in g.pages traces (length traces) block ≡ keeps_below g image (key_count g) block
+keeps_are g image traces block size h =
+    ap (λ n. keeps_in g.pages traces n block) h.size
+    ∙ any_same (λ i. is_in_block g.pages block (place_in (get_or traces i Never))) (λ i. is_in_block g.pages block (place_of (latest_at g image (length image) i))) (key_count g)
+    (λ i l. ap (is_in_block g.pages block) (tells_place (get_or traces i Never) (latest_at g image (row_count g) i) (held_at g (marks image) (row_count g) i traces Never h l)) ∙ ap (λ n. is_in_block g.pages block (place_of (latest_at g image n i))) (sym size))
+
+pub ties_more : (traces : List Trace) (n : ℕ) (d : Trace) → n < length traces → ties_in traces n ≡ false → is_tied_in (get_or traces n d) ≡ false → ties_in traces (n + 1) ≡ false
+ties_more traces n d l before now =
+    ap (ties_in traces) (add-one n) ∙ (any_more (λ i. is_tied_in (get_or traces i Never)) n ∙ (ap (λ b. b || is_tied_in (get_or traces n Never)) before ∙ (ap is_tied_in (get_or_default traces n Never d l) ∙ now)))
+
+pub ties_all : (traces : List Trace) (n : ℕ) (d : Trace) → n < length traces → is_tied_in (get_or traces n d) ≡ true → true ≡ ties_in traces (length traces)
+ties_all traces n d l now = sym (any_at (λ i. is_tied_in (get_or traces i Never)) (length traces) n l (ap is_tied_in (get_or_default traces n Never d l) ∙ now))
+
+-- the first n keys are marked
+pub record AreMarked (pages : ℕ) (traces : List Trace) (n : ℕ) (kept : List Bool) : Type 0 where
+  pub each : (b : ℕ) → b < length kept → get_or kept b false ≡ keeps_in pages traces n b
+
+keeps_more : (pages : ℕ) (traces : List Trace) (n b : ℕ) (d : Trace) → n < length traces → keeps_in pages traces (n + 1) b ≡ (keeps_in pages traces n b || is_in_block pages b (place_in (get_or traces n d)))
+keeps_more pages traces n b d l =
+    ap (λ k. keeps_in pages traces k b) (add-one n) ∙ (any_more (λ i. is_in_block pages b (place_in (get_or traces i Never))) n ∙ ap (λ t. keeps_in pages traces n b || is_in_block pages b (place_in t)) (get_or_default traces n Never d l))
+
+or_false : (a : Bool) → (a || false) ≡ a
+or_false true = refl
+or_false false = refl
+
+or_true : (a : Bool) → (a || true) ≡ true
+or_true true = refl
+or_true false = refl
+
+pub marked_more : (pages : ℕ) (traces : List Trace) (n : ℕ) (kept new : List Bool) (d : Trace) (o : Option ℕ) → AreMarked pages traces n kept → n < length traces → o ≡ place_in (get_or traces n d) → length new ≡ length kept
+    → ((b : ℕ) → b < length new → get_or new b false ≡ (get_or kept b false || is_in_block pages b o)) → AreMarked pages traces (n + 1) new
+marked_more pages traces n kept new d o h l is size each = record {
+  each = λ b k. each b k ∙ (ap (λ t. t || is_in_block pages b o) (h.each b (omega arith)) ∙ (ap (λ p. keeps_in pages traces n b || is_in_block pages b p) is ∙ sym (keeps_more pages traces n b d l)));
+}
+
+-- one block more
+pub mark_none : (pages b : ℕ) (kept : List Bool) → get_or kept b false ≡ (get_or kept b false || is_in_block pages b None)
+mark_none pages b kept = sym (or_false (get_or kept b false))
+
+pub mark_past : (pages row b : ℕ) (kept : List Bool) → b < length kept → length kept ≤ row / pages → get_or kept b false ≡ (get_or kept b false || is_in_block pages b (Some row))
+mark_past pages row b kept l past = sym (ap (λ t. get_or kept b false || t) (ne_eqb (row / pages) b (λ e. absurd (omega arith))) ∙ or_false (get_or kept b false))
+
+pub mark_set : (pages row block b : ℕ) (kept : List Bool) → block ≡ row / pages → block < length kept → get_or (set kept block true) b false ≡ (get_or kept b false || is_in_block pages b (Some row))
+mark_set pages row block b kept is within = elim (cases_eq b block) [
+  | inl same ↦
+      ap (λ j. get_or (set kept block true) j false) same
+      ∙ (get_or-set_same kept block true false within ∙ sym (ap (λ t. get_or kept b false || t) (eq-eqb (row / pages) b (sym is ∙ sym same)) ∙ or_true (get_or kept b false)))
+  | inr ne ↦ get_or-set_other kept block b true false ne ∙ sym (ap (λ t. get_or kept b false || t) (ne_eqb (row / pages) b (λ e. ne (sym e ∙ sym is))) ∙ or_false (get_or kept b false))
+]
+
+-- no block is marked at first
+pub none_kept : (n b : ℕ) → get_or (replicate n false) b false ≡ false
+none_kept zero b = refl
+none_kept (suc n) zero = refl
+none_kept (suc n) (suc b) = none_kept n b
+
+pub marked_start : (pages : ℕ) (traces : List Trace) (kept : List Bool) → ((b : ℕ) → get_or kept b false ≡ false) → AreMarked pages traces 0 kept
+marked_start pages traces kept none = record { each = λ b k. none b }
+
+-- ---- what the newest table names a block
+
+four : (a b c d e f g h : ℕ) → a ≡ e → b ≡ f → c ≡ g → d ≡ h → from_le_bytes w32 (a ∷ b ∷ c ∷ d ∷ []) ≡ from_le_bytes w32 (e ∷ f ∷ g ∷ h ∷ [])
+four a b c d e f g h p q r s = rw (p, q, r, s) refl
+
+word_same : (xs ys : List ℕ) (n j : ℕ) → ((i : ℕ) → i < n → slice_index xs i ≡ slice_index ys i) → j + 4 ≤ n → word_at xs j ≡ word_at ys j
+word_same xs ys n j h l = four _ _ _ _ _ _ _ _ (h j (omega arith)) (h (j + 1) (omega arith)) (h (j + 2) (omega arith)) (h (j + 3) (omega arith))
+
+read_in : (xs : List ℕ) (at size i j : ℕ) → j ≡ at + i → i < size → slice_index (slice_range xs at (at + size)) i ≡ get_or xs j 0
+read_in xs at size i j e l = grind (arith, places)
+
+pub entries_some : (g : Geometry) → 0 < entries g
+entries_some g = let least = g.limits.data_size.least in omega arith
+
+pub class_read : (g : Geometry) (image : Image) (tables body : List ℕ) (block row : ℕ) → length image ≡ row_count g → HasTableBytes g image (row_count g) tables → block / entries g < table_pages g
+    → place_of (latest_below (marks image) (Table (block / entries g)) (row_count g)) ≡ Some row → 0 < entries g
+    → body ≡ slice_range tables (block / entries g * g.data_bytes) (block / entries g * g.data_bytes + g.data_bytes)
+    → word_at body (4 * (block % entries g)) % 256 ≡ table_class g image block
+unfolding word_of_block table_body
+class_read g image tables body block row size h within at some is =
+    let u = block / entries g in
+    let newest_is : newest (marks image) (Table u) ≡ Some row = latest-newest (marks image) (Table u) ∙ (ap (λ n. place_of (latest_below (marks image) (Table u) n)) (length-marks image ∙ size) ∙ at) in
+    let low = mod-lt block some in
+    ap (λ w. w % 256)
+    (word_same body (body_in image (newest (marks image) (Table u))) (4 * entries g) (4 * (block % entries g))
+    (λ i l.
+    let in_page : i < g.data_bytes = omega arith in
+    ap (λ b. slice_index b i) is ∙ (read_in tables (u * g.data_bytes) g.data_bytes i (u * g.data_bytes + i) refl in_page
+    ∙ (h.at u row i within in_page at ∙ ap (λ r. slice_index (body_in image r) i) (sym newest_is)))) (omega arith))
+
+pub class_none : (g : Geometry) (image : Image) (block : ℕ) → length image ≡ row_count g → place_of (latest_below (marks image) (Table (block / entries g)) (row_count g)) ≡ None → 0 ≡ table_class g image block
+unfolding word_of_block table_body
+class_none g image block size at =
+    let u = block / entries g in
+    let none : newest (marks image) (Table u) ≡ None = latest-newest (marks image) (Table u) ∙ (ap (λ n. place_of (latest_below (marks image) (Table u) n)) (length-marks image ∙ size) ∙ at) in
+    sym (ap (λ r. word_at (body_in image r) (4 * (block % entries g)) % 256) none)
+
+-- ---- block by block
+
+-- how many of the rows pass a test, of those of the first blocks that pass another one
+abbrev pub below : Geometry → Image → (ℕ → Bool) → (ℕ → Bool) → ℕ → ℕ
+below g image test block n = upto (λ row. (test row && block (row / g.pages)) && nat_lt (row / g.pages) n) (length image)
+
+-- how many rows of one block pass
+abbrev pub of_block : Geometry → Image → (ℕ → Bool) → ℕ → ℕ
+of_block g image test n = upto (λ row. test row && (row / g.pages == n)) (length image)
+
+no_right : (a : Bool) → (a && false) ≡ false
+no_right true = refl
+no_right false = refl
+
+all_right : (a : Bool) → (a && true) ≡ a
+all_right true = refl
+all_right false = refl
+
+below_more : (g : Geometry) (image : Image) (test block : ℕ → Bool) (n : ℕ) → below g image test block (n + 1) ≡ below g image test block n + cond (block n) (of_block g image test n) 0
+below_more g image test block n =
+    upto_sum (λ row. (test row && block (row / g.pages)) && nat_lt (row / g.pages) n) (λ row. (test row && (row / g.pages == n)) && block n) (λ row. (test row && block (row / g.pages)) && nat_lt (row / g.pages) (n + 1)) (length image) (λ row l. at row (cases_order (row / g.pages) n))
+    ∙ ap (λ k. below g image test block n + k) (by (block n) refl)
+  where
+    at : (row : ℕ) → (row / g.pages ≡ n) ⊎ ((row / g.pages < n) ⊎ (n < row / g.pages)) → one ((test row && block (row / g.pages)) && nat_lt (row / g.pages) (n + 1)) ≡ one ((test row && block (row / g.pages)) && nat_lt (row / g.pages) n) + one ((test row && (row / g.pages == n)) && block n)
+    at row (inl same) =
+        let a : one ((test row && block (row / g.pages)) && nat_lt (row / g.pages) (n + 1)) ≡ one (test row && block n) = ap (λ b. one ((test row && block (row / g.pages)) && b)) (lt-ltb (row / g.pages) (n + 1) (omega arith)) ∙ (ap one (all_right (test row && block (row / g.pages))) ∙ ap (λ k. one (test row && block k)) same) in
+        let b : one ((test row && block (row / g.pages)) && nat_lt (row / g.pages) n) ≡ 0 = ap (λ b. one ((test row && block (row / g.pages)) && b)) (le-ltb (row / g.pages) n (omega arith)) ∙ ap one (no_right (test row && block (row / g.pages))) in
+        let c : one ((test row && (row / g.pages == n)) && block n) ≡ one (test row && block n) = ap (λ b. one ((test row && b) && block n)) (eq-eqb (row / g.pages) n same) ∙ ap (λ b. one (b && block n)) (all_right (test row)) in
+        omega arith
+    at row (inr (inl less)) =
+        let a : one ((test row && block (row / g.pages)) && nat_lt (row / g.pages) (n + 1)) ≡ one (test row && block (row / g.pages)) = ap (λ b. one ((test row && block (row / g.pages)) && b)) (lt-ltb (row / g.pages) (n + 1) (omega arith)) ∙ ap one (all_right (test row && block (row / g.pages))) in
+        let b : one ((test row && block (row / g.pages)) && nat_lt (row / g.pages) n) ≡ one (test row && block (row / g.pages)) = ap (λ b. one ((test row && block (row / g.pages)) && b)) (lt-ltb (row / g.pages) n less) ∙ ap one (all_right (test row && block (row / g.pages))) in
+        let c : one ((test row && (row / g.pages == n)) && block n) ≡ 0 = ap (λ b. one ((test row && b) && block n)) (ne_eqb (row / g.pages) n (λ e. absurd (omega arith))) ∙ ap (λ b. one (b && block n)) (no_right (test row)) in
+        omega arith
+    at row (inr (inr more)) =
+        let a : one ((test row && block (row / g.pages)) && nat_lt (row / g.pages) (n + 1)) ≡ 0 = ap (λ b. one ((test row && block (row / g.pages)) && b)) (le-ltb (row / g.pages) (n + 1) (omega arith)) ∙ ap one (no_right (test row && block (row / g.pages))) in
+        let b : one ((test row && block (row / g.pages)) && nat_lt (row / g.pages) n) ≡ 0 = ap (λ b. one ((test row && block (row / g.pages)) && b)) (le-ltb (row / g.pages) n (omega arith)) ∙ ap one (no_right (test row && block (row / g.pages))) in
+        let c : one ((test row && (row / g.pages == n)) && block n) ≡ 0 = ap (λ b. one ((test row && b) && block n)) (ne_eqb (row / g.pages) n (λ e. absurd (omega arith))) ∙ ap (λ b. one (b && block n)) (no_right (test row)) in
+        omega arith
+
+    by : (b : Bool) → block n ≡ b → upto (λ row. (test row && (row / g.pages == n)) && block n) (length image) ≡ cond (block n) (of_block g image test n) 0
+    by true e = upto_same (λ row. (test row && (row / g.pages == n)) && block n) (λ row. test row && (row / g.pages == n)) (length image) (λ row l. ap (λ b. (test row && (row / g.pages == n)) && b) e ∙ all_right (test row && (row / g.pages == n))) ∙ ap (λ b. cond b (of_block g image test n) 0) (sym e)
+    by false e = upto_none (λ row. (test row && (row / g.pages == n)) && block n) (length image) (λ row l. ap (λ b. (test row && (row / g.pages == n)) && b) e ∙ no_right (test row && (row / g.pages == n))) ∙ ap (λ b. cond b (of_block g image test n) 0) (sym e)
+
+below_none : (g : Geometry) (image : Image) (test block : ℕ → Bool) → below g image test block 0 ≡ 0
+below_none g image test block = upto_none (λ row. (test row && block (row / g.pages)) && nat_lt (row / g.pages) 0) (length image) (λ row l. ap (λ b. (test row && block (row / g.pages)) && b) (le-ltb (row / g.pages) 0 (omega arith)) ∙ no_right (test row && block (row / g.pages)))
+
+-- in the end they are those of all blocks
+below_all : (g : Geometry) (image : Image) (test block : ℕ → Bool) → length image ≡ row_count g → below g image test block g.blocks ≡ rows_of g image test block
+unfolding rows_of
+below_all g image test block size =
+    upto_same (λ row. (test row && block (row / g.pages)) && nat_lt (row / g.pages) g.blocks) (λ row. test row && block (row / g.pages)) (length image)
+    (λ row l. ap (λ b. (test row && block (row / g.pages)) && b) (lt-ltb (row / g.pages) g.blocks ((div-lt_iff_lt-mul (some_pages g)).1 (omega arith))) ∙ all_right (test row && block (row / g.pages)))
+
+upto_few : (f : ℕ → Bool) (n : ℕ) → upto f n ≤ n
+upto_few f zero = omega arith
+upto_few f (suc n) = let rest = upto_few f n in let more = upto_more f n in let small = few (f n) in omega arith
+  where
+    few : (b : Bool) → one b ≤ 1
+    few true = omega arith
+    few false = omega arith
+
+-- what is open is the sum of the first blocks'
+pub record AreSummed (g : Geometry) (image : Image) (n : ℕ) (d : Doubts) : Type 0 where
+  pub unsound_is : d.unsound ≡ below g image (is_unsound_at image) (λ b. not (is_excused g image b)) n
+  pub holes_is : d.holes ≡ below g image (is_hole g image) (λ b. not (is_excused g image b)) n
+  pub factory_is : d.factory ≡ below g image (is_unsound_at image) (is_factory g image) n + below g image (is_hole g image) (is_factory g image) n
+  pub rewritten_is : d.rewritten ≡ below g image (is_unsound_at image) (is_rewritten g image) n + below g image (is_hole g image) (is_rewritten g image) n
+  pub outside_is : d.outside ≡ count_by (λ p. is_outside g (record_of p)) image
+
+pub summed_start : (g : Geometry) (image : Image) (d : Doubts) → d.unsound ≡ 0 → d.holes ≡ 0 → d.factory ≡ 0 → d.rewritten ≡ 0 → d.outside ≡ count_by (λ p. is_outside g (record_of p)) image → AreSummed g image 0 d
+summed_start g image d unsound holes factory rewritten outside =
+    let a = below_none g image (is_unsound_at image) (λ b. not (is_excused g image b)) in
+    let b = below_none g image (is_hole g image) (λ b. not (is_excused g image b)) in
+    let c = below_none g image (is_unsound_at image) (is_factory g image) in
+    let e = below_none g image (is_hole g image) (is_factory g image) in
+    let f = below_none g image (is_unsound_at image) (is_rewritten g image) in
+    let h = below_none g image (is_hole g image) (is_rewritten g image) in
+    record { unsound_is = omega arith; holes_is = omega arith; factory_is = omega arith; rewritten_is = omega arith; outside_is = outside }
+
+fits : (n : ℕ) → n < 2 ^ 32 → capped n ≡ n
+fits n l = omega arith
+
+-- no block is both
+pub factory_alone : (g : Geometry) (image : Image) (block : ℕ) → is_factory g image block ≡ true → is_rewritten g image block ≡ false
+unfolding is_rewritten
+factory_alone g image block e =
+    let one_is : table_class g image block ≡ 1 = eqb-true (table_class g image block) 1 e in
+    ap (λ b. b && (is_plain g image && not (keeps_below g image (key_count g) block))) (ne_eqb (table_class g image block) 2 (λ two. absurd (omega arith)))
+
+pub excuse_is : (g : Geometry) (image : Image) (block class : ℕ) (plain kept : Bool) (x : Excuse) → x ≡ excuse_by class plain kept → class ≡ table_class g image block → plain ≡ is_plain g image → kept ≡ keeps_below g image (key_count g) block → x ≡ excuse_of g image block
+unfolding is_rewritten
+excuse_is g image block class plain kept x is c p k = is ∙ (ap (λ n. excuse_by n plain kept) c ∙ (ap (λ b. excuse_by (table_class g image block) b kept) p ∙ ap (excuse_by (table_class g image block) (is_plain g image)) k))
+
+pub summed_more : (g : Geometry) (image : Image) (n unsound holes : ℕ) (d new : Doubts) (x : Excuse) → AreSummed g image n d → length image < 2 ^ 31 → x ≡ excuse_of g image n → unsound ≡ of_block g image (is_unsound_at image) n → holes ≡ of_block g image (is_hole g image) n
+    → new ≡ added d x unsound holes → AreSummed g image (n + 1) new
+summed_more g image n unsound holes d new x h few is us hs e = subst (AreSummed g image (n + 1)) (sym (e ∙ ap (λ y. added d y unsound holes) is)) (by (is_factory g image n) (is_rewritten g image n) refl refl)
+  where
+    by : (f r : Bool) → is_factory g image n ≡ f → is_rewritten g image n ≡ r → AreSummed g image (n + 1) (added d (cond (is_factory g image n) Factory (cond (is_rewritten g image n) Rewritten Open)) unsound holes)
+    by f r is_f is_r =
+        let uo = below_more g image (is_unsound_at image) (λ b. not (is_excused g image b)) n in
+        let ho = below_more g image (is_hole g image) (λ b. not (is_excused g image b)) n in
+        let uf = below_more g image (is_unsound_at image) (is_factory g image) n in
+        let hf = below_more g image (is_hole g image) (is_factory g image) n in
+        let ur = below_more g image (is_unsound_at image) (is_rewritten g image) n in
+        let hr = below_more g image (is_hole g image) (is_rewritten g image) n in
+        let b1 = upto_few (λ row. (is_unsound_at image row && not (is_excused g image (row / g.pages))) && nat_lt (row / g.pages) (n + 1)) (length image) in
+        let b2 = upto_few (λ row. (is_hole g image row && not (is_excused g image (row / g.pages))) && nat_lt (row / g.pages) (n + 1)) (length image) in
+        let b3 = upto_few (λ row. (is_unsound_at image row && is_factory g image (row / g.pages)) && nat_lt (row / g.pages) (n + 1)) (length image) in
+        let b4 = upto_few (λ row. (is_hole g image row && is_factory g image (row / g.pages)) && nat_lt (row / g.pages) (n + 1)) (length image) in
+        let b5 = upto_few (λ row. (is_unsound_at image row && is_rewritten g image (row / g.pages)) && nat_lt (row / g.pages) (n + 1)) (length image) in
+        let b6 = upto_few (λ row. (is_hole g image row && is_rewritten g image (row / g.pages)) && nat_lt (row / g.pages) (n + 1)) (length image) in
+        let u0 = h.unsound_is in
+        let h0 = h.holes_is in
+        let f0 = h.factory_is in
+        let r0 = h.rewritten_is in
+        cases f r is_f is_r uo ho uf hf ur hr b1 b2 b3 b4 b5 b6
+      where
+        open_at : (f r : Bool) → is_factory g image n ≡ f → is_rewritten g image n ≡ r → not (is_excused g image n) ≡ not (f || r)
+        open_at f r a b = ap (λ y. not (y || is_rewritten g image n)) a ∙ ap (λ y. not (f || y)) b
+
+        cases : (f r : Bool) → is_factory g image n ≡ f → is_rewritten g image n ≡ r
+            → below g image (is_unsound_at image) (λ b. not (is_excused g image b)) (n + 1) ≡ below g image (is_unsound_at image) (λ b. not (is_excused g image b)) n + cond (not (is_excused g image n)) (of_block g image (is_unsound_at image) n) 0 → below g image (is_hole g image) (λ b. not (is_excused g image b)) (n + 1) ≡ below g image (is_hole g image) (λ b. not (is_excused g image b)) n + cond (not (is_excused g image n)) (of_block g image (is_hole g image) n) 0
+            → below g image (is_unsound_at image) (is_factory g image) (n + 1) ≡ below g image (is_unsound_at image) (is_factory g image) n + cond (is_factory g image n) (of_block g image (is_unsound_at image) n) 0 → below g image (is_hole g image) (is_factory g image) (n + 1) ≡ below g image (is_hole g image) (is_factory g image) n + cond (is_factory g image n) (of_block g image (is_hole g image) n) 0
+            → below g image (is_unsound_at image) (is_rewritten g image) (n + 1) ≡ below g image (is_unsound_at image) (is_rewritten g image) n + cond (is_rewritten g image n) (of_block g image (is_unsound_at image) n) 0 → below g image (is_hole g image) (is_rewritten g image) (n + 1) ≡ below g image (is_hole g image) (is_rewritten g image) n + cond (is_rewritten g image n) (of_block g image (is_hole g image) n) 0
+            → below g image (is_unsound_at image) (λ b. not (is_excused g image b)) (n + 1) ≤ length image → below g image (is_hole g image) (λ b. not (is_excused g image b)) (n + 1) ≤ length image → below g image (is_unsound_at image) (is_factory g image) (n + 1) ≤ length image → below g image (is_hole g image) (is_factory g image) (n + 1) ≤ length image → below g image (is_unsound_at image) (is_rewritten g image) (n + 1) ≤ length image → below g image (is_hole g image) (is_rewritten g image) (n + 1) ≤ length image
+            → AreSummed g image (n + 1) (added d (cond (is_factory g image n) Factory (cond (is_rewritten g image n) Rewritten Open)) unsound holes)
+        cases true r is_f is_r uo ho uf hf ur hr b1 b2 b3 b4 b5 b6 =
+            let none : is_rewritten g image n ≡ false = factory_alone g image n is_f in
+            let o : not (is_excused g image n) ≡ false = open_at true (is_rewritten g image n) is_f refl in
+            let uo' : below g image (is_unsound_at image) (λ b. not (is_excused g image b)) (n + 1) ≡ below g image (is_unsound_at image) (λ b. not (is_excused g image b)) n + 0 = uo ∙ ap (λ y. below g image (is_unsound_at image) (λ b. not (is_excused g image b)) n + cond y (of_block g image (is_unsound_at image) n) 0) o in
+            let ho' : below g image (is_hole g image) (λ b. not (is_excused g image b)) (n + 1) ≡ below g image (is_hole g image) (λ b. not (is_excused g image b)) n + 0 = ho ∙ ap (λ y. below g image (is_hole g image) (λ b. not (is_excused g image b)) n + cond y (of_block g image (is_hole g image) n) 0) o in
+            let uf' : below g image (is_unsound_at image) (is_factory g image) (n + 1) ≡ below g image (is_unsound_at image) (is_factory g image) n + of_block g image (is_unsound_at image) n = uf ∙ ap (λ y. below g image (is_unsound_at image) (is_factory g image) n + cond y (of_block g image (is_unsound_at image) n) 0) is_f in
+            let hf' : below g image (is_hole g image) (is_factory g image) (n + 1) ≡ below g image (is_hole g image) (is_factory g image) n + of_block g image (is_hole g image) n = hf ∙ ap (λ y. below g image (is_hole g image) (is_factory g image) n + cond y (of_block g image (is_hole g image) n) 0) is_f in
+            let ur' : below g image (is_unsound_at image) (is_rewritten g image) (n + 1) ≡ below g image (is_unsound_at image) (is_rewritten g image) n + 0 = ur ∙ ap (λ y. below g image (is_unsound_at image) (is_rewritten g image) n + cond y (of_block g image (is_unsound_at image) n) 0) none in
+            let hr' : below g image (is_hole g image) (is_rewritten g image) (n + 1) ≡ below g image (is_hole g image) (is_rewritten g image) n + 0 = hr ∙ ap (λ y. below g image (is_hole g image) (is_rewritten g image) n + cond y (of_block g image (is_hole g image) n) 0) none in
+            let u0 = h.unsound_is in
+            let h0 = h.holes_is in
+            let f0 = h.factory_is in
+            let r0 = h.rewritten_is in
+            subst (λ y. AreSummed g image (n + 1) (added d (cond y Factory (cond (is_rewritten g image n) Rewritten Open)) unsound holes)) (sym is_f) (record {
+              unsound_is = omega arith;
+              holes_is = omega arith;
+              factory_is = omega arith;
+              rewritten_is = omega arith;
+              outside_is = h.outside_is;
+            })
+        cases false true is_f is_r uo ho uf hf ur hr b1 b2 b3 b4 b5 b6 =
+            let o : not (is_excused g image n) ≡ false = open_at false true is_f is_r in
+            let uo' : below g image (is_unsound_at image) (λ b. not (is_excused g image b)) (n + 1) ≡ below g image (is_unsound_at image) (λ b. not (is_excused g image b)) n + 0 = uo ∙ ap (λ y. below g image (is_unsound_at image) (λ b. not (is_excused g image b)) n + cond y (of_block g image (is_unsound_at image) n) 0) o in
+            let ho' : below g image (is_hole g image) (λ b. not (is_excused g image b)) (n + 1) ≡ below g image (is_hole g image) (λ b. not (is_excused g image b)) n + 0 = ho ∙ ap (λ y. below g image (is_hole g image) (λ b. not (is_excused g image b)) n + cond y (of_block g image (is_hole g image) n) 0) o in
+            let uf' : below g image (is_unsound_at image) (is_factory g image) (n + 1) ≡ below g image (is_unsound_at image) (is_factory g image) n + 0 = uf ∙ ap (λ y. below g image (is_unsound_at image) (is_factory g image) n + cond y (of_block g image (is_unsound_at image) n) 0) is_f in
+            let hf' : below g image (is_hole g image) (is_factory g image) (n + 1) ≡ below g image (is_hole g image) (is_factory g image) n + 0 = hf ∙ ap (λ y. below g image (is_hole g image) (is_factory g image) n + cond y (of_block g image (is_hole g image) n) 0) is_f in
+            let ur' : below g image (is_unsound_at image) (is_rewritten g image) (n + 1) ≡ below g image (is_unsound_at image) (is_rewritten g image) n + of_block g image (is_unsound_at image) n = ur ∙ ap (λ y. below g image (is_unsound_at image) (is_rewritten g image) n + cond y (of_block g image (is_unsound_at image) n) 0) is_r in
+            let hr' : below g image (is_hole g image) (is_rewritten g image) (n + 1) ≡ below g image (is_hole g image) (is_rewritten g image) n + of_block g image (is_hole g image) n = hr ∙ ap (λ y. below g image (is_hole g image) (is_rewritten g image) n + cond y (of_block g image (is_hole g image) n) 0) is_r in
+            let u0 = h.unsound_is in
+            let h0 = h.holes_is in
+            let f0 = h.factory_is in
+            let r0 = h.rewritten_is in
+            subst (λ y. AreSummed g image (n + 1) (added d (cond y Factory (cond (is_rewritten g image n) Rewritten Open)) unsound holes)) (sym is_f) (
+            subst (λ y. AreSummed g image (n + 1) (added d (cond y Rewritten Open) unsound holes)) (sym is_r) (record {
+              unsound_is = omega arith;
+              holes_is = omega arith;
+              factory_is = omega arith;
+              rewritten_is = omega arith;
+              outside_is = h.outside_is;
+            }))
+        cases false false is_f is_r uo ho uf hf ur hr b1 b2 b3 b4 b5 b6 =
+            let o : not (is_excused g image n) ≡ true = open_at false false is_f is_r in
+            let uo' : below g image (is_unsound_at image) (λ b. not (is_excused g image b)) (n + 1) ≡ below g image (is_unsound_at image) (λ b. not (is_excused g image b)) n + of_block g image (is_unsound_at image) n = uo ∙ ap (λ y. below g image (is_unsound_at image) (λ b. not (is_excused g image b)) n + cond y (of_block g image (is_unsound_at image) n) 0) o in
+            let ho' : below g image (is_hole g image) (λ b. not (is_excused g image b)) (n + 1) ≡ below g image (is_hole g image) (λ b. not (is_excused g image b)) n + of_block g image (is_hole g image) n = ho ∙ ap (λ y. below g image (is_hole g image) (λ b. not (is_excused g image b)) n + cond y (of_block g image (is_hole g image) n) 0) o in
+            let uf' : below g image (is_unsound_at image) (is_factory g image) (n + 1) ≡ below g image (is_unsound_at image) (is_factory g image) n + 0 = uf ∙ ap (λ y. below g image (is_unsound_at image) (is_factory g image) n + cond y (of_block g image (is_unsound_at image) n) 0) is_f in
+            let hf' : below g image (is_hole g image) (is_factory g image) (n + 1) ≡ below g image (is_hole g image) (is_factory g image) n + 0 = hf ∙ ap (λ y. below g image (is_hole g image) (is_factory g image) n + cond y (of_block g image (is_hole g image) n) 0) is_f in
+            let ur' : below g image (is_unsound_at image) (is_rewritten g image) (n + 1) ≡ below g image (is_unsound_at image) (is_rewritten g image) n + 0 = ur ∙ ap (λ y. below g image (is_unsound_at image) (is_rewritten g image) n + cond y (of_block g image (is_unsound_at image) n) 0) is_r in
+            let hr' : below g image (is_hole g image) (is_rewritten g image) (n + 1) ≡ below g image (is_hole g image) (is_rewritten g image) n + 0 = hr ∙ ap (λ y. below g image (is_hole g image) (is_rewritten g image) n + cond y (of_block g image (is_hole g image) n) 0) is_r in
+            let u0 = h.unsound_is in
+            let h0 = h.holes_is in
+            let f0 = h.factory_is in
+            let r0 = h.rewritten_is in
+            subst (λ y. AreSummed g image (n + 1) (added d (cond y Factory (cond (is_rewritten g image n) Rewritten Open)) unsound holes)) (sym is_f) (
+            subst (λ y. AreSummed g image (n + 1) (added d (cond y Rewritten Open) unsound holes)) (sym is_r) (record {
+              unsound_is = omega arith;
+              holes_is = omega arith;
+              factory_is = omega arith;
+              rewritten_is = omega arith;
+              outside_is = h.outside_is;
+            }))
+
+-- ---- what was counted of a block
+
+pub unsound_is : (g : Geometry) (image : Image) (b : ℕ) → length image ≡ row_count g → unsound_below g image (row_count g) b ≡ of_block g image (is_unsound_at image) b
+unfolding unsound_below
+unsound_is g image b size = ap (upto (is_unsound_in g image b)) (sym size) ∙ upto_same (is_unsound_in g image b) (λ row. is_unsound_at image row && (row / g.pages == b)) (length image) (λ row l. turn (row / g.pages == b) (slice_get image row))
+  where
+    turn : (a : Bool) (o : Option Page) → (a && sorts.is_broken_page o) ≡ (has_page is_broken o && a)
+    turn true None = refl
+    turn false None = refl
+    turn true (Some p) = sym (all_right (is_broken p))
+    turn false (Some p) = sym (no_right (is_broken p))
+
+pub holes_are : (g : Geometry) (image : Image) (b : ℕ) → length image ≡ row_count g → holes_below g image (row_count g) b ≡ of_block g image (is_hole g image) b
+unfolding holes_below is_hole
+holes_are g image b size = ap (λ n. upto (λ row. is_hole_below g image n row && (row / g.pages == b)) n) (sym size)
+
+-- a die has few rows
+pub few_rows : (g : Geometry) → row_count g < 2 ^ 31
+few_rows g =
+    let blocks = g.limits.block_count.most in
+    let pages = g.limits.page_count.most in
+    let room : g.blocks * g.pages ≤ 4096 * g.pages = mul-le-mul_right g.pages blocks in
+    omega arith
+
+pub strange_is : (g : Geometry) (image : Image) (d : Doubting) → length image ≡ row_count g → IsDoubting g (row_count g) image d → d.strange ≡ strange_of g image
+strange_is g image d size h = h.strange_is ∙ ap (count_by (λ p. sorts.is_outside g (record_of p))) (ap (λ n. take n image) (sym size) ∙ take-length image)
+
+pub outside_are : (g : Geometry) (image : Image) (d : Doubting) → length image ≡ row_count g → IsDoubting g (row_count g) image d → d.outside ≡ count_by (λ p. is_outside g (record_of p)) image
+outside_are g image d size h = h.outside_is ∙ ap (count_by (λ p. is_outside g (record_of p))) (ap (λ n. take n image) (sym size) ∙ take-length image)
+
+-- all was seen, and summed up
+pub summed_block : (g : Geometry) (image : Image) (dt : Doubting) (plain : Bool) (n class unsound holes : ℕ) (kept : Bool) (d new : Doubts) (x : Excuse) → length image ≡ row_count g → IsSeen g image dt plain → n < g.blocks → AreSummed g image n d
+    → class ≡ table_class g image n → kept ≡ get_or dt.kept.items n false → x ≡ excuse_by class plain kept → unsound ≡ get_or dt.unsound.items n 0 → holes ≡ get_or dt.holes.items n 0 → new ≡ added d x unsound holes → AreSummed g image (n + 1) new
+summed_block g image dt plain n class unsound holes kept d new x size h within old class_is kept_is x_is unsound_at holes_at e =
+    let few = few_rows g in
+    summed_more g image n unsound holes d new x old (omega arith)
+    (excuse_is g image n class plain kept x x_is class_is h.plain_is (kept_is ∙ h.kept_is n within))
+    (unsound_at ∙ (h.unsound.at n within ∙ unsound_is g image n size)) (holes_at ∙ (h.holes.at n within ∙ holes_are g image n size)) e
+
+pub seen_all : (g : Geometry) (image : Image) (dt new : Doubting) (plain : Bool) → length image ≡ row_count g → IsDoubting g (row_count g) image dt → plain ≡ ((dt.strange == 0) && not (ties_in dt.traces.items (length dt.traces.items)))
+    → ((b : ℕ) → b < g.blocks → get_or new.kept.items b false ≡ keeps_in g.pages dt.traces.items (length dt.traces.items) b)
+    → new.traces ≡ dt.traces → new.tables ≡ dt.tables → new.unsound ≡ dt.unsound → new.holes ≡ dt.holes → new.outside ≡ dt.outside → IsSeen g image new plain
+seen_all g image dt new plain size h p kept t b u hs o = record {
+  traces = subst (λ (v : Vec Trace). HasTraces g (marks image) (row_count g) v.items) (sym t) h.traces;
+  tables = subst (λ (v : Vec ℕ). HasTableBytes g image (row_count g) v.items) (sym b) h.tables;
+  unsound = subst (λ (v : Vec ℕ). HasUnsound g image (row_count g) v.items) (sym u) h.unsound;
+  holes = subst (λ (v : Vec ℕ). HasHoles g image (row_count g) v.items) (sym hs) h.holes;
+  outside_is = o ∙ outside_are g image dt size h;
+  plain_is = p ∙ (ap (λ n. (n == 0) && not (ties_in dt.traces.items (length dt.traces.items))) (strange_is g image dt size h) ∙ ap (λ x. (strange_of g image == 0) && not x) (ties_are g image dt.traces.items size h.traces));
+  kept_is = λ n l. kept n l ∙ keeps_are g image dt.traces.items n size h.traces;
+}
+
+pub summed_all : (g : Geometry) (image : Image) (d : Doubts) → length image ≡ row_count g → AreSummed g image g.blocks d → d ≡ doubts_of g image
+unfolding doubts_of
+summed_all g image d size h =
+    let a = h.unsound_is ∙ below_all g image (is_unsound_at image) (λ b. not (is_excused g image b)) size in
+    let b = h.holes_is ∙ below_all g image (is_hole g image) (λ b. not (is_excused g image b)) size in
+    let c1 = below_all g image (is_unsound_at image) (is_factory g image) size in
+    let c2 = below_all g image (is_hole g image) (is_factory g image) size in
+    let c : d.factory ≡ doubtful_of g image (is_factory g image) = (let x = h.factory_is in omega arith) in
+    let e1 = below_all g image (is_unsound_at image) (is_rewritten g image) size in
+    let e2 = below_all g image (is_hole g image) (is_rewritten g image) size in
+    let e : d.rewritten ≡ doubtful_of g image (is_rewritten g image) = (let x = h.rewritten_is in omega arith) in
+    rw (← a, ← b, ← c, ← e, ← h.outside_is) refl
+
+-- ---- law
+
+pub once_law : ToldOnceLaw
+unfolding doubts_of rows_of holes_of
+once_law g image d is = rw is (
+    let n = length image in
+    let u = three (is_unsound_at image) in
+    let h = three (is_hole g image) in
+    let broken : upto (is_unsound_at image) n ≡ count_by is_broken image = upto_pages is_broken image n (omega arith) ∙ ap (count_by is_broken) (take-length image) in
+    omega arith)
+  where
+    pairs : (test : ℕ → Bool) → upto (λ row. test row && not (is_rewritten g image (row / g.pages))) (length image) ≡ upto (λ row. test row && not (is_excused g image (row / g.pages))) (length image) + upto (λ row. test row && is_factory g image (row / g.pages)) (length image)
+    pairs test = upto_sum (λ row. test row && not (is_excused g image (row / g.pages))) (λ row. test row && is_factory g image (row / g.pages)) (λ row. test row && not (is_rewritten g image (row / g.pages))) (length image) (λ row l. two (test row) (is_factory g image (row / g.pages)) (is_rewritten g image (row / g.pages)) (factory_alone g image (row / g.pages)))
+      where
+        two : (t f r : Bool) → (f ≡ true → r ≡ false) → one (t && not r) ≡ one (t && not (f || r)) + one (t && f)
+        two true true true e = absurd (true≢false (e refl))
+        two true true false e = refl
+        two true false true e = refl
+        two true false false e = refl
+        two false f r e = refl
+
+    rest : (test : ℕ → Bool) → upto test (length image) ≡ upto (λ row. test row && not (is_rewritten g image (row / g.pages))) (length image) + upto (λ row. test row && is_rewritten g image (row / g.pages)) (length image)
+    rest test = upto_sum (λ row. test row && not (is_rewritten g image (row / g.pages))) (λ row. test row && is_rewritten g image (row / g.pages)) test (length image) (λ row l. either (test row) (is_rewritten g image (row / g.pages)))
+      where
+        either : (t r : Bool) → one t ≡ one (t && not r) + one (t && r)
+        either true true = refl
+        either true false = refl
+        either false r = refl
+
+    three : (test : ℕ → Bool) → upto test (length image) ≡ upto (λ row. test row && not (is_excused g image (row / g.pages))) (length image) + upto (λ row. test row && is_factory g image (row / g.pages)) (length image) + upto (λ row. test row && is_rewritten g image (row / g.pages)) (length image)
+    three test = let a = pairs test in let b = rest test in omega arith

@@ -1,0 +1,34 @@
+use Rattle.std.proofs.Common.{◌≡◌, ◌+◌, ◌∙◌, ap, sym, refl}
+use Rattle.std.specs.Vec.{with_items}
+use Rattle.std.proofs.lemmas.List.{with_items_is}
+use Rattle.page_layout.specs.Page.{page}
+use Rattle.page_layout.specs.Array.{marks}
+use Rattle.page_layout.specs.Sound.{record_of}
+use Rattle.page_layout.proofs.ArrayLemmas.{mark-page}
+use Rattle.lab_dump.specs.Count as sorts
+use Rattle.lab_dump.specs.Doubts.{is_outside}
+use Rattle.lab_dump.proofs.CountLemmas.{counted_more}
+use Rattle.lab_dump.proofs.doubting.Doubting.step.Goals as goal
+
+pub returns-clause-is : goal.returns-clause-is
+returns-clause-is c = λ image h at.
+    let p = page c.args.body.now c.args.spare.now in
+    let g = c.args.geometry.now in
+    let row = c.args.row in
+    let self = c.args.self.now in
+    let found = c.requires.found in
+    let erased = c.is_erased-erased.ensures in
+    let unsound_is : (with_items self.unsound c.note_unsound.new.unsound).items ≡ c.note_unsound.new.unsound = with_items_is self.unsound c.note_unsound.new.unsound (c.note_unsound.auto.unsound ∙ c.deref_mut.ensures.len) in
+    let holes_is : (with_items self.holes c.note_holes-self.new.holes).items ≡ c.note_holes-self.new.holes = with_items_is self.holes c.note_holes-self.new.holes (c.note_holes-self.auto.holes ∙ c.deref_mut-2.ensures.len) in
+    let traces_is : (with_items self.traces c.note_trace.new.traces).items ≡ c.note_trace.new.traces = with_items_is self.traces c.note_trace.new.traces (c.note_trace.auto.traces ∙ c.deref_mut-3.ensures.len) in
+    let tables_is : (with_items self.tables c.note_table.new.tables).items ≡ c.note_table.new.tables = with_items_is self.tables c.note_table.new.tables (c.note_table.auto.tables ∙ c.deref_mut-4.ensures.len) in
+    let traces = c.note_trace.ensures (marks image) (rw c.deref_mut-3.ensures.value h.traces) (mark-page image row p at ∙ sym found) in
+    record {
+      traces = rw traces_is traces;
+      tables = rw tables_is (c.note_table.ensures image p (rw c.deref_mut-4.ensures.value h.tables) (rw (c.deref.ensures.value, traces_is) traces) at found refl);
+      unsound = rw unsound_is (c.note_unsound.ensures.noted image p (rw c.deref_mut.ensures.value h.unsound) at erased found);
+      holes = rw holes_is (c.note_holes-self.ensures.noted image p (rw c.deref_mut-2.ensures.value h.holes) h.ending_is at erased);
+      ending_is = c.note_holes-self.ensures.ending image p h.ending_is at erased;
+      outside_is = counted_more (λ q. is_outside g (record_of q)) image row p self.outside _ at h.outside_is (c.one_outside.ensures.is ∙ ap (λ o. sorts.one (is_outside g o)) found);
+      strange_is = counted_more (λ q. sorts.is_outside g (record_of q)) image row p self.strange _ at h.strange_is (c.one_strange.ensures.is ∙ ap (λ o. sorts.one (sorts.is_outside g o)) found);
+    }
