@@ -26,7 +26,7 @@ CallsToldLaw {N} flash recorded honest failed erases = (old new : Device N) (cal
     → CalledEach flash recorded honest failed erases old calls new → WasTold flash recorded honest failed erases old (exchanges_in calls) new
 
 -- of an honest die, the device is well, and these are a run of the array that the image of this die holds
-abbrev pub RunsFromBegun : {N : Type 0} → (N → Flash) → (N → Option Recording) → (N → Bool) → (failed erases : N → ℕ) → (first : Device N) → IsBegun flash honest first → List Exchange → Device N → Type 0
+abbrev pub RunsFromBegun : {N : Type 0} → (flash : N → Flash) → (recorded : N → Option Recording) → (honest : N → Bool) → (failed erases : N → ℕ) → (first : Device N) → IsBegun flash honest first → List Exchange → Device N → Type 0
 RunsFromBegun flash recorded honest failed erases first begun xs mid = honest first.engine.nand ≡ true
     → IsWell flash mid × RanFrom flash recorded honest failed erases (flash first.engine.nand) begun.accepted.claim xs mid
 

@@ -1,5 +1,5 @@
 -- WHY POWER BROUGHT NO DEVICE, and the die that comes back.
-use Rattle.std.specs.Prelude.{◌≡◌, ◌≢◌, ◌≤◌, ℕ, Bool, true}
+use Rattle.std.specs.Prelude.{◌≡◌, ◌≢◌, ◌<◌, ◌≤◌, ℕ, Bool, true}
 use Rattle.page_layout.specs.declared.geometry.Geometry.{Geometry}
 use Rattle.page_layout.specs.Array.{array_of}
 use Rattle.page_layout.specs.Counter.{HasRisen}
@@ -8,7 +8,7 @@ use Rattle.certificate.specs.Claim.{Claim}
 use Rattle.image_check.specs.Agrees.{Agrees}
 use Rattle.image_check.specs.Refused.{IsRefusal}
 use Rattle.image_check.specs.declared.refusal.Refusal.{Refusal}
-use Rattle.image_check.specs.declared.refusal.Refusal.TheVariants.{Source}
+use Rattle.image_check.specs.declared.refusal.Refusal.TheVariants.{Source, TooStale}
 use Rattle.mount.specs.Mounted.{Refuses}
 use Rattle.ftl_device.specs.declared.device.Device.{Device}
 use Rattle.ftl_device.specs.Calls.{array_in}
@@ -48,6 +48,11 @@ IsUnmounted flash honest failed nand g capacity fault = IsUnpowered flash honest
 -- this one does not
 abbrev pub IsUnaccepted : {N : Type 0} → (N → Flash) → (N → Bool) → (N → ℕ) → N → Geometry → (capacity : ℕ) → Claim → PowerFault N → Type 0
 IsUnaccepted flash honest failed nand g capacity c fault = IsUnpowered flash honest failed nand (IsRefusal g capacity (flash nand).image c) fault
+
+-- what a stop left wants a larger cache than this one: so many entries, which some cache has
+abbrev pub WantsCache : {N : Type 0} → ℕ → PowerFault N → ℕ → Type 0
+WantsCache capacity (Refused (TooStale stale most) nand) entries = (entries ≡ stale) × (capacity < entries) × (entries ≤ 65536)
+WantsCache capacity _ entries = ⊥
 
 -- ---- after a flush between two looks
 

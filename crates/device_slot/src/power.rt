@@ -1,12 +1,13 @@
 //! Power comes and goes: from a die to a device, and back.
-ghost use Rattle.std.specs.Prelude.{◌≡◌, ◌≤◌, true, IfOk, IfErr, IfSome};
+ghost use Rattle.std.specs.Prelude.{◌≡◌, ◌≢◌, ◌≤◌, true, Err, IfOk, IfErr, IfSome, OnOk};
 ghost use Rattle.page_layout.specs.Array.{array_of};
 ghost use Rattle.page_layout.specs.OnlyReads.{OnlyReads};
 ghost use Rattle.certificate.specs.Claim.{sizes_of};
+ghost use Rattle.image_check.specs.Stale.{stale_count};
 ghost use Rattle.ftl_device.specs.Calls.{array_in};
 ghost use Rattle.ftl_device.specs.Device.{IsDevice, IsAcceptedFor};
 ghost use Rattle.device_slot.specs.Begun.{IsBegun, IsKept};
-ghost use Rattle.device_slot.specs.Power.{nand_of, HoldsSame, IsBrought, IsHandedBack, IsUnaccepted, IsUnmounted, IsUnsettled};
+ghost use Rattle.device_slot.specs.Power.{nand_of, HoldsSame, IsBrought, IsHandedBack, IsUnaccepted, IsUnmounted, IsUnsettled, WantsCache};
 
 use certificate::Certificate;
 use ftl_device::{Device, DeviceFault, StartFault};
@@ -41,10 +42,11 @@ fn begin<'a, N: Nand>(alloc: Global, nand: N, accepted: Accepted<'a>) -> Result<
     ensures capacity { IfOk result (λ d. d.engine.mapping.capacity ≡ accepted.entry.claim.capacity) }
     ensures back { IfErr result (λ back. back ≡ nand) }
 {
-    match Device::start(alloc, nand, accepted) {
-        Ok(device) => Ok(device),
-        Err(StartFault::OutOfMemory { nand, .. }) => Err(nand),
-    }
+    let device = match Device::start(alloc, nand, accepted) {
+        Ok(device) => device,
+        Err(StartFault::OutOfMemory { nand, .. }) => return Err(nand),
+    };
+    Ok(device)
 }
 
 /// Mounts what a die holds, and starts a device from it with a cache of `capacity` entries, 1 to 65536: **of a die that is honest the device holds the array that the
@@ -134,7 +136,18 @@ pub fn stop<N: Nand>(device: Device<N>) -> N
     device.into_nand()
 }
 
-// A device with so many entries, which flushes, and gives the die back. One that takes no change any more has nothing to flush.
+// What keeps a device from being settled by a flush. One that takes no change any more has nothing to flush.
+fn settled(flushed: Result<(), DeviceFault>) -> Result<(), DeviceFault>
+    ensures ok { OnOk result (flushed ≢ Err DeviceFault.BusFault) }
+    ensures err { IfErr result (λ fault. flushed ≡ Err fault) }
+{
+    match flushed {
+        Ok(()) | Err(DeviceFault::ReadOnly { .. } | DeviceFault::SequenceSpent) => Ok(()),
+        Err(fault) => Err(fault),
+    }
+}
+
+// A device with so many entries, which flushes, and gives the die back.
 fn settle<N: Nand>(
     alloc: Global,
     nand: N,
@@ -150,8 +163,8 @@ fn settle<N: Nand>(
     ensures given { IfErr result (λ fault. IsHandedBack N.flash N.honest N.failed nand (nand_of fault)) }
 {
     let mut device = start_mounted(alloc, nand, geometry, stale)?;
-    match device.flush() {
-        Ok(()) | Err(DeviceFault::ReadOnly { .. } | DeviceFault::SequenceSpent) => Ok(stop(device)),
+    match settled(device.flush()) {
+        Ok(()) => Ok(stop(device)),
         Err(fault) => Err(PowerFault::Flush {
             fault,
             nand: stop(device),
@@ -159,15 +172,17 @@ fn settle<N: Nand>(
     }
 }
 
-// What a stop left has more stale sectors than a cache of `capacity` entries has room for: so many.
-fn stale_in<N>(fault: &PowerFault<N>) -> Option<u32>
-    ensures { IfSome result (λ stale. (1 ≤ stale) × (stale ≤ 65536)) }
+// What a stop left wants a larger cache than one of `capacity` entries: so many.
+fn stale_in<N>(fault: &PowerFault<N>, capacity: u32) -> Option<u32>
+    ensures wants { IfSome result (WantsCache capacity fault.now) }
+    ensures more { IfSome result (λ stale. capacity ≤ stale) }
+    ensures most { IfSome result (λ stale. stale ≤ 65536) }
 {
     match fault {
         PowerFault::Refused {
             refusal: Refusal::TooStale { stale, .. },
             ..
-        } if *stale >= 1 && *stale <= 65_536 => Some(*stale),
+        } if *stale > capacity && *stale <= 65_536 => Some(*stale),
         _ => None,
     }
 }
@@ -180,6 +195,28 @@ fn nand_in<N>(fault: PowerFault<N>) -> N
         PowerFault::Refused { nand, .. }
         | PowerFault::Start { nand }
         | PowerFault::Flush { nand, .. } => nand,
+    }
+}
+
+// One look, in the words of several.
+fn look<N: Nand>(
+    alloc: Global,
+    nand: N,
+    geometry: &Geometry,
+    entries: u32,
+) -> Result<Device<N>, PowerFault<N>>
+    requires same_geometry { (N.flash nand).geometry ≡ geometry.now }
+    requires least { 1 ≤ entries }
+    requires most { entries ≤ 65536 }
+    ensures brings { IfOk result (IsBrought N.flash N.honest N.failed nand geometry.now entries) }
+    ensures pages { IfOk result (λ d. N.honest nand ≡ true → N.flash d.engine.nand ≡ N.flash nand) }
+    ensures unmounted { IfErr result (IsUnmounted N.flash N.honest N.failed nand geometry.now entries) }
+    ensures fault { IfErr result (IsUnsettled N.flash N.honest N.failed nand geometry.now entries) }
+    ensures given { IfErr result (λ fault. IsHandedBack N.flash N.honest N.failed nand (nand_of fault)) }
+{
+    match start_mounted(alloc, nand, geometry, entries) {
+        Ok(device) => Ok(device),
+        Err(fault) => Err(fault),
     }
 }
 
@@ -197,14 +234,37 @@ fn start_either<N: Nand>(
     ensures fault { IfErr result (IsUnsettled N.flash N.honest N.failed nand geometry.now capacity) }
     ensures given { IfErr result (λ fault. IsHandedBack N.flash N.honest N.failed nand (nand_of fault)) }
 {
-    let fault = match start_mounted(alloc, nand, geometry, capacity) {
+    let fault = match look(alloc, nand, geometry, capacity) {
         Ok(device) => return Ok(device),
         Err(fault) => fault,
     };
-    match stale_in(&fault) {
-        Some(stale) => start_mounted(alloc, nand_in(fault), geometry, stale),
+    match stale_in(&fault, capacity) {
+        Some(stale) => look(alloc, nand_in(fault), geometry, stale),
         None => Err(fault),
     }
+}
+
+// The device once a larger one has flushed what a stop had left.
+fn start_settled<N: Nand>(
+    alloc: Global,
+    nand: N,
+    geometry: &Geometry,
+    capacity: u32,
+    stale: u32,
+) -> Result<Device<N>, PowerFault<N>>
+    requires same_geometry { (N.flash nand).geometry ≡ geometry.now }
+    requires least { 1 ≤ capacity }
+    requires more { capacity ≤ stale }
+    requires most { stale ≤ 65536 }
+    ensures brings { IfOk result (IsBrought N.flash N.honest N.failed nand geometry.now capacity) }
+    ensures fault { IfErr result (IsUnsettled N.flash N.honest N.failed nand geometry.now capacity) }
+    ensures given { IfErr result (λ fault. IsHandedBack N.flash N.honest N.failed nand (nand_of fault)) }
+{
+    let nand = match settle(alloc, nand, geometry, stale) {
+        Ok(nand) => nand,
+        Err(fault) => return Err(fault),
+    };
+    start_either(alloc, nand, geometry, capacity)
 }
 
 /// Starts a device over what a die holds, with a cache of `capacity` entries, 1 to 65536: **of a die that is honest the device holds the array that the image
@@ -229,18 +289,17 @@ pub fn start<N: Nand>(
     requires least { 1 ≤ capacity }
     requires most { capacity ≤ 65536 }
     ensures brings { IfOk result (IsBrought N.flash N.honest N.failed nand geometry.now capacity) }
+    // Where the cache has room for what is stale, nothing is written.
+    ensures still { IfOk result (λ d. N.honest nand ≡ true → stale_count geometry.now (N.flash nand).image ≤ capacity → N.flash d.engine.nand ≡ N.flash nand) }
     ensures fault { IfErr result (IsUnsettled N.flash N.honest N.failed nand geometry.now capacity) }
     ensures given { IfErr result (λ fault. IsHandedBack N.flash N.honest N.failed nand (nand_of fault)) }
 {
-    let fault = match start_mounted(alloc, nand, geometry, capacity) {
+    let fault = match look(alloc, nand, geometry, capacity) {
         Ok(device) => return Ok(device),
         Err(fault) => fault,
     };
-    match stale_in(&fault) {
-        Some(stale) => {
-            let nand = settle(alloc, nand_in(fault), geometry, stale)?;
-            start_either(alloc, nand, geometry, capacity)
-        }
+    match stale_in(&fault, capacity) {
+        Some(stale) => start_settled(alloc, nand_in(fault), geometry, capacity, stale),
         None => Err(fault),
     }
 }

@@ -179,10 +179,10 @@ impl<N: Nand> Slot<N> {
     pub fn report(&self) -> Option<Report>
         ensures { Reports self.now.device result }
     {
-        match &self.device {
-            Some(device) => Some(report_of(device)),
-            None => None,
-        }
+        let Some(device) = &self.device else {
+            return None;
+        };
+        Some(report_of(device))
     }
 
     /// Reads a sector into `out`: `Device::read`, told as `command_queue::tell` does.
@@ -281,11 +281,13 @@ impl<N: Nand + Drop> Slot<N> {
 }
 
 impl<N: Nand> Slot<N> {
-    ghost use Rattle.std.specs.Prelude.{◌≡◌};
+    ghost use Rattle.std.specs.Prelude.{◌≡◌, IfSome};
+    ghost use Rattle.device_slot.specs.Begun.{IsKept};
 
     /// Gives up the slot for what stands there.
     pub fn into_device(self) -> Option<Device<N>>
-        ensures { result ≡ self.device }
+        ensures device { result ≡ self.device }
+        ensures kept { IfSome result (IsKept N.flash N.honest) }
     {
         self.device
     }
