@@ -1,0 +1,3 @@
+pub mod CallLemmas
+pub mod MostLemmas
+pub mod PowerLemmas
