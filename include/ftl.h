@@ -84,7 +84,8 @@ enum ftl_answer {
     FTL_TOO_STALE = 68,      /* more sectors are stale than a cache can have */
     FTL_NEXT_SEQUENCE = 69,  /* a sound page has the last sequence number; of a certificate: its next one is too low */
 
-    /* of ftl_start_certified: the first thing that the certificate says otherwise than the die */
+    /* of ftl_start_certified: the first thing that the certificate says otherwise than the die. Of ftl_start too, which looks at the pages twice,
+     * where the second look found others */
     FTL_GEOMETRY_DIFFERS = 70, /* the certificate is of another shape; the die was not read */
     FTL_NOT_NEWEST = 71,     /* the row of a sector is not that of its newest page */
     FTL_NO_SUCH_RECORD = 72, /* at the row of a sector stands no page of it */
@@ -147,7 +148,6 @@ typedef struct ftl_disk ftl_disk;
  * pointer is NULL. */
 uint32_t ftl_entry_open(const struct ftl_shape *shape, int32_t input, int32_t output, ftl_disk **disk);
 uint32_t ftl_entry_measure(const struct ftl_shape *shape, struct ftl_sizes *sizes);
-uint32_t ftl_entry_sizes(ftl_disk *disk, struct ftl_sizes *sizes);
 uint32_t ftl_entry_format(ftl_disk *disk);
 uint32_t ftl_entry_start(ftl_disk *disk);
 uint32_t ftl_entry_start_certified(ftl_disk *disk, const uint8_t *certificate, size_t size);
@@ -158,11 +158,11 @@ uint32_t ftl_entry_write(ftl_disk *disk, uint32_t sector, const uint8_t *data, s
 uint32_t ftl_entry_trim(ftl_disk *disk, uint32_t sector);
 uint32_t ftl_entry_flush(ftl_disk *disk);
 uint32_t ftl_entry_turn(ftl_disk *disk);
-uint32_t ftl_entry_state(ftl_disk *disk, struct ftl_state *state);
-uint32_t ftl_entry_shortage(ftl_disk *disk, struct ftl_shortage *shortage);
+/* one count: 0 to 5 the numbers of the shape, 6 whether there is a device, 7 to 12 its state, 13 whether there is a shortage, 14 to 16 that; else 0 */
+uint32_t ftl_entry_count(ftl_disk *disk, uint32_t which);
 uint32_t ftl_entry_version(void);
 
-/* The heap, which you define. Alignments are powers of two, up to 16. A piece of no bytes is never asked for. Where there is no memory `ok` is false,
+/* The heap, which you define. Alignments are powers of two, up to 16. For a size of 0 any pointer but NULL will do. Where there is no memory `ok` is false,
  * `p` is any pointer but NULL, and what was there stays: the call that asked answers FTL_OUT_OF_MEMORY. */
 struct rattle_tried { bool ok; void *p; };
 struct rattle_tried rattle_alloc(size_t size, size_t align);
@@ -187,7 +187,15 @@ static inline uint32_t ftl_measure(const struct ftl_shape *shape, struct ftl_siz
 
 /* Sets `*sizes` to what follows from the shape that the disk was opened with, started or not. No other error than FTL_NULL. */
 static inline uint32_t ftl_get_sizes(ftl_disk *disk, struct ftl_sizes *sizes) {
-    return disk == NULL || sizes == NULL ? (uint32_t)FTL_NULL : ftl_entry_sizes(disk, sizes);
+    struct ftl_shape shape;
+    if (disk == NULL || sizes == NULL) return FTL_NULL;
+    shape.data_bytes = ftl_entry_count(disk, 0);
+    shape.spare_bytes = ftl_entry_count(disk, 1);
+    shape.pages = ftl_entry_count(disk, 2);
+    shape.blocks = ftl_entry_count(disk, 3);
+    shape.sectors = ftl_entry_count(disk, 4);
+    shape.cache = ftl_entry_count(disk, 5);
+    return ftl_entry_measure(&shape, sizes);
 }
 
 /* Makes a fresh die ready, once in its life: it is reset, each page is read, bad blocks are found, and their table is written. The disk is not started
@@ -195,9 +203,9 @@ static inline uint32_t ftl_get_sizes(ftl_disk *disk, struct ftl_sizes *sizes) {
  * after FTL_WRITE_FAILED, pages may be written, and a next ftl_format is then answered FTL_NOT_FRESH. */
 static inline uint32_t ftl_format(ftl_disk *disk) { return disk == NULL ? (uint32_t)FTL_NULL : ftl_entry_format(disk); }
 
-/* Power comes: the die is reset, each page is read, and the device is started with the array of sectors that the die holds. Where power went with more
- * sectors unflushed than the cache has entries, it starts with a larger cache first, up to 65536 entries, flushes, and begins anew.
- * Errors: FTL_STARTED; of a start; FTL_OUT_OF_MEMORY; FTL_BUS_FAULT; where it had to flush, those of a device. The disk has no device after each, its
+/* Power comes: the die is reset, each page is read twice, and the device is started with the array of sectors that the die holds. Where power went with more
+ * sectors unflushed than the cache has entries, it starts with a larger cache first, up to 65536 entries, flushes, and begins anew; a device that takes no
+ * change any more keeps the larger one. Errors: FTL_STARTED; of a start; FTL_OUT_OF_MEMORY; FTL_BUS_FAULT; where it had to flush, those of a device. The disk has no device after each, its
  * memory is given back, and the die holds the array that it held. */
 static inline uint32_t ftl_start(ftl_disk *disk) { return disk == NULL ? (uint32_t)FTL_NULL : ftl_entry_start(disk); }
 
@@ -237,7 +245,7 @@ static inline uint32_t ftl_read(ftl_disk *disk, uint32_t sector, uint8_t *data, 
 
 /* Writes a sector: `size` has to be sector_bytes. Once it is answered FTL_DONE it lasts, with no flush.
  * Errors: FTL_NOT_STARTED; FTL_WRONG_SIZE; FTL_OUT_OF_RANGE; FTL_READ_ONLY; FTL_SEQUENCE_SPENT; FTL_OUT_OF_MEMORY: the sector has its old bytes after each of these.
- * FTL_DAMAGED, FTL_BUS_FAULT: the device is stopped, and the sector has its old bytes or the new ones. */
+ * FTL_DAMAGED, FTL_BUS_FAULT: the device is stopped, and what the die holds of the sector is told by the next start. */
 static inline uint32_t ftl_write(ftl_disk *disk, uint32_t sector, const uint8_t *data, size_t size) {
     return disk == NULL || data == NULL ? (uint32_t)FTL_NULL : ftl_entry_write(disk, sector, data, size);
 }
@@ -246,7 +254,7 @@ static inline uint32_t ftl_write(ftl_disk *disk, uint32_t sector, const uint8_t 
 static inline uint32_t ftl_trim(ftl_disk *disk, uint32_t sector) { return disk == NULL ? (uint32_t)FTL_NULL : ftl_entry_trim(disk, sector); }
 
 /* Writes to the die what is known in memory alone, so that the next start is short. No sector changes, and none needs it to last.
- * Errors: FTL_NOT_STARTED; FTL_READ_ONLY; FTL_SEQUENCE_SPENT; FTL_OUT_OF_MEMORY; FTL_DAMAGED and FTL_BUS_FAULT, which stop the device. No sector changes. */
+ * Errors: FTL_NOT_STARTED; FTL_READ_ONLY; FTL_SEQUENCE_SPENT; FTL_DAMAGED and FTL_BUS_FAULT, which stop the device. */
 static inline uint32_t ftl_flush(ftl_disk *disk) { return disk == NULL ? (uint32_t)FTL_NULL : ftl_entry_flush(disk); }
 
 /* An idle moment: pages are moved out of failed blocks, or a collection goes a step on, or nothing is done. No sector changes. Errors: as ftl_flush. */
@@ -254,13 +262,27 @@ static inline uint32_t ftl_turn(ftl_disk *disk) { return disk == NULL ? (uint32_
 
 /* Sets `*state` to how the device stands. Nothing is asked of the die. Errors: FTL_NOT_STARTED. */
 static inline uint32_t ftl_get_state(ftl_disk *disk, struct ftl_state *state) {
-    return disk == NULL || state == NULL ? (uint32_t)FTL_NULL : ftl_entry_state(disk, state);
+    if (disk == NULL || state == NULL) return FTL_NULL;
+    if (ftl_entry_count(disk, 6) == 0) return FTL_NOT_STARTED;
+    state->free_blocks = ftl_entry_count(disk, 7);
+    state->good_blocks = ftl_entry_count(disk, 8);
+    state->bad_blocks = ftl_entry_count(disk, 9);
+    state->most_erases = ftl_entry_count(disk, 10);
+    state->read_only = ftl_entry_count(disk, 11);
+    state->stopped = ftl_entry_count(disk, 12);
+    return FTL_DONE;
 }
 
 /* Sets `*shortage` to the counts of the last ftl_read, ftl_write, ftl_trim, ftl_flush or ftl_turn that the device was told, where that was answered FTL_READ_ONLY.
  * Nothing is asked of the die. Errors: FTL_NOT_STARTED; FTL_NO_SHORTAGE. */
 static inline uint32_t ftl_get_shortage(ftl_disk *disk, struct ftl_shortage *shortage) {
-    return disk == NULL || shortage == NULL ? (uint32_t)FTL_NULL : ftl_entry_shortage(disk, shortage);
+    if (disk == NULL || shortage == NULL) return FTL_NULL;
+    if (ftl_entry_count(disk, 6) == 0) return FTL_NOT_STARTED;
+    if (ftl_entry_count(disk, 13) == 0) return FTL_NO_SHORTAGE;
+    shortage->good = ftl_entry_count(disk, 14);
+    shortage->need = ftl_entry_count(disk, 15);
+    shortage->failed = ftl_entry_count(disk, 16);
+    return FTL_DONE;
 }
 
 #ifdef __cplusplus

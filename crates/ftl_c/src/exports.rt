@@ -6,9 +6,10 @@ ghost use base.Fml.{fex};
 ghost use Rattle.ftl_c.specs.contracts.disk.Disk.{the_row as disk_row};
 
 use crate::code::DONE;
-use crate::disk;
 use crate::disk::Disk;
-use crate::plan::Shape;
+use crate::measures::{Sizes, measure};
+use crate::plan::{Plan, Shape};
+use crate::{certificates, counts, disk};
 use std::alloc::Global;
 
 /// Makes a disk of this shape, whose die answers at `input` the frames that are written to `output`, and sets `disk` to its handle. Nothing is
@@ -108,4 +109,54 @@ pub unsafe extern "C" fn ftl_entry_turn(disk: *mut u8) -> u32
     ensures* { sem 𝓛 (fex Disk (λ is. lies_at disk_row full_share disk is)) }
 {
     disk::turn(unsafe { &mut *disk.cast::<Disk>() })
+}
+
+/// The version: major * 65536 + minor * 256 + patch. (This project's.)
+#[unsafe(no_mangle)]
+pub extern "C" fn ftl_entry_version() -> u32
+    ensures { result ≡ 256 }
+{
+    256
+}
+
+/// Sets `sizes` to what follows from a shape. Else its number comes, and `sizes` stays. (This project's.)
+#[unsafe(no_mangle)]
+pub extern "C" fn ftl_entry_measure(shape: &Shape, sizes: &mut Sizes) -> u32 {
+    match Plan::new(shape) {
+        Ok(plan) => {
+            *sizes = measure(&plan.geometry, plan.capacity);
+            DONE
+        }
+        Err(number) => number,
+    }
+}
+
+/// Power comes, and the die has to hold what the certificate says. (This project's.)
+#[unsafe(no_mangle)]
+pub unsafe extern "C" fn ftl_entry_start_certified(disk: *mut u8, certificate: &[u8]) -> u32
+    ghost was: { Disk }
+    requires* { sem 𝓛 (lies_at disk_row full_share disk was) }
+    ensures* { sem 𝓛 (fex Disk (λ is. lies_at disk_row full_share disk is)) }
+{
+    certificates::start_certified(unsafe { &mut *disk.cast::<Disk>() }, certificate)
+}
+
+/// Writes the certificate of what the die holds. (This project's.)
+#[unsafe(no_mangle)]
+pub unsafe extern "C" fn ftl_entry_certify(disk: *mut u8, certificate: &mut [u8]) -> u32
+    ghost was: { Disk }
+    requires* { sem 𝓛 (lies_at disk_row full_share disk was) }
+    ensures* { sem 𝓛 (fex Disk (λ is. lies_at disk_row full_share disk is)) }
+{
+    certificates::certify(unsafe { &mut *disk.cast::<Disk>() }, certificate)
+}
+
+/// One count of the disk, by its number. Nothing is asked of the die. (This project's.)
+#[unsafe(no_mangle)]
+pub unsafe extern "C" fn ftl_entry_count(disk: *mut u8, which: u32) -> u32
+    ghost was: { Disk }
+    requires* { sem 𝓛 (lies_at disk_row full_share disk was) }
+    ensures* { sem 𝓛 (fex Disk (λ is. lies_at disk_row full_share disk is)) }
+{
+    counts::count(unsafe { &mut *disk.cast::<Disk>() }, which)
 }

@@ -1,4 +1,4 @@
--- `ftl_entry_turn` lends what lies at the handle to `turn`, and takes it back.
+-- `ftl_entry_turn` lends what lies at the handle to `disk::turn` and takes it back.
 use Rattle.std.proofs.Common.{ℕ, [], ◌∷◌, refl, w32, MutBor}
 use Rattle.std.proofs.raw_atomic.Walks.{proved}
 use Rattle.std.proofs.VecSteps.Shapes.{after}

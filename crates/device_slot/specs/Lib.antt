@@ -1,0 +1,5 @@
+pub mod Begun
+pub mod Calls
+pub mod Laws
+pub mod Power
+pub mod Slot

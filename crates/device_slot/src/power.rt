@@ -1,0 +1,246 @@
+//! Power comes and goes: from a die to a device, and back.
+ghost use Rattle.std.specs.Prelude.{◌≡◌, ◌≤◌, true, IfOk, IfErr, IfSome};
+ghost use Rattle.page_layout.specs.Array.{array_of};
+ghost use Rattle.page_layout.specs.OnlyReads.{OnlyReads};
+ghost use Rattle.certificate.specs.Claim.{sizes_of};
+ghost use Rattle.ftl_device.specs.Calls.{array_in};
+ghost use Rattle.ftl_device.specs.Device.{IsDevice, IsAcceptedFor};
+ghost use Rattle.device_slot.specs.Begun.{IsBegun, IsKept};
+ghost use Rattle.device_slot.specs.Power.{nand_of, HoldsSame, IsBrought, IsHandedBack, IsUnaccepted, IsUnmounted, IsUnsettled};
+
+use certificate::Certificate;
+use ftl_device::{Device, DeviceFault, StartFault};
+use image_check::{Accepted, Refusal, check};
+use mount::{Mounted, mount_counted};
+use onfi_cycles::Nand;
+use page_layout::geometry::Geometry;
+use std::alloc::Global;
+use thiserror::Error;
+
+/// Why a die has no device. It comes back. (This project's.)
+#[derive(Drop, Error)]
+pub enum PowerFault<N> {
+    /// Its pages are refused, or a page read failed, or no memory was left to look at them.
+    #[error("Refused {refusal}")]
+    Refused { refusal: Refusal, nand: N },
+    /// Its pages are those of a device, and no memory was left to start it.
+    #[error("Start")]
+    Start { nand: N },
+    /// A device with a larger cache was started, and failed to flush what a stop had left.
+    #[error("Flush {fault}")]
+    Flush { fault: DeviceFault, nand: N },
+}
+
+// The device that begins from an accepted certificate. The die comes back where a growth was refused.
+fn begin<'a, N: Nand>(alloc: Global, nand: N, accepted: Accepted<'a>) -> Result<Device<N>, N>
+    requires same_geometry { sizes_of (N.flash nand).geometry ≡ accepted.claim.sizes }
+    requires accepted { N.honest nand ≡ true → IsAcceptedFor (N.flash nand) accepted }
+    ensures begun { IfOk result (IsBegun N.flash N.honest) }
+    ensures nand { IfOk result (λ d. d.engine.nand ≡ nand) }
+    ensures geometry { IfOk result (λ d. d.engine.geometry ≡ (N.flash nand).geometry) }
+    ensures capacity { IfOk result (λ d. d.engine.mapping.capacity ≡ accepted.entry.claim.capacity) }
+    ensures back { IfErr result (λ back. back ≡ nand) }
+{
+    match Device::start(alloc, nand, accepted) {
+        Ok(device) => Ok(device),
+        Err(StartFault::OutOfMemory { nand, .. }) => Err(nand),
+    }
+}
+
+/// Mounts what a die holds, and starts a device from it with a cache of `capacity` entries, 1 to 65536: **of a die that is honest the device holds the array that the
+/// image holds.** The certificate of a mount agrees with the image, so each page is read once, the newest translation pages twice. Whatever
+/// the die is, it is asked for reads alone.
+///
+/// # Errors
+///
+/// - `Refused` with what keeps the image from being mounted, which is so of an honest die; with `Source` where a page read failed, and with
+///   `OutOfMemory` where a growth was refused.
+/// - `Start` where the image was mounted and a growth was refused.
+///
+/// The die comes back in each case, its pages as they were but where a read failed. (This project's.)
+pub fn start_mounted<N: Nand>(
+    alloc: Global,
+    mut nand: N,
+    geometry: &Geometry,
+    capacity: u32,
+) -> Result<Device<N>, PowerFault<N>>
+    requires same_geometry { (N.flash nand).geometry ≡ geometry.now }
+    requires least { 1 ≤ capacity }
+    requires most { capacity ≤ 65536 }
+    ensures begun { IfOk result (IsBegun N.flash N.honest) }
+    ensures geometry { IfOk result (λ d. d.engine.geometry ≡ geometry.now) }
+    ensures capacity { IfOk result (λ d. d.engine.mapping.capacity ≡ capacity) }
+    ensures array { IfOk result (λ d. N.honest nand ≡ true → array_in N.flash d ≡ array_of geometry.now (N.flash nand).image) }
+    ensures pages { IfOk result (λ d. N.honest nand ≡ true → N.flash d.engine.nand ≡ N.flash nand) }
+    ensures reads { IfOk result (λ d. OnlyReads N.flash N.honest N.calm N.programs N.erases N.failed nand d.engine.nand) }
+    ensures fault { IfErr result (IsUnmounted N.flash N.honest N.failed nand geometry.now capacity) }
+    ensures given { IfErr result (λ fault. OnlyReads N.flash N.honest N.calm N.programs N.erases N.failed nand (nand_of fault)) }
+{
+    let (certificate, stale) = match mount_counted(alloc, &mut nand, geometry, capacity) {
+        Ok(Mounted { certificate, stale }) => (certificate, stale),
+        Err(refusal) => return Err(PowerFault::Refused { refusal, nand }),
+    };
+    let accepted = Accepted::new(&certificate, stale);
+    match begin(alloc, nand, accepted) {
+        Ok(device) => Ok(device),
+        Err(nand) => Err(PowerFault::Start { nand }),
+    }
+}
+
+/// Checks that a certificate agrees with what a die holds, and starts a device from it with a cache of `capacity` entries: **of a die that is honest the
+/// device holds the array that the image holds.** Each page is read once: that is how it is known. Whatever the die is, it is asked for reads alone.
+///
+/// # Errors
+///
+/// - `Refused` with the checker's refusal, which is so of an honest die; with `Source` where a page read failed, and with `OutOfMemory`
+///   where a growth was refused.
+/// - `Start` where the certificate was accepted and a growth was refused.
+///
+/// The die comes back in each case, its pages as they were but where a read failed. (This project's.)
+pub fn start_checked<N: Nand>(
+    alloc: Global,
+    mut nand: N,
+    geometry: &Geometry,
+    capacity: u32,
+    certificate: &Certificate,
+) -> Result<Device<N>, PowerFault<N>>
+    requires same_geometry { (N.flash nand).geometry ≡ geometry.now }
+    ensures begun { IfOk result (IsBegun N.flash N.honest) }
+    ensures geometry { IfOk result (λ d. d.engine.geometry ≡ geometry.now) }
+    ensures capacity { IfOk result (λ d. d.engine.mapping.capacity ≡ capacity) }
+    ensures array { IfOk result (λ d. N.honest nand ≡ true → array_in N.flash d ≡ array_of geometry.now (N.flash nand).image) }
+    ensures pages { IfOk result (λ d. N.honest nand ≡ true → N.flash d.engine.nand ≡ N.flash nand) }
+    ensures reads { IfOk result (λ d. OnlyReads N.flash N.honest N.calm N.programs N.erases N.failed nand d.engine.nand) }
+    ensures fault { IfErr result (IsUnaccepted N.flash N.honest N.failed nand geometry.now capacity certificate.now) }
+    ensures given { IfErr result (λ fault. OnlyReads N.flash N.honest N.calm N.programs N.erases N.failed nand (nand_of fault)) }
+{
+    let accepted = match check(alloc, &mut nand, geometry, capacity, certificate) {
+        Ok(accepted) => accepted,
+        Err(refusal) => return Err(PowerFault::Refused { refusal, nand }),
+    };
+    match begin(alloc, nand, accepted) {
+        Ok(device) => Ok(device),
+        Err(nand) => Err(PowerFault::Start { nand }),
+    }
+}
+
+/// The die of a device, as where the power goes: nothing is written. Of a device that is well it holds the array. (This project's.)
+pub fn stop<N: Nand>(device: Device<N>) -> N
+    requires { IsDevice N.flash device }
+    ensures nand { result ≡ device.engine.nand }
+    ensures geometry { (N.flash result).geometry ≡ device.engine.geometry }
+    ensures array { array_of device.engine.geometry (N.flash result).image ≡ array_in N.flash device }
+{
+    device.into_nand()
+}
+
+// A device with so many entries, which flushes, and gives the die back. One that takes no change any more has nothing to flush.
+fn settle<N: Nand>(
+    alloc: Global,
+    nand: N,
+    geometry: &Geometry,
+    stale: u32,
+) -> Result<N, PowerFault<N>>
+    requires same_geometry { (N.flash nand).geometry ≡ geometry.now }
+    requires least { 1 ≤ stale }
+    requires most { stale ≤ 65536 }
+    ensures back { IfOk result (IsHandedBack N.flash N.honest N.failed nand) }
+    ensures array { IfOk result (HoldsSame N.flash N.honest geometry.now nand) }
+    ensures fault { IfErr result (IsUnsettled N.flash N.honest N.failed nand geometry.now stale) }
+    ensures given { IfErr result (λ fault. IsHandedBack N.flash N.honest N.failed nand (nand_of fault)) }
+{
+    let mut device = start_mounted(alloc, nand, geometry, stale)?;
+    match device.flush() {
+        Ok(()) | Err(DeviceFault::ReadOnly { .. } | DeviceFault::SequenceSpent) => Ok(stop(device)),
+        Err(fault) => Err(PowerFault::Flush {
+            fault,
+            nand: stop(device),
+        }),
+    }
+}
+
+// What a stop left has more stale sectors than a cache of `capacity` entries has room for: so many.
+fn stale_in<N>(fault: &PowerFault<N>) -> Option<u32>
+    ensures { IfSome result (λ stale. (1 ≤ stale) × (stale ≤ 65536)) }
+{
+    match fault {
+        PowerFault::Refused {
+            refusal: Refusal::TooStale { stale, .. },
+            ..
+        } if *stale >= 1 && *stale <= 65_536 => Some(*stale),
+        _ => None,
+    }
+}
+
+// The die that comes back.
+fn nand_in<N>(fault: PowerFault<N>) -> N
+    ensures { result ≡ nand_of fault }
+{
+    match fault {
+        PowerFault::Refused { nand, .. }
+        | PowerFault::Start { nand }
+        | PowerFault::Flush { nand, .. } => nand,
+    }
+}
+
+// The device with a cache of so many entries, or of as many as its stale sectors want.
+fn start_either<N: Nand>(
+    alloc: Global,
+    nand: N,
+    geometry: &Geometry,
+    capacity: u32,
+) -> Result<Device<N>, PowerFault<N>>
+    requires same_geometry { (N.flash nand).geometry ≡ geometry.now }
+    requires least { 1 ≤ capacity }
+    requires most { capacity ≤ 65536 }
+    ensures brings { IfOk result (IsBrought N.flash N.honest N.failed nand geometry.now capacity) }
+    ensures fault { IfErr result (IsUnsettled N.flash N.honest N.failed nand geometry.now capacity) }
+    ensures given { IfErr result (λ fault. IsHandedBack N.flash N.honest N.failed nand (nand_of fault)) }
+{
+    let fault = match start_mounted(alloc, nand, geometry, capacity) {
+        Ok(device) => return Ok(device),
+        Err(fault) => fault,
+    };
+    match stale_in(&fault) {
+        Some(stale) => start_mounted(alloc, nand_in(fault), geometry, stale),
+        None => Err(fault),
+    }
+}
+
+/// Starts a device over what a die holds, with a cache of `capacity` entries, 1 to 65536: **of a die that is honest the device holds the array that the image
+/// held.** A stop may have left more stale sectors than the cache has room for: then a device with as many entries as it wants, up to 65536,
+/// flushes first, and the die is mounted again. One that takes no change any more keeps the larger cache. Where nothing had to be flushed the die
+/// is asked for reads alone.
+///
+/// # Errors
+///
+/// - `Refused` with what keeps the image from being mounted, with `Source` where a page read failed, or with `OutOfMemory`.
+/// - `Start` where the image was mounted and a growth was refused.
+/// - `Flush` where the larger device failed its flush: `BusFault`, of an honest die.
+///
+/// The die comes back in each case. An honest one holds the array that it held, but where its bus failed. (This project's.)
+pub fn start<N: Nand>(
+    alloc: Global,
+    nand: N,
+    geometry: &Geometry,
+    capacity: u32,
+) -> Result<Device<N>, PowerFault<N>>
+    requires same_geometry { (N.flash nand).geometry ≡ geometry.now }
+    requires least { 1 ≤ capacity }
+    requires most { capacity ≤ 65536 }
+    ensures brings { IfOk result (IsBrought N.flash N.honest N.failed nand geometry.now capacity) }
+    ensures fault { IfErr result (IsUnsettled N.flash N.honest N.failed nand geometry.now capacity) }
+    ensures given { IfErr result (λ fault. IsHandedBack N.flash N.honest N.failed nand (nand_of fault)) }
+{
+    let fault = match start_mounted(alloc, nand, geometry, capacity) {
+        Ok(device) => return Ok(device),
+        Err(fault) => fault,
+    };
+    match stale_in(&fault) {
+        Some(stale) => {
+            let nand = settle(alloc, nand_in(fault), geometry, stale)?;
+            start_either(alloc, nand, geometry, capacity)
+        }
+        None => Err(fault),
+    }
+}

@@ -1,0 +1,81 @@
+-- `ftl_entry_count` lends what lies at the handle to `counts::count` and takes it back.
+use Rattle.std.proofs.Common.{ℕ, ◌<◌, ◌^◌, [], ◌∷◌, ◌++◌, refl, w32, MutBor}
+use Rattle.std.proofs.raw_atomic.Walks.{proved}
+use Rattle.std.proofs.VecSteps.Shapes.{after}
+use base.Fraction.{full_share}
+use base.Logic.{id⊢}
+use base.Fml.{ftrue, flft, flent}
+use mir.Syntax.{named}
+use mir.Val.{vint, vptr}
+use prog.Wp.{WpFn}
+use contract.Running.{tables}
+use types.Kit.{‵, raw, ◌⊛◌, some, later, prop, at_ret, ◌$◌, ◌∵◌, !, qed, done, move, keep, drop, use1, use2, use3, split, join, fsplit, fpack, pick, await, regoal, suffices, group}
+use types.Run.{enter, of_opd, addr, stop, no_more, and_then, first, blocks, exec, returns}
+use types.ByLocal.{alloc_all, pass_all, free_all, look_at, get, through, sets, sets_last, lands_as, env}
+use types.Tokens.{lft_new, lft_end}
+use types.SemTy.{Body}
+use denote.Builtin.{u32}
+use denote.Exit.{yes}
+use denote.Laws.{Is, shows}
+use denote.Lend.{lends_ref, ref_back}
+use denote.Memory.{mem}
+use denote.Plain.{uint_Makes, uint_Lawful, uint_vals, uint_Tells}
+use denote.RawPtr.{Ptr, RawPtr, block_ptr, lies_at, in_a_block, rawptr_vals, rawptr_Tells}
+use denote.Ref.{MutRef}
+use denote.Signature.{plain}
+use denote.Steps.{nothing, owned, peeks}
+use denote.Triple.Call.{calls_at}
+use denote.Triple.Clauses.{lasts}
+use denote.Triple.Entry.{on_entry}
+use denote.Triple.Spec.{triple_of}
+use denote.Triple.Table.{framed}
+use denote.Triple.Walked.{Stays, walk_of, stay_dropped, Goes-dropped, ends_at}
+use Rattle.ftl_c.specs.declared.disk.Disk.{Disk}
+use Rattle.ftl_c.specs.contracts.disk.Disk.{the_row as R}
+use Rattle.ftl_c.specs.contracts.exports.ftl_entry_count as f
+use Rattle.ftl_c.proofs.exports.ftl_entry_count.Statement.{statement}
+use Rattle.ftl_c.proofs.exports.ftl_entry_count.Code as code
+use Rattle.ftl_c.specs.contracts.counts.count as g
+use Rattle.ftl_c.proofs.counts.count.Met.{met}
+
+abbrev stayed : Stays f.ended.signature.params f.ended.kept
+stayed = (stay_dropped _ yes, (stay_dropped _ yes, tt))
+
+pub ftl_entry_count_spec : {M : Type 1} → statement M
+ftl_entry_count_spec 𝓤 𝓛 𝓜 𝓡 wired =
+    let c = f.clauses 𝓛 𝓜.mem 𝓡.returns in let W = walk_of 𝓛 f.ended stayed c in let 𝓣 = tables 𝓤 𝓛.H 𝓜 𝓡 𝓡.env in
+    proved 𝓛 f.ended stayed c 𝓜 𝓡 (Goes-dropped 𝓛 0 (plain (λ _. RawPtr)) yes (λ κs x w. refl), (Goes-dropped 𝓛 0 (plain (λ _. u32)) yes (λ κs x w. refl), tt))
+    f.Key.name code.function (code.unfolded 𝓤 𝓛.H 𝓜 𝓡 wired)
+    (λ κs. (rawptr_vals, (uint_vals w32, tt))) (λ κs. (rawptr_Tells, (uint_Tells w32, tt))) (λ κs qs bounds a d are.
+    let n = a.1.0 in let fits : n < 2 ^ 32 = are.1.0.1 in
+    let y : Ptr → W.Ghost = λ p. ((κs, qs, bounds, (p, (n, tt)), (rawptr_vals p, (uint_vals w32 n, tt))), d) in
+    qed 𝓛 (raw (on_entry 𝓛 f.signature κs qs a (y a.0).0.4) ∷ ‵ (lies_at R full_share a.0 d) ∷ []) ∵ drop ! $
+    in_a_block ! a.0 (λ p. lies_at R full_share p d) (id⊢ 𝓤 _) (λ b o e.
+    regoal ! (λ p. prop (WpFn 𝓤 𝓛.H 𝓣.C 𝓣.Λ code.function (rawptr_vals p ++ (vint w32 n ∷ [])) (W.post (y p)))) e refl $
+    enter ! _ _ _ _ _ $ alloc_all ! (λ l. pass_all ! refl ((tt, tt), ((tt, record { fits = fits }), tt)) $
+    first ! $ blocks ! $
+    sets ! (of_opd ! (get ! refl)) refl (tt, tt) $
+    sets_last ! (addr ! (through ! refl (stop !))) refl (tt, tt) $
+    exec ! 𝓣.C 𝓣.Λ (env code.Mir.locals l) (after 1 (code.function).body) (at_ret _ (W.post (y (block_ptr b o)))) $
+    sets ! (of_opd ! (get ! refl)) refl (tt, tt) $
+    sets ! (of_opd ! (get ! refl)) refl (tt, record { fits = fits }) $
+    lft_new ! tt (λ α. move ! (1 ∷ []) $
+    use1 𝓛 (later (some (λ (δ : ℕ). ‵ ((MutRef (named 0) (α ∷ []) R).own_val (record { ref_ptr = (b, o); ghost_name = δ; now = d }) (vptr b o ∷ [])) ⊛ ‵ (flent (α ∷ []) (Body (mem R) b o δ)))))
+    (lends_ref 𝓛 R (named 0) (α ∷ []) d b o) $ await ! tt $ pick ! (λ δ. split ! $
+    let r : MutBor Disk = record { ref_ptr = (b, o); ghost_name = δ; now = d } in
+    let G = triple_of 𝓛 g.signature (g.spec 𝓛 𝓜.mem 𝓡.returns) in
+    let z : G.Ghost = (((α ∷ [], tt), (full_share, tt), tt, (r, (n, tt)), (vptr b o ∷ [], (vint w32 n ∷ [], tt))), tt) in
+    nothing ! $ owned ! u32 _ (uint_Makes 𝓛 w32) n _ (refl, fits) $ join ! $ move ! (1 ∷ 0 ∷ []) $ join ! $
+    nothing ! $ move ! (3 ∷ 0 ∷ []) $ join ! $ join ! $ nothing ! $ move ! (1 ∷ 0 ∷ []) $ use2 𝓛 (raw (G.pre z)) (id⊢ 𝓤 _) $
+    calls_at ! (framed 𝓤 𝓛.H 𝓜 (tables 𝓤 𝓛.H 𝓜 𝓡 𝓡.env)) G (met 𝓤 𝓛 𝓜 𝓡 (code.calls-ftl_c::counts::count 𝓡.env wired)) z
+    (and_then ! (get ! refl) (and_then ! (get ! refl) (no_more !))) (λ v.
+    use1 𝓛 (later (some (λ (u : ℕ). ((‵ (flft (α ∷ []) full_share) ⊛ ‵ ftrue) ⊛ ‵ (u32.own_val u (v ∷ []))) ⊛
+    some (λ (ws : Disk × (Unit {0} × Unit {0})). ‵ (lasts g.ended z.0.0 z.0.3 ws) ⊛ ‵ ftrue)))) (id⊢ 𝓤 _) $
+    await ! tt $ pick ! (λ u. split ! $ split ! $ split ! $ lft_end ! tt $ move ! (2 ∷ []) $
+    peeks ! u32 (Is u32) (shows 𝓛 u32) u (v ∷ []) (λ is. lands_as ! refl refl ((uint_Lawful 𝓛 w32).typed u _ is).0 $
+    move ! (3 ∷ []) $ pick ! (λ ws. split ! $ fsplit ! $ fsplit ! $
+    move ! (5 ∷ 7 ∷ 0 ∷ []) $ use3 𝓛 (later (‵ (lies_at R full_share (block_ptr b o) ws.0))) (ref_back 𝓛 R (α ∷ []) δ ws.0 b o) $ await ! tt $
+    returns ! (look_at ! 0 refl) $ free_all ! refl $
+    keep ! (0 ∷ 4 ∷ []) $
+    suffices ! _ (ends_at 𝓛 f.ended stayed c (y (block_ptr b o)) v u (tt, (tt, tt)) (tt, (tt, tt))) $
+    fpack ! Disk (λ (x : Disk). lies_at R full_share (block_ptr b o) x) ws.0 $ move ! (1 ∷ []) $ nothing ! $ nothing ! $ join ! $ nothing ! $ join ! $ nothing ! $ group ! 3 $ done !)))))))))
