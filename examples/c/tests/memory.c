@@ -60,8 +60,11 @@ static void refuse_in_calls(void)
         refused[kind] += answer != FTL_DONE;
         if (answer != FTL_DONE)
             WANT(FTL_OUT_OF_MEMORY, answer);
-        if (i % 500 == 0)
+        if (i % 500 == 0) { /* the cache is empty again */
             list_all(&list, disk);
+            WANT(FTL_DONE, ftl_stop(disk));
+            WANT(FTL_DONE, ftl_start(disk));
+        }
     }
     list_all(&list, disk);
     printf("20000 calls, each third over an empty heap: refused %u of %u writes, %u of %u reads, %u of %u trims, %u of %u turns and flushes; "
