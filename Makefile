@@ -1,13 +1,12 @@
-# Builds and installs the three programs. Each is proved before it is built: the first time takes an hour or more, a
-# second one seconds. Wants the Rattle kit's `rt` on the path; `make install` takes PREFIX and DESTDIR.
+# Builds and installs the three programs and the library for C. Each is proved before it is built: the first time takes an hour or
+# more, a second one seconds. Wants the Rattle kit's `rt` on the path; `make install` takes PREFIX and DESTDIR.
 PREFIX ?= /usr/local
 PROGRAMS = nandctl nandlab nanddisk
-BINDIR = $(DESTDIR)$(PREFIX)/bin
-MANDIR = $(DESTDIR)$(PREFIX)/share/man/man1
-BASHDIR = $(DESTDIR)$(PREFIX)/share/bash-completion/completions
-ZSHDIR = $(DESTDIR)$(PREFIX)/share/zsh/$(if $(filter /usr,$(PREFIX)),vendor-completions,site-functions)
+TO = $(DESTDIR)$(PREFIX)
+BASHDIR = $(TO)/share/bash-completion/completions
+ZSHDIR = $(TO)/share/zsh/$(if $(filter /usr,$(PREFIX)),vendor-completions,site-functions)
 
-all: $(PROGRAMS)
+all: $(PROGRAMS) lib
 
 # what a program is run on once it is built, for `rt run` has no word for building alone
 nandctl: RUN = sector 64,32,8,32,32 data/image.bin 5
@@ -15,22 +14,25 @@ nandlab nanddisk: RUN = --version
 $(PROGRAMS):
 	cd crates/$@ && rt run -- $(RUN)
 
-# the same programs unproved, each run once: `rt try` keeps none
+# crates/ftl_c/out/libftl_c.a for x86-64, and out/aarch64/libftl_c.a
+lib:
+	cd crates/ftl_c && rt lib --target aarch64-unknown-linux-gnu && install -D -m 644 out/libftl_c.a out/aarch64/libftl_c.a && rt lib
+
+# the programs unproved, each run once: `rt try` keeps none
 quick:
 	cd crates/nandctl && rt try -- sector 64,32,8,32,32 data/image.bin 5
-	cd crates/nandlab && rt try -- --version
-	cd crates/nanddisk && rt try -- --version
+	for name in nandlab nanddisk; do (cd crates/$$name && rt try -- --version) || exit 1; done
 
-install: all
-	install -d $(BINDIR) $(MANDIR) $(BASHDIR) $(ZSHDIR)
-	for name in $(PROGRAMS); do \
-		install -m 755 crates/$$name/out/$$name $(BINDIR)/ && \
-		install -m 644 docs/man/$$name.1 $(MANDIR)/ && \
-		install -m 644 completions/$$name.bash $(BASHDIR)/$$name && \
-		install -m 644 completions/_$$name $(ZSHDIR)/ || exit 1; \
-	done
+install: $(PROGRAMS) install-lib
+	for name in $(PROGRAMS); do install -D -m 755 -t $(TO)/bin crates/$$name/out/$$name && install -D -m 644 -t $(TO)/share/man/man1 docs/man/$$name.1 && \
+		install -D -m 644 completions/$$name.bash $(BASHDIR)/$$name && install -D -m 644 -t $(ZSHDIR) completions/_$$name || exit 1; done
+
+install-lib: lib
+	install -D -m 644 crates/ftl_c/out/libftl_c.a $(TO)/lib/libftl.a && install -D -m 644 -t $(TO)/include include/ftl.h
+	install -D -m 644 -t $(TO)/share/man/man3 docs/man/ftl.3 && install -d $(TO)/lib/pkgconfig
+	sed 's|@PREFIX@|$(PREFIX)|' include/ftl.pc.in >$(TO)/lib/pkgconfig/ftl.pc
 
 test:
 	rt ci
 
-.PHONY: all quick install test $(PROGRAMS)
+.PHONY: all lib quick install install-lib test $(PROGRAMS)

@@ -19,7 +19,7 @@ import sys
 import tempfile
 from pathlib import Path
 
-from capacity import USUAL, most, up
+from sectors import USUAL, most, up
 
 TOP = Path(__file__).resolve().parent.parent
 NAME = "bench_device_memory"

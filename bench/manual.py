@@ -1,5 +1,5 @@
 #!/usr/bin/env python3
-"""Writes the manual pages docs/man/*.1 from the pages of docs/ that users read.
+"""Writes the manual pages docs/man/ from the pages of docs/ that users read; ftl(3) from include/ftl.h and its page.
 
     bench/manual.py            writes them
     bench/manual.py --check    says which of them are not what would be written; status 1 if any
@@ -14,17 +14,22 @@ import sys
 import textwrap
 from pathlib import Path
 
+import manual_header
+
 TOP = Path(__file__).resolve().parent.parent
 # page, its one line, the page of docs/ that it is made of
 PAGES = {
     "nandctl": ("check and read raw images of a NAND die", "NANDCTL.md"),
     "nandlab": ("tools for recovery laboratories, on dumps of one NAND die", "LABORATORY.md"),
     "nanddisk": ("a NAND die in a file, served as a disk by NBD", "DISK.md"),
+    "ftl": ("a proved flash translation layer over a raw NAND die, for firmware in C", "FIRMWARE.md"),
 }
+# of a library's page, its header
+HEADERS = {"ftl": "include/ftl.h"}
 # sections for those who read contracts, not for users
 DATE = "2026-11-27"
-LEFT_OUT = {"what is proved", "how what is above is proved", "what stands", "the die over a store", "the disk over it"}
-SEE = {"nandctl": ("nandlab", "nanddisk"), "nandlab": ("nandctl", "nanddisk"), "nanddisk": ("nandctl", "nandlab")}
+LEFT_OUT = {"what is proved", "how what is above is proved", "what stands", "the die over a store", "the disk over it", "the crates, from rattle"}
+SEE = {"ftl": ("nanddisk", "nandlab", "pkg-config"), "nandctl": ("nandlab", "nanddisk"), "nandlab": ("nandctl", "nanddisk"), "nanddisk": ("nandctl", "nandlab")}
 WIDTH = 78
 
 
@@ -141,12 +146,28 @@ def version():
     return re.search(r'\.version\("([^"]+)"\)', (TOP / "crates/program_words/src/parts.rt").read_text()).group(1)
 
 
-def page_of(name):
+def section_of(name):
+    return 3 if name in HEADERS else 1
+
+
+def head_of(name, text):
+    """The roff down to where the page's own text begins."""
     about, source = PAGES[name]
-    text = (TOP / "docs" / source).read_text()
+    sources, kind = f"docs/{source}", "User Commands"
+    if name in HEADERS:
+        sources, kind = f"{HEADERS[name]} and docs/{source}", "Library Functions Manual"
+    out = [f'.\\" Written by bench/manual.py from {sources}', f'.TH {name.upper()} {section_of(name)} "{DATE}" "Kothlaim {version()}" "{kind}"',
+           ".SH NAME", f"{name} \\- {plain(about)}", ".SH SYNOPSIS"]
+    if name not in HEADERS:
+        return [*out, *synopsis_of(name, text), ".SH DESCRIPTION"]
+    header = (TOP / HEADERS[name]).read_text()
+    return [*out, *manual_header.synopsis(header, plain), *manual_header.sections(header, plain, wrapped, body_of), ".SH IN FIRMWARE"]
+
+
+def page_of(name):
+    text = (TOP / "docs" / PAGES[name][1]).read_text()
     parts = parts_of(text)
-    out = [f'.\\" Written by bench/manual.py from docs/{source}', f'.TH {name.upper()} 1 "{DATE}" "Kothlaim {version()}" "User Commands"',
-           ".SH NAME", f"{name} \\- {plain(about)}", ".SH SYNOPSIS", *synopsis_of(name, text), ".SH DESCRIPTION"]
+    out = head_of(name, text)
     skipped = 0
     for depth, heading, said in parts:
         if skipped and depth > skipped:
@@ -168,7 +189,7 @@ def page_of(name):
 def main():
     old = []
     for name in PAGES:
-        path = TOP / "docs" / "man" / f"{name}.1"
+        path = TOP / "docs" / "man" / f"{name}.{section_of(name)}"
         if sys.argv[1:] == ["--check"]:
             if not path.exists() or path.read_text() != page_of(name):
                 old.append(path.name)
