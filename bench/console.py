@@ -1,7 +1,7 @@
 #!/usr/bin/env python3
 """Runs the console blocks of documents, and compares what they show with what comes.
 
-    [PROGRAM=..] bench/console.py [--built] [DOCUMENT..]     (default: README.md, examples/README.md, docs/NANDCTL.md and docs/LABORATORY.md)
+    [PROGRAM=..] bench/console.py [--built] [DOCUMENT..]     (default: README.md, examples/README.md and docs/ NANDCTL, LABORATORY, DISK)
 
 A block ```console has commands, each after `$ `, and below each what it prints, on either stream. The blocks of a document run in
 their order in one shell, in a fresh folder with the program as `nandctl`, the small image as `image.bin`, and `crates` and
@@ -19,7 +19,7 @@ from pathlib import Path
 from program import PROGRAM
 
 TOP = Path(__file__).resolve().parent.parent
-DOCUMENTS = ["README.md", "examples/README.md", "docs/NANDCTL.md", "docs/LABORATORY.md"]
+DOCUMENTS = ["README.md", "examples/README.md", "docs/NANDCTL.md", "docs/LABORATORY.md", "docs/DISK.md"]
 BLOCK = re.compile(r"^```console\n(.*?)^```$", re.MULTILINE | re.DOTALL)
 MADE = re.compile(r"\(cd (crates/(\w+)) && rt run --(.*?)\)")
 MARK = "== the next command =="
