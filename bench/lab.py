@@ -20,6 +20,7 @@ import types
 from pathlib import Path
 
 import compare
+import hamming
 import measure
 import reference as ref
 
@@ -28,7 +29,7 @@ LAB = str(Path(os.environ.get("LAB", BUILT)).resolve())
 
 
 NONE = "usage: no such command, see nandlab --help\n"
-COMMANDS = ["geometry", "survey", "array", "compare", "merge", "repair"]
+COMMANDS = ["geometry", "survey", "array", "compare", "merge", "repair", "correct"]
 FORMS = random.Random("forms")
 # which of the last lines some dump had, and whether one with factory marks left nothing open
 SEEN = set()
@@ -62,6 +63,10 @@ def line_of(told, outside, rewritten):
         return rows_age_text(told["unsound"])
     if kind == "repaired":
         return f"mended {told['mended']}"
+    if kind == "lost_row":
+        return f"lost row {told['row']} chunks {told['chunks']}"
+    if kind == "corrected":
+        return " ".join(f"{name} {told[name]}" for name in ["turned", "rows", "lost"])
     if kind == "merged":
         return " ".join(f"{name} {told[name]}" for name in ["sound", "differ", "majority", "erased", "unsound"])
     if kind in ("factory", "rewritten", "holes", "outside"):
@@ -539,6 +544,47 @@ def repair_case(rng, folder):
     stored(rng, folder, ["repair", g.words(), "dump.bin", "out.bin", *asked], want, out)
 
 
+def spoiled(rng, g, raw):
+    """The dump of a chip with these pages and their codes, where bits of some chunks are wrong: of most one, of some more."""
+    dump = b"".join(b"".join(hamming.physical(page[: g.data], page[g.data :])) for page in pages_of(g, raw))
+    size, dump = len(dump) // g.rows, bytearray(dump)
+    for row in rng.sample(range(g.rows), rng.choice([0, 1, 5, g.rows])):
+        for _ in range(rng.choice([1, 1, 1, 2, 2, 3, 12])):
+            dump[row * size + rng.randrange(size)] ^= 1 << rng.randrange(8)
+    for row in rng.sample(range(g.rows), rng.choice([0, 0, 1])):
+        dump[row * size : (row + 1) * size] = rng.choice([bytes(size), rng.randbytes(size)])
+    return bytes(dump)
+
+
+def loss_map(g, losses):
+    """The map of a corrected dump: a line for each row with lost chunks, and for the rows between two."""
+    text, next_row = "# Mapfile of a dump, made by nandlab\n0x0 + 1\n", 0
+    for row in [*losses, g.rows]:
+        if next_row < row:
+            text += f"0x{next_row * g.page:x} 0x{(row - next_row) * g.page:x} +\n"
+        if row < g.rows:
+            text += f"0x{row * g.page:x} 0x{g.page:x} -\n"
+        next_row = row + 1
+    return text
+
+
+def correct_case(rng, folder):
+    g, image = dump_for(rng)
+    raw = spoiled(rng, g, image.raw())
+    size = len(raw) // g.rows
+    made = [hamming.put_right(g.data, g.spare, raw[row * size : (row + 1) * size]) for row in range(g.rows)]
+    losses = {row: lost for row, (_, _, lost) in enumerate(made) if lost}
+    told = "".join(f"lost row {row} chunks {lost}\n" for row, lost in losses.items())
+    told += f"turned {sum(turned for _, turned, _ in made)} rows {sum(turned > 0 for _, turned, _ in made)} lost {len(losses)}\n"
+    want, out, extra, words = (0, told, ""), b"".join(page for page, _, _ in made), {}, []
+    if rng.random() < 0.5:
+        words, extra = ["--map", "out.map"], {"out.map": loss_map(g, losses).encode()}
+    if rng.random() < 0.1:
+        raw, want = rng.choice([raw[:-1], raw + b"\0"]), (1, "", "refused image 1 WrongLength\n")
+    (folder / "dump.bin").write_bytes(raw)
+    stored(rng, folder, ["correct", g.words(), "dump.bin", "out.bin", *words], want, out, extra)
+
+
 def majority(pages):
     bits = [sum(page[k // 8] >> k % 8 & 1 for page in pages) for k in range(8 * len(pages[0]))]
     return sum((2 * n > len(pages)) << k for k, n in enumerate(bits)).to_bytes(len(pages[0]), "little")
@@ -709,6 +755,7 @@ def times(folder):
         ["compare", g.words(), "die.cert", "dump.bin"],
         ["merge", g.words(), "out.bin", "dump.bin", "dump.bin", "--force"],
         ["repair", g.words(), "dump.bin", "out.bin", "--force"],
+        ["correct", "2048,37,64,512,20000", "dump.bin", "out.bin", "--force"],
     ]:
         made = spent([LAB, *words], folder)
         print(f"nandlab {words[0]} {made:.3f} s, {made / hashed:.2f} times, {measure.run([LAB, *words])[1]} KiB")
@@ -728,8 +775,9 @@ def main():
             geometry_case(random.Random(f"geometry {seed}.{i}"), folder)
             repair_case(random.Random(f"repair {seed}.{i}"), folder)
             merge_case(random.Random(f"merge {seed}.{i}"), folder)
+            correct_case(random.Random(f"correct {seed}.{i}"), folder)
         assert cases < 100 or SEEN == {"factory", "rewritten", "holes", "outside", "none"}, SEEN
-        print(f"each of the six commands over {cases} dumps agrees with the reference, and the refusals")
+        print(f"each of the seven commands over {cases} dumps agrees with the reference, and the refusals")
 
 
 if __name__ == "__main__":

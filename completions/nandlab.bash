@@ -4,7 +4,7 @@ _nandlab()
     local word="${COMP_WORDS[COMP_CWORD]}" before="${COMP_WORDS[COMP_CWORD-1]}"
     COMPREPLY=()
     if [ "$COMP_CWORD" -eq 1 ]; then
-        mapfile -t COMPREPLY < <(compgen -W "geometry survey array compare merge repair --help --version" -- "$word")
+        mapfile -t COMPREPLY < <(compgen -W "geometry survey array compare merge repair correct --help --version" -- "$word")
         return
     fi
     case "$before" in
@@ -19,6 +19,7 @@ _nandlab()
             compare) mapfile -t COMPREPLY < <(compgen -W "--json --progress --help" -- "$word") ;;
             merge) mapfile -t COMPREPLY < <(compgen -W "--force --json --progress --help" -- "$word") ;;
             repair) mapfile -t COMPREPLY < <(compgen -W "--force --rows --json --progress --help" -- "$word") ;;
+            correct) mapfile -t COMPREPLY < <(compgen -W "--force --map --json --progress --help" -- "$word") ;;
         esac
         return
     fi

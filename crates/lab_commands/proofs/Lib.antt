@@ -9,6 +9,7 @@ pub mod SurveyLemmas
 pub mod CompareLemmas
 pub mod GeometryLemmas
 pub mod RepairLemmas
+pub mod CorrectLemmas
 pub mod MergeLemmas
 pub mod NameLemmas
 pub mod NameLaws

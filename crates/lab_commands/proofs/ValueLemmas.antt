@@ -9,6 +9,7 @@ use Rattle.serde_json.specs.Written.{has_float}
 use Rattle.lab_commands.specs.declared.lines.Line.{Line}
 use Rattle.lab_commands.specs.declared.lines.Line.TheVariants.{Pages, NumberRange, Repeated, NotFormatted, TableDamaged, LastSequence, Tied, Missing, Block, PlainBlock, Lost}
 use Rattle.lab_commands.specs.declared.lines.Line.TheVariants.{OfRows, Factory, Rewritten, Holes, Outside, Mended, MendedCount, Differ, Unsound, Merged, Age, AgeOfRows}
+use Rattle.lab_commands.specs.declared.lines.Line.TheVariants.{LostRow, Corrected}
 use Rattle.lab_commands.specs.declared.lines.Line.TheVariants as line
 use Rattle.lab_commands.specs.declared.values.Member.{Member}
 use Rattle.lab_commands.specs.Values.{count, line_data, member_data, member_name, with_all}
@@ -54,6 +55,8 @@ no_float (Lost n) = refl
 no_float (line.Fit f) = refl
 no_float (Mended how row bit) = refl
 no_float (MendedCount n) = refl
+no_float (LostRow row chunks) = refl
+no_float (Corrected bits rows lost) = refl
 no_float (Differ row) = refl
 no_float (Unsound row) = refl
 no_float (Merged differ t) = refl

@@ -25,4 +25,5 @@ pub mod Compare
 pub mod Geometry
 pub mod Repair
 pub mod Merge
+pub mod Correct
 pub mod Program

@@ -20,6 +20,7 @@ use Rattle.lab_commands.specs.declared.lines.Sort.TheVariants as sort
 use Rattle.lab_commands.specs.declared.lines.Line.{Line}
 use Rattle.lab_commands.specs.declared.lines.Line.TheVariants.{Pages, NumberRange, Repeated, NotFormatted, TableDamaged, LastSequence, Tied, Missing, Block, PlainBlock, Lost}
 use Rattle.lab_commands.specs.declared.lines.Line.TheVariants.{OfRows, Factory, Rewritten, Holes, Outside, Mended, MendedCount, Differ, Unsound, Merged, Age, AgeOfRows}
+use Rattle.lab_commands.specs.declared.lines.Line.TheVariants.{LostRow, Corrected}
 use Rattle.lab_commands.specs.declared.lines.Line.TheVariants as line
 
 -- ---- words
@@ -85,6 +86,10 @@ tally_words differ t =
     codes "sound " ++ (decimal t.sound ++ (codes " differ " ++ (decimal differ ++ (codes " majority " ++ (decimal t.majority ++ (
     codes " erased " ++ (decimal t.erased ++ (codes " unsound " ++ decimal t.unsound))))))))
 
+-- how many bits of a chip's dump were turned back, in how many rows, and how many rows have lost chunks
+abbrev pub corrected_words : ℕ → ℕ → ℕ → List ℕ
+corrected_words bits rows lost = codes "turned " ++ (decimal bits ++ (codes " rows " ++ (decimal rows ++ (codes " lost " ++ decimal lost))))
+
 -- how far the array may be from the last write: it is that of every page, or lacks sectors, or so many may be older
 abbrev pub claim_words : Doubts → List ℕ
 claim_words d =
@@ -117,6 +122,8 @@ line_words (Lost sector) = codes "lost sector " ++ decimal sector
 line_words (line.Fit f) = fit_words f
 line_words (Mended how row bit) = made_words how ++ (codes " row " ++ (decimal row ++ (codes " bit " ++ decimal bit)))
 line_words (MendedCount n) = codes "mended " ++ decimal n
+line_words (LostRow row chunks) = codes "lost row " ++ (decimal row ++ (codes " chunks " ++ decimal chunks))
+line_words (Corrected bits rows lost) = corrected_words bits rows lost
 line_words (Differ row) = codes "differ row " ++ decimal row
 line_words (Unsound row) = codes "unsound row " ++ decimal row
 line_words (Merged differ t) = tally_words differ t

@@ -13,12 +13,13 @@ use Rattle.lab_commands.specs.Survey.{ToldSurvey, IsSurveyFault}
 use Rattle.lab_commands.specs.Compare.{ToldCompared, IsCompareFault}
 use Rattle.lab_commands.specs.Geometry.{ToldFits, IsGeometryFault}
 use Rattle.lab_commands.specs.Repair.{WroteRepair, IsRepairFault}
+use Rattle.lab_commands.specs.Correct.{WroteCorrected, IsCorrectFault}
 use Rattle.lab_commands.specs.Merge.{WroteMerge, IsMergeFault}
 use Rattle.lab_commands.specs.Undone.{IsHalfPrinted, LeavesAll}
 
 -- ---- done
 
--- the words asked for an array, a merge or a repair, which was written, or for geometries, a survey, a comparison or a text, which was printed
+-- the words asked for an array, a merge, a repair or a correction, which was written, or for geometries, a survey, a comparison or a text, which was printed
 abbrev pub DoesAsked : Answers → Asked → Option Store → Option Store → Option (List ℕ) → Option (List ℕ) → Type 0
 DoesAsked a (asked.Geometry read) before after out printed = (after ≡ before) × ToldFits a read out printed
 DoesAsked a (asked.Array read) before after out printed = WroteArray a read before after out printed
@@ -26,6 +27,7 @@ DoesAsked a (asked.Survey read) before after out printed = (after ≡ before) ×
 DoesAsked a (asked.Compare read) before after out printed = (after ≡ before) × ToldCompared a read out printed
 DoesAsked a (asked.Merge read) before after out printed = WroteMerge a read before after out printed
 DoesAsked a (asked.Repair read) before after out printed = WroteRepair a read before after out printed
+DoesAsked a (asked.Correct read) before after out printed = WroteCorrected a read before after out printed
 DoesAsked a (asked.Text text) before after out printed = (after ≡ before) × Appends out printed (string_bytes text)
 
 abbrev pub Obeyed : Answers → List (List ℕ) → Option Store → Option Store → Option (List ℕ) → Option (List ℕ) → Type 0
@@ -41,6 +43,7 @@ IsFaultOf a (asked.Survey read) before after broke out printed told = IsSurveyFa
 IsFaultOf a (asked.Compare read) before after broke out printed told = IsCompareFault a read before after broke out printed told
 IsFaultOf a (asked.Merge read) before after broke out printed told = IsMergeFault a read before after broke out printed told
 IsFaultOf a (asked.Repair read) before after broke out printed told = IsRepairFault a read before after broke out printed told
+IsFaultOf a (asked.Correct read) before after broke out printed told = IsCorrectFault a read before after broke out printed told
 IsFaultOf a (asked.Text text) before after broke out printed told = (after ≡ before) × IsHalfPrinted broke out printed (string_bytes text) told
 
 -- the words are no command, or memory for them was refused

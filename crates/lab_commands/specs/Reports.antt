@@ -9,6 +9,7 @@ use Rattle.lab_dump.specs.Held.{state_in}
 use Rattle.lab_dump.specs.declared.compare.Compared.{Compared}
 use Rattle.lab_dump.specs.declared.fit.Fit.{Fit}
 use Rattle.lab_mend.specs.declared.merging.Tally.{Tally}
+use Rattle.lab_correct.specs.declared.correcting.Loss.{Loss}
 use Rattle.lab_mend.specs.declared.repairing.Mend.{Mend}
 use Rattle.lab_dump.specs.declared.survey.DieSurvey.{DieSurvey}
 use Rattle.lab_dump.specs.declared.doubts.Doubts.{Doubts}
@@ -52,6 +53,9 @@ fit_at fits n = option_map line.Fit (slice_get fits n)
 abbrev pub mend_at : List Mend → ℕ → Option Line
 mend_at mends n = option_map (λ m. line.Mended m.made m.row m.bit) (slice_get mends n)
 
+abbrev pub loss_at : List Loss → ℕ → Option Line
+loss_at losses n = option_map (λ l. line.LostRow l.row l.chunks) (slice_get losses n)
+
 abbrev pub differ_at : List ℕ → ℕ → Option Line
 differ_at rows n = option_map line.Differ (slice_get rows n)
 
@@ -72,6 +76,7 @@ line_at (lists.Losses lost count) = lost_at lost.now
 line_at (lists.Ties held count) = tie_at (map state_in held.now)
 line_at (lists.Fits fits) = fit_at fits.now
 line_at (lists.Mends mends) = mend_at mends.now
+line_at (lists.LostRows losses) = loss_at losses.now
 line_at (lists.Conflicts rows) = differ_at rows.now
 line_at (lists.Unsound rows) = unsound_at rows.now
 
@@ -85,6 +90,7 @@ size_of (lists.Losses lost count) = count
 size_of (lists.Ties held count) = count
 size_of (lists.Fits fits) = length fits.now
 size_of (lists.Mends mends) = length mends.now
+size_of (lists.LostRows losses) = length losses.now
 size_of (lists.Conflicts rows) = length rows.now
 size_of (lists.Unsound rows) = length rows.now
 
@@ -159,6 +165,10 @@ fits_text form fits = head_text form (codes "geometry") ++ (text_below form (fit
 abbrev pub repair_text : Form → List Mend → List ℕ
 repair_text form mends =
     head_text form (codes "repair") ++ (text_below form (mend_at mends) (length mends) ++ (line_text form (line.MendedCount (length mends)) ++ tail_text form))
+
+abbrev pub correct_text : Form → ℕ → ℕ → List Loss → List ℕ
+correct_text form turned touched losses =
+    head_text form (codes "correct") ++ (text_below form (loss_at losses) (length losses) ++ (line_text form (line.Corrected turned touched (length losses)) ++ tail_text form))
 
 abbrev pub merge_text : Form → List ℕ → List ℕ → Tally → List ℕ
 merge_text form conflicts unsound t =

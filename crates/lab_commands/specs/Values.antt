@@ -14,6 +14,7 @@ use Rattle.lab_commands.specs.declared.lines.Sort.{Sort}
 use Rattle.lab_commands.specs.declared.lines.Line.{Line}
 use Rattle.lab_commands.specs.declared.lines.Line.TheVariants.{Pages, NumberRange, Repeated, NotFormatted, TableDamaged, LastSequence, Tied, Missing, Block, PlainBlock, Lost}
 use Rattle.lab_commands.specs.declared.lines.Line.TheVariants.{OfRows, Factory, Rewritten, Holes, Outside, Mended, MendedCount, Differ, Unsound, Merged, Age, AgeOfRows}
+use Rattle.lab_commands.specs.declared.lines.Line.TheVariants.{LostRow, Corrected}
 use Rattle.lab_commands.specs.declared.lines.Line.TheVariants as line
 use Rattle.lab_commands.specs.declared.values.Member.{Member}
 use Rattle.lab_commands.specs.declared.values.Member.TheVariants.{Count, Text, Counts}
@@ -103,6 +104,15 @@ doubt_data name n = object (member (codes "line") (text name) (member (codes "pa
 abbrev pub mended_count_data : ℕ → Data
 mended_count_data n = object (member (codes "line") (text (codes "repaired")) (member (codes "mended") (count n) no_members))
 
+-- a row with so many lost chunks
+abbrev pub lost_row_data : ℕ → ℕ → Data
+lost_row_data row chunks = object (member (codes "chunks") (count chunks) (member (codes "line") (text (codes "lost_row")) (member (codes "row") (count row) no_members)))
+
+-- how many bits were turned back, in how many rows, and how many rows have lost chunks
+abbrev pub corrected_data : ℕ → ℕ → ℕ → Data
+corrected_data bits rows lost =
+    object (member (codes "line") (text (codes "corrected")) (member (codes "lost") (count lost) (member (codes "rows") (count rows) (member (codes "turned") (count bits) no_members))))
+
 -- a row of which two sound pages differ, or which is unsound
 abbrev pub row_data : List ℕ → ℕ → Data
 row_data name row = object (member (codes "line") (text name) (member (codes "row") (count row) no_members))
@@ -142,6 +152,8 @@ line_data (Lost n) = lost_data n
 line_data (line.Fit f) = fit_data f
 line_data (Mended how row bit) = mended_data how row bit
 line_data (MendedCount n) = mended_count_data n
+line_data (LostRow row chunks) = lost_row_data row chunks
+line_data (Corrected bits rows lost) = corrected_data bits rows lost
 line_data (Differ row) = row_data (codes "differ") row
 line_data (Unsound row) = row_data (codes "unsound") row
 line_data (Merged differ t) = merged_data differ t

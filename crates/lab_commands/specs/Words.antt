@@ -40,9 +40,12 @@ merge = command_of (codes "merge") (place (codes "GEOM") ∷ place (codes "OUT")
 abbrev pub repair : Shape
 repair = command_of (codes "repair") (place (codes "GEOM") ∷ place (codes "DUMP") ∷ place (codes "OUT") ∷ flag (codes "force") ∷ option (codes "rows") ∷ showing)
 
+abbrev pub correct : Shape
+correct = command_of (codes "correct") (place (codes "GEOM") ∷ place (codes "DUMP") ∷ place (codes "OUT") ∷ flag (codes "force") ∷ option (codes "map") ∷ showing)
+
 -- the commands that the program has
 abbrev pub grammar : App
-grammar = program_of (codes "nandlab") (geometry ∷ survey ∷ array ∷ compare ∷ merge ∷ repair ∷ [])
+grammar = program_of (codes "nandlab") (geometry ∷ survey ∷ array ∷ compare ∷ merge ∷ repair ∷ correct ∷ [])
 
 -- ---- what the words ask for
 
@@ -56,7 +59,7 @@ pub record IsGeometryAt (rows : List Row) (read : GeometryWords) : Type 0 where
   pub dump_is : first_of (codes "DUMP") rows ≡ Some read.dump.now
   pub showing : IsShowingAt rows read.showing
 
--- the entries of the words of `array` are these
+-- the entries of the words of `array`, or of `correct`, are these
 pub record IsArrayAt (rows : List Row) (read : ArrayWords) : Type 0 where
   pub geometry_is : first_of (codes "GEOM") rows ≡ Some read.geometry.now
   pub dump_is : first_of (codes "DUMP") rows ≡ Some read.dump.now
@@ -109,6 +112,7 @@ IsAt name rows (asked.Survey read) = (name ≡ codes "survey") × IsSurveyAt row
 IsAt name rows (asked.Compare read) = (name ≡ codes "compare") × IsCompareAt rows read
 IsAt name rows (asked.Merge read) = (name ≡ codes "merge") × IsMergeAt rows read
 IsAt name rows (asked.Repair read) = (name ≡ codes "repair") × IsRepairAt rows read
+IsAt name rows (asked.Correct read) = (name ≡ codes "correct") × IsArrayAt rows read
 IsAt name rows (asked.Text text) = ⊥
 
 -- Of the words as `clap` reads them: they name a command, with these words, or they ask for help or for the version.
@@ -119,6 +123,7 @@ IsAsked words (asked.Survey read) = NamesCommand IsAt grammar words (asked.Surve
 IsAsked words (asked.Compare read) = NamesCommand IsAt grammar words (asked.Compare read)
 IsAsked words (asked.Merge read) = NamesCommand IsAt grammar words (asked.Merge read)
 IsAsked words (asked.Repair read) = NamesCommand IsAt grammar words (asked.Repair read)
+IsAsked words (asked.Correct read) = NamesCommand IsAt grammar words (asked.Correct read)
 IsAsked words (asked.Text text) = AsksText grammar words
 
 -- `clap` finds another fault in them, or they name no command with its words

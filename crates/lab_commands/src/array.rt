@@ -55,8 +55,11 @@ fn allow_map<'a, F: LabFiles>(
     may_replace(there, words.force).map_err(as_map)
 }
 
-// Whether OUT may be written, and FILE, where a map is wanted.
-fn allow_both<'a, F: LabFiles>(files: &mut F, words: &ArrayWords<'a>) -> Result<(), LabFault<'a>>
+/// Whether OUT may be written, and FILE, where a map is wanted.
+pub(crate) fn allow_both<'a, F: LabFiles>(
+    files: &mut F,
+    words: &ArrayWords<'a>,
+) -> Result<(), LabFault<'a>>
     ensures ok { OnOk result (AreAllowed (F.answers files.old) words.now) }
     ensures fault { IfErr result (AreNotAllowed (F.answers files.old) words.now) }
     ensures same { files.new ≡ files.old }

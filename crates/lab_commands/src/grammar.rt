@@ -113,10 +113,16 @@ const REPAIR: CommandRule<'static> = CommandRule {
     words: &[GEOM, DUMP, DUMP_OUT, FORCE, REPAIR_ROWS, JSON, PROGRESS],
 };
 
+const CORRECT: CommandRule<'static> = CommandRule {
+    name: "correct",
+    about: "Writes a chip's dump with codes as the dump that the others take, with wrong bits turned back",
+    words: &[GEOM, DUMP, DUMP_OUT, FORCE, MAP, JSON, PROGRESS],
+};
+
 static GRAMMAR: Grammar<'static> = Grammar {
     name: "nandlab",
     about: "Tools for recovery laboratories, on dumps of one NAND die",
-    commands: &[GEOMETRY, SURVEY, ARRAY, COMPARE, MERGE, REPAIR],
+    commands: &[GEOMETRY, SURVEY, ARRAY, COMPARE, MERGE, REPAIR, CORRECT],
 };
 
 /// The commands that the program has.

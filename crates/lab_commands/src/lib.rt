@@ -4,6 +4,7 @@
 
 mod array;
 mod compare;
+mod correct;
 mod document;
 mod files;
 mod geometry;

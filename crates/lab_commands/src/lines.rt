@@ -59,6 +59,10 @@ pub enum Line {
     Mended(Made, u32, u32),
     /// So many pages were mended.
     MendedCount(u64),
+    /// A row has so many lost chunks.
+    LostRow(u32, u32),
+    /// So many bits were turned back, in so many rows, and so many rows have lost chunks.
+    Corrected(u64, u32, u64),
     /// Two sound pages of a row differ.
     Differ(u32),
     /// No page of a row is sound or erased, nor the majority sound.
@@ -362,6 +366,22 @@ impl fmt::Display for MendText {
     }
 }
 
+// How many bits were turned back, in how many rows, and how many rows have lost chunks.
+#[derive(Clone, Copy)]
+struct CorrectedText(u64, u32, u64);
+
+impl fmt::Display for CorrectedText {
+    ghost use Rattle.std.specs.Prelude.{Some};
+    ghost use Rattle.lab_commands.specs.Lines.{corrected_words};
+
+    ghost output = { λ text. Some (corrected_words text.0 text.1 text.2) };
+
+    fn fmt<W: fmt::Write>(&self, f: &mut fmt::Formatter<W>) -> fmt::Result {
+        let (bits, rows, lost) = (self.0, self.1, self.2);
+        write!(f, "turned {bits} rows {rows} lost {lost}")
+    }
+}
+
 // A line of words and a number.
 fn one<W: fmt::Write>(f: &mut fmt::Formatter<W>, words: &str, number: u64) -> fmt::Result
     ensures { WritesOnOk W.write_str_gives f.old result (words.now ++ decimal number) f.new }
@@ -420,6 +440,8 @@ impl fmt::Display for Line {
             Line::Fit(fit) => FitText(fit).fmt(f),
             Line::Mended(made, row, bit) => MendText(made, row, bit).fmt(f),
             Line::MendedCount(count) => one(f, "mended ", count),
+            Line::LostRow(row, chunks) => two(f, "lost row ", row, " chunks ", chunks),
+            Line::Corrected(bits, rows, lost) => CorrectedText(bits, rows, lost).fmt(f),
             Line::Differ(row) => one(f, "differ row ", u64::from(row)),
             Line::Unsound(row) => one(f, "unsound row ", u64::from(row)),
             Line::Merged(differ, tally) => TallyText(differ, tally).fmt(f),

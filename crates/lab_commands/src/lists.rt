@@ -2,10 +2,11 @@
 ghost use Rattle.std.specs.Prelude.{◌≡◌, ◌<◌, get_or, map, option_map};
 ghost use Rattle.lab_dump.specs.declared.held.State.TheVariants.{Absent};
 ghost use Rattle.lab_dump.specs.Held.{state_in};
-ghost use Rattle.lab_commands.specs.Reports.{differ_at, fit_at, mend_at, some_at, state_at, unsound_at};
+ghost use Rattle.lab_commands.specs.Reports.{differ_at, fit_at, loss_at, mend_at, some_at, state_at, unsound_at};
 
 use crate::lines::{Label, Line, block_line, key_line, lost_line, table_line, tie_line};
 use certificate::BlockState;
+use lab_correct::Loss;
 use lab_dump::{DieSurvey, Fit, Held, State};
 use lab_mend::Mend;
 
@@ -28,6 +29,8 @@ pub(crate) enum Lines<'a> {
     Fits(&'a [Fit]),
     /// The pages that were mended.
     Mends(&'a [Mend]),
+    /// The rows with lost chunks.
+    LostRows(&'a [Loss]),
     /// The rows of which two sound pages differ.
     Conflicts(&'a [u32]),
     /// The rows of which no page is sound or erased, nor the majority sound.
@@ -103,6 +106,13 @@ fn mend_line(mends: &[Mend], number: usize) -> Option<Line>
     Some(Line::Mended(mend.made, mend.row, mend.bit))
 }
 
+fn loss_line(losses: &[Loss], number: usize) -> Option<Line>
+    ensures { result ≡ loss_at losses.now number }
+{
+    let loss = *losses.get(number)?;
+    Some(Line::LostRow(loss.row, loss.chunks))
+}
+
 fn differ_line(rows: &[u32], number: usize) -> Option<Line>
     ensures { result ≡ differ_at rows.now number }
 {
@@ -134,6 +144,7 @@ impl Lines<'_> {
             | Lines::Ties(_, count) => count as usize,
             Lines::Fits(fits) => fits.len(),
             Lines::Mends(mends) => mends.len(),
+            Lines::LostRows(losses) => losses.len(),
             Lines::Conflicts(rows) | Lines::Unsound(rows) => rows.len(),
         }
     }
@@ -163,6 +174,7 @@ impl Lines<'_> {
             }
             Lines::Fits(fits) => fit_line(fits, number),
             Lines::Mends(mends) => mend_line(mends, number),
+            Lines::LostRows(losses) => loss_line(losses, number),
             Lines::Conflicts(rows) => differ_line(rows, number),
             Lines::Unsound(rows) => unsound_line(rows, number),
         }

@@ -5,6 +5,7 @@ ghost use Rattle.lab_commands.specs.Program.{IsRefused, Obeyed, Runs, Written};
 
 use crate::array::array_command;
 use crate::compare::compare_command;
+use crate::correct::correct_command;
 use crate::files::LabFiles;
 use crate::geometry::geometry_command;
 use crate::merge::merge_command;
@@ -33,6 +34,7 @@ fn obey<'a, F: LabFiles, W: Output>(
         Ok(Asked::Compare(read)) => compare_command(alloc, read, files, out),
         Ok(Asked::Merge(read)) => merge_command(alloc, read, files, out),
         Ok(Asked::Repair(read)) => repair_command(alloc, read, files, out),
+        Ok(Asked::Correct(read)) => correct_command(alloc, read, files, out),
         Ok(Asked::Text(text)) => match out.put(text.as_bytes()) {
             Ok(()) => Ok(()),
             Err(_) => Err(LabFault::Write("-")),

@@ -2,7 +2,7 @@
 ghost use Rattle.std.specs.Prelude.{◌≡◌, option_map, map};
 ghost use Rattle.lab_dump.specs.Held.{state_in};
 ghost use Rattle.lab_commands.specs.Document.{Prints, text_below};
-ghost use Rattle.lab_commands.specs.Reports.{array_text, blocks_text, compare_text, count_lines, doubts_text, ending_text, fits_text, key_at, keys_text, losses_text, merge_text, repair_text, some_text, survey_lines, survey_text, table_at, ties_text};
+ghost use Rattle.lab_commands.specs.Reports.{array_text, blocks_text, compare_text, correct_text, count_lines, doubts_text, ending_text, fits_text, key_at, keys_text, losses_text, merge_text, repair_text, some_text, survey_lines, survey_text, table_at, ties_text};
 
 use crate::document::{PrintFault, Printer};
 use crate::lines::{
@@ -11,6 +11,7 @@ use crate::lines::{
 };
 use crate::lists::Lines;
 use crate::output::Output;
+use lab_correct::Loss;
 use lab_dump::{Compared, DieSurvey, Doubts, Fit, Held, Rows, State};
 use lab_mend::{Mend, Tally};
 use page_layout::geometry::Geometry;
@@ -268,6 +269,29 @@ pub fn print_repaired<W: Output>(
     printer.begin(out, "repair")?;
     printer.list(out, &Lines::Mends(mends))?;
     printer.line(out, Some(Line::MendedCount(mends.len() as u64)))?;
+    printer.end(out)
+}
+
+/// Prints which rows have lost chunks, in their order, and how many bits were turned back, in how many rows.
+///
+/// # Errors
+///
+/// As of `print_survey`. (This project's.)
+pub fn print_corrected<W: Output>(
+    printer: Printer,
+    out: &mut W,
+    turned: u64,
+    touched: u32,
+    losses: &[Loss],
+) -> Result<(), PrintFault>
+    ensures { Prints (W.failed out.new) (W.contents out.old) (W.contents out.new) (correct_text printer.form turned touched losses.now) result }
+{
+    printer.begin(out, "correct")?;
+    printer.list(out, &Lines::LostRows(losses))?;
+    printer.line(
+        out,
+        Some(Line::Corrected(turned, touched, losses.len() as u64)),
+    )?;
     printer.end(out)
 }
 

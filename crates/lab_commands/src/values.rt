@@ -2,7 +2,7 @@
 ghost use Rattle.std.specs.Prelude.{◌≡◌, codes, map, IfOk};
 ghost use Rattle.serde_json.specs.Data.{array, no_members, object, put as with_member};
 ghost use Rattle.serde_json.specs.View.{items_of, view};
-ghost use Rattle.lab_commands.specs.Values.{age_data, block_data, count, doubt_data, fit_data, head_data, key_data, line_data, mended_data, merged_data, pages_data, plain_block_data};
+ghost use Rattle.lab_commands.specs.Values.{age_data, block_data, corrected_data, lost_row_data, count, doubt_data, fit_data, head_data, key_data, line_data, mended_data, merged_data, pages_data, plain_block_data};
 ghost use Rattle.lab_commands.specs.Values.{reason_pages_data, reason_table_data, repeated_data, rows_data, text, with_all};
 
 use crate::lines::{Label, Line, Sort, class_text, made_text, says_text};
@@ -214,6 +214,33 @@ fn mended_value(alloc: Global, made: Made, row: u32, bit: u32) -> Result<Value, 
     )
 }
 
+fn lost_row_value(alloc: Global, row: u32, chunks: u32) -> Result<Value, AllocError>
+    ensures { IfOk result (λ v. view v ≡ lost_row_data row chunks) }
+{
+    object_of(
+        alloc,
+        &[
+            Count("chunks", u64::from(chunks)),
+            Text("line", "lost_row"),
+            Count("row", u64::from(row)),
+        ],
+    )
+}
+
+fn corrected_value(alloc: Global, bits: u64, rows: u32, lost: u64) -> Result<Value, AllocError>
+    ensures { IfOk result (λ v. view v ≡ corrected_data bits rows lost) }
+{
+    object_of(
+        alloc,
+        &[
+            Text("line", "corrected"),
+            Count("lost", lost),
+            Count("rows", u64::from(rows)),
+            Count("turned", bits),
+        ],
+    )
+}
+
 // The rows that were asked for.
 fn rows_value(alloc: Global, rows: Rows) -> Result<Value, AllocError>
     ensures { IfOk result (λ v. view v ≡ rows_data rows) }
@@ -313,6 +340,8 @@ pub(crate) fn line_value(alloc: Global, line: Line) -> Result<Value, AllocError>
         Line::Fit(fit) => fit_value(alloc, fit),
         Line::Mended(made, row, bit) => mended_value(alloc, made, row, bit),
         Line::MendedCount(count) => single_value(alloc, "repaired", "mended", count),
+        Line::LostRow(row, chunks) => lost_row_value(alloc, row, chunks),
+        Line::Corrected(bits, rows, lost) => corrected_value(alloc, bits, rows, lost),
         Line::Differ(row) => single_value(alloc, "differ", "row", u64::from(row)),
         Line::Unsound(row) => single_value(alloc, "unsound", "row", u64::from(row)),
         Line::Merged(differ, tally) => merged_value(alloc, differ, tally),

@@ -32,7 +32,7 @@ pub struct GeometryWords<'a> {
     pub showing: Showing,
 }
 
-/// The words of `array GEOM DUMP OUT [--map FILE]`.
+/// The words of `array GEOM DUMP OUT [--map FILE]`, and of `correct`, which has the same.
 #[derive(Clone, Copy)]
 pub struct ArrayWords<'a> {
     pub geometry: &'a str,
@@ -40,7 +40,7 @@ pub struct ArrayWords<'a> {
     pub out: &'a str,
     /// Whether files that are there may be replaced.
     pub force: bool,
-    /// FILE, where the map of the array is wanted.
+    /// FILE, where the map of OUT is wanted.
     pub map: Option<&'a str>,
     pub showing: Showing,
 }
@@ -104,6 +104,8 @@ pub enum Asked<'a> {
     Merge(MergeWords<'a>),
     /// A dump with its pages mended.
     Repair(RepairWords<'a>),
+    /// The dump of a chip's dump with codes.
+    Correct(ArrayWords<'a>),
     /// This text, of help or of the version.
     Text(String),
 }
@@ -236,6 +238,7 @@ fn other_asked<'a>(name: &str, found: &CommandWords<'a>) -> Option<Asked<'a>>
         "survey" => survey_words(found).map(Asked::Survey),
         "compare" => compare_words(found).map(Asked::Compare),
         "repair" => repair_words(found).map(Asked::Repair),
+        "correct" => array_words(found).map(Asked::Correct),
         _ => None,
     }
 }

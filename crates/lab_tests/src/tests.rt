@@ -1,6 +1,7 @@
 //! Runs of whole commands, with files in memory that can fail, and pages of dumps that are mended or picked from readings.
 mod array_rows;
 mod compare_rows;
+mod correct_rows;
 mod dumps;
 mod files;
 mod geometry_rows;

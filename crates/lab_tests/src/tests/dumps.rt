@@ -1,4 +1,5 @@
 //! Dumps, certificates and disk images of a small die: pages of 64 data bytes and 32 spare bytes, 8 pages a block, 32 blocks, 32 sectors.
+use page_code::{encode_page, outer_bytes};
 use page_layout::geometry::Geometry;
 use std::alloc::{AllocError, Global};
 use std::test::Fail;
@@ -24,6 +25,8 @@ pub enum Made {
     Dump(&'static [Written]),
     /// The same with other bytes in these places.
     Changed(&'static [Written], Changes),
+    /// The same, each page with its codes, as it stands on a chip.
+    Coded(&'static [Written], Changes),
     /// The same, with the page of this row of 00h bytes.
     Zeroed(&'static [Written], usize, Changes),
     /// The dump of these pages cut, or made longer by 00h bytes, to so many bytes.
@@ -51,6 +54,40 @@ pub fn changed(
     changes: &[(usize, u8)],
 ) -> Result<Vec<u8>, Fail> {
     let mut bytes = image_of(alloc, geometry, pages)?;
+    for (at, byte) in changes {
+        *bytes.get_mut(*at).ok_or("no such byte")? = *byte;
+    }
+    Ok(bytes)
+}
+
+// A page as it stands on a chip.
+fn code_page(geometry: &Geometry, page: &[u8], outer: &mut [u8]) -> Result<(), Fail> {
+    let body = page.get(..SECTOR).ok_or("no data area")?;
+    let spare = page.get(SECTOR..).ok_or("no spare area")?;
+    if body.len() != geometry.data_bytes() || spare.len() != geometry.spare_bytes() {
+        return Err(Fail::from("other areas"));
+    }
+    if outer.len() != outer_bytes(geometry) {
+        return Err(Fail::from("another room"));
+    }
+    encode_page(geometry, body, spare, outer);
+    Ok(())
+}
+
+fn coded(
+    alloc: Global,
+    geometry: &Geometry,
+    pages: &[Written],
+    changes: Changes,
+) -> Result<Vec<u8>, Fail> {
+    let plain = image_of(alloc, geometry, pages)?;
+    let mut outer = [0; 38];
+    let mut bytes = Vec::new(alloc);
+    for page in plain.chunks(PAGE) {
+        code_page(geometry, page, &mut outer)?;
+        bytes.extend_from_slice(page.get(..SECTOR).ok_or("no data area")?)?;
+        bytes.extend_from_slice(&outer)?;
+    }
     for (at, byte) in changes {
         *bytes.get_mut(*at).ok_or("no such byte")? = *byte;
     }
@@ -107,6 +144,7 @@ pub fn bytes_of(alloc: Global, made: &Made) -> Result<Vec<u8>, Fail> {
         Made::Text(text) => Vec::from_slice(alloc, text.as_bytes())?,
         Made::Dump(pages) => image_of(alloc, &geometry, pages)?,
         Made::Changed(pages, changes) => changed(alloc, &geometry, pages, changes)?,
+        Made::Coded(pages, changes) => coded(alloc, &geometry, pages, changes)?,
         Made::Zeroed(pages, row, changes) => zeroed(alloc, &geometry, pages, *row, changes)?,
         Made::Cut(pages, length) => cut(alloc, &geometry, pages, *length)?,
         Made::Disk(sectors) => disk(alloc, sectors)?,

@@ -1,0 +1,4 @@
+pub mod ChipLemmas
+pub mod TakenLemmas
+pub mod DoneLemmas
+pub mod MapLemmas

@@ -1,0 +1,17 @@
+//! A dump of a chip's pages with their codes, made into the dump of the pages without them, in one pass.
+//!
+//! - `correct_dump`: each chunk of which one bit is wrong has it turned back; a chunk that is near to none with its code is lost, and stands as it
+//!   was read. How many bits were turned back is counted, and each row with a lost chunk is named.
+//! - `print_losses`: the map of what was lost, as the mapfile of GNU ddrescue says it.
+
+#![tactic(auto)]
+
+mod correct;
+mod correcting;
+mod laws;
+mod map;
+
+pub use correct::{Corrected, correct_dump};
+pub use correcting::{Correcting, Loss};
+pub use laws::corrected_law;
+pub use map::print_losses;
