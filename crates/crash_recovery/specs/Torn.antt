@@ -18,6 +18,10 @@ pub record IsTorn (g : Geometry) (image : Image) (block : ℕ) : Type 0 where
   pub shows : class g image block ≡ 5
   pub unnamed : table_class g image block ≢ 2
 
+-- no block below one is torn
+abbrev pub NoneTorn : Geometry → Image → (below : ℕ) → Type 0
+NoneTorn g image below = (block : ℕ) → block < below → ¬ IsTorn g image block
+
 -- its first page that is not sound, which in a block that shows bad is torn or missing
 pub record IsFirstUnsound (g : Geometry) (image : Image) (block page : ℕ) : Type 0 where
   pub within : page < g.pages

@@ -2,6 +2,7 @@
 //! costs a block.
 //!
 //! - `recover`: what is done to a store that is opened to write: `cut_back`, or else `erase_dead`.
+//! - `shows_torn`: whether a die that was mounted is to be recovered at all.
 //! - `cut_back`: cuts back each block that a crash left torn.
 //! - `erase_dead`: erases again each block whose erase a crash cut short.
 //! - `laws`: what the taking of pages comes to, proved.
@@ -15,8 +16,10 @@ mod fault;
 pub mod laws;
 mod look;
 mod recovery;
+mod shown;
 
 pub use cut::cut_back;
 pub use dead::erase_dead;
 pub use fault::RecoveryFault;
 pub use recovery::recover;
+pub use shown::shows_torn;

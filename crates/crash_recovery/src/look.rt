@@ -17,10 +17,10 @@ use page_layout::record::{Record, read_record};
 use page_layout::word::read_word;
 
 // The class of a grown bad block in a certificate.
-const SHOWN_BAD: u8 = 5;
+pub(crate) const SHOWN_BAD: u8 = 5;
 
 // The same in a table page.
-const NAMED_GROWN: u32 = 2;
+pub(crate) const NAMED_GROWN: u32 = 2;
 
 // The record of a row's page.
 fn record_at<S: Store>(

@@ -14,7 +14,7 @@ use page_layout::geometry::Geometry;
 use std::alloc::Global;
 
 // Whether a certificate is of this geometry.
-fn is_of(certificate: &Certificate, geometry: &Geometry) -> bool
+pub(crate) fn is_of(certificate: &Certificate, geometry: &Geometry) -> bool
     ensures yes { result ≡ true → (certificate.now.sizes ≡ sizes_of geometry.now) × IsCertificateOf geometry.now certificate.now }
     ensures no { result ≡ false → certificate.now.sizes ≢ sizes_of geometry.now }
 {

@@ -3,6 +3,7 @@ pub mod MakeLemmas
 pub mod ShapeLemmas
 pub mod SizeLemmas
 pub mod ShapeTextLemmas
+pub mod MarkLemmas
 pub mod CreateLemmas
 pub mod OpeningLemmas
 pub mod ProgramLemmas

@@ -5,6 +5,8 @@ pub mod Sizes
 pub mod Shapes
 pub mod ShapeWords
 pub mod ShapeText
+-- the mark beside it
+pub mod Mark
 -- the commands
 pub mod Asked
 pub mod Created

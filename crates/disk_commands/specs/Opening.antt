@@ -3,6 +3,7 @@ use Rattle.std.specs.Prelude.{◌≡◌, ◌⊎◌, ℕ, Bool, true, List}
 use Rattle.std.specs.Borrow.{Bor}
 use Rattle.file_die.specs.Store.{Held}
 use Rattle.disk_commands.specs.declared.shapes.Shape.{Shape}
+use Rattle.disk_commands.specs.declared.shape_text.DiskText.{DiskText}
 use Rattle.disk_commands.specs.ShapeText.{IsNoShape, IsShapeText}
 use Rattle.disk_server.specs.Stopped.{IsUnopenedLater}
 use Rattle.disk_commands.specs.declared.files.FileFault.{FileFault}
@@ -56,7 +57,9 @@ IsNotFree a path told = IsFaultAt a path 0 told
 pub record IsShapeAt (a : Answers) (path : List ℕ) (s : Shape) : Type 0 where
   pub text : List ℕ
   pub tells : a.tells path text
-  pub says : IsShapeText text s
+  pub told : DiskText
+  pub says : IsShapeText text told
+  pub is : told.shape ≡ s
 
 -- that file could not be read, or it tells none
 abbrev pub IsShapeFault : Answers → List ℕ → DiskFault → Type 0

@@ -1,13 +1,14 @@
--- The file beside a disk: one JSON object with three members, and a line feed.
-use Rattle.std.specs.Prelude.{◌≡◌, ◌≢◌, ℕ, ◌≤◌, ◌==◌, if◌then◌else◌, List, [], ◌∷◌, ◌++◌, codes, Option, Some, None, option_map, IsUtf8, decimal}
+-- The file beside a disk: one JSON object with the members of its version, and a line feed.
+use Rattle.std.specs.Prelude.{◌≡◌, ◌≢◌, ◌⊎◌, ℕ, ◌≤◌, ◌==◌, Bool, true, false, if◌then◌else◌, List, [], ◌∷◌, ◌++◌, codes, Option, Some, None, option_map, IsUtf8, decimal}
 use Rattle.std.specs.Option.{option_and_then}
-use Rattle.serde_json.specs.Data.{Data, no_members, member, number, object, string, unsigned}
+use Rattle.serde_json.specs.Data.{Data, boolean, no_members, member, number, object, string, unsigned}
 use Rattle.serde_json.specs.Events.{members_len}
-use Rattle.serde_json.specs.Find.{as_number, as_object, as_str, as_u64, get}
+use Rattle.serde_json.specs.Find.{as_bool, as_number, as_object, as_str, as_u64, get}
 use Rattle.serde_json.specs.Read.{read}
 use Rattle.serde_json.specs.Written.{compact_text}
 use Rattle.page_layout.specs.declared.geometry.Geometry.{Geometry}
 use Rattle.disk_commands.specs.declared.shapes.Shape.{Shape}
+use Rattle.disk_commands.specs.declared.shape_text.DiskText.{DiskText}
 use Rattle.disk_commands.specs.declared.shape_text.Member as declared
 use Rattle.disk_commands.specs.declared.shape_text.Member.TheVariants as name
 use Rattle.disk_commands.specs.declared.shape_text.ShapeFault.{ShapeFault}
@@ -23,13 +24,15 @@ abbrev pub geometry_words : Geometry → List ℕ
 geometry_words g =
     decimal g.data_bytes ++ (codes "," ++ (decimal g.spare_bytes ++ (codes "," ++ (decimal g.pages ++ (codes "," ++ (decimal g.blocks ++ (codes "," ++ decimal g.sectors)))))))
 
-abbrev pub shape_data : Shape → Data
-shape_data s =
-    object (member (codes "cache") (number (unsigned s.cache)) (member (codes "geometry") (string (geometry_words s.geometry)) (member (codes "version") (number (unsigned 1)) no_members)))
+-- version 2: no code, no sector waits, and whether a list of lost sectors stands beside it
+abbrev pub shape_data : Shape → (lost : Bool) → Data
+shape_data s lost =
+    object (member (codes "cache") (number (unsigned s.cache)) (member (codes "code") (string (codes "none")) (member (codes "geometry") (string (geometry_words s.geometry))
+    (member (codes "lost") (boolean lost) (member (codes "share") (number (unsigned 0)) (member (codes "version") (number (unsigned 2)) no_members))))))
 
 -- the object with no space, and a line feed
-abbrev pub shape_text : Shape → List ℕ
-shape_text s = compact_text (shape_data s) ++ (10 ∷ [])
+abbrev pub shape_text : Shape → (lost : Bool) → List ℕ
+shape_text s lost = compact_text (shape_data s lost) ++ (10 ∷ [])
 
 -- ---- what is read
 
@@ -41,15 +44,25 @@ without_feed (c ∷ d ∷ cs) = c ∷ without_feed (d ∷ cs)
 
 abbrev pub member_words : declared.Member → List ℕ
 member_words name.Cache = codes "cache"
+member_words name.Code = codes "code"
 member_words name.Geometry = codes "geometry"
+member_words name.Lost = codes "lost"
+member_words name.Share = codes "share"
 member_words name.Version = codes "version"
 
--- a member's number of 64 bits, and a member's string
+-- a member's number of 64 bits, a member's string, and a member that is true or false
 abbrev pub number_at : declared.Member → Data → Option ℕ
 number_at m d = option_and_then as_u64 (option_and_then as_number (get (member_words m) d))
 
 abbrev pub text_at : declared.Member → Data → Option (List ℕ)
 text_at m d = option_and_then as_str (get (member_words m) d)
+
+abbrev pub flag_at : declared.Member → Data → Option Bool
+flag_at m d = option_and_then as_bool (get (member_words m) d)
+
+-- the members that are strings
+abbrev pub IsTextMember : declared.Member → Type 0
+IsTextMember m = (m ≡ name.Geometry) ⊎ (m ≡ name.Code)
 
 -- how many members an object has
 abbrev pub size_of : Data → Option ℕ
@@ -66,19 +79,44 @@ HasBadGeometry d why = (word : List ℕ) × (text_at name.Geometry d ≡ Some wo
 abbrev pub IsWithin : ℕ → Type 0
 IsWithin cache = (1 ≤ cache) × (cache ≤ 65536)
 
--- an object with the three members and no other, which say this shape
+-- its members say this shape
 pub record TellsShape (d : Data) (s : Shape) : Type 0 where
-  pub version : number_at name.Version d ≡ Some 1
   pub cache : number_at name.Cache d ≡ Some s.cache
   pub within : IsWithin s.cache
   pub geometry : IsGeometryTold d s.geometry
-  pub alone : size_of d ≡ Some 3
+
+-- those that version 1 lacks say that there is no code and no sector waits, and whether a list of lost sectors stands beside the disk
+pub record TellsLost (d : Data) (lost : Bool) : Type 0 where
+  pub no_code : text_at name.Code d ≡ Some (codes "none")
+  pub list : flag_at name.Lost d ≡ Some lost
+  pub none_waits : number_at name.Share d ≡ Some 0
+
+-- by whether it is of version 2: its number, and how many members it has
+abbrev pub version_of : (second : Bool) → ℕ
+version_of false = 1
+version_of true = 2
+
+abbrev pub members_of : (second : Bool) → ℕ
+members_of false = 3
+members_of true = 6
+
+-- version 1 knows no list
+abbrev pub TellsLostBy : (second : Bool) → Data → (lost : Bool) → Type 0
+TellsLostBy false d lost = lost ≡ false
+TellsLostBy true d lost = TellsLost d lost
+
+-- AN OBJECT WITH THE MEMBERS OF ITS VERSION AND NO OTHER, which say this. A mark counts from version 2 on
+pub record TellsText (d : Data) (t : DiskText) : Type 0 where
+  pub version : number_at name.Version d ≡ Some (version_of t.marked)
+  pub shape : TellsShape d t.shape
+  pub later : TellsLostBy t.marked d t.lost
+  pub alone : size_of d ≡ Some (members_of t.marked)
 
 -- the text is such an object
-pub record IsShapeText (text : List ℕ) (s : Shape) : Type 0 where
+pub record IsShapeText (text : List ℕ) (t : DiskText) : Type 0 where
   pub body : Data
   pub reads : read (without_feed text) ≡ Some body
-  pub tells : TellsShape body s
+  pub tells : TellsText body t
 
 -- ---- why it is none
 
@@ -88,7 +126,10 @@ LacksMember d m = get (member_words m) d ≡ None
 
 abbrev pub HasOther : Data → declared.Member → Type 0
 HasOther d name.Cache = number_at name.Cache d ≡ None
+HasOther d name.Code = text_at name.Code d ≡ None
 HasOther d name.Geometry = text_at name.Geometry d ≡ None
+HasOther d name.Lost = flag_at name.Lost d ≡ None
+HasOther d name.Share = number_at name.Share d ≡ None
 HasOther d name.Version = number_at name.Version d ≡ None
 
 -- what is wrong with the value
@@ -97,11 +138,13 @@ TellsNone d fault.NotJson = ⊥
 TellsNone d fault.NotObject = as_object d ≡ None
 TellsNone d (fault.Missing m) = LacksMember d m
 TellsNone d (fault.WrongType m) = HasOther d m
-TellsNone d fault.Unknown = (size : ℕ) × (size_of d ≡ Some size) × (size ≢ 3)
-TellsNone d fault.Version = (version : ℕ) × (number_at name.Version d ≡ Some version) × (version ≢ 1)
+TellsNone d fault.Unknown = (second : Bool) × (number_at name.Version d ≡ Some (version_of second)) × ((size : ℕ) × (size_of d ≡ Some size) × (size ≢ members_of second))
+TellsNone d fault.Version = (version : ℕ) × (number_at name.Version d ≡ Some version) × (version ≢ 1) × (version ≢ 2)
 TellsNone d fault.BadGeometry = HasBadGeometry d word.NoNumbers
 TellsNone d (fault.Geometry limit) = HasBadGeometry d (word.Limit limit)
 TellsNone d fault.CacheRange = (cache : ℕ) × (number_at name.Cache d ≡ Some cache) × (¬ IsWithin cache)
+TellsNone d fault.Code = (code : List ℕ) × (text_at name.Code d ≡ Some code) × (code ≢ codes "none")
+TellsNone d (fault.Share share) = (number_at name.Share d ≡ Some share) × (share ≢ 0)
 TellsNone d fault.OutOfMemory = ⊥
 
 -- what is wrong with the text; a growth may have been refused whatever it says

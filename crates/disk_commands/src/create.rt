@@ -1,5 +1,5 @@
 //! The command `create`: a new disk, of a size, of a geometry, or from a dump.
-ghost use Rattle.std.specs.Prelude.{◌≡◌, ◌≤◌, true, IfOk, IfErr, OnOk, OnErr};
+ghost use Rattle.std.specs.Prelude.{◌≡◌, ◌≤◌, true, false, IfOk, IfErr, OnOk, OnErr};
 ghost use Rattle.disk_commands.specs.ShapeText.{IsWithin, shape_text};
 ghost use Rattle.disk_commands.specs.Created.{HasCreated, IsDieFor, IsDieOf, IsNewDie, IsNoDump, IsUncreated, IsUnformatted, IsUnkept, IsUnmadeFor, Mounts};
 ghost use Rattle.disk_server.specs.Opened.{IsUnopened};
@@ -127,12 +127,12 @@ fn put<'a, F: DiskFiles>(
     shape: &Shape,
     store: F::Store,
 ) -> Result<(), DiskFault<'a>>
-    ensures ok { OnOk result (F.kept files.new ≡ with_kept (F.kept files.old) (record { path = path.now; held = F.Store.held store; text = shape_text shape.now })) }
+    ensures ok { OnOk result (F.kept files.new ≡ with_kept (F.kept files.old) (record { path = path.now; held = F.Store.held store; text = shape_text shape.now false })) }
     ensures fault { IfErr result (IsUnkept (F.answers files.old) path.now) }
     ensures kept { OnErr result (F.kept files.new ≡ F.kept files.old) }
     ensures opened { F.opened files.new ≡ F.opened files.old }
 {
-    let Ok(text) = write_shape(alloc, shape) else {
+    let Ok(text) = write_shape(alloc, shape, false) else {
         files.discard(path);
         return Err(DiskFault::OutOfMemory);
     };

@@ -3,8 +3,9 @@
 //! - `run`: does what the words say.
 //! - `DiskFiles`: the files that the words name, those of the system or some in memory.
 //! - `parse`: what the words of the command line mean, as `clap` reads them. No file is looked at, and no number is read.
-//! - `Shape`, `read_shape`, `write_shape`: the geometry of a disk's die and the entries of its device's cache, and the file beside the disk that tells them;
+//! - `Shape`, `read_shape`, `write_shape`: the geometry of a disk's die and the entries of its device's cache, and the file beside the disk that tells them (`DiskText`);
 //!   `size_from`, `geometry_from`: a size and a geometry as words write them; `shape_for`: the shape for a size.
+//! - `mark_bytes`, `mark_of`: the file beside a disk that tells up to which sequence all was synced.
 //! - `shape_of`, `Info`, `DiskFault`: the shape that `create` is asked for, what `info` tells, why a command was not done.
 //!
 //! All of it is this project's.
@@ -15,6 +16,7 @@ mod create;
 mod files;
 mod grammar;
 mod info;
+mod mark;
 mod opening;
 mod printed;
 mod program;
@@ -28,11 +30,12 @@ mod words;
 
 pub use asked::shape_of;
 pub use files::{DiskFiles, FileFault};
+pub use mark::{NO_MARK, mark_bytes, mark_laws, mark_of};
 pub use opening::die_bytes;
 pub use printed::{Form, Info};
 pub use program::run;
 pub use program_words::WordsFault;
-pub use shape_text::{Member, ShapeFault, read_shape, write_shape};
+pub use shape_text::{DiskText, Member, ShapeFault, read_shape, write_shape};
 pub use shape_words::{GeometryWordFault, geometry_from};
 pub use shapes::{Shape, SizeFault, cache_for, shape_for};
 pub use sizes::size_from;

@@ -61,7 +61,7 @@ pub(crate) fn shape_at<'a, F: DiskFiles>(
         Err(fault) => return Err(told_at(fault, path, 0)),
     };
     match read_shape(alloc, &text) {
-        Ok(shape) => Ok(shape),
+        Ok(told) => Ok(told.shape),
         Err(fault) => Err(DiskFault::Shape(path, fault)),
     }
 }

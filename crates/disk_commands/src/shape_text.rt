@@ -1,8 +1,8 @@
 //! The file beside a disk, which tells its shape.
-ghost use Rattle.std.specs.Prelude.{◌≡◌, ◌≢◌, Some, IfOk, IfErr, OnOk, string_bytes};
+ghost use Rattle.std.specs.Prelude.{◌≡◌, ◌≢◌, Some, IfOk, IfErr, OnOk, codes, string_bytes};
 ghost use Rattle.serde_json.specs.View.{view};
 ghost use Rattle.disk_commands.specs.declared.shape_text.Member.{Member};
-ghost use Rattle.disk_commands.specs.ShapeText.{IsGeometryTold, IsNoShape, IsShapeText, IsWithin, TellsNone, TellsShape, geometry_words, number_at, shape_data, shape_text, size_of, without_feed};
+ghost use Rattle.disk_commands.specs.ShapeText.{IsGeometryTold, IsNoShape, IsShapeText, IsTextMember, IsWithin, TellsLost, TellsNone, TellsShape, TellsText, flag_at, geometry_words, number_at, shape_data, shape_text, members_of, size_of, text_at, version_of, without_feed};
 
 use crate::shape_words::{GeometryText, GeometryWordFault, geometry_from};
 use crate::shapes::Shape;
@@ -13,14 +13,31 @@ use std::alloc::{AllocError, Global};
 use std::error::Error;
 use std::fmt;
 
+/// What the file beside a disk tells. (This project's.)
+#[derive(Clone, Copy, Debug, PartialEq, Eq)]
+pub struct DiskText {
+    /// The shape of the disk.
+    pub shape: Shape,
+    /// Whether the mark beside the disk counts: a program that knows version 1 alone writes none.
+    pub marked: bool,
+    /// Whether a list of lost sectors stands beside the disk.
+    pub lost: bool,
+}
+
 /// A member of the object in the file beside a disk.
 #[derive(Clone, Copy, Debug, PartialEq, Eq)]
 pub enum Member {
     /// The entries of the cache, a number.
     Cache,
+    /// The code of the pages, a string: `none`. Version 1 has no such member.
+    Code,
     /// The geometry, a string: the word GEOM of `nandctl`.
     Geometry,
-    /// The version of the file, the number 1.
+    /// Whether a list of lost sectors stands beside the disk, `true` or `false`. Version 1 has no such member.
+    Lost,
+    /// How many moved sectors may wait for each translation page in the mean, the number 0. Version 1 has no such member.
+    Share,
+    /// The version of the file, the number 1 or 2.
     Version,
 }
 
@@ -34,7 +51,10 @@ impl Member {
     {
         match self {
             Member::Cache => "cache",
+            Member::Code => "code",
             Member::Geometry => "geometry",
+            Member::Lost => "lost",
+            Member::Share => "share",
             Member::Version => "version",
         }
     }
@@ -53,7 +73,7 @@ pub enum ShapeFault {
     WrongType(Member),
     /// The object has a member more.
     Unknown,
-    /// The version is not 1.
+    /// The version is neither 1 nor 2.
     Version,
     /// The geometry is not five numbers with four commas.
     BadGeometry,
@@ -61,6 +81,10 @@ pub enum ShapeFault {
     Geometry(GeometryFault),
     /// The cache has not from 1 to 65,536 entries.
     CacheRange,
+    /// The pages have a code, which this program does not read.
+    Code,
+    /// So many moved sectors may wait for each translation page, and not 0.
+    Share(u64),
     /// A growth was refused.
     OutOfMemory,
 }
@@ -88,6 +112,8 @@ impl fmt::Display for ShapeFault {
                 told(f, "the geometry breaks a limit: ", limit(fault))
             }
             ShapeFault::CacheRange => f.write_str("the cache has not from 1 to 65536 entries"),
+            ShapeFault::Code => f.write_str("the code is not none"),
+            ShapeFault::Share(share) => write!(f, "the share is {share} and not 0"),
             ShapeFault::OutOfMemory => f.write_str("out of memory"),
         }
     }
@@ -100,21 +126,21 @@ fn geometry_word(alloc: Global, geometry: &Geometry) -> Result<String, AllocErro
     format!(in alloc; "{}", GeometryText(geometry))
 }
 
-fn shape_value(alloc: Global, shape: &Shape) -> Result<Value, AllocError>
-    ensures { IfOk result (λ value. view value ≡ shape_data shape.now) }
+fn shape_value(alloc: Global, shape: &Shape, lost: bool) -> Result<Value, AllocError>
+    ensures { IfOk result (λ value. view value ≡ shape_data shape.now lost) }
 {
     let word = geometry_word(alloc, &shape.geometry)?;
     let (cache, geometry) = (u64::from(shape.cache), word.as_str());
-    json!(in alloc; {"cache": cache, "geometry": geometry, "version": 1u64})
+    json!(in alloc; {"cache": cache, "code": "none", "geometry": geometry, "lost": lost, "share": 0u64, "version": 2u64})
 }
 
-/// The text of the file beside a disk of this shape: one JSON object and a line feed.
+/// The text of the file beside a disk of this shape, in version 2: one JSON object and a line feed. With `lost` it says that a list of lost sectors stands beside the disk.
 ///
 /// (The form is this project's.)
-pub fn write_shape(alloc: Global, shape: &Shape) -> Result<String, AllocError>
-    ensures { IfOk result (λ text. string_bytes text ≡ shape_text shape.now) }
+pub fn write_shape(alloc: Global, shape: &Shape, lost: bool) -> Result<String, AllocError>
+    ensures { IfOk result (λ text. string_bytes text ≡ shape_text shape.now lost) }
 {
-    let mut text = shape_value(alloc, shape)?.to_string(alloc)?;
+    let mut text = shape_value(alloc, shape, lost)?.to_string(alloc)?;
     text.push('\n')?;
     Ok(text)
 }
@@ -131,7 +157,7 @@ fn without_line_feed(text: &[u8]) -> &[u8]
 
 // The number of a member.
 fn number(value: &Value, member: Member) -> Result<u64, ShapeFault>
-    requires { member ≢ Member.Geometry }
+    requires { (member ≢ Member.Geometry) × ((member ≢ Member.Code) × (member ≢ Member.Lost)) }
     ensures ok { IfOk result (λ n. number_at member (view value.now) ≡ Some n) }
     ensures fault { IfErr result (TellsNone (view value.now)) }
 {
@@ -144,17 +170,27 @@ fn number(value: &Value, member: Member) -> Result<u64, ShapeFault>
     }
 }
 
+// The string of a member.
+fn word<'a>(value: &'a Value, member: Member) -> Result<&'a str, ShapeFault>
+    requires { IsTextMember member }
+    ensures ok { IfOk result (λ word. text_at member (view value.now) ≡ Some word.now) }
+    ensures fault { IfErr result (TellsNone (view value.now)) }
+{
+    let Some(found) = value.get(member.name()) else {
+        return Err(ShapeFault::Missing(member));
+    };
+    match found.as_str() {
+        Some(word) => Ok(word),
+        None => Err(ShapeFault::WrongType(member)),
+    }
+}
+
 // The geometry of an object.
 fn geometry_told(value: &Value) -> Result<Geometry, ShapeFault>
     ensures ok { IfOk result (IsGeometryTold (view value.now)) }
     ensures fault { IfErr result (TellsNone (view value.now)) }
 {
-    let Some(found) = value.get(Member::Geometry.name()) else {
-        return Err(ShapeFault::Missing(Member::Geometry));
-    };
-    let Some(word) = found.as_str() else {
-        return Err(ShapeFault::WrongType(Member::Geometry));
-    };
+    let word = word(value, Member::Geometry)?;
     match geometry_from(word) {
         Ok(geometry) => Ok(geometry),
         Err(GeometryWordFault::NoNumbers) => Err(ShapeFault::BadGeometry),
@@ -174,26 +210,83 @@ fn cache_told(value: &Value) -> Result<u32, ShapeFault>
     Ok(cache as u32)
 }
 
-// That an object is of version 1.
-fn require_version(value: &Value) -> Result<(), ShapeFault>
-    ensures ok { OnOk result (number_at Member.Version (view value.now) ≡ Some 1) }
+// Whether an object is of version 2, and not of version 1.
+fn is_second(value: &Value) -> Result<bool, ShapeFault>
+    ensures ok { IfOk result (λ second. number_at Member.Version (view value.now) ≡ Some (version_of second)) }
     ensures fault { IfErr result (TellsNone (view value.now)) }
 {
-    if number(value, Member::Version)? == 1 {
-        Ok(())
-    } else {
-        Err(ShapeFault::Version)
+    match number(value, Member::Version)? {
+        1 => Ok(false),
+        2 => Ok(true),
+        _ => Err(ShapeFault::Version),
     }
 }
 
-// That a value is an object of three members.
-fn require_alone(value: &Value) -> Result<(), ShapeFault>
-    ensures ok { OnOk result (size_of (view value.now) ≡ Some 3) }
+// That the pages have no code.
+fn require_no_code(value: &Value) -> Result<(), ShapeFault>
+    ensures ok { OnOk result (text_at Member.Code (view value.now) ≡ Some (codes "none")) }
     ensures fault { IfErr result (TellsNone (view value.now)) }
 {
+    if word(value, Member::Code)? == "none" {
+        Ok(())
+    } else {
+        Err(ShapeFault::Code)
+    }
+}
+
+// Whether a list of lost sectors stands beside the disk.
+fn lost_told(value: &Value) -> Result<bool, ShapeFault>
+    ensures ok { IfOk result (λ lost. flag_at Member.Lost (view value.now) ≡ Some lost) }
+    ensures fault { IfErr result (TellsNone (view value.now)) }
+{
+    let Some(found) = value.get(Member::Lost.name()) else {
+        return Err(ShapeFault::Missing(Member::Lost));
+    };
+    match found.as_bool() {
+        Some(lost) => Ok(lost),
+        None => Err(ShapeFault::WrongType(Member::Lost)),
+    }
+}
+
+// That no moved sector waits for its translation page.
+fn require_no_share(value: &Value) -> Result<(), ShapeFault>
+    ensures ok { OnOk result (number_at Member.Share (view value.now) ≡ Some 0) }
+    ensures fault { IfErr result (TellsNone (view value.now)) }
+{
+    match number(value, Member::Share)? {
+        0 => Ok(()),
+        share => Err(ShapeFault::Share(share)),
+    }
+}
+
+// What the members that version 1 lacks tell: whether a list of lost sectors stands beside the disk.
+fn later_told(value: &Value) -> Result<bool, ShapeFault>
+    ensures ok { IfOk result (TellsLost (view value.now)) }
+    ensures fault { IfErr result (TellsNone (view value.now)) }
+{
+    require_no_code(value)?;
+    let lost = lost_told(value)?;
+    require_no_share(value)?;
+    Ok(lost)
+}
+
+// How many members an object of the version has.
+fn members_wanted(second: bool) -> usize
+    ensures { result ≡ members_of second }
+{
+    if second { 6 } else { 3 }
+}
+
+// That a value is an object of so many members.
+fn require_alone(value: &Value, second: bool) -> Result<(), ShapeFault>
+    requires version { number_at Member.Version (view value.now) ≡ Some (version_of second) }
+    ensures ok { OnOk result (size_of (view value.now) ≡ Some (members_of second)) }
+    ensures fault { IfErr result (TellsNone (view value.now)) }
+{
+    let wanted = members_wanted(second);
     match value.as_object() {
         None => Err(ShapeFault::NotObject),
-        Some(members) if members.len() != 3 => Err(ShapeFault::Unknown),
+        Some(members) if members.len() != wanted => Err(ShapeFault::Unknown),
         Some(_) => Ok(()),
     }
 }
@@ -203,30 +296,44 @@ fn shape_told(value: &Value) -> Result<Shape, ShapeFault>
     ensures ok { IfOk result (TellsShape (view value.now)) }
     ensures fault { IfErr result (TellsNone (view value.now)) }
 {
-    if value.as_object().is_none() {
-        return Err(ShapeFault::NotObject);
-    }
-    require_version(value)?;
     let cache = cache_told(value)?;
     let geometry = geometry_told(value)?;
-    require_alone(value)?;
     Ok(Shape { geometry, cache })
 }
 
-/// The shape that the bytes of the file beside a disk tell: one JSON object with the three members and no other, and a line feed behind it or none.
+// What a value tells.
+fn text_told(value: &Value) -> Result<DiskText, ShapeFault>
+    ensures ok { IfOk result (TellsText (view value.now)) }
+    ensures fault { IfErr result (TellsNone (view value.now)) }
+{
+    if value.as_object().is_none() {
+        return Err(ShapeFault::NotObject);
+    }
+    let second = is_second(value)?;
+    let shape = shape_told(value)?;
+    let lost = second && later_told(value)?;
+    require_alone(value, second)?;
+    Ok(DiskText {
+        shape,
+        marked: second,
+        lost,
+    })
+}
+
+/// What the bytes of the file beside a disk tell: one JSON object with the members of its version and no other, and a line feed behind it or none.
 ///
 /// # Errors
 ///
-/// As [`ShapeFault`] says. Of several causes it tells the first in this order: no JSON, no object, the version, the cache, the geometry, another
-/// member. `OutOfMemory` where a growth was refused.
+/// As [`ShapeFault`] says. Of several causes it tells the first in this order: no JSON, no object, the version, the cache, the geometry; of version 2 the code, whether
+/// sectors are lost, the share; another member. `OutOfMemory` where a growth was refused.
 ///
 /// (The form is this project's.)
-pub fn read_shape(alloc: Global, bytes: &[u8]) -> Result<Shape, ShapeFault>
+pub fn read_shape(alloc: Global, bytes: &[u8]) -> Result<DiskText, ShapeFault>
     ensures ok { IfOk result (IsShapeText bytes.now) }
     ensures fault { IfErr result (IsNoShape bytes.now) }
 {
     match Value::from_slice(alloc, without_line_feed(bytes)) {
-        Ok(value) => shape_told(&value),
+        Ok(value) => text_told(&value),
         Err(error) if error.is_memory() => Err(ShapeFault::OutOfMemory),
         Err(_) => Err(ShapeFault::NotJson),
     }

@@ -1,62 +1,92 @@
 //! The file beside a disk, written and read.
-use disk_commands::{Member, ShapeFault, read_shape, shape_for, write_shape};
+use disk_commands::{DiskText, Member, ShapeFault, read_shape, shape_for, write_shape};
 use page_layout::geometry::GeometryFault;
 use std::alloc::Global;
 use std::process::Abort;
 use std::test::*;
 
-// A size, and the text of its shape.
-const TEXTS: &[(u64, &str)] = &[
+// A size, whether sectors are lost, and the text of its shape.
+const TEXTS: &[(u64, bool, &str)] = &[
     (
         1,
-        "{\"cache\":64,\"geometry\":\"4096,128,64,13,1\",\"version\":1}\n",
+        false,
+        "{\"cache\":64,\"code\":\"none\",\"geometry\":\"4096,128,64,13,1\",\"lost\":false,\"share\":0,\"version\":2}\n",
     ),
     (
         509_349_888,
-        "{\"cache\":57344,\"geometry\":\"4096,128,64,4095,124353\",\"version\":1}\n",
+        true,
+        "{\"cache\":57344,\"code\":\"none\",\"geometry\":\"4096,128,64,4095,124353\",\"lost\":true,\"share\":0,\"version\":2}\n",
     ),
     (
         2_037_469_184,
-        "{\"cache\":57344,\"geometry\":\"4096,128,256,4095,497429\",\"version\":1}\n",
+        false,
+        "{\"cache\":57344,\"code\":\"none\",\"geometry\":\"4096,128,256,4095,497429\",\"lost\":false,\"share\":0,\"version\":2}\n",
     ),
 ];
 
 // Whether the text of the shape for a size is this, and tells that shape.
-fn goes_round(alloc: Global, bytes: u64, wanted: &str) -> bool {
+fn goes_round(alloc: Global, bytes: u64, lost: bool, wanted: &str) -> bool {
     let Ok(shape) = shape_for(bytes) else {
         return false;
     };
-    let Ok(text) = write_shape(alloc, &shape) else {
+    let Ok(text) = write_shape(alloc, &shape, lost) else {
         return false;
     };
-    text.as_str() == wanted && read_shape(alloc, text.as_bytes()) == Ok(shape)
+    let told = DiskText {
+        shape,
+        marked: true,
+        lost,
+    };
+    text.as_str() == wanted && read_shape(alloc, text.as_bytes()) == Ok(told)
 }
 
 #[test]
 fn shapes_are_written_and_read(rt: HostRuntime) {
-    for (bytes, text) in TEXTS {
-        assert!(rt; goes_round(rt.alloc(), *bytes, text), "{text}");
+    for (bytes, lost, text) in TEXTS {
+        assert!(rt; goes_round(rt.alloc(), *bytes, *lost, text), "{text}");
     }
 }
 
-// Other texts of the small shape.
-const SAME: &[&str] = &[
-    "{\"cache\":64,\"geometry\":\"4096,128,64,13,1\",\"version\":1}",
-    " { \"version\" : 1,\n\"geometry\":\"04096,128,64,13,1\", \"cache\": 64 } \n\n",
-    "{\"cache\":1,\"version\":1,\"geometry\":\"4096,128,64,13,1\",\"cache\":64}",
+// Other texts of the small shape, and whether each is of version 2.
+const SAME: &[(bool, &str)] = &[
+    (
+        false,
+        "{\"cache\":64,\"geometry\":\"4096,128,64,13,1\",\"version\":1}\n",
+    ),
+    (
+        false,
+        "{\"cache\":64,\"geometry\":\"4096,128,64,13,1\",\"version\":1}",
+    ),
+    (
+        false,
+        " { \"version\" : 1,\n\"geometry\":\"04096,128,64,13,1\", \"cache\": 64 } \n\n",
+    ),
+    (
+        false,
+        "{\"cache\":1,\"version\":1,\"geometry\":\"4096,128,64,13,1\",\"cache\":64}",
+    ),
+    (
+        true,
+        "{\"version\":2,\"share\":0,\"lost\":false,\"geometry\":\"4096,128,64,13,1\",\"code\":\"none\",\"cache\":64}",
+    ),
 ];
 
-fn is_small(alloc: Global, text: &str) -> bool {
+fn is_small(alloc: Global, marked: bool, text: &str) -> bool {
     match shape_for(1) {
-        Ok(shape) => read_shape(alloc, text.as_bytes()) == Ok(shape),
+        Ok(shape) => read_shape(alloc, text.as_bytes())
+            == Ok(DiskText {
+                shape,
+                marked,
+                lost: false,
+            }),
         Err(_) => false,
     }
 }
 
 #[test]
 fn other_texts_of_a_shape(rt: HostRuntime) {
-    for text in SAME {
-        assert!(rt; is_small(rt.alloc(), text), "{text}");
+    for (marked, text) in SAME {
+        assert!(rt; is_small(rt.alloc(), *marked, text), "{text}");
     }
 }
 
@@ -83,7 +113,9 @@ const FAULTS: &[(&[u8], ShapeFault)] = &[
         b"{\"version\":1,\"cache\":64,\"geometry\":1}",
         ShapeFault::WrongType(Member::Geometry),
     ),
-    (b"{\"version\":2}", ShapeFault::Version),
+    (b"{\"version\":0}", ShapeFault::Version),
+    (b"{\"version\":3}", ShapeFault::Version),
+    (b"{\"version\":2}", ShapeFault::Missing(Member::Cache)),
     (b"{\"version\":1,\"cache\":0}", ShapeFault::CacheRange),
     (b"{\"version\":1,\"cache\":65537}", ShapeFault::CacheRange),
     (
@@ -100,6 +132,42 @@ const FAULTS: &[(&[u8], ShapeFault)] = &[
     ),
     (
         b"{\"cache\":64,\"geometry\":\"4096,128,64,13,1\",\"name\":\"\",\"version\":1}",
+        ShapeFault::Unknown,
+    ),
+    (
+        b"{\"cache\":64,\"geometry\":\"4096,128,64,13,1\",\"version\":2}",
+        ShapeFault::Missing(Member::Code),
+    ),
+    (
+        b"{\"cache\":64,\"code\":0,\"geometry\":\"4096,128,64,13,1\",\"version\":2}",
+        ShapeFault::WrongType(Member::Code),
+    ),
+    (
+        b"{\"cache\":64,\"code\":\"hamming\",\"geometry\":\"4096,128,64,13,1\",\"version\":2}",
+        ShapeFault::Code,
+    ),
+    (
+        b"{\"cache\":64,\"code\":\"none\",\"geometry\":\"4096,128,64,13,1\",\"version\":2}",
+        ShapeFault::Missing(Member::Lost),
+    ),
+    (
+        b"{\"cache\":64,\"code\":\"none\",\"geometry\":\"4096,128,64,13,1\",\"lost\":0,\"version\":2}",
+        ShapeFault::WrongType(Member::Lost),
+    ),
+    (
+        b"{\"cache\":64,\"code\":\"none\",\"geometry\":\"4096,128,64,13,1\",\"lost\":false,\"version\":2}",
+        ShapeFault::Missing(Member::Share),
+    ),
+    (
+        b"{\"cache\":64,\"code\":\"none\",\"geometry\":\"4096,128,64,13,1\",\"lost\":false,\"share\":15,\"version\":2}",
+        ShapeFault::Share(15),
+    ),
+    (
+        b"{\"cache\":64,\"code\":\"none\",\"geometry\":\"4096,128,64,13,1\",\"lost\":false,\"name\":1,\"share\":0,\"version\":2}",
+        ShapeFault::Unknown,
+    ),
+    (
+        b"{\"cache\":64,\"geometry\":\"4096,128,64,13,1\",\"share\":0,\"version\":1}",
         ShapeFault::Unknown,
     ),
     (b"{\"\xff\":1}", ShapeFault::NotJson),

@@ -1,0 +1,127 @@
+//! Whether a die that was mounted shows a torn block.
+ghost use Rattle.std.specs.Prelude.{◌≡◌, ◌<◌, ◌==◌, ℕ, true, false, length, IfOk, OnOk};
+ghost use Rattle.page_layout.specs.OnlyReads.{OnlyReads};
+ghost use Rattle.certificate.specs.Claim.{sizes_of};
+ghost use Rattle.image_check.specs.Agrees.{Agrees, IsCertificateOf};
+ghost use Rattle.image_check.specs.Blocks.{table_class};
+ghost use Rattle.crash_recovery.specs.Torn.{IsTorn, NoneTorn};
+
+use crate::fault::RecoveryFault;
+use crate::look::{NAMED_GROWN, SHOWN_BAD};
+use crate::recovery::is_of;
+use certificate::Certificate;
+use page_layout::geometry::Geometry;
+use page_layout::source::{PageSource, SourceFault};
+use page_layout::word::read_word;
+use std::alloc::Global;
+
+// Whether the newest table of blocks names a block as one that has grown bad. It does where the certificate knows no such table page.
+fn is_told_bad<N: PageSource>(
+    source: &mut N,
+    geometry: &Geometry,
+    certificate: &Certificate,
+    block: u32,
+    body: &mut [u8],
+    spare: &mut [u8],
+) -> Result<bool, SourceFault>
+    requires geometry { (N.flash source.old).geometry ≡ geometry.now }
+    requires whole { IsCertificateOf geometry.now certificate.now }
+    requires sizes { certificate.now.sizes ≡ sizes_of geometry.now }
+    requires in_range { block < geometry.now.blocks }
+    requires body { length body.old ≡ geometry.now.data_bytes }
+    requires spare { length spare.old ≡ geometry.now.spare_bytes }
+    ensures named { IfOk result (λ named. N.honest source.old ≡ true → (capacity : ℕ) → Agrees geometry.now capacity (N.flash source.old).image certificate.now →
+        named ≡ (table_class geometry.now (N.flash source.old).image block == 2)) }
+    ensures same { OnOk result (N.honest source.old ≡ true → N.flash source.new ≡ N.flash source.old) }
+    ensures only_reads { OnlyReads N.flash N.honest N.calm N.programs N.erases N.failed source.old source.new }
+{
+    let entries = geometry.entries();
+    let Some(row) = certificate.directory_row(geometry.translation_pages() + block / entries) else {
+        return Ok(true);
+    };
+    source.read_page(row, body, spare)?;
+    Ok(read_word(body, block % entries) % 256 == NAMED_GROWN)
+}
+
+// Whether a block is torn.
+fn shows_it<N: PageSource>(
+    source: &mut N,
+    geometry: &Geometry,
+    certificate: &Certificate,
+    block: u32,
+    body: &mut [u8],
+    spare: &mut [u8],
+) -> Result<bool, SourceFault>
+    requires geometry { (N.flash source.old).geometry ≡ geometry.now }
+    requires whole { IsCertificateOf geometry.now certificate.now }
+    requires sizes { certificate.now.sizes ≡ sizes_of geometry.now }
+    requires in_range { block < geometry.now.blocks }
+    requires body { length body.old ≡ geometry.now.data_bytes }
+    requires spare { length spare.old ≡ geometry.now.spare_bytes }
+    ensures torn { IfOk result (λ torn. N.honest source.old ≡ true → (capacity : ℕ) → Agrees geometry.now capacity (N.flash source.old).image certificate.now →
+        torn ≡ true → IsTorn geometry.now (N.flash source.old).image block) }
+    ensures fine { IfOk result (λ torn. N.honest source.old ≡ true → (capacity : ℕ) → Agrees geometry.now capacity (N.flash source.old).image certificate.now →
+        torn ≡ false → ¬ IsTorn geometry.now (N.flash source.old).image block) }
+    ensures same { OnOk result (N.honest source.old ≡ true → N.flash source.new ≡ N.flash source.old) }
+    ensures only_reads { OnlyReads N.flash N.honest N.calm N.programs N.erases N.failed source.old source.new }
+{
+    if certificate.block(block).class != SHOWN_BAD {
+        return Ok(false);
+    }
+    Ok(!is_told_bad(source, geometry, certificate, block, body, spare)?)
+}
+
+// Whether any block is torn.
+fn shows_any<N: PageSource>(
+    source: &mut N,
+    geometry: &Geometry,
+    certificate: &Certificate,
+    body: &mut [u8],
+    spare: &mut [u8],
+) -> Result<bool, SourceFault>
+    requires geometry { (N.flash source.old).geometry ≡ geometry.now }
+    requires whole { IsCertificateOf geometry.now certificate.now }
+    requires sizes { certificate.now.sizes ≡ sizes_of geometry.now }
+    requires body { length body.old ≡ geometry.now.data_bytes }
+    requires spare { length spare.old ≡ geometry.now.spare_bytes }
+    ensures none { IfOk result (λ torn. N.honest source.old ≡ true → (capacity : ℕ) → Agrees geometry.now capacity (N.flash source.old).image certificate.now →
+        torn ≡ false → NoneTorn geometry.now (N.flash source.old).image geometry.now.blocks) }
+    ensures same { OnOk result (N.honest source.old ≡ true → N.flash source.new ≡ N.flash source.old) }
+    ensures only_reads { OnlyReads N.flash N.honest N.calm N.programs N.erases N.failed source.old source.new }
+{
+    for block in 0..geometry.blocks() {
+        if shows_it(source, geometry, certificate, block, body, spare)? {
+            return Ok(true);
+        }
+    }
+    Ok(false)
+}
+
+/// Whether a die that was mounted, whose certificate this is, shows any torn block: so a store behind it is to be recovered before a device is started. It is asked for reads alone, of table
+/// pages and only where the certificate has a grown bad block. With the certificate of another geometry none is seen.
+///
+/// # Errors
+///
+/// `OutOfMemory` where a growth was refused, `Store` where a read failed. (This project's.)
+pub fn shows_torn<N: PageSource>(
+    alloc: Global,
+    source: &mut N,
+    geometry: &Geometry,
+    certificate: &Certificate,
+) -> Result<bool, RecoveryFault>
+    requires geometry { (N.flash source.old).geometry ≡ geometry.now }
+    ensures none { IfOk result (λ torn. N.honest source.old ≡ true → (capacity : ℕ) → Agrees geometry.now capacity (N.flash source.old).image certificate.now →
+        torn ≡ false → NoneTorn geometry.now (N.flash source.old).image geometry.now.blocks) }
+    ensures same { OnOk result (N.honest source.old ≡ true → N.flash source.new ≡ N.flash source.old) }
+    ensures only_reads { OnlyReads N.flash N.honest N.calm N.programs N.erases N.failed source.old source.new }
+{
+    if !is_of(certificate, geometry) {
+        return Ok(false);
+    }
+    let mut body = vec![in alloc; 0xFFu8; geometry.data_bytes()]?;
+    let mut spare = vec![in alloc; 0xFFu8; geometry.spare_bytes()]?;
+    match shows_any(source, geometry, certificate, &mut body, &mut spare) {
+        Ok(torn) => Ok(torn),
+        Err(_) => Err(RecoveryFault::Store),
+    }
+}
