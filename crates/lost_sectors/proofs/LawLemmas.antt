@@ -1,5 +1,5 @@
 -- What is told of a die, and what is not.
-use Rattle.std.proofs.Common.{◌≡◌, ◌≢◌, ◌↔◌, ◌⊎◌, inl, inr, ℕ, zero, suc, ◌+◌, ◌<◌, ◌≤◌, ◌/◌, ◌%◌, Bool, true, false, List, [], ◌∷◌, length, get_or, slice_get, Option, Some, None, refl, sym, ap, ◌∙◌, subst, arith}
+use Rattle.std.proofs.Common.{◌≡◌, ◌≢◌, ◌⊎◌, inl, inr, ℕ, zero, suc, ◌+◌, ◌<◌, ◌≤◌, ◌/◌, ◌%◌, Bool, true, false, List, [], ◌∷◌, get_or, slice_get, Option, Some, None, refl, sym, ap, ◌∙◌, subst, arith}
 use Rattle.std.specs.Prelude.{filter}
 use Rattle.std.specs.List.{range_with_len}
 use Rattle.std.proofs.lemmas.Bool.{cond-true, cond-false, eqb-true, false_from_ne_true, not-false}
@@ -11,7 +11,7 @@ use Rattle.page_layout.specs.Geometry.{entries}
 use Rattle.page_layout.specs.Page.{Image, body_at}
 use Rattle.page_layout.specs.Key.{key_of}
 use Rattle.page_layout.specs.Newest.{IsNewest, newest, sequence_at}
-use Rattle.page_layout.specs.OneArray.{AreBelow, AreDistinct}
+use Rattle.page_layout.specs.OneArray.{AreBelow}
 use Rattle.page_layout.specs.Array.{marks, HasOneArray}
 use Rattle.page_layout.specs.Change.{IsUnsoundAt, Keeps, Writes}
 use Rattle.page_layout.proofs.ArrayLemmas.{body_same, mark-same}
@@ -23,7 +23,7 @@ use Rattle.image_check.specs.Stale.{is_stale, same_row, stale_sectors}
 use Rattle.image_laws.specs.Power.{LosesPower, IsPageSince}
 use Rattle.image_laws.proofs.PowerLemmas.{since, stored_stays}
 use Rattle.lost_sectors.specs.Lost.{IsLost, is_lost, lost_sectors, newest_sequence}
-use Rattle.lost_sectors.specs.Laws.{Damages, DamageLaw, IsSince, KeepsSince, LossLaw, NamesOlder, NoneToldLaw, PageStays, SameLaw, StandsAsIn, StepLaw, UnsoundLaw}
+use Rattle.lost_sectors.specs.Laws.{Damages, DamageLaw, IsSince, KeepsSince, LossLaw, NamesLaw, NamesOlder, NoneToldLaw, PageStays, SameLaw, StandsAsIn, StepLaw, UnsoundLaw}
 use Rattle.lost_sectors.proofs.LostLemmas.{lost, newest_sequence_at, newest_sequence_is, newest_sequence_none, none_is, same_of}
 
 -- ---- a key stays, or is since
@@ -210,6 +210,21 @@ has_sequence image key s at = by_row (newest (marks image) key) refl
     by_row (Some row) is =
         let found = newest-record (marks image) key row is in
         record { row = row; its = found.0; newest_is = is; has = found.1; of = found.2; sequence_is = same_of (newest_sequence_is image key row found.0 is found.1) at }
+
+pub names : NamesLaw
+names g r row body old new n writes of below = record {
+  older = λ q s t is named at now. (
+      let its : HasSequence new (Sector n) s = has_sequence new (Sector n) s at in
+      let apart : its.row ≢ row = λ here. other_key (sym its.of ∙ (ap key_of (same_of its.has (ap (λ k. get_or (marks new) k None) here ∙ writes.record_here)) ∙ of)) in
+      let before : get_or (marks old) its.row None ≡ Some its.its = writes.records its.row its.its apart its.has in
+      let less : its.its.sequence < r.sequence = below.below its.row its.its before in
+      let page : newest_sequence new (Translation (n / entries g)) ≡ Some r.sequence = newest_sequence_is new (Translation (n / entries g)) row r (ap (newest (marks new)) (sym of) ∙ writes.newest_now) writes.record_here in
+      let same : r.sequence ≡ t = same_of page now in
+      omega (arith, its.sequence_is, less, same));
+}
+  where
+    other_key : Sector n ≡ Translation (n / entries g) → ⊥
+    other_key e = cc
 
 -- an entry that names a row stands in a page
 page_there : (g : Geometry) (image : Image) (n row : ℕ) → entry_of g image n ≡ Some row → (at : ℕ) × (newest (marks image) (Translation (n / entries g)) ≡ Some at)

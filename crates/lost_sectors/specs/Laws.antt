@@ -1,11 +1,12 @@
 -- What is told of a die, and what is not. The mark is the sequence that was next when all was flushed: no entry was stale then.
-use Rattle.std.specs.Prelude.{◌≡◌, ◌↔◌, ◌⊎◌, ℕ, ◌/◌, ◌%◌, ◌<◌, ◌≤◌, true, false, List, [], length, get_or, slice_get, Some, None}
+use Rattle.std.specs.Prelude.{◌≡◌, ◌↔◌, ◌⊎◌, ℕ, ◌/◌, ◌<◌, ◌≤◌, true, false, List, [], length, slice_get, Some}
 use Rattle.page_layout.specs.declared.geometry.Geometry.{Geometry}
 use Rattle.page_layout.specs.declared.record.Record.{Record}
 use Rattle.page_layout.specs.declared.record.Key.{Key}
 use Rattle.page_layout.specs.declared.record.Key.TheVariants.{Sector, Translation}
 use Rattle.page_layout.specs.Geometry.{entries}
 use Rattle.page_layout.specs.Page.{Image, body_at}
+use Rattle.page_layout.specs.Key.{key_of}
 use Rattle.page_layout.specs.Newest.{newest}
 use Rattle.page_layout.specs.OneArray.{AreBelow}
 use Rattle.page_layout.specs.Array.{marks, HasOneArray}
@@ -64,6 +65,11 @@ pub record Damages (old new : Image) : Type 0 where
 pub record NamesOlder (g : Geometry) (image : Image) (n : ℕ) : Type 0 where
   pub older : (row s t : ℕ) → newest (marks image) (Sector n) ≡ Some row → entry_of g image n ≡ Some row → newest_sequence image (Sector n) ≡ Some s
       → newest_sequence image (Translation (n / entries g)) ≡ Some t → s < t
+
+-- AS AFTER EACH PROGRAM OF A TRANSLATION PAGE of a sequence above all: it is younger than all that it names
+abbrev pub NamesLaw : Type 0
+NamesLaw = (g : Geometry) (r : Record) (row : ℕ) (body : List ℕ) (old new : Image) (n : ℕ) → Writes g r row body old new → key_of r ≡ Translation (n / entries g)
+    → AreBelow (marks old) r.sequence → NamesOlder g new n
 
 -- the translation page of sector n is as it was
 abbrev pub PageStays : Geometry → (old new : Image) → (n : ℕ) → Type 0

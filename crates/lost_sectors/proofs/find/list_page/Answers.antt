@@ -1,4 +1,4 @@
-use Rattle.std.proofs.Common.{◌≡◌, ◌∙◌, ◌-◌, ◌*◌, ap, sym, subst, take, arith}
+use Rattle.std.proofs.Common.{◌∙◌, ◌-◌, ◌*◌, ap, sym, subst, take, arith}
 use Rattle.page_layout.specs.declared.record.Key.TheVariants.{Translation}
 use Rattle.translation_pages.specs.TranslationPage.{entry_at}
 use Rattle.file_die.specs.Store.{Held}

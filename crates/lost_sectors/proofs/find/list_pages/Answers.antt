@@ -1,9 +1,9 @@
-use Rattle.std.proofs.Common.{◌≡◌, ◌∙◌, ◌+◌, ◌*◌, min, sym, subst, arith, rules}
+use Rattle.std.proofs.Common.{◌∙◌, ◌+◌, ◌*◌, min, sym, subst, arith, rules}
 use Rattle.page_layout.specs.Geometry.{entries}
 use Rattle.file_die.specs.Store.{Held}
 use Rattle.image_check.specs.Agrees.{Agrees}
 use Rattle.lost_sectors.specs.Lost.{Adds, is_lost}
-use Rattle.lost_sectors.proofs.FindLemmas.{drops_none, drops_then, pages_all, pages_more, pages_start}
+use Rattle.lost_sectors.proofs.FindLemmas.{drops_then, pages_all, pages_more}
 use Rattle.lost_sectors.proofs.find.list_pages.Goals as goal
 
 pub loop-t-preserved : goal.loop-t-preserved

@@ -1,4 +1,4 @@
-use Rattle.std.proofs.Common.{◌≡◌, ◌*◌, ℕ, min, true, length}
+use Rattle.std.proofs.Common.{◌≡◌, ◌*◌, ℕ, min, true}
 use Rattle.page_layout.specs.Geometry.{entries}
 use Rattle.file_die.specs.Open.{OnlyLooks}
 use Rattle.image_check.specs.Agrees.{Agrees}

@@ -1,4 +1,4 @@
-use Rattle.std.proofs.Common.{◌≡◌, ◌∙◌, ◌-◌, ◌<◌, ◌≤◌, ◌+◌, ℕ, Bool, true, false, List, length, ap, sym, subst, arith, rules}
+use Rattle.std.proofs.Common.{◌≡◌, ◌∙◌, ◌-◌, ◌<◌, ◌≤◌, ◌+◌, ℕ, Bool, List, length, ap, sym, subst, arith, rules}
 use Rattle.translation_pages.specs.TranslationPage.{entry_at}
 use Rattle.file_die.specs.Store.{Held}
 use Rattle.image_check.specs.Agrees.{Agrees}

@@ -1,4 +1,4 @@
-use Rattle.std.proofs.Common.{◌≡◌, ◌-◌, ℕ, true, length}
+use Rattle.std.proofs.Common.{◌≡◌, ◌-◌, ℕ, true}
 use Rattle.translation_pages.specs.TranslationPage.{entry_at}
 use Rattle.file_die.specs.Open.{OnlyLooks}
 use Rattle.image_check.specs.Agrees.{Agrees}
