@@ -15,3 +15,4 @@ pub mod StoppedLemmas
 pub mod PowerLemmas
 pub mod SyncLemmas
 pub mod ReadingLemmas
+pub mod GuardLemmas

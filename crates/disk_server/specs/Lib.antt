@@ -2,6 +2,8 @@
 pub mod Flat
 -- the block device as a device of sectors
 pub mod Disk
+-- of which some are lost
+pub mod Guarded
 pub mod Laws
 pub mod Open
 -- the disk in a store

@@ -9,6 +9,7 @@
 //! - `format_store`: a store of erased pages becomes a die with a device on it.
 //! - `SyncedDisk`: a disk whose flushes and durable changes end with a sync of what it is kept in, and of whose changes no more than a `SyncPace` says lack one;
 //!   `serve_synced` serves it. After a sync that failed it answers nothing but that it failed.
+//! - `GuardedSectors`: a device of sectors of which some are lost, with a list of them that lasts: these are not read until they are written or trimmed.
 //! - `ReadOnlyDisk`: a disk that asks for reads of sectors alone; `serve_reading` serves it.
 //!
 //! All of it is this project's.
@@ -17,6 +18,7 @@
 mod answer;
 mod device_disk;
 mod format;
+mod guarded;
 pub mod laws;
 mod mounted;
 mod open;
@@ -32,6 +34,7 @@ mod synced;
 
 pub use device_disk::DeviceDisk;
 pub use format::{CreateFault, format_store};
+pub use guarded::{GuardedSectors, KeepsLost};
 pub use mounted::open_mounted;
 pub use open::{OpenFault, open_checked};
 pub use opened::{OpenStoreFault, StoreDisk, close_store, mount_store, open_store};

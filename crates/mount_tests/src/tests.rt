@@ -3,4 +3,5 @@
 mod dies;
 mod format_rows;
 mod images;
+mod lost_rows;
 mod said;

@@ -1,0 +1,254 @@
+//! A device of sectors of which some are lost.
+ghost use Rattle.std.specs.Prelude.{◌≡◌, List, Bool, true};
+
+use crate::sectors::Sectors;
+use nbd_stream::{DiskFault, Task};
+
+/// A place beside a device where its lost sectors are listed. (This project's.)
+pub trait KeepsLost {
+    ghost use Rattle.std.specs.Prelude.{◌≡◌, ◌⊎◌, ℕ, List, Bool, IfErr, OnOk, OnErr};
+    ghost use Rattle.page_layout.specs.Counter.{HasRisen};
+
+    /// The list that lasts: of each sector whether it is lost.
+    ghost kept: { Self → List Bool };
+
+    /// How many lists were not kept. The count stays at 2^64 - 1 once there.
+    ghost failed: { Self → ℕ };
+
+    /// Makes last what was written to the device, and then this list in place of the one before.
+    ///
+    /// # Errors
+    ///
+    /// `Failed` where one of these failed: the list that lasts is this one, or the one before.
+    fn keep(&mut self, lost: &[bool]) -> Result<(), DiskFault>
+        ensures done { OnOk result (kept self.new ≡ lost.now) }
+        ensures not_done { OnErr result ((kept self.new ≡ kept self.old) ⊎ (kept self.new ≡ lost.now)) }
+        ensures settled { OnOk result (failed self.new ≡ failed self.old) }
+        ensures rose { OnErr result (HasRisen (failed self.old) (failed self.new)) }
+        ensures fault { IfErr result (λ e. e ≡ DiskFault.Failed) };
+}
+
+/// A device of whole sectors of which some are lost, and a list of them beside it. (This project's.)
+///
+/// A lost sector has older bytes than it was left with, or zeros. So a read of it answers `Failed`, and nothing is asked of the device, until it is written or trimmed: then
+/// what was written lasts, and the list without it, before the change is answered. The device's contents are what it holds, a lost sector's too, and it is as honest as it was.
+///
+/// **After a list that was not kept nothing is asked of the device any more, and each call answers `Failed`.**
+#[derive(Drop)]
+pub struct GuardedSectors<S: Sectors, K: KeepsLost> {
+    sectors: S,
+    keeper: K,
+    lost: Vec<bool>,
+    failed: bool,
+}
+
+impl<S: Sectors, K: KeepsLost> GuardedSectors<S, K> {
+    ghost use Rattle.std.specs.Prelude.{◌≡◌, ◌<◌, ◌↔◌, false, true, length, Ok, OnOk, OnErr, IfErr, IsTrue};
+    ghost use Rattle.page_layout.specs.Counter.{HasRisen};
+    ghost use Rattle.disk_server.specs.Guarded.{HealsIfListed, is_listed};
+
+    /// Joins a device and the list of its lost sectors, of each whether it is lost. Nothing is asked of either.
+    pub fn new(sectors: S, keeper: K, lost: Vec<bool>) -> GuardedSectors<S, K>
+        ensures sectors { result.sectors ≡ sectors }
+        ensures keeper { result.keeper ≡ keeper }
+        ensures lost { result.lost ≡ lost }
+        ensures failed { result.failed ≡ false }
+    {
+        GuardedSectors {
+            sectors,
+            keeper,
+            lost,
+            failed: false,
+        }
+    }
+
+    /// Whether a sector is on the list.
+    pub fn is_listed(&self, sector: u64) -> bool
+        ensures { result ≡ is_listed self.now sector }
+    {
+        match self.lost.get(sector as usize) {
+            Some(lost) => *lost,
+            None => false,
+        }
+    }
+
+    /// Gives the device back, and the keeper of its list.
+    pub fn into_parts(self) -> (S, K)
+        ensures sectors { result.0 ≡ self.sectors }
+        ensures keeper { result.1 ≡ self.keeper }
+    {
+        let GuardedSectors {
+            sectors,
+            keeper,
+            lost: _,
+            failed: _,
+        } = self;
+        (sectors, keeper)
+    }
+
+    // Takes a sector off the list, once it was written.
+    fn heal(&mut self, sector: u64) -> Result<(), DiskFault>
+        ensures sectors { self.new.sectors ≡ self.old.sectors }
+        ensures heals { OnOk result (HealsIfListed K.kept sector self.old self.new) }
+        ensures unlisted { is_listed self.old sector ≡ false → (result ≡ Ok tt) × (self.new ≡ self.old) }
+        ensures failed { OnErr result ((self.new.failed ≡ true) × HasRisen (K.failed self.old.keeper) (K.failed self.new.keeper)) }
+        ensures fault { IfErr result (λ e. e ≡ DiskFault.Failed) }
+    {
+        if !self.is_listed(sector) {
+            return Ok(());
+        }
+        self.lost[sector as usize] = false;
+        match self.keeper.keep(&self.lost) {
+            Ok(()) => Ok(()),
+            Err(fault) => {
+                self.failed = true;
+                Err(fault)
+            }
+        }
+    }
+}
+
+impl<S: Sectors, K: KeepsLost> Sectors for GuardedSectors<S, K> {
+    ghost use Rattle.std.specs.Prelude.{◌≡◌, ◌⊎◌, ◌<◌, ◌*◌, false, [], length, true, OnErr, OnOk};
+    ghost use Rattle.page_layout.specs.Counter.{HasRisen};
+    ghost use Rattle.nbd_stream.specs.Disk.{Idles, Performs, answer_from};
+    ghost use Rattle.disk_server.specs.Guarded.{HealsIfListed, IsRefused, KeepsList, KeepsOrFails, ReadsGuarded, RestsGuarded, is_listed};
+
+    ghost contents = { λ d. S.contents d.sectors };
+
+    ghost honest = { λ d. S.honest d.sectors };
+
+    ghost calm = { λ _. false };
+
+    /// A rest of the device, and nothing else.
+    ghost rests = { RestsGuarded S.rests };
+
+    /// A read of the device, or nothing.
+    ghost reads = { ReadsGuarded S.reads };
+
+    ghost size = { λ d. S.size d.sectors };
+
+    ghost count = { λ d. S.count d.sectors };
+
+    /// Gives the bytes of a sector, as the device does. **Of one that is on the list nothing is asked of the device.**
+    ///
+    /// # Errors
+    ///
+    /// `Failed` where the sector is on the list, or the device failed, or a list was not kept.
+    fn read_sector(&mut self, sector: u64, buffer: &mut [u8]) -> Result<(), DiskFault>
+        requires within { sector < S.count self.old.sectors }
+        requires whole { length buffer.old ≡ S.size self.old.sectors }
+        ensures size { S.size self.new.sectors ≡ S.size self.old.sectors }
+        ensures count { S.count self.new.sectors ≡ S.count self.old.sectors }
+        ensures performs { Performs (λ d. S.contents d.sectors) (λ d. S.honest d.sectors) (λ _. false)
+            (Task.Read (sector * S.size self.old.sectors) (S.size self.old.sectors)) [] self.old (answer_from result buffer.new) self.new }
+        ensures reads { ReadsGuarded S.reads self.old self.new }
+        ensures refused { is_listed self.old sector ≡ true → IsRefused self.old result self.new }
+        ensures over { self.old.failed ≡ true → IsRefused self.old result self.new }
+        ensures asked { self.old.failed ≡ false → is_listed self.old sector ≡ false →
+            Performs S.contents S.honest S.calm (Task.Read (sector * S.size self.old.sectors) (S.size self.old.sectors)) [] self.old.sectors (answer_from result buffer.new) self.new.sectors }
+    {
+        if self.failed || self.is_listed(sector) {
+            return Err(DiskFault::Failed);
+        }
+        self.sectors.read_sector(sector, buffer)
+    }
+
+    /// Sets the bytes of a sector, as the device does. **Once that is done it is not on the list, and where it was, what was written lasts, and the list without it.**
+    ///
+    /// # Errors
+    ///
+    /// As the device, and `Failed` where a list was not kept, now or before.
+    fn write_sector(&mut self, sector: u64, bytes: &[u8]) -> Result<(), DiskFault>
+        requires within { sector < S.count self.old.sectors }
+        requires whole { length bytes.now ≡ S.size self.old.sectors }
+        ensures size { S.size self.new.sectors ≡ S.size self.old.sectors }
+        ensures count { S.count self.new.sectors ≡ S.count self.old.sectors }
+        ensures performs { Performs (λ d. S.contents d.sectors) (λ d. S.honest d.sectors) (λ _. false)
+            (Task.Write (sector * S.size self.old.sectors) (S.size self.old.sectors) false) bytes.now self.old (answer_from result []) self.new }
+        ensures heals { OnOk result (HealsIfListed K.kept sector self.old self.new) }
+        ensures kept { OnErr result (KeepsOrFails K.failed self.old self.new) }
+        ensures over { self.old.failed ≡ true → IsRefused self.old result self.new }
+        ensures asked { self.old.failed ≡ false → is_listed self.old sector ≡ false →
+            Performs S.contents S.honest S.calm (Task.Write (sector * S.size self.old.sectors) (S.size self.old.sectors) false) bytes.now self.old.sectors (answer_from result []) self.new.sectors }
+        ensures listed { self.old.failed ≡ false →
+            Performs S.contents S.honest S.calm (Task.Write (sector * S.size self.old.sectors) (S.size self.old.sectors) false) bytes.now self.old.sectors (answer_from result []) self.new.sectors
+            ⊎ HasRisen (K.failed self.old.keeper) (K.failed self.new.keeper) }
+    {
+        if self.failed {
+            return Err(DiskFault::Failed);
+        }
+        match self.sectors.write_sector(sector, bytes) {
+            Ok(()) => self.heal(sector),
+            Err(fault) => Err(fault),
+        }
+    }
+
+    /// Sets the bytes of a sector to zeros, as the device does, with all that `write_sector` says.
+    ///
+    /// # Errors
+    ///
+    /// As `write_sector`.
+    fn trim_sector(&mut self, sector: u64) -> Result<(), DiskFault>
+        requires within { sector < S.count self.old.sectors }
+        ensures size { S.size self.new.sectors ≡ S.size self.old.sectors }
+        ensures count { S.count self.new.sectors ≡ S.count self.old.sectors }
+        ensures performs { Performs (λ d. S.contents d.sectors) (λ d. S.honest d.sectors) (λ _. false)
+            (Task.Trim (sector * S.size self.old.sectors) (S.size self.old.sectors) false) [] self.old (answer_from result []) self.new }
+        ensures heals { OnOk result (HealsIfListed K.kept sector self.old self.new) }
+        ensures kept { OnErr result (KeepsOrFails K.failed self.old self.new) }
+        ensures over { self.old.failed ≡ true → IsRefused self.old result self.new }
+        ensures asked { self.old.failed ≡ false → is_listed self.old sector ≡ false →
+            Performs S.contents S.honest S.calm (Task.Trim (sector * S.size self.old.sectors) (S.size self.old.sectors) false) [] self.old.sectors (answer_from result []) self.new.sectors }
+        ensures listed { self.old.failed ≡ false →
+            Performs S.contents S.honest S.calm (Task.Trim (sector * S.size self.old.sectors) (S.size self.old.sectors) false) [] self.old.sectors (answer_from result []) self.new.sectors
+            ⊎ HasRisen (K.failed self.old.keeper) (K.failed self.new.keeper) }
+    {
+        if self.failed {
+            return Err(DiskFault::Failed);
+        }
+        match self.sectors.trim_sector(sector) {
+            Ok(()) => self.heal(sector),
+            Err(fault) => Err(fault),
+        }
+    }
+
+    /// Flushes the device. The list stays.
+    ///
+    /// # Errors
+    ///
+    /// As the device, and `Failed` where a list was not kept.
+    fn flush(&mut self) -> Result<(), DiskFault>
+        ensures size { S.size self.new.sectors ≡ S.size self.old.sectors }
+        ensures count { S.count self.new.sectors ≡ S.count self.old.sectors }
+        ensures performs { Performs (λ d. S.contents d.sectors) (λ d. S.honest d.sectors) (λ _. false) Task.Flush [] self.old (answer_from result []) self.new }
+        ensures kept { KeepsList self.old self.new }
+        ensures over { self.old.failed ≡ true → IsRefused self.old result self.new }
+        ensures asked { self.old.failed ≡ false → Performs S.contents S.honest S.calm Task.Flush [] self.old.sectors (answer_from result []) self.new.sectors }
+    {
+        if self.failed {
+            return Err(DiskFault::Failed);
+        }
+        self.sectors.flush()
+    }
+
+    /// Lets the device rest.
+    ///
+    /// # Errors
+    ///
+    /// As the device, and `Failed` where a list was not kept.
+    fn rest(&mut self) -> Result<(), DiskFault> {
+        if self.failed {
+            return Err(DiskFault::Failed);
+        }
+        self.sectors.rest()
+    }
+
+    fn sector_bytes(&self) -> usize {
+        self.sectors.sector_bytes()
+    }
+
+    fn sector_count(&self) -> u64 {
+        self.sectors.sector_count()
+    }
+}

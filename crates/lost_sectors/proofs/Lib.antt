@@ -1,0 +1,3 @@
+mod LostLemmas
+mod LawLemmas
+mod FindLemmas
