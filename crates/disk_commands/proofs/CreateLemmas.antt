@@ -33,7 +33,7 @@ not_formatted held honest failed a path g store given create.Sync is erased un =
 -- a die that was made was put in its place
 pub created : {S : Type 0} (held : S → Held) (honest : S → Bool) (a : Answers) (words : CreateWords) (shape : Shape) (before between after : Option (List Kept)) (store : S) (result : Result (Unit {0}) DiskFault)
     → IsShapeAsked words shape → a.says_there words.disk.now false → (honest store ≡ true → IsDieFor a words.make shape (held store)) → honest store ≡ a.honest → between ≡ before
-    → OnOk result (after ≡ with_kept between (record { path = words.disk.now; held = held store; text = shape_text shape false }))
+    → OnOk result (after ≡ with_kept between (record { path = words.disk.now; held = held store; text = shape_text shape }))
     → OnOk result (HasCreated held honest a words before after)
 created held honest a words shape before between after store (Ok done) asked free die is same kept =
     record {
@@ -43,7 +43,7 @@ created held honest a words shape before between after store (Ok done) asked fre
       store = store;
       die = die;
       is_honest = is;
-      kept = subst (λ b. after ≡ with_kept b (record { path = words.disk.now; held = held store; text = shape_text shape false })) same kept;
+      kept = subst (λ b. after ≡ with_kept b (record { path = words.disk.now; held = held store; text = shape_text shape })) same kept;
     }
 created held honest a words shape before between after store (Err told) asked free die is same kept = tt
 

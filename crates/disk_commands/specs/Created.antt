@@ -58,7 +58,7 @@ pub record HasCreated {S : Type 0} (held : S → Held) (honest : S → Bool) (a 
   pub store : S
   pub die : honest store ≡ true → IsDieFor a words.make shape (held store)
   pub is_honest : honest store ≡ a.honest
-  pub kept : after ≡ with_kept before (record { path = words.disk.now; held = held store; text = shape_text shape false })
+  pub kept : after ≡ with_kept before (record { path = words.disk.now; held = held store; text = shape_text shape })
 
 -- ---- why there is none
 

@@ -127,12 +127,12 @@ fn put<'a, F: DiskFiles>(
     shape: &Shape,
     store: F::Store,
 ) -> Result<(), DiskFault<'a>>
-    ensures ok { OnOk result (F.kept files.new ≡ with_kept (F.kept files.old) (record { path = path.now; held = F.Store.held store; text = shape_text shape.now false })) }
+    ensures ok { OnOk result (F.kept files.new ≡ with_kept (F.kept files.old) (record { path = path.now; held = F.Store.held store; text = shape_text shape.now })) }
     ensures fault { IfErr result (IsUnkept (F.answers files.old) path.now) }
     ensures kept { OnErr result (F.kept files.new ≡ F.kept files.old) }
     ensures opened { F.opened files.new ≡ F.opened files.old }
 {
-    let Ok(text) = write_shape(alloc, shape, false) else {
+    let Ok(text) = write_shape(alloc, shape) else {
         files.discard(path);
         return Err(DiskFault::OutOfMemory);
     };

@@ -1,8 +1,8 @@
 //! The file beside a disk, which tells its shape.
-ghost use Rattle.std.specs.Prelude.{◌≡◌, ◌≢◌, Some, IfOk, IfErr, OnOk, codes, string_bytes};
+ghost use Rattle.std.specs.Prelude.{◌≡◌, ◌≢◌, false, Some, IfOk, IfErr, OnOk, codes, string_bytes};
 ghost use Rattle.serde_json.specs.View.{view};
 ghost use Rattle.disk_commands.specs.declared.shape_text.Member.{Member};
-ghost use Rattle.disk_commands.specs.ShapeText.{IsGeometryTold, IsNoShape, IsShapeText, IsTextMember, IsWithin, TellsLost, TellsNone, TellsShape, TellsText, flag_at, geometry_words, number_at, shape_data, shape_text, members_of, size_of, text_at, version_of, without_feed};
+ghost use Rattle.disk_commands.specs.ShapeText.{IsGeometryTold, IsNoShape, IsShapeText, IsTextMember, IsWithin, TellsLater, TellsLaterBy, TellsNone, TellsShape, TellsText, flag_at, geometry_words, number_at, shape_data, shape_text, members_of, size_of, text_at, version_of, without_feed};
 
 use crate::shape_words::{GeometryText, GeometryWordFault, geometry_from};
 use crate::shapes::Shape;
@@ -20,8 +20,6 @@ pub struct DiskText {
     pub shape: Shape,
     /// Whether the mark beside the disk counts: a program that knows version 1 alone writes none.
     pub marked: bool,
-    /// Whether a list of lost sectors stands beside the disk.
-    pub lost: bool,
 }
 
 /// A member of the object in the file beside a disk.
@@ -83,6 +81,8 @@ pub enum ShapeFault {
     CacheRange,
     /// The pages have a code, which this program does not read.
     Code,
+    /// A list of lost sectors stands beside the disk, which this program does not read.
+    Lost,
     /// So many moved sectors may wait for each translation page, and not 0.
     Share(u64),
     /// A growth was refused.
@@ -113,6 +113,7 @@ impl fmt::Display for ShapeFault {
             }
             ShapeFault::CacheRange => f.write_str("the cache has not from 1 to 65536 entries"),
             ShapeFault::Code => f.write_str("the code is not none"),
+            ShapeFault::Lost => f.write_str("sectors are lost"),
             ShapeFault::Share(share) => write!(f, "the share is {share} and not 0"),
             ShapeFault::OutOfMemory => f.write_str("out of memory"),
         }
@@ -126,21 +127,21 @@ fn geometry_word(alloc: Global, geometry: &Geometry) -> Result<String, AllocErro
     format!(in alloc; "{}", GeometryText(geometry))
 }
 
-fn shape_value(alloc: Global, shape: &Shape, lost: bool) -> Result<Value, AllocError>
-    ensures { IfOk result (λ value. view value ≡ shape_data shape.now lost) }
+fn shape_value(alloc: Global, shape: &Shape) -> Result<Value, AllocError>
+    ensures { IfOk result (λ value. view value ≡ shape_data shape.now) }
 {
     let word = geometry_word(alloc, &shape.geometry)?;
     let (cache, geometry) = (u64::from(shape.cache), word.as_str());
-    json!(in alloc; {"cache": cache, "code": "none", "geometry": geometry, "lost": lost, "share": 0u64, "version": 2u64})
+    json!(in alloc; {"cache": cache, "code": "none", "geometry": geometry, "lost": false, "share": 0u64, "version": 2u64})
 }
 
-/// The text of the file beside a disk of this shape, in version 2: one JSON object and a line feed. With `lost` it says that a list of lost sectors stands beside the disk.
+/// The text of the file beside a disk of this shape, in version 2: one JSON object and a line feed. It says that there is no code, that no sectors are lost and that none waits.
 ///
 /// (The form is this project's.)
-pub fn write_shape(alloc: Global, shape: &Shape, lost: bool) -> Result<String, AllocError>
-    ensures { IfOk result (λ text. string_bytes text ≡ shape_text shape.now lost) }
+pub fn write_shape(alloc: Global, shape: &Shape) -> Result<String, AllocError>
+    ensures { IfOk result (λ text. string_bytes text ≡ shape_text shape.now) }
 {
-    let mut text = shape_value(alloc, shape, lost)?.to_string(alloc)?;
+    let mut text = shape_value(alloc, shape)?.to_string(alloc)?;
     text.push('\n')?;
     Ok(text)
 }
@@ -234,16 +235,17 @@ fn require_no_code(value: &Value) -> Result<(), ShapeFault>
     }
 }
 
-// Whether a list of lost sectors stands beside the disk.
-fn lost_told(value: &Value) -> Result<bool, ShapeFault>
-    ensures ok { IfOk result (λ lost. flag_at Member.Lost (view value.now) ≡ Some lost) }
+// That no list of lost sectors stands beside the disk.
+fn require_none_lost(value: &Value) -> Result<(), ShapeFault>
+    ensures ok { OnOk result (flag_at Member.Lost (view value.now) ≡ Some false) }
     ensures fault { IfErr result (TellsNone (view value.now)) }
 {
     let Some(found) = value.get(Member::Lost.name()) else {
         return Err(ShapeFault::Missing(Member::Lost));
     };
     match found.as_bool() {
-        Some(lost) => Ok(lost),
+        Some(false) => Ok(()),
+        Some(true) => Err(ShapeFault::Lost),
         None => Err(ShapeFault::WrongType(Member::Lost)),
     }
 }
@@ -259,15 +261,22 @@ fn require_no_share(value: &Value) -> Result<(), ShapeFault>
     }
 }
 
-// What the members that version 1 lacks tell: whether a list of lost sectors stands beside the disk.
-fn later_told(value: &Value) -> Result<bool, ShapeFault>
-    ensures ok { IfOk result (TellsLost (view value.now)) }
+// That the members which version 1 lacks say nothing that this program does not read.
+fn require_later(value: &Value) -> Result<(), ShapeFault>
+    ensures ok { OnOk result (TellsLater (view value.now)) }
     ensures fault { IfErr result (TellsNone (view value.now)) }
 {
     require_no_code(value)?;
-    let lost = lost_told(value)?;
-    require_no_share(value)?;
-    Ok(lost)
+    require_none_lost(value)?;
+    require_no_share(value)
+}
+
+// The same by the version: the first has no such member.
+fn require_later_by(value: &Value, second: bool) -> Result<(), ShapeFault>
+    ensures ok { OnOk result (TellsLaterBy second (view value.now)) }
+    ensures fault { IfErr result (TellsNone (view value.now)) }
+{
+    if second { require_later(value) } else { Ok(()) }
 }
 
 // How many members an object of the version has.
@@ -311,12 +320,11 @@ fn text_told(value: &Value) -> Result<DiskText, ShapeFault>
     }
     let second = is_second(value)?;
     let shape = shape_told(value)?;
-    let lost = second && later_told(value)?;
+    require_later_by(value, second)?;
     require_alone(value, second)?;
     Ok(DiskText {
         shape,
         marked: second,
-        lost,
     })
 }
 

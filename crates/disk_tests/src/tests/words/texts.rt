@@ -5,45 +5,41 @@ use std::alloc::Global;
 use std::process::Abort;
 use std::test::*;
 
-// A size, whether sectors are lost, and the text of its shape.
-const TEXTS: &[(u64, bool, &str)] = &[
+// A size, and the text of its shape.
+const TEXTS: &[(u64, &str)] = &[
     (
         1,
-        false,
         "{\"cache\":64,\"code\":\"none\",\"geometry\":\"4096,128,64,13,1\",\"lost\":false,\"share\":0,\"version\":2}\n",
     ),
     (
         509_349_888,
-        true,
-        "{\"cache\":57344,\"code\":\"none\",\"geometry\":\"4096,128,64,4095,124353\",\"lost\":true,\"share\":0,\"version\":2}\n",
+        "{\"cache\":57344,\"code\":\"none\",\"geometry\":\"4096,128,64,4095,124353\",\"lost\":false,\"share\":0,\"version\":2}\n",
     ),
     (
         2_037_469_184,
-        false,
         "{\"cache\":57344,\"code\":\"none\",\"geometry\":\"4096,128,256,4095,497429\",\"lost\":false,\"share\":0,\"version\":2}\n",
     ),
 ];
 
 // Whether the text of the shape for a size is this, and tells that shape.
-fn goes_round(alloc: Global, bytes: u64, lost: bool, wanted: &str) -> bool {
+fn goes_round(alloc: Global, bytes: u64, wanted: &str) -> bool {
     let Ok(shape) = shape_for(bytes) else {
         return false;
     };
-    let Ok(text) = write_shape(alloc, &shape, lost) else {
+    let Ok(text) = write_shape(alloc, &shape) else {
         return false;
     };
     let told = DiskText {
         shape,
         marked: true,
-        lost,
     };
     text.as_str() == wanted && read_shape(alloc, text.as_bytes()) == Ok(told)
 }
 
 #[test]
 fn shapes_are_written_and_read(rt: HostRuntime) {
-    for (bytes, lost, text) in TEXTS {
-        assert!(rt; goes_round(rt.alloc(), *bytes, *lost, text), "{text}");
+    for (bytes, text) in TEXTS {
+        assert!(rt; goes_round(rt.alloc(), *bytes, text), "{text}");
     }
 }
 
@@ -73,12 +69,7 @@ const SAME: &[(bool, &str)] = &[
 
 fn is_small(alloc: Global, marked: bool, text: &str) -> bool {
     match shape_for(1) {
-        Ok(shape) => read_shape(alloc, text.as_bytes())
-            == Ok(DiskText {
-                shape,
-                marked,
-                lost: false,
-            }),
+        Ok(shape) => read_shape(alloc, text.as_bytes()) == Ok(DiskText { shape, marked }),
         Err(_) => false,
     }
 }
@@ -153,6 +144,10 @@ const FAULTS: &[(&[u8], ShapeFault)] = &[
     (
         b"{\"cache\":64,\"code\":\"none\",\"geometry\":\"4096,128,64,13,1\",\"lost\":0,\"version\":2}",
         ShapeFault::WrongType(Member::Lost),
+    ),
+    (
+        b"{\"cache\":64,\"code\":\"none\",\"geometry\":\"4096,128,64,13,1\",\"lost\":true,\"share\":0,\"version\":2}",
+        ShapeFault::Lost,
     ),
     (
         b"{\"cache\":64,\"code\":\"none\",\"geometry\":\"4096,128,64,13,1\",\"lost\":false,\"version\":2}",
