@@ -24,6 +24,7 @@ import subprocess
 import socket
 import sys
 import tempfile
+import time
 
 import nbd
 
@@ -118,6 +119,11 @@ def run(program, shape, path, log, requests, draw, words, flushes=True, syncs=Tr
         client.shutdown()
         assert server.wait() == 0, server.stderr.read()
     else:
+        # a reply comes before strace has noted it, and of a killed server it notes no more
+        for _ in range(100):
+            if sum(event.kind == "reply" for event in events_of(log)) == len(sent):
+                break
+            time.sleep(0.1)
         # the flush at a session's end would sync
         os.kill(child_of(server.pid), signal.SIGKILL)
         server.wait()
