@@ -35,11 +35,11 @@ returns-in-Ok-clause-ok g c =
     let stands = c.in-Ok.ensures.stands in
     let same : taker.geometry ≡ geo = one_geometry taker.geometry geo chip stands.of of in
     let made : IfSome known (IsCorrected taker.geometry chip pieces taker.turned taker.touched taker.losses.items) =
-        if_more known (IsTaken chip (λ image. Shows taker.geometry (row_count chip) (take (row_count chip) image) pieces taker.turned taker.touched taker.losses.items))
-        (IsCorrected taker.geometry chip pieces taker.turned taker.touched taker.losses.items) c.in-Ok.ensures.taken
-        (λ bytes taken. done taker.geometry chip _ _ _ _ _ pieces bytes stands taken) in
+    if_more known (IsTaken chip (λ image. Shows taker.geometry (row_count chip) (take (row_count chip) image) pieces taker.turned taker.touched taker.losses.items))
+    (IsCorrected taker.geometry chip pieces taker.turned taker.touched taker.losses.items) c.in-Ok.ensures.taken
+    (λ bytes taken. done taker.geometry chip _ _ _ _ _ pieces bytes stands taken) in
     subst (λ (k : Geometry). IfSome known (IsCorrected geo k pieces taker.turned taker.touched taker.losses.items)) c.raw.ensures
-        (subst (λ (h : Geometry). IfSome known (IsCorrected h chip pieces taker.turned taker.touched taker.losses.items)) same made)
+    (subst (λ (h : Geometry). IfSome known (IsCorrected h chip pieces taker.turned taker.touched taker.losses.items)) same made)
 
 pub returns-in-Ok-clause-own : goal.returns-in-Ok-clause-own
 returns-in-Ok-clause-own g c =

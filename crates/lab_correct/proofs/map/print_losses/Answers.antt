@@ -10,5 +10,5 @@ returns g c =
     let b = g.W.Write.contents c.print_parts.new.out in
     let d = g.W.Write.contents c.print_part.new.out in
     then_last _ _ _ _ _ r c.in_ok-print_head.ensures
-        (then_last _ _ _ _ _ r c.in_ok-print_parts.ensures
-        (subst (λ t. OnOk r (Appends b d t)) (part_is (page_bytes c.args.geometry.now) _ _ _ _ c.next_row-next.ensures.is (c.from.ensures ∙ c.rows.ensures)) c.print_part.ensures))
+    (then_last _ _ _ _ _ r c.in_ok-print_parts.ensures
+    (subst (λ t. OnOk r (Appends b d t)) (part_is (page_bytes c.args.geometry.now) _ _ _ _ c.next_row-next.ensures.is (c.from.ensures ∙ c.rows.ensures)) c.print_part.ensures))
