@@ -1,6 +1,6 @@
 /* A proved flash translation layer over one raw NAND die, for callers in C. C99, and C++.
  *
- * Link libftl_c.a, and define what it asks for:
+ * Link libftl.a (`make install` calls it so; `rt lib` builds it as libftl_c.a), and define what it asks for:
  *   read, write                POSIX's, blocking; on bare metal your own. They carry frames to the die and answers back: see "Frames of a bus" in
  *                              docs/FORMATS.md. These two are your port.
  *   rattle_alloc, rattle_realloc, rattle_dealloc    the heap, at the end of this file: over malloc, or over an arena of your own.
@@ -120,7 +120,9 @@ struct ftl_sizes {
     uint32_t sectors;
     uint32_t need;              /* with fewer good blocks ftl_format refuses, and the disk may become read-only */
     uint32_t certificate_bytes; /* what ftl_certify writes and ftl_start_certified takes */
-    uint32_t memory_bytes;      /* never more are asked of the heap and not given back, over the whole life of a disk */
+    uint32_t memory_bytes;      /* never more are asked of the heap and not given back, over the whole life of a disk. But the session before
+                                 * may have had a larger cache, and been stopped with no flush: then ftl_start takes the larger cache once, and more
+                                 * than this. Flush before such a stop, or open the disk with the larger cache once more */
     uint32_t memory_blocks;     /* in never more pieces than so: a heap that keeps h bytes beside each needs memory_blocks * h more */
 };
 
