@@ -84,8 +84,7 @@ enum ftl_answer {
     FTL_TOO_STALE = 68,      /* more sectors are stale than a cache can have */
     FTL_NEXT_SEQUENCE = 69,  /* a sound page has the last sequence number; of a certificate: its next one is too low */
 
-    /* of ftl_start_certified: the first thing that the certificate says otherwise than the die. Of ftl_start too, which looks at the pages twice,
-     * where the second look found others */
+    /* of ftl_start_certified: the first thing that the certificate says otherwise than the die */
     FTL_GEOMETRY_DIFFERS = 70, /* the certificate is of another shape; the die was not read */
     FTL_NOT_NEWEST = 71,     /* the row of a sector is not that of its newest page */
     FTL_NO_SUCH_RECORD = 72, /* at the row of a sector stands no page of it */
@@ -205,7 +204,7 @@ static inline uint32_t ftl_get_sizes(ftl_disk *disk, struct ftl_sizes *sizes) {
  * after FTL_WRITE_FAILED, pages may be written, and a next ftl_format is then answered FTL_NOT_FRESH. */
 static inline uint32_t ftl_format(ftl_disk *disk) { return disk == NULL ? (uint32_t)FTL_NULL : ftl_entry_format(disk); }
 
-/* Power comes: the die is reset, each page is read twice, and the device is started with the array of sectors that the die holds. Where power went with more
+/* Power comes: the die is reset, each page is read, and the device is started with the array of sectors that the die holds. Where power went with more
  * sectors unflushed than the cache has entries, it starts with a larger cache first, up to 65536 entries, flushes, and begins anew; a device that takes no
  * change any more keeps the larger one. Errors: FTL_STARTED; of a start; FTL_OUT_OF_MEMORY; FTL_BUS_FAULT; where it had to flush, those of a device. The disk has no device after each, its
  * memory is given back, and the die holds the array that it held. */
