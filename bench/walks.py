@@ -1,5 +1,6 @@
 #!/usr/bin/env python3
-"""Writes the walks of the exports of crates/ftl_c: what lies at the handle is lent to a function of the crate and taken back.
+"""Writes the walks of the exports of crates/ftl_c: what lies at the handle is lent to a function of the crate and taken back, and what that function says of it is
+handed on.
 
     bench/walks.py            writes proofs/exports/*/Proof.antt
     bench/walks.py --check    says which of them are not as it would write them"""
@@ -9,7 +10,7 @@ from pathlib import Path
 
 EXPORTS = Path(__file__).resolve().parent.parent / "crates" / "ftl_c" / "proofs" / "exports"
 
-HEAD = '''-- `{name}` lends what lies at the handle to `{module}::{inner}` and takes it back.
+HEAD = '''-- `{name}` lends what lies at the handle to `{module}::{inner}`, takes it back, and hands on what that says.
 use Rattle.std.proofs.Common.{{◌≡◌, ℕ, ◌<◌, ◌^◌, List, [], ◌∷◌, ◌++◌, length, refl, sym, ap, w8, w32, MutBor}}
 use Rattle.std.proofs.raw_atomic.Walks.{{proved}}
 use Rattle.std.proofs.VecSteps.Shapes.{{after}}
@@ -44,6 +45,7 @@ use denote.Triple.Entry.{{on_entry}}
 use denote.Triple.Spec.{{triple_of}}
 use denote.Triple.Table.{{framed}}
 use denote.Triple.Walked.{{Stays, walk_of, says, stay_dropped, gave_slice, Goes-dropped, Goes-gave_slice, ends_at}}
+use Rattle.ftl_c.specs.{spec}.{{{fact}}}
 use Rattle.ftl_c.specs.declared.disk.Disk.{{Disk}}
 use Rattle.ftl_c.specs.contracts.disk.Disk.{{the_row as R}}
 use Rattle.ftl_c.specs.contracts.exports.{name} as f
@@ -67,14 +69,14 @@ CAST = '''    first ! $ blocks ! $
 '''
 LANDS = '''    await ! tt $ pick ! (λ u. split ! $ split ! $ split ! $ lft_end ! tt $ move ! (2 ∷ []) $
     peeks ! u32 (Is u32) (shows 𝓛 u32) u (v ∷ []) (λ is. lands_as ! refl refl ((uint_Lawful 𝓛 w32).typed u _ is).0 $
-    move ! (3 ∷ []) $ pick ! (λ ws. split ! $ fsplit ! $ fsplit ! $
-    move ! (5 ∷ 7 ∷ 0 ∷ []) $ use3 𝓛 (later (‵ (lies_at R full_share (block_ptr b o) ws.0))) (ref_back 𝓛 R (α ∷ []) δ ws.0 b o) $ await ! tt $
+    move ! (3 ∷ []) $ pick ! (λ ws. split ! $ move ! (1 ∷ []) $ heard ! _ (λ so. fsplit ! $ fsplit ! $
+    move ! (4 ∷ 6 ∷ 0 ∷ []) $ use3 𝓛 (later (‵ (lies_at R full_share (block_ptr b o) ws.0))) (ref_back 𝓛 R (α ∷ []) δ ws.0 b o) $ await ! tt $
     returns ! (look_at ! 0 refl) $ free_all ! refl $
 '''
 
 
-def pack():
-    return 'fpack ! Disk (λ (x : Disk). lies_at R full_share (block_ptr b o) x) ws.0'
+def pack(fact):
+    return f"fpack ! ((is : Disk) × {fact('u', 'is', 'ws')}) (λ (x : (is : Disk) × {fact('u', 'is', 'ws')}). lies_at R full_share (block_ptr b o) x.0) (ws.0, so)"
 
 
 def top(name, stays, goes, vals, tells):
@@ -90,16 +92,17 @@ pub {name}_spec : {{M : Type 1}} → statement M
 '''
 
 
-def call(module, inner, args, ws, toks):
+def call(module, inner, args, ws, toks, fact):
     return f'''    calls_at ! (framed 𝓤 𝓛.H 𝓜 (tables 𝓤 𝓛.H 𝓜 𝓡 𝓡.env)) G (met 𝓤 𝓛 𝓜 𝓡 (code.calls-ftl_c::{module}::{inner} 𝓡.env wired)) z
     ({args}) (λ v.
     use1 𝓛 (later (some (λ (u : ℕ). (({toks}) ⊛ ‵ (u32.own_val u (v ∷ []))) ⊛
-    some (λ (ws : {ws}). ‵ (lasts g.ended z.0.0 z.0.3 ws) ⊛ ‵ ftrue)))) (id⊢ 𝓤 _) $
+    some (λ (ws : {ws}). ‵ (lasts g.ended z.0.0 z.0.3 ws) ⊛ raw (fact 𝓤 ({fact('u', 'ws.0', 'ws')})))))) (id⊢ 𝓤 _) $
 '''
 
 
-def alone(name, module, inner):
+def alone(name, module, inner, says):
     """The handle alone."""
+    fact = lambda u, now, ws: f"{says} d {u} {now}"
     s = top(name, '(stay_dropped _ yes, tt)', '(Goes-dropped 𝓛 0 (plain (λ _. RawPtr)) yes (λ κs x w. refl), tt)', '(rawptr_vals, tt)', '(rawptr_Tells, tt)')
     s += '''    let y : Ptr → W.Ghost = λ p. ((κs, qs, bounds, (p, tt), (rawptr_vals p, tt)), d) in
     qed 𝓛 (raw (on_entry 𝓛 f.signature κs qs a (y a.0).0.4) ∷ ‵ (lies_at R full_share a.0 d) ∷ []) ∵ drop ! $
@@ -108,15 +111,16 @@ def alone(name, module, inner):
     enter ! _ _ _ _ _ $ alloc_all ! (λ l. pass_all ! refl ((tt, tt), tt) $
 ''' + CAST + LEND + '''    let z : G.Ghost = (((α ∷ [], tt), (full_share, tt), tt, (r, tt), (vptr b o ∷ [], tt)), tt) in
     nothing ! $ move ! (1 ∷ 0 ∷ []) $ join ! $ nothing ! $ move ! (3 ∷ 0 ∷ []) $ join ! $ join ! $ nothing ! $ move ! (1 ∷ 0 ∷ []) $ use2 𝓛 (raw (G.pre z)) (id⊢ 𝓤 _) $
-''' + call(module, inner, 'and_then ! (get ! refl) (no_more !)', 'Disk × Unit {0}', '‵ (flft (α ∷ []) full_share) ⊛ ‵ ftrue') + LANDS + f'''    keep ! (0 ∷ 4 ∷ []) $
+''' + call(module, inner, 'and_then ! (get ! refl) (no_more !)', 'Disk × Unit {0}', '‵ (flft (α ∷ []) full_share) ⊛ ‵ ftrue', fact) + LANDS + f'''    keep ! (0 ∷ 3 ∷ []) $
     suffices ! _ (ends_at 𝓛 f.ended stayed c (y (block_ptr b o)) v u (tt, tt) (tt, tt)) $
-    {pack()} $ move ! (1 ∷ []) $ nothing ! $ nothing ! $ join ! $ nothing ! $ group ! 3 $ done !)))))))))
+    {pack(fact)} $ move ! (1 ∷ []) $ nothing ! $ nothing ! $ join ! $ nothing ! $ group ! 3 $ done !))))))))))
 '''
     return s
 
 
-def number(name, module, inner):
+def number(name, module, inner, says):
     """The handle and a number."""
+    fact = lambda u, now, ws: f"{says} d n {u} {now}"
     s = top(name, '(stay_dropped _ yes, (stay_dropped _ yes, tt))', '(Goes-dropped 𝓛 0 (plain (λ _. RawPtr)) yes (λ κs x w. refl), (Goes-dropped 𝓛 0 (plain (λ _. u32)) yes (λ κs x w. refl), tt))', '(rawptr_vals, (uint_vals w32, tt))', '(rawptr_Tells, (uint_Tells w32, tt))')
     s += '''    let n = a.1.0 in let fits : n < 2 ^ 32 = are.1.0.1 in
     let y : Ptr → W.Ghost = λ p. ((κs, qs, bounds, (p, (n, tt)), (rawptr_vals p, (uint_vals w32 n, tt))), d) in
@@ -128,21 +132,24 @@ def number(name, module, inner):
 ''' + LEND + '''    let z : G.Ghost = (((α ∷ [], tt), (full_share, tt), tt, (r, (n, tt)), (vptr b o ∷ [], (vint w32 n ∷ [], tt))), tt) in
     nothing ! $ owned ! u32 _ (uint_Makes 𝓛 w32) n _ (refl, fits) $ join ! $ move ! (1 ∷ 0 ∷ []) $ join ! $
     nothing ! $ move ! (3 ∷ 0 ∷ []) $ join ! $ join ! $ nothing ! $ move ! (1 ∷ 0 ∷ []) $ use2 𝓛 (raw (G.pre z)) (id⊢ 𝓤 _) $
-''' + call(module, inner, 'and_then ! (get ! refl) (and_then ! (get ! refl) (no_more !))', 'Disk × (Unit {0} × Unit {0})', '‵ (flft (α ∷ []) full_share) ⊛ ‵ ftrue') + LANDS + f'''    keep ! (0 ∷ 4 ∷ []) $
+''' + call(module, inner, 'and_then ! (get ! refl) (and_then ! (get ! refl) (no_more !))', 'Disk × (Unit {0} × Unit {0})', '‵ (flft (α ∷ []) full_share) ⊛ ‵ ftrue', fact) + LANDS + f'''    keep ! (0 ∷ 3 ∷ []) $
     suffices ! _ (ends_at 𝓛 f.ended stayed c (y (block_ptr b o)) v u (tt, (tt, tt)) (tt, (tt, tt))) $
-    {pack()} $ move ! (1 ∷ []) $ nothing ! $ nothing ! $ join ! $ nothing ! $ join ! $ nothing ! $ group ! 3 $ done !)))))))))
+    {pack(fact)} $ move ! (1 ∷ []) $ nothing ! $ nothing ! $ join ! $ nothing ! $ join ! $ nothing ! $ group ! 3 $ done !))))))))))
 '''
     return s
 
 
-def data(name, module, inner, is_mut, has_number):
+def data(name, module, inner, says, is_mut, has_number):
     """The handle, a number or none, and bytes."""
     kind, slice_of = ('mut', 'MutSlice') if is_mut else ('shr', 'ShrSlice')
+    told = ' n' if has_number else ''
     if is_mut:
         new = 'ws.1.1.0' if has_number else 'ws.1.0'
+        fact = lambda u, now, ws: f"{says} d{told} s.now {u} {new} {now}"
         stay = '(gave_slice (0 ∷ []) tt (plain (λ _. u8)), tt)'
         go = '(Goes-gave_slice 𝓛 1 0 tt (plain (λ _. u8)), tt)'
     else:
+        fact = lambda u, now, ws: f"{says} d{told} s.now {u} {now}"
         stay = '(stay_dropped (shr_slice_of (0 ∷ []) tt (plain (λ _. u8))) yes, tt)'
         go = '(Goes-dropped 𝓛 1 (shr_slice_of (0 ∷ []) tt (plain (λ _. u8))) yes (λ κs x w. refl), tt)'
     number_of = lambda with_it, rest: f"({with_it}, {rest})" if has_number else rest
@@ -187,45 +194,45 @@ def data(name, module, inner, is_mut, has_number):
     last = 'List ℕ' if is_mut else 'Unit {0}'
     ws = f"Disk × (Unit {{0}} × ({last} × Unit {{0}}))" if has_number else f"Disk × ({last} × Unit {{0}})"
     passes = 'and_then ! (get ! refl) (and_then ! (get ! refl) (and_then ! (get ! refl) (no_more !)))' if has_number else 'and_then ! (get ! refl) (and_then ! (get ! refl) (no_more !))'
-    s += call(module, inner, passes, ws, '‵ (flft (α ∷ []) full_share) ⊛ ‵ (flft κ q) ⊛ ‵ ftrue') + LANDS
+    s += call(module, inner, passes, ws, '‵ (flft (α ∷ []) full_share) ⊛ ‵ (flft κ q) ⊛ ‵ ftrue', fact) + LANDS
     joins = 'nothing ! $ join ! $ ' if has_number else ''
     if is_mut:
         ends, fit = number_of('tt', f'({new}, tt)'), number_of('tt', '(same, tt)')
-        s += f'''    keep ! (2 ∷ 0 ∷ 4 ∷ 5 ∷ []) $
+        s += f'''    keep ! (2 ∷ 0 ∷ 3 ∷ 4 ∷ []) $
     {'fsplit ! $ drop ! $ ' if has_number else ''}fsplit ! $ fsplit ! $ fsplit ! $ move ! (1 ∷ []) $ feq_l ! (λ same. fjoin ! $
     -- [the slice; nothing; the disk; the result; the tokens]
     suffices ! _ (ends_at 𝓛 f.ended stayed c (y (block_ptr b o)) v u (tt, {ends}) (tt, {fit})) $
-    move ! (2 ∷ []) $ {pack()} $ move ! (1 ∷ 2 ∷ []) $ join ! $
-    {joins}nothing ! $ join ! $ move ! (3 ∷ 0 ∷ 2 ∷ []) $ group ! 3 $ done !))))))))))
+    move ! (2 ∷ []) $ {pack(fact)} $ move ! (1 ∷ 2 ∷ []) $ join ! $
+    {joins}nothing ! $ join ! $ move ! (3 ∷ 0 ∷ 2 ∷ []) $ group ! 3 $ done !)))))))))))
 '''
     else:
         ends = number_of('tt', '(tt, tt)')
-        s += f'''    keep ! (0 ∷ 4 ∷ 5 ∷ []) $
+        s += f'''    keep ! (0 ∷ 3 ∷ 4 ∷ []) $
     -- [the disk; the result; the tokens]
     suffices ! _ (ends_at 𝓛 f.ended stayed c (y (block_ptr b o)) v u (tt, {ends}) (tt, {ends})) $
-    {pack()} $ move ! (1 ∷ []) $
-    nothing ! $ nothing ! $ join ! $ {joins}nothing ! $ join ! $ move ! (3 ∷ 0 ∷ 1 ∷ []) $ group ! 3 $ done !)))))))))
+    {pack(fact)} $ move ! (1 ∷ []) $
+    nothing ! $ nothing ! $ join ! $ {joins}nothing ! $ join ! $ move ! (3 ∷ 0 ∷ 1 ∷ []) $ group ! 3 $ done !))))))))))
 '''
     return s
 
 
 def walks():
-    for name, module, inner, walk in [
-        ('format', 'disk', 'format_die', alone),
-        ('start', 'disk', 'start', alone),
-        ('stop', 'disk', 'stop', alone),
-        ('flush', 'disk', 'flush', alone),
-        ('turn', 'disk', 'turn', alone),
-        ('trim', 'disk', 'trim', number),
-        ('count', 'counts', 'count', number),
-        ('read', 'disk', 'read', lambda *given: data(*given, True, True)),
-        ('write', 'disk', 'write', lambda *given: data(*given, False, True)),
-        ('certify', 'certificates', 'certify', lambda *given: data(*given, True, False)),
-        ('start_certified', 'certificates', 'start_certified', lambda *given: data(*given, False, False)),
+    for name, module, inner, spec, says, walk in [
+        ('format', 'disk', 'format_die', 'Disk', 'Formats', alone),
+        ('start', 'disk', 'start', 'Disk', 'Starts', alone),
+        ('stop', 'disk', 'stop', 'Disk', 'Stops', alone),
+        ('flush', 'disk', 'flush', 'Disk', 'Flushes', alone),
+        ('turn', 'disk', 'turn', 'Disk', 'Turns', alone),
+        ('trim', 'disk', 'trim', 'Disk', 'Trims', number),
+        ('count', 'counts', 'count', 'Counts', 'Counts', number),
+        ('read', 'disk', 'read', 'Disk', 'Reads', lambda *given: data(*given, True, True)),
+        ('write', 'disk', 'write', 'Disk', 'Writes', lambda *given: data(*given, False, True)),
+        ('certify', 'certificates', 'certify', 'Disk', 'Certifies', lambda *given: data(*given, True, False)),
+        ('start_certified', 'certificates', 'start_certified', 'Disk', 'StartsCertified', lambda *given: data(*given, False, False)),
     ]:
         export = f'ftl_entry_{name}'
-        head = HEAD.format(name=export, module=module, inner=inner)
-        yield EXPORTS / export / 'Proof.antt', head + walk(export, module, inner)
+        head = HEAD.format(name=export, module=module, inner=inner, spec=spec, fact=says)
+        yield EXPORTS / export / 'Proof.antt', head + walk(export, module, inner, says)
 
 
 def without_imports(text):

@@ -1,6 +1,6 @@
 /* A proved flash translation layer over one raw NAND die, for callers in C. C99, and C++.
  *
- * Link libftl_c.a, and define what it asks for:
+ * Link libftl.a (`make install` calls it so; `rt lib` builds it as libftl_c.a), and define what it asks for:
  *   read, write                POSIX's, blocking; on bare metal your own. They carry frames to the die and answers back: see "Frames of a bus" in
  *                              docs/FORMATS.md. These two are your port.
  *   rattle_alloc, rattle_realloc, rattle_dealloc    the heap, at the end of this file: over malloc, or over an arena of your own.
@@ -84,8 +84,7 @@ enum ftl_answer {
     FTL_TOO_STALE = 68,      /* more sectors are stale than a cache can have */
     FTL_NEXT_SEQUENCE = 69,  /* a sound page has the last sequence number; of a certificate: its next one is too low */
 
-    /* of ftl_start_certified: the first thing that the certificate says otherwise than the die. Of ftl_start too, which looks at the pages twice,
-     * where the second look found others */
+    /* of ftl_start_certified: the first thing that the certificate says otherwise than the die */
     FTL_GEOMETRY_DIFFERS = 70, /* the certificate is of another shape; the die was not read */
     FTL_NOT_NEWEST = 71,     /* the row of a sector is not that of its newest page */
     FTL_NO_SUCH_RECORD = 72, /* at the row of a sector stands no page of it */
@@ -120,7 +119,9 @@ struct ftl_sizes {
     uint32_t sectors;
     uint32_t need;              /* with fewer good blocks ftl_format refuses, and the disk may become read-only */
     uint32_t certificate_bytes; /* what ftl_certify writes and ftl_start_certified takes */
-    uint32_t memory_bytes;      /* never more are asked of the heap and not given back, over the whole life of a disk */
+    uint32_t memory_bytes;      /* never more are asked of the heap and not given back, over the whole life of a disk. But the session before
+                                 * may have had a larger cache, and been stopped with no flush: then ftl_start takes the larger cache once, and more
+                                 * than this. Flush before such a stop, or open the disk with the larger cache once more */
     uint32_t memory_blocks;     /* in never more pieces than so: a heap that keeps h bytes beside each needs memory_blocks * h more */
 };
 
@@ -203,7 +204,7 @@ static inline uint32_t ftl_get_sizes(ftl_disk *disk, struct ftl_sizes *sizes) {
  * after FTL_WRITE_FAILED, pages may be written, and a next ftl_format is then answered FTL_NOT_FRESH. */
 static inline uint32_t ftl_format(ftl_disk *disk) { return disk == NULL ? (uint32_t)FTL_NULL : ftl_entry_format(disk); }
 
-/* Power comes: the die is reset, each page is read twice, and the device is started with the array of sectors that the die holds. Where power went with more
+/* Power comes: the die is reset, each page is read, and the device is started with the array of sectors that the die holds. Where power went with more
  * sectors unflushed than the cache has entries, it starts with a larger cache first, up to 65536 entries, flushes, and begins anew; a device that takes no
  * change any more keeps the larger one. Errors: FTL_STARTED; of a start; FTL_OUT_OF_MEMORY; FTL_BUS_FAULT; where it had to flush, those of a device. The disk has no device after each, its
  * memory is given back, and the die holds the array that it held. */

@@ -1,7 +1,10 @@
 -- WHAT FOLLOWS FROM A SHAPE.
-use Rattle.std.specs.Prelude.{◌≡◌, ℕ, ◌+◌, ◌*◌, max, min}
+use Rattle.std.specs.Prelude.{◌≡◌, ◌⊎◌, ℕ, ◌+◌, ◌*◌, max, min}
 use Rattle.page_layout.specs.declared.geometry.Geometry.{Geometry}
 use Rattle.page_layout.specs.Geometry.{need, row_count, translation_pages, table_pages}
+use Rattle.ftl_c.specs.Plans.{IsPlanOf, IsUnplanned}
+use Rattle.ftl_c.specs.declared.plan.Plan.{Plan}
+use Rattle.ftl_c.specs.declared.shape.Shape.{Shape}
 use Rattle.ftl_c.specs.declared.measures.Sizes.{Sizes}
 
 -- the sectors, translation pages and table pages, each of which has a newest page
@@ -38,3 +41,12 @@ pub record Measures (g : Geometry) (cache : ℕ) (s : Sizes) : Type 0 where
   pub certificate : s.certificate_bytes ≡ min (certificate_bytes g) 4294967295
   pub bytes : s.memory_bytes ≡ min (memory_bytes g cache) 4294967295
   pub blocks : s.memory_blocks ≡ memory_blocks g cache
+
+-- WHAT C IS TOLD of a shape that keeps its limits; of another one its number, and the sizes stay
+pub record IsMeasured (shape : Shape) (s : Sizes) : Type 0 where
+  pub plan : Plan
+  pub its : IsPlanOf shape plan
+  pub measures : Measures plan.geometry plan.cache s
+
+abbrev pub Tells : Shape → ℕ → (before after : Sizes) → Type 0
+Tells shape number before after = ((number ≡ 0) × IsMeasured shape after) ⊎ (IsUnplanned shape number × (after ≡ before))

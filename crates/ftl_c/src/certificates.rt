@@ -1,25 +1,24 @@
 //! Certificates of a disk, in and out.
-use crate::code::{STARTED, WRONG_SIZE, of_certificate, of_mount};
-use crate::descriptors::Descriptors;
-use crate::disk::{Disk, number, reset};
+ghost use Rattle.std.specs.Prelude.{◌≡◌, None, IfOk, IfErr};
+ghost use Rattle.ftl_c.specs.Disk.{Certifies, IsCertifying, IsStarting, IsUncertified, StartsBy, StartsCertified, IsCertified};
+
+use crate::disk::{Disk, reset, way_to};
 use crate::measures::certificate_bytes;
-use crate::power;
-use certificate::{read_certificate, write_certificate};
+use crate::number::{DONE, STARTED, WRONG_SIZE, of_certificate, of_power, of_refusal};
+use certificate::{Certificate, read_certificate, write_certificate};
+use device_slot::start_checked;
 use mount::mount;
 
-// The bytes of the certificate of what the die holds.
-fn certified(disk: &Disk) -> Result<Vec<u8>, u32> {
-    let plan = disk.plan;
-    let geometry = plan.geometry;
-    let link = Descriptors {
-        input: disk.link.input,
-        output: disk.link.output,
-        geometry,
-    };
-    let mut die = reset(link, geometry)?;
-    let certificate = match mount(disk.alloc, &mut die, &geometry, plan.capacity) {
+// The bytes of the certificate of what the die holds, or the number of what kept it from one.
+fn certified(disk: &Disk) -> Result<Vec<u8>, u32>
+    ensures made { IfOk result (λ bytes. IsCertified disk.now bytes.items) }
+    ensures fault { IfErr result IsUncertified }
+{
+    let geometry = disk.plan.geometry;
+    let mut die = reset(way_to(&disk.link, geometry), geometry)?;
+    let certificate = match mount(disk.alloc, &mut die, &geometry, disk.plan.cache) {
         Ok(certificate) => certificate,
-        Err(refusal) => return Err(of_mount(refusal)),
+        Err(refusal) => return Err(of_refusal(&refusal)),
     };
     match write_certificate(disk.alloc, &certificate) {
         Ok(bytes) => Ok(bytes),
@@ -27,53 +26,74 @@ fn certified(disk: &Disk) -> Result<Vec<u8>, u32> {
     }
 }
 
-// They are put into as many.
-fn put_certificate(disk: &Disk, out: &mut [u8]) -> Result<(), u32> {
+// It is written to `out`, which has to be as long.
+fn put_certificate(disk: &mut Disk, out: &mut [u8]) -> u32
+    ensures { IsCertifying disk.old out.old result out.new disk.new }
+{
     if out.len() as u64 != certificate_bytes(&disk.plan.geometry) {
-        return Err(WRONG_SIZE);
+        return WRONG_SIZE;
     }
-    let bytes = certified(disk)?;
-    if bytes.len() != out.len() {
-        return Err(WRONG_SIZE);
+    match certified(disk) {
+        Ok(bytes) => {
+            if bytes.len() != out.len() {
+                return WRONG_SIZE;
+            }
+            out.copy_from_slice(&bytes);
+            DONE
+        }
+        Err(number) => number,
     }
-    out.copy_from_slice(&bytes);
-    Ok(())
-}
-
-// The bytes are read as a certificate, which is held against the die, and the device begins.
-fn begin_certified(disk: &mut Disk, bytes: &[u8]) -> Result<(), u32> {
-    let plan = disk.plan;
-    let geometry = plan.geometry;
-    if bytes.len() as u64 != certificate_bytes(&geometry) {
-        return Err(WRONG_SIZE);
-    }
-    let certificate = match read_certificate(disk.alloc, bytes) {
-        Ok(certificate) => certificate,
-        Err(fault) => return Err(of_certificate(fault)),
-    };
-    let link = Descriptors {
-        input: disk.link.input,
-        output: disk.link.output,
-        geometry,
-    };
-    let die = reset(link, geometry)?;
-    let device = power::begin(disk.alloc, die, &geometry, &certificate, plan.capacity)?;
-    disk.shelf.put(device);
-    Ok(())
 }
 
 /// Writes the certificate of what the die holds.
-pub(crate) fn certify(disk: &mut Disk, out: &mut [u8]) -> u32 {
-    if disk.shelf.is_started() {
+pub(crate) fn certify(disk: &mut Disk, out: &mut [u8]) -> u32
+    ensures { Certifies disk.old out.old result out.new disk.new }
+{
+    if disk.slot.is_started() {
         return STARTED;
     }
-    number(put_certificate(disk, out))
+    put_certificate(disk, out)
+}
+
+// The certificate is held against the die, and the device begins.
+fn begin_by(disk: &mut Disk, certificate: &Certificate) -> u32
+    requires { disk.old.slot.device ≡ None }
+    ensures { IsStarting disk.old result disk.new }
+{
+    let geometry = disk.plan.geometry;
+    let die = match reset(way_to(&disk.link, geometry), geometry) {
+        Ok(die) => die,
+        Err(number) => return number,
+    };
+    match start_checked(disk.alloc, die, &geometry, disk.plan.cache, certificate) {
+        Ok(device) => {
+            disk.slot.put(device);
+            DONE
+        }
+        Err(fault) => of_power(&fault),
+    }
+}
+
+// The bytes are read as a certificate first.
+fn begin_certified(disk: &mut Disk, bytes: &[u8]) -> u32
+    requires { disk.old.slot.device ≡ None }
+    ensures { StartsBy disk.old bytes.now result disk.new }
+{
+    if bytes.len() as u64 != certificate_bytes(&disk.plan.geometry) {
+        return WRONG_SIZE;
+    }
+    match read_certificate(disk.alloc, bytes) {
+        Ok(certificate) => begin_by(disk, &certificate),
+        Err(fault) => of_certificate(fault),
+    }
 }
 
 /// Power comes, and the die has to hold what a certificate says.
-pub(crate) fn start_certified(disk: &mut Disk, bytes: &[u8]) -> u32 {
-    if disk.shelf.is_started() {
+pub(crate) fn start_certified(disk: &mut Disk, bytes: &[u8]) -> u32
+    ensures { StartsCertified disk.old bytes.now result disk.new }
+{
+    if disk.slot.is_started() {
         return STARTED;
     }
-    number(begin_certified(disk, bytes))
+    begin_certified(disk, bytes)
 }

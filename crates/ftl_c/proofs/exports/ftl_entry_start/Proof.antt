@@ -1,35 +1,39 @@
--- `ftl_entry_start` lends what lies at the handle to `disk::start` and takes it back.
-use Rattle.std.proofs.Common.{ℕ, [], ◌∷◌, refl, w32, MutBor}
+-- `ftl_entry_start` lends what lies at the handle to `disk::start`, takes it back, and hands on what that says.
+use Rattle.std.proofs.Common.{◌≡◌, ℕ, ◌<◌, ◌^◌, List, [], ◌∷◌, ◌++◌, length, refl, sym, ap, w8, w32, MutBor}
 use Rattle.std.proofs.raw_atomic.Walks.{proved}
 use Rattle.std.proofs.VecSteps.Shapes.{after}
 use base.Fraction.{full_share}
 use base.Logic.{id⊢}
-use base.Fml.{ftrue, flft, flent}
+use base.Fml.{ftrue, flft, flent, fres, fdead}
 use mir.Syntax.{named}
-use mir.Val.{vptr}
+use mir.Val.{Val, vint, vptr}
 use prog.Wp.{WpFn}
+use contract.Monad.{fact}
 use contract.Running.{tables}
-use types.Kit.{‵, raw, ◌⊛◌, some, later, prop, at_ret, ◌$◌, ◌∵◌, !, qed, done, move, keep, drop, use1, use2, use3, split, join, fsplit, fpack, pick, await, regoal, suffices, group}
-use types.Run.{enter, of_opd, addr, stop, no_more, and_then, first, blocks, exec, returns}
-use types.ByLocal.{alloc_all, pass_all, free_all, look_at, get, through, sets, sets_last, lands_as, env}
+use types.Kit.{‵, raw, ◌⊛◌, some, later, prop, at_ret, ◌$◌, ◌∵◌, !, qed, done, by, move, keep, drop, use1, use2, use3, split, join, fsplit, fjoin, fpack, feq_i, feq_l, pick, await, rewrite, regoal, suffices, frame, group}
+use types.Run.{enter, of_opd, addr, stop, fld, hop, from, no_more, and_then, first, blocks, exec, returns}
+use types.ByLocal.{alloc_all, pass_all, free_all, look_at, look_in_at, get, get_in, through, sets, sets_last, lands_as, env}
+use types.Part.{whole, sub, agg}
 use types.Tokens.{lft_new, lft_end}
 use types.SemTy.{Body}
-use denote.Builtin.{u32}
+use denote.Builtin.{u8, u32}
+use denote.Slice.{mut_slice_vals, mut_slice_Tells, MutSlice, shr_slice_vals, shr_slice_Tells, ShrSlice, slice_val}
 use denote.Exit.{yes}
 use denote.Laws.{Is, shows}
 use denote.Lend.{lends_ref, ref_back}
 use denote.Memory.{mem}
-use denote.Plain.{uint_Lawful}
+use denote.Plain.{uint_Makes, uint_Lawful, uint_vals, uint_Tells}
 use denote.RawPtr.{Ptr, RawPtr, block_ptr, lies_at, in_a_block, rawptr_vals, rawptr_Tells}
 use denote.Ref.{MutRef}
-use denote.Signature.{plain}
-use denote.Steps.{nothing, peeks}
+use denote.Signature.{plain, shr_slice_of}
+use denote.Steps.{nothing, owned, heard, peeks, only}
 use denote.Triple.Call.{calls_at}
 use denote.Triple.Clauses.{lasts}
 use denote.Triple.Entry.{on_entry}
 use denote.Triple.Spec.{triple_of}
 use denote.Triple.Table.{framed}
-use denote.Triple.Walked.{Stays, walk_of, stay_dropped, Goes-dropped, ends_at}
+use denote.Triple.Walked.{Stays, walk_of, says, stay_dropped, gave_slice, Goes-dropped, Goes-gave_slice, ends_at}
+use Rattle.ftl_c.specs.Disk.{Starts}
 use Rattle.ftl_c.specs.declared.disk.Disk.{Disk}
 use Rattle.ftl_c.specs.contracts.disk.Disk.{the_row as R}
 use Rattle.ftl_c.specs.contracts.exports.ftl_entry_start as f
@@ -67,12 +71,12 @@ ftl_entry_start_spec 𝓤 𝓛 𝓜 𝓡 wired =
     calls_at ! (framed 𝓤 𝓛.H 𝓜 (tables 𝓤 𝓛.H 𝓜 𝓡 𝓡.env)) G (met 𝓤 𝓛 𝓜 𝓡 (code.calls-ftl_c::disk::start 𝓡.env wired)) z
     (and_then ! (get ! refl) (no_more !)) (λ v.
     use1 𝓛 (later (some (λ (u : ℕ). ((‵ (flft (α ∷ []) full_share) ⊛ ‵ ftrue) ⊛ ‵ (u32.own_val u (v ∷ []))) ⊛
-    some (λ (ws : Disk × Unit {0}). ‵ (lasts g.ended z.0.0 z.0.3 ws) ⊛ ‵ ftrue)))) (id⊢ 𝓤 _) $
+    some (λ (ws : Disk × Unit {0}). ‵ (lasts g.ended z.0.0 z.0.3 ws) ⊛ raw (fact 𝓤 (Starts d u ws.0)))))) (id⊢ 𝓤 _) $
     await ! tt $ pick ! (λ u. split ! $ split ! $ split ! $ lft_end ! tt $ move ! (2 ∷ []) $
     peeks ! u32 (Is u32) (shows 𝓛 u32) u (v ∷ []) (λ is. lands_as ! refl refl ((uint_Lawful 𝓛 w32).typed u _ is).0 $
-    move ! (3 ∷ []) $ pick ! (λ ws. split ! $ fsplit ! $ fsplit ! $
-    move ! (5 ∷ 7 ∷ 0 ∷ []) $ use3 𝓛 (later (‵ (lies_at R full_share (block_ptr b o) ws.0))) (ref_back 𝓛 R (α ∷ []) δ ws.0 b o) $ await ! tt $
+    move ! (3 ∷ []) $ pick ! (λ ws. split ! $ move ! (1 ∷ []) $ heard ! _ (λ so. fsplit ! $ fsplit ! $
+    move ! (4 ∷ 6 ∷ 0 ∷ []) $ use3 𝓛 (later (‵ (lies_at R full_share (block_ptr b o) ws.0))) (ref_back 𝓛 R (α ∷ []) δ ws.0 b o) $ await ! tt $
     returns ! (look_at ! 0 refl) $ free_all ! refl $
-    keep ! (0 ∷ 4 ∷ []) $
+    keep ! (0 ∷ 3 ∷ []) $
     suffices ! _ (ends_at 𝓛 f.ended stayed c (y (block_ptr b o)) v u (tt, tt) (tt, tt)) $
-    fpack ! Disk (λ (x : Disk). lies_at R full_share (block_ptr b o) x) ws.0 $ move ! (1 ∷ []) $ nothing ! $ nothing ! $ join ! $ nothing ! $ group ! 3 $ done !)))))))))
+    fpack ! ((is : Disk) × Starts d u is) (λ (x : (is : Disk) × Starts d u is). lies_at R full_share (block_ptr b o) x.0) (ws.0, so) $ move ! (1 ∷ []) $ nothing ! $ nothing ! $ join ! $ nothing ! $ group ! 3 $ done !))))))))))
