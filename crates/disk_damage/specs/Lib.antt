@@ -1,0 +1,6 @@
+-- the file of the list
+pub mod ListText
+-- the sectors of a list, and numbers as text
+pub mod Numbers
+-- what a look at all pages finds
+pub mod Look
