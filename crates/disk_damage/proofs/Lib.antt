@@ -1,1 +1,2 @@
 pub mod NumberLemmas
+pub mod FoundLemmas

@@ -4,3 +4,5 @@ pub mod ListText
 pub mod Numbers
 -- what a look at all pages finds
 pub mod Look
+-- why lost sectors were not found
+pub mod Found

@@ -1,0 +1,23 @@
+-- What was found of a store that was mounted is so of it as it was.
+use Rattle.std.proofs.Common.{◌≡◌, ◌∙◌, ℕ, Bool, true, List, ap, length, subst, sym}
+use Rattle.page_layout.specs.declared.geometry.Geometry.{Geometry}
+use Rattle.page_layout.specs.Page.{Image}
+use Rattle.certificate.specs.Claim.{Claim}
+use Rattle.file_die.specs.Store.{Held}
+use Rattle.image_check.specs.Agrees.{Agrees}
+use Rattle.mount.specs.Mounted.{IsMounted}
+use Rattle.disk_server.specs.Opened.{HasCome}
+use Rattle.lost_sectors.specs.Lost.{Adds, is_lost}
+
+pub adds_found : {S : Type 0} (held : S → Held) (honest : S → Bool) (store mounted : S) (certificate : Claim) (mark : ℕ) (old new : List Bool) → HasCome held honest store mounted
+    → (honest store ≡ true → IsMounted (held store).geometry 65536 (held store).pages certificate)
+    → (honest mounted ≡ true → (capacity : ℕ) → Agrees (held mounted).geometry capacity (held mounted).pages certificate → length old ≡ (held mounted).geometry.sectors
+    → Adds (is_lost (held mounted).geometry (held mounted).pages mark) 0 (held mounted).geometry.sectors old new)
+    → honest store ≡ true → length old ≡ (held store).geometry.sectors → Adds (is_lost (held store).geometry (held store).pages mark) 0 (held store).geometry.sectors old new
+adds_found held honest store mounted certificate mark old new back is adds h size =
+    let geo = back.geometry h in
+    let pages = back.pages h in
+    let agrees : Agrees (held mounted).geometry 65536 (held mounted).pages certificate =
+    subst (λ (x : Image). Agrees (held mounted).geometry 65536 x certificate) (sym pages) (subst (λ (g : Geometry). Agrees g 65536 (held store).pages certificate) (sym geo) (is h).agrees) in
+    subst (λ (x : Image). Adds (is_lost (held store).geometry x mark) 0 (held store).geometry.sectors old new) pages
+    (subst (λ (g : Geometry). Adds (is_lost g (held mounted).pages mark) 0 g.sectors old new) geo (adds (back.as_honest ∙ h) 65536 agrees (size ∙ sym (ap (λ (g : Geometry). g.sectors) geo))))

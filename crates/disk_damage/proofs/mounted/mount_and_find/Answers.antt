@@ -1,0 +1,6 @@
+use Rattle.disk_damage.proofs.FoundLemmas.{adds_found}
+use Rattle.disk_damage.proofs.mounted.mount_and_find.Goals as goal
+
+pub returns-in-Ok-find_lost-clause-adds : goal.returns-in-Ok-find_lost-clause-adds
+returns-in-Ok-find_lost-clause-adds g c =
+    adds_found g.S.Store.held g.S.Store.honest c.args.store c.in-Ok.mounted.0 _ c.args.mark c.args.lost.now c.find_lost.new.lost c.in-Ok.ensures.back c.in-Ok.ensures.mounted c.in-Ok-find_lost.ensures.adds
