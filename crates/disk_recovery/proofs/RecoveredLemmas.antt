@@ -10,7 +10,7 @@ use Rattle.crash_recovery.specs.Taken.{Recovers}
 use Rattle.disk_server.specs.declared.opened.OpenStoreFault.{OpenStoreFault}
 use Rattle.disk_server.specs.Opened.{HasCome, bytes_of}
 use Rattle.disk_server.specs.Stopped.{IsUnopenedLater}
-use Rattle.disk_recovery.specs.Recovered.{HoldsRecovered, IsLeft, IsNotTaken, IsRecovered, IsUnrecovered}
+use Rattle.disk_recovery.specs.Recovered.{HoldsRecovered, IsLeft, IsNotTaken, IsRecovered, IsUnopenedRecovered, IsUnrecovered}
 
 -- the certificate is that of the store which came back
 pub agrees_again : {S : Type 0} (held : S → Held) (honest : S → Bool) (store mounted : S) (c : Claim) → HasCome held honest store mounted → honest store ≡ true
@@ -41,8 +41,8 @@ holds_of bytes held honest store mounted mark (Ok d) come opened = λ h.
 holds_of bytes held honest store mounted mark (Err e) come opened = tt
 
 not_taken : {S : Type 0} (honest : S → Bool) (failed : S → ℕ) (store mounted : S) (fault : OpenStoreFault) → honest mounted ≡ honest store → IsNotTaken honest failed mounted fault → IsNotTaken honest failed store fault
-not_taken honest failed store mounted fault as (inl memory) = inl memory
-not_taken honest failed store mounted fault as (inr failing) = inr (failing.0, failing.1, failing.2 ∙ as, failing.3)
+not_taken honest failed store mounted fault same (inl memory) = inl memory
+not_taken honest failed store mounted fault same (inr failing) = inr (failing.0, failing.1, failing.2 ∙ same, failing.3, failing.4)
 
 unrecovered : {S : Type 0} (held : S → Held) (honest : S → Bool) (failed : S → ℕ) (store mounted : S) (capacity mark : ℕ) (fault : OpenStoreFault) → HasCome held honest store mounted
     → IsUnrecovered held honest failed mounted capacity mark fault → IsUnrecovered held honest failed store capacity mark fault
@@ -53,9 +53,17 @@ unrecovered held honest failed store mounted capacity mark fault come (inr (inr 
     inr (inr (later.0, later.1 ∙ come.as_honest, (λ h. left_of held honest store mounted (held later.0) mark come h (later.2 (come.as_honest ∙ h))), later.3))
 
 pub fault_of : {S A : Type 0} (held : S → Held) (honest : S → Bool) (failed : S → ℕ) (store mounted : S) (capacity mark : ℕ) (result : Result A OpenStoreFault) → HasCome held honest store mounted
-    → IfErr result (IsUnrecovered held honest failed mounted capacity mark) → IfErr result (IsUnrecovered held honest failed store capacity mark)
+    → IfErr result (IsUnrecovered held honest failed mounted capacity mark) → IfErr result (IsUnopenedRecovered held honest failed store capacity mark)
 fault_of held honest failed store mounted capacity mark (Ok d) come is = tt
-fault_of held honest failed store mounted capacity mark (Err fault) come is = unrecovered held honest failed store mounted capacity mark fault come is
+fault_of held honest failed store mounted capacity mark (Err fault) come is = inr (unrecovered held honest failed store mounted capacity mark fault come is)
+
+-- nothing was torn
+pub left_once : (mark : ℕ) (s t : Held) (changed : Bool) → changed ≡ false → IsRecovered mark s changed t → IsLeft mark s t
+left_once mark s t changed none is = inl (subst (λ b. IsRecovered mark s b t) none is)
+
+-- or it was recovered twice
+pub left_twice : (mark : ℕ) (s mid t : Held) (changed : Bool) → changed ≡ true → IsRecovered mark s changed mid → ((more : Bool) × IsRecovered mark mid more t) → IsLeft mark s t
+left_twice mark s mid t changed some is again = inr (mid, subst (λ b. IsRecovered mark s b mid) some is, again)
 
 -- ---- the disk of what was left
 
