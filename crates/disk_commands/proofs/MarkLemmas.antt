@@ -1,5 +1,5 @@
 -- A mark that is torn as it is written.
-use Rattle.std.proofs.Common.{◌≡◌, inl, inr, ℕ, zero, suc, ◌<◌, ◌≤◌, ◌-◌, ◌^◌, ◌+◌, ◌⊎◌, List, [], ◌∷◌, ◌++◌, length, refl, sym, ◌∙◌, ap, subst, arith}
+use Rattle.std.proofs.Common.{rules, ◌≡◌, inl, inr, ℕ, zero, suc, ◌<◌, ◌≤◌, ◌-◌, ◌^◌, ◌+◌, ◌⊎◌, List, [], ◌∷◌, ◌++◌, length, refl, sym, ◌∙◌, ap, subst, arith}
 use Rattle.std.specs.Prelude.{take, drop, Option, Some, None, Bool, true, false, nat_lt, if◌then◌else◌}
 use Rattle.std.specs.Int.{w64, to_le_bytes, from_le_bytes}
 use Rattle.std.proofs.lemmas.Nat.{from_le_bytes-to_le_bytes_8}
@@ -36,12 +36,14 @@ front_torn (suc n) (suc k) [] (y ∷ b) within long = absurd (omega (arith, long
 front_torn (suc n) (suc k) (x ∷ a) [] within long = absurd (omega (arith, long))
 front_torn (suc n) (suc k) (x ∷ a) (y ∷ b) within long = ap (λ l. x ∷ l) (front_torn n k a b (omega (arith, within)) (omega (arith, long)))
 
-rest_torn : (n k : ℕ) (a b : List ℕ) → length a ≡ length b → drop n (take (n + k) a ++ drop (n + k) b) ≡ take k (drop n a) ++ drop k (drop n b)
-rest_torn zero k a b long = refl
-rest_torn (suc n) k [] [] long = search rules
-rest_torn (suc n) k [] (y ∷ b) long = absurd (omega (arith, long))
-rest_torn (suc n) k (x ∷ a) [] long = absurd (omega (arith, long))
-rest_torn (suc n) k (x ∷ a) (y ∷ b) long = rest_torn n k a b (omega (arith, long))
+rest_torn : (n m k : ℕ) (a b : List ℕ) → m ≡ n + k → n ≤ length a → length a ≡ length b → drop n (take m a ++ drop m b) ≡ take k (drop n a) ++ drop k (drop n b)
+rest_torn zero m k a b is some long =
+    let same : m ≡ k = omega (arith, is) in
+    subst (λ c. drop zero (take m a ++ drop m b) ≡ take c (drop zero a) ++ drop c (drop zero b)) same (search rules)
+rest_torn (suc n) zero k a b is some long = absurd (omega (arith, is))
+rest_torn (suc n) (suc m) k [] b is some long = absurd (omega (arith, some))
+rest_torn (suc n) (suc m) k (x ∷ a) [] is some long = absurd (omega (arith, long))
+rest_torn (suc n) (suc m) k (x ∷ a) (y ∷ b) is some long = rest_torn n m k a b (omega (arith, is)) (omega (arith, some)) (omega (arith, long))
 
 -- ---- a number
 
@@ -84,11 +86,8 @@ torn_at old new m count small small_new is (inr many) = (
   inr (read_back m.synced new.synced small_new.synced
       (subst (λ l. IsNumberText l m.synced) (front_before 16 count (slot_text new) (slot_text old) many refl) is.synced)),
   either_of old.flushed new.flushed m.flushed (count - 16) small.flushed small_new.flushed
-      (subst (λ l. IsNumberText l m.flushed) (behind (count - 16) (omega (arith, many))) is.flushed),
+      (subst (λ l. IsNumberText l m.flushed) (rest_torn 16 count (count - 16) (slot_text new) (slot_text old) (omega (arith, many)) (omega arith) refl) is.flushed),
 )
-  where
-    behind : (k : ℕ) → count ≡ 16 + k → drop 16 (torn_slot count old new) ≡ take k (number_text new.flushed) ++ drop k (number_text old.flushed)
-    behind k is = subst (λ c. drop 16 (torn_slot c old new) ≡ take k (number_text new.flushed) ++ drop k (number_text old.flushed)) (sym is) (rest_torn 16 k (slot_text new) (slot_text old) refl)
 
 pub torn_slots : TornSlotLaw
 torn_slots old new m count small small_new is = torn_at old new m count small small_new is (cases_lt count 16)

@@ -1,5 +1,5 @@
 -- How a session ends, and what that comes to.
-use Rattle.std.proofs.Common.{◌≡◌, ◌⊎◌, inl, inr, ℕ, Bool, true, false, List, [], Option, Result, Err, OnOk, refl, sym, subst, ap, ◌∙◌}
+use Rattle.std.proofs.Common.{◌≡◌, ◌⊎◌, inl, inr, ℕ, Bool, true, false, List, [], Option, Result, Err, OnOk, refl, sym, subst}
 use Rattle.std.specs.Borrow.{Bor}
 use Rattle.std.specs.Io.KnownBytes.{Keeps}
 use Rattle.disk_commands.specs.declared.shape_text.DiskText.{DiskText}
@@ -11,7 +11,7 @@ use Rattle.file_die.specs.Die.{FileState}
 use Rattle.ftl_device.specs.declared.device.Device.{Device}
 use Rattle.disk_server.specs.Disk.{contents_of, holds, takes_changes}
 use Rattle.disk_server.specs.declared.mark.Mark.{Mark}
-use Rattle.disk_server.specs.declared.opened.OpenStoreFault.{OpenStoreFault}
+use Rattle.disk_commands.specs.declared.files.FileFault.TheVariants as file
 use Rattle.nbd_stream.specs.declared.fault.DiskFault.{DiskFault as NbdFault}
 use Rattle.nbd_stream.specs.declared.request.End.{End}
 use Rattle.nbd_stream.specs.declared.task.Task.TheVariants.{Flush}
@@ -22,13 +22,12 @@ use Rattle.disk_commands.specs.declared.serve.Terms.{Terms}
 use Rattle.disk_commands.specs.declared.words.ServeWords.{ServeWords}
 use Rattle.disk_server.specs.declared.synced.SyncedDisk.{SyncedDisk}
 use Rattle.disk_server.specs.Opened.{bytes_of, flash_in, is_honest_in}
-use Rattle.disk_server.specs.Synced.{HasSynced, Marks, after_sync}
-use Rattle.disk_recovery.specs.Recovered.{HoldsRecovered, IsUnopenedRecovered}
+use Rattle.disk_server.specs.Synced.{HasSynced, Marks}
 use Rattle.disk_commands.specs.declared.text.DiskFault.{DiskFault}
 use Rattle.disk_commands.specs.declared.text.DiskFault.TheVariants as fault
-use Rattle.disk_commands.specs.Files.{Answers, Opened, Opens, OpensMarked, with_mark, with_opened}
-use Rattle.disk_commands.specs.Opening.{IsFaultAt, IsMarkAt, IsNotAt, IsStoreAt, IsTextAt, IsUnkeptAt, IsUnopenedAt, IsUnwrittenAt}
-use Rattle.disk_commands.specs.Serve.{HasNotServed, HasReadDisk, HasServedAt, HasServedDisk, HasServedOn, HoldsBy, IsDiskAt, IsFlushed, IsUnservedBy, ServedBy, reads_in, rests_in, terms_of, told_at_end}
+use Rattle.disk_commands.specs.Files.{Answers, FailsNoMore, SaysNoMore}
+use Rattle.disk_commands.specs.Opening.{IsFaultAt, IsMarkAt, IsNotAt, IsNotLeft, IsStoreAt, IsUnopenedAt, IsUnwrittenOf}
+use Rattle.disk_commands.specs.Serve.{HasNotServed, HasReadDisk, HasServedAt, HasServedDisk, HasServedOn, HoldsBy, IsDiskAt, IsFlushed, IsUnservedBy, IsWrittenAt, ServedBy, reads_in, rests_in, terms_of, told_at_end}
 
 -- by the answer to the last flush
 pub flushed : {D Y : Type 0} (contents : D → Contents) (honest : D → Bool) (next : D → ℕ) (takes : D → Bool) (synced : Y → ℕ) (marked : Y → Mark) (path : Bor (List ℕ)) (last left : SyncedDisk D Y)
@@ -60,7 +59,7 @@ limited contents honest calm rests e room most first last unread left before aft
 -- memory for the requests of a disk was refused
 no_memory : {S Y : Type 0} (read_only : Bool) (held : S → Held) (honest : S → Bool) (failed : S → ℕ) (missed : Y → ℕ) (a : Answers) (path : List ℕ) → IsUnservedBy read_only held honest failed missed a path fault.OutOfMemory
 no_memory true held honest failed missed a path = inr tt
-no_memory false held honest failed missed a path = inr (inl tt)
+no_memory false held honest failed missed a path = inr (inr refl)
 
 -- the disk at a path was served, or memory for its requests was refused
 pub served_at : {S Y : Type 0} (held : S → Held) (honest : S → Bool) (failed : S → ℕ) (synced missed : Y → ℕ) (marked : Y → Mark) (a : Answers) (words : ServeWords) (told : DiskText) (disk : Device (DriverState (FileState S))) (syncs : Y)
@@ -94,22 +93,20 @@ read_at held honest marked a path read_only told store d syncs is at held_array 
 }
 
 -- to be written
-pub written_at : {S Y : Type 0} (held : S → Held) (honest : S → Bool) (marked : Y → Mark) (a b : Answers) (path : List ℕ) (told : DiskText) (store : S) (d : Device (DriverState (FileState S))) (syncs : Y) (found : FoundMark)
-    → b ≡ a → IsStoreAt held honest a path told store → IsMarkAt b path told.marked found → (honest store ≡ true → holds (is_honest_in honest) d ≡ true)
-    → (honest store ≡ true → HoldsRecovered found.mark.synced (held store) (contents_of (flash_in held) (is_honest_in honest) d).bytes) → (told.marked ≡ true → marked syncs ≡ after_sync d.engine.next false found.mark)
-    → IsDiskAt held honest marked a path false told d syncs
-written_at held honest marked a b path told store d syncs found same at mark held_array bytes keeps = record {
+mark_before : (a b : Answers) (path : List ℕ) (marked : Bool) (found : FoundMark) → SaysNoMore a b → IsMarkAt b path marked found → IsMarkAt a path marked found
+mark_before a b path true found less is = (is.0, less.marks path is.0 is.1, is.2)
+mark_before a b path false found less is = is
+
+pub written_at : {S Y : Type 0} (held : S → Held) (honest : S → Bool) (marked : Y → Mark) (a b : Answers) (path : List ℕ) (read_only : Bool) (told : DiskText) (store : S) (d : Device (DriverState (FileState S))) (syncs : Y)
+    → read_only ≡ false → SaysNoMore a b → IsStoreAt held honest a path told store → (honest store ≡ true → holds (is_honest_in honest) d ≡ true)
+    → IsWrittenAt marked b path told (honest store ≡ true) (held store) (contents_of (flash_in held) (is_honest_in honest) d).bytes d.engine.next syncs → IsDiskAt held honest marked a path read_only told d syncs
+written_at held honest marked a b path read_only told store d syncs is less at held_array written = record {
   store = store;
   at = at;
   held_array = held_array;
-  bytes = record { found = found; mark = subst (λ x. IsMarkAt x path told.marked found) same mark; holds = bytes; keeps = keeps };
+  bytes = subst (λ r. HoldsBy r marked a path told (honest store ≡ true) (held store) (contents_of (flash_in held) (is_honest_in honest) d).bytes d.engine.next syncs) (sym is)
+      (record { found = written.found; mark = mark_before a b path told.marked written.found less written.mark; holds = written.holds; keeps = written.keeps });
 }
-
--- by whether it is only read
-pub disk_by : {S Y : Type 0} (held : S → Held) (honest : S → Bool) (marked : Y → Mark) (a b : Answers) (path : List ℕ) (read_only : Bool) (told : DiskText) (d : Device (DriverState (FileState S))) (syncs : Y)
-    → read_only ≡ false → b ≡ a → IsDiskAt held honest marked b path false told d syncs → IsDiskAt held honest marked a path read_only told d syncs
-disk_by held honest marked a b path read_only told d syncs is same at =
-    subst (λ x. IsDiskAt held honest marked x path read_only told d syncs) same (subst (λ r. IsDiskAt held honest marked b path r told d syncs) (sym is) at)
 
 -- ---- why none is opened
 
@@ -121,29 +118,27 @@ pub not_read : {S Y : Type 0} (read_only : Bool) (held : S → Held) (honest : S
     → IsUnservedBy read_only held honest failed missed a path why
 not_read read_only held honest failed missed a path why is un = subst (λ r. IsUnservedBy r held honest failed missed a path why) (sym is) un
 
-pub not_written : {S Y : Type 0} (read_only : Bool) (held : S → Held) (honest : S → Bool) (failed : S → ℕ) (missed : Y → ℕ) (a b : Answers) (path : List ℕ) (why : DiskFault) → read_only ≡ false → b ≡ a → IsUnwrittenAt held honest failed missed b path why
-    → IsUnservedBy read_only held honest failed missed a path why
-not_written read_only held honest failed missed a b path why is same un =
-    subst (λ r. IsUnservedBy r held honest failed missed a path why) (sym is) (subst (λ x. IsUnwrittenAt held honest failed missed x path why) same un)
+fault_before : (a b : Answers) (path : List ℕ) (wanted : ℕ) (why : DiskFault) → FailsNoMore a b → IsFaultAt b path wanted why → IsFaultAt a path wanted why
+fault_before a b path wanted (fault.Read told) less is = (is.0, less path file.Read is.1)
+fault_before a b path wanted (fault.Write told) less is = (is.0, less path file.Write is.1)
+fault_before a b path wanted (fault.InUse told) less is = (is.0, less path file.InUse is.1)
+fault_before a b path wanted (fault.Exists told) less is = (is.0, less path file.Exists is.1)
+fault_before a b path wanted (fault.Length told found due) less is = (is.0, is.1, less path (file.Length found) is.2)
+fault_before a b path wanted fault.OutOfMemory less is = less path file.OutOfMemory is
+fault_before a b path wanted _ less is = absurd is
 
--- its mark was not read or kept
-pub not_marked : {S Y : Type 0} (held : S → Held) (honest : S → Bool) (failed : S → ℕ) (missed : Y → ℕ) (a b : Answers) (path : List ℕ) (text : DiskText) (why : DiskFault) → b ≡ a → IsTextAt a path text → IsUnkeptAt missed b path why
-    → IsUnwrittenAt held honest failed missed a path why
-not_marked held honest failed missed a b path text why same at (inl fails) = inl (inr (text, at, (0, subst (λ x. IsFaultAt x path 0 why) same fails)))
-not_marked held honest failed missed a b path text why same at (inr un) = inr (inr un)
+not_left : {S : Type 0} (held : S → Held) (honest : S → Bool) (failed : S → ℕ) (a b : Answers) (path : List ℕ) (text : DiskText) (store : S) (why : DiskFault) → SaysNoMore a b → IsNotLeft held honest failed b path text store why
+    → IsNotLeft held honest failed a path text store why
+not_left held honest failed a b path text store (fault.Open told why) less is = (is.0, (is.1.0, mark_before a b path text.marked is.1.0 less is.1.1, is.1.2))
+not_left held honest failed a b path text store _ less is = absurd is
 
--- nor its store recovered
-pub not_left : {S Y : Type 0} (held : S → Held) (honest : S → Bool) (failed : S → ℕ) (missed : Y → ℕ) (a : Answers) (path : Bor (List ℕ)) (text : DiskText) (found : FoundMark) (store : S) (why : OpenStoreFault) → IsStoreAt held honest a path.now text store
-    → IsMarkAt a path.now text.marked found → IsUnopenedRecovered held honest failed store text.shape.cache found.mark.synced why → IsUnwrittenAt held honest failed missed a path.now (fault.Open path why)
-not_left held honest failed missed a path text found store why at mark un = inr (inl (refl, (text, found, store, at, mark, un)))
+unwritten : {S Y : Type 0} (held : S → Held) (honest : S → Bool) (failed : S → ℕ) (missed : Y → ℕ) (a b : Answers) (path : List ℕ) (text : DiskText) (store : S) (why : DiskFault) → SaysNoMore a b
+    → IsUnwrittenOf held honest failed missed b path text store why → IsUnwrittenOf held honest failed missed a path text store why
+unwritten held honest failed missed a b path text store why less (inl (inl fails)) = inl (inl (fault_before a b path 0 why less.fails fails))
+unwritten held honest failed missed a b path text store why less (inl (inr missing)) = inl (inr missing)
+unwritten held honest failed missed a b path text store why less (inr left) = inr (not_left held honest failed a b path text store why less left)
 
--- ---- what was to be opened
-
-pub opens_by : (path : List ℕ) (writes : Bool) (before after : Option (List Opened)) → Opens path writes before after → OpensMarked path writes before after
-opens_by path true before after opens = inl opens
-opens_by path false before after opens = opens
-
-pub opens_marked : (path : List ℕ) (writes : Bool) (before mid after : Option (List Opened)) → writes ≡ true → mid ≡ with_opened before path writes → (after ≡ mid) ⊎ (after ≡ with_mark mid path) → OpensMarked path writes before after
-opens_marked path false before mid after () opens then
-opens_marked path true before mid after is opens (inl same) = inl (inr (same ∙ opens))
-opens_marked path true before mid after is opens (inr more) = inr (more ∙ ap (λ o. with_mark o path) opens)
+pub not_written : {S Y : Type 0} (read_only : Bool) (held : S → Held) (honest : S → Bool) (failed : S → ℕ) (missed : Y → ℕ) (a b : Answers) (path : List ℕ) (text : DiskText) (store : S) (why : DiskFault) → read_only ≡ false
+    → SaysNoMore a b → IsStoreAt held honest a path text store → IsUnwrittenOf held honest failed missed b path text store why → IsUnservedBy read_only held honest failed missed a path why
+not_written read_only held honest failed missed a b path text store why is less at un =
+    subst (λ r. IsUnservedBy r held honest failed missed a path why) (sym is) (inr (inl (text, store, at, unwritten held honest failed missed a b path text store why less un)))

@@ -35,6 +35,11 @@ unknown = record {
 abbrev pub FailsNoMore : Answers → Answers → Type 0
 FailsNoMore old new = (path : List ℕ) (fault : FileFault) → new.fails path fault → old.fails path fault
 
+-- nor tell another mark
+pub record SaysNoMore (old new : Answers) : Type 0 where
+  pub marks : (path : List ℕ) (text : Option (List ℕ)) → new.marks path text → old.marks path text
+  pub fails : FailsNoMore old new
+
 -- how a copy of a dump may fail that is made beside a path: for the dump, or for what is made
 abbrev pub FailsCopy : Answers → (path dump : List ℕ) → FileFault → Type 0
 FailsCopy a path dump file.Read = a.fails dump file.Read

@@ -90,13 +90,11 @@ IsNoDisk {S} held honest failed a path (fault.Open told why) =
 IsNoDisk held honest failed a path fault.OutOfMemory = Unit {0}
 IsNoDisk held honest failed a path _ = ⊥
 
--- or of one that was opened to be written, and recovered by its mark
-abbrev pub IsNoDiskLeft : {S : Type 0} → (S → Held) → (honest : S → Bool) → (failed : S → ℕ) → Answers → List ℕ → DiskFault → Type 0
-IsNoDiskLeft {S} held honest failed a path (fault.Open told why) =
-    (told.now ≡ path) × ((text : DiskText) × (found : FoundMark) × (store : S) × IsStoreAt held honest a path text store × IsMarkAt a path text.marked found
-    × IsUnopenedRecovered held honest failed store text.shape.cache found.mark.synced why)
-IsNoDiskLeft held honest failed a path fault.OutOfMemory = Unit {0}
-IsNoDiskLeft held honest failed a path _ = ⊥
+-- or of one that was opened to be written, and recovered by the mark that was found
+abbrev pub IsNotLeft : {S : Type 0} → (S → Held) → (honest : S → Bool) → (failed : S → ℕ) → Answers → List ℕ → DiskText → S → DiskFault → Type 0
+IsNotLeft held honest failed a path text store (fault.Open told why) =
+    (told.now ≡ path) × ((found : FoundMark) × IsMarkAt a path text.marked found × IsUnopenedRecovered held honest failed store text.shape.cache found.mark.synced why)
+IsNotLeft held honest failed a path text store _ = ⊥
 
 -- the file of the die, or the one of its mark, was not opened or read
 abbrev pub IsNoFile : Answers → List ℕ → DiskFault → Type 0
@@ -110,14 +108,23 @@ IsNotAt a path told = IsShapeFault a path told ⊎ IsNoFile a path told
 abbrev pub IsUnopenedAt : {S : Type 0} → (S → Held) → (honest : S → Bool) → (failed : S → ℕ) → Answers → List ℕ → DiskFault → Type 0
 IsUnopenedAt held honest failed a path told = IsNotAt a path told ⊎ IsNoDisk held honest failed a path told
 
--- and to be written: for its files, for what its die holds, or since a sync failed as its mark was kept
+-- ---- a disk that is to be written
+
+-- its mark was not kept: a sync failed, and that was counted
 abbrev pub IsUnmarkedAt : {Y : Type 0} → (missed : Y → ℕ) → List ℕ → DiskFault → Type 0
 IsUnmarkedAt {Y} missed path (fault.Device told) = (told.now ≡ path) × ((old new : Y) × HasRisen (missed old) (missed new))
 IsUnmarkedAt missed path _ = ⊥
 
--- its mark was not kept: its file was not opened or made, or a sync failed
+-- or its file was not opened or made
 abbrev pub IsUnkeptAt : {Y : Type 0} → (missed : Y → ℕ) → Answers → List ℕ → DiskFault → Type 0
 IsUnkeptAt missed a path told = IsFaultAt a path 0 told ⊎ IsUnmarkedAt missed path told
 
+-- of a store that was opened at the path there is no disk to be written: its mark was not read or kept, or its die not opened
+abbrev pub IsUnwrittenOf : {S Y : Type 0} → (S → Held) → (honest : S → Bool) → (failed : S → ℕ) → (missed : Y → ℕ) → Answers → List ℕ → DiskText → S → DiskFault → Type 0
+IsUnwrittenOf held honest failed missed a path text store told = IsUnkeptAt missed a path told ⊎ IsNotLeft held honest failed a path text store told
+
+-- why the disk at a path was not opened to be written: for its files; for its store; or a growth was refused
 abbrev pub IsUnwrittenAt : {S Y : Type 0} → (S → Held) → (honest : S → Bool) → (failed : S → ℕ) → (missed : Y → ℕ) → Answers → List ℕ → DiskFault → Type 0
-IsUnwrittenAt held honest failed missed a path told = IsNotAt a path told ⊎ (IsNoDiskLeft held honest failed a path told ⊎ IsUnmarkedAt missed path told)
+IsUnwrittenAt {S} held honest failed missed a path told =
+    IsNotAt a path told
+    ⊎ (((text : DiskText) × (store : S) × IsStoreAt held honest a path text store × IsUnwrittenOf held honest failed missed a path text store told) ⊎ (told ≡ fault.OutOfMemory))

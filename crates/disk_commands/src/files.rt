@@ -33,7 +33,7 @@ pub enum FileFault {
 pub trait DiskFiles {
     ghost use Rattle.std.specs.Prelude.{◌≡◌, true, List, Option, option_map, IfOk, IfErr};
     ghost use Rattle.file_die.specs.Store.{blank};
-    ghost use Rattle.disk_commands.specs.Files.{Answers, FailsCopy, FailsNoMore, Kept, Opened, kept_after, with_mark, with_opened};
+    ghost use Rattle.disk_commands.specs.Files.{Answers, FailsCopy, FailsNoMore, Kept, Opened, SaysNoMore, kept_after, with_mark, with_opened};
 
     /// The pages of a die in a file. While it is there no other program opens or makes the disk.
     type Store: Store + Drop;
@@ -98,7 +98,7 @@ pub trait DiskFiles {
         ensures honest { IfOk result (λ opened. Self.Store.honest opened.0 ≡ (answers self.old).honest) }
         ensures failed { IfErr result ((answers self.old).fails path.now) }
         ensures opened { opened self.new ≡ with_opened (opened self.old) path.now writes }
-        ensures answers { answers self.new ≡ answers self.old }
+        ensures no_more { SaysNoMore (answers self.old) (answers self.new) }
         ensures kept { kept self.new ≡ kept self.old };
 
     /// Has the second handle of the die at a path keep its mark from now on, of which this was found: with each sync that is done it is written, after that sync. The first one is made to

@@ -1,7 +1,8 @@
 //! The files that each command begins with.
 ghost use Rattle.std.specs.Prelude.{◌≡◌, ◌*◌, IfOk, IfErr, OnOk, OnErr, false};
 ghost use Rattle.page_layout.specs.Geometry.{page_bytes, row_count};
-ghost use Rattle.disk_commands.specs.Files.{Opens, with_opened};
+ghost use Rattle.disk_commands.specs.ShapeText.{IsWithin};
+ghost use Rattle.disk_commands.specs.Files.{Opens, SaysNoMore, with_opened};
 ghost use Rattle.disk_commands.specs.Opening.{IsFaultAt, IsMarkAt, IsNotAt, IsNotFree, IsShapeFault, IsStoreAt, IsTextAt, told_at, told_of_copy};
 
 use crate::files::{DiskFiles, FileFault};
@@ -78,7 +79,8 @@ pub(crate) fn open_at<'a, F: DiskFiles>(
     ensures fault { IfErr result (IsNotAt (F.answers files.old) path.now) }
     ensures opened { OnOk result (F.opened files.new ≡ with_opened (F.opened files.old) path.now writes) }
     ensures unopened { OnErr result (Opens path.now writes (F.opened files.old) (F.opened files.new)) }
-    ensures answers { F.answers files.new ≡ F.answers files.old }
+    ensures within { IfOk result (λ opened. IsWithin opened.2.shape.cache) }
+    ensures no_more { OnOk result (SaysNoMore (F.answers files.old) (F.answers files.new)) }
     ensures kept { F.kept files.new ≡ F.kept files.old }
 {
     let told = match text_at(alloc, files, path) {

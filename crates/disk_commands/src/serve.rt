@@ -3,9 +3,12 @@ ghost use Rattle.std.specs.Prelude.{◌≡◌, ◌⊎◌, OnOk, IfOk, IfErr, Err
 ghost use Rattle.std.specs.Io.KnownBytes.{Keeps};
 ghost use Rattle.disk_commands.specs.declared.text.DiskFault.TheVariants as fault;
 ghost use Rattle.disk_server.specs.Synced.{after_sync};
-ghost use Rattle.disk_commands.specs.Opening.{IsStoreAt, IsUnkeptAt, IsUnwrittenAt};
+ghost use Rattle.disk_server.specs.Disk.{contents_of, holds};
+ghost use Rattle.disk_server.specs.Opened.{flash_in, is_honest_in};
+ghost use Rattle.disk_commands.specs.Opening.{IsUnkeptAt, IsUnwrittenOf};
+ghost use Rattle.disk_commands.specs.ShapeText.{IsWithin};
 ghost use Rattle.disk_commands.specs.Files.{OpensMarked, with_mark};
-ghost use Rattle.disk_commands.specs.Serve.{HasNotServed, HasReadDisk, HasServedAt, HasServedDisk, HasServedOn, IsDiskAt, IsFlushed, IsUnservedBy, end_of, offer_of, pace_of, terms_of};
+ghost use Rattle.disk_commands.specs.Serve.{HasNotServed, HasReadDisk, HasServedAt, HasServedDisk, HasServedOn, IsDiskAt, IsFlushed, IsUnservedBy, IsWrittenAt, end_of, offer_of, pace_of, terms_of};
 ghost use Rattle.disk_server.specs.Reading.{AllLasts};
 
 use crate::files::DiskFiles;
@@ -211,9 +214,11 @@ fn open_to_write<'a, F: DiskFiles>(
     opened: (F::Store, F::Syncs),
     told: DiskText,
 ) -> Result<(StoreDisk<F::Store>, F::Syncs), DiskFault<'a>>
-    requires at { IsStoreAt F.Store.held F.Store.honest (F.answers files.old) words.now.disk.now told opened.0 }
-    ensures ok { IfOk result (λ disk. IsDiskAt F.Store.held F.Store.honest F.Syncs.marked (F.answers files.old) words.now.disk.now false told disk.0 disk.1) }
-    ensures fault { IfErr result (IsUnwrittenAt F.Store.held F.Store.honest F.Store.failed F.Syncs.failed (F.answers files.old) words.now.disk.now) }
+    requires within { IsWithin told.shape.cache }
+    ensures honest { IfOk result (λ disk. F.Store.honest opened.0 ≡ true → holds (is_honest_in F.Store.honest) disk.0 ≡ true) }
+    ensures ok { IfOk result (λ disk. IsWrittenAt F.Syncs.marked (F.answers files.old) words.now.disk.now told (F.Store.honest opened.0 ≡ true) (F.Store.held opened.0)
+        (contents_of (flash_in F.Store.held) (is_honest_in F.Store.honest) disk.0).bytes disk.0.engine.next disk.1) }
+    ensures fault { IfErr result (IsUnwrittenOf F.Store.held F.Store.honest F.Store.failed F.Syncs.failed (F.answers files.old) words.now.disk.now told opened.0) }
     ensures opened { (F.opened files.new ≡ F.opened files.old) ⊎ (F.opened files.new ≡ with_mark (F.opened files.old) words.now.disk.now) }
     ensures kept { F.kept files.new ≡ F.kept files.old }
 {
