@@ -25,7 +25,7 @@ LAW = re.compile(r"_laws?$")
 SECTIONS = {
     "allocation": ["allocation", "budget", "promises"],
     "chips-with-wrong-bits": ["error_correction", "page_code", "corrected_nand"],
-    "crash_recovery": ["crash_recovery", "disk_recovery", "lost_sectors"],
+    "crash_recovery": ["crash_recovery", "disk_recovery", "lost_sectors", "disk_damage"],
     "sectors-as-a-disk": ["disk_server"],
     "the-block-device-as-sectors": ["disk_server"],
     "the-crates-of-nanddisk": ["disk_server", "disk_commands", "program_words"],
