@@ -5,8 +5,8 @@ use std::fs::File;
 use std::io::{self, Write};
 use std::os::unix::fs::FileExt;
 
-// Bytes that are written at once.
-const PIECE: usize = 64;
+// Bytes that are written at once, those of a slot.
+const PIECE: usize = 32;
 
 /// The file of a mark that is kept, and the slot that is written next.
 #[derive(Drop)]
@@ -29,7 +29,8 @@ impl MarkFile {
 
     // Writes a mark into the slot that is next.
     fn put(&self, mark: Mark) -> io::Result<()> {
-        self.file.write_all_at(&slot_bytes(mark), slot_at(self.second))
+        self.file
+            .write_all_at(&slot_bytes(mark), slot_at(self.second))
     }
 
     // Writes the first mark, and makes it last. From then on the other slot is written.
@@ -60,11 +61,8 @@ pub fn put_blank(file: &mut File) -> io::Result<()> {
     // a number stands twice in a slot: half of these are its eight bytes, and half are others
     let mut blank = [0u8; PIECE];
     blank[0] = 1;
-    let mut left = MARK_BYTES;
-    while left > 0 {
-        let count = left.min(PIECE);
-        file.write_all(&blank[..count])?;
-        left -= count;
+    for _ in 0..MARK_BYTES / PIECE {
+        file.write_all(&blank)?;
     }
     file.sync_all()
 }

@@ -27,11 +27,31 @@ const ROWS: &[(Slot, Slot, Option<(u64, u64, bool)>)] = &[
     (Slot::Whole(9, 5), Slot::Whole(7, 5), Some((9, 5, false))),
     (Slot::Whole(9, 5), Slot::Whole(9, 9), Some((9, 5, false))),
     // 255 and 256 differ in two bytes
-    (Slot::Torn(255, 256, 0), Slot::Whole(7, 5), Some((255, 0, false))),
-    (Slot::Torn(255, 256, 1), Slot::Whole(7, 5), Some((7, 5, true))),
-    (Slot::Torn(255, 256, 9), Slot::Whole(7, 5), Some((7, 5, true))),
-    (Slot::Torn(255, 256, 10), Slot::Whole(7, 5), Some((256, 0, false))),
-    (Slot::Whole(7, 5), Slot::Torn(255, 256, 2), Some((7, 5, false))),
+    (
+        Slot::Torn(255, 256, 0),
+        Slot::Whole(7, 5),
+        Some((255, 0, false)),
+    ),
+    (
+        Slot::Torn(255, 256, 1),
+        Slot::Whole(7, 5),
+        Some((7, 5, true)),
+    ),
+    (
+        Slot::Torn(255, 256, 9),
+        Slot::Whole(7, 5),
+        Some((7, 5, true)),
+    ),
+    (
+        Slot::Torn(255, 256, 10),
+        Slot::Whole(7, 5),
+        Some((256, 0, false)),
+    ),
+    (
+        Slot::Whole(7, 5),
+        Slot::Torn(255, 256, 2),
+        Some((7, 5, false)),
+    ),
     (Slot::Torn(255, 256, 1), Slot::Torn(255, 256, 1), None),
 ];
 
@@ -101,10 +121,25 @@ fn marks_are_found(rt: HostRuntime) -> Result<(), Fail> {
 
 #[test]
 fn other_files_are_no_marks(rt: HostRuntime) -> Result<(), Fail> {
-    assert!(rt; none_found().mark.synced == 18_446_744_073_709_551_615, "all counts as synced");
+    assert!(rt;
+        none_found().mark.synced == 18_446_744_073_709_551_615,
+        "all counts as synced"
+    );
     assert!(rt; none_found().mark.flushed == 0, "nothing counts as flushed");
     assert!(rt; mark_of(None) == none_found(), "no file");
-    assert!(rt; mark_of(Some(&slot_bytes(Mark { synced: 7, flushed: 5 }))) == none_found(), "a slot alone");
-    assert!(rt; slot_bytes(Mark { synced: 258, flushed: 3 }) == *b"\x02\x01\0\0\0\0\0\0\x02\x01\0\0\0\0\0\0\x03\0\0\0\0\0\0\0\x03\0\0\0\0\0\0\0", "the bytes of a slot");
+    assert!(rt;
+        mark_of(Some(&slot_bytes(Mark {
+            synced: 7,
+            flushed: 5
+        }))) == none_found(),
+        "a slot alone"
+    );
+    assert!(rt;
+        slot_bytes(Mark {
+            synced: 258,
+            flushed: 3
+        }) == *b"\x02\x01\0\0\0\0\0\0\x02\x01\0\0\0\0\0\0\x03\0\0\0\0\0\0\0\x03\0\0\0\0\0\0\0",
+        "the bytes of a slot"
+    );
     Ok(())
 }
