@@ -24,6 +24,7 @@ command_by : (found : DiskWords) (g : App) (words : List (List ℕ)) (name : Bor
 command_by (asked.Create read) g words name given same is at = asked_by IsAt g grammar words name given (asked.Create read) same is at
 command_by (asked.Serve read) g words name given same is at = asked_by IsAt g grammar words name given (asked.Serve read) same is at
 command_by (asked.Info read) g words name given same is at = asked_by IsAt g grammar words name given (asked.Info read) same is at
+command_by (asked.Check read) g words name given same is at = asked_by IsAt g grammar words name given (asked.Check read) same is at
 command_by (asked.Text text) g words name given same is at = absurd at
 
 -- of all that a command with these words may ask for

@@ -8,3 +8,5 @@ pub mod CreateLemmas
 pub mod OpeningLemmas
 pub mod ProgramLemmas
 pub mod ServeLemmas
+pub mod DamageLemmas
+pub mod ReadyLemmas

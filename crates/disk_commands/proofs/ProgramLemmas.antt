@@ -6,9 +6,10 @@ use Rattle.file_die.specs.Store.{Held}
 use Rattle.disk_commands.specs.declared.words.CreateWords.{CreateWords}
 use Rattle.disk_commands.specs.declared.words.InfoWords.{InfoWords}
 use Rattle.disk_commands.specs.declared.text.DiskFault.{DiskFault}
+use Rattle.disk_commands.specs.Check.{HasChecked, IsUnclean}
 use Rattle.disk_commands.specs.Created.{HasCreated, IsUncreated}
 use Rattle.disk_commands.specs.Files.{Answers}
-use Rattle.disk_commands.specs.Program.{Around, Creates, Prints, Tells}
+use Rattle.disk_commands.specs.Program.{Around, Checks, Creates, Prints, Tells}
 use Rattle.disk_commands.specs.Told.{HasTold, IsUnprinted, IsUntold}
 
 pub creates : {S : Type 0} (held : S → Held) (honest : S → Bool) (failed : S → ℕ) (a : Answers) (words : CreateWords) (old new : Around) (result : Result (Unit {0}) DiskFault)
@@ -21,6 +22,11 @@ pub tells : {S : Type 0} (held : S → Held) (honest : S → Bool) (failed : S �
     → OnOk result (HasTold held honest a words old.out new.out) → IfErr result (IsUntold held honest failed a words old.out new.out) → Tells held honest failed a words old new result
 tells held honest failed a words old new (Ok done) printed fault = printed
 tells held honest failed a words old new (Err told) printed fault = fault
+
+pub checks : {S : Type 0} (held : S → Held) (honest : S → Bool) (failed : S → ℕ) (a : Answers) (words : InfoWords) (old new : Around) (result : Result (Unit {0}) DiskFault)
+    → OnOk result (HasChecked held honest a words 0 old.out new.out) → IfErr result (IsUnclean held honest failed a words old.out new.out) → Checks held honest failed a words old new result
+checks held honest failed a words old new (Ok done) printed fault = printed
+checks held honest failed a words old new (Err told) printed fault = fault
 
 pub prints : (text : List ℕ) (old new : Around) (result : Result (Unit {0}) DiskFault)
     → OnOk result (Appends old.out new.out text) → IfErr result IsUnprinted → Prints text old new result

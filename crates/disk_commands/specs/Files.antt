@@ -13,6 +13,8 @@ pub record Answers : Type 1 where
   pub tells : List ℕ → List ℕ → Type 0
   -- the bytes of the file of its mark, or none where there is no such file
   pub marks : List ℕ → Option (List ℕ) → Type 0
+  -- the bytes of the file of the list of its lost sectors
+  pub lists : List ℕ → List ℕ → Type 0
   -- what the file of a path holds, read as the pages of a die
   pub holds : List ℕ → Held → Type 0
   -- how a call that names a path may fail
@@ -25,6 +27,7 @@ abbrev pub unknown : Answers
 unknown = record {
   says_there = λ path yes. Unit {0};
   tells = λ path text. Unit {0};
+  lists = λ path text. Unit {0};
   marks = λ path text. Unit {0};
   holds = λ path held. Unit {0};
   fails = λ path fault. Unit {0};
@@ -35,9 +38,10 @@ unknown = record {
 abbrev pub FailsNoMore : Answers → Answers → Type 0
 FailsNoMore old new = (path : List ℕ) (fault : FileFault) → new.fails path fault → old.fails path fault
 
--- nor tell another mark
+-- nor tell another mark, or another list
 pub record SaysNoMore (old new : Answers) : Type 0 where
   pub marks : (path : List ℕ) (text : Option (List ℕ)) → new.marks path text → old.marks path text
+  pub lists : (path text : List ℕ) → new.lists path text → old.lists path text
   pub fails : FailsNoMore old new
 
 -- how a copy of a dump may fail that is made beside a path: for the dump, or for what is made

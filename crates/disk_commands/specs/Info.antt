@@ -5,6 +5,7 @@ use Rattle.page_layout.specs.declared.geometry.Geometry.{Geometry}
 use Rattle.certificate.specs.declared.block_state.BlockState.{BlockState}
 use Rattle.certificate.specs.Claim.{Claim, is_good}
 use Rattle.disk_commands.specs.declared.shapes.Shape.{Shape}
+use Rattle.disk_damage.specs.Numbers.{counted_lines, with_commas}
 use Rattle.disk_commands.specs.ShapeText.{geometry_words}
 use Rattle.disk_commands.specs.declared.printed.Info.{Info}
 use Rattle.disk_commands.specs.declared.printed.Form.{Form}
@@ -53,11 +54,16 @@ lines_of i =
 abbrev pub wear_of : Info → List ℕ
 wear_of i = codes "{\"least\":" ++ (decimal i.least ++ (codes ",\"most\":" ++ (decimal i.most ++ (codes ",\"erases\":" ++ (decimal i.erases ++ codes "}")))))
 
-abbrev pub object_of : Info → List ℕ
-object_of i =
-    codes "{\"size\":" ++ (decimal (size_of i.shape.geometry) ++ (codes ",\"geometry\":\"" ++ (geometry_words i.shape.geometry ++ (codes "\",\"cache\":" ++ (decimal i.shape.cache
-    ++ (codes ",\"free\":" ++ (decimal i.free ++ (codes ",\"bad\":" ++ (decimal i.bad ++ (codes ",\"wear\":" ++ (wear_of i ++ (codes ",\"next\":" ++ (decimal i.next ++ codes "}\n")))))))))))))
+-- how many sectors are lost, and which, a line each
+abbrev pub lost_lines : List ℕ → List ℕ
+lost_lines lost = counted_lines (codes "lost ") (codes "lost sector ") lost
 
-abbrev pub info_text : Form → Info → List ℕ
-info_text Text i = lines_of i
-info_text Json i = object_of i
+-- with the numbers of the lost sectors, which stand so
+abbrev pub object_of : Info → (lost : List ℕ) → List ℕ
+object_of i lost =
+    codes "{\"size\":" ++ (decimal (size_of i.shape.geometry) ++ (codes ",\"geometry\":\"" ++ (geometry_words i.shape.geometry ++ (codes "\",\"cache\":" ++ (decimal i.shape.cache
+    ++ (codes ",\"free\":" ++ (decimal i.free ++ (codes ",\"bad\":" ++ (decimal i.bad ++ (codes ",\"wear\":" ++ (wear_of i ++ (codes ",\"next\":" ++ (decimal i.next ++ (codes ",\"lost\":[" ++ (lost ++ codes "]}\n")))))))))))))))
+
+abbrev pub info_text : Form → Info → (lost : List ℕ) → List ℕ
+info_text Text i lost = lines_of i ++ lost_lines lost
+info_text Json i lost = object_of i (with_commas lost)

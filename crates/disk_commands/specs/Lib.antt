@@ -17,3 +17,11 @@ pub mod Program
 pub mod Serve
 pub mod Text
 pub mod Told
+-- what is lost of a disk, and the list beside it
+pub mod Damage
+-- what a look at all of a disk finds
+pub mod Check
+-- the lost sectors of a disk that is to be served
+pub mod Guard
+-- and one that is ready
+pub mod Ready

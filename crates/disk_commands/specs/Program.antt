@@ -9,6 +9,7 @@ use Rattle.disk_commands.specs.declared.words.DiskWords.TheVariants as asked
 use Rattle.disk_commands.specs.Words.{IsAsked, IsNoCommand}
 use Rattle.disk_commands.specs.declared.text.DiskFault.{DiskFault}
 use Rattle.disk_commands.specs.declared.text.DiskFault.TheVariants as fault
+use Rattle.disk_commands.specs.Check.{HasChecked, IsUnclean}
 use Rattle.disk_commands.specs.Created.{HasCreated, IsUncreated}
 use Rattle.disk_server.specs.declared.mark.Mark.{Mark}
 use Rattle.disk_commands.specs.Files.{Answers, Kept, Opened, Opens, OpensMarked}
@@ -16,12 +17,13 @@ use Rattle.disk_commands.specs.Serve.{HasNotServed, HasServedAt}
 use Rattle.disk_commands.specs.Text.{IsTold}
 use Rattle.disk_commands.specs.Told.{HasTold, IsUnprinted, IsUntold}
 
--- WHAT A RUN MEETS AND LEAVES: the disks that were put in their places, the dies that were to be opened, what is left to be read, and what was printed
+-- WHAT A RUN MEETS AND LEAVES: the disks that were put in their places, the dies that were to be opened, what is left to be read, what was printed, and what standard error has
 pub record Around : Type 0 where
   pub kept : Option (List Kept)
   pub opened : Option (List Opened)
   pub input : Option (List ℕ)
   pub out : Option (List ℕ)
+  pub err : Option (List ℕ)
 
 -- ---- each command, by its answer
 
@@ -40,16 +42,23 @@ abbrev pub Tells : {S : Type 0} → (S → Held) → (honest : S → Bool) → (
 Tells held honest failed a words old new (Ok done) = HasTold held honest a words old.out new.out
 Tells held honest failed a words old new (Err told) = IsUntold held honest failed a words old.out new.out told
 
+-- all of a disk was looked at, or not; or sectors are lost
+abbrev pub Checks : {S : Type 0} → (S → Held) → (honest : S → Bool) → (failed : S → ℕ) → Answers → InfoWords → (old new : Around) → Result (Unit {0}) DiskFault → Type 0
+Checks held honest failed a words old new (Ok done) = HasChecked held honest a words 0 old.out new.out
+Checks held honest failed a words old new (Err told) = IsUnclean held honest failed a words old.out new.out told
+
 -- WHAT THE WORDS ASK FOR WAS DONE, or not for the reason that is answered. Of what it does not name nothing changes
-abbrev pub DoesAsked : {S Y : Type 0} → (S → Held) → (honest : S → Bool) → (failed : S → ℕ) → (synced missed : Y → ℕ) → (marked : Y → Mark) → Answers → DiskWords → (old new : Around)
+abbrev pub DoesAsked : {S Y K : Type 0} → (S → Held) → (honest : S → Bool) → (failed : S → ℕ) → (synced missed : Y → ℕ) → (marked : Y → Mark) → (kept : K → List Bool) → (unlisted : K → ℕ) → Answers → DiskWords → (old new : Around)
     → Result (Unit {0}) DiskFault → Type 0
-DoesAsked held honest failed synced missed marked a (asked.Create words) old new result = Creates held honest failed a words old new result × (new.out ≡ old.out) × (new.input ≡ old.input) × (new.opened ≡ old.opened)
-DoesAsked held honest failed synced missed marked a (asked.Serve words) old new result =
-    (HasServedAt held honest synced marked a words old.input new.input old.out new.out result ⊎ HasNotServed held honest failed missed a words old.out new.out result) × (new.kept ≡ old.kept)
+DoesAsked held honest failed synced missed marked kept unlisted a (asked.Create words) old new result = Creates held honest failed a words old new result × (new.out ≡ old.out) × (new.input ≡ old.input) × (new.opened ≡ old.opened) × (new.err ≡ old.err)
+DoesAsked held honest failed synced missed marked kept unlisted a (asked.Serve words) old new result =
+    (HasServedAt held honest synced marked kept a words old.input new.input old.out new.out old.err new.err result ⊎ HasNotServed held honest failed missed unlisted a words old.out new.out old.err new.err result) × (new.kept ≡ old.kept)
     × OpensMarked words.disk.now (not words.read_only) old.opened new.opened
-DoesAsked held honest failed synced missed marked a (asked.Info words) old new result = Tells held honest failed a words old new result × (new.kept ≡ old.kept) × (new.input ≡ old.input)
-    × Opens words.disk.now false old.opened new.opened
-DoesAsked held honest failed synced missed marked a (asked.Text text) old new result = Prints (string_bytes text) old new result × (new.kept ≡ old.kept) × (new.input ≡ old.input) × (new.opened ≡ old.opened)
+DoesAsked held honest failed synced missed marked kept unlisted a (asked.Info words) old new result = Tells held honest failed a words old new result × (new.kept ≡ old.kept) × (new.input ≡ old.input)
+    × Opens words.disk.now false old.opened new.opened × (new.err ≡ old.err)
+DoesAsked held honest failed synced missed marked kept unlisted a (asked.Check words) old new result = Checks held honest failed a words old new result × (new.kept ≡ old.kept) × (new.input ≡ old.input)
+    × Opens words.disk.now false old.opened new.opened × (new.err ≡ old.err)
+DoesAsked held honest failed synced missed marked kept unlisted a (asked.Text text) old new result = Prints (string_bytes text) old new result × (new.kept ≡ old.kept) × (new.input ≡ old.input) × (new.opened ≡ old.opened) × (new.err ≡ old.err)
 
 -- THE WORDS ARE NO COMMAND, or memory for them was refused: nothing was done
 pub record AsksNothing (words : List (List ℕ)) (old new : Around) (result : Result (Unit {0}) DiskFault) : Type 0 where
@@ -60,18 +69,25 @@ pub record AsksNothing (words : List (List ℕ)) (old new : Around) (result : Re
 
 -- ---- all of it
 
-abbrev pub Obeys : {S Y : Type 0} → (S → Held) → (honest : S → Bool) → (failed : S → ℕ) → (synced missed : Y → ℕ) → (marked : Y → Mark) → Answers → (words : List (List ℕ)) → (old new : Around)
+abbrev pub Obeys : {S Y K : Type 0} → (S → Held) → (honest : S → Bool) → (failed : S → ℕ) → (synced missed : Y → ℕ) → (marked : Y → Mark) → (kept : K → List Bool) → (unlisted : K → ℕ) → Answers → (words : List (List ℕ)) → (old new : Around)
     → Result (Unit {0}) DiskFault → Type 0
-Obeys held honest failed synced missed marked a words old new result =
+Obeys held honest failed synced missed marked kept unlisted a words old new result =
     AsksNothing words old new result
-    ⊎ ((found : DiskWords) × IsAsked words found × DoesAsked held honest failed synced missed marked a found old new result)
+    ⊎ ((found : DiskWords) × IsAsked words found × DoesAsked held honest failed synced missed marked kept unlisted a found old new result)
 
--- status 0 where it was done, with nothing on standard error; else the fault's line there, and its status
+-- status 0 where it was done, with no more on standard error; else the fault's line there, and its status
 abbrev pub IsAnswered : Result (Unit {0}) DiskFault → (told telling : Option (List ℕ)) → (status : ℕ) → Type 0
 IsAnswered (Ok done) told telling status = (status ≡ 0) × (telling ≡ told)
 IsAnswered (Err why) told telling status = IsTold why told telling status
 
-abbrev pub Runs : {S Y : Type 0} → (S → Held) → (honest : S → Bool) → (failed : S → ℕ) → (synced missed : Y → ℕ) → (marked : Y → Mark) → Answers → (words : List (List ℕ)) → (old new : Around)
-    → (told telling : Option (List ℕ)) → (status : ℕ) → Type 0
-Runs held honest failed synced missed marked a words old new told telling status =
-    (result : Result (Unit {0}) DiskFault) × Obeys held honest failed synced missed marked a words old new result × IsAnswered result told telling status
+-- the same with this on standard error
+abbrev pub with_err : Around → Option (List ℕ) → Around
+with_err around told = record around { err = told }
+
+-- the command leaves all so, but for the fault's line
+pub record Runs {S Y K : Type 0} (held : S → Held) (honest : S → Bool) (failed : S → ℕ) (synced missed : Y → ℕ) (marked : Y → Mark) (kept : K → List Bool) (unlisted : K → ℕ) (a : Answers) (words : List (List ℕ))
+    (old new : Around) (status : ℕ) : Type 0 where
+  pub result : Result (Unit {0}) DiskFault
+  pub told : Option (List ℕ)
+  pub obeys : Obeys held honest failed synced missed marked kept unlisted a words old (with_err new told) result
+  pub answered : IsAnswered result told new.err status

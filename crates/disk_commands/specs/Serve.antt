@@ -1,5 +1,5 @@
 -- A disk that was served to one client.
-use Rattle.std.specs.Prelude.{◌≡◌, ℕ, ◌+◌, ◌-◌, ◌*◌, ◌/◌, ◌^◌, nat_le, Bool, true, false, List, [], length, Option, None, Result, Ok, Err, OnOk, if◌then◌else◌}
+use Rattle.std.specs.Prelude.{◌≡◌, ℕ, ◌+◌, ◌-◌, ◌*◌, ◌/◌, ◌^◌, ◌⊎◌, nat_le, Bool, true, false, List, [], length, Option, None, Result, Ok, Err, OnOk, if◌then◌else◌}
 use Rattle.std.specs.Borrow.{Bor}
 use Rattle.std.specs.Io.KnownBytes.{Keeps}
 use Rattle.page_layout.specs.declared.geometry.Geometry.{Geometry}
@@ -20,20 +20,22 @@ use Rattle.disk_commands.specs.declared.shapes.Shape.{Shape}
 use Rattle.disk_commands.specs.declared.words.ServeWords.{ServeWords}
 use Rattle.disk_server.specs.declared.served.Offer.{Offer}
 use Rattle.disk_server.specs.declared.synced.SyncedDisk.{SyncedDisk}
-use Rattle.disk_server.specs.Opened.{bytes_of, flash_in, is_honest_in}
+use Rattle.disk_server.specs.Opened.{flash_in, is_honest_in}
 use Rattle.disk_server.specs.declared.synced.SyncPace.{SyncPace}
 use Rattle.disk_server.specs.declared.mark.Mark.{Mark}
-use Rattle.disk_server.specs.Synced.{HasSynced, Marks, RestsSynced, after_sync, export_of}
+use Rattle.disk_server.specs.Synced.{HasSynced, Marks, RestsSynced, export_of}
 use Rattle.disk_server.specs.Reading.{RestsNever}
 use Rattle.page_layout.specs.OnlyReads.{OnlyReads}
 use Rattle.nbd_stream.specs.Through.{Through}
 use Rattle.disk_commands.specs.declared.text.DiskFault.{DiskFault}
 use Rattle.disk_commands.specs.declared.text.DiskFault.TheVariants as fault
 use Rattle.disk_commands.specs.Files.{Answers}
-use Rattle.disk_recovery.specs.Recovered.{HoldsRecovered}
 use Rattle.disk_commands.specs.declared.shape_text.DiskText.{DiskText}
-use Rattle.disk_commands.specs.declared.mark.FoundMark.{FoundMark}
-use Rattle.disk_commands.specs.Opening.{IsMarkAt, IsStoreAt, IsUnopenedAt, IsUnwrittenAt}
+use Rattle.disk_commands.specs.Damage.{Names}
+use Rattle.disk_commands.specs.Ready.{IsReadyAt, IsUnreadyAt}
+use Rattle.disk_commands.specs.Told.{IsUnprinted}
+use Rattle.disk_server.specs.declared.guarded.GuardedSectors.{GuardedSectors}
+use Rattle.disk_server.specs.Guarded.{ReadsGuarded, RestsGuarded}
 
 -- ---- what the client is told
 
@@ -116,7 +118,7 @@ abbrev pub HasServedOn : {D Y : Type 0} → (contents : D → Contents) → (hon
 HasServedOn contents honest rests reads next takes synced marked terms path disk syncs unread left before after result =
     ServedBy terms.offer.read_only contents honest rests reads next takes synced marked terms path disk syncs unread left before after result
 
--- ---- the disk at a path
+-- ---- the disk
 
 -- what a rest of such a disk is
 abbrev pub rests_in : {S : Type 0} → (S → Held) → (honest : S → Bool) → Device (DriverState (FileState S)) → Result (Unit {0}) NbdFault → Device (DriverState (FileState S)) → Type 0
@@ -126,47 +128,24 @@ rests_in held honest = AsksTurn (flash_in held) (λ d. None) (is_honest_in hones
 abbrev pub reads_in : {S : Type 0} → (S → Held) → (honest : S → Bool) → Device (DriverState (FileState S)) → Device (DriverState (FileState S)) → Type 0
 reads_in held honest old new = OnlyReads (flash_in held) (is_honest_in honest) (λ d. false) (λ d. d.programs) (λ d. d.erases) (λ d. d.failures) old.engine.nand new.engine.nand
 
--- TO BE WRITTEN: its bytes are those of the array of the pages that are left once what a crash left torn is taken away, by the mark that was found. Where one counts it is kept from then on, and all
--- that the disk had programmed was synced
-pub record IsWrittenAt {Y : Type 0} (marked : Y → Mark) (a : Answers) (path : List ℕ) (told : DiskText) (honest : Type 0) (s : Held) (bytes : List ℕ) (next : ℕ) (syncs : Y) : Type 0 where
-  pub found : FoundMark
-  pub mark : IsMarkAt a path told.marked found
-  pub holds : honest → HoldsRecovered found.mark.synced s bytes
-  pub keeps : told.marked ≡ true → marked syncs ≡ after_sync next false found.mark
-
--- to be read its bytes are those of the array that the store's pages hold
-abbrev pub HoldsBy : {Y : Type 0} → (read_only : Bool) → (marked : Y → Mark) → Answers → (path : List ℕ) → DiskText → (honest : Type 0) → Held → (bytes : List ℕ) → (next : ℕ) → Y → Type 0
-HoldsBy true marked a path told honest s bytes next syncs = honest → bytes ≡ bytes_of s
-HoldsBy false marked a path told honest s bytes next syncs = IsWrittenAt marked a path told honest s bytes next syncs
-
--- THE DISK OF THE STORE AT A PATH, by whether it is only read: of a store that is honest it holds its array
-pub record IsDiskAt {S Y : Type 0} (held : S → Held) (honest : S → Bool) (marked : Y → Mark) (a : Answers) (path : List ℕ) (read_only : Bool) (told : DiskText) (d : Device (DriverState (FileState S))) (syncs : Y) : Type 0 where
-  pub store : S
-  pub at : IsStoreAt held honest a path told store
-  pub held_array : honest store ≡ true → holds (is_honest_in honest) d ≡ true
-  pub bytes : HoldsBy read_only marked a path told (honest store ≡ true) (held store) (contents_of (flash_in held) (is_honest_in honest) d).bytes d.engine.next syncs
-
 -- ---- the command
 
--- IT SERVED: the disk at the path was opened and served
-pub record HasServedAt {S Y : Type 0} (held : S → Held) (honest : S → Bool) (synced : Y → ℕ) (marked : Y → Mark) (a : Answers) (words : ServeWords)
-    (unread left before after : Option (List ℕ)) (result : Result (Unit {0}) DiskFault) : Type 0 where
+-- IT SERVED: the disk at the path was opened, its lost sectors were named and guarded, and it was served
+pub record HasServedAt {S Y K : Type 0} (held : S → Held) (honest : S → Bool) (synced : Y → ℕ) (marked : Y → Mark) (kept : K → List Bool) (a : Answers) (words : ServeWords)
+    (unread left before after telling told_after : Option (List ℕ)) (result : Result (Unit {0}) DiskFault) : Type 0 where
   pub told : DiskText
-  pub disk : Device (DriverState (FileState S))
+  pub disk : GuardedSectors (Device (DriverState (FileState S))) K
   pub syncs : Y
-  pub at : IsDiskAt held honest marked a words.disk.now words.read_only told disk syncs
-  pub served : HasServedOn (contents_of (flash_in held) (is_honest_in honest)) (holds (is_honest_in honest)) (rests_in held honest) (reads_in held honest) (λ d. d.engine.next) takes_changes synced marked
-      (terms_of told.shape words.read_only) words.disk disk syncs unread left before after result
+  pub at : IsReadyAt held honest marked kept a words.disk.now words.read_only told disk syncs
+  pub named : Names disk.lost.items telling told_after
+  pub served : HasServedOn (λ d. contents_of (flash_in held) (is_honest_in honest) d.sectors) (λ d. holds (is_honest_in honest) d.sectors) (RestsGuarded (rests_in held honest)) (ReadsGuarded (reads_in held honest))
+      (λ d. d.sectors.engine.next) (λ d. takes_changes d.sectors) synced marked (terms_of told.shape words.read_only) words.disk disk syncs unread left before after result
 
--- why it did not, by whether it was only to be read
-abbrev pub IsUnservedBy : {S Y : Type 0} → (read_only : Bool) → (S → Held) → (honest : S → Bool) → (failed : S → ℕ) → (missed : Y → ℕ) → Answers → List ℕ → DiskFault → Type 0
-IsUnservedBy true held honest failed missed a path told = IsUnopenedAt held honest failed a path told
-IsUnservedBy false held honest failed missed a path told = IsUnwrittenAt held honest failed missed a path told
-
--- or it did not, and nothing was sent: the disk was not opened
-pub record HasNotServed {S Y : Type 0} (held : S → Held) (honest : S → Bool) (failed : S → ℕ) (missed : Y → ℕ) (a : Answers) (words : ServeWords) (before after : Option (List ℕ))
+-- or it did not, and nothing was sent: the disk was not ready. Lost sectors may have been named where that is told, or where a growth was refused
+pub record HasNotServed {S Y K : Type 0} (held : S → Held) (honest : S → Bool) (failed : S → ℕ) (missed : Y → ℕ) (unlisted : K → ℕ) (a : Answers) (words : ServeWords) (before after telling told_after : Option (List ℕ))
     (result : Result (Unit {0}) DiskFault) : Type 0 where
   pub told : DiskFault
   pub is : result ≡ Err told
-  pub why : IsUnservedBy words.read_only held honest failed missed a words.disk.now told
+  pub why : IsUnreadyAt held honest failed missed unlisted a words.disk.now words.read_only told
   pub silent : Keeps before after
+  pub unnamed : (told_after ≡ telling) ⊎ IsUnprinted told

@@ -24,15 +24,19 @@ abbrev pub geometry_words : Geometry → List ℕ
 geometry_words g =
     decimal g.data_bytes ++ (codes "," ++ (decimal g.spare_bytes ++ (codes "," ++ (decimal g.pages ++ (codes "," ++ (decimal g.blocks ++ (codes "," ++ decimal g.sectors)))))))
 
--- version 2: no code, no lost sectors, and none that waits
-abbrev pub shape_data : Shape → Data
-shape_data s =
+-- version 2: no code, none that waits, and whether a list of lost sectors stands beside the disk
+abbrev pub shape_data : Shape → (lost : Bool) → Data
+shape_data s lost =
     object (member (codes "cache") (number (unsigned s.cache)) (member (codes "code") (string (codes "none")) (member (codes "geometry") (string (geometry_words s.geometry))
-    (member (codes "lost") (boolean false) (member (codes "share") (number (unsigned 0)) (member (codes "version") (number (unsigned 2)) no_members))))))
+    (member (codes "lost") (boolean lost) (member (codes "share") (number (unsigned 0)) (member (codes "version") (number (unsigned 2)) no_members))))))
 
 -- the object with no space, and a line feed
 abbrev pub shape_text : Shape → List ℕ
-shape_text s = compact_text (shape_data s) ++ (10 ∷ [])
+shape_text s = compact_text (shape_data s false) ++ (10 ∷ [])
+
+-- where a list of lost sectors stands beside the disk
+abbrev pub listed_text : Shape → List ℕ
+listed_text s = compact_text (shape_data s true) ++ (10 ∷ [])
 
 -- ---- what is read
 
@@ -85,10 +89,10 @@ pub record TellsShape (d : Data) (s : Shape) : Type 0 where
   pub within : IsWithin s.cache
   pub geometry : IsGeometryTold d s.geometry
 
--- those that version 1 lacks say that there is no code, that no sectors are lost, and that none waits
-pub record TellsLater (d : Data) : Type 0 where
+-- those that version 1 lacks say that there is no code, whether a list of lost sectors stands beside the disk, and that none waits
+pub record TellsLater (lost : Bool) (d : Data) : Type 0 where
   pub no_code : text_at name.Code d ≡ Some (codes "none")
-  pub none_lost : flag_at name.Lost d ≡ Some false
+  pub lost_is : flag_at name.Lost d ≡ Some lost
   pub none_waits : number_at name.Share d ≡ Some 0
 
 -- by whether it is of version 2: its number, and how many members it has
@@ -100,16 +104,16 @@ abbrev pub members_of : (second : Bool) → ℕ
 members_of false = 3
 members_of true = 6
 
--- version 1 may say nothing of them
-abbrev pub TellsLaterBy : (second : Bool) → Data → Type 0
-TellsLaterBy false d = Unit {0}
-TellsLaterBy true d = TellsLater d
+-- version 1 may say nothing of them, and has no list
+abbrev pub TellsLaterBy : (second lost : Bool) → Data → Type 0
+TellsLaterBy false lost d = lost ≡ false
+TellsLaterBy true lost d = TellsLater lost d
 
 -- AN OBJECT WITH THE MEMBERS OF ITS VERSION AND NO OTHER, which say this. A mark counts from version 2 on
 pub record TellsText (d : Data) (t : DiskText) : Type 0 where
   pub version : number_at name.Version d ≡ Some (version_of t.marked)
   pub shape : TellsShape d t.shape
-  pub later : TellsLaterBy t.marked d
+  pub later : TellsLaterBy t.marked t.lost d
   pub alone : size_of d ≡ Some (members_of t.marked)
 
 -- the text is such an object
@@ -144,7 +148,6 @@ TellsNone d fault.BadGeometry = HasBadGeometry d word.NoNumbers
 TellsNone d (fault.Geometry limit) = HasBadGeometry d (word.Limit limit)
 TellsNone d fault.CacheRange = (cache : ℕ) × (number_at name.Cache d ≡ Some cache) × (¬ IsWithin cache)
 TellsNone d fault.Code = (code : List ℕ) × (text_at name.Code d ≡ Some code) × (code ≢ codes "none")
-TellsNone d fault.Lost = flag_at name.Lost d ≡ Some true
 TellsNone d (fault.Share share) = (number_at name.Share d ≡ Some share) × (share ≢ 0)
 TellsNone d fault.OutOfMemory = ⊥
 

@@ -9,6 +9,7 @@ use Rattle.disk_commands.specs.declared.shapes.SizeFault.TheVariants as size
 use Rattle.disk_commands.specs.declared.shape_text.ShapeFault.{ShapeFault}
 use Rattle.disk_commands.specs.declared.shape_text.ShapeFault.TheVariants as shape
 use Rattle.disk_commands.specs.ShapeText.{member_words}
+use Rattle.disk_damage.specs.ListText.{list_words}
 use Rattle.disk_server.specs.Words.{create_words, open_words}
 use Rattle.disk_commands.specs.declared.text.DiskFault.{DiskFault}
 use Rattle.disk_commands.specs.declared.text.DiskFault.TheVariants as fault
@@ -37,7 +38,6 @@ shape_words shape.BadGeometry = codes "the geometry is no five numbers"
 shape_words (shape.Geometry broken) = codes "the geometry breaks a limit: " ++ limit_words broken
 shape_words shape.CacheRange = codes "the cache has not from 1 to 65536 entries"
 shape_words shape.Code = codes "the code is not none"
-shape_words shape.Lost = codes "sectors are lost"
 shape_words (shape.Share share) = codes "the share is " ++ (decimal share ++ codes " and not 0")
 shape_words shape.OutOfMemory = codes "out of memory"
 
@@ -55,9 +55,13 @@ line_of (fault.Shape path why) = codes "refused: " ++ (path.now ++ (codes ".json
 line_of (fault.Length path found wanted) = codes "refused: " ++ (path.now ++ (codes " has " ++ (decimal found ++ (codes " bytes, and its shape " ++ decimal wanted))))
 line_of (fault.Open path why) = codes "refused: " ++ (path.now ++ (codes " is no disk: " ++ open_words why))
 line_of (fault.Create path why) = codes "refused: " ++ (path.now ++ (codes " was not formatted: " ++ create_words why))
+line_of (fault.List path why) = codes "refused: " ++ (path.now ++ (codes ".lost: " ++ list_words why))
+line_of (fault.Lost path count) = codes "refused: " ++ (path.now ++ (codes " has " ++ (decimal count ++ codes " lost sectors")))
 line_of fault.OutOfMemory = codes "refused: no memory"
 line_of (fault.Read path) = codes "fault read " ++ path.now
 line_of (fault.Write path) = codes "fault write " ++ path.now
+line_of (fault.ReadList path) = codes "fault read " ++ (path.now ++ codes ".lost")
+line_of (fault.WriteList path) = codes "fault write " ++ (path.now ++ codes ".lost")
 line_of fault.BadFrame = codes "fault serve: the client's bytes are no requests"
 line_of fault.Stream = codes "fault serve: standard input or output failed"
 line_of (fault.Device path) = codes "fault serve: " ++ (path.now ++ codes " failed")
@@ -75,9 +79,13 @@ status_of (fault.Shape path why) = 1
 status_of (fault.Length path found wanted) = 1
 status_of (fault.Open path why) = 1
 status_of (fault.Create path why) = 1
+status_of (fault.List path why) = 1
+status_of (fault.Lost path count) = 1
 status_of fault.OutOfMemory = 1
 status_of (fault.Read path) = 3
 status_of (fault.Write path) = 3
+status_of (fault.ReadList path) = 3
+status_of (fault.WriteList path) = 3
 status_of fault.BadFrame = 3
 status_of fault.Stream = 3
 status_of (fault.Device path) = 3

@@ -3,7 +3,8 @@ use Rattle.std.specs.Prelude.{◌≡◌, ◌⊎◌, Bool, ℕ, true, List, codes
 use Rattle.std.specs.Io.KnownBytes.{Appends, Keeps}
 use Rattle.certificate.specs.Claim.{Claim}
 use Rattle.file_die.specs.Store.{Held}
-use Rattle.mount.specs.Mounted.{IsMounted}
+use Rattle.disk_damage.specs.Numbers.{listed_sectors}
+use Rattle.disk_commands.specs.declared.mark.FoundMark.{FoundMark}
 use Rattle.disk_commands.specs.declared.shape_text.DiskText.{DiskText}
 use Rattle.disk_commands.specs.declared.words.InfoWords.{InfoWords}
 use Rattle.disk_commands.specs.declared.printed.Form.{Form}
@@ -13,24 +14,29 @@ use Rattle.disk_commands.specs.declared.text.DiskFault.{DiskFault}
 use Rattle.disk_commands.specs.declared.text.DiskFault.TheVariants as fault
 use Rattle.disk_commands.specs.Files.{Answers}
 use Rattle.disk_commands.specs.Info.{info_of, info_text}
-use Rattle.disk_commands.specs.Opening.{IsStoreAt, IsUnopenedAt}
+use Rattle.disk_commands.specs.Damage.{IsLookedAt, IsUnlookedAt}
 
 -- the form that was asked for
 abbrev pub form_of : (json : Bool) → Form
 form_of json = if json then Json else Text
 
--- WHAT IS TOLD OF THE DISK AT A PATH: what its shape and a certificate tell, which is one of a mount of the pages of an honest store
-pub record IsInfoAt {S : Type 0} (held : S → Held) (honest : S → Bool) (a : Answers) (path : List ℕ) (info : Info) : Type 0 where
-  pub text : DiskText
+-- WHAT IS TOLD OF THE DISK AT A PATH: what its shape and a certificate tell, which is one of a mount of the pages of an honest store, and which sectors are lost
+pub record IsInfoAt {S : Type 0} (held : S → Held) (honest : S → Bool) (a : Answers) (path : List ℕ) (info : Info) (missing : List ℕ) : Type 0 where
+  pub told : DiskText
+  pub found : FoundMark
   pub store : S
-  pub at : IsStoreAt held honest a path text store
   pub certificate : Claim
-  pub mounted : honest store ≡ true → IsMounted (held store).geometry certificate.capacity (held store).pages certificate
-  pub is : info ≡ info_of text.shape certificate
+  pub list : List Bool
+  pub looked : IsLookedAt held honest a path told found store certificate list
+  pub is : info ≡ info_of told.shape certificate
+  pub lost_are : missing ≡ listed_sectors list
 
 -- it was printed
-abbrev pub HasTold : {S : Type 0} → (S → Held) → (honest : S → Bool) → Answers → InfoWords → (before after : Option (List ℕ)) → Type 0
-HasTold held honest a words before after = (info : Info) × IsInfoAt held honest a words.disk.now info × Appends before after (info_text (form_of words.json) info)
+pub record HasTold {S : Type 0} (held : S → Held) (honest : S → Bool) (a : Answers) (words : InfoWords) (before after : Option (List ℕ)) : Type 0 where
+  pub info : Info
+  pub missing : List ℕ
+  pub at : IsInfoAt held honest a words.disk.now info missing
+  pub printed : Appends before after (info_text (form_of words.json) info missing)
 
 -- standard output failed, or memory was refused
 abbrev pub IsUnprinted : DiskFault → Type 0
@@ -40,4 +46,4 @@ IsUnprinted _ = ⊥
 
 -- why it was not: the disk was not opened, and nothing was printed; or that failed
 abbrev pub IsUntold : {S : Type 0} → (S → Held) → (honest : S → Bool) → (failed : S → ℕ) → Answers → InfoWords → (before after : Option (List ℕ)) → DiskFault → Type 0
-IsUntold held honest failed a words before after told = (IsUnopenedAt held honest failed a words.disk.now told × Keeps before after) ⊎ IsUnprinted told
+IsUntold held honest failed a words before after told = (IsUnlookedAt held honest failed a words.disk.now told × Keeps before after) ⊎ IsUnprinted told

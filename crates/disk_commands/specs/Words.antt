@@ -25,9 +25,12 @@ serve = command_of (codes "serve") (flag (codes "read-only") ∷ option (codes "
 abbrev pub info : Shape
 info = command_of (codes "info") (flag (codes "json") ∷ place (codes "DISK") ∷ [])
 
+abbrev pub check : Shape
+check = command_of (codes "check") (flag (codes "json") ∷ place (codes "DISK") ∷ [])
+
 -- the commands that the program has
 abbrev pub grammar : App
-grammar = program_of (codes "nanddisk") (create ∷ serve ∷ info ∷ [])
+grammar = program_of (codes "nanddisk") (create ∷ serve ∷ info ∷ check ∷ [])
 
 -- ---- what the words ask for
 
@@ -68,7 +71,7 @@ pub record IsServeAt (rows : List Row) (read : ServeWords) : Type 0 where
   pub read_only_is : once (count_of (codes "read-only") rows) ≡ Some read.read_only
   pub sync_is : always (first_of (codes "sync") rows) ≡ Some read.sync_always
 
--- those of the words of `info` are these
+-- those of the words of `info` or `check` are these
 pub record IsInfoAt (rows : List Row) (read : InfoWords) : Type 0 where
   pub disk_is : first_of (codes "DISK") rows ≡ Some read.disk.now
   pub json_is : once (count_of (codes "json") rows) ≡ Some read.json
@@ -78,6 +81,7 @@ abbrev pub IsAt : List ℕ → List Row → DiskWords → Type 0
 IsAt name rows (asked.Create read) = (name ≡ codes "create") × IsCreateAt rows read
 IsAt name rows (asked.Serve read) = (name ≡ codes "serve") × IsServeAt rows read
 IsAt name rows (asked.Info read) = (name ≡ codes "info") × IsInfoAt rows read
+IsAt name rows (asked.Check read) = (name ≡ codes "check") × IsInfoAt rows read
 IsAt name rows (asked.Text text) = ⊥
 
 -- Of the words as `clap` reads them: they name a command, with these words, or they ask for help or for the version.
@@ -85,6 +89,7 @@ abbrev pub IsAsked : List (List ℕ) → DiskWords → Type 0
 IsAsked words (asked.Create read) = NamesCommand IsAt grammar words (asked.Create read)
 IsAsked words (asked.Serve read) = NamesCommand IsAt grammar words (asked.Serve read)
 IsAsked words (asked.Info read) = NamesCommand IsAt grammar words (asked.Info read)
+IsAsked words (asked.Check read) = NamesCommand IsAt grammar words (asked.Check read)
 IsAsked words (asked.Text text) = AsksText grammar words
 
 -- `clap` finds another fault in them, or they name no command with its words

@@ -1,6 +1,6 @@
 //! The files that disks are: of each the die, the one beside it that tells its shape, and its mark.
 use crate::mark::FoundMark;
-use disk_server::Syncs;
+use disk_server::{KeepsLost, Syncs};
 use file_die::Store;
 use page_layout::geometry::Geometry;
 use std::alloc::Global;
@@ -40,6 +40,9 @@ pub trait DiskFiles {
 
     /// A second handle of such a file.
     type Syncs: Syncs + Drop;
+
+    /// A place beside a disk where the list of its lost sectors is kept.
+    type Lists: KeepsLost + Drop;
 
     /// What they may answer. Of the system's files it may be anything.
     ghost answers: { Self → Answers };
@@ -172,4 +175,30 @@ pub trait DiskFiles {
     fn discard(&mut self, path: &str)
         ensures opened { opened self.new ≡ opened self.old }
         ensures kept { kept self.new ≡ kept self.old };
+
+    /// The bytes of the file of the list of lost sectors of the disk at a path, or the first `most` of them.
+    ///
+    /// # Errors
+    ///
+    /// One that these files may answer of the path, where there is no such file or it could not be read. They are as they were.
+    fn lost_text(&mut self, alloc: Global, path: &str, most: u64) -> Result<Vec<u8>, FileFault>
+        ensures bytes { IfOk result (λ text. (answers self.old).lists path.now text.items) }
+        ensures failed { IfErr result ((answers self.old).fails path.now) }
+        ensures same { self.new ≡ self.old };
+
+    /// The place beside the disk at a path where the list of its lost sectors is kept, each list whole, in place of the one before. The first that is kept there is followed by `beside`, in
+    /// place of the file that tells the shape: so that file says that a list stands there just where one does. Nothing is opened or made before.
+    ///
+    /// # Errors
+    ///
+    /// One that these files may answer of the path, where a growth was refused or the die has no further handle. They are as they were.
+    fn lists(
+        &mut self,
+        alloc: Global,
+        path: &str,
+        syncs: &Self::Syncs,
+        beside: &[u8],
+    ) -> Result<Self::Lists, FileFault>
+        ensures failed { IfErr result ((answers self.old).fails path.now) }
+        ensures same { self.new ≡ self.old };
 }

@@ -71,10 +71,16 @@ const INFO: CommandRule<'static> = CommandRule {
     words: &[JSON, DISK],
 };
 
+const CHECK: CommandRule<'static> = CommandRule {
+    name: "check",
+    about: "Looks at all of a disk, and tells what is lost",
+    words: &[JSON, DISK],
+};
+
 static GRAMMAR: Grammar<'static> = Grammar {
     name: "nanddisk",
     about: "A NAND die in a file, served as a disk",
-    commands: &[CREATE, SERVE, INFO],
+    commands: &[CREATE, SERVE, INFO, CHECK],
 };
 
 /// The commands that the program has.

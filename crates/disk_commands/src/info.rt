@@ -2,45 +2,44 @@
 ghost use Rattle.std.specs.Prelude.{◌≡◌, false, OnOk, IfOk, IfErr};
 ghost use Rattle.std.specs.IoError.{error_kind};
 ghost use Rattle.disk_commands.specs.Files.{Opens};
-ghost use Rattle.disk_commands.specs.Opening.{IsUnopenedAt};
+ghost use Rattle.disk_commands.specs.Damage.{IsUnlookedAt};
 ghost use Rattle.disk_commands.specs.Told.{HasTold, IsInfoAt, IsUnprinted, IsUntold, form_of};
 
+use crate::damage::look_at;
 use crate::files::DiskFiles;
-use crate::opening::open_at;
 use crate::printed::{Form, Info};
 use crate::text::DiskFault;
 use crate::words::InfoWords;
-use disk_server::mount_stopped;
+use disk_damage::numbers_of;
 use std::alloc::Global;
 use std::io::{Error, ErrorKind, Write};
 
-// What is told of the disk at a path.
+// What is told of the disk at a path, and its lost sectors.
 fn info_at<'a, F: DiskFiles>(
     alloc: Global,
     files: &mut F,
     path: &'a str,
-) -> Result<Info, DiskFault<'a>>
-    ensures ok { IfOk result (IsInfoAt F.Store.held F.Store.honest (F.answers files.old) path.now) }
-    ensures fault { IfErr result (IsUnopenedAt F.Store.held F.Store.honest F.Store.failed (F.answers files.old) path.now) }
+) -> Result<(Info, Vec<u64>), DiskFault<'a>>
+    ensures ok { IfOk result (λ told. IsInfoAt F.Store.held F.Store.honest (F.answers files.old) path.now told.0 told.1.items) }
+    ensures fault { IfErr result (IsUnlookedAt F.Store.held F.Store.honest F.Store.failed (F.answers files.old) path.now) }
     ensures kept { F.kept files.new ≡ F.kept files.old }
     ensures opened { Opens path.now false (F.opened files.old) (F.opened files.new) }
 {
-    let (store, _syncs, told) = match open_at(alloc, files, path, false) {
-        Ok(opened) => opened,
+    let looked = match look_at(alloc, files, path, false) {
+        Ok(looked) => looked,
         Err(fault) => return Err(fault),
     };
-    let certificate = match mount_stopped(alloc, store, told.shape.cache) {
-        Ok(certificate) => certificate,
-        Err(why) => return Err(DiskFault::Open(path, why)),
+    let Ok(lost) = numbers_of(alloc, &looked.lost) else {
+        return Err(DiskFault::OutOfMemory);
     };
-    match Info::new(alloc, &told.shape, &certificate) {
-        Ok(info) => Ok(info),
+    match Info::new(alloc, &looked.told.shape, &looked.certificate) {
+        Ok(info) => Ok((info, lost)),
         Err(_) => Err(DiskFault::OutOfMemory),
     }
 }
 
-// The form that was asked for.
-fn form_of(json: bool) -> Form
+/// The form that was asked for.
+pub(crate) fn form_of(json: bool) -> Form
     ensures { result ≡ form_of json }
 {
     if json { Form::Json } else { Form::Text }
@@ -57,7 +56,7 @@ pub(crate) fn unprinted<'a>(error: Error) -> DiskFault<'a>
     }
 }
 
-/// The command `info`: prints what is told of the disk DISK, its bytes, geometry, cache, free and bad blocks, wear and next sequence.
+/// The command `info`: prints what is told of the disk DISK, its bytes, geometry, cache, free and bad blocks, wear, next sequence and lost sectors.
 ///
 /// # Errors
 ///
@@ -75,11 +74,11 @@ pub(crate) fn info_command<'a, F: DiskFiles, W: Write>(
     ensures kept { F.kept files.new ≡ F.kept files.old }
     ensures opened { Opens words.entry.disk.now false (F.opened files.old) (F.opened files.new) }
 {
-    let info = match info_at(alloc, files, words.disk) {
-        Ok(info) => info,
+    let (info, lost) = match info_at(alloc, files, words.disk) {
+        Ok(told) => told,
         Err(fault) => return Err(fault),
     };
-    match info.print(form_of(words.json), out) {
+    match info.print(alloc, &lost, form_of(words.json), out) {
         Ok(()) => Ok(()),
         Err(error) => Err(unprinted(error)),
     }

@@ -12,14 +12,18 @@
 #![tactic(auto)]
 
 mod asked;
+mod check;
 mod create;
+mod damage;
 mod files;
 mod grammar;
+mod guard;
 mod info;
 mod mark;
 mod opening;
 mod printed;
 mod program;
+mod ready;
 mod serve;
 mod shape_text;
 mod shape_words;
@@ -35,7 +39,7 @@ pub use opening::die_bytes;
 pub use printed::{Form, Info};
 pub use program::run;
 pub use program_words::WordsFault;
-pub use shape_text::{DiskText, Member, ShapeFault, read_shape, write_shape};
+pub use shape_text::{DiskText, Member, ShapeFault, read_shape, write_listed_shape, write_shape};
 pub use shape_words::{GeometryWordFault, geometry_from};
 pub use shapes::{Shape, SizeFault, cache_for, shape_for};
 pub use sizes::size_from;

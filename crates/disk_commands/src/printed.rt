@@ -1,11 +1,12 @@
 //! What is told of a disk.
-ghost use Rattle.std.specs.Prelude.{◌≡◌, ◌≤◌, length, IfOk, OnOk};
+ghost use Rattle.std.specs.Prelude.{◌≡◌, ◌≤◌, length, IfOk, OnOk, string_bytes};
 ghost use Rattle.std.specs.Io.KnownBytes.{Appends};
-ghost use Rattle.disk_commands.specs.Info.{bad_count, erase_sum, free_count, info_of, info_text, least_wear, most_wear};
+ghost use Rattle.disk_commands.specs.Info.{bad_count, erase_sum, free_count, info_of, info_text, least_wear, lost_lines, most_wear};
 
 use crate::shape_words::GeometryText;
 use crate::shapes::Shape;
 use certificate::{BlockState, Certificate};
+use disk_damage::{counted, joined};
 use page_layout::geometry::Geometry;
 use std::alloc::{AllocError, Global};
 use std::fmt;
@@ -134,19 +135,42 @@ impl Info {
         })
     }
 
-    /// Prints it.
+    /// Prints it, and the sectors that are lost, which are these.
     ///
     /// # Errors
     ///
-    /// Where a write failed: a beginning of the text may stand there.
-    pub fn print<W: Write>(&self, form: Form, out: &mut W) -> io::Result<()>
-        ensures { OnOk result (Appends (W.contents out.old) (W.contents out.new) (info_text form self.now)) }
+    /// Where a growth was refused, and nothing was printed; where a write failed: a beginning of the text may stand there.
+    pub fn print<W: Write>(
+        &self,
+        alloc: Global,
+        lost: &[u64],
+        form: Form,
+        out: &mut W,
+    ) -> io::Result<()>
+        ensures { OnOk result (Appends (W.contents out.old) (W.contents out.new) (info_text form self.now lost.now)) }
     {
         match form {
-            Form::Text => write!(out, "{}", Lines(self)),
-            Form::Json => write!(out, "{}", Object(self)),
+            Form::Text => {
+                let lines = lost_text(alloc, lost)?;
+                write!(out, "{}{lines}", Lines(self))
+            }
+            Form::Json => {
+                let numbers = joined(alloc, lost)?;
+                write!(out, "{}", Object(self, &numbers))
+            }
         }
     }
+}
+
+/// How many sectors are lost, and which, a line each.
+///
+/// # Errors
+///
+/// Where a growth was refused.
+pub(crate) fn lost_text(alloc: Global, lost: &[u64]) -> Result<String, AllocError>
+    ensures { IfOk result (λ text. string_bytes text ≡ lost_lines lost.now) }
+{
+    counted(alloc, "lost ", "lost sector ", lost)
 }
 
 // The bytes of a disk.
@@ -197,23 +221,24 @@ impl fmt::Display for Wear<'_> {
     }
 }
 
-// All as a JSON object.
+// All as a JSON object, with the numbers of the lost sectors.
 #[derive(Clone, Copy)]
-struct Object<'a>(&'a Info);
+struct Object<'a>(&'a Info, &'a String);
 
 impl fmt::Display for Object<'_> {
     ghost use Rattle.std.specs.Prelude.{Some};
     ghost use Rattle.disk_commands.specs.Info.{object_of};
 
-    ghost output = { λ text. Some (object_of text.0.now) };
+    ghost output = { λ text. Some (object_of text.0.now (string_bytes text.1.now)) };
 
     fn fmt<W: fmt::Write>(&self, f: &mut fmt::Formatter<W>) -> fmt::Result {
         let i = self.0;
         let (size, geometry) = (size_of(&i.shape.geometry), GeometryText(&i.shape.geometry));
         let (cache, free, bad, wear, next) = (i.shape.cache, i.free, i.bad, Wear(i), i.next);
+        let lost = self.1;
         write!(
             f,
-            "{{\"size\":{size},\"geometry\":\"{geometry}\",\"cache\":{cache},\"free\":{free},\"bad\":{bad},\"wear\":{wear},\"next\":{next}}}\n"
+            "{{\"size\":{size},\"geometry\":\"{geometry}\",\"cache\":{cache},\"free\":{free},\"bad\":{bad},\"wear\":{wear},\"next\":{next},\"lost\":[{lost}]}}\n"
         )
     }
 }

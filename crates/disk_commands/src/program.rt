@@ -5,6 +5,7 @@ ghost use Rattle.program_words.specs.Met.{texts};
 ghost use Rattle.disk_commands.specs.Program.{Obeys, Runs};
 ghost use Rattle.disk_commands.specs.Told.{IsUnprinted};
 
+use crate::check::check_command;
 use crate::create::create_command;
 use crate::files::DiskFiles;
 use crate::info::{info_command, unprinted};
@@ -27,21 +28,23 @@ fn print<'a, O: Write>(text: &str, out: &mut O) -> Result<(), DiskFault<'a>>
 }
 
 // Does what the words ask.
-fn obey<'a, F: DiskFiles, I: Read, O: Write>(
+fn obey<'a, F: DiskFiles, I: Read, O: Write, E: Write>(
     alloc: Global,
     words: &'a [&'a str],
     files: &mut F,
     input: &mut I,
     out: &mut O,
+    err: &mut E,
 ) -> Result<(), DiskFault<'a>>
-    ensures { Obeys F.Store.held F.Store.honest F.Store.failed F.Syncs.synced F.Syncs.failed F.Syncs.marked (F.answers files.old) (texts words.now)
-        (record { kept = F.kept files.old; opened = F.opened files.old; input = I.remaining input.old; out = O.contents out.old })
-        (record { kept = F.kept files.new; opened = F.opened files.new; input = I.remaining input.new; out = O.contents out.new }) result }
+    ensures { Obeys F.Store.held F.Store.honest F.Store.failed F.Syncs.synced F.Syncs.failed F.Syncs.marked F.Lists.kept F.Lists.failed (F.answers files.old) (texts words.now)
+        (record { kept = F.kept files.old; opened = F.opened files.old; input = I.remaining input.old; out = O.contents out.old; err = E.contents err.old })
+        (record { kept = F.kept files.new; opened = F.opened files.new; input = I.remaining input.new; out = O.contents out.new; err = E.contents err.new }) result }
 {
     match parse(alloc, words) {
         Ok(DiskWords::Create(words)) => create_command(alloc, words, files),
-        Ok(DiskWords::Serve(words)) => serve_command(alloc, words, files, input, out),
+        Ok(DiskWords::Serve(words)) => serve_command(alloc, words, files, input, out, err),
         Ok(DiskWords::Info(words)) => info_command(alloc, words, files, out),
+        Ok(DiskWords::Check(words)) => check_command(alloc, words, files, out),
         Ok(DiskWords::Text(text)) => print(text.as_str(), out),
         Err(WordsFault::NoSuchCommand) => Err(DiskFault::NoSuchCommand),
         Err(WordsFault::OutOfMemory) => Err(DiskFault::OutOfMemory),
@@ -49,7 +52,7 @@ fn obey<'a, F: DiskFiles, I: Read, O: Write>(
 }
 
 /// Does what the words say, and answers the exit status: 0 done, 1 refused, 2 usage, 3 input or output. `words` begins with the program's name. Of a command that was not
-/// done one line goes to `err`.
+/// done one line goes to `err`; `serve` names lost sectors there too.
 ///
 /// (The words, the lines and the statuses are this project's.)
 pub fn run<F: DiskFiles, I: Read, O: Write, E: Write>(
@@ -60,11 +63,11 @@ pub fn run<F: DiskFiles, I: Read, O: Write, E: Write>(
     out: &mut O,
     err: &mut E,
 ) -> u8
-    ensures { Runs F.Store.held F.Store.honest F.Store.failed F.Syncs.synced F.Syncs.failed F.Syncs.marked (F.answers files.old) (texts words.now)
-        (record { kept = F.kept files.old; opened = F.opened files.old; input = I.remaining input.old; out = O.contents out.old })
-        (record { kept = F.kept files.new; opened = F.opened files.new; input = I.remaining input.new; out = O.contents out.new }) (E.contents err.old) (E.contents err.new) result }
+    ensures { Runs F.Store.held F.Store.honest F.Store.failed F.Syncs.synced F.Syncs.failed F.Syncs.marked F.Lists.kept F.Lists.failed (F.answers files.old) (texts words.now)
+        (record { kept = F.kept files.old; opened = F.opened files.old; input = I.remaining input.old; out = O.contents out.old; err = E.contents err.old })
+        (record { kept = F.kept files.new; opened = F.opened files.new; input = I.remaining input.new; out = O.contents out.new; err = E.contents err.new }) result }
 {
-    match obey(alloc, words, files, input, out) {
+    match obey(alloc, words, files, input, out, err) {
         Ok(()) => 0,
         Err(fault) => tell(&fault, err),
     }

@@ -2,28 +2,19 @@
 ghost use Rattle.std.specs.Prelude.{◌≡◌, ◌⊎◌, OnOk, IfOk, IfErr, Err, length, not, true, false};
 ghost use Rattle.std.specs.Io.KnownBytes.{Keeps};
 ghost use Rattle.disk_commands.specs.declared.text.DiskFault.TheVariants as fault;
-ghost use Rattle.disk_server.specs.Synced.{after_sync};
-ghost use Rattle.disk_server.specs.Disk.{contents_of, holds};
-ghost use Rattle.disk_server.specs.Opened.{flash_in, is_honest_in};
-ghost use Rattle.disk_commands.specs.Opening.{IsUnkeptAt, IsUnwrittenOf};
-ghost use Rattle.disk_commands.specs.ShapeText.{IsWithin};
-ghost use Rattle.disk_commands.specs.Files.{OpensMarked, with_mark};
-ghost use Rattle.disk_commands.specs.Serve.{HasNotServed, HasReadDisk, HasServedAt, HasServedDisk, HasServedOn, IsDiskAt, IsFlushed, IsUnservedBy, IsWrittenAt, end_of, offer_of, pace_of, terms_of};
+ghost use Rattle.disk_commands.specs.Files.{OpensMarked};
+ghost use Rattle.disk_commands.specs.Serve.{HasNotServed, HasReadDisk, HasServedAt, HasServedDisk, HasServedOn, IsFlushed, end_of, offer_of, pace_of, terms_of};
 ghost use Rattle.disk_server.specs.Reading.{AllLasts};
 
 use crate::files::DiskFiles;
-use crate::mark::FoundMark;
-use crate::opening::{mark_at, open_at, told_at};
-use crate::shape_text::DiskText;
+use crate::ready::ready;
 use crate::shapes::{MOST_ENTRIES, Shape};
 use crate::text::DiskFault;
 use crate::words::ServeWords;
-use disk_recovery::open_recovered;
 use disk_server::{
-    Offer, ReadOnlyDisk, SectorDisk, Sectors, Sequenced, StoreDisk, SyncPace, SyncedDisk, Syncs,
-    open_stopped, serve_reading, serve_synced,
+    Offer, ReadOnlyDisk, SectorDisk, Sectors, SyncPace, SyncedDisk, Syncs, serve_reading,
+    serve_synced,
 };
-use file_die::SyncWhen;
 use nbd_stream::{Disk, End};
 use page_layout::geometry::Geometry;
 use request_stream::ServeFault;
@@ -87,15 +78,6 @@ fn terms_of(shape: &Shape, read_only: bool) -> Terms
     Terms {
         offer: offer_of(&shape.geometry, read_only),
         pace: pace_of(shape),
-    }
-}
-
-// When the die syncs its file.
-fn sync_when(always: bool) -> SyncWhen {
-    if always {
-        SyncWhen::Always
-    } else {
-        SyncWhen::Erases
     }
 }
 
@@ -182,118 +164,36 @@ fn serve_client<'a, S: Sectors + Drop, Y: Syncs + Drop, I: Read, O: Write>(
     }
 }
 
-// Keeps the mark of a disk from now on, of which this was found, and whose next page has this sequence. All that was programmed is synced, and the mark of that is made to last.
-fn keep_mark<'a, F: DiskFiles>(
-    alloc: Global,
-    files: &mut F,
-    path: &'a str,
-    syncs: F::Syncs,
-    found: FoundMark,
-    next: u64,
-) -> Result<F::Syncs, DiskFault<'a>>
-    ensures marked { IfOk result (λ keeps. F.Syncs.marked keeps ≡ after_sync next false found.mark) }
-    ensures fault { IfErr result (IsUnkeptAt F.Syncs.failed (F.answers files.old) path.now) }
-    ensures opened { F.opened files.new ≡ with_mark (F.opened files.old) path.now }
-    ensures kept { F.kept files.new ≡ F.kept files.old }
-{
-    let mut syncs = match files.keep_mark(alloc, path, syncs, found) {
-        Ok(syncs) => syncs,
-        Err(fault) => return Err(told_at(fault, path, 0)),
-    };
-    match syncs.sync(next, false) {
-        Ok(()) => Ok(syncs),
-        Err(_) => Err(DiskFault::Device(path)),
-    }
-}
-
-// The disk of a store that was opened at a path to be written: what a crash left torn is taken away, and the mark is kept from now on, where one counts.
-fn open_to_write<'a, F: DiskFiles>(
-    alloc: Global,
-    files: &mut F,
-    words: &ServeWords<'a>,
-    opened: (F::Store, F::Syncs),
-    told: DiskText,
-) -> Result<(StoreDisk<F::Store>, F::Syncs), DiskFault<'a>>
-    requires within { IsWithin told.shape.cache }
-    ensures honest { IfOk result (λ disk. F.Store.honest opened.0 ≡ true → holds (is_honest_in F.Store.honest) disk.0 ≡ true) }
-    ensures ok { IfOk result (λ disk. IsWrittenAt F.Syncs.marked (F.answers files.old) words.now.disk.now told (F.Store.honest opened.0 ≡ true) (F.Store.held opened.0)
-        (contents_of (flash_in F.Store.held) (is_honest_in F.Store.honest) disk.0).bytes disk.0.engine.next disk.1) }
-    ensures fault { IfErr result (IsUnwrittenOf F.Store.held F.Store.honest F.Store.failed F.Syncs.failed (F.answers files.old) words.now.disk.now told opened.0) }
-    ensures opened { (F.opened files.new ≡ F.opened files.old) ⊎ (F.opened files.new ≡ with_mark (F.opened files.old) words.now.disk.now) }
-    ensures kept { F.kept files.new ≡ F.kept files.old }
-{
-    let (store, syncs) = opened;
-    let found = match mark_at(alloc, files, words.disk, told.marked) {
-        Ok(found) => found,
-        Err(fault) => return Err(fault),
-    };
-    let when = sync_when(words.sync_always);
-    let disk = match open_recovered(alloc, store, told.shape.cache, found.mark.synced, when) {
-        Ok(disk) => disk,
-        Err(why) => return Err(DiskFault::Open(words.disk, why)),
-    };
-    if !told.marked {
-        return Ok((disk, syncs));
-    }
-    let next = disk.next_sequence();
-    match keep_mark(alloc, files, words.disk, syncs, found, next) {
-        Ok(syncs) => Ok((disk, syncs)),
-        Err(fault) => Err(fault),
-    }
-}
-
-// The disk at a path, with a second handle of its file, and what is told beside it.
-fn open_disk<'a, F: DiskFiles>(
-    alloc: Global,
-    files: &mut F,
-    words: &ServeWords<'a>,
-) -> Result<(StoreDisk<F::Store>, F::Syncs, DiskText), DiskFault<'a>>
-    ensures ok { IfOk result (λ opened. IsDiskAt F.Store.held F.Store.honest F.Syncs.marked (F.answers files.old) words.now.disk.now words.now.read_only opened.2 opened.0 opened.1) }
-    ensures fault { IfErr result (IsUnservedBy words.now.read_only F.Store.held F.Store.honest F.Store.failed F.Syncs.failed (F.answers files.old) words.now.disk.now) }
-    ensures opened { OpensMarked words.now.disk.now (not words.now.read_only) (F.opened files.old) (F.opened files.new) }
-    ensures kept { F.kept files.new ≡ F.kept files.old }
-{
-    let (store, syncs, told) = match open_at(alloc, files, words.disk, !words.read_only) {
-        Ok(opened) => opened,
-        Err(fault) => return Err(fault),
-    };
-    if words.read_only {
-        let when = sync_when(words.sync_always);
-        return match open_stopped(alloc, store, told.shape.cache, when, false) {
-            Ok(disk) => Ok((disk, syncs, told)),
-            Err(why) => Err(DiskFault::Open(words.disk, why)),
-        };
-    }
-    match open_to_write(alloc, files, words, (store, syncs), told) {
-        Ok((disk, syncs)) => Ok((disk, syncs, told)),
-        Err(fault) => Err(fault),
-    }
-}
-
 /// The command `serve`: serves the disk DISK to the client at `input` and `out` until it goes, and then flushes it. With `--read-only` its file is opened for reading alone, nothing is
 /// asked of its die but reads, and a flush is answered as done. Else what a crash left torn is taken away first, by the mark beside DISK; a disk whose file says that one counts has its mark kept
 /// from then on. **Of files whose stores are honest the client's answers are those of the array of bytes that the die at DISK holds, once that is taken away.**
 ///
+/// Lost sectors, those on the list beside DISK and those that its pages show, are named on standard error, and none is read until it is written or trimmed. Where any is lost and DISK is to be
+/// written, their list is kept before anything is programmed.
+///
 /// # Errors
 ///
 /// The first of this order: `Read`, `Shape` or `OutOfMemory` where the file beside DISK tells no shape; `Read`, `InUse`, `Length` or `OutOfMemory` where DISK was not opened;
-/// `Read` or `OutOfMemory` where its mark was not read; `Open` where it holds no disk; `Read`, `Write` or `OutOfMemory` where its mark cannot be kept, `Device` where the first sync failed;
+/// `Read` or `OutOfMemory` where its mark was not read; `ReadList` or `List` where the list of its lost sectors was not read; `Open` where it holds no disk; `WriteList` where that list was not kept;
+/// `Open` where the disk was not opened; `Read`, `Write` or `OutOfMemory` where its mark cannot be kept, `Device` where the first sync failed; `Write` of `-` where lost sectors were not named;
 /// `OutOfMemory` for the memory of a request. After each of these nothing was sent. Then `Device` where the last flush failed;
 /// `BadFrame` where the client sent what is no request, `Stream` where `input` or `out` failed. (This project's.)
-pub(crate) fn serve_command<'a, F: DiskFiles, I: Read, O: Write>(
+pub(crate) fn serve_command<'a, F: DiskFiles, I: Read, O: Write, E: Write>(
     alloc: Global,
     words: ServeWords<'a>,
     files: &mut F,
     input: &mut I,
     out: &mut O,
+    err: &mut E,
 ) -> Result<(), DiskFault<'a>>
-    ensures served { HasServedAt F.Store.held F.Store.honest F.Syncs.synced F.Syncs.marked (F.answers files.old) words.entry (I.remaining input.old) (I.remaining input.new) (O.contents out.old) (O.contents out.new) result
-        ⊎ HasNotServed F.Store.held F.Store.honest F.Store.failed F.Syncs.failed (F.answers files.old) words.entry (O.contents out.old) (O.contents out.new) result }
+    ensures served { HasServedAt F.Store.held F.Store.honest F.Syncs.synced F.Syncs.marked F.Lists.kept (F.answers files.old) words.entry (I.remaining input.old) (I.remaining input.new) (O.contents out.old) (O.contents out.new)
+        (E.contents err.old) (E.contents err.new) result
+        ⊎ HasNotServed F.Store.held F.Store.honest F.Store.failed F.Syncs.failed F.Lists.failed (F.answers files.old) words.entry (O.contents out.old) (O.contents out.new) (E.contents err.old) (E.contents err.new) result }
     ensures opened { OpensMarked words.entry.disk.now (not words.entry.read_only) (F.opened files.old) (F.opened files.new) }
     ensures kept { F.kept files.new ≡ F.kept files.old }
 {
-    let (disk, syncs, told) = match open_disk(alloc, files, &words) {
-        Ok(opened) => opened,
+    let (disk, syncs, told) = match ready(alloc, files, &words, err) {
+        Ok(ready) => ready,
         Err(fault) => return Err(fault),
     };
     let terms = terms_of(&told.shape, words.read_only);

@@ -2,7 +2,7 @@
 ghost use Rattle.std.specs.Prelude.{◌≡◌, ◌≢◌, false, Some, IfOk, IfErr, OnOk, codes, string_bytes};
 ghost use Rattle.serde_json.specs.View.{view};
 ghost use Rattle.disk_commands.specs.declared.shape_text.Member.{Member};
-ghost use Rattle.disk_commands.specs.ShapeText.{IsGeometryTold, IsNoShape, IsShapeText, IsTextMember, IsWithin, TellsLater, TellsLaterBy, TellsNone, TellsShape, TellsText, flag_at, geometry_words, number_at, shape_data, shape_text, members_of, size_of, text_at, version_of, without_feed};
+ghost use Rattle.disk_commands.specs.ShapeText.{IsGeometryTold, IsNoShape, IsShapeText, IsTextMember, IsWithin, TellsLater, TellsLaterBy, TellsNone, TellsShape, TellsText, flag_at, geometry_words, listed_text, number_at, shape_data, shape_text, members_of, size_of, text_at, version_of, without_feed};
 
 use crate::shape_words::{GeometryText, GeometryWordFault, geometry_from};
 use crate::shapes::Shape;
@@ -20,6 +20,8 @@ pub struct DiskText {
     pub shape: Shape,
     /// Whether the mark beside the disk counts: a program that knows version 1 alone writes none.
     pub marked: bool,
+    /// Whether a list of lost sectors stands beside the disk. Version 1 has none.
+    pub lost: bool,
 }
 
 /// A member of the object in the file beside a disk.
@@ -81,8 +83,6 @@ pub enum ShapeFault {
     CacheRange,
     /// The pages have a code, which this program does not read.
     Code,
-    /// A list of lost sectors stands beside the disk, which this program does not read.
-    Lost,
     /// So many moved sectors may wait for each translation page, and not 0.
     Share(u64),
     /// A growth was refused.
@@ -113,7 +113,6 @@ impl fmt::Display for ShapeFault {
             }
             ShapeFault::CacheRange => f.write_str("the cache has not from 1 to 65536 entries"),
             ShapeFault::Code => f.write_str("the code is not none"),
-            ShapeFault::Lost => f.write_str("sectors are lost"),
             ShapeFault::Share(share) => write!(f, "the share is {share} and not 0"),
             ShapeFault::OutOfMemory => f.write_str("out of memory"),
         }
@@ -127,12 +126,13 @@ fn geometry_word(alloc: Global, geometry: &Geometry) -> Result<String, AllocErro
     format!(in alloc; "{}", GeometryText(geometry))
 }
 
-fn shape_value(alloc: Global, shape: &Shape) -> Result<Value, AllocError>
-    ensures { IfOk result (λ value. view value ≡ shape_data shape.now) }
+// The object of a disk of this shape, by whether a list of lost sectors stands beside it.
+fn shape_value(alloc: Global, shape: &Shape, lost: bool) -> Result<Value, AllocError>
+    ensures { IfOk result (λ value. view value ≡ shape_data shape.now lost) }
 {
     let word = geometry_word(alloc, &shape.geometry)?;
     let (cache, geometry) = (u64::from(shape.cache), word.as_str());
-    json!(in alloc; {"cache": cache, "code": "none", "geometry": geometry, "lost": false, "share": 0u64, "version": 2u64})
+    json!(in alloc; {"cache": cache, "code": "none", "geometry": geometry, "lost": lost, "share": 0u64, "version": 2u64})
 }
 
 /// The text of the file beside a disk of this shape, in version 2: one JSON object and a line feed. It says that there is no code, that no sectors are lost and that none waits.
@@ -141,7 +141,18 @@ fn shape_value(alloc: Global, shape: &Shape) -> Result<Value, AllocError>
 pub fn write_shape(alloc: Global, shape: &Shape) -> Result<String, AllocError>
     ensures { IfOk result (λ text. string_bytes text ≡ shape_text shape.now) }
 {
-    let mut text = shape_value(alloc, shape)?.to_string(alloc)?;
+    let mut text = shape_value(alloc, shape, false)?.to_string(alloc)?;
+    text.push('\n')?;
+    Ok(text)
+}
+
+/// The same text of a disk beside which a list of lost sectors stands.
+///
+/// (The form is this project's.)
+pub fn write_listed_shape(alloc: Global, shape: &Shape) -> Result<String, AllocError>
+    ensures { IfOk result (λ text. string_bytes text ≡ listed_text shape.now) }
+{
+    let mut text = shape_value(alloc, shape, true)?.to_string(alloc)?;
     text.push('\n')?;
     Ok(text)
 }
@@ -235,17 +246,16 @@ fn require_no_code(value: &Value) -> Result<(), ShapeFault>
     }
 }
 
-// That no list of lost sectors stands beside the disk.
-fn require_none_lost(value: &Value) -> Result<(), ShapeFault>
-    ensures ok { OnOk result (flag_at Member.Lost (view value.now) ≡ Some false) }
+// Whether a list of lost sectors stands beside the disk.
+fn lost_told(value: &Value) -> Result<bool, ShapeFault>
+    ensures ok { IfOk result (λ lost. flag_at Member.Lost (view value.now) ≡ Some lost) }
     ensures fault { IfErr result (TellsNone (view value.now)) }
 {
     let Some(found) = value.get(Member::Lost.name()) else {
         return Err(ShapeFault::Missing(Member::Lost));
     };
     match found.as_bool() {
-        Some(false) => Ok(()),
-        Some(true) => Err(ShapeFault::Lost),
+        Some(lost) => Ok(lost),
         None => Err(ShapeFault::WrongType(Member::Lost)),
     }
 }
@@ -261,22 +271,23 @@ fn require_no_share(value: &Value) -> Result<(), ShapeFault>
     }
 }
 
-// That the members which version 1 lacks say nothing that this program does not read.
-fn require_later(value: &Value) -> Result<(), ShapeFault>
-    ensures ok { OnOk result (TellsLater (view value.now)) }
+// What the members say which version 1 lacks, where this program reads it: whether a list of lost sectors stands beside the disk.
+fn later_told(value: &Value) -> Result<bool, ShapeFault>
+    ensures ok { IfOk result (λ lost. TellsLater lost (view value.now)) }
     ensures fault { IfErr result (TellsNone (view value.now)) }
 {
     require_no_code(value)?;
-    require_none_lost(value)?;
-    require_no_share(value)
+    let lost = lost_told(value)?;
+    require_no_share(value)?;
+    Ok(lost)
 }
 
 // The same by the version: the first has no such member.
-fn require_later_by(value: &Value, second: bool) -> Result<(), ShapeFault>
-    ensures ok { OnOk result (TellsLaterBy second (view value.now)) }
+fn later_by(value: &Value, second: bool) -> Result<bool, ShapeFault>
+    ensures ok { IfOk result (λ lost. TellsLaterBy second lost (view value.now)) }
     ensures fault { IfErr result (TellsNone (view value.now)) }
 {
-    if second { require_later(value) } else { Ok(()) }
+    if second { later_told(value) } else { Ok(false) }
 }
 
 // How many members an object of the version has.
@@ -320,11 +331,12 @@ fn text_told(value: &Value) -> Result<DiskText, ShapeFault>
     }
     let second = is_second(value)?;
     let shape = shape_told(value)?;
-    require_later_by(value, second)?;
+    let lost = later_by(value, second)?;
     require_alone(value, second)?;
     Ok(DiskText {
         shape,
         marked: second,
+        lost,
     })
 }
 
@@ -332,8 +344,8 @@ fn text_told(value: &Value) -> Result<DiskText, ShapeFault>
 ///
 /// # Errors
 ///
-/// As [`ShapeFault`] says. Of several causes it tells the first in this order: no JSON, no object, the version, the cache, the geometry; of version 2 the code, whether
-/// sectors are lost, the share; another member. `OutOfMemory` where a growth was refused.
+/// As [`ShapeFault`] says. Of several causes it tells the first in this order: no JSON, no object, the version, the cache, the geometry; of version 2 the code, whether a
+/// list stands beside the disk, the share; another member. `OutOfMemory` where a growth was refused.
 ///
 /// (The form is this project's.)
 pub fn read_shape(alloc: Global, bytes: &[u8]) -> Result<DiskText, ShapeFault>

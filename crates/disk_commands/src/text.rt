@@ -5,6 +5,7 @@ ghost use Rattle.disk_commands.specs.Text.{IsTold};
 
 use crate::shape_text::ShapeFault;
 use crate::shapes::SizeFault;
+use disk_damage::ListFault;
 use disk_server::{CreateFault, OpenStoreFault};
 use page_layout::geometry::GeometryFault;
 use std::error::Error;
@@ -42,10 +43,18 @@ pub enum DiskFault<'a> {
     Open(&'a str, OpenStoreFault),
     /// The die was not formatted.
     Create(&'a str, CreateFault),
+    /// The file beside the disk where its lost sectors are listed is no list of them.
+    List(&'a str, ListFault),
+    /// So many sectors of the disk are lost.
+    Lost(&'a str, u64),
     /// A growth was refused.
     OutOfMemory,
     /// A file could not be read or opened.
     Read(&'a str),
+    /// The list of the disk's lost sectors could not be read.
+    ReadList(&'a str),
+    /// It could not be written.
+    WriteList(&'a str),
     /// A file, or standard output where it is `-`, could not be written.
     Write(&'a str),
     /// The client sent what is no request.
@@ -76,9 +85,13 @@ impl DiskFault<'_> {
             | DiskFault::Length(..)
             | DiskFault::Open(..)
             | DiskFault::Create(..)
+            | DiskFault::List(..)
+            | DiskFault::Lost(..)
             | DiskFault::OutOfMemory => REFUSED,
             DiskFault::Read(_)
             | DiskFault::Write(_)
+            | DiskFault::ReadList(_)
+            | DiskFault::WriteList(_)
             | DiskFault::BadFrame
             | DiskFault::Stream
             | DiskFault::Device(_) => IO,
@@ -146,9 +159,13 @@ impl fmt::Display for DiskFault<'_> {
             DiskFault::Create(path, fault) => {
                 write!(f, "refused: {path} was not formatted: {fault}")
             }
+            DiskFault::List(path, fault) => write!(f, "refused: {path}.lost: {fault}"),
+            DiskFault::Lost(path, count) => write!(f, "refused: {path} has {count} lost sectors"),
             DiskFault::OutOfMemory => f.write_str("refused: no memory"),
             DiskFault::Read(path) => told(f, "fault read ", path),
             DiskFault::Write(path) => told(f, "fault write ", path),
+            DiskFault::ReadList(path) => told_of(f, "fault read ", path, ".lost"),
+            DiskFault::WriteList(path) => told_of(f, "fault write ", path, ".lost"),
             DiskFault::BadFrame => f.write_str("fault serve: the client's bytes are no requests"),
             DiskFault::Stream => f.write_str("fault serve: standard input or output failed"),
             DiskFault::Device(path) => told_of(f, "fault serve: ", path, " failed"),

@@ -41,7 +41,7 @@ pub struct ServeWords<'a> {
     pub disk: &'a str,
 }
 
-/// The words of `info [--json] DISK`.
+/// The words of `info [--json] DISK` and of `check [--json] DISK`.
 #[derive(Clone, Copy)]
 pub struct InfoWords<'a> {
     /// Whether it prints one JSON document, and no plain text.
@@ -58,6 +58,8 @@ pub enum DiskWords<'a> {
     Serve(ServeWords<'a>),
     /// Tells what a disk is.
     Info(InfoWords<'a>),
+    /// Looks at all of a disk, and tells what is lost.
+    Check(InfoWords<'a>),
     /// This text, of help or of the version.
     Text(String),
 }
@@ -125,7 +127,7 @@ fn serve_words<'a>(found: &CommandWords<'a>) -> Option<ServeWords<'a>>
     })
 }
 
-// The words of the command `info`, where they are given.
+// The words of the command `info` or `check`, where they are given.
 fn info_words<'a>(found: &CommandWords<'a>) -> Option<InfoWords<'a>>
     ensures some { IfSome result (IsInfoAt (entries_of found.now)) }
     ensures none { result ≡ None → (read : InfoWords) → ¬ IsInfoAt (entries_of found.now) read }
@@ -145,6 +147,7 @@ fn asked_of<'a>(name: &str, found: &CommandWords<'a>) -> Option<DiskWords<'a>>
         "create" => create_words(found).map(DiskWords::Create),
         "serve" => serve_words(found).map(DiskWords::Serve),
         "info" => info_words(found).map(DiskWords::Info),
+        "check" => info_words(found).map(DiskWords::Check),
         _ => None,
     }
 }

@@ -29,6 +29,11 @@ impl FileSyncs {
         }
     }
 
+    /// The handle.
+    pub fn file(&self) -> &File {
+        &self.file
+    }
+
     /// The same, with this mark, which is kept in this file from now on, where there is one.
     pub fn with_mark(self, kept: Option<MarkFile>, mark: Mark) -> FileSyncs
         ensures { result.mark ≡ mark }

@@ -3,6 +3,7 @@ ghost use Rattle.std.specs.Prelude.{◌≡◌, IfOk, Ok};
 
 use crate::die::{open_die, second_handle, store_over};
 use crate::fault::{unmade, unread, unseen, unwritten};
+use crate::lists::{FileLists, ListNames};
 use crate::mark::{MarkFile, put_blank};
 use crate::part::{copy_file, erase_all, is_taken, new_die, open_dump, publish};
 use crate::syncs::FileSyncs;
@@ -109,6 +110,27 @@ fn read_small<R: Files>(rt: &R, alloc: Global, name: &str) -> io::Result<Vec<u8>
     Ok(bytes)
 }
 
+// The first bytes of a file.
+fn read_front<R: Files>(rt: &R, alloc: Global, name: &str, most: u64) -> io::Result<Vec<u8>> {
+    let mut bytes = Vec::new(alloc);
+    fs::open(rt, name)?.take(most).read_to_end(&mut bytes)?;
+    Ok(bytes)
+}
+
+// The names that go with the list of lost sectors of a disk.
+fn list_names(alloc: Global, path: &str) -> Result<ListNames, AllocError> {
+    let list = format!(in alloc; "{path}.lost")?;
+    let list_part = part_name(alloc, list.as_str(), PROGRAM)?;
+    let beside = format!(in alloc; "{path}.json")?;
+    let beside_part = part_name(alloc, beside.as_str(), PROGRAM)?;
+    Ok(ListNames {
+        list,
+        list_part,
+        beside,
+        beside_part,
+    })
+}
+
 // The bytes of a small file, or none where there is no such file.
 fn read_if_there<R: Files>(
     rt: &R,
@@ -194,13 +216,15 @@ fn copied(
     }
 }
 
-impl<R: Files<File = File> + AllocGlobal> DiskFiles for SystemFiles<'_, R> {
+impl<'a, R: Files<File = File> + AllocGlobal> DiskFiles for SystemFiles<'a, R> {
     ghost use Rattle.std.specs.Prelude.{None};
     ghost use Rattle.disk_commands.specs.Files.{unknown};
 
     type Store = FileStore;
 
     type Syncs = FileSyncs;
+
+    type Lists = FileLists<'a, R>;
 
     ghost answers = { λ _. unknown };
 
@@ -342,5 +366,33 @@ impl<R: Files<File = File> + AllocGlobal> DiskFiles for SystemFiles<'_, R> {
             }
         }
         self.part = None;
+    }
+
+    fn lost_text(&mut self, alloc: Global, path: &str, most: u64) -> Result<Vec<u8>, FileFault> {
+        let names = match list_names(alloc, path) {
+            Ok(names) => names,
+            Err(_) => return Err(FileFault::OutOfMemory),
+        };
+        match read_front(self.rt, alloc, names.list.as_str(), most) {
+            Ok(bytes) => Ok(bytes),
+            Err(error) => Err(unread(error)),
+        }
+    }
+
+    fn lists(
+        &mut self,
+        alloc: Global,
+        path: &str,
+        syncs: &FileSyncs,
+        beside: &[u8],
+    ) -> Result<FileLists<'a, R>, FileFault> {
+        let (Ok(names), Ok(text)) = (list_names(alloc, path), beside.to_vec(alloc)) else {
+            return Err(FileFault::OutOfMemory);
+        };
+        let die = match second_handle(syncs.file()) {
+            Ok(die) => die,
+            Err(fault) => return Err(fault),
+        };
+        Ok(FileLists::new(self.rt, alloc, die, names, text))
     }
 }

@@ -16,6 +16,8 @@ pub enum Step {
     /// Runs a command line, with one blank between its words and nothing to read: its status, and what it says, on standard output where it was done, else on standard error,
     /// and nothing on the other.
     Run(&'static str, u8, &'static str),
+    /// The same, and what it says on standard output and on standard error.
+    Both(&'static str, &'static [u8], u8, &'static [u8], &'static str),
     /// Serves a client that sends these bytes: its status, and what the client is sent.
     Serve(&'static str, &'static [u8], u8, &'static [u8]),
 }
@@ -62,6 +64,14 @@ fn holds(files: &mut MemoryFiles, step: &Step) -> Result<bool, AllocError> {
             *status,
             said,
         )),
+        Step::Both(line, sent, status, out, err) => {
+            let ran = run_line(files, line, sent)?;
+            Ok(
+                ran.status == *status
+                    && ran.out.as_slice() == *out
+                    && ran.err.as_slice() == err.as_bytes(),
+            )
+        }
         Step::Serve(line, sent, status, wanted) => {
             let ran = run_line(files, line, sent)?;
             Ok(ran.status == *status && ran.out.as_slice() == *wanted)
@@ -83,5 +93,6 @@ fn hold_all(rt: &impl Abort, alloc: Global, steps: &[Step]) -> Result<(), Fail> 
 fn commands_are_done_over_files(rt: HostRuntime) -> Result<(), Fail> {
     hold_all(&rt, rt.alloc(), rows::DONE)?;
     hold_all(&rt, rt.alloc(), rows::REFUSED)?;
-    hold_all(&rt, rt.alloc(), rows::TROUBLED)
+    hold_all(&rt, rt.alloc(), rows::TROUBLED)?;
+    hold_all(&rt, rt.alloc(), rows::DAMAGED)
 }

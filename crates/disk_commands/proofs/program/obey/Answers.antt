@@ -12,11 +12,12 @@ returns-in-Ok-Create g c =
       subst (IsAsked (texts c.args.words.now)) c.in-Ok-Create.field-0-is c.in-Ok-Create.ensures.ok,
       (
         creates g.F.Store.Store.held g.F.Store.Store.honest g.F.Store.Store.failed (g.F.DiskFiles.answers c.args.files.now) c.in-Ok-Create.words
-            (record { kept = g.F.DiskFiles.kept c.args.files.now; opened = g.F.DiskFiles.opened c.args.files.now; input = g.I.Read.remaining c.args.input.now; out = g.O.Write.contents c.args.out.now })
-            (record { kept = g.F.DiskFiles.kept c.create_command.new.files; opened = g.F.DiskFiles.opened c.create_command.new.files; input = g.I.Read.remaining c.args.input.now; out = g.O.Write.contents c.args.out.now })
+            (record { kept = g.F.DiskFiles.kept c.args.files.now; opened = g.F.DiskFiles.opened c.args.files.now; input = g.I.Read.remaining c.args.input.now; out = g.O.Write.contents c.args.out.now; err = g.E.Write.contents c.args.err.now })
+            (record { kept = g.F.DiskFiles.kept c.create_command.new.files; opened = g.F.DiskFiles.opened c.create_command.new.files; input = g.I.Read.remaining c.args.input.now; out = g.O.Write.contents c.args.out.now; err = g.E.Write.contents c.args.err.now })
             c.create_command.result c.create_command.ensures.ok c.create_command.ensures.fault c.create_command.ensures.kept,
         refl,
         refl,
         c.create_command.ensures.opened,
+        refl,
       ),
     )

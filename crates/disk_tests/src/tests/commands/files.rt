@@ -4,7 +4,7 @@ ghost use Rattle.page_layout.specs.Geometry.{row_count};
 ghost use Rattle.page_layout.specs.Raw.{raw_image};
 
 use disk_commands::{DiskFiles, FileFault, FoundMark, die_bytes, none_found};
-use disk_server::{Mark, Syncs};
+use disk_server::{KeepsLost, Mark, Syncs};
 use file_die::{MemoryStore, Store};
 use nbd_stream::DiskFault;
 use page_layout::geometry::Geometry;
@@ -27,6 +27,10 @@ pub enum Trouble {
     Unread,
     /// No mark can be kept.
     Unmarked,
+    /// A list of lost sectors stands beside each disk, and is this.
+    Listed(&'static [u8]),
+    /// One is to stand there, and cannot be read.
+    Unlisted,
 }
 
 // A disk that was put in its place.
@@ -65,6 +69,37 @@ impl Syncs for MemorySyncs {
         Ok(())
     }
 }
+
+/// A list of lost sectors in memory.
+#[derive(Drop)]
+pub struct MemoryLists {
+    alloc: Global,
+    kept: Vec<bool>,
+    failed: u64,
+}
+
+impl KeepsLost for MemoryLists {
+    ghost kept = { λ k. k.kept.items };
+
+    ghost failed = { λ k. k.failed };
+
+    fn keep(&mut self, lost: &[bool]) -> Result<(), DiskFault> {
+        match lost.to_vec(self.alloc) {
+            Ok(copy) => {
+                self.kept = copy;
+                Ok(())
+            }
+            Err(_) => {
+                self.failed = self.failed.saturating_add(1);
+                Err(DiskFault::Failed)
+            }
+        }
+    }
+}
+
+// What tells the shape of a disk beside which a list stands.
+const LISTED: &[u8] =
+    b"{\"cache\":64,\"code\":\"none\",\"geometry\":\"64,32,8,32,32\",\"lost\":true,\"share\":0,\"version\":2}\n";
 
 // The bytes of 256 pages of 64 and 32 bytes.
 const DUMP_BYTES: usize = 24_576;
@@ -149,6 +184,8 @@ impl DiskFiles for MemoryFiles {
 
     type Syncs = MemorySyncs;
 
+    type Lists = MemoryLists;
+
     ghost answers = { λ _. record unknown { honest = true } };
 
     ghost kept = { λ _. None };
@@ -163,6 +200,9 @@ impl DiskFiles for MemoryFiles {
     }
 
     fn shape_text(&mut self, alloc: Global, path: &str) -> Result<Vec<u8>, FileFault> {
+        if matches!(self.trouble, Trouble::Listed(_) | Trouble::Unlisted) {
+            return copied(alloc, LISTED);
+        }
         match self.find(path) {
             Some(disk) => copied(alloc, &disk.text),
             None => Err(FileFault::Read),
@@ -266,6 +306,27 @@ impl DiskFiles for MemoryFiles {
     }
 
     fn discard(&mut self, _path: &str) {}
+
+    fn lost_text(&mut self, alloc: Global, _path: &str, _most: u64) -> Result<Vec<u8>, FileFault> {
+        match self.trouble {
+            Trouble::Listed(text) => copied(alloc, text),
+            _ => Err(FileFault::Read),
+        }
+    }
+
+    fn lists(
+        &mut self,
+        alloc: Global,
+        _path: &str,
+        _syncs: &MemorySyncs,
+        _beside: &[u8],
+    ) -> Result<MemoryLists, FileFault> {
+        Ok(MemoryLists {
+            alloc,
+            kept: Vec::new(alloc),
+            failed: 0,
+        })
+    }
 }
 
 fn kept_disk(

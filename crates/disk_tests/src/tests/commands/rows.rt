@@ -1,5 +1,5 @@
 //! What is asked, and what has to come of it. The die has 256 pages of 64 and 32 bytes, 8 a block, and 32 sectors.
-use super::Step::{self, Run, Serve, Trouble};
+use super::Step::{self, Both, Run, Serve, Trouble};
 use super::files::Trouble as trouble;
 
 /// A disk is made, told of and served.
@@ -9,12 +9,18 @@ pub const DONE: &[Step] = &[
     Run(
         "nanddisk info d",
         0,
-        "size 2048\ngeometry 64,32,8,32,32\ncache 64\nfree 31 bad 0\nwear least 0 most 0 erases 0\nnext 3\n",
+        "size 2048\ngeometry 64,32,8,32,32\ncache 64\nfree 31 bad 0\nwear least 0 most 0 erases 0\nnext 3\nlost 0\n",
     ),
     Run(
         "nanddisk info --json d",
         0,
-        "{\"size\":2048,\"geometry\":\"64,32,8,32,32\",\"cache\":64,\"free\":31,\"bad\":0,\"wear\":{\"least\":0,\"most\":0,\"erases\":0},\"next\":3}\n",
+        "{\"size\":2048,\"geometry\":\"64,32,8,32,32\",\"cache\":64,\"free\":31,\"bad\":0,\"wear\":{\"least\":0,\"most\":0,\"erases\":0},\"next\":3,\"lost\":[]}\n",
+    ),
+    Run("nanddisk check d", 0, "lost 0\nbad 0\nunsound 0\n"),
+    Run(
+        "nanddisk check --json d",
+        0,
+        "{\"lost\":[],\"bad\":[],\"unsound\":[]}\n",
     ),
     Run("nanddisk create --size 1 s", 0, ""),
     Serve("nanddisk serve d", b"", 0, b"NBDMAGICIHAVEOPT\x00\x03"),
@@ -120,4 +126,53 @@ pub const TROUBLED: &[Step] = &[
     ),
     Trouble(trouble::Busy),
     Run("nanddisk info d", 1, "refused: d is in use\n"),
+];
+
+/// Sectors are lost, or their list is none. The list has 32 sectors, of which the fourth and the last are lost.
+pub const DAMAGED: &[Step] = &[
+    Run("nanddisk create --geometry 64,32,8,32,32 d", 0, ""),
+    Trouble(trouble::Unlisted),
+    Run("nanddisk info d", 3, "fault read d.lost\n"),
+    Run("nanddisk serve d", 3, "fault read d.lost\n"),
+    Trouble(trouble::Listed(b"....L..........................L")),
+    Run(
+        "nanddisk info d",
+        1,
+        "refused: d.lost: no list of so many sectors\n",
+    ),
+    Trouble(trouble::Listed(b"....L..........................M\n")),
+    Run(
+        "nanddisk check d",
+        1,
+        "refused: d.lost: no list of sectors\n",
+    ),
+    Trouble(trouble::Listed(b"....L..........................L\n")),
+    Run(
+        "nanddisk info d",
+        0,
+        "size 2048\ngeometry 64,32,8,32,32\ncache 64\nfree 31 bad 0\nwear least 0 most 0 erases 0\nnext 3\nlost 2\nlost sector 4\nlost sector 31\n",
+    ),
+    Both(
+        "nanddisk check d",
+        b"",
+        1,
+        b"lost 2\nlost sector 4\nlost sector 31\nbad 0\nunsound 0\n",
+        "refused: d has 2 lost sectors\n",
+    ),
+    // sector 4 is not read, and sector 5 is
+    Both(
+        "nanddisk serve --read-only d",
+        b"\x00\x00\x00\x03IHAVEOPT\x00\x00\x00\x01\x00\x00\x00\x00%`\x95\x13\x00\x00\x00\x00\x00\x00\x00\x00\x00\x00\x00\x01\x00\x00\x00\x00\x00\x00\x01\x00\x00\x00\x00@%`\x95\x13\x00\x00\x00\x00\x00\x00\x00\x00\x00\x00\x00\x02\x00\x00\x00\x00\x00\x00\x01@\x00\x00\x00@",
+        0,
+        b"NBDMAGICIHAVEOPT\x00\x03\x00\x00\x00\x00\x00\x00\x08\x00\x00\x0fgDf\x98\x00\x00\x00\x05\x00\x00\x00\x00\x00\x00\x00\x01gDf\x98\x00\x00\x00\x00\x00\x00\x00\x00\x00\x00\x00\x02\x00\x00\x00\x00\x00\x00\x00\x00\x00\x00\x00\x00\x00\x00\x00\x00\x00\x00\x00\x00\x00\x00\x00\x00\x00\x00\x00\x00\x00\x00\x00\x00\x00\x00\x00\x00\x00\x00\x00\x00\x00\x00\x00\x00\x00\x00\x00\x00\x00\x00\x00\x00\x00\x00\x00\x00\x00\x00\x00\x00\x00\x00\x00\x00",
+        "lost 2\nlost sector 4\nlost sector 31\n",
+    ),
+    // it is read once it was written
+    Both(
+        "nanddisk serve d",
+        b"\x00\x00\x00\x03IHAVEOPT\x00\x00\x00\x01\x00\x00\x00\x00%`\x95\x13\x00\x00\x00\x00\x00\x00\x00\x00\x00\x00\x00\x01\x00\x00\x00\x00\x00\x00\x01\x00\x00\x00\x00@%`\x95\x13\x00\x00\x00\x01\x00\x00\x00\x00\x00\x00\x00\x02\x00\x00\x00\x00\x00\x00\x01\x00\x00\x00\x00@wwwwwwwwwwwwwwwwwwwwwwwwwwwwwwwwwwwwwwwwwwwwwwwwwwwwwwwwwwwwwwww%`\x95\x13\x00\x00\x00\x00\x00\x00\x00\x00\x00\x00\x00\x03\x00\x00\x00\x00\x00\x00\x01\x00\x00\x00\x00@",
+        0,
+        b"NBDMAGICIHAVEOPT\x00\x03\x00\x00\x00\x00\x00\x00\x08\x00\x00mgDf\x98\x00\x00\x00\x05\x00\x00\x00\x00\x00\x00\x00\x01gDf\x98\x00\x00\x00\x00\x00\x00\x00\x00\x00\x00\x00\x02gDf\x98\x00\x00\x00\x00\x00\x00\x00\x00\x00\x00\x00\x03wwwwwwwwwwwwwwwwwwwwwwwwwwwwwwwwwwwwwwwwwwwwwwwwwwwwwwwwwwwwwwww",
+        "lost 2\nlost sector 4\nlost sector 31\n",
+    ),
 ];

@@ -32,6 +32,7 @@ fn goes_round(alloc: Global, bytes: u64, wanted: &str) -> bool {
     let told = DiskText {
         shape,
         marked: true,
+        lost: false,
     };
     text.as_str() == wanted && read_shape(alloc, text.as_bytes()) == Ok(told)
 }
@@ -69,7 +70,12 @@ const SAME: &[(bool, &str)] = &[
 
 fn is_small(alloc: Global, marked: bool, text: &str) -> bool {
     match shape_for(1) {
-        Ok(shape) => read_shape(alloc, text.as_bytes()) == Ok(DiskText { shape, marked }),
+        Ok(shape) => read_shape(alloc, text.as_bytes())
+            == Ok(DiskText {
+                shape,
+                marked,
+                lost: false,
+            }),
         Err(_) => false,
     }
 }
@@ -144,10 +150,6 @@ const FAULTS: &[(&[u8], ShapeFault)] = &[
     (
         b"{\"cache\":64,\"code\":\"none\",\"geometry\":\"4096,128,64,13,1\",\"lost\":0,\"version\":2}",
         ShapeFault::WrongType(Member::Lost),
-    ),
-    (
-        b"{\"cache\":64,\"code\":\"none\",\"geometry\":\"4096,128,64,13,1\",\"lost\":true,\"share\":0,\"version\":2}",
-        ShapeFault::Lost,
     ),
     (
         b"{\"cache\":64,\"code\":\"none\",\"geometry\":\"4096,128,64,13,1\",\"lost\":false,\"version\":2}",

@@ -5,7 +5,7 @@ use std::process::Abort;
 use std::test::*;
 
 // Words, and what they ask for, word by word; of a text how it begins. The disk is `d`.
-const ROWS: [(&[&str], &[&str]); 30] = [
+const ROWS: [(&[&str], &[&str]); 33] = [
     (
         &["create", "--size", "64M", "d"],
         &["size", "64M", "-", "-"],
@@ -63,6 +63,9 @@ const ROWS: [(&[&str], &[&str]); 30] = [
     (&["info", "--json", "d"], &["info", "json"]),
     (&["info", "--json", "--json", "d"], &["nothing"]),
     (&["info", "--size", "1", "d"], &["nothing"]),
+    (&["check", "d"], &["check", "-"]),
+    (&["check", "d", "--json"], &["check", "json"]),
+    (&["check"], &["nothing"]),
     (&["--help"], &["text", "A NAND die in a file"]),
     (&["--version"], &["text", "nanddisk 0.1.0"]),
     (&["create", "--help"], &["text", "Makes a disk"]),
@@ -91,9 +94,9 @@ fn is_serve(words: ServeWords<'_>, told: &[&str]) -> bool {
     words.disk == "d" && told == ["serve", opened, synced].as_slice()
 }
 
-fn is_info(words: InfoWords<'_>, told: &[&str]) -> bool {
+fn is_info(words: InfoWords<'_>, name: &str, told: &[&str]) -> bool {
     let printed = if words.json { "json" } else { "-" };
-    words.disk == "d" && told == ["info", printed].as_slice()
+    words.disk == "d" && told == [name, printed].as_slice()
 }
 
 fn is_text(text: &str, told: &[&str]) -> bool {
@@ -107,7 +110,8 @@ fn is_told(alloc: Global, words: &[&str], told: &[&str]) -> bool {
     match parse(alloc, words) {
         Ok(DiskWords::Create(words)) => is_create(&words, told),
         Ok(DiskWords::Serve(words)) => is_serve(words, told),
-        Ok(DiskWords::Info(words)) => is_info(words, told),
+        Ok(DiskWords::Info(words)) => is_info(words, "info", told),
+        Ok(DiskWords::Check(words)) => is_info(words, "check", told),
         Ok(DiskWords::Text(text)) => is_text(text.as_str(), told),
         Err(WordsFault::NoSuchCommand) => told == ["nothing"].as_slice(),
         Err(WordsFault::OutOfMemory) => false,

@@ -1,0 +1,105 @@
+-- What files that say no more answer was answered before.
+use Rattle.std.proofs.Common.{◌≡◌, ◌∙◌, ◌++◌, inl, inr, zero, suc, ℕ, Bool, true, false, List, [], ◌∷◌, ap, drop, length, refl, replicate, subst, sym, take}
+use Rattle.std.specs.Borrow.{Bor}
+use Rattle.page_layout.specs.declared.geometry.Geometry.{Geometry}
+use Rattle.certificate.specs.Claim.{Claim}
+use Rattle.file_die.specs.Store.{Held}
+use Rattle.mount.specs.Mounted.{IsMounted}
+use Rattle.lost_sectors.specs.Lost.{Adds, DropsNone, is_lost}
+use Rattle.disk_server.specs.Opened.{HasCome}
+use Rattle.page_layout.specs.Counter.{HasRisen}
+use Rattle.lost_sectors.specs.declared.fault.LostFault.{LostFault}
+use Rattle.lost_sectors.specs.declared.fault.LostFault.TheVariants as lost
+use Rattle.disk_commands.specs.Check.{IsUncheckedAt, unseen}
+use Rattle.std.specs.Prelude.{OnOk, Option, Result}
+use Rattle.std.specs.Io.KnownBytes.{Appends}
+use Rattle.disk_damage.specs.Numbers.{with_commas}
+use Rattle.disk_commands.specs.declared.printed.Form.{Form}
+use Rattle.disk_commands.specs.declared.printed.Form.TheVariants.{Json}
+use Rattle.disk_commands.specs.declared.printed.Info.{Info}
+use Rattle.disk_commands.specs.Info.{info_text, object_of}
+use Rattle.disk_commands.specs.declared.mark.FoundMark.{FoundMark}
+use Rattle.disk_commands.specs.declared.shape_text.DiskText.{DiskText}
+use Rattle.disk_commands.specs.declared.text.DiskFault.{DiskFault}
+use Rattle.disk_commands.specs.declared.text.DiskFault.TheVariants as fault
+use Rattle.disk_commands.specs.Damage.{IsListAt, IsListBy, IsLookedAt, IsNoListAt, IsUnlookedAt}
+use Rattle.disk_commands.specs.Files.{Answers, SaysNoMore}
+use Rattle.disk_commands.specs.Opening.{IsFaultAt, IsMarkAt, IsStoreAt}
+
+pub mark_back : (a b : Answers) (path : List ℕ) (marked : Bool) (found : FoundMark) → SaysNoMore a b → IsMarkAt b path marked found → IsMarkAt a path marked found
+mark_back a b path true found less h = (h.0, less.marks path h.0 h.1, h.2)
+mark_back a b path false found less h = h
+
+pub list_back : (a b : Answers) (path : List ℕ) (listed : Bool) (sectors : ℕ) (lost : List Bool) → SaysNoMore a b → IsListBy listed b path sectors lost → IsListBy listed a path sectors lost
+list_back a b path true sectors lost less h = (h.0, less.lists path h.0 h.1, h.2)
+list_back a b path false sectors lost less h = h
+
+pub fault_back : (a b : Answers) (path : List ℕ) (wanted : ℕ) (why : DiskFault) → SaysNoMore a b → IsFaultAt b path wanted why → IsFaultAt a path wanted why
+fault_back a b path wanted (fault.Read told) less h = (h.0, less.fails path _ h.1)
+fault_back a b path wanted (fault.Write told) less h = (h.0, less.fails path _ h.1)
+fault_back a b path wanted (fault.InUse told) less h = (h.0, less.fails path _ h.1)
+fault_back a b path wanted (fault.Exists told) less h = (h.0, less.fails path _ h.1)
+fault_back a b path wanted (fault.Length told found due) less h = (h.0, h.1, less.fails path _ h.2)
+fault_back a b path wanted fault.OutOfMemory less h = less.fails path _ h
+fault_back a b path wanted why less h = h
+
+pub no_list_back : (a b : Answers) (path : List ℕ) (told : DiskText) (why : DiskFault) → SaysNoMore a b → IsNoListAt b path told why → IsNoListAt a path told why
+no_list_back a b path told (fault.List at reason) less h = (h.0, h.1, (h.2.0, less.lists path h.2.0 h.2.1, h.2.2))
+no_list_back a b path told (fault.ReadList at) less h = (h.0, h.1, (h.2.0, less.fails path h.2.0 h.2.1, h.2.2))
+no_list_back a b path told why less h = h
+
+-- a growth was refused
+pub no_memory : {S : Type 0} (held : S → Held) (honest : S → Bool) (failed : S → ℕ) (a : Answers) (path : List ℕ) → IsUnlookedAt held honest failed a path fault.OutOfMemory
+no_memory held honest failed a path = inl (inr tt)
+
+take_append : (xs ys : List Bool) → take (length xs) (xs ++ ys) ≡ xs
+take_append [] ys = refl
+take_append (x ∷ xs) ys = ap (λ l. x ∷ l) (take_append xs ys)
+
+long_none : (n : ℕ) → length (replicate n false) ≡ n
+long_none zero = refl
+long_none (suc n) = ap suc (long_none n)
+
+list_long : (listed : Bool) (a : Answers) (path : List ℕ) (sectors : ℕ) (lost : List Bool) → IsListBy listed a path sectors lost → length lost ≡ sectors
+list_long true a path sectors lost h = h.2.size
+list_long false a path sectors lost h = ap length h ∙ long_none sectors
+
+-- a list that was written back to its vector
+pub kept_flags : (n : ℕ) (xs ys : List Bool) → length xs ≡ n → take n (xs ++ drop (length xs) ys) ≡ xs
+kept_flags n xs ys long = ap (λ k. take k (xs ++ drop (length xs) ys)) (sym long) ∙ take_append xs (drop (length xs) ys)
+
+-- a disk that was looked at
+pub looked_at : {S : Type 0} (held : S → Held) (honest : S → Bool) (a b c : Answers) (path : List ℕ) (told : DiskText) (found : FoundMark) (first store : S) (certificate : Claim) (list lost : List Bool)
+    → SaysNoMore a b → c ≡ b → IsStoreAt held honest a path told first → IsMarkAt b path told.marked found → IsListAt c path told list → HasCome held honest first store
+    → (honest first ≡ true → IsMounted (held first).geometry 65536 (held first).pages certificate)
+    → (honest first ≡ true → length list ≡ (held first).geometry.sectors → Adds (is_lost (held first).geometry (held first).pages found.mark.flushed) 0 (held first).geometry.sectors list lost)
+    → DropsNone list lost → IsLookedAt held honest a path told found store certificate lost
+looked_at held honest a b c path told found first store certificate list lost less same at mark listed back mounted adds kept =
+    let here : IsListAt b path told list = subst (λ x. IsListAt x path told list) same listed in
+    record {
+      first = first;
+      at = at;
+      mark = mark_back a b path told.marked found less mark;
+      back = back;
+      mounted = mounted;
+      list = list;
+      listed = list_back a b path told.lost told.shape.geometry.sectors list less here;
+      lost_are = λ h. adds h (list_long told.lost b path told.shape.geometry.sectors list here ∙ sym (ap (λ (g : Geometry). g.sectors) at.geometry));
+      kept = kept;
+    }
+
+-- its pages were not looked at
+pub unseen_at : {S : Type 0} (held : S → Held) (honest : S → Bool) (failed : S → ℕ) (a : Answers) (path : Bor (List ℕ)) (told : DiskText) (found : FoundMark) (store : S) (certificate : Claim) (list : List Bool) (left : S) (why : LostFault)
+    → IsLookedAt held honest a path.now told found store certificate list → (why ≡ lost.Store → HasRisen (failed store) (failed left)) → IsUncheckedAt held honest failed a path.now (unseen why path)
+unseen_at held honest failed a path told found store certificate list left lost.OutOfMemory looked rose = inr tt
+unseen_at held honest failed a path told found store certificate list left lost.Store looked rose =
+    inr (refl, record { told = told; found = found; store = store; certificate = certificate; list = list; looked = looked; left = left; rose = rose refl })
+
+pub three : (a b c x y z : List ℕ) → a ≡ x → b ≡ y → c ≡ z → a ++ (b ++ c) ≡ x ++ (y ++ z)
+three a b c x y z p q r = ap (λ l. l ++ (b ++ c)) p ∙ ap (λ l. x ++ l) (ap (λ l. l ++ c) q ∙ ap (λ l. y ++ l) r)
+
+-- what is told as an object
+pub json_is : {T E : Type 0} (r : Result T E) (before after : Option (List ℕ)) (info : Info) (form : Form) (numbers lost : List ℕ) → form ≡ Json → numbers ≡ with_commas lost
+    → OnOk r (Appends before after (object_of info numbers)) → OnOk r (Appends before after (info_text form info lost))
+json_is r before after info form numbers lost is same h =
+    subst (λ f. OnOk r (Appends before after (info_text f info lost))) (sym is) (subst (λ xs. OnOk r (Appends before after (object_of info xs))) same h)

@@ -1,0 +1,86 @@
+-- WHAT IS LOST OF THE DISK AT A PATH: the list beside it, and what its pages show.
+use Rattle.std.specs.Prelude.{◌≡◌, ◌≢◌, ◌⊎◌, ℕ, ◌≤◌, nat_le, Bool, true, false, List, [], ◌∷◌, length, replicate, sum_by, Option, if◌then◌else◌}
+use Rattle.std.specs.Borrow.{Bor}
+use Rattle.std.specs.Io.KnownBytes.{Appends}
+use Rattle.certificate.specs.Claim.{Claim}
+use Rattle.file_die.specs.Store.{Held}
+use Rattle.mount.specs.Mounted.{IsMounted}
+use Rattle.lost_sectors.specs.Lost.{Adds, DropsNone, is_lost}
+use Rattle.disk_damage.specs.declared.list_text.ListFault.{ListFault}
+use Rattle.disk_damage.specs.declared.list_text.ListFault.TheVariants as listing
+use Rattle.disk_damage.specs.Found.{IsUnfound}
+use Rattle.disk_damage.specs.ListText.{IsListText, IsNoList}
+use Rattle.disk_damage.specs.Numbers.{listed_sectors}
+use Rattle.disk_server.specs.Opened.{HasCome}
+use Rattle.disk_commands.specs.declared.files.FileFault.{FileFault}
+use Rattle.disk_commands.specs.declared.files.FileFault.TheVariants as file
+use Rattle.disk_commands.specs.declared.mark.FoundMark.{FoundMark}
+use Rattle.disk_commands.specs.declared.shape_text.DiskText.{DiskText}
+use Rattle.disk_commands.specs.declared.text.DiskFault.{DiskFault}
+use Rattle.disk_commands.specs.declared.text.DiskFault.TheVariants as fault
+use Rattle.disk_commands.specs.Files.{Answers}
+use Rattle.disk_commands.specs.Info.{lost_lines}
+use Rattle.disk_commands.specs.Opening.{IsMarkAt, IsStoreAt, IsTextAt, IsUnopenedAt}
+
+-- ---- the list beside a disk
+
+-- by whether its shape says that one stands there: what its file says of each sector; else none is lost
+abbrev pub IsListBy : (listed : Bool) → Answers → (path : List ℕ) → (sectors : ℕ) → List Bool → Type 0
+IsListBy false a path sectors lost = lost ≡ replicate sectors false
+IsListBy true a path sectors lost = (text : List ℕ) × a.lists path text × IsListText text sectors lost
+
+abbrev pub IsListAt : Answers → (path : List ℕ) → DiskText → List Bool → Type 0
+IsListAt a path told lost = IsListBy told.lost a path told.shape.geometry.sectors lost
+
+-- how it is told that it could not be read, or is none
+abbrev pub unread_list : FileFault → Bor (List ℕ) → DiskFault
+unread_list file.OutOfMemory path = fault.OutOfMemory
+unread_list why path = fault.ReadList path
+
+abbrev pub no_list : ListFault → Bor (List ℕ) → DiskFault
+no_list listing.OutOfMemory path = fault.OutOfMemory
+no_list why path = fault.List path why
+
+-- WHY THERE IS NONE, where one is to stand there: its file could not be read, or is no list of so many sectors; or a growth was refused
+abbrev pub IsNoListAt : Answers → (path : List ℕ) → DiskText → DiskFault → Type 0
+IsNoListAt a path told (fault.List at why) = (told.lost ≡ true) × (at.now ≡ path) × ((text : List ℕ) × a.lists path text × IsNoList text told.shape.geometry.sectors why)
+IsNoListAt a path told (fault.ReadList at) = (told.lost ≡ true) × (at.now ≡ path) × ((why : FileFault) × a.fails path why × (why ≢ file.OutOfMemory))
+IsNoListAt a path told fault.OutOfMemory = Unit {0}
+IsNoListAt a path told _ = ⊥
+
+-- ---- the disk
+
+-- A DISK THAT WAS LOOKED AT: the store at the path came back of a mount with its certificate. Lost are the sectors on the list beside the disk, and those of the store's pages at the mark
+pub record IsLookedAt {S : Type 0} (held : S → Held) (honest : S → Bool) (a : Answers) (path : List ℕ) (told : DiskText) (found : FoundMark) (store : S) (certificate : Claim) (lost : List Bool) : Type 0 where
+  pub first : S
+  pub at : IsStoreAt held honest a path told first
+  pub mark : IsMarkAt a path told.marked found
+  pub back : HasCome held honest first store
+  pub mounted : honest first ≡ true → IsMounted (held first).geometry 65536 (held first).pages certificate
+  pub list : List Bool
+  pub listed : IsListAt a path told list
+  pub lost_are : honest first ≡ true → Adds (is_lost (held first).geometry (held first).pages found.mark.flushed) 0 (held first).geometry.sectors list lost
+  pub kept : DropsNone list lost
+
+-- the store at the path was not mounted, or its lost sectors were not found
+abbrev pub IsNoneFound : {S : Type 0} → (S → Held) → (honest : S → Bool) → (failed : S → ℕ) → Answers → (path : List ℕ) → DiskFault → Type 0
+IsNoneFound {S} held honest failed a path (fault.Open at why) = (at.now ≡ path) × ((told : DiskText) × (store : S) × IsStoreAt held honest a path told store × IsUnfound held honest failed store why)
+IsNoneFound held honest failed a path _ = ⊥
+
+-- why it was not: the disk was not opened, its mark or its list was not read, or its store was not mounted
+abbrev pub IsUnlookedAt : {S : Type 0} → (S → Held) → (honest : S → Bool) → (failed : S → ℕ) → Answers → (path : List ℕ) → DiskFault → Type 0
+IsUnlookedAt held honest failed a path why =
+    IsUnopenedAt held honest failed a path why
+    ⊎ (((told : DiskText) × IsTextAt a path told × IsNoListAt a path told why)
+    ⊎ IsNoneFound held honest failed a path why)
+
+-- ---- what is told of it
+
+-- nothing where no sector is lost
+abbrev pub named_text : List ℕ → List ℕ
+named_text [] = []
+named_text (n ∷ ns) = lost_lines (n ∷ ns)
+
+-- THE LOST SECTORS WERE NAMED
+abbrev pub Names : (lost : List Bool) → (before after : Option (List ℕ)) → Type 0
+Names lost before after = Appends before after (named_text (listed_sectors lost))

@@ -1,0 +1,128 @@
+//! The command `check`: all of a disk is looked at.
+ghost use Rattle.std.specs.Prelude.{◌≡◌, false, IfErr, IfOk, OnOk, string_bytes};
+ghost use Rattle.std.specs.Io.KnownBytes.{Appends};
+ghost use Rattle.disk_commands.specs.Check.{HasChecked, IsDamageAt, IsUncheckedAt, IsUnclean, damage_text};
+ghost use Rattle.disk_commands.specs.Files.{Opens};
+
+use crate::damage::look_at;
+use crate::files::DiskFiles;
+use crate::info::{form_of, unprinted};
+use crate::printed::{Form, lost_text};
+use crate::text::DiskFault;
+use crate::words::InfoWords;
+use disk_damage::{bad_blocks, counted, joined, numbers_of, unsound_rows};
+use disk_server::OpenStoreFault;
+use lost_sectors::LostFault;
+use std::alloc::{AllocError, Global};
+use std::io::{self, Write};
+
+/// What a look at all of a disk finds, each by rising number. (This project's.)
+#[derive(Drop)]
+pub(crate) struct Damage {
+    /// The sectors that are lost.
+    pub lost: Vec<u64>,
+    /// The bad blocks.
+    pub bad: Vec<u64>,
+    /// The rows of pages that are neither erased nor sound, in blocks that the factory did not mark.
+    pub unsound: Vec<u64>,
+}
+
+// How it is told that the pages were not looked at.
+fn unseen<'a>(fault: LostFault, path: &'a str) -> DiskFault<'a>
+    ensures { result ≡ Rattle.disk_commands.specs.Check.unseen fault path.entry }
+{
+    match fault {
+        LostFault::OutOfMemory => DiskFault::OutOfMemory,
+        LostFault::Store => DiskFault::Open(path, OpenStoreFault::Device),
+    }
+}
+
+// What is found of the disk at a path.
+fn damage_at<'a, F: DiskFiles>(
+    alloc: Global,
+    files: &mut F,
+    path: &'a str,
+) -> Result<Damage, DiskFault<'a>>
+    ensures ok { IfOk result (λ d. IsDamageAt F.Store.held F.Store.honest (F.answers files.old) path.now d.lost.items d.bad.items d.unsound.items) }
+    ensures fault { IfErr result (IsUncheckedAt F.Store.held F.Store.honest F.Store.failed (F.answers files.old) path.now) }
+    ensures opened { Opens path.now false (F.opened files.old) (F.opened files.new) }
+    ensures kept { F.kept files.new ≡ F.kept files.old }
+{
+    let mut looked = match look_at(alloc, files, path, false) {
+        Ok(looked) => looked,
+        Err(fault) => return Err(fault),
+    };
+    let Ok(lost) = numbers_of(alloc, &looked.lost) else {
+        return Err(DiskFault::OutOfMemory);
+    };
+    let Ok(bad) = bad_blocks(alloc, &looked.certificate) else {
+        return Err(DiskFault::OutOfMemory);
+    };
+    match unsound_rows(alloc, &mut looked.store, &looked.certificate) {
+        Ok(unsound) => Ok(Damage { lost, bad, unsound }),
+        Err(fault) => Err(unseen(fault, path)),
+    }
+}
+
+// The lines of what was found.
+fn lines(alloc: Global, damage: &Damage) -> Result<String, AllocError>
+    ensures { IfOk result (λ text. string_bytes text ≡ damage_text Form.Text damage.now.lost.items damage.now.bad.items damage.now.unsound.items) }
+{
+    let mut text = lost_text(alloc, &damage.lost)?;
+    let bad = counted(alloc, "bad ", "bad block ", &damage.bad)?;
+    let unsound = counted(alloc, "unsound ", "unsound row ", &damage.unsound)?;
+    write!(text, "{bad}{unsound}")?;
+    Ok(text)
+}
+
+// The same as one JSON object.
+fn object(alloc: Global, damage: &Damage) -> Result<String, AllocError>
+    ensures { IfOk result (λ text. string_bytes text ≡ damage_text Form.Json damage.now.lost.items damage.now.bad.items damage.now.unsound.items) }
+{
+    let lost = joined(alloc, &damage.lost)?;
+    let bad = joined(alloc, &damage.bad)?;
+    let unsound = joined(alloc, &damage.unsound)?;
+    format!(in alloc; "{{\"lost\":[{lost}],\"bad\":[{bad}],\"unsound\":[{unsound}]}}\n")
+}
+
+// Prints what was found.
+fn print<W: Write>(alloc: Global, damage: &Damage, form: Form, out: &mut W) -> io::Result<()>
+    ensures { OnOk result (Appends (W.contents out.old) (W.contents out.new) (damage_text form damage.now.lost.items damage.now.bad.items damage.now.unsound.items)) }
+{
+    let text = match form {
+        Form::Text => lines(alloc, damage)?,
+        Form::Json => object(alloc, damage)?,
+    };
+    out.write_all(text.as_bytes())
+}
+
+/// The command `check`: prints which sectors of the disk DISK are lost, its bad blocks, and its pages that are neither erased nor sound. Nothing is written.
+///
+/// # Errors
+///
+/// The first of this order: as `info` where the disk was not opened or its store not mounted; `Open` with `Device` where a page was not loaded; `OutOfMemory` for what was found. After each of these
+/// nothing was printed. Then `Write` of `-` where `out` failed. `Lost` with how many sectors are lost, where any is: all was printed. (This project's.)
+pub(crate) fn check_command<'a, F: DiskFiles, W: Write>(
+    alloc: Global,
+    words: InfoWords<'a>,
+    files: &mut F,
+    out: &mut W,
+) -> Result<(), DiskFault<'a>>
+    ensures ok { OnOk result (HasChecked F.Store.held F.Store.honest (F.answers files.old) words.entry 0 (W.contents out.old) (W.contents out.new)) }
+    ensures fault { IfErr result (IsUnclean F.Store.held F.Store.honest F.Store.failed (F.answers files.old) words.entry (W.contents out.old) (W.contents out.new)) }
+    ensures kept { F.kept files.new ≡ F.kept files.old }
+    ensures opened { Opens words.entry.disk.now false (F.opened files.old) (F.opened files.new) }
+{
+    let damage = match damage_at(alloc, files, words.disk) {
+        Ok(damage) => damage,
+        Err(fault) => return Err(fault),
+    };
+    match print(alloc, &damage, form_of(words.json), out) {
+        Ok(()) => {}
+        Err(error) => return Err(unprinted(error)),
+    }
+    if damage.lost.is_empty() {
+        return Ok(());
+    }
+    Err(DiskFault::Lost(words.disk, damage.lost.len() as u64))
+}

@@ -1,0 +1,148 @@
+//! What is lost of the disk at a path: the list beside it, and what its pages show.
+ghost use Rattle.std.specs.Prelude.{◌≡◌, false, IfErr, IfOk, OnErr, OnOk, replicate};
+ghost use Rattle.disk_commands.specs.Damage.{IsListAt, IsLookedAt, IsNoListAt, IsUnlookedAt, Names};
+ghost use Rattle.disk_commands.specs.Files.{Opens, SaysNoMore, with_opened};
+ghost use Rattle.disk_commands.specs.ShapeText.{IsWithin};
+ghost use Rattle.disk_commands.specs.Told.{IsUnprinted};
+
+use crate::files::{DiskFiles, FileFault};
+use crate::info::unprinted;
+use crate::mark::FoundMark;
+use crate::opening::{mark_at, open_at};
+use crate::printed::lost_text;
+use crate::shape_text::DiskText;
+use crate::text::DiskFault;
+use certificate::Certificate;
+use disk_damage::{ListFault, mount_and_find, numbers_of, read_list};
+use std::alloc::{AllocError, Global};
+use std::io::Write;
+
+// How it is told that the list beside a disk could not be read.
+fn unread_list<'a>(fault: FileFault, path: &'a str) -> DiskFault<'a>
+    ensures { result ≡ Rattle.disk_commands.specs.Damage.unread_list fault path.entry }
+{
+    match fault {
+        FileFault::OutOfMemory => DiskFault::OutOfMemory,
+        _ => DiskFault::ReadList(path),
+    }
+}
+
+// How it is told that it is no list.
+fn no_list<'a>(fault: ListFault, path: &'a str) -> DiskFault<'a>
+    ensures { result ≡ Rattle.disk_commands.specs.Damage.no_list fault path.entry }
+{
+    match fault {
+        ListFault::OutOfMemory => DiskFault::OutOfMemory,
+        fault => DiskFault::List(path, fault),
+    }
+}
+
+// A list on which no sector stands.
+fn empty_list(alloc: Global, sectors: u32) -> Result<Vec<bool>, AllocError>
+    ensures { IfOk result (λ lost. lost.items ≡ replicate sectors false) }
+{
+    vec![in alloc; false; sectors as usize]
+}
+
+/// The list of the lost sectors of the disk at a path, as it stands beside it. None is lost where the file that tells the disk's shape says that there is no list.
+pub(crate) fn list_at<'a, F: DiskFiles>(
+    alloc: Global,
+    files: &mut F,
+    path: &'a str,
+    told: &DiskText,
+) -> Result<Vec<bool>, DiskFault<'a>>
+    ensures ok { IfOk result (λ lost. IsListAt (F.answers files.old) path.now told.now lost.items) }
+    ensures fault { IfErr result (IsNoListAt (F.answers files.old) path.now told.now) }
+    ensures same { files.new ≡ files.old }
+{
+    let sectors = told.shape.geometry.sectors();
+    if !told.lost {
+        return match empty_list(alloc, sectors) {
+            Ok(lost) => Ok(lost),
+            Err(_) => Err(DiskFault::OutOfMemory),
+        };
+    }
+    let text = match files.lost_text(alloc, path, u64::from(sectors) + 2) {
+        Ok(text) => text,
+        Err(fault) => return Err(unread_list(fault, path)),
+    };
+    match read_list(alloc, &text, sectors) {
+        Ok(lost) => Ok(lost),
+        Err(fault) => Err(no_list(fault, path)),
+    }
+}
+
+/// A disk at a path that was looked at: what is told beside it, its store, which was mounted for the largest cache, and of each sector whether it is lost.
+#[derive(Drop)]
+pub(crate) struct Looked<S: Drop, Y: Drop> {
+    pub told: DiskText,
+    pub found: FoundMark,
+    pub store: S,
+    pub syncs: Y,
+    pub certificate: Certificate,
+    pub lost: Vec<bool>,
+}
+
+/// Opens the die of the disk at a path, mounts it and finds its lost sectors. It is asked for loads alone.
+pub(crate) fn look_at<'a, F: DiskFiles>(
+    alloc: Global,
+    files: &mut F,
+    path: &'a str,
+    writes: bool,
+) -> Result<Looked<F::Store, F::Syncs>, DiskFault<'a>>
+    ensures ok { IfOk result (λ looked. IsLookedAt F.Store.held F.Store.honest (F.answers files.old) path.now looked.told looked.found looked.store looked.certificate looked.lost.items) }
+    ensures fault { IfErr result (IsUnlookedAt F.Store.held F.Store.honest F.Store.failed (F.answers files.old) path.now) }
+    ensures opened { OnOk result (F.opened files.new ≡ with_opened (F.opened files.old) path.now writes) }
+    ensures unopened { OnErr result (Opens path.now writes (F.opened files.old) (F.opened files.new)) }
+    ensures within { IfOk result (λ looked. IsWithin looked.told.shape.cache) }
+    ensures no_more { OnOk result (SaysNoMore (F.answers files.old) (F.answers files.new)) }
+    ensures kept { F.kept files.new ≡ F.kept files.old }
+{
+    let (store, syncs, told) = match open_at(alloc, files, path, writes) {
+        Ok(opened) => opened,
+        Err(fault) => return Err(fault),
+    };
+    let found = match mark_at(alloc, files, path, told.marked) {
+        Ok(found) => found,
+        Err(fault) => return Err(fault),
+    };
+    let mut lost = match list_at(alloc, files, path, &told) {
+        Ok(lost) => lost,
+        Err(fault) => return Err(fault),
+    };
+    match mount_and_find(alloc, store, found.mark.flushed, &mut lost) {
+        Ok((store, certificate)) => Ok(Looked {
+            told,
+            found,
+            store,
+            syncs,
+            certificate,
+            lost,
+        }),
+        Err(why) => Err(DiskFault::Open(path, why)),
+    }
+}
+
+/// Names the lost sectors of a list on standard error, where there are any.
+pub(crate) fn name_lost<'a, E: Write>(
+    alloc: Global,
+    lost: &[bool],
+    err: &mut E,
+) -> Result<(), DiskFault<'a>>
+    ensures named { OnOk result (Names lost.now (E.contents err.old) (E.contents err.new)) }
+    ensures fault { IfErr result IsUnprinted }
+{
+    let Ok(sectors) = numbers_of(alloc, lost) else {
+        return Err(DiskFault::OutOfMemory);
+    };
+    if sectors.is_empty() {
+        return Ok(());
+    }
+    let Ok(text) = lost_text(alloc, &sectors) else {
+        return Err(DiskFault::OutOfMemory);
+    };
+    match err.write_all(text.as_bytes()) {
+        Ok(()) => Ok(()),
+        Err(error) => Err(unprinted(error)),
+    }
+}
