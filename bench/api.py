@@ -4,6 +4,8 @@
     bench/api.py            writes it
     bench/api.py --check    says whether it is what would be written; status 1 if not
 
+Of a docstring it takes the first paragraph and what tells errors: the rest stands in the source.
+
 CRATES names the crates and, of each, the items that a maker calls. An item that a crate hands on and that is in neither list is an error, so a new
 public item has to be placed. Laws compute nothing and are left out.
 """
@@ -28,9 +30,9 @@ WIDTH = 150
 LAW = re.compile(r"_laws?$")
 HEAD = """# API
 
-Written by `bench/api.py` from the sources: the public calls from page to device, each with what its docstring says. Where no source is named a rule is
-this project's. The contract of each stands behind its signature in the source; [PROMISES.md](PROMISES.md) says it in words,
-[TOTALITY.md](TOTALITY.md) lists refusals, [FIRMWARE.md](FIRMWARE.md) shows the calls in their order.
+Written by `bench/api.py` from the sources: the public calls from page to device, each with the first words of its docstring and its errors.
+The source has the rest, and behind each signature the contract; [PROMISES.md](PROMISES.md) says it in words, [TOTALITY.md](TOTALITY.md) lists
+refusals, [FIRMWARE.md](FIRMWARE.md) shows the calls in their order, [FORMATS.md](FORMATS.md) has the limits of a geometry.
 """
 
 
@@ -51,9 +53,24 @@ def told(lines):
     """A docstring as paragraphs, points of lists and tables of Markdown; what every call has, its source in this project, is left out."""
     text = "\n".join(re.sub(r"^\s*///? ?", "", line) for line in lines)
     text = re.sub(r"\(This\s+project(?:'s(?:\s+rules?)?)?\.\)|Source:\s+this\s+project\.| \(this\s+project\)", "", text)
-    text = re.sub(r"\[(`[^`\]]+`)\]", r"\1", text).replace("# Errors\n\n", "Errors: ")
+    text = re.sub(r"\[(`[^`\]]+`)\]", r"\1", text)
+    text = re.sub(r"# Errors\n+", "Errors: ", text)
     parts = re.split(r"\n\s*\n|\n(?=- )", text)
-    return [part if part.startswith("|") else " ".join(part.split()) for part in parts if part.strip()]
+    return shortened([" ".join(part.split()) for part in parts if part.strip()])
+
+
+def shortened(paragraphs):
+    """The first paragraph with its list, and what tells errors: from `Errors:` on, and what begins with the name of one."""
+    kept, telling = [], True
+    for nth, it in enumerate(paragraphs):
+        if not it.startswith("- "):
+            telling = not nth or it.startswith("Errors:") or bool(re.match(r"`[A-Z]", it)) or (telling and nth > 1 and not it.startswith("Source:"))
+        if it.startswith("|"):
+            # a table is left out, and so are the words that lead to it
+            kept[-1] = re.sub(r"\s*[^.]*:$", "", kept[-1])
+        elif telling:
+            kept.append(it)
+    return kept
 
 
 def docs_before(text, at):
@@ -88,9 +105,6 @@ def wrapped(paragraphs, indent=""):
     """Paragraphs and points of lists on lines of their own; a paragraph stands apart from what is before it."""
     lines = []
     for nth, it in enumerate(paragraphs):
-        if it.startswith("|"):
-            lines += ["", *it.split("\n")]
-            continue
         lines += [""] if nth and not it.startswith("- ") else []
         lines += textwrap.wrap(it, WIDTH, initial_indent=indent, subsequent_indent=indent + ("  " if it.startswith("- ") else ""),
                                break_long_words=False, break_on_hyphens=False)
