@@ -1,5 +1,5 @@
 # Builds and installs the three programs and the library for C. Each is proved before it is built: the first time takes an hour or
-# more, a second one seconds. Wants the Rattle kit's `rt` on the path; `make install` takes PREFIX and DESTDIR.
+# more, a second one some minutes. Wants the Rattle kit's `rt` on the path; `make install` takes PREFIX and DESTDIR.
 PREFIX ?= /usr/local
 PROGRAMS = nandctl nandlab nanddisk
 TO = $(DESTDIR)$(PREFIX)
