@@ -26,13 +26,15 @@ CRATES = [
      ("sector", "sector_in", "SectorFault", "describe_blocks", "Newest", "find_stale", "Survey")),
     ("ftl_device", "Device", ("Device", "DeviceFault", "StartFault"), ()),
 ]
+# the enums of which FORMATS says what each case means
+IN_FORMATS = ("GeometryFault", "BusFault", "FormatFault", "CertFault", "Refusal", "DeviceFault")
 WIDTH = 150
 LAW = re.compile(r"_laws?$")
 HEAD = """# API
 
 Written by `bench/api.py` from the sources: the public calls from page to device, each with the first words of its docstring and its errors.
 The source has the rest, and behind each signature the contract; [PROMISES.md](PROMISES.md) says it in words, [TOTALITY.md](TOTALITY.md) lists
-refusals, [FIRMWARE.md](FIRMWARE.md) shows the calls in their order, [FORMATS.md](FORMATS.md) has the limits of a geometry.
+refusals, [FIRMWARE.md](FIRMWARE.md) shows the calls in their order, [FORMATS.md](FORMATS.md) has the limits of a geometry and what each fault means.
 """
 
 
@@ -136,10 +138,16 @@ def shown(texts, name):
     if kind[1] == "fn":
         signature, said = next(calls_in(text, rf"^pub (?:const )?fn {name}\b"))
         return ["", f"### {name}", "", f"`{signature}`", "", *wrapped(said)]
+    if name in IN_FORMATS:
+        # what is said of the numbers behind each case has no place where the cases are left out
+        said = [re.sub(r" [^.]* numbers that follow [^.]*\.", "", it) for it in said]
     lines = ["", f"### {name}", "", *wrapped(said), ""]
     if kind[1] == "enum":
         cases = variants_of(body_at(text, kind.end()))
-        lines += wrapped([f"- `{case}`: {' '.join(paragraphs)}" for case, paragraphs in cases])
+        if name in IN_FORMATS:
+            lines += wrapped(["Cases: " + ", ".join(f"`{case}`" for case, _ in cases) + "."])
+        else:
+            lines += wrapped([f"- `{case}`: {' '.join(paragraphs)}" for case, paragraphs in cases])
     if kind[1] == "trait":
         for call in calls_in(body_at(text, kind.end()), r"^    fn \w+"):
             lines += entry(*call)
