@@ -4,7 +4,7 @@
     bench/api.py            writes it
     bench/api.py --check    says whether it is what would be written; status 1 if not
 
-Of a docstring it takes the first paragraph and what tells errors: the rest stands in the source.
+Of a docstring it takes the first sentences and what tells errors: the rest stands in the source.
 
 CRATES names the crates and, of each, the items that a maker calls. An item that a crate hands on and that is in neither list is an error, so a new
 public item has to be placed. Laws compute nothing and are left out.
@@ -28,7 +28,7 @@ CRATES = [
 ]
 # the enums of which FORMATS says what each case means
 IN_FORMATS = ("GeometryFault", "BusFault", "FormatFault", "CertFault", "Refusal", "DeviceFault")
-WIDTH = 150
+WIDTH, SENTENCES = 150, 50
 LAW = re.compile(r"_laws?$")
 HEAD = """# API
 
@@ -61,8 +61,16 @@ def told(lines):
     return shortened([" ".join(part.split()) for part in parts if part.strip()])
 
 
+def beginning(paragraph):
+    """The first sentences of a paragraph, as many as have SENTENCES words together, and one at least; and of the others the one that says what is answered."""
+    sentences, kept = re.split(r"(?<=\.) (?=[A-Z`])", paragraph), []
+    while sentences and (not kept or len(" ".join([*kept, sentences[0]]).split()) <= SENTENCES):
+        kept.append(sentences.pop(0))
+    return " ".join(kept + [it for it in sentences if it.startswith("The answer is")])
+
+
 def shortened(paragraphs):
-    """The first paragraph with its list, and what tells errors: from `Errors:` on, and what begins with the name of one."""
+    """The first sentences with their list, and what tells errors: from `Errors:` on, and what begins with the name of one."""
     kept, telling = [], True
     for nth, it in enumerate(paragraphs):
         if not it.startswith("- "):
@@ -71,7 +79,7 @@ def shortened(paragraphs):
             # a table is left out, and so are the words that lead to it
             kept[-1] = re.sub(r"\s*[^.]*:$", "", kept[-1])
         elif telling:
-            kept.append(it)
+            kept.append(it if nth else beginning(it))
     return kept
 
 
