@@ -32,9 +32,10 @@ WIDTH, SENTENCES = 150, 50
 LAW = re.compile(r"_laws?$")
 HEAD = """# API
 
-Written by `bench/api.py` from the sources: the public calls from page to device, each with the first words of its docstring and its errors.
-The source has the rest, and behind each signature the contract; [PROMISES.md](PROMISES.md) says it in words, [TOTALITY.md](TOTALITY.md) lists
-refusals, [FIRMWARE.md](FIRMWARE.md) shows the calls in their order, [FORMATS.md](FORMATS.md) has the limits of a geometry and what each fault means.
+Written by `bench/api.py` from the sources: the public calls from page to device, each with the first words of its docstring and its errors. The
+source has the rest, and behind each signature the contract; [PROMISES.md](PROMISES.md) says it in words, [TOTALITY.md](TOTALITY.md) what each
+refusal leaves, [FIRMWARE.md](FIRMWARE.md) shows the calls in their order, [FORMATS.md](FORMATS.md) has the limits of a geometry and what each
+fault means.
 """
 
 
@@ -70,11 +71,12 @@ def beginning(paragraph):
 
 
 def shortened(paragraphs):
-    """The first sentences with their list, and what tells errors: from `Errors:` on, and what begins with the name of one."""
+    """The first sentences with their list, and when errors come: from `Errors:` on, and what begins with the name of one. What each leaves has TOTALITY."""
     kept, telling = [], True
     for nth, it in enumerate(paragraphs):
         if not it.startswith("- "):
-            telling = not nth or it.startswith("Errors:") or bool(re.match(r"`[A-Z]", it)) or (telling and nth > 1 and not it.startswith("Source:"))
+            goes_on = telling and nth > 1 and not it.startswith(("Source:", "What they mean"))
+            telling = not nth or it.startswith("Errors:") or bool(re.match(r"`[A-Z]", it)) or goes_on
         if it.startswith("|"):
             # a table is left out, and so are the words that lead to it
             kept[-1] = re.sub(r"\s*[^.]*:$", "", kept[-1])
