@@ -28,6 +28,8 @@ CRATES = [
 ]
 # the enums of which FORMATS says what each case means
 IN_FORMATS = ("GeometryFault", "BusFault", "FormatFault", "CertFault", "Refusal", "DeviceFault")
+# calls of these types that crates make, and no maker
+LEFT_OUT = {"Certificate": ("new",), "Outcome": ("of_status",), "Device": ("into_engine",)}
 WIDTH, SENTENCES = 150, 50
 LAW = re.compile(r"_laws?$")
 HEAD = """# API
@@ -164,7 +166,8 @@ def shown(texts, name):
     for other in texts:
         for block in re.finditer(rf"^impl(?:<[^\n]*>)? {name}\b[^\n]*\{{\n", other, re.MULTILINE):
             for call in calls_in(body_at(other, block.end() - 2), r"^    pub (?:const )?fn \w+"):
-                lines += entry(*call)
+                if re.search(r"fn (\w+)", call[0])[1] not in LEFT_OUT.get(name, ()):
+                    lines += entry(*call)
     return lines
 
 
