@@ -29,7 +29,12 @@ CRATES = [
 # the enums of which FORMATS says what each case means
 IN_FORMATS = ("GeometryFault", "BusFault", "FormatFault", "CertFault", "Refusal", "DeviceFault")
 # calls of these types that crates make, and no maker
-LEFT_OUT = {"Geometry": ("entries", "translation_pages", "table_pages", "vmax", "row", "split_row", "has_row", "has_block"), "Certificate": ("new",), "Outcome": ("of_status",), "Device": ("into_engine",)}
+LEFT_OUT = {
+    "Geometry": ("entries", "translation_pages", "table_pages", "vmax", "row", "split_row", "has_row", "has_block"),
+    "Certificate": ("new",),
+    "Outcome": ("of_status",),
+    "Device": ("into_engine",),
+}
 WIDTH, SENTENCES = 150, 50
 LAW = re.compile(r"_laws?$")
 HEAD = """# API
