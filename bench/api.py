@@ -26,8 +26,8 @@ CRATES = [
      ("sector", "sector_in", "SectorFault", "describe_blocks", "Newest", "find_stale", "Survey")),
     ("ftl_device", "Device", ("Device", "DeviceFault", "StartFault"), ()),
 ]
-# the enums of which FORMATS says what each case means
-IN_FORMATS = ("GeometryFault", "BusFault", "FormatFault", "CertFault", "Refusal", "DeviceFault")
+# the enums of which FORMATS says what each case means, and the call of which it has the order of refusals
+IN_FORMATS = ("read_certificate", "GeometryFault", "BusFault", "FormatFault", "CertFault", "Refusal", "DeviceFault")
 # calls of these types that crates make, and no maker
 LEFT_OUT = {
     "Geometry": ("entries", "translation_pages", "table_pages", "vmax", "row", "split_row", "has_row", "has_block"),
@@ -154,6 +154,8 @@ def shown(texts, name):
     said = docs_before(text, kind.start())
     if kind[1] == "fn":
         signature, said = next(calls_in(text, rf"^pub (?:const )?fn {name}\b"))
+        if name in IN_FORMATS:
+            said = [re.sub(r"Errors, of which the first of this order .*:$", "Errors: the first in the order of FORMATS.", it) for it in said if not it.startswith("- ")]
         return ["", f"### {name}", "", f"`{signature}`", "", *wrapped(said)]
     if name in IN_FORMATS:
         # what is said of the numbers behind each case has no place where the cases are left out
