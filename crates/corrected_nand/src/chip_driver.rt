@@ -141,27 +141,27 @@ impl<B: ChipBus> NoisyNand for ChipDriver<B> {
 }
 
 /// THE DIE OVER A CHIP BEHIND A BUS, for `format`, `mount` and `Device`: the chip is driven by its own geometry, and the die that is shown has that of the
-/// pages without their codes. It counts on from these errors. A fault of the bus comes back with the bus.
+/// pages without their codes. It counts on from these errors. A fault of the bus comes back with the bus and the errors.
 pub fn die_on_chip<B: ChipBus + Drop>(
     bus: B,
     geometry: Geometry,
     chip: &ChipGeometry,
     errors: ReadErrors,
-) -> Result<Corrected<ChipDriver<B>>, (B, BusFault)>
+) -> Result<Corrected<ChipDriver<B>>, (B, ReadErrors, BusFault)>
     requires pages { IsChipOf geometry chip.now.raw }
     requires raw { B.honest bus ≡ true → (B.die bus).flash.geometry ≡ chip.now.raw }
     requires plain { B.keeps bus ≡ true → (B.chip bus).geometry ≡ geometry }
     requires errors { AreFor geometry errors }
-    ensures sent { MatchResult result (λ die. B.called bus (Command 0xFF) done [] die.nand.driver.bus) (λ e. B.called bus (Command 0xFF) (refused e.1) [] e.0) }
+    ensures sent { MatchResult result (λ die. B.called bus (Command 0xFF) done [] die.nand.driver.bus) (λ e. B.called bus (Command 0xFF) (refused e.2) [] e.0) }
     ensures keeps { MatchResult result (λ die. B.keeps die.nand.driver.bus ≡ B.keeps bus) (λ e. B.keeps e.0 ≡ B.keeps bus) }
     ensures geometry { IfOk result (λ die. die.geometry ≡ geometry) }
     ensures chip { IfOk result (λ die. die.nand.driver.geometry ≡ chip.now.raw) }
-    ensures errors { IfOk result (λ die. die.errors ≡ errors) }
+    ensures errors { MatchResult result (λ die. die.errors ≡ errors) (λ e. e.1 ≡ errors) }
     ensures failures { IfOk result (λ die. die.failures ≡ 0) }
-    ensures rose { IfErr result (λ e. IsCounted (B.failed bus) (B.failed e.0) e.1) }
+    ensures rose { IfErr result (λ e. IsCounted (B.failed bus) (B.failed e.0) e.2) }
 {
     match ChipDriver::new(bus, geometry, chip) {
         Ok(driver) => Ok(Corrected::new(driver, geometry, errors)),
-        Err((bus, fault)) => Err((bus, fault)),
+        Err((bus, fault)) => Err((bus, errors, fault)),
     }
 }

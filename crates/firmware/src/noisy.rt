@@ -118,6 +118,6 @@ pub fn reset_chip<B: ChipBus + Drop>(
     let errors = ReadErrors::new(alloc, geometry.blocks())?;
     match die_on_chip(bus, geometry, &chip, errors) {
         Ok(die) => Ok(die),
-        Err((_, fault)) => Err(Failure::Reset(fault)),
+        Err((_, _, fault)) => Err(Failure::Reset(fault)),
     }
 }

@@ -23,7 +23,9 @@ returns-clause-step g c =
     let s = operates_steady g.B.ChipBus.chip g.B.ChipBus.keeps g.B.Bus.called g.met.B.ChipBus.steady d.bus c.erase.new.self.bus (erase_cycles d.geometry c.args.block) c.erase.result c.erase.ensures.sends in
     let op : Bool → Flash → Operation = λ passed s. Erase c.args.block passed (block_at s c.args.block) in
     let made = did g.B.ChipBus.chip g.B.ChipBus.keeps g.B.Bus.called op d.bus c.erase.new.self.bus (erase_cycles d.geometry c.args.block) c.erase.result
-    (λ status outcome k says sent. erase_law g.B.ChipBus.chip g.B.ChipBus.keeps g.B.Bus.called g.met.B.ChipBus.erased d.bus c.erase.new.self.bus h d.geometry c.args.block status outcome c.self.invariant.0 c.self.invariant.1 (rw (← c.self.view_is) at c.requires.block_in) k says sent) c.erase.ensures.sends in
+    (λ status outcome k says sent.
+    erase_law g.B.ChipBus.chip g.B.ChipBus.keeps g.B.Bus.called g.met.B.ChipBus.erased d.bus c.erase.new.self.bus h d.geometry c.args.block status outcome
+    c.self.invariant.0 c.self.invariant.1 (rw (← c.self.view_is) at c.requires.block_in) k says sent) c.erase.ensures.sends in
     rw (← c.self.view_is) (if_ok c.erase.result made (λ outcome f k. did_seen h op (g.B.ChipBus.chip d.bus) (g.B.ChipBus.chip c.erase.new.self.bus) outcome (c.self.invariant.1 k) (s.geometry_is k ∙ c.self.invariant.1 k) (f k)))
 
 pub returns-clause-whole : goal.returns-clause-whole
@@ -33,5 +35,7 @@ returns-clause-whole g c =
     let s = operates_steady g.B.ChipBus.chip g.B.ChipBus.keeps g.B.Bus.called g.met.B.ChipBus.steady d.bus c.erase.new.self.bus (erase_cycles d.geometry c.args.block) c.erase.result c.erase.ensures.sends in
     let op : Bool → Flash → Operation = λ passed s. Erase c.args.block passed (block_at s c.args.block) in
     let made = did g.B.ChipBus.chip g.B.ChipBus.keeps g.B.Bus.called op d.bus c.erase.new.self.bus (erase_cycles d.geometry c.args.block) c.erase.result
-    (λ status outcome k says sent. erase_law g.B.ChipBus.chip g.B.ChipBus.keeps g.B.Bus.called g.met.B.ChipBus.erased d.bus c.erase.new.self.bus h d.geometry c.args.block status outcome c.self.invariant.0 c.self.invariant.1 (rw (← c.self.view_is) at c.requires.block_in) k says sent) c.erase.ensures.sends in
+    (λ status outcome k says sent.
+    erase_law g.B.ChipBus.chip g.B.ChipBus.keeps g.B.Bus.called g.met.B.ChipBus.erased d.bus c.erase.new.self.bus h d.geometry c.args.block status outcome
+    c.self.invariant.0 c.self.invariant.1 (rw (← c.self.view_is) at c.requires.block_in) k says sent) c.erase.ensures.sends in
     rw (← c.self.view_is) (if_on c.erase.result made (λ outcome f k. whole_seen h (g.B.ChipBus.chip c.erase.new.self.bus) (s.geometry_is k ∙ c.self.invariant.1 k) (f k).whole))

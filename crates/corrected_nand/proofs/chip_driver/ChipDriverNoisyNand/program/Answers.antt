@@ -24,7 +24,9 @@ returns-clause-step g c =
     let s = operates_steady g.B.ChipBus.chip g.B.ChipBus.keeps g.B.Bus.called g.met.B.ChipBus.steady d.bus c.program.new.self.bus (program_cycles c.args.row c.args.body.now c.args.outer.now) c.program.result c.program.ensures.sends in
     let op : Bool → Flash → Operation = λ passed s. Program c.args.row (page c.args.body.now (take c.self.inside.geometry.spare_bytes c.args.outer.now)) passed (page_at s c.args.row) in
     let made = did g.B.ChipBus.chip g.B.ChipBus.keeps g.B.Bus.called op d.bus c.program.new.self.bus (program_cycles c.args.row c.args.body.now c.args.outer.now) c.program.result
-    (λ status outcome k says sent. program_law g.B.ChipBus.chip g.B.ChipBus.keeps g.B.Bus.called g.met.B.ChipBus.programmed d.bus c.program.new.self.bus h c.args.row c.args.body.now c.args.outer.now (take h.spare_bytes c.args.outer.now) status outcome c.self.invariant.1 (rw (← c.self.view_is) at c.requires.row_in) (rw (← c.self.view_is) at c.requires.body_whole) (plain_length h c.args.outer.now (rw (← c.self.view_is) at c.requires.outer_whole)) (rw (← c.self.view_is) at c.requires.is_coded) k says sent) c.program.ensures.sends in
+    (λ status outcome k says sent.
+    program_law g.B.ChipBus.chip g.B.ChipBus.keeps g.B.Bus.called g.met.B.ChipBus.programmed d.bus c.program.new.self.bus h c.args.row c.args.body.now c.args.outer.now (take h.spare_bytes c.args.outer.now) status outcome c.self.invariant.1
+    (rw (← c.self.view_is) at c.requires.row_in) (rw (← c.self.view_is) at c.requires.body_whole) (plain_length h c.args.outer.now (rw (← c.self.view_is) at c.requires.outer_whole)) (rw (← c.self.view_is) at c.requires.is_coded) k says sent) c.program.ensures.sends in
     rw (← c.self.view_is) (if_ok c.program.result made (λ outcome f k. did_seen h op (g.B.ChipBus.chip d.bus) (g.B.ChipBus.chip c.program.new.self.bus) outcome (c.self.invariant.1 k) (s.geometry_is k ∙ c.self.invariant.1 k) (f k)))
 
 pub returns-clause-whole : goal.returns-clause-whole
@@ -34,5 +36,7 @@ returns-clause-whole g c =
     let s = operates_steady g.B.ChipBus.chip g.B.ChipBus.keeps g.B.Bus.called g.met.B.ChipBus.steady d.bus c.program.new.self.bus (program_cycles c.args.row c.args.body.now c.args.outer.now) c.program.result c.program.ensures.sends in
     let op : Bool → Flash → Operation = λ passed s. Program c.args.row (page c.args.body.now (take c.self.inside.geometry.spare_bytes c.args.outer.now)) passed (page_at s c.args.row) in
     let made = did g.B.ChipBus.chip g.B.ChipBus.keeps g.B.Bus.called op d.bus c.program.new.self.bus (program_cycles c.args.row c.args.body.now c.args.outer.now) c.program.result
-    (λ status outcome k says sent. program_law g.B.ChipBus.chip g.B.ChipBus.keeps g.B.Bus.called g.met.B.ChipBus.programmed d.bus c.program.new.self.bus h c.args.row c.args.body.now c.args.outer.now (take h.spare_bytes c.args.outer.now) status outcome c.self.invariant.1 (rw (← c.self.view_is) at c.requires.row_in) (rw (← c.self.view_is) at c.requires.body_whole) (plain_length h c.args.outer.now (rw (← c.self.view_is) at c.requires.outer_whole)) (rw (← c.self.view_is) at c.requires.is_coded) k says sent) c.program.ensures.sends in
+    (λ status outcome k says sent.
+    program_law g.B.ChipBus.chip g.B.ChipBus.keeps g.B.Bus.called g.met.B.ChipBus.programmed d.bus c.program.new.self.bus h c.args.row c.args.body.now c.args.outer.now (take h.spare_bytes c.args.outer.now) status outcome c.self.invariant.1
+    (rw (← c.self.view_is) at c.requires.row_in) (rw (← c.self.view_is) at c.requires.body_whole) (plain_length h c.args.outer.now (rw (← c.self.view_is) at c.requires.outer_whole)) (rw (← c.self.view_is) at c.requires.is_coded) k says sent) c.program.ensures.sends in
     rw (← c.self.view_is) (if_on c.program.result made (λ outcome f k. whole_seen h (g.B.ChipBus.chip c.program.new.self.bus) (s.geometry_is k ∙ c.self.invariant.1 k) (f k).whole))

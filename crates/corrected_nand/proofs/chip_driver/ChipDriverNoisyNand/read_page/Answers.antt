@@ -22,7 +22,9 @@ returns-clause-page g c =
     let d = c.self.inside.driver in
     let of = c.self.invariant.0 in
     let put = read_put g.B.ChipBus.chip g.B.ChipBus.keeps g.B.Bus.called g.met.B.ChipBus.read d.bus c.read_page.new.self.bus c.self.inside.geometry c.args.row d.geometry.data_bytes d.geometry.spare_bytes c.read_page.new.body c.read_page.new.spare c.read_page.result
-    c.self.invariant.1 (rw (← c.self.view_is) at c.requires.row_in) of.data_is of.spare_is (c.read_page.auto.body ∙ ((rw (← c.self.view_is) at c.requires.body_whole) ∙ sym of.data_is)) (c.read_page.auto.spare ∙ ((rw (← c.self.view_is) at c.requires.outer_whole) ∙ sym of.spare_is)) c.read_page.ensures.sends in
+    c.self.invariant.1 (rw (← c.self.view_is) at c.requires.row_in) of.data_is of.spare_is
+    (c.read_page.auto.body ∙ ((rw (← c.self.view_is) at c.requires.body_whole) ∙ sym of.data_is))
+    (c.read_page.auto.spare ∙ ((rw (← c.self.view_is) at c.requires.outer_whole) ∙ sym of.spare_is)) c.read_page.ensures.sends in
     rw (← c.self.view_is) (on_ok c.read_page.result put (λ f k. subst (λ z. ReadsAt z (g.B.ChipBus.chip d.bus).image c.args.row (page c.read_page.new.body c.read_page.new.spare)) (c.self.invariant.1 k) (f k).reads))
 
 pub returns-clause-same : goal.returns-clause-same
@@ -30,7 +32,9 @@ returns-clause-same g c =
     let d = c.self.inside.driver in
     let of = c.self.invariant.0 in
     let put = read_put g.B.ChipBus.chip g.B.ChipBus.keeps g.B.Bus.called g.met.B.ChipBus.read d.bus c.read_page.new.self.bus c.self.inside.geometry c.args.row d.geometry.data_bytes d.geometry.spare_bytes c.read_page.new.body c.read_page.new.spare c.read_page.result
-    c.self.invariant.1 (rw (← c.self.view_is) at c.requires.row_in) of.data_is of.spare_is (c.read_page.auto.body ∙ ((rw (← c.self.view_is) at c.requires.body_whole) ∙ sym of.data_is)) (c.read_page.auto.spare ∙ ((rw (← c.self.view_is) at c.requires.outer_whole) ∙ sym of.spare_is)) c.read_page.ensures.sends in
+    c.self.invariant.1 (rw (← c.self.view_is) at c.requires.row_in) of.data_is of.spare_is
+    (c.read_page.auto.body ∙ ((rw (← c.self.view_is) at c.requires.body_whole) ∙ sym of.data_is))
+    (c.read_page.auto.spare ∙ ((rw (← c.self.view_is) at c.requires.outer_whole) ∙ sym of.spare_is)) c.read_page.ensures.sends in
     rw (← c.self.view_is) (on_ok c.read_page.result put (λ f k. ap (seen c.self.inside.geometry) (f k).same))
 
 pub returns-clause-whole : goal.returns-clause-whole
@@ -38,5 +42,7 @@ returns-clause-whole g c =
     let d = c.self.inside.driver in
     let of = c.self.invariant.0 in
     let put = read_put g.B.ChipBus.chip g.B.ChipBus.keeps g.B.Bus.called g.met.B.ChipBus.read d.bus c.read_page.new.self.bus c.self.inside.geometry c.args.row d.geometry.data_bytes d.geometry.spare_bytes c.read_page.new.body c.read_page.new.spare c.read_page.result
-    c.self.invariant.1 (rw (← c.self.view_is) at c.requires.row_in) of.data_is of.spare_is (c.read_page.auto.body ∙ ((rw (← c.self.view_is) at c.requires.body_whole) ∙ sym of.data_is)) (c.read_page.auto.spare ∙ ((rw (← c.self.view_is) at c.requires.outer_whole) ∙ sym of.spare_is)) c.read_page.ensures.sends in
+    c.self.invariant.1 (rw (← c.self.view_is) at c.requires.row_in) of.data_is of.spare_is
+    (c.read_page.auto.body ∙ ((rw (← c.self.view_is) at c.requires.body_whole) ∙ sym of.data_is))
+    (c.read_page.auto.spare ∙ ((rw (← c.self.view_is) at c.requires.outer_whole) ∙ sym of.spare_is)) c.read_page.ensures.sends in
     rw (← c.self.view_is) (on_ok c.read_page.result put (λ f k. subst (λ s. IsImage c.self.inside.geometry s.image) (sym (f k).same) (subst (λ z. IsImage z (g.B.ChipBus.chip d.bus).image) (c.self.invariant.1 k) (f k).whole)))
