@@ -20,7 +20,8 @@ use Rattle.image_check.specs.Survey.{index_of}
 use Rattle.image_check.proofs.SurveyLemmas.{latest_more, latest_other, latest_start, index_apart, index_within}
 use Rattle.lab_dump.specs.declared.trace.Trace.{Trace}
 use Rattle.lab_dump.specs.declared.trace.Trace.TheVariants.{Never, Once, Tied}
-use Rattle.lab_dump.specs.Trace.{Tells, place_in, is_tied_in}
+use Rattle.lab_dump.specs.Trace.{Tells, place_in, is_tied_in, state_in}
+use Rattle.lab_dump.specs.Held.{state_by}
 use Rattle.lab_dump.specs.Doubting.{HasTraces}
 use Rattle.lab_dump.specs.Bad.{key_at, is_tied}
 
@@ -37,6 +38,12 @@ tells_tied Never latest.Never h = refl
 tells_tied (Once at kept) (latest.Once row s) h = refl
 tells_tied (Tied kept) (latest.Tied a b s) h = refl
 tells_tied _ _ h = absurd h
+
+pub tells_state : (t : Trace) (l : Latest) → Tells t l → state_in t ≡ state_by l
+tells_state Never latest.Never h = refl
+tells_state (Once at kept) (latest.Once row s) h = refl
+tells_state (Tied kept) (latest.Tied a b s) h = refl
+tells_state _ _ h = absurd h
 
 still : (ms : List (Option Record)) (row : ℕ) (key : Key) (t : Trace) → sequence_at ms key row ≡ None → Tells t (latest_below ms key row) → Tells t (latest_below ms key (row + 1))
 still ms row key t none h = subst (λ l. Tells t l) (sym (latest_other ms key row none)) h
