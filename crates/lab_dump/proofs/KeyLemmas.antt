@@ -1,30 +1,26 @@
 -- One page more in what is known of the keys.
-use Rattle.std.proofs.Common.{◌≡◌, ◌≢◌, ◌⊎◌, ◌↔◌, ℕ, ◌+◌, ◌<◌, Bool, true, false, List, length, get_or, set, length-set, replicate, Option, Some, None}
-use Rattle.std.proofs.Common.{refl, sym, ap, subst, ◌∙◌, arith, inl, inr, slice_get, cond, ltb, get_or-set_same, get_or-set_other}
+use Rattle.std.proofs.Common.{◌≡◌, ◌≢◌, ◌↔◌, ℕ, ◌+◌, ◌<◌, Bool, true, false, List, length, get_or, set, length-set, Some, None}
+use Rattle.std.proofs.Common.{refl, sym, ap, subst, ◌∙◌, arith, inl, inr, slice_get, get_or-set_same, get_or-set_other}
 use Rattle.std.proofs.lemmas.Bool.{cases_order, cases_eq}
-use Rattle.std.proofs.lemmas.List.{length-replicate, get_or-replicate, get_or_default}
+use Rattle.std.proofs.lemmas.List.{get_or_default}
 use Rattle.page_layout.specs.declared.geometry.Geometry.{Geometry}
-use Rattle.page_layout.specs.declared.record.Record.{Record}
 use Rattle.page_layout.specs.declared.record.Key.{Key}
 use Rattle.page_layout.specs.declared.record.Key.TheVariants.{Table}
 use Rattle.page_layout.specs.declared.newest.Latest.{Latest}
 use Rattle.page_layout.specs.declared.newest.Latest.TheVariants.{Never, Once, Tied}
-use Rattle.page_layout.specs.Geometry.{key_count, row_count, table_pages, entries}
+use Rattle.page_layout.specs.Geometry.{row_count, table_pages, entries}
 use Rattle.page_layout.specs.Page.{Page, Image, body_at}
-use Rattle.page_layout.specs.Greatest.{step, place_of}
-use Rattle.page_layout.specs.Key.{key_of}
+use Rattle.page_layout.specs.Greatest.{place_of}
 use Rattle.page_layout.specs.Newest.{newest, latest_below, sequence_at}
 use Rattle.page_layout.specs.Live.{IsKeyOf}
 use Rattle.page_layout.specs.Array.{marks}
-use Rattle.page_layout.proofs.NewestLemmas.{sequence_at-none, sequence_at-key, sequence_at-other}
-use Rattle.page_layout.proofs.KeyLemmas.{cases_key}
 use Rattle.page_layout.proofs.ArrayLemmas.{body_page, length-marks, latest-newest}
 use Rattle.bad_blocks.specs.TablePage.{IsWellFormed}
 use Rattle.image_check.specs.Blocks.{table_body}
 use Rattle.image_check.specs.Survey.{index_of}
 use Rattle.image_check.proofs.TableLemmas.{step_place}
 use Rattle.image_check.proofs.TablesLemmas.{table_is}
-use Rattle.image_check.proofs.SurveyLemmas.{latest_more, latest_other, latest_start, index_apart, index_within}
+use Rattle.image_check.proofs.SurveyLemmas.{latest_more, latest_other, latest_start, index_within}
 use Rattle.lab_dump.specs.declared.held.State.{State}
 use Rattle.lab_dump.specs.declared.held.State.TheVariants.{Absent, Found}
 use Rattle.lab_dump.specs.Held.{state_by}

@@ -24,11 +24,7 @@ use Rattle.image_check.proofs.MountableLemmas.{mountable}
 use Rattle.lab_dump.specs.declared.counts.PageCounts.{PageCounts}
 use Rattle.lab_dump.specs.declared.survey.DieSurvey.{DieSurvey}
 use Rattle.lab_dump.specs.Count.{counts_of, is_in_range, is_outside, is_last}
-use Rattle.image_check.specs.Survey.{index_of}
-use Rattle.lab_dump.specs.declared.held.State.{State}
-use Rattle.lab_dump.specs.declared.held.State.TheVariants.{Absent}
-use Rattle.lab_dump.specs.Keys.{key_state}
-use Rattle.lab_dump.specs.Surveyed.{FormedAs, HasNoReason, IsSurveyed, MountsLaw, RepeatsAs}
+use Rattle.lab_dump.specs.Surveyed.{HasNoReason, IsSurveyed, MountsLaw, RepeatsAs}
 use Rattle.lab_dump.proofs.KeyLemmas.{found_of, place_found}
 
 -- ---- counts that are 0

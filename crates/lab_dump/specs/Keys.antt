@@ -1,5 +1,5 @@
 -- How the keys stand: with no sound page, with a newest one, or with two that share the greatest sequence; and which table pages are well formed.
-use Rattle.std.specs.Prelude.{◌≡◌, ◌↔◌, ℕ, ◌<◌, Bool, true, false, List, length, get_or, Option, Some, None}
+use Rattle.std.specs.Prelude.{◌≡◌, ◌↔◌, ℕ, ◌<◌, Bool, true, false, List, length, get_or, Some}
 use Rattle.page_layout.specs.declared.geometry.Geometry.{Geometry}
 use Rattle.page_layout.specs.declared.record.Key.{Key}
 use Rattle.page_layout.specs.declared.record.Key.TheVariants.{Table}
@@ -7,10 +7,8 @@ use Rattle.page_layout.specs.Geometry.{entries, table_pages}
 use Rattle.page_layout.specs.Page.{Image, body_at}
 use Rattle.page_layout.specs.Greatest.{place_of}
 use Rattle.page_layout.specs.Newest.{latest_below}
-use Rattle.page_layout.specs.Live.{IsKeyOf}
 use Rattle.page_layout.specs.Array.{marks}
 use Rattle.bad_blocks.specs.TablePage.{IsWellFormed}
-use Rattle.image_check.specs.Survey.{index_of}
 use Rattle.lab_dump.specs.declared.held.State.{State}
 use Rattle.lab_dump.specs.Held.{state_by}
 

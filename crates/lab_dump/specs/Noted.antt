@@ -1,5 +1,5 @@
 -- What a pass over the pages notes.
-use Rattle.std.specs.Prelude.{◌≡◌, ℕ, ◌<◌, ◌≤◌, All, List, length, get_or, take}
+use Rattle.std.specs.Prelude.{◌≡◌, ℕ, length, take}
 use Rattle.page_layout.specs.declared.geometry.Geometry.{Geometry}
 use Rattle.page_layout.specs.Geometry.{key_count, table_pages}
 use Rattle.page_layout.specs.Page.{Image}

@@ -23,8 +23,6 @@ use Rattle.lab_dump.specs.Rows.{within}
 use Rattle.lab_dump.specs.declared.rows.Rows.{Rows}
 use Rattle.lab_dump.specs.declared.pass.ScanFault.{ScanFault}
 use Rattle.lab_dump.specs.declared.pass.ScanFault.TheVariants as scan
-use Rattle.lab_dump.specs.declared.counts.PageCounts.{PageCounts}
-use Rattle.lab_dump.specs.declared.held.State.{State}
 use Rattle.lab_dump.specs.declared.held.State.TheVariants as state
 use Rattle.lab_dump.specs.declared.survey.SurveyFault.{SurveyFault}
 use Rattle.lab_dump.specs.declared.survey.SurveyFault.TheVariants as fault

@@ -1,4 +1,4 @@
-use Rattle.std.proofs.Common.{◌≡◌, ◌∙◌}
+use Rattle.std.proofs.Common.{◌∙◌}
 use Rattle.page_layout.specs.Geometry.{row_count}
 use Rattle.page_layout.specs.Raw.{raw_image}
 use Rattle.page_layout.proofs.RawLemmas.{length-raw_image}
