@@ -1,30 +1,112 @@
--- THE MARK BESIDE A DISK: all pages of a lower sequence were synced.
-use Rattle.std.specs.Prelude.{◌≡◌, ◌⊎◌, ◌<◌, ◌-◌, ◌^◌, ℕ, List, ◌++◌, take, drop, Option, Some, None}
+-- THE MARK BESIDE A DISK: up to which sequence all pages were synced, and up to which all were as the disk had been flushed. It stands in one of two slots of a file.
+use Rattle.std.specs.Prelude.{◌≡◌, ◌≢◌, ◌⊎◌, ◌<◌, ◌≤◌, ◌-◌, ◌^◌, ℕ, nat_lt, Bool, true, false, List, ◌++◌, length, take, drop, Option, Some, None, if◌then◌else◌}
 use Rattle.std.specs.Int.{w64, to_le_bytes}
+use Rattle.disk_server.specs.declared.mark.Mark.{Mark}
+use Rattle.disk_commands.specs.declared.mark.FoundMark.{FoundMark}
 
--- its eight bytes, the least significant first, and the same once more
-abbrev pub mark_text : ℕ → List ℕ
-mark_text mark = to_le_bytes w64 mark ++ to_le_bytes w64 mark
+-- ---- a slot
 
--- the bytes are those of a mark
-pub record IsMarkText (bytes : List ℕ) (mark : ℕ) : Type 0 where
-  pub small : mark < 2 ^ 64
-  pub is : bytes ≡ mark_text mark
+-- a number: its eight bytes, the least significant first, and the same once more
+abbrev pub number_text : ℕ → List ℕ
+number_text n = to_le_bytes w64 n ++ to_le_bytes w64 n
 
--- what counts where there is none: no page has a sequence that is not lower but the last of all
-abbrev pub no_mark : ℕ
-no_mark = 2 ^ 64 - 1
+-- the bytes are those of a number
+pub record IsNumberText (bytes : List ℕ) (n : ℕ) : Type 0 where
+  pub small : n < 2 ^ 64
+  pub is : bytes ≡ number_text n
 
--- WHAT IS READ: the mark that the bytes are, or none where they are those of no mark, or there are none
-abbrev pub IsMarkRead : Option (List ℕ) → (mark : ℕ) → Type 0
-IsMarkRead None mark = mark ≡ no_mark
-IsMarkRead (Some bytes) mark = IsMarkText bytes mark ⊎ ((mark ≡ no_mark) × ((other : ℕ) → ¬ IsMarkText bytes other))
+abbrev pub IsNumberRead : (bytes : List ℕ) → Option ℕ → Type 0
+IsNumberRead bytes (Some n) = IsNumberText bytes n
+IsNumberRead bytes None = (n : ℕ) → ¬ IsNumberText bytes n
 
--- A MARK IS READ AS IT WAS WRITTEN
-abbrev pub MarkLaw : Type 0
-MarkLaw = (mark read : ℕ) → mark < 2 ^ 64 → IsMarkRead (Some (mark_text mark)) read → read ≡ mark
+-- a slot: two numbers
+abbrev pub slot_text : Mark → List ℕ
+slot_text m = number_text m.synced ++ number_text m.flushed
 
--- WHERE A MARK IS WRITTEN OVER ANOTHER ONE AND THE POWER GOES after any of its bytes, one of the two is read, or none
-abbrev pub TornMarkLaw : Type 0
-TornMarkLaw = (old new read count : ℕ) → old < 2 ^ 64 → new < 2 ^ 64 → IsMarkRead (Some (take count (mark_text new) ++ drop count (mark_text old))) read
-    → (read ≡ old) ⊎ ((read ≡ new) ⊎ (read ≡ no_mark))
+-- the bytes are those of a slot
+pub record IsSlotText (bytes : List ℕ) (m : Mark) : Type 0 where
+  pub synced : IsNumberText (take 16 bytes) m.synced
+  pub flushed : IsNumberText (drop 16 bytes) m.flushed
+
+-- WHAT IS READ OF A SLOT: the mark that its bytes are, or none
+abbrev pub IsSlotRead : (bytes : List ℕ) → Option Mark → Type 0
+IsSlotRead bytes (Some m) = IsSlotText bytes m
+IsSlotRead bytes None = (m : Mark) → ¬ IsSlotText bytes m
+
+-- ---- the file
+
+-- the second slot begins in a page of its own, and ends the file
+abbrev pub second_at : ℕ
+second_at = 4096
+
+abbrev pub file_length : ℕ
+file_length = 4128
+
+abbrev pub first_slot : List ℕ → List ℕ
+first_slot bytes = take 32 bytes
+
+abbrev pub second_slot : List ℕ → List ℕ
+second_slot bytes = drop second_at bytes
+
+-- where a slot begins
+abbrev pub slot_at : (second : Bool) → ℕ
+slot_at second = if second then second_at else 0
+
+-- what counts where there is no mark: all pages are taken for synced, but those of the last sequence of all, and no page for flushed
+abbrev pub no_mark : Mark
+no_mark = record { synced = 2 ^ 64 - 1; flushed = 0 }
+
+abbrev pub none_found : FoundMark
+none_found = record { mark = no_mark; in_second = false }
+
+-- of two slots the later one counts
+abbrev pub found_in : (first second : Option Mark) → FoundMark
+found_in None None = none_found
+found_in (Some a) None = record { mark = a; in_second = false }
+found_in None (Some b) = record { mark = b; in_second = true }
+found_in (Some a) (Some b) = if nat_lt a.synced b.synced then record { mark = b; in_second = true } else record { mark = a; in_second = false }
+
+-- of a file of this length what its slots tell
+pub record HasSlots (bytes : List ℕ) (found : FoundMark) : Type 0 where
+  pub first : Option Mark
+  pub second : Option Mark
+  pub first_is : IsSlotRead (first_slot bytes) first
+  pub second_is : IsSlotRead (second_slot bytes) second
+  pub is : found ≡ found_in first second
+
+-- WHAT IS READ OF THE FILE: none where it has another length, or there is none
+abbrev pub IsMarkRead : Option (List ℕ) → FoundMark → Type 0
+IsMarkRead None found = found ≡ none_found
+IsMarkRead (Some bytes) found = ((length bytes ≡ file_length) × HasSlots bytes found) ⊎ ((length bytes ≢ file_length) × (found ≡ none_found))
+
+-- ---- laws
+
+pub record IsSmall (m : Mark) : Type 0 where
+  pub synced : m.synced < 2 ^ 64
+  pub flushed : m.flushed < 2 ^ 64
+
+-- A SLOT IS READ AS IT WAS WRITTEN
+abbrev pub SlotLaw : Type 0
+SlotLaw = (m : Mark) (read : Option Mark) → IsSmall m → IsSlotRead (slot_text m) read → read ≡ Some m
+
+-- a slot that is written over another one, where the power goes after so many bytes
+abbrev pub torn_slot : (count : ℕ) → (old new : Mark) → List ℕ
+torn_slot count old new = take count (slot_text new) ++ drop count (slot_text old)
+
+-- it is one of the two
+abbrev pub IsEither : (a b n : ℕ) → Type 0
+IsEither a b n = (n ≡ a) ⊎ (n ≡ b)
+
+-- THEN NONE IS READ OF IT, or each number is the old one or the new one
+abbrev pub TornSlotLaw : Type 0
+TornSlotLaw = (old new m : Mark) (count : ℕ) → IsSmall old → IsSmall new → IsSlotRead (torn_slot count old new) (Some m) → IsEither old.synced new.synced m.synced × IsEither old.flushed new.flushed m.flushed
+
+-- one slot of the file is whole, and in the other one a mark is being written over another
+abbrev pub IsTornBeside : (bytes : List ℕ) → (kept old new : Mark) → (count : ℕ) → Type 0
+IsTornBeside bytes kept old new count =
+    ((first_slot bytes ≡ slot_text kept) × (second_slot bytes ≡ torn_slot count old new)) ⊎ ((first_slot bytes ≡ torn_slot count old new) × (second_slot bytes ≡ slot_text kept))
+
+-- SO NO LOSS OF POWER COSTS THE MARK, NOR PUTS IT AHEAD: the mark that is found is no older than the slot that was left alone, and has a number that was written
+abbrev pub TornFileLaw : Type 0
+TornFileLaw = (bytes : List ℕ) (kept old new : Mark) (count : ℕ) (found : FoundMark) → IsSmall kept → IsSmall old → IsSmall new → length bytes ≡ file_length → IsTornBeside bytes kept old new count
+    → IsMarkRead (Some bytes) found → (kept.synced ≤ found.mark.synced) × ((found.mark.synced ≡ kept.synced) ⊎ IsEither old.synced new.synced found.mark.synced)

@@ -10,7 +10,8 @@ use Rattle.disk_commands.specs.Words.{IsAsked, IsNoCommand}
 use Rattle.disk_commands.specs.declared.text.DiskFault.{DiskFault}
 use Rattle.disk_commands.specs.declared.text.DiskFault.TheVariants as fault
 use Rattle.disk_commands.specs.Created.{HasCreated, IsUncreated}
-use Rattle.disk_commands.specs.Files.{Answers, Kept, Opened, Opens}
+use Rattle.disk_server.specs.declared.mark.Mark.{Mark}
+use Rattle.disk_commands.specs.Files.{Answers, Kept, Opened, Opens, OpensMarked}
 use Rattle.disk_commands.specs.Serve.{HasNotServed, HasServedAt}
 use Rattle.disk_commands.specs.Text.{IsTold}
 use Rattle.disk_commands.specs.Told.{HasTold, IsUnprinted, IsUntold}
@@ -40,15 +41,15 @@ Tells held honest failed a words old new (Ok done) = HasTold held honest a words
 Tells held honest failed a words old new (Err told) = IsUntold held honest failed a words old.out new.out told
 
 -- WHAT THE WORDS ASK FOR WAS DONE, or not for the reason that is answered. Of what it does not name nothing changes
-abbrev pub DoesAsked : {S Y : Type 0} → (S → Held) → (honest : S → Bool) → (failed : S → ℕ) → (synced : Y → ℕ) → Answers → DiskWords → (old new : Around)
+abbrev pub DoesAsked : {S Y : Type 0} → (S → Held) → (honest : S → Bool) → (failed : S → ℕ) → (synced missed : Y → ℕ) → (marked : Y → Mark) → Answers → DiskWords → (old new : Around)
     → Result (Unit {0}) DiskFault → Type 0
-DoesAsked held honest failed synced a (asked.Create words) old new result = Creates held honest failed a words old new result × (new.out ≡ old.out) × (new.input ≡ old.input) × (new.opened ≡ old.opened)
-DoesAsked held honest failed synced a (asked.Serve words) old new result =
-    (HasServedAt held honest synced a words old.input new.input old.out new.out result ⊎ HasNotServed held honest failed a words old.out new.out result) × (new.kept ≡ old.kept)
-    × Opens words.disk.now (not words.read_only) old.opened new.opened
-DoesAsked held honest failed synced a (asked.Info words) old new result = Tells held honest failed a words old new result × (new.kept ≡ old.kept) × (new.input ≡ old.input)
+DoesAsked held honest failed synced missed marked a (asked.Create words) old new result = Creates held honest failed a words old new result × (new.out ≡ old.out) × (new.input ≡ old.input) × (new.opened ≡ old.opened)
+DoesAsked held honest failed synced missed marked a (asked.Serve words) old new result =
+    (HasServedAt held honest synced marked a words old.input new.input old.out new.out result ⊎ HasNotServed held honest failed missed a words old.out new.out result) × (new.kept ≡ old.kept)
+    × OpensMarked words.disk.now (not words.read_only) old.opened new.opened
+DoesAsked held honest failed synced missed marked a (asked.Info words) old new result = Tells held honest failed a words old new result × (new.kept ≡ old.kept) × (new.input ≡ old.input)
     × Opens words.disk.now false old.opened new.opened
-DoesAsked held honest failed synced a (asked.Text text) old new result = Prints (string_bytes text) old new result × (new.kept ≡ old.kept) × (new.input ≡ old.input) × (new.opened ≡ old.opened)
+DoesAsked held honest failed synced missed marked a (asked.Text text) old new result = Prints (string_bytes text) old new result × (new.kept ≡ old.kept) × (new.input ≡ old.input) × (new.opened ≡ old.opened)
 
 -- THE WORDS ARE NO COMMAND, or memory for them was refused: nothing was done
 pub record AsksNothing (words : List (List ℕ)) (old new : Around) (result : Result (Unit {0}) DiskFault) : Type 0 where
@@ -59,18 +60,18 @@ pub record AsksNothing (words : List (List ℕ)) (old new : Around) (result : Re
 
 -- ---- all of it
 
-abbrev pub Obeys : {S Y : Type 0} → (S → Held) → (honest : S → Bool) → (failed : S → ℕ) → (synced : Y → ℕ) → Answers → (words : List (List ℕ)) → (old new : Around)
+abbrev pub Obeys : {S Y : Type 0} → (S → Held) → (honest : S → Bool) → (failed : S → ℕ) → (synced missed : Y → ℕ) → (marked : Y → Mark) → Answers → (words : List (List ℕ)) → (old new : Around)
     → Result (Unit {0}) DiskFault → Type 0
-Obeys held honest failed synced a words old new result =
+Obeys held honest failed synced missed marked a words old new result =
     AsksNothing words old new result
-    ⊎ ((found : DiskWords) × IsAsked words found × DoesAsked held honest failed synced a found old new result)
+    ⊎ ((found : DiskWords) × IsAsked words found × DoesAsked held honest failed synced missed marked a found old new result)
 
 -- status 0 where it was done, with nothing on standard error; else the fault's line there, and its status
 abbrev pub IsAnswered : Result (Unit {0}) DiskFault → (told telling : Option (List ℕ)) → (status : ℕ) → Type 0
 IsAnswered (Ok done) told telling status = (status ≡ 0) × (telling ≡ told)
 IsAnswered (Err why) told telling status = IsTold why told telling status
 
-abbrev pub Runs : {S Y : Type 0} → (S → Held) → (honest : S → Bool) → (failed : S → ℕ) → (synced : Y → ℕ) → Answers → (words : List (List ℕ)) → (old new : Around)
+abbrev pub Runs : {S Y : Type 0} → (S → Held) → (honest : S → Bool) → (failed : S → ℕ) → (synced missed : Y → ℕ) → (marked : Y → Mark) → Answers → (words : List (List ℕ)) → (old new : Around)
     → (told telling : Option (List ℕ)) → (status : ℕ) → Type 0
-Runs held honest failed synced a words old new told telling status =
-    (result : Result (Unit {0}) DiskFault) × Obeys held honest failed synced a words old new result × IsAnswered result told telling status
+Runs held honest failed synced missed marked a words old new told telling status =
+    (result : Result (Unit {0}) DiskFault) × Obeys held honest failed synced missed marked a words old new result × IsAnswered result told telling status

@@ -8,7 +8,7 @@ use Rattle.request_stream.specs.declared.reply.ServeFault.{ServeFault}
 use Rattle.file_die.specs.Store.{Held}
 use Rattle.file_die.specs.Die.{FileState}
 use Rattle.ftl_device.specs.declared.device.Device.{Device}
-use Rattle.disk_server.specs.Disk.{AsksTurn, contents_of, holds}
+use Rattle.disk_server.specs.Disk.{AsksTurn, contents_of, holds, takes_changes}
 use Rattle.nbd_stream.specs.declared.fault.DiskFault.{DiskFault as NbdFault}
 use Rattle.nbd_stream.specs.declared.request.End.{End}
 use Rattle.nbd_stream.specs.declared.request.End.TheVariants as end
@@ -22,14 +22,18 @@ use Rattle.disk_server.specs.declared.served.Offer.{Offer}
 use Rattle.disk_server.specs.declared.synced.SyncedDisk.{SyncedDisk}
 use Rattle.disk_server.specs.Opened.{bytes_of, flash_in, is_honest_in}
 use Rattle.disk_server.specs.declared.synced.SyncPace.{SyncPace}
-use Rattle.disk_server.specs.Synced.{HasSynced, RestsSynced, export_of}
+use Rattle.disk_server.specs.declared.mark.Mark.{Mark}
+use Rattle.disk_server.specs.Synced.{HasSynced, Marks, RestsSynced, after_sync, export_of}
 use Rattle.disk_server.specs.Reading.{RestsNever}
 use Rattle.page_layout.specs.OnlyReads.{OnlyReads}
 use Rattle.nbd_stream.specs.Through.{Through}
 use Rattle.disk_commands.specs.declared.text.DiskFault.{DiskFault}
 use Rattle.disk_commands.specs.declared.text.DiskFault.TheVariants as fault
 use Rattle.disk_commands.specs.Files.{Answers}
-use Rattle.disk_commands.specs.Opening.{IsStoreAt, IsUnopenedAt}
+use Rattle.disk_recovery.specs.Recovered.{HoldsRecovered}
+use Rattle.disk_commands.specs.declared.shape_text.DiskText.{DiskText}
+use Rattle.disk_commands.specs.declared.mark.FoundMark.{FoundMark}
+use Rattle.disk_commands.specs.Opening.{IsMarkAt, IsStoreAt, IsUnopenedAt, IsUnwrittenAt}
 
 -- ---- what the client is told
 
@@ -63,19 +67,20 @@ abbrev pub told_at_end : Result (Unit {0}) NbdFault → Bor (List ℕ) → Resul
 told_at_end (Ok done) path answer = end_of answer
 told_at_end (Err e) path answer = Err (fault.Device path)
 
--- THE LAST FLUSH, and a sync with it
-pub record IsFlushed {D Y : Type 0} (contents : D → Contents) (honest : D → Bool) (synced : Y → ℕ) (path : Bor (List ℕ)) (last : SyncedDisk D Y)
+-- THE LAST FLUSH, a sync with it, and the mark of that
+pub record IsFlushed {D Y : Type 0} (contents : D → Contents) (honest : D → Bool) (next : D → ℕ) (takes : D → Bool) (synced : Y → ℕ) (marked : Y → Mark) (path : Bor (List ℕ)) (last : SyncedDisk D Y)
     (answer : Result End ServeFault) (result : Result (Unit {0}) DiskFault) : Type 0 where
   pub done : Result (Unit {0}) NbdFault
   pub left : SyncedDisk D Y
   pub performs : Performs (λ s. contents s.disk) (λ s. honest s.disk) (λ _. false) Flush [] last (answer_from done []) left
   pub synced_once : OnOk done (HasSynced synced true last left)
+  pub marks : Marks marked next takes true last done left
   pub told : result ≡ told_at_end done path answer
 
 -- ---- all of it
 
 -- A DISK THAT WAS SERVED to one client on these terms, and then flushed
-pub record HasServedDisk {D Y : Type 0} (contents : D → Contents) (honest : D → Bool) (rests : D → Result (Unit {0}) NbdFault → D → Type 0) (synced : Y → ℕ)
+pub record HasServedDisk {D Y : Type 0} (contents : D → Contents) (honest : D → Bool) (rests : D → Result (Unit {0}) NbdFault → D → Type 0) (next : D → ℕ) (takes : D → Bool) (synced : Y → ℕ) (marked : Y → Mark)
     (terms : Terms) (path : Bor (List ℕ)) (disk : D) (syncs : Y) (unread left before after : Option (List ℕ)) (result : Result (Unit {0}) DiskFault) : Type 0 where
   pub first : SyncedDisk D Y
   pub disk_is : first.disk ≡ disk
@@ -87,7 +92,7 @@ pub record HasServedDisk {D Y : Type 0} (contents : D → Contents) (honest : D 
   pub answer : Result End ServeFault
   pub serves : Serves (λ s. contents s.disk) (λ s. honest s.disk) (λ _. false) (RestsSynced rests)
       (export_of terms.offer (length (contents first.disk).bytes)) terms.offer.maximum first last unread left before after answer
-  pub ends : IsFlushed contents honest synced path last answer result
+  pub ends : IsFlushed contents honest next takes synced marked path last answer result
 
 -- A DISK THAT WAS ONLY READ by one client: what stands under it was asked for reads of its sectors, and for nothing else
 pub record HasReadDisk {D : Type 0} (contents : D → Contents) (honest : D → Bool) (reads : D → D → Type 0)
@@ -100,16 +105,16 @@ pub record HasReadDisk {D : Type 0} (contents : D → Contents) (honest : D → 
 
 -- by whether it was to be read-only
 abbrev pub ServedBy : {D Y : Type 0} → (read_only : Bool) → (contents : D → Contents) → (honest : D → Bool) → (rests : D → Result (Unit {0}) NbdFault → D → Type 0)
-    → (reads : D → D → Type 0) → (synced : Y → ℕ) → (terms : Terms) → (path : Bor (List ℕ)) → (disk : D) → (syncs : Y) → (unread left before after : Option (List ℕ))
+    → (reads : D → D → Type 0) → (next : D → ℕ) → (takes : D → Bool) → (synced : Y → ℕ) → (marked : Y → Mark) → (terms : Terms) → (path : Bor (List ℕ)) → (disk : D) → (syncs : Y) → (unread left before after : Option (List ℕ))
     → Result (Unit {0}) DiskFault → Type 0
-ServedBy true contents honest rests reads synced terms path disk syncs unread left before after result = HasReadDisk contents honest reads terms disk unread left before after result
-ServedBy false contents honest rests reads synced terms path disk syncs unread left before after result = HasServedDisk contents honest rests synced terms path disk syncs unread left before after result
+ServedBy true contents honest rests reads next takes synced marked terms path disk syncs unread left before after result = HasReadDisk contents honest reads terms disk unread left before after result
+ServedBy false contents honest rests reads next takes synced marked terms path disk syncs unread left before after result = HasServedDisk contents honest rests next takes synced marked terms path disk syncs unread left before after result
 
 abbrev pub HasServedOn : {D Y : Type 0} → (contents : D → Contents) → (honest : D → Bool) → (rests : D → Result (Unit {0}) NbdFault → D → Type 0)
-    → (reads : D → D → Type 0) → (synced : Y → ℕ) → (terms : Terms) → (path : Bor (List ℕ)) → (disk : D) → (syncs : Y) → (unread left before after : Option (List ℕ))
+    → (reads : D → D → Type 0) → (next : D → ℕ) → (takes : D → Bool) → (synced : Y → ℕ) → (marked : Y → Mark) → (terms : Terms) → (path : Bor (List ℕ)) → (disk : D) → (syncs : Y) → (unread left before after : Option (List ℕ))
     → Result (Unit {0}) DiskFault → Type 0
-HasServedOn contents honest rests reads synced terms path disk syncs unread left before after result =
-    ServedBy terms.offer.read_only contents honest rests reads synced terms path disk syncs unread left before after result
+HasServedOn contents honest rests reads next takes synced marked terms path disk syncs unread left before after result =
+    ServedBy terms.offer.read_only contents honest rests reads next takes synced marked terms path disk syncs unread left before after result
 
 -- ---- the disk at a path
 
@@ -121,29 +126,47 @@ rests_in held honest = AsksTurn (flash_in held) (λ d. None) (is_honest_in hones
 abbrev pub reads_in : {S : Type 0} → (S → Held) → (honest : S → Bool) → Device (DriverState (FileState S)) → Device (DriverState (FileState S)) → Type 0
 reads_in held honest old new = OnlyReads (flash_in held) (is_honest_in honest) (λ d. false) (λ d. d.programs) (λ d. d.erases) (λ d. d.failures) old.engine.nand new.engine.nand
 
--- THE DISK OF THE STORE AT A PATH: of a store that is honest it holds its array, and its bytes are those of the array that the store's pages hold
-pub record IsDiskAt {S : Type 0} (held : S → Held) (honest : S → Bool) (a : Answers) (path : List ℕ) (shape : Shape) (d : Device (DriverState (FileState S))) : Type 0 where
+-- TO BE WRITTEN: its bytes are those of the array of the pages that are left once what a crash left torn is taken away, by the mark that was found. Where one counts it is kept from then on, and all
+-- that the disk had programmed was synced
+pub record IsWrittenAt {Y : Type 0} (marked : Y → Mark) (a : Answers) (path : List ℕ) (told : DiskText) (honest : Type 0) (s : Held) (bytes : List ℕ) (next : ℕ) (syncs : Y) : Type 0 where
+  pub found : FoundMark
+  pub mark : IsMarkAt a path told.marked found
+  pub holds : honest → HoldsRecovered found.mark.synced s bytes
+  pub keeps : told.marked ≡ true → marked syncs ≡ after_sync next false found.mark
+
+-- to be read its bytes are those of the array that the store's pages hold
+abbrev pub HoldsBy : {Y : Type 0} → (read_only : Bool) → (marked : Y → Mark) → Answers → (path : List ℕ) → DiskText → (honest : Type 0) → Held → (bytes : List ℕ) → (next : ℕ) → Y → Type 0
+HoldsBy true marked a path told honest s bytes next syncs = honest → bytes ≡ bytes_of s
+HoldsBy false marked a path told honest s bytes next syncs = IsWrittenAt marked a path told honest s bytes next syncs
+
+-- THE DISK OF THE STORE AT A PATH, by whether it is only read: of a store that is honest it holds its array
+pub record IsDiskAt {S Y : Type 0} (held : S → Held) (honest : S → Bool) (marked : Y → Mark) (a : Answers) (path : List ℕ) (read_only : Bool) (told : DiskText) (d : Device (DriverState (FileState S))) (syncs : Y) : Type 0 where
   pub store : S
-  pub at : IsStoreAt held honest a path shape store
+  pub at : IsStoreAt held honest a path told store
   pub held_array : honest store ≡ true → holds (is_honest_in honest) d ≡ true
-  pub bytes : honest store ≡ true → (contents_of (flash_in held) (is_honest_in honest) d).bytes ≡ bytes_of (held store)
+  pub bytes : HoldsBy read_only marked a path told (honest store ≡ true) (held store) (contents_of (flash_in held) (is_honest_in honest) d).bytes d.engine.next syncs
 
 -- ---- the command
 
 -- IT SERVED: the disk at the path was opened and served
-pub record HasServedAt {S Y : Type 0} (held : S → Held) (honest : S → Bool) (synced : Y → ℕ) (a : Answers) (words : ServeWords)
+pub record HasServedAt {S Y : Type 0} (held : S → Held) (honest : S → Bool) (synced : Y → ℕ) (marked : Y → Mark) (a : Answers) (words : ServeWords)
     (unread left before after : Option (List ℕ)) (result : Result (Unit {0}) DiskFault) : Type 0 where
-  pub shape : Shape
+  pub told : DiskText
   pub disk : Device (DriverState (FileState S))
-  pub at : IsDiskAt held honest a words.disk.now shape disk
   pub syncs : Y
-  pub served : HasServedOn (contents_of (flash_in held) (is_honest_in honest)) (holds (is_honest_in honest)) (rests_in held honest) (reads_in held honest) synced
-      (terms_of shape words.read_only) words.disk disk syncs unread left before after result
+  pub at : IsDiskAt held honest marked a words.disk.now words.read_only told disk syncs
+  pub served : HasServedOn (contents_of (flash_in held) (is_honest_in honest)) (holds (is_honest_in honest)) (rests_in held honest) (reads_in held honest) (λ d. d.engine.next) takes_changes synced marked
+      (terms_of told.shape words.read_only) words.disk disk syncs unread left before after result
+
+-- why it did not, by whether it was only to be read
+abbrev pub IsUnservedBy : {S Y : Type 0} → (read_only : Bool) → (S → Held) → (honest : S → Bool) → (failed : S → ℕ) → (missed : Y → ℕ) → Answers → List ℕ → DiskFault → Type 0
+IsUnservedBy true held honest failed missed a path told = IsUnopenedAt held honest failed a path told
+IsUnservedBy false held honest failed missed a path told = IsUnwrittenAt held honest failed missed a path told
 
 -- or it did not, and nothing was sent: the disk was not opened
-pub record HasNotServed {S : Type 0} (held : S → Held) (honest : S → Bool) (failed : S → ℕ) (a : Answers) (words : ServeWords) (before after : Option (List ℕ))
+pub record HasNotServed {S Y : Type 0} (held : S → Held) (honest : S → Bool) (failed : S → ℕ) (missed : Y → ℕ) (a : Answers) (words : ServeWords) (before after : Option (List ℕ))
     (result : Result (Unit {0}) DiskFault) : Type 0 where
   pub told : DiskFault
   pub is : result ≡ Err told
-  pub why : IsUnopenedAt held honest failed a words.disk.now told
+  pub why : IsUnservedBy words.read_only held honest failed missed a words.disk.now told
   pub silent : Keeps before after

@@ -4,7 +4,7 @@ use Rattle.std.specs.Io.KnownBytes.{Appends, Keeps}
 use Rattle.certificate.specs.Claim.{Claim}
 use Rattle.file_die.specs.Store.{Held}
 use Rattle.mount.specs.Mounted.{IsMounted}
-use Rattle.disk_commands.specs.declared.shapes.Shape.{Shape}
+use Rattle.disk_commands.specs.declared.shape_text.DiskText.{DiskText}
 use Rattle.disk_commands.specs.declared.words.InfoWords.{InfoWords}
 use Rattle.disk_commands.specs.declared.printed.Form.{Form}
 use Rattle.disk_commands.specs.declared.printed.Form.TheVariants.{Text, Json}
@@ -21,12 +21,12 @@ form_of json = if json then Json else Text
 
 -- WHAT IS TOLD OF THE DISK AT A PATH: what its shape and a certificate tell, which is one of a mount of the pages of an honest store
 pub record IsInfoAt {S : Type 0} (held : S → Held) (honest : S → Bool) (a : Answers) (path : List ℕ) (info : Info) : Type 0 where
-  pub shape : Shape
+  pub text : DiskText
   pub store : S
-  pub at : IsStoreAt held honest a path shape store
+  pub at : IsStoreAt held honest a path text store
   pub certificate : Claim
   pub mounted : honest store ≡ true → IsMounted (held store).geometry certificate.capacity (held store).pages certificate
-  pub is : info ≡ info_of shape certificate
+  pub is : info ≡ info_of text.shape certificate
 
 -- it was printed
 abbrev pub HasTold : {S : Type 0} → (S → Held) → (honest : S → Bool) → Answers → InfoWords → (before after : Option (List ℕ)) → Type 0

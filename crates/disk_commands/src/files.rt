@@ -1,4 +1,5 @@
-//! The files that disks are: of each the die, and the one beside it that tells its shape.
+//! The files that disks are: of each the die, the one beside it that tells its shape, and its mark.
+use crate::mark::FoundMark;
 use disk_server::Syncs;
 use file_die::Store;
 use page_layout::geometry::Geometry;
@@ -30,9 +31,9 @@ pub enum FileFault {
 
 /// The files that the words name, by their paths as written: those of the system, or some in memory. (This project's.)
 pub trait DiskFiles {
-    ghost use Rattle.std.specs.Prelude.{◌≡◌, true, List, Option, IfOk, IfErr};
+    ghost use Rattle.std.specs.Prelude.{◌≡◌, true, List, Option, option_map, IfOk, IfErr};
     ghost use Rattle.file_die.specs.Store.{blank};
-    ghost use Rattle.disk_commands.specs.Files.{Answers, FailsCopy, FailsNoMore, Kept, Opened, kept_after, with_opened};
+    ghost use Rattle.disk_commands.specs.Files.{Answers, FailsCopy, FailsNoMore, Kept, Opened, SaysNoMore, kept_after, with_mark, with_opened};
 
     /// The pages of a die in a file. While it is there no other program opens or makes the disk.
     type Store: Store + Drop;
@@ -46,10 +47,10 @@ pub trait DiskFiles {
     /// The disks that were put in their places so far, in order. Of the system's files it isn't known.
     ghost kept: { Self → Option (List Kept) };
 
-    /// The dies that were to be opened so far, in order. Of the system's files it isn't known.
+    /// The dies that were to be opened so far, and the marks that were to be written, in order. Of the system's files it isn't known.
     ghost opened: { Self → Option (List Opened) };
 
-    /// Whether something stands at the path of a disk, or beside it where its shape is told.
+    /// Whether something stands at the path of a disk, or beside it where its shape is told or its mark is kept.
     ///
     /// # Errors
     ///
@@ -66,6 +67,16 @@ pub trait DiskFiles {
     /// One that these files may answer of the path, where there is no such file or it could not be read. They are as they were.
     fn shape_text(&mut self, alloc: Global, path: &str) -> Result<Vec<u8>, FileFault>
         ensures bytes { IfOk result (λ text. (answers self.old).tells path.now text.items) }
+        ensures failed { IfErr result ((answers self.old).fails path.now) }
+        ensures same { self.new ≡ self.old };
+
+    /// The bytes of the file of the mark of the disk at a path, or the first 65,536 of them; none where there is no such file.
+    ///
+    /// # Errors
+    ///
+    /// One that these files may answer of the path, where it could not be read. They are as they were.
+    fn mark_text(&mut self, alloc: Global, path: &str) -> Result<Option<Vec<u8>>, FileFault>
+        ensures bytes { IfOk result (λ text. (answers self.old).marks path.now (option_map (λ v. v.items) text)) }
         ensures failed { IfErr result ((answers self.old).fails path.now) }
         ensures same { self.new ≡ self.old };
 
@@ -87,6 +98,26 @@ pub trait DiskFiles {
         ensures honest { IfOk result (λ opened. Self.Store.honest opened.0 ≡ (answers self.old).honest) }
         ensures failed { IfErr result ((answers self.old).fails path.now) }
         ensures opened { opened self.new ≡ with_opened (opened self.old) path.now writes }
+        ensures no_more { SaysNoMore (answers self.old) (answers self.new) }
+        ensures kept { kept self.new ≡ kept self.old };
+
+    /// Has the second handle of the die at a path keep its mark from now on, of which this was found: with each sync that is done it is written, after that sync. The first one is made to
+    /// last, in the slot that this was not found in, before it is answered; the later ones are written over the other slot, and nothing syncs them. A file of another length than a mark's is left
+    /// as it is, and no mark is kept. Where there is none, one is made, whose slots hold no mark.
+    ///
+    /// # Errors
+    ///
+    /// One that these files may answer of the path, where that file could not be opened or made. The disks in their places are as they were.
+    fn keep_mark(
+        &mut self,
+        alloc: Global,
+        path: &str,
+        syncs: Self::Syncs,
+        found: FoundMark,
+    ) -> Result<Self::Syncs, FileFault>
+        ensures marked { IfOk result (λ keeps. Self.Syncs.marked keeps ≡ found.mark) }
+        ensures failed { IfErr result ((answers self.old).fails path.now) }
+        ensures opened { opened self.new ≡ with_mark (opened self.old) path.now }
         ensures kept { kept self.new ≡ kept self.old };
 
     /// The store of a die to be made beside a path, of erased pages that last.

@@ -6,7 +6,7 @@ ghost use Rattle.disk_commands.specs.Opening.{IsUnopenedAt};
 ghost use Rattle.disk_commands.specs.Told.{HasTold, IsInfoAt, IsUnprinted, IsUntold, form_of};
 
 use crate::files::DiskFiles;
-use crate::opening::{die_bytes, shape_at, told_at};
+use crate::opening::open_at;
 use crate::printed::{Form, Info};
 use crate::text::DiskFault;
 use crate::words::InfoWords;
@@ -25,19 +25,15 @@ fn info_at<'a, F: DiskFiles>(
     ensures kept { F.kept files.new ≡ F.kept files.old }
     ensures opened { Opens path.now false (F.opened files.old) (F.opened files.new) }
 {
-    let shape = match shape_at(alloc, files, path) {
-        Ok(shape) => shape,
+    let (store, _syncs, told) = match open_at(alloc, files, path, false) {
+        Ok(opened) => opened,
         Err(fault) => return Err(fault),
     };
-    let (store, _syncs) = match files.open(alloc, path, &shape.geometry, false) {
-        Ok(opened) => opened,
-        Err(fault) => return Err(told_at(fault, path, die_bytes(&shape.geometry))),
-    };
-    let certificate = match mount_stopped(alloc, store, shape.cache) {
+    let certificate = match mount_stopped(alloc, store, told.shape.cache) {
         Ok(certificate) => certificate,
         Err(why) => return Err(DiskFault::Open(path, why)),
     };
-    match Info::new(alloc, &shape, &certificate) {
+    match Info::new(alloc, &told.shape, &certificate) {
         Ok(info) => Ok(info),
         Err(_) => Err(DiskFault::OutOfMemory),
     }

@@ -5,7 +5,7 @@
 //! - `parse`: what the words of the command line mean, as `clap` reads them. No file is looked at, and no number is read.
 //! - `Shape`, `read_shape`, `write_shape`: the geometry of a disk's die and the entries of its device's cache, and the file beside the disk that tells them (`DiskText`);
 //!   `size_from`, `geometry_from`: a size and a geometry as words write them; `shape_for`: the shape for a size.
-//! - `mark_bytes`, `mark_of`: the file beside a disk that tells up to which sequence all was synced.
+//! - `mark_of`, `slot_bytes`, `slot_at`: the file beside a disk that tells up to which sequence all was synced.
 //! - `shape_of`, `Info`, `DiskFault`: the shape that `create` is asked for, what `info` tells, why a command was not done.
 //!
 //! All of it is this project's.
@@ -30,7 +30,7 @@ mod words;
 
 pub use asked::shape_of;
 pub use files::{DiskFiles, FileFault};
-pub use mark::{NO_MARK, mark_bytes, mark_laws, mark_of};
+pub use mark::{FoundMark, MARK_BYTES, mark_laws, mark_of, none_found, slot_at, slot_bytes};
 pub use opening::die_bytes;
 pub use printed::{Form, Info};
 pub use program::run;

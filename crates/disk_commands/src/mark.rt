@@ -1,39 +1,139 @@
-//! The mark beside a disk: all pages of a lower sequence were synced.
+//! The mark beside a disk: up to which sequence all pages were synced.
 ghost use Rattle.std.specs.Prelude.{◌≡◌, option_map};
-ghost use Rattle.disk_commands.specs.Mark.{IsMarkRead, MarkLaw, TornMarkLaw, mark_text};
+ghost use Rattle.disk_commands.specs.Mark.{IsMarkRead, IsNumberRead, IsSlotRead, SlotLaw, TornFileLaw, TornSlotLaw, found_in, none_found, number_text, slot_at, slot_text};
 
-/// What counts where there is no mark, or a torn one: all pages but those of the last sequence of all are taken for synced. (This project's.)
-pub const NO_MARK: u64 = u64::MAX;
+use disk_server::Mark;
 
-/// The bytes of the file of a mark: its eight bytes, the least significant first, and the same once more. (The form is this project's.)
-pub fn mark_bytes(mark: u64) -> [u8; 16]
-    ensures { result ≡ mark_text mark }
+/// Bytes of the file of a mark: a slot, zeros, and a slot. (The form is this project's.)
+pub const MARK_BYTES: usize = 4128;
+
+// Where the second slot begins: no page that a system writes at once has a part of both.
+const SECOND_AT: usize = 4096;
+
+/// What was found of a mark: the later one of its two slots. (This project's.)
+#[derive(Clone, Copy, Debug, PartialEq, Eq)]
+pub struct FoundMark {
+    /// The mark. Where there is none, all pages count as synced, and none as flushed.
+    pub mark: Mark,
+    /// Whether it stands in the second slot, and not in the first.
+    pub in_second: bool,
+}
+
+/// Nothing was found. (This project's.)
+pub fn none_found() -> FoundMark
+    ensures { result ≡ none_found }
 {
-    let [a, b, c, d, e, f, g, h] = mark.to_le_bytes();
+    FoundMark {
+        mark: Mark {
+            synced: u64::MAX,
+            flushed: 0,
+        },
+        in_second: false,
+    }
+}
+
+/// The byte of the file at which a slot begins: the second, or the first. (The form is this project's.)
+pub fn slot_at(second: bool) -> u64
+    ensures { result ≡ slot_at second }
+{
+    if second { SECOND_AT as u64 } else { 0 }
+}
+
+// The bytes of a number: its eight bytes, the least significant first, and the same once more.
+fn number_bytes(number: u64) -> [u8; 16]
+    ensures { result ≡ number_text number }
+{
+    let [a, b, c, d, e, f, g, h] = number.to_le_bytes();
     [a, b, c, d, e, f, g, h, a, b, c, d, e, f, g, h]
 }
 
-/// The mark that the bytes of such a file tell: `NO_MARK` where they are those of no mark, as where one was torn, or there is no such file. (The form is this project's.)
-pub fn mark_of(bytes: Option<&[u8]>) -> u64
-    ensures { IsMarkRead (option_map (λ b. b.now) bytes.entry) result }
+/// The bytes of a slot: the two numbers of a mark, each as its eight bytes, the least significant first, and the same once more. (The form is this project's.)
+pub fn slot_bytes(mark: Mark) -> [u8; 32]
+    ensures { result ≡ slot_text mark }
 {
-    let Some(bytes) = bytes else {
-        return NO_MARK;
-    };
+    let [a, b, c, d, e, f, g, h, i, j, k, l, m, n, o, p] = number_bytes(mark.synced);
+    let [q, r, s, t, u, v, w, x, y, z, aa, bb, cc, dd, ee, ff] = number_bytes(mark.flushed);
+    [
+        a, b, c, d, e, f, g, h, i, j, k, l, m, n, o, p, q, r, s, t, u, v, w, x, y, z, aa, bb, cc,
+        dd, ee, ff,
+    ]
+}
+
+// The number of such bytes.
+fn number_of(bytes: &[u8]) -> Option<u64>
+    ensures { IsNumberRead bytes.now result }
+{
     if bytes.len() != 16 {
-        return NO_MARK;
+        return None;
     }
     let (first, second) = bytes.split_at(8);
     if first != second {
-        return NO_MARK;
+        return None;
     }
-    u64::from_le_bytes([
+    Some(u64::from_le_bytes([
         first[0], first[1], first[2], first[3], first[4], first[5], first[6], first[7],
-    ])
+    ]))
 }
 
-/// A mark is read as it was written. Where one is written over another one and is torn behind any of its bytes, one of the two is read, or none. (This project.)
+// The mark of a slot, where it holds one.
+fn slot_of(bytes: &[u8]) -> Option<Mark>
+    ensures { IsSlotRead bytes.now result }
+{
+    if bytes.len() < 16 {
+        return None;
+    }
+    let (synced, flushed) = bytes.split_at(16);
+    match (number_of(synced), number_of(flushed)) {
+        (Some(synced), Some(flushed)) => Some(Mark { synced, flushed }),
+        _ => None,
+    }
+}
+
+// The later one of two slots.
+fn found_in(first: Option<Mark>, second: Option<Mark>) -> FoundMark
+    ensures { result ≡ found_in first second }
+{
+    match (first, second) {
+        (None, None) => none_found(),
+        (Some(mark), None) => FoundMark {
+            mark,
+            in_second: false,
+        },
+        (None, Some(mark)) => FoundMark {
+            mark,
+            in_second: true,
+        },
+        (Some(early), Some(mark)) if early.synced < mark.synced => FoundMark {
+            mark,
+            in_second: true,
+        },
+        (Some(mark), Some(_)) => FoundMark {
+            mark,
+            in_second: false,
+        },
+    }
+}
+
+/// The mark that the bytes of its file tell: none where they are not as many as such a file has, or neither slot holds one, or there is no such file. A slot that was torn as it was
+/// written holds none. (The form is this project's.)
+pub fn mark_of(bytes: Option<&[u8]>) -> FoundMark
+    ensures { IsMarkRead (option_map (λ b. b.now) bytes.entry) result }
+{
+    let Some(bytes) = bytes else {
+        return none_found();
+    };
+    if bytes.len() != MARK_BYTES {
+        return none_found();
+    }
+    let (first, _) = bytes.split_at(32);
+    let (_, second) = bytes.split_at(SECOND_AT);
+    found_in(slot_of(first), slot_of(second))
+}
+
+/// A slot is read as it was written. Where one is written over another one and is torn behind any of its bytes, each number that is read of it is one of the two, or none is. So as
+/// long as one slot is left alone no mark is lost, and none is ahead of those that were written. (This project.)
 pub fn mark_laws()
-    ensures read { MarkLaw }
-    ensures torn { TornMarkLaw }
+    ensures slot { SlotLaw }
+    ensures torn { TornSlotLaw }
+    ensures file { TornFileLaw }
 {}

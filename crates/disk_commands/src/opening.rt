@@ -1,11 +1,13 @@
 //! The files that each command begins with.
-ghost use Rattle.std.specs.Prelude.{◌≡◌, ◌*◌, IfOk, IfErr, OnOk, false};
+ghost use Rattle.std.specs.Prelude.{◌≡◌, ◌*◌, IfOk, IfErr, OnOk, OnErr, false};
 ghost use Rattle.page_layout.specs.Geometry.{page_bytes, row_count};
-ghost use Rattle.disk_commands.specs.Opening.{IsNotFree, IsShapeAt, IsShapeFault, told_at, told_of_copy};
+ghost use Rattle.disk_commands.specs.ShapeText.{IsWithin};
+ghost use Rattle.disk_commands.specs.Files.{Opens, SaysNoMore, with_opened};
+ghost use Rattle.disk_commands.specs.Opening.{IsFaultAt, IsMarkAt, IsNotAt, IsNotFree, IsShapeFault, IsStoreAt, IsTextAt, told_at, told_of_copy};
 
 use crate::files::{DiskFiles, FileFault};
-use crate::shape_text::read_shape;
-use crate::shapes::Shape;
+use crate::mark::{FoundMark, mark_of, none_found};
+use crate::shape_text::{DiskText, read_shape};
 use crate::text::DiskFault;
 use page_layout::geometry::Geometry;
 use std::alloc::Global;
@@ -46,13 +48,13 @@ pub(crate) fn told_of_copy<'a>(
     }
 }
 
-/// The shape of the disk at a path.
-pub(crate) fn shape_at<'a, F: DiskFiles>(
+/// What the file beside the disk at a path tells.
+pub(crate) fn text_at<'a, F: DiskFiles>(
     alloc: Global,
     files: &mut F,
     path: &'a str,
-) -> Result<Shape, DiskFault<'a>>
-    ensures ok { IfOk result (IsShapeAt (F.answers files.old) path.now) }
+) -> Result<DiskText, DiskFault<'a>>
+    ensures ok { IfOk result (IsTextAt (F.answers files.old) path.now) }
     ensures fault { IfErr result (IsShapeFault (F.answers files.old) path.now) }
     ensures same { files.new ≡ files.old }
 {
@@ -61,8 +63,55 @@ pub(crate) fn shape_at<'a, F: DiskFiles>(
         Err(fault) => return Err(told_at(fault, path, 0)),
     };
     match read_shape(alloc, &text) {
-        Ok(told) => Ok(told.shape),
+        Ok(told) => Ok(told),
         Err(fault) => Err(DiskFault::Shape(path, fault)),
+    }
+}
+
+/// The die of the disk at a path and a second handle of its file, opened, and what the file beside it tells.
+pub(crate) fn open_at<'a, F: DiskFiles>(
+    alloc: Global,
+    files: &mut F,
+    path: &'a str,
+    writes: bool,
+) -> Result<(F::Store, F::Syncs, DiskText), DiskFault<'a>>
+    ensures ok { IfOk result (λ opened. IsStoreAt F.Store.held F.Store.honest (F.answers files.old) path.now opened.2 opened.0) }
+    ensures fault { IfErr result (IsNotAt (F.answers files.old) path.now) }
+    ensures opened { OnOk result (F.opened files.new ≡ with_opened (F.opened files.old) path.now writes) }
+    ensures unopened { OnErr result (Opens path.now writes (F.opened files.old) (F.opened files.new)) }
+    ensures within { IfOk result (λ opened. IsWithin opened.2.shape.cache) }
+    ensures no_more { OnOk result (SaysNoMore (F.answers files.old) (F.answers files.new)) }
+    ensures kept { F.kept files.new ≡ F.kept files.old }
+{
+    let told = match text_at(alloc, files, path) {
+        Ok(told) => told,
+        Err(fault) => return Err(fault),
+    };
+    let geometry = told.shape.geometry;
+    match files.open(alloc, path, &geometry, writes) {
+        Ok((store, syncs)) => Ok((store, syncs, told)),
+        Err(fault) => Err(told_at(fault, path, die_bytes(&geometry))),
+    }
+}
+
+/// What is found of the mark beside the disk at a path, where one counts.
+pub(crate) fn mark_at<'a, F: DiskFiles>(
+    alloc: Global,
+    files: &mut F,
+    path: &'a str,
+    marked: bool,
+) -> Result<FoundMark, DiskFault<'a>>
+    ensures ok { IfOk result (IsMarkAt (F.answers files.old) path.now marked) }
+    ensures fault { IfErr result (IsFaultAt (F.answers files.old) path.now 0) }
+    ensures same { files.new ≡ files.old }
+{
+    if !marked {
+        return Ok(none_found());
+    }
+    match files.mark_text(alloc, path) {
+        Ok(Some(text)) => Ok(mark_of(Some(&text))),
+        Ok(None) => Ok(mark_of(None)),
+        Err(fault) => Err(told_at(fault, path, 0)),
     }
 }
 

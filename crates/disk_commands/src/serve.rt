@@ -1,20 +1,27 @@
 //! The command `serve`: a disk is served to one client.
-ghost use Rattle.std.specs.Prelude.{◌≡◌, ◌⊎◌, OnOk, IfOk, IfErr, Err, length, not, true};
+ghost use Rattle.std.specs.Prelude.{◌≡◌, ◌⊎◌, OnOk, IfOk, IfErr, Err, length, not, true, false};
 ghost use Rattle.std.specs.Io.KnownBytes.{Keeps};
 ghost use Rattle.disk_commands.specs.declared.text.DiskFault.TheVariants as fault;
-ghost use Rattle.disk_commands.specs.Opening.{IsUnopenedAt};
-ghost use Rattle.disk_commands.specs.Files.{Opens};
-ghost use Rattle.disk_commands.specs.Serve.{HasNotServed, HasReadDisk, HasServedAt, HasServedDisk, HasServedOn, IsDiskAt, IsFlushed, end_of, offer_of, pace_of, terms_of};
+ghost use Rattle.disk_server.specs.Synced.{after_sync};
+ghost use Rattle.disk_server.specs.Disk.{contents_of, holds};
+ghost use Rattle.disk_server.specs.Opened.{flash_in, is_honest_in};
+ghost use Rattle.disk_commands.specs.Opening.{IsUnkeptAt, IsUnwrittenOf};
+ghost use Rattle.disk_commands.specs.ShapeText.{IsWithin};
+ghost use Rattle.disk_commands.specs.Files.{OpensMarked, with_mark};
+ghost use Rattle.disk_commands.specs.Serve.{HasNotServed, HasReadDisk, HasServedAt, HasServedDisk, HasServedOn, IsDiskAt, IsFlushed, IsUnservedBy, IsWrittenAt, end_of, offer_of, pace_of, terms_of};
 ghost use Rattle.disk_server.specs.Reading.{AllLasts};
 
 use crate::files::DiskFiles;
-use crate::opening::{die_bytes, shape_at, told_at};
+use crate::mark::FoundMark;
+use crate::opening::{mark_at, open_at, told_at};
+use crate::shape_text::DiskText;
 use crate::shapes::{MOST_ENTRIES, Shape};
 use crate::text::DiskFault;
 use crate::words::ServeWords;
+use disk_recovery::open_recovered;
 use disk_server::{
-    Offer, ReadOnlyDisk, SectorDisk, Sectors, StoreDisk, SyncPace, SyncedDisk, Syncs, open_stopped,
-    serve_reading, serve_synced,
+    Offer, ReadOnlyDisk, SectorDisk, Sectors, Sequenced, StoreDisk, SyncPace, SyncedDisk, Syncs,
+    open_stopped, serve_reading, serve_synced,
 };
 use file_die::SyncWhen;
 use nbd_stream::{Disk, End};
@@ -109,7 +116,7 @@ fn end_session<'a, S: Sectors, Y: Syncs>(
     path: &'a str,
     served: Result<End, ServeFault>,
 ) -> Result<(), DiskFault<'a>>
-    ensures { IsFlushed S.contents S.honest Y.synced path.entry disk.old served result }
+    ensures { IsFlushed S.contents S.honest S.next S.takes Y.synced Y.marked path.entry disk.old served result }
 {
     match disk.flush() {
         Ok(()) => end_of(served),
@@ -127,7 +134,7 @@ fn serve_writing<'a, S: Sectors + Drop, Y: Syncs + Drop, I: Read, O: Write>(
     out: &mut O,
 ) -> Result<(), DiskFault<'a>>
     requires { length buffer.old ≡ terms.offer.maximum }
-    ensures { HasServedDisk S.contents S.honest S.rests Y.synced terms path.entry opened.0 opened.1 (I.remaining input.old) (I.remaining input.new) (O.contents out.old) (O.contents out.new) result }
+    ensures { HasServedDisk S.contents S.honest S.rests S.next S.takes Y.synced Y.marked terms path.entry opened.0 opened.1 (I.remaining input.old) (I.remaining input.new) (O.contents out.old) (O.contents out.new) result }
 {
     let (disk, syncs) = opened;
     let mut disk = SyncedDisk::new(disk, syncs, terms.pace);
@@ -162,7 +169,7 @@ fn serve_client<'a, S: Sectors + Drop, Y: Syncs + Drop, I: Read, O: Write>(
     out: &mut O,
 ) -> Result<(), DiskFault<'a>>
     requires { S.honest opened.0 ≡ true → AllLasts (S.contents opened.0) }
-    ensures { HasServedOn S.contents S.honest S.rests S.reads Y.synced terms path.entry opened.0 opened.1 (I.remaining input.old) (I.remaining input.new) (O.contents out.old) (O.contents out.new) result
+    ensures { HasServedOn S.contents S.honest S.rests S.reads S.next S.takes Y.synced Y.marked terms path.entry opened.0 opened.1 (I.remaining input.old) (I.remaining input.new) (O.contents out.old) (O.contents out.new) result
         ⊎ ((result ≡ Err fault.OutOfMemory) × Keeps (O.contents out.old) (O.contents out.new)) }
 {
     let Ok(mut buffer) = vec![in alloc; 0u8; terms.offer.maximum as usize] else {
@@ -175,41 +182,103 @@ fn serve_client<'a, S: Sectors + Drop, Y: Syncs + Drop, I: Read, O: Write>(
     }
 }
 
-// The disk at a path, with a second handle of its file.
+// Keeps the mark of a disk from now on, of which this was found, and whose next page has this sequence. All that was programmed is synced, and the mark of that is made to last.
+fn keep_mark<'a, F: DiskFiles>(
+    alloc: Global,
+    files: &mut F,
+    path: &'a str,
+    syncs: F::Syncs,
+    found: FoundMark,
+    next: u64,
+) -> Result<F::Syncs, DiskFault<'a>>
+    ensures marked { IfOk result (λ keeps. F.Syncs.marked keeps ≡ after_sync next false found.mark) }
+    ensures fault { IfErr result (IsUnkeptAt F.Syncs.failed (F.answers files.old) path.now) }
+    ensures opened { F.opened files.new ≡ with_mark (F.opened files.old) path.now }
+    ensures kept { F.kept files.new ≡ F.kept files.old }
+{
+    let mut syncs = match files.keep_mark(alloc, path, syncs, found) {
+        Ok(syncs) => syncs,
+        Err(fault) => return Err(told_at(fault, path, 0)),
+    };
+    match syncs.sync(next, false) {
+        Ok(()) => Ok(syncs),
+        Err(_) => Err(DiskFault::Device(path)),
+    }
+}
+
+// The disk of a store that was opened at a path to be written: what a crash left torn is taken away, and the mark is kept from now on, where one counts.
+fn open_to_write<'a, F: DiskFiles>(
+    alloc: Global,
+    files: &mut F,
+    words: &ServeWords<'a>,
+    opened: (F::Store, F::Syncs),
+    told: DiskText,
+) -> Result<(StoreDisk<F::Store>, F::Syncs), DiskFault<'a>>
+    requires within { IsWithin told.shape.cache }
+    ensures honest { IfOk result (λ disk. F.Store.honest opened.0 ≡ true → holds (is_honest_in F.Store.honest) disk.0 ≡ true) }
+    ensures ok { IfOk result (λ disk. IsWrittenAt F.Syncs.marked (F.answers files.old) words.now.disk.now told (F.Store.honest opened.0 ≡ true) (F.Store.held opened.0)
+        (contents_of (flash_in F.Store.held) (is_honest_in F.Store.honest) disk.0).bytes disk.0.engine.next disk.1) }
+    ensures fault { IfErr result (IsUnwrittenOf F.Store.held F.Store.honest F.Store.failed F.Syncs.failed (F.answers files.old) words.now.disk.now told opened.0) }
+    ensures opened { (F.opened files.new ≡ F.opened files.old) ⊎ (F.opened files.new ≡ with_mark (F.opened files.old) words.now.disk.now) }
+    ensures kept { F.kept files.new ≡ F.kept files.old }
+{
+    let (store, syncs) = opened;
+    let found = match mark_at(alloc, files, words.disk, told.marked) {
+        Ok(found) => found,
+        Err(fault) => return Err(fault),
+    };
+    let when = sync_when(words.sync_always);
+    let disk = match open_recovered(alloc, store, told.shape.cache, found.mark.synced, when) {
+        Ok(disk) => disk,
+        Err(why) => return Err(DiskFault::Open(words.disk, why)),
+    };
+    if !told.marked {
+        return Ok((disk, syncs));
+    }
+    let next = disk.next_sequence();
+    match keep_mark(alloc, files, words.disk, syncs, found, next) {
+        Ok(syncs) => Ok((disk, syncs)),
+        Err(fault) => Err(fault),
+    }
+}
+
+// The disk at a path, with a second handle of its file, and what is told beside it.
 fn open_disk<'a, F: DiskFiles>(
     alloc: Global,
     files: &mut F,
     words: &ServeWords<'a>,
-) -> Result<(StoreDisk<F::Store>, F::Syncs, Shape), DiskFault<'a>>
-    ensures ok { IfOk result (λ opened. IsDiskAt F.Store.held F.Store.honest (F.answers files.old) words.now.disk.now opened.2 opened.0) }
-    ensures fault { IfErr result (IsUnopenedAt F.Store.held F.Store.honest F.Store.failed (F.answers files.old) words.now.disk.now) }
-    ensures opened { Opens words.now.disk.now (not words.now.read_only) (F.opened files.old) (F.opened files.new) }
+) -> Result<(StoreDisk<F::Store>, F::Syncs, DiskText), DiskFault<'a>>
+    ensures ok { IfOk result (λ opened. IsDiskAt F.Store.held F.Store.honest F.Syncs.marked (F.answers files.old) words.now.disk.now words.now.read_only opened.2 opened.0 opened.1) }
+    ensures fault { IfErr result (IsUnservedBy words.now.read_only F.Store.held F.Store.honest F.Store.failed F.Syncs.failed (F.answers files.old) words.now.disk.now) }
+    ensures opened { OpensMarked words.now.disk.now (not words.now.read_only) (F.opened files.old) (F.opened files.new) }
     ensures kept { F.kept files.new ≡ F.kept files.old }
 {
-    let shape = match shape_at(alloc, files, words.disk) {
-        Ok(shape) => shape,
+    let (store, syncs, told) = match open_at(alloc, files, words.disk, !words.read_only) {
+        Ok(opened) => opened,
         Err(fault) => return Err(fault),
     };
-    let writes = !words.read_only;
-    let (store, syncs) = match files.open(alloc, words.disk, &shape.geometry, writes) {
-        Ok(opened) => opened,
-        Err(fault) => return Err(told_at(fault, words.disk, die_bytes(&shape.geometry))),
-    };
-    let when = sync_when(words.sync_always);
-    match open_stopped(alloc, store, shape.cache, when, writes) {
-        Ok(disk) => Ok((disk, syncs, shape)),
-        Err(why) => Err(DiskFault::Open(words.disk, why)),
+    if words.read_only {
+        let when = sync_when(words.sync_always);
+        return match open_stopped(alloc, store, told.shape.cache, when, false) {
+            Ok(disk) => Ok((disk, syncs, told)),
+            Err(why) => Err(DiskFault::Open(words.disk, why)),
+        };
+    }
+    match open_to_write(alloc, files, words, (store, syncs), told) {
+        Ok((disk, syncs)) => Ok((disk, syncs, told)),
+        Err(fault) => Err(fault),
     }
 }
 
 /// The command `serve`: serves the disk DISK to the client at `input` and `out` until it goes, and then flushes it. With `--read-only` its file is opened for reading alone, nothing is
-/// asked of its die but reads, and a flush is answered as done. **Of files
-/// whose stores are honest the client's answers are those of the array of bytes that the die at DISK holds.**
+/// asked of its die but reads, and a flush is answered as done. Else what a crash left torn is taken away first, by the mark beside DISK; a disk whose file says that one counts has its mark kept
+/// from then on. **Of files whose stores are honest the client's answers are those of the array of bytes that the die at DISK holds, once that is taken away.**
 ///
 /// # Errors
 ///
 /// The first of this order: `Read`, `Shape` or `OutOfMemory` where the file beside DISK tells no shape; `Read`, `InUse`, `Length` or `OutOfMemory` where DISK was not opened;
-/// `Open` where it holds no disk; `OutOfMemory` for the memory of a request. After each of these nothing was sent. Then `Device` where the last flush failed;
+/// `Read` or `OutOfMemory` where its mark was not read; `Open` where it holds no disk; `Read`, `Write` or `OutOfMemory` where its mark cannot be kept, `Device` where the first sync failed;
+/// `OutOfMemory` for the memory of a request. After each of these nothing was sent. Then `Device` where the last flush failed;
 /// `BadFrame` where the client sent what is no request, `Stream` where `input` or `out` failed. (This project's.)
 pub(crate) fn serve_command<'a, F: DiskFiles, I: Read, O: Write>(
     alloc: Global,
@@ -218,15 +287,15 @@ pub(crate) fn serve_command<'a, F: DiskFiles, I: Read, O: Write>(
     input: &mut I,
     out: &mut O,
 ) -> Result<(), DiskFault<'a>>
-    ensures served { HasServedAt F.Store.held F.Store.honest F.Syncs.synced (F.answers files.old) words.entry (I.remaining input.old) (I.remaining input.new) (O.contents out.old) (O.contents out.new) result
-        ⊎ HasNotServed F.Store.held F.Store.honest F.Store.failed (F.answers files.old) words.entry (O.contents out.old) (O.contents out.new) result }
-    ensures opened { Opens words.entry.disk.now (not words.entry.read_only) (F.opened files.old) (F.opened files.new) }
+    ensures served { HasServedAt F.Store.held F.Store.honest F.Syncs.synced F.Syncs.marked (F.answers files.old) words.entry (I.remaining input.old) (I.remaining input.new) (O.contents out.old) (O.contents out.new) result
+        ⊎ HasNotServed F.Store.held F.Store.honest F.Store.failed F.Syncs.failed (F.answers files.old) words.entry (O.contents out.old) (O.contents out.new) result }
+    ensures opened { OpensMarked words.entry.disk.now (not words.entry.read_only) (F.opened files.old) (F.opened files.new) }
     ensures kept { F.kept files.new ≡ F.kept files.old }
 {
-    let (disk, syncs, shape) = match open_disk(alloc, files, &words) {
+    let (disk, syncs, told) = match open_disk(alloc, files, &words) {
         Ok(opened) => opened,
         Err(fault) => return Err(fault),
     };
-    let terms = terms_of(&shape, words.read_only);
+    let terms = terms_of(&told.shape, words.read_only);
     serve_client(alloc, (disk, syncs), terms, words.disk, input, out)
 }

@@ -1,5 +1,5 @@
 -- A store that was recovered, and the disk of it.
-use Rattle.std.proofs.Common.{◌≡◌, inl, inr, ℕ, Bool, true, List, Result, Ok, Err, IfOk, IfErr, sym, ◌∙◌, subst}
+use Rattle.std.proofs.Common.{◌≡◌, ◌⊎◌, inl, inr, ℕ, Bool, true, false, List, Result, Ok, Err, IfOk, IfErr, refl, sym, ◌∙◌, subst}
 use Rattle.page_layout.specs.declared.geometry.Geometry.{Geometry}
 use Rattle.page_layout.specs.Page.{Image}
 use Rattle.certificate.specs.Claim.{Claim}
@@ -10,7 +10,7 @@ use Rattle.crash_recovery.specs.Taken.{Recovers}
 use Rattle.disk_server.specs.declared.opened.OpenStoreFault.{OpenStoreFault}
 use Rattle.disk_server.specs.Opened.{HasCome, bytes_of}
 use Rattle.disk_server.specs.Stopped.{IsUnopenedLater}
-use Rattle.disk_recovery.specs.Recovered.{HoldsRecovered, IsRecovered, IsUnrecovered}
+use Rattle.disk_recovery.specs.Recovered.{HoldsRecovered, IsLeft, IsNotTaken, IsRecovered, IsUnopenedRecovered, IsUnrecovered}
 
 -- the certificate is that of the store which came back
 pub agrees_again : {S : Type 0} (held : S → Held) (honest : S → Bool) (store mounted : S) (c : Claim) → HasCome held honest store mounted → honest store ≡ true
@@ -19,22 +19,64 @@ agrees_again held honest store mounted c come h is =
     subst (λ (g : Geometry). Agrees g 65536 (held mounted).pages c) (sym (come.geometry h))
     (subst (λ (image : Image). Agrees (held store).geometry 65536 image c) (sym (come.pages h)) (is h).agrees)
 
-pub recovered_of : {S : Type 0} (held : S → Held) (honest : S → Bool) (store mounted given : S) (mark : ℕ) (changed : Bool) → HasCome held honest store mounted → honest store ≡ true
-    → Recovers mark (held mounted) (held given) changed → IsRecovered mark (held store) (held given)
-recovered_of held honest store mounted given mark changed come h recovers = record {
-  changed = changed;
-  mounted = held mounted;
-  geometry = come.geometry h;
-  pages = come.pages h;
-  recovers = recovers;
-}
+-- one that is mounted is recovered as it stands
+pub stands : (mark : ℕ) (s t : Held) (changed : Bool) → Recovers mark s t changed → IsRecovered mark s changed t
+stands mark s t changed recovers = record { mounted = s; geometry = refl; pages = refl; recovers = recovers }
 
-pub opened_bytes : {D E S : Type 0} (bytes : D → List ℕ) (held : S → Held) (H G : Type 0) (store given : S) (mark : ℕ) (result : Result D E) → (H → G) → (H → IsRecovered mark (held store) (held given))
+-- what is so of the store that came back is so of the one that was mounted
+pub recovered_of : {S : Type 0} (held : S → Held) (honest : S → Bool) (store mounted : S) (left : Held) (mark : ℕ) (changed : Bool) → HasCome held honest store mounted → honest store ≡ true
+    → IsRecovered mark (held mounted) changed left → IsRecovered mark (held store) changed left
+recovered_of held honest store mounted left mark changed come h is =
+    record { mounted = is.mounted; geometry = is.geometry ∙ come.geometry h; pages = is.pages ∙ come.pages h; recovers = is.recovers }
+
+pub left_of : {S : Type 0} (held : S → Held) (honest : S → Bool) (store mounted : S) (left : Held) (mark : ℕ) → HasCome held honest store mounted → honest store ≡ true
+    → IsLeft mark (held mounted) left → IsLeft mark (held store) left
+left_of held honest store mounted left mark come h (inl once) = inl (recovered_of held honest store mounted left mark false come h once)
+left_of held honest store mounted left mark come h (inr twice) = inr (twice.0, recovered_of held honest store mounted twice.0 mark true come h twice.1, twice.2)
+
+pub holds_of : {D E S : Type 0} (bytes : D → List ℕ) (held : S → Held) (honest : S → Bool) (store mounted : S) (mark : ℕ) (result : Result D E) → HasCome held honest store mounted
+    → IfOk result (λ d. honest mounted ≡ true → HoldsRecovered mark (held mounted) (bytes d)) → IfOk result (λ d. honest store ≡ true → HoldsRecovered mark (held store) (bytes d))
+holds_of bytes held honest store mounted mark (Ok d) come opened = λ h.
+    (let was = opened (come.as_honest ∙ h) in record { left = was.left; recovered = left_of held honest store mounted was.left mark come h was.recovered; bytes_are = was.bytes_are })
+holds_of bytes held honest store mounted mark (Err e) come opened = tt
+
+not_taken : {S : Type 0} (honest : S → Bool) (failed : S → ℕ) (store mounted : S) (fault : OpenStoreFault) → honest mounted ≡ honest store → IsNotTaken honest failed mounted fault → IsNotTaken honest failed store fault
+not_taken honest failed store mounted fault same (inl memory) = inl memory
+not_taken honest failed store mounted fault same (inr failing) = inr (failing.0, failing.1, failing.2 ∙ same, failing.3, failing.4)
+
+unrecovered : {S : Type 0} (held : S → Held) (honest : S → Bool) (failed : S → ℕ) (store mounted : S) (capacity mark : ℕ) (fault : OpenStoreFault) → HasCome held honest store mounted
+    → IsUnrecovered held honest failed mounted capacity mark fault → IsUnrecovered held honest failed store capacity mark fault
+unrecovered held honest failed store mounted capacity mark fault come (inl first) = inl (not_taken honest failed store mounted fault come.as_honest first)
+unrecovered held honest failed store mounted capacity mark fault come (inr (inl again)) =
+    inr (inl (again.0, again.1 ∙ come.as_honest, (λ h. recovered_of held honest store mounted (held again.0) mark true come h (again.2 (come.as_honest ∙ h))), again.3))
+unrecovered held honest failed store mounted capacity mark fault come (inr (inr later)) =
+    inr (inr (later.0, later.1 ∙ come.as_honest, (λ h. left_of held honest store mounted (held later.0) mark come h (later.2 (come.as_honest ∙ h))), later.3))
+
+pub fault_of : {S A : Type 0} (held : S → Held) (honest : S → Bool) (failed : S → ℕ) (store mounted : S) (capacity mark : ℕ) (result : Result A OpenStoreFault) → HasCome held honest store mounted
+    → IfErr result (IsUnrecovered held honest failed mounted capacity mark) → IfErr result (IsUnopenedRecovered held honest failed store capacity mark)
+fault_of held honest failed store mounted capacity mark (Ok d) come is = tt
+fault_of held honest failed store mounted capacity mark (Err fault) come is = inr (unrecovered held honest failed store mounted capacity mark fault come is)
+
+-- nothing was torn
+pub left_once : (mark : ℕ) (s t : Held) (changed : Bool) → changed ≡ false → IsRecovered mark s changed t → IsLeft mark s t
+left_once mark s t changed none is = inl (subst (λ b. IsRecovered mark s b t) none is)
+
+-- or it was recovered twice
+pub left_twice : (mark : ℕ) (s mid t : Held) (changed : Bool) → changed ≡ true → IsRecovered mark s changed mid → ((more : Bool) × IsRecovered mark mid more t) → IsLeft mark s t
+left_twice mark s mid t changed some is again = inr (mid, subst (λ b. IsRecovered mark s b mid) some is, again)
+
+-- ---- the disk of what was left
+
+pub opened_bytes : {D E S : Type 0} (bytes : D → List ℕ) (held : S → Held) (H G : Type 0) (store given : S) (mark : ℕ) (result : Result D E) → (H → G) → (H → IsLeft mark (held store) (held given))
     → IfOk result (λ d. G → bytes d ≡ bytes_of (held given)) → IfOk result (λ d. H → HoldsRecovered mark (held store) (bytes d))
 opened_bytes bytes held H G store given mark (Ok d) to recovered opened = λ h. record { left = held given; recovered = recovered h; bytes_are = opened (to h) }
 opened_bytes bytes held H G store given mark (Err e) to recovered opened = tt
 
+pub opened_honest : {D E : Type 0} (holds : D → Bool) (H G : Type 0) (result : Result D E) → (H → G) → IfOk result (λ d. G → holds d ≡ true) → IfOk result (λ d. H → holds d ≡ true)
+opened_honest holds H G (Ok d) to opened = λ h. opened (to h)
+opened_honest holds H G (Err e) to opened = tt
+
 pub opened_fault : {S A : Type 0} (held : S → Held) (honest : S → Bool) (failed : S → ℕ) (store given : S) (capacity mark : ℕ) (result : Result A OpenStoreFault) → honest given ≡ honest store
-    → (honest store ≡ true → IsRecovered mark (held store) (held given)) → IfErr result (IsUnopenedLater held honest failed given capacity) → IfErr result (IsUnrecovered held honest failed store capacity mark)
+    → (honest store ≡ true → IsLeft mark (held store) (held given)) → IfErr result (IsUnopenedLater held honest failed given capacity) → IfErr result (IsUnrecovered held honest failed store capacity mark)
 opened_fault held honest failed store given capacity mark (Ok d) same recovered later = tt
-opened_fault held honest failed store given capacity mark (Err why) same recovered later = inr (inr (inr (given, same, recovered, later)))
+opened_fault held honest failed store given capacity mark (Err why) same recovered later = inr (inr (given, same, recovered, later))

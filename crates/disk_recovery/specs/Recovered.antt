@@ -1,5 +1,5 @@
--- THE DISK OF A STORE THAT A CRASH MAY HAVE LEFT TORN.
-use Rattle.std.specs.Prelude.{◌≡◌, ◌⊎◌, ℕ, Bool, true, List}
+-- A STORE IS RECOVERED, AND ITS DISK IS OPENED.
+use Rattle.std.specs.Prelude.{◌≡◌, ◌⊎◌, ℕ, Bool, true, false, List}
 use Rattle.page_layout.specs.Counter.{HasRisen}
 use Rattle.file_die.specs.Store.{Held}
 use Rattle.crash_recovery.specs.Taken.{Recovers}
@@ -8,24 +8,39 @@ use Rattle.disk_server.specs.declared.opened.OpenStoreFault.TheVariants.{Device,
 use Rattle.disk_server.specs.Opened.{IsUnopened, bytes_of}
 use Rattle.disk_server.specs.Stopped.{IsUnopenedLater}
 
--- the store as it is opened: recovered, by whether anything was torn
-pub record IsRecovered (mark : ℕ) (s t : Held) : Type 0 where
-  pub changed : Bool
+-- a store that was mounted was recovered once, by whether anything was torn
+pub record IsRecovered (mark : ℕ) (s : Held) (changed : Bool) (t : Held) : Type 0 where
   pub mounted : Held
   pub geometry : mounted.geometry ≡ s.geometry
   pub pages : mounted.pages ≡ s.pages
   pub recovers : Recovers mark mounted t changed
 
+-- THE STORE AS IT IS OPENED: nothing was torn; or what was is taken away, and the store was mounted and recovered once more, since a block has no live page only once what was newer is cut
+abbrev pub IsLeft : (mark : ℕ) → (s t : Held) → Type 0
+IsLeft mark s t = IsRecovered mark s false t ⊎ ((mid : Held) × IsRecovered mark s true mid × ((changed : Bool) × IsRecovered mark mid changed t))
+
 -- THE BYTES OF THE DISK are those of the array of the pages that are left
 pub record HoldsRecovered (mark : ℕ) (s : Held) (bytes : List ℕ) : Type 0 where
   pub left : Held
-  pub recovered : IsRecovered mark s left
+  pub recovered : IsLeft mark s left
   pub bytes_are : bytes ≡ bytes_of left
 
--- why there is none: the store was not mounted for the largest cache; a growth was refused, or the store failed, and counted it, as it was recovered; or the store that was left was not opened
+-- it was not recovered once: a growth was refused, or the store failed, and counted it
+abbrev pub IsNotTaken : {S : Type 0} → (honest : S → Bool) → (failed : S → ℕ) → S → OpenStoreFault → Type 0
+IsNotTaken {S} honest failed store fault =
+    (fault ≡ OutOfMemory) ⊎ ((mounted given : S) × (honest mounted ≡ honest store) × (fault ≡ Device) × HasRisen (failed mounted) (failed given))
+
+-- nor once more: it was not mounted for the largest cache, or not recovered then
+abbrev pub IsNotAgain : {S : Type 0} → (S → Held) → (honest : S → Bool) → (failed : S → ℕ) → S → OpenStoreFault → Type 0
+IsNotAgain {S} held honest failed store fault = ((given : S) × IsUnopened held honest failed store 65536 given fault) ⊎ IsNotTaken honest failed store fault
+
+-- why there is no disk of a store that was mounted: it was not recovered; or what was torn was taken away, and it was not recovered once more; or what was left was not opened
 abbrev pub IsUnrecovered : {S : Type 0} → (S → Held) → (honest : S → Bool) → (failed : S → ℕ) → S → (capacity mark : ℕ) → OpenStoreFault → Type 0
 IsUnrecovered {S} held honest failed store capacity mark fault =
-    ((given : S) × IsUnopened held honest failed store 65536 given fault)
-    ⊎ ((fault ≡ OutOfMemory)
-    ⊎ (((mounted given : S) × (honest mounted ≡ honest store) × (fault ≡ Device) × HasRisen (failed mounted) (failed given))
-    ⊎ ((given : S) × (honest given ≡ honest store) × (honest store ≡ true → IsRecovered mark (held store) (held given)) × IsUnopenedLater held honest failed given capacity fault)))
+    IsNotTaken honest failed store fault
+    ⊎ (((given : S) × (honest given ≡ honest store) × (honest store ≡ true → IsRecovered mark (held store) true (held given)) × IsNotAgain held honest failed given fault)
+    ⊎ ((given : S) × (honest given ≡ honest store) × (honest store ≡ true → IsLeft mark (held store) (held given)) × IsUnopenedLater held honest failed given capacity fault))
+
+-- and of one that was to be mounted first, for the largest cache
+abbrev pub IsUnopenedRecovered : {S : Type 0} → (S → Held) → (honest : S → Bool) → (failed : S → ℕ) → S → (capacity mark : ℕ) → OpenStoreFault → Type 0
+IsUnopenedRecovered {S} held honest failed store capacity mark fault = ((given : S) × IsUnopened held honest failed store 65536 given fault) ⊎ IsUnrecovered held honest failed store capacity mark fault

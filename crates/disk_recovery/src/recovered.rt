@@ -1,9 +1,11 @@
 //! A store is recovered, and its disk is opened.
-ghost use Rattle.std.specs.Prelude.{◌≡◌, ◌≤◌, true, IfOk, IfErr};
+ghost use Rattle.std.specs.Prelude.{◌≡◌, ◌≤◌, Bool, true, IfOk, IfErr};
+ghost use Rattle.image_check.specs.Agrees.{Agrees};
 ghost use Rattle.disk_server.specs.Disk.{contents_of, holds};
 ghost use Rattle.disk_server.specs.Opened.{flash_in, is_honest_in};
-ghost use Rattle.disk_recovery.specs.Recovered.{HoldsRecovered, IsUnrecovered};
+ghost use Rattle.disk_recovery.specs.Recovered.{HoldsRecovered, IsNotAgain, IsNotTaken, IsRecovered, IsUnopenedRecovered, IsUnrecovered};
 
+use certificate::Certificate;
 use crash_recovery::{RecoveryFault, recover};
 use disk_server::{OpenStoreFault, StoreDisk, mount_store, open_stopped};
 use file_die::{Store, SyncWhen};
@@ -12,14 +14,83 @@ use std::alloc::Global;
 // The most entries of a cache: a store is mounted for so many, so that its stale sectors don't keep it from being recovered.
 const MOST_ENTRIES: u32 = 65_536;
 
-/// Opens the disk of a die that a crash may have left torn, to write to it: the store is mounted, what is torn is taken away as `crash_recovery::recover` does, and the disk is opened as
-/// `open_stopped` does. All pages of a lower sequence than `mark` were synced. **Of a store that is honest the disk holds its array, and its bytes are those of the array
-/// of the pages that are left.**
+// Takes away what a crash left torn in a store that was mounted with this certificate, once, and answers whether anything was.
+fn recover_once<S: Store>(
+    alloc: Global,
+    store: &mut S,
+    certificate: &Certificate,
+    mark: u64,
+) -> Result<bool, OpenStoreFault>
+    requires mounted { S.honest store.old ≡ true → Agrees (S.held store.old).geometry 65536 (S.held store.old).pages certificate.now }
+    ensures recovered { IfOk result (λ changed. S.honest store.old ≡ true → IsRecovered mark (S.held store.old) changed (S.held store.new)) }
+    ensures honest { S.honest store.new ≡ S.honest store.old }
+    ensures fault { IfErr result (IsNotTaken S.honest S.failed store.old) }
+{
+    match recover(alloc, store, certificate, mark) {
+        Ok(changed) => Ok(changed),
+        Err(RecoveryFault::OutOfMemory) => Err(OpenStoreFault::OutOfMemory),
+        Err(RecoveryFault::Store) => Err(OpenStoreFault::Device),
+    }
+}
+
+// The same of a store that is mounted for that, which comes back.
+fn recover_again<S: Store + Drop>(alloc: Global, store: S, mark: u64) -> Result<S, OpenStoreFault>
+    ensures recovered { IfOk result (λ left. S.honest store ≡ true → (changed : Bool) × IsRecovered mark (S.held store) changed (S.held left)) }
+    ensures honest { IfOk result (λ left. S.honest left ≡ S.honest store) }
+    ensures fault { IfErr result (IsNotAgain S.held S.honest S.failed store) }
+{
+    let (mut store, certificate) = match mount_store(alloc, store, MOST_ENTRIES) {
+        Ok(mounted) => mounted,
+        Err((_, fault)) => return Err(fault),
+    };
+    match recover_once(alloc, &mut store, &certificate, mark) {
+        Ok(_) => Ok(store),
+        Err(fault) => Err(fault),
+    }
+}
+
+/// Opens the disk of a die that a crash may have left torn, to write to it. The store was mounted with this certificate for the largest cache, of 65,536 entries. What is torn is taken away as
+/// `crash_recovery::recover` does; where anything was, the store is mounted and recovered once more; and the disk is opened as `open_stopped` does. All pages of a lower sequence than `mark`
+/// were synced. **Of a store that is honest the disk holds its array, and its bytes are those of the array of the pages that are left.**
 ///
 /// # Errors
 ///
-/// As `mount_store` for the largest cache; `OutOfMemory` where a growth was refused while the store was recovered, and `Device` where the store failed then; else as `open_stopped` over what was
-/// left. The store is let go. (This project's.)
+/// `OutOfMemory` where a growth was refused while the store was recovered, and `Device` where the store failed then; as `mount_store` for the largest cache where it was to be mounted once more; else as
+/// `open_stopped` over what was left. The store is let go. (This project's.)
+pub fn recover_mounted<S: Store + Drop>(
+    alloc: Global,
+    store: S,
+    certificate: &Certificate,
+    capacity: u32,
+    mark: u64,
+    sync_when: SyncWhen,
+) -> Result<StoreDisk<S>, OpenStoreFault>
+    requires mounted { S.honest store ≡ true → Agrees (S.held store).geometry 65536 (S.held store).pages certificate.now }
+    requires least { 1 ≤ capacity }
+    requires most { capacity ≤ 65536 }
+    ensures honest { IfOk result (λ d. S.honest store ≡ true → holds (is_honest_in S.honest) d ≡ true) }
+    ensures bytes { IfOk result (λ d. S.honest store ≡ true → HoldsRecovered mark (S.held store) (contents_of (flash_in S.held) (is_honest_in S.honest) d).bytes) }
+    ensures fault { IfErr result (IsUnrecovered S.held S.honest S.failed store capacity mark) }
+{
+    let mut store = store;
+    let changed = match recover_once(alloc, &mut store, certificate, mark) {
+        Ok(changed) => changed,
+        Err(fault) => return Err(fault),
+    };
+    if !changed {
+        return open_stopped(alloc, store, capacity, sync_when, true);
+    }
+    match recover_again(alloc, store, mark) {
+        Ok(left) => open_stopped(alloc, left, capacity, sync_when, true),
+        Err(fault) => Err(fault),
+    }
+}
+
+/// Opens the disk of a die that a crash may have left torn, to write to it: the store is mounted for the largest cache, and opened as `recover_mounted` does.
+///
+/// # Errors
+///
+/// As `mount_store` for the largest cache, and as `recover_mounted`. The store is let go. (This project's.)
 pub fn open_recovered<S: Store + Drop>(
     alloc: Global,
     store: S,
@@ -31,15 +102,11 @@ pub fn open_recovered<S: Store + Drop>(
     requires most { capacity ≤ 65536 }
     ensures honest { IfOk result (λ d. S.honest store ≡ true → holds (is_honest_in S.honest) d ≡ true) }
     ensures bytes { IfOk result (λ d. S.honest store ≡ true → HoldsRecovered mark (S.held store) (contents_of (flash_in S.held) (is_honest_in S.honest) d).bytes) }
-    ensures fault { IfErr result (IsUnrecovered S.held S.honest S.failed store capacity mark) }
+    ensures fault { IfErr result (IsUnopenedRecovered S.held S.honest S.failed store capacity mark) }
 {
-    let (mut store, certificate) = match mount_store(alloc, store, MOST_ENTRIES) {
+    let (store, certificate) = match mount_store(alloc, store, MOST_ENTRIES) {
         Ok(mounted) => mounted,
         Err((_, fault)) => return Err(fault),
     };
-    match recover(alloc, &mut store, &certificate, mark) {
-        Ok(_) => open_stopped(alloc, store, capacity, sync_when, true),
-        Err(RecoveryFault::OutOfMemory) => Err(OpenStoreFault::OutOfMemory),
-        Err(RecoveryFault::Store) => Err(OpenStoreFault::Device),
-    }
+    recover_mounted(alloc, store, &certificate, capacity, mark, sync_when)
 }

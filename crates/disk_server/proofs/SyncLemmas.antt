@@ -1,13 +1,15 @@
 -- What a change comes to in syncs.
-use Rattle.std.proofs.Common.{◌≡◌, ◌⊎◌, inl, inr, ℕ, ◌<◌, ◌≤◌, ◌+◌, ◌-◌, ◌*◌, ◌%◌, ◌^◌, false, refl, sym, subst, ap, ◌∙◌, arith}
+use Rattle.std.proofs.Common.{◌≡◌, ◌⊎◌, inl, inr, ℕ, Bool, ◌<◌, ◌≤◌, ◌+◌, ◌-◌, ◌*◌, ◌%◌, ◌^◌, true, false, Result, Ok, Err, OnOk, refl, sym, subst, ap, ◌∙◌, arith}
 use Rattle.std.specs.Prelude.{min, max}
 use Rattle.std.specs.Int.{div_ceil}
 use Rattle.std.proofs.Math.Nat.{add-mul, one-mul, mul-le-mul_right}
 use Rattle.std.proofs.lemmas.Bool.{cases_lt}
 use Rattle.std.proofs.lemmas.Grind.{div_ceil_times}
 use Rattle.page_layout.specs.Counter.{counted, HasRisen}
+use Rattle.nbd_stream.specs.declared.fault.DiskFault.{DiskFault}
 use Rattle.disk_server.specs.declared.synced.SyncedDisk.{SyncedDisk}
-use Rattle.disk_server.specs.Synced.{Counts, HasSynced, IsUnsynced, KeepsCount, NoneFailed, OneFailed, after_change, touched}
+use Rattle.disk_server.specs.declared.mark.Mark.{Mark}
+use Rattle.disk_server.specs.Synced.{Counts, HasSynced, IsUnsynced, KeepsCount, Marks, NoneFailed, OneFailed, after_change, touched}
 
 -- a count with one more
 rise : (a b c : ℕ) → a ≤ b → c ≡ counted b → HasRisen a c
@@ -55,6 +57,15 @@ pub then_failed : {D Y : Type 0} (failed : Y → ℕ) (old mid new : SyncedDisk 
     → NoneFailed failed old new ⊎ OneFailed failed old new
 then_failed failed old mid new before (inl more) = inl (none_then failed old mid new before more)
 then_failed failed old mid new before (inr one) = inr (record { kept = one.kept; rose = subst (λ n. HasRisen n (failed new.syncs)) before.count_same one.rose })
+
+-- ---- what is marked
+
+-- with a sync that was due: the sequence that is next on the disk
+pub marked_due : {D Y : Type 0} (marked : Y → Mark) (next : D → ℕ) (takes : D → Bool) (old new : SyncedDisk D Y) (result : Result (Unit {0}) DiskFault)
+    → Marks marked next takes true old result new → OnOk result ((marked new.syncs).synced ≡ next new.disk)
+marked_due marked next takes old new (Ok done) (inl is) = ap (λ (m : Mark). m.synced) is.1
+marked_due marked next takes old new (Ok done) (inr none) = absurd (none.0 (inl refl))
+marked_due marked next takes old new (Err e) is = tt
 
 -- ---- what counts as changed
 

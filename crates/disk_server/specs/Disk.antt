@@ -1,5 +1,5 @@
 -- A DEVICE AS SECTORS OF A DISK: whether it still holds its array, and the array as bytes.
-use Rattle.std.specs.Prelude.{◌≡◌, ◌≤◌, ◌&&◌, ℕ, Bool, true, List, replicate, Option, None, Result, Ok, Err, OnOk, OnErr, if◌then◌else◌}
+use Rattle.std.specs.Prelude.{◌≡◌, ◌≤◌, ◌-◌, ◌^◌, ◌==◌, ◌&&◌, not, ℕ, Bool, true, List, replicate, Option, None, Result, Ok, Err, OnOk, OnErr, if◌then◌else◌}
 use Rattle.std.specs.Option.{is_none}
 use Rattle.page_layout.specs.Array.{zeros}
 use Rattle.page_layout.specs.Flash.{Flash}
@@ -37,6 +37,10 @@ contents_of flash honest d = record { bytes = flat (sectors_of flash honest d); 
 pub record IsDisk {N : Type 0} (flash : N → Flash) (honest : N → Bool) (d : Device N) : Type 0 where
   pub device : IsDevice flash d
   pub well : holds honest d ≡ true → IsWell flash d
+
+-- IT STILL TAKES CHANGES: it is not read-only, and its last sequence is not given out
+abbrev pub takes_changes : {N : Type 0} → Device N → Bool
+takes_changes d = not d.read_only && not (d.engine.next == 2 ^ 64 - 1)
 
 -- ---- answers
 

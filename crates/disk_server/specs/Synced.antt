@@ -1,10 +1,11 @@
 -- WHETHER A SYNC WAS DONE, and what a client is told of a disk.
-use Rattle.std.specs.Prelude.{◌≡◌, ◌⊎◌, ◌<◌, ◌≤◌, ◌+◌, ◌-◌, ◌^◌, ◌%◌, ℕ, Bool, true, false, min, max, Result, Ok, Err}
+use Rattle.std.specs.Prelude.{◌≡◌, ◌⊎◌, ◌<◌, ◌≤◌, ◌+◌, ◌-◌, ◌^◌, ◌%◌, ◌&&◌, ℕ, Bool, true, false, min, max, Result, Ok, Err, if◌then◌else◌}
 use Rattle.std.specs.Int.{div_ceil}
 use Rattle.page_layout.specs.Counter.{counted, HasRisen}
 use Rattle.nbd_stream.specs.declared.export.Export.{Export}
 use Rattle.nbd_stream.specs.declared.fault.DiskFault.{DiskFault}
 use Rattle.nbd_stream.specs.declared.fault.DiskFault.TheVariants as fault
+use Rattle.disk_server.specs.declared.mark.Mark.{Mark}
 use Rattle.disk_server.specs.declared.served.Offer.{Offer}
 use Rattle.disk_server.specs.declared.synced.SyncedDisk.{SyncedDisk}
 
@@ -65,6 +66,20 @@ pub record EndsSynced {D Y : Type 0} (synced : Y → ℕ) (durable : Bool) (offs
   pub pace_same : new.pace ≡ old.pace
   pub all : durable ≡ true → new.unsynced ≡ 0
   pub one_more : durable ≡ true → HasRisen (synced old.syncs) (synced new.syncs)
+
+-- ---- the mark of what was synced
+
+-- THE MARK AFTER A SYNC, where this sequence was next, and by whether the disk had been flushed
+abbrev pub after_sync : (next : ℕ) → (flushed : Bool) → Mark → Mark
+after_sync next flushed m = record { synced = next; flushed = if flushed then next else m.flushed }
+
+-- WHAT IS MARKED WITH A SYNC THAT WAS DUE: all that the disk had programmed by then; and that it was flushed, where what was done is to last and the disk still takes changes. Without one,
+-- and after one that failed, the mark is the one before
+abbrev pub Marks : {D Y : Type 0} → (marked : Y → Mark) → (next : D → ℕ) → (takes : D → Bool) → (durable : Bool) → (old : SyncedDisk D Y) → Result (Unit {0}) DiskFault → (new : SyncedDisk D Y) → Type 0
+Marks marked next takes durable old (Ok done) new =
+    (IsDue durable old × (marked new.syncs ≡ after_sync (next new.disk) (durable && takes new.disk) (marked old.syncs)))
+    ⊎ ((¬ IsDue durable old) × (marked new.syncs ≡ marked old.syncs))
+Marks marked next takes durable old (Err e) new = marked new.syncs ≡ marked old.syncs
 
 -- ---- a sync that failed
 

@@ -81,7 +81,7 @@ impl<N: Nand> Sectors for DeviceDisk<N> {
     ghost use Rattle.promises.specs.Step.{Write, Trim};
     ghost use Rattle.ftl_device.specs.Calls.{stop_of};
     ghost use Rattle.nbd_stream.specs.Disk.{Idles, Performs, answer_from};
-    ghost use Rattle.disk_server.specs.Disk.{contents_of, holds, AsksChange, AsksFlush, AsksTurn, KeepsOnError};
+    ghost use Rattle.disk_server.specs.Disk.{contents_of, holds, takes_changes, AsksChange, AsksFlush, AsksTurn, KeepsOnError};
 
     ghost contents = { contents_of N.flash N.honest };
 
@@ -98,6 +98,11 @@ impl<N: Nand> Sectors for DeviceDisk<N> {
     ghost size = { λ d. d.engine.geometry.data_bytes };
 
     ghost count = { λ d. d.engine.geometry.sectors };
+
+    ghost next = { λ d. d.engine.next };
+
+    // It is not read-only, and its last sequence is not given out.
+    ghost takes = { takes_changes };
 
     /// Gives the bytes of a sector. Nothing is programmed or erased.
     ///
@@ -204,5 +209,13 @@ impl<N: Nand> Sectors for DeviceDisk<N> {
 
     fn sector_count(&self) -> u64 {
         u64::from(self.device.engine.geometry.sectors())
+    }
+
+    fn next_sequence(&self) -> u64 {
+        self.device.engine.next
+    }
+
+    fn takes_changes(&self) -> bool {
+        !self.device.read_only() && self.device.engine.next != u64::MAX
     }
 }

@@ -130,6 +130,10 @@ impl<S: Sectors, K: KeepsLost> Sectors for GuardedSectors<S, K> {
 
     ghost count = { λ d. S.count d.sectors };
 
+    ghost next = { λ d. S.next d.sectors };
+
+    ghost takes = { λ d. S.takes d.sectors };
+
     /// Gives the bytes of a sector, as the device does. **Of one that is on the list nothing is asked of the device.**
     ///
     /// # Errors
@@ -250,5 +254,13 @@ impl<S: Sectors, K: KeepsLost> Sectors for GuardedSectors<S, K> {
 
     fn sector_count(&self) -> u64 {
         self.sectors.sector_count()
+    }
+
+    fn next_sequence(&self) -> u64 {
+        self.sectors.next_sequence()
+    }
+
+    fn takes_changes(&self) -> bool {
+        self.sectors.takes_changes()
     }
 }

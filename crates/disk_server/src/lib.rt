@@ -8,7 +8,7 @@
 //! - `open_stopped`, `mount_stopped`: the same where the die may have been stopped, with more that is stale than the cache has room for.
 //! - `format_store`: a store of erased pages becomes a die with a device on it.
 //! - `SyncedDisk`: a disk whose flushes and durable changes end with a sync of what it is kept in, and of whose changes no more than a `SyncPace` says lack one;
-//!   `serve_synced` serves it. After a sync that failed it answers nothing but that it failed.
+//!   `serve_synced` serves it. After a sync that failed it answers nothing but that it failed. With each sync goes a `Mark`: up to which sequence all pages were synced.
 //! - `GuardedSectors`: a device of sectors of which some are lost, with a list of them that lasts: these are not read until they are written or trimmed.
 //! - `ReadOnlyDisk`: a disk that asks for reads of sectors alone; `serve_reading` serves it.
 //!
@@ -20,6 +20,7 @@ mod device_disk;
 mod format;
 mod guarded;
 pub mod laws;
+mod mark;
 mod mounted;
 mod open;
 mod opened;
@@ -35,6 +36,7 @@ mod synced;
 pub use device_disk::DeviceDisk;
 pub use format::{CreateFault, format_store};
 pub use guarded::{GuardedSectors, KeepsLost};
+pub use mark::Mark;
 pub use mounted::open_mounted;
 pub use open::{OpenFault, open_checked};
 pub use opened::{OpenStoreFault, StoreDisk, close_store, mount_store, open_store};
@@ -43,4 +45,4 @@ pub use sector_disk::SectorDisk;
 pub use sectors::Sectors;
 pub use served::{Offer, serve_reading, serve_synced};
 pub use stopped::{mount_stopped, open_stopped};
-pub use synced::{SyncPace, SyncedDisk, Syncs};
+pub use synced::{Sequenced, SyncPace, SyncedDisk, Syncs};

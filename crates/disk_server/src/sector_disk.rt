@@ -3,6 +3,7 @@ ghost use Rattle.std.specs.Prelude.{◌≡◌, length, MatchResult};
 
 use crate::ranges::{clear_range, read_range, write_range};
 use crate::sectors::Sectors;
+use crate::synced::Sequenced;
 use nbd_stream::{Disk, DiskFault, Task};
 use std::alloc::Global;
 use std::marker::Model;
@@ -103,5 +104,19 @@ impl<S: Sectors> Disk for SectorDisk<S> {
 
     fn rest(&mut self) -> Result<(), DiskFault> {
         self.sectors.rest()
+    }
+}
+
+impl<S: Sectors> Sequenced for SectorDisk<S> {
+    ghost next = { S.next };
+
+    ghost takes = { S.takes };
+
+    fn next_sequence(&self) -> u64 {
+        self.sectors.next_sequence()
+    }
+
+    fn takes_changes(&self) -> bool {
+        self.sectors.takes_changes()
     }
 }

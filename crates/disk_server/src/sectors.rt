@@ -31,6 +31,12 @@ pub trait Sectors {
     /// How many sectors it has.
     ghost count: { Self → ℕ };
 
+    /// The sequence of the page that is programmed next: each page that was programmed has a lower one.
+    ghost next: { Self → ℕ };
+
+    /// Whether it still takes changes. Where it takes none a flush may be answered as done, and what is known in memory alone is not written.
+    ghost takes: { Self → Bool };
+
     /// Gives the bytes of a sector.
     ///
     /// # Errors
@@ -99,4 +105,12 @@ pub trait Sectors {
         ensures count { result ≡ count self.now }
         ensures whole { length (contents self.now).bytes ≡ count self.now * size self.now }
         ensures bounded { count self.now * size self.now < 2 ^ 64 };
+
+    /// The sequence of the page that is programmed next.
+    fn next_sequence(&self) -> u64
+        ensures { result ≡ next self.now };
+
+    /// Whether it still takes changes.
+    fn takes_changes(&self) -> bool
+        ensures { result ≡ takes self.now };
 }

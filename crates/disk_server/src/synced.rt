@@ -2,12 +2,15 @@
 ghost use Rattle.std.specs.Prelude.{◌≡◌, ◌<◌, ◌^◌};
 ghost use Rattle.disk_server.specs.Synced.{touched};
 
+use crate::mark::Mark;
 use nbd_stream::{Disk, DiskFault, Task};
 
-/// A way to make last what was written, beside the disk that writes it, as a second handle of one file. (This project's.)
+/// A way to make last what was written, beside the disk that writes it, as a second handle of one file; and to keep a mark of what was. (This project's.)
 pub trait Syncs {
     ghost use Rattle.std.specs.Prelude.{◌≡◌, ℕ, IfErr, OnOk, OnErr};
     ghost use Rattle.page_layout.specs.Counter.{HasRisen, counted};
+    ghost use Rattle.disk_server.specs.declared.mark.Mark.{Mark};
+    ghost use Rattle.disk_server.specs.Synced.{after_sync};
 
     /// How many syncs were done.
     ghost synced: { Self → ℕ };
@@ -15,17 +18,41 @@ pub trait Syncs {
     /// How many failed. The count stays at 2^64 - 1 once there.
     ghost failed: { Self → ℕ };
 
-    /// Makes last what was written.
+    /// The mark as of the last sync that was done. It is kept where it may be, and that it is lasts no longer than the next sync: the mark that is found later is this one or an earlier one.
+    ghost marked: { Self → Mark };
+
+    /// Makes last what was written, and then keeps the mark of it: this sequence is the one of the next page, and the disk was flushed before or not.
     ///
     /// # Errors
     ///
-    /// `Failed` where that failed: not all of it may last.
-    fn sync(&mut self) -> Result<(), DiskFault>
+    /// `Failed` where that failed: not all of it may last. The mark is the one before.
+    fn sync(&mut self, next: u64, flushed: bool) -> Result<(), DiskFault>
         ensures done { OnOk result (synced self.new ≡ counted (synced self.old)) }
         ensures not_done { OnErr result (synced self.new ≡ synced self.old) }
+        ensures marked { OnOk result (marked self.new ≡ after_sync next flushed (marked self.old)) }
+        ensures not_marked { OnErr result (marked self.new ≡ marked self.old) }
         ensures settled { OnOk result (failed self.new ≡ failed self.old) }
         ensures rose { OnErr result (HasRisen (failed self.old) (failed self.new)) }
         ensures fault { IfErr result (λ e. e ≡ DiskFault.Failed) };
+}
+
+/// A disk over pages that have sequences. (This project's.)
+pub trait Sequenced {
+    ghost use Rattle.std.specs.Prelude.{◌≡◌, ℕ, Bool};
+
+    /// The sequence of the page that is programmed next: each page that was programmed has a lower one.
+    ghost next: { Self → ℕ };
+
+    /// Whether it still takes changes. Where it takes none a flush may be answered as done, and what is known in memory alone is not written.
+    ghost takes: { Self → Bool };
+
+    /// The sequence of the page that is programmed next.
+    fn next_sequence(&self) -> u64
+        ensures { result ≡ next self.now };
+
+    /// Whether it still takes changes.
+    fn takes_changes(&self) -> bool
+        ensures { result ≡ takes self.now };
 }
 
 // The most bytes that are cleared before it is looked whether a sync is due.
@@ -50,7 +77,7 @@ fn pieces_of(piece: u32, offset: u64, count: u64) -> u64
 }
 
 /// A disk, and a way to make last what it writes. Each flush and each durable change that is answered without an error ends with a sync, and so does each change that is
-/// answered without an error once too much was changed since the last one. A range is cleared a megabyte at a time, and it is looked after each whether a sync is due. What a
+/// answered without an error once too much was changed since the last one. With each sync goes the sequence of the disk's next page, as its mark. A range is cleared a megabyte at a time, and it is looked after each whether a sync is due. What a
 /// sync makes last no contract of the disk can say: that it is of what the disk is kept in, is for whoever joins the two.
 ///
 /// **After a sync that failed nothing is asked of the disk or of its syncs any more, and each call answers `Failed`**: what was written before it may be lost, and the next
@@ -64,10 +91,10 @@ pub struct SyncedDisk<D: Disk, Y: Syncs> {
     failed: bool,
 }
 
-impl<D: Disk, Y: Syncs> SyncedDisk<D, Y> {
+impl<D: Disk + Sequenced, Y: Syncs> SyncedDisk<D, Y> {
     ghost use Rattle.std.specs.Prelude.{◌≡◌, ◌≤◌, ◌<◌, ◌+◌, false, [], length, OnOk, OnErr, IfErr};
     ghost use Rattle.nbd_stream.specs.Disk.{Performs, answer_from};
-    ghost use Rattle.disk_server.specs.Synced.{Counts, HasSynced, IsUnsynced, KeepsCount, Notes, after_change};
+    ghost use Rattle.disk_server.specs.Synced.{Counts, HasSynced, IsUnsynced, KeepsCount, Marks, Notes, after_change};
 
     /// Joins a disk and its syncs. Nothing is asked of either, and nothing counts as changed.
     pub fn new(disk: D, syncs: Y, pace: SyncPace) -> SyncedDisk<D, Y>
@@ -108,12 +135,15 @@ impl<D: Disk, Y: Syncs> SyncedDisk<D, Y> {
         ensures synced { OnOk result (HasSynced Y.synced durable self.old self.new) }
         ensures unsynced { OnErr result (IsUnsynced Y.synced self.old self.new) }
         ensures notes { Notes Y.failed self.old result self.new }
+        ensures marks { Marks Y.marked D.next D.takes durable self.old result self.new }
         ensures fault { IfErr result (λ e. e ≡ DiskFault.Failed) }
     {
         if !durable && self.unsynced <= self.pace.most {
             return Ok(());
         }
-        match self.syncs.sync() {
+        let next = self.disk.next_sequence();
+        let flushed = durable && self.disk.takes_changes();
+        match self.syncs.sync(next, flushed) {
             Ok(()) => {
                 self.unsynced = 0;
                 Ok(())
@@ -132,6 +162,7 @@ impl<D: Disk, Y: Syncs> SyncedDisk<D, Y> {
         ensures synced { OnOk result (HasSynced Y.synced false (after_change offset count self.old) self.new) }
         ensures unsynced { OnErr result (IsUnsynced Y.synced (after_change offset count self.old) self.new) }
         ensures notes { Notes Y.failed self.old result self.new }
+        ensures marks { Marks Y.marked D.next D.takes false (after_change offset count self.old) result self.new }
     {
         self.count(offset, u64::from(count));
         match self.disk.clear(offset, count, false) {
@@ -163,10 +194,10 @@ impl<D: Disk, Y: Syncs> SyncedDisk<D, Y> {
     }
 }
 
-impl<D: Disk, Y: Syncs> Disk for SyncedDisk<D, Y> {
+impl<D: Disk + Sequenced, Y: Syncs> Disk for SyncedDisk<D, Y> {
     ghost use Rattle.std.specs.Prelude.{◌≡◌, ◌≤◌, ◌+◌, true, false, [], length, Err, OnErr, OnOk};
     ghost use Rattle.nbd_stream.specs.Disk.{Performs, answer_from};
-    ghost use Rattle.disk_server.specs.Synced.{EndsSynced, HasSynced, IsUnsynced, KeepsSyncs, Notes, RestsSynced, after_change};
+    ghost use Rattle.disk_server.specs.Synced.{EndsSynced, HasSynced, IsUnsynced, KeepsSyncs, Marks, Notes, RestsSynced, after_change};
 
     ghost contents = { λ s. D.contents s.disk };
 
@@ -197,6 +228,7 @@ impl<D: Disk, Y: Syncs> Disk for SyncedDisk<D, Y> {
         ensures synced { OnOk result (HasSynced Y.synced durable (after_change offset (length bytes.now) self.old) self.new) }
         ensures unsynced { OnErr result (self.old.failed ≡ false → IsUnsynced Y.synced (after_change offset (length bytes.now) self.old) self.new) }
         ensures notes { Notes Y.failed self.old result self.new }
+        ensures marks { Marks Y.marked D.next D.takes durable (after_change offset (length bytes.now) self.old) result self.new }
         ensures over { self.old.failed ≡ true → (result ≡ Err DiskFault.Failed) × (self.new ≡ self.old) }
     {
         if self.failed {
@@ -214,6 +246,7 @@ impl<D: Disk, Y: Syncs> Disk for SyncedDisk<D, Y> {
         ensures performs { Performs (λ s. D.contents s.disk) (λ s. D.honest s.disk) (λ _. false) (Task.Trim offset count durable) [] self.old (answer_from result []) self.new }
         ensures synced { OnOk result (EndsSynced Y.synced durable offset count self.old self.new) }
         ensures notes { Notes Y.failed self.old result self.new }
+        ensures marked { OnOk result (durable ≡ true → (Y.marked self.new.syncs).synced ≡ D.next self.new.disk) }
         ensures over { self.old.failed ≡ true → (result ≡ Err DiskFault.Failed) × (self.new ≡ self.old) }
     {
         if self.failed {
@@ -231,6 +264,7 @@ impl<D: Disk, Y: Syncs> Disk for SyncedDisk<D, Y> {
         ensures synced { OnOk result (HasSynced Y.synced true self.old self.new) }
         ensures unsynced { OnErr result (IsUnsynced Y.synced self.old self.new) }
         ensures notes { Notes Y.failed self.old result self.new }
+        ensures marks { Marks Y.marked D.next D.takes true self.old result self.new }
         ensures over { self.old.failed ≡ true → (result ≡ Err DiskFault.Failed) × (self.new ≡ self.old) }
     {
         if self.failed {

@@ -3,7 +3,7 @@
 //! - `nbd`: the NBD protocol over byte lists, worked out by hand from the protocol's document.
 //! - `device`: the block device as a disk of bytes, over dies in memory.
 //! - `parts`: parts and their names, in a folder in memory.
-//! - `words`: the shape of a disk, the file that tells it, and the words of `nanddisk`.
+//! - `words`: the shape of a disk, the file that tells it, its mark, and the words of `nanddisk`.
 mod commands;
 mod device;
 mod die;

@@ -5,6 +5,7 @@ ghost use Rattle.std.specs.Prelude.{◌≡◌};
 
 mod die;
 mod fault;
+mod mark;
 mod part;
 mod syncs;
 mod system;

@@ -2,16 +2,17 @@
 ghost use Rattle.std.specs.Prelude.{◌≡◌, IfOk, Ok};
 
 use crate::die::{open_die, second_handle, store_over};
-use crate::fault::{unread, unwritten};
+use crate::fault::{unmade, unread, unseen, unwritten};
+use crate::mark::{MarkFile, put_blank};
 use crate::part::{copy_file, erase_all, is_taken, new_die, open_dump, publish};
 use crate::syncs::FileSyncs;
-use disk_commands::{DiskFiles, FileFault, die_bytes};
+use disk_commands::{DiskFiles, FileFault, FoundMark, MARK_BYTES, die_bytes};
 use file_die::FileStore;
 use page_layout::geometry::Geometry;
-use part_files::{Pair, SystemNames, discard, part_name};
+use part_files::{Names, Pair, SystemNames, discard, new_part, part_name, publish_new};
 use std::alloc::{AllocError, Global};
-use std::fs::{self, File};
-use std::io::{self, Read};
+use std::fs::{self, File, OpenOptions};
+use std::io::{self, ErrorKind, Read};
 use std::rt::Files;
 
 // The word of this program in the names of its parts.
@@ -20,7 +21,7 @@ const PROGRAM: &str = "nanddisk";
 // The most bytes of the file that tells a shape.
 const MOST_BYTES: u64 = 65_536;
 
-/// The system's files, by their paths. A disk is made as its part beside PATH, and its shape is told in PATH.json.
+/// The system's files, by their paths. A disk is made as its part beside PATH, its shape is told in PATH.json, and its mark is kept in PATH.mark.
 #[derive(Drop)]
 pub struct SystemFiles<'a, R> {
     rt: &'a R,
@@ -34,6 +35,8 @@ struct PathNames {
     part: String,
     beside: String,
     beside_part: String,
+    mark: String,
+    mark_part: String,
 }
 
 // The same, together with the path.
@@ -58,10 +61,14 @@ fn try_path_names(alloc: Global, path: &str) -> Result<PathNames, AllocError> {
     let part = part_name(alloc, path, PROGRAM)?;
     let beside = format!(in alloc; "{path}.json")?;
     let beside_part = part_name(alloc, beside.as_str(), PROGRAM)?;
+    let mark = format!(in alloc; "{path}.mark")?;
+    let mark_part = part_name(alloc, mark.as_str(), PROGRAM)?;
     Ok(PathNames {
         part,
         beside,
         beside_part,
+        mark,
+        mark_part,
     })
 }
 
@@ -100,6 +107,64 @@ fn read_small<R: Files>(rt: &R, alloc: Global, name: &str) -> io::Result<Vec<u8>
         .take(MOST_BYTES)
         .read_to_end(&mut bytes)?;
     Ok(bytes)
+}
+
+// The bytes of a small file, or none where there is no such file.
+fn read_if_there<R: Files>(
+    rt: &R,
+    alloc: Global,
+    name: &str,
+) -> Result<Option<Vec<u8>>, FileFault> {
+    match read_small(rt, alloc, name) {
+        Ok(bytes) => Ok(Some(bytes)),
+        Err(error) if error.kind() == ErrorKind::NotFound => Ok(None),
+        Err(error) => Err(unread(error)),
+    }
+}
+
+// Makes the file of a mark, which holds none yet, beside its place, and gives it its name.
+fn make_mark<R: Files<File = File>>(rt: &R, names: &PathNames) -> Result<(), FileFault> {
+    let part = names.mark_part.as_str();
+    let mut file = match new_part(&mut SystemNames::new(rt), part) {
+        Ok(file) => file,
+        Err(fault) => return Err(unmade(fault)),
+    };
+    let done = match put_blank(&mut file) {
+        Ok(()) => match publish_new(&mut SystemNames::new(rt), part, names.mark.as_str()) {
+            Ok(()) => Ok(()),
+            Err(fault) => Err(unmade(fault)),
+        },
+        Err(error) => Err(unwritten(error)),
+    };
+    if done.is_err() {
+        discard(&mut SystemNames::new(rt), part);
+    }
+    done
+}
+
+// The file of a mark, to be written; none where it has another length than such a file.
+fn open_mark<R: Files<File = File>>(rt: &R, names: &PathNames) -> Result<Option<File>, FileFault> {
+    match SystemNames::new(rt).is_there(names.mark.as_str()) {
+        Ok(true) => {}
+        Ok(false) => match make_mark(rt, names) {
+            Ok(()) => {}
+            Err(fault) => return Err(fault),
+        },
+        Err(fault) => return Err(unseen(fault)),
+    }
+    let file = match OpenOptions::new()
+        .read(true)
+        .write(true)
+        .open(rt, names.mark.as_str())
+    {
+        Ok(file) => file,
+        Err(error) => return Err(unwritten(error)),
+    };
+    match file.metadata() {
+        Ok(metadata) if metadata.len() == MARK_BYTES as u64 => Ok(Some(file)),
+        Ok(_) => Ok(None),
+        Err(error) => Err(unread(error)),
+    }
 }
 
 // A store of erased pages over an empty file.
@@ -144,9 +209,16 @@ impl<R: Files<File = File> + AllocGlobal> DiskFiles for SystemFiles<'_, R> {
     ghost opened = { λ _. None };
 
     fn has(&mut self, path: &str) -> Result<bool, FileFault> {
-        match path_names(self.rt.alloc(), path) {
-            Ok(names) => is_taken(self.rt, &pair_of(path, &names)),
-            Err(fault) => Err(fault),
+        let names = match path_names(self.rt.alloc(), path) {
+            Ok(names) => names,
+            Err(fault) => return Err(fault),
+        };
+        match is_taken(self.rt, &pair_of(path, &names)) {
+            Ok(false) => match SystemNames::new(self.rt).is_there(names.mark.as_str()) {
+                Ok(there) => Ok(there),
+                Err(fault) => Err(unseen(fault)),
+            },
+            taken => taken,
         }
     }
 
@@ -158,6 +230,13 @@ impl<R: Files<File = File> + AllocGlobal> DiskFiles for SystemFiles<'_, R> {
         match read_small(self.rt, alloc, names.beside.as_str()) {
             Ok(bytes) => Ok(bytes),
             Err(error) => Err(unread(error)),
+        }
+    }
+
+    fn mark_text(&mut self, alloc: Global, path: &str) -> Result<Option<Vec<u8>>, FileFault> {
+        match path_names(alloc, path) {
+            Ok(names) => read_if_there(self.rt, alloc, names.mark.as_str()),
+            Err(fault) => Err(fault),
         }
     }
 
@@ -180,6 +259,25 @@ impl<R: Files<File = File> + AllocGlobal> DiskFiles for SystemFiles<'_, R> {
             Ok(store) => Ok((store, FileSyncs::new(file))),
             Err(fault) => Err(fault),
         }
+    }
+
+    fn keep_mark(
+        &mut self,
+        alloc: Global,
+        path: &str,
+        syncs: FileSyncs,
+        found: FoundMark,
+    ) -> Result<FileSyncs, FileFault> {
+        let names = match path_names(alloc, path) {
+            Ok(names) => names,
+            Err(fault) => return Err(fault),
+        };
+        let kept = match open_mark(self.rt, &names) {
+            Ok(Some(file)) => Some(MarkFile::new(file, found.in_second)),
+            Ok(None) => None,
+            Err(fault) => return Err(fault),
+        };
+        Ok(syncs.with_mark(kept, found.mark))
     }
 
     fn create(

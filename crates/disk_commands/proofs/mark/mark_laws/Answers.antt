@@ -1,5 +1,11 @@
-use Rattle.disk_commands.proofs.MarkLemmas.{torn_mark}
+use Rattle.disk_commands.proofs.MarkLemmas.{slot_back, torn_files, torn_slots}
 use Rattle.disk_commands.proofs.mark.mark_laws.Goals as goal
 
+pub returns-clause-slot : goal.returns-clause-slot
+returns-clause-slot c = slot_back
+
 pub returns-clause-torn : goal.returns-clause-torn
-returns-clause-torn c = torn_mark
+returns-clause-torn c = torn_slots
+
+pub returns-clause-file : goal.returns-clause-file
+returns-clause-file c = torn_files

@@ -8,5 +8,5 @@ returns-in-Err-clause-served g c = inr (record { told = c.in-Err.fault; is = ref
 
 pub returns-clause-served : goal.returns-clause-served
 returns-clause-served g c =
-    served_at g.F.Store.Store.held g.F.Store.Store.honest g.F.Store.Store.failed g.F.Syncs.Syncs.synced (g.F.DiskFiles.answers c.args.files.now) c.args.words c.in-Ok.opened.2 c.in-Ok.opened.0 c.in-Ok.opened.1
+    served_at g.F.Store.Store.held g.F.Store.Store.honest g.F.Store.Store.failed g.F.Syncs.Syncs.synced g.F.Syncs.Syncs.failed g.F.Syncs.Syncs.marked (g.F.DiskFiles.answers c.args.files.now) c.args.words c.in-Ok.opened.2 c.in-Ok.opened.0 c.in-Ok.opened.1
     c.terms_of-terms.result _ _ _ _ c.serve_client.result c.in-Ok.ensures.ok c.terms_of-terms.ensures c.serve_client.ensures

@@ -3,8 +3,8 @@ ghost use Rattle.std.specs.Prelude.{◌≡◌, ◌<◌, IfOk};
 ghost use Rattle.page_layout.specs.Geometry.{row_count};
 ghost use Rattle.page_layout.specs.Raw.{raw_image};
 
-use disk_commands::{DiskFiles, FileFault, die_bytes};
-use disk_server::Syncs;
+use disk_commands::{DiskFiles, FileFault, FoundMark, die_bytes, none_found};
+use disk_server::{Mark, Syncs};
 use file_die::{MemoryStore, Store};
 use nbd_stream::DiskFault;
 use page_layout::geometry::Geometry;
@@ -23,6 +23,10 @@ pub enum Trouble {
     Full,
     /// No die can be put in its place.
     Unkept,
+    /// No mark can be read.
+    Unread,
+    /// No mark can be kept.
+    Unmarked,
 }
 
 // A disk that was put in its place.
@@ -45,6 +49,7 @@ pub struct MemoryFiles {
 #[derive(Drop)]
 pub struct MemorySyncs {
     done: u64,
+    mark: Mark,
 }
 
 impl Syncs for MemorySyncs {
@@ -52,8 +57,11 @@ impl Syncs for MemorySyncs {
 
     ghost failed = { λ _. 0 };
 
-    fn sync(&mut self) -> Result<(), DiskFault> {
+    ghost marked = { λ s. s.mark };
+
+    fn sync(&mut self, next: u64, flushed: bool) -> Result<(), DiskFault> {
         self.done = self.done.saturating_add(1);
+        self.mark = self.mark.after_sync(next, flushed);
         Ok(())
     }
 }
@@ -161,6 +169,13 @@ impl DiskFiles for MemoryFiles {
         }
     }
 
+    fn mark_text(&mut self, _alloc: Global, _path: &str) -> Result<Option<Vec<u8>>, FileFault> {
+        if matches!(self.trouble, Trouble::Unread) {
+            return Err(FileFault::Read);
+        }
+        Ok(None)
+    }
+
     fn open(
         &mut self,
         alloc: Global,
@@ -179,9 +194,31 @@ impl DiskFiles for MemoryFiles {
             Err(fault) => return Err(fault),
         };
         match store_of(geometry, pages) {
-            Ok(store) => Ok((store, MemorySyncs { done: 0 })),
+            Ok(store) => Ok((
+                store,
+                MemorySyncs {
+                    done: 0,
+                    mark: none_found().mark,
+                },
+            )),
             Err(fault) => Err(fault),
         }
+    }
+
+    fn keep_mark(
+        &mut self,
+        _alloc: Global,
+        _path: &str,
+        syncs: MemorySyncs,
+        found: FoundMark,
+    ) -> Result<MemorySyncs, FileFault> {
+        if matches!(self.trouble, Trouble::Unmarked) {
+            return Err(FileFault::Write);
+        }
+        Ok(MemorySyncs {
+            done: syncs.done,
+            mark: found.mark,
+        })
     }
 
     fn create(

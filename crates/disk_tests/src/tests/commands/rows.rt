@@ -101,6 +101,23 @@ pub const TROUBLED: &[Step] = &[
     Run("nanddisk info d", 3, "fault read d\n"),
     Trouble(trouble::Calm),
     Run("nanddisk create --geometry 64,32,8,32,32 d", 0, ""),
+    // a mark counts for a disk that is opened to write, and for no other
+    Trouble(trouble::Unread),
+    Run("nanddisk serve d", 3, "fault read d\n"),
+    Serve(
+        "nanddisk serve --read-only d",
+        b"",
+        0,
+        b"NBDMAGICIHAVEOPT\x00\x03",
+    ),
+    Trouble(trouble::Unmarked),
+    Run("nanddisk serve d", 3, "fault write d\n"),
+    Serve(
+        "nanddisk serve --read-only d",
+        b"",
+        0,
+        b"NBDMAGICIHAVEOPT\x00\x03",
+    ),
     Trouble(trouble::Busy),
     Run("nanddisk info d", 1, "refused: d is in use\n"),
 ];

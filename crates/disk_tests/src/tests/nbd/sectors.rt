@@ -13,7 +13,7 @@ const SECTOR: usize = 4;
 
 // A device that holds what it is given, and fails its call of this number, from 1; 0 for none. A sector that is to be written then is as it was.
 #[derive(Drop)]
-struct CachedSectors {
+pub struct CachedSectors {
     bytes: [u8; SIZE],
     kept: [u8; SIZE],
     failing: usize,
@@ -22,6 +22,19 @@ struct CachedSectors {
 }
 
 impl CachedSectors {
+    // Zeros, and no call fails.
+    pub fn zeros() -> CachedSectors
+        ensures { length result.bytes ≡ 16 }
+    {
+        CachedSectors {
+            bytes: [0; SIZE],
+            kept: [0; SIZE],
+            failing: 0,
+            fault: DiskFault::Failed,
+            asked: 0,
+        }
+    }
+
     // Counts a call, and tells whether it fails.
     fn fails(&mut self) -> bool
         ensures bytes { self.new.bytes ≡ self.old.bytes }
@@ -48,6 +61,11 @@ impl Sectors for CachedSectors {
     ghost size = { λ device. 4 };
 
     ghost count = { λ device. 4 };
+
+    // How often it was asked stands for a sequence.
+    ghost next = { λ device. device.asked };
+
+    ghost takes = { λ device. true };
 
     fn read_sector(&mut self, sector: u64, buffer: &mut [u8]) -> Result<(), DiskFault> {
         if self.fails() {
@@ -99,6 +117,14 @@ impl Sectors for CachedSectors {
 
     fn sector_count(&self) -> u64 {
         4
+    }
+
+    fn next_sequence(&self) -> u64 {
+        self.asked as u64
+    }
+
+    fn takes_changes(&self) -> bool {
+        true
     }
 }
 

@@ -1,9 +1,8 @@
-// When a disk is synced beside its flushes: pieces of four bytes, of which two may be changed between two syncs.
-ghost use Rattle.std.specs.Prelude.{◌≡◌, length, IfOk};
-
+// When a disk is synced beside its flushes: pieces of four bytes, of which two may be changed between two syncs. The calls of its device stand for sequences.
+use crate::tests::nbd::sectors::CachedSectors;
 use crate::tests::steps::{Step, does_all};
-use disk_server::{SyncPace, SyncedDisk, Syncs};
-use nbd_stream::{DiskFault, MemoryDisk};
+use disk_server::{Mark, SectorDisk, SyncPace, SyncedDisk, Syncs};
+use nbd_stream::DiskFault;
 use std::alloc::Global;
 use std::cell::Cell;
 use std::test::Fail;
@@ -16,6 +15,8 @@ const PACE: SyncPace = SyncPace { piece: 4, most: 2 };
 #[derive(Drop)]
 struct CountingSyncs<'a> {
     asked: &'a Cell<u64>,
+    told: &'a Cell<Mark>,
+    mark: Mark,
     done: u64,
     failed: u64,
     failing: u64,
@@ -26,7 +27,9 @@ impl Syncs for CountingSyncs<'_> {
 
     ghost failed = { λ s. s.failed };
 
-    fn sync(&mut self) -> Result<(), DiskFault> {
+    ghost marked = { λ s. s.mark };
+
+    fn sync(&mut self, next: u64, flushed: bool) -> Result<(), DiskFault> {
         let asked = self.asked.get().saturating_add(1);
         self.asked.set(asked);
         if asked == self.failing {
@@ -34,6 +37,8 @@ impl Syncs for CountingSyncs<'_> {
             return Err(DiskFault::Failed);
         }
         self.done = self.done.saturating_add(1);
+        self.mark = self.mark.after_sync(next, flushed);
+        self.told.set(self.mark);
         Ok(())
     }
 }
@@ -44,6 +49,8 @@ struct Row {
     failing: u64,
     steps: &'static [Step],
     syncs: u64,
+    // the two numbers of the last mark
+    mark: (u64, u64),
 }
 
 const ROWS: &[Row] = &[
@@ -57,6 +64,7 @@ const ROWS: &[Row] = &[
             Step::Read(0, b"abcd\0XY\0", Ok(())),
         ],
         syncs: 0,
+        mark: (0, 0),
     },
     Row {
         name: "a third one, which a range touches with a byte",
@@ -67,6 +75,7 @@ const ROWS: &[Row] = &[
             Step::Clear(4, 4, false, Ok(())),
         ],
         syncs: 1,
+        mark: (5, 0),
     },
     Row {
         name: "three pieces that are cleared, and a fourth",
@@ -76,6 +85,7 @@ const ROWS: &[Row] = &[
             Step::Clear(12, 4, false, Ok(())),
         ],
         syncs: 1,
+        mark: (3, 0),
     },
     Row {
         name: "a flush and what is to last count anew",
@@ -89,6 +99,7 @@ const ROWS: &[Row] = &[
             Step::Write(15, b"z", false, Ok(())),
         ],
         syncs: 3,
+        mark: (11, 11),
     },
     Row {
         name: "a sync that fails, after which nothing is done",
@@ -103,6 +114,7 @@ const ROWS: &[Row] = &[
             Step::Flush(Err(DiskFault::Failed)),
         ],
         syncs: 1,
+        mark: (0, 0),
     },
     Row {
         name: "a sync that fails among parts, after one that was done",
@@ -114,27 +126,33 @@ const ROWS: &[Row] = &[
             Step::Flush(Err(DiskFault::Failed)),
         ],
         syncs: 2,
+        mark: (2, 2),
     },
 ];
 
-// Sixteen zeros.
-fn zeros(alloc: Global) -> Result<MemoryDisk, Fail>
-    ensures { IfOk result (λ disk. length disk.bytes.items ≡ 16) }
-{
-    Ok(MemoryDisk::new(vec![in alloc; 0; 16]?))
-}
-
-// Whether a disk does all of a row, and asks for so many syncs.
+// Whether a disk of zeros does all of a row, and asks for so many syncs, the last one with this mark.
 fn holds(alloc: Global, row: &Row) -> Result<bool, Fail> {
     let asked = Cell::new(0);
+    let mark = Mark {
+        synced: 0,
+        flushed: 0,
+    };
+    let told = Cell::new(mark);
     let syncs = CountingSyncs {
         asked: &asked,
+        told: &told,
+        mark,
         done: 0,
         failed: 0,
         failing: row.failing,
     };
-    let mut disk = SyncedDisk::new(zeros(alloc)?, syncs, PACE);
-    Ok(does_all(&mut disk, SIZE, row.steps) && asked.get() == row.syncs)
+    let Ok(disk) = SectorDisk::new(alloc, CachedSectors::zeros()) else {
+        return Err("no memory")?;
+    };
+    let mut disk = SyncedDisk::new(disk, syncs, PACE);
+    let did = does_all(&mut disk, SIZE, row.steps);
+    let last = told.get();
+    Ok(did && asked.get() == row.syncs && (last.synced, last.flushed) == row.mark)
 }
 
 #[test]
