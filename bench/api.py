@@ -31,7 +31,7 @@ IN_FORMATS = ("read_certificate", "GeometryFault", "BusFault", "FormatFault", "C
 # calls of these types that crates make, and no maker
 LEFT_OUT = {
     "Geometry": ("entries", "translation_pages", "table_pages", "vmax", "row", "split_row", "has_row", "has_block"),
-    "Certificate": ("new",),
+    "Certificate": ("new", "block", "directory_row", "sector_row"),
     "Outcome": ("of_status",),
     "Device": ("into_engine",),
 }
