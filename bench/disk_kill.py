@@ -3,10 +3,10 @@
 
 Usage: disk_kill.py NANDDISK [ROUNDS [SEED]]
 
-One disk, small enough that its blocks are collected all the time. In each round a client of libnbd reads, writes, trims and flushes at random, several
+Three disks in turn, with pages of 64, 512 and 4,096 bytes, each small enough that its blocks are collected all the time. In each round a client of libnbd reads, writes, trims and flushes at random, several
 requests at a time, until the server is killed by `kill -9`. Then the disk is served again, and each of its sectors is read: one whose last change was answered is
-as that left it; one whose change was not answered is as before or as that was to leave it, byte by byte. What `info` tells is read too, each tenth round. A kill in the middle of a page's write or of an erase leaves a torn page, and its block is bad to the
-device from then on: how many became so is told.
+as that left it; one whose change was not answered is as before or as that was to leave it, byte by byte. Then the disk takes a write and a flush, and `info` tells as many bad blocks
+as before, none. In some rounds the slot of the mark that was written last is torn.
 
 Asks for Debian's python3-libnbd, which is for the system's Python."""
 
@@ -23,10 +23,13 @@ import time
 
 import nbd
 
-# Pages of 512 and 32 bytes, 8 a block, 160 blocks; 400 sectors: a few hundred writes collect each block.
-GEOMETRY = "512,32,8,160,400"
-SECTOR = 512
+# Some hundred writes collect each block.
+SHAPES = ((64, "64,32,8,160,400"), (512, "512,32,8,160,400"), (4096, "4096,128,8,120,300"))
 AT_ONCE = 8
+
+# The slots of a mark's file.
+SLOTS = (0, 4096)
+SLOT = 32
 
 
 class Change:
@@ -40,8 +43,9 @@ class Change:
 class Disk:
     """What the disk may hold: its bytes as answered, and the changes that were asked and not answered, in the order in which they were asked."""
 
-    def __init__(self, size):
-        self.bytes = bytearray(size)
+    def __init__(self, sector, sectors):
+        self.sector = sector
+        self.bytes = bytearray(sector * sectors)
         self.open = []
 
     def answered(self, change):
@@ -74,10 +78,10 @@ def start(program, path):
 
 def one_request(client, disk, draw, pending):
     """Asks one request at random. Ranges of changes that are not answered yet do not meet: what both leave would depend on their order."""
-    count = draw.choice((1, 100, SECTOR, SECTOR, 3 * SECTOR, 5000))
+    count = draw.choice((1, 100, disk.sector, disk.sector, 3 * disk.sector, 5000))
     offset = draw.randrange(len(disk.bytes) - count + 1)
     if draw.randrange(3):
-        offset -= offset % SECTOR
+        offset -= offset % disk.sector
     what = draw.randrange(10)
     meets = any(c.offset < offset + count and offset < c.offset + len(c.body) for c in disk.open)
     if what < 2:
@@ -163,25 +167,89 @@ def look(program, path, disk):
     disk.held(bytes(found))
 
 
+def takes_writes(program, path, disk, draw):
+    """The disk takes a write and a flush."""
+    client, server = start(program, path)
+    offset = draw.randrange(len(disk.bytes) - 99)
+    body = draw.randbytes(100)
+    client.pwrite(body, offset)
+    client.flush()
+    disk.bytes[offset : offset + 100] = body
+    client.shutdown()
+    assert server.wait() == 0, server.stderr.read()
+    server.stderr.close()
+
+
+def slots_of(path):
+    """What the two slots of the mark hold; none where there is no such file yet."""
+    try:
+        with open(path + ".mark", "rb") as file:
+            text = file.read()
+    except FileNotFoundError:
+        return None
+    assert len(text) == SLOTS[1] + SLOT, len(text)
+    return [text[at : at + SLOT] for at in SLOTS]
+
+
+def number_in(slot):
+    """The first number of a slot, or -1 where it holds no mark."""
+    parts = [slot[at : at + 8] for at in range(0, SLOT, 8)]
+    return int.from_bytes(parts[0], "little") if parts[0] == parts[1] and parts[2] == parts[3] else -1
+
+
+def tear_mark(path, before, draw):
+    """Tears the slot that a session writes over without a sync, as its last write of it may have been. Whether it was."""
+    after = slots_of(path)
+    if before is None or after is None:
+        return False
+    first = 0 if number_in(before[0]) >= number_in(before[1]) else 1
+    # the other one is made to last first
+    if after[1 - first] == before[1 - first] or after[first] == before[first]:
+        return False
+    count = draw.randrange(1, SLOT)
+    with open(path + ".mark", "r+b") as file:
+        file.seek(SLOTS[first])
+        file.write(after[first][:count] + before[first][count:])
+    return True
+
+
+def told_of(program, path):
+    return json.loads(subprocess.run([program, "info", "--json", path], check=True, stdout=subprocess.PIPE).stdout)
+
+
+def rounds_over(program, folder, sector, geometry, rounds, draw):
+    """So many rounds over a disk of a shape. How many requests were answered, how many marks torn, and what is told of the disk then."""
+    path = os.path.join(folder, f"disk{sector}.nand")
+    subprocess.run([program, "create", "--geometry", geometry, path], check=True, stdout=subprocess.DEVNULL)
+    disk = Disk(sector, int(geometry.split(",")[4]))
+    answered = torn = 0
+    for number in range(rounds):
+        before = slots_of(path)
+        answered += round_of(program, path, disk, draw)
+        if draw.randrange(3) == 0:
+            torn += tear_mark(path, before, draw)
+        look(program, path, disk)
+        takes_writes(program, path, disk, draw)
+        told = told_of(program, path)
+        assert told["bad"] == 0, (number, told)
+    return answered, torn, told
+
+
 def main():
     if len(sys.argv) < 2:
         sys.exit(__doc__)
     program = os.path.realpath(sys.argv[1])
     rounds = int(sys.argv[2]) if len(sys.argv) > 2 else 1000
     draw = random.Random(int(sys.argv[3]) if len(sys.argv) > 3 else 35)
-    with tempfile.TemporaryDirectory() as folder:
-        path = os.path.join(folder, "disk.nand")
-        subprocess.run([program, "create", "--geometry", GEOMETRY, path], check=True, stdout=subprocess.DEVNULL)
-        disk = Disk(400 * SECTOR)
-        answered, begun = 0, time.monotonic()
-        for number in range(rounds):
-            answered += round_of(program, path, disk, draw)
-            look(program, path, disk)
-            if number % 10 == 0:
-                subprocess.run([program, "info", "--json", path], check=True, stdout=subprocess.DEVNULL)
-        told = json.loads(subprocess.run([program, "info", "--json", path], check=True, stdout=subprocess.PIPE).stdout)
-    took = time.monotonic() - begun
-    print(f"{rounds} kills, {answered} requests answered, {told['wear']['erases']} erases: nothing lost, {told['bad']} blocks bad, in {took:.0f} s")
+    for place, (sector, geometry) in enumerate(SHAPES):
+        each, begun = rounds * (place + 1) // len(SHAPES) - rounds * place // len(SHAPES), time.monotonic()
+        with tempfile.TemporaryDirectory() as folder:
+            answered, torn, told = rounds_over(program, folder, sector, geometry, each, draw)
+        took = time.monotonic() - begun
+        print(
+            f"pages of {sector}: {each} kills, {torn} torn marks, {answered} requests answered, {told['wear']['erases']} erases: nothing lost, {told['bad']} blocks bad, in {took:.0f} s",
+            flush=True,
+        )
 
 
 if __name__ == "__main__":

@@ -1,21 +1,23 @@
 #!/usr/bin/python3
 """Cuts the writes of `nanddisk serve` to its file, and looks at what each cut leaves.
 
-Usage: disk_torn.py NANDDISK [REQUESTS [SEED]]
+Usage: disk_torn.py NANDDISK [REQUESTS [SEED [LOSSES]]]
 
-A client sends one request after another, while `strace` notes each write of the server to the die's file, each sync, and each reply. From that list files are made:
+A client sends one request after another, while `strace` notes each write of the server to the die's file and to that of its mark, each sync, and each reply. Disks have pages of 64, 512 and 4,096 bytes.
+From that list files are made:
 
 - cut: the writes up to each one, as a killed process leaves them;
 - torn: the same with a part of the next one, up to a random byte;
 - lost: the writes up to a sync and a random part of those up to the next one, as a host that loses power may leave them; of each a random part of its
-  halves.
+  halves. Of the mark's writes since its sync each is there, or not, or its first bytes are.
 
 Of each `nanddisk serve` is asked for all bytes (every one, and of the cuts each fourth). After a cut or a tear each sector is as the answered requests left it, or as the
 one at hand was to. After a loss each sector is as at the last sync, or as one of the requests since left it; and a flush or a durable write that was answered before the sync has lost
-nothing. With `--sync always` a lost file is as a torn one.
+nothing. With `--sync always` a lost file is as a torn one. After each the disk takes writes, and no block is bad.
 
 Asks for Debian's strace and python3-libnbd, which is for the system's Python."""
 
+import json
 import os
 import random
 import re
@@ -43,6 +45,7 @@ class Shape:
 
 
 SMALL = Shape(512, 32, 4, 40, 80)
+SHAPES = (Shape(64, 32, 8, 40, 60), SMALL, Shape(4096, 128, 4, 40, 80))
 # so many pages that 10,000 are programmed with no erase, and so with no sync
 LARGE = Shape(64, 32, 64, 300, 2000)
 
@@ -61,8 +64,12 @@ def bytes_of(text):
     return bytes(int(pair, 16) for pair in text.split("\\x")[1:])
 
 
+# A mark's file as it is made, with no mark.
+NO_MARK = (b"\x01" + bytes(31)) * 129
+
+
 class Event:
-    """A write of the file, a sync of it, or a reply."""
+    """A write of the die's file, a sync of it, the same of the mark's file, or a reply."""
 
     def __init__(self, kind, offset=0, body=b""):
         self.kind, self.offset, self.body = kind, offset, body
@@ -80,10 +87,12 @@ def events_of(log):
             _, body, _, offset = words.rsplit(", ", 3) if words.count(", ") == 3 else words.split(", ")
             body = bytes_of(body.strip('"'))
             assert len(body) == count
-            found.append(Event("write", int(offset), body))
-        elif name in ("fdatasync", "fsync"):
+            found.append(Event("mark" if ".mark>" in words else "write", int(offset), body))
+        elif name in ("fdatasync", "fsync") and ".mark>" in words:
+            found.append(Event("marksync"))
+        elif name in ("fdatasync", "fsync") and ".nand>" in words:
             found.append(Event("sync"))
-        elif name == "write" and words.startswith("1, "):
+        elif name == "write" and words.startswith("1<"):
             if bytes_of(words.split(", ")[1].strip('"'))[:4] == b"\x67\x44\x66\x98":
                 found.append(Event("reply"))
     return found
@@ -95,7 +104,7 @@ NO_SYNCS = ["-e", "inject=fdatasync,fsync:retval=0"]
 
 def run(program, shape, path, log, requests, draw, words, flushes=True, syncs=True):
     """The requests that were sent, each with its place, its bytes and whether it is to last; a flush has none."""
-    watch = ["strace", "-f", "-e", "trace=pwrite64,fdatasync,fsync,write", "-xx", "-s", "1000000", "-o", log]
+    watch = ["strace", "-f", "-y", "-e", "trace=pwrite64,fdatasync,fsync,write", "-xx", "-s", "1000000", "-o", log]
     client, server = start([*watch, *([] if syncs else NO_SYNCS), program, "serve", *words, path])
     sent = []
     for _ in range(requests):
@@ -161,6 +170,10 @@ def takes_writes(program, shape, path, what):
     server.stderr.close()
 
 
+def bad_of(program, path):
+    return json.loads(subprocess.run([program, "info", "--json", path], check=True, stdout=subprocess.PIPE).stdout)["bad"]
+
+
 def after(array, request):
     offset, body, _ = request
     return array[:offset] + body + array[offset + len(body) :]
@@ -213,6 +226,20 @@ class Run:
             image[offset : offset + len(body)] = body
         return bytes(image)
 
+    def mark_of(self, whole, rest=()):
+        """The mark's file after so many events, and what was written of it since."""
+        mark = bytearray(NO_MARK)
+        for event in self.events[:whole]:
+            if event.kind == "mark":
+                mark[event.offset : event.offset + len(event.body)] = event.body
+        for offset, body in rest:
+            mark[offset : offset + len(body)] = body
+        return bytes(mark)
+
+    def last_marksync(self, count):
+        """The number of events up to the last sync of the mark's file within so many."""
+        return max((at for at in range(1, count + 1) if self.events[at - 1].kind == "marksync"), default=0)
+
     def hold(self, found, floors, last, what):
         """Each sector is as after one of these numbers of requests, from its floor on."""
         for number, sector in enumerate(self.shape.sectors(found)):
@@ -221,11 +248,15 @@ class Run:
             assert any(state == sector for since, state in states[first:] if since <= last), (what, number)
 
 
-def look(program, shape, folder, image):
+def look(program, shape, folder, image, mark):
     path = os.path.join(folder, "cut.nand")
-    with open(path, "wb") as file:
-        file.write(image)
-    return array_of(program, shape, path)
+    for name, content in ((path, image), (path + ".mark", mark)):
+        with open(name, "wb") as file:
+            file.write(content)
+    found = array_of(program, shape, path)
+    bad = bad_of(program, path)
+    assert bad == 0, bad
+    return found
 
 
 def pieces(event, draw):
@@ -239,14 +270,16 @@ def cuts(program, folder, run, draw):
     count = 0
     sectors = len(run.states)
     for at, event in enumerate(run.events):
-        if event.kind != "write":
+        if event.kind not in ("write", "mark"):
             continue
         done = run.answered(at)
         if at % 4 == 0:
-            run.hold(look(program, run.shape, folder, run.image_of(at)), [done] * sectors, done + 1, ("cut", at))
+            run.hold(look(program, run.shape, folder, run.image_of(at), run.mark_of(at)), [done] * sectors, done + 1, ("cut", at))
             count += 1
-        part = event.body[: draw.randrange(len(event.body))]
-        run.hold(look(program, run.shape, folder, run.image_of(at, [(event.offset, part)])), [done] * sectors, done + 1, ("torn", at))
+        part = [(event.offset, event.body[: draw.randrange(len(event.body))])]
+        image = run.image_of(at, part if event.kind == "write" else ())
+        mark = run.mark_of(at, part if event.kind == "mark" else ())
+        run.hold(look(program, run.shape, folder, image, mark), [done] * sectors, done + 1, ("torn", at))
         count += 1
     return count
 
@@ -260,10 +293,16 @@ def losses(program, folder, run, draw, always, each):
         for event in run.events[sync:at]:
             if event.kind == "write":
                 rest += draw.choice(([], [(event.offset, event.body)], pieces(event, draw)))
+        marked, marks = run.last_marksync(at), []
+        for event in run.events[marked:at]:
+            if event.kind == "mark":
+                marks += draw.choice(([], [(event.offset, event.body)], [(event.offset, event.body[: draw.randrange(len(event.body))])]))
         done = run.answered(at)
         floors = [done] * len(run.states) if always else run.floors(done)
-        run.hold(look(program, run.shape, folder, run.image_of(sync, rest)), floors, done + 1, ("lost", at))
-        takes_writes(program, run.shape, os.path.join(folder, "cut.nand"), ("lost", at))
+        run.hold(look(program, run.shape, folder, run.image_of(sync, rest), run.mark_of(marked, marks)), floors, done + 1, ("lost", at))
+        path = os.path.join(folder, "cut.nand")
+        takes_writes(program, run.shape, path, ("lost", at))
+        assert bad_of(program, path) == 0, ("lost", at)
     return each
 
 
@@ -283,7 +322,7 @@ def noted(program, shape, folder, requests, draw, words, **how):
 def told(found, cut, lost):
     writes = sum(event.kind == "write" for event in found.events)
     syncs = sum(event.kind == "sync" for event in found.events)
-    return f"{writes} writes, {syncs} syncs; {cut} cut or torn files, {lost} of lost power: nothing lost"
+    return f"{writes} writes, {syncs} syncs; {cut} cut or torn files, {lost} of lost power: nothing lost, no block bad"
 
 
 def never_synced(program, requests, draw):
@@ -305,15 +344,17 @@ def main():
     program = os.path.realpath(sys.argv[1])
     requests = int(sys.argv[2]) if len(sys.argv) > 2 else 400
     draw = random.Random(int(sys.argv[3]) if len(sys.argv) > 3 else 35)
-    for words in ([], ["--sync", "always"]):
-        with tempfile.TemporaryDirectory() as folder:
-            found = noted(program, SMALL, folder, requests, draw, words)
-            cut = cuts(program, folder, found, draw)
-            lost = losses(program, folder, found, draw, bool(words), requests)
-            print(f"{' '.join(words) or '--sync erases'}: {told(found, cut, lost)}", flush=True)
+    each = int(sys.argv[4]) if len(sys.argv) > 4 else requests
+    for shape in SHAPES:
+        for words in ([], ["--sync", "always"]):
+            with tempfile.TemporaryDirectory() as folder:
+                found = noted(program, shape, folder, requests, draw, words)
+                cut = cuts(program, folder, found, draw)
+                lost = losses(program, folder, found, draw, bool(words), each)
+                print(f"{shape.words} {' '.join(words) or '--sync erases'}: {told(found, cut, lost)}", flush=True)
     with tempfile.TemporaryDirectory() as folder:
         found = noted(program, LARGE, folder, 10000, draw, [], flushes=False)
-        assert found.last_sync(len(found.events)) == 0, "a page was synced"
+        assert not any(event.kind == "write" for event in found.events[: found.last_sync(len(found.events))]), "a page was synced"
         print(f"10,000 changes with no sync: {told(found, 0, losses(program, folder, found, draw, False, 20))}", flush=True)
     print(f"a server whose syncs do nothing is seen after {never_synced(program, requests, draw)} losses")
 
