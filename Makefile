@@ -1,5 +1,5 @@
 # Builds and installs the three programs and the library for C. Each is proved before it is built: the first time takes an hour or
-# more, a second one seconds. Wants the Rattle kit's `rt` on the path; `make install` takes PREFIX and DESTDIR.
+# more, a second one some minutes. Wants the Rattle kit's `rt` on the path; `make install` takes PREFIX and DESTDIR.
 PREFIX ?= /usr/local
 PROGRAMS = nandctl nandlab nanddisk
 TO = $(DESTDIR)$(PREFIX)
@@ -14,9 +14,9 @@ nandlab nanddisk: RUN = --version
 $(PROGRAMS):
 	cd crates/$@ && rt run -- $(RUN)
 
-# crates/ftl_c/out/libftl_c.a for x86-64, and out/aarch64/libftl_c.a
+# libftl_c.a in crates/ftl_c/out/aarch64 and, for x86-64, in out/x86_64
 lib:
-	cd crates/ftl_c && rt lib --target aarch64-unknown-linux-gnu && install -D -m 644 out/libftl_c.a out/aarch64/libftl_c.a && rt lib
+	examples/c/library aarch64 && examples/c/library x86_64
 
 # the programs unproved, each run once: `rt try` keeps none
 quick:
@@ -28,7 +28,7 @@ install: $(PROGRAMS) install-lib
 		install -D -m 644 completions/$$name.bash $(BASHDIR)/$$name && install -D -m 644 -t $(ZSHDIR) completions/_$$name || exit 1; done
 
 install-lib: lib
-	install -D -m 644 crates/ftl_c/out/libftl_c.a $(TO)/lib/libftl.a && install -D -m 644 -t $(TO)/include include/ftl.h
+	install -D -m 644 crates/ftl_c/out/x86_64/libftl_c.a $(TO)/lib/libftl.a && install -D -m 644 -t $(TO)/include include/ftl.h
 	install -D -m 644 -t $(TO)/share/man/man3 docs/man/ftl.3 && install -d $(TO)/lib/pkgconfig
 	sed 's|@PREFIX@|$(PREFIX)|' include/ftl.pc.in >$(TO)/lib/pkgconfig/ftl.pc
 

@@ -4,6 +4,8 @@
     bench/api.py            writes it
     bench/api.py --check    says whether it is what would be written; status 1 if not
 
+Of a docstring it takes the first sentences and what tells errors: the rest stands in the source.
+
 CRATES names the crates and, of each, the items that a maker calls. An item that a crate hands on and that is in neither list is an error, so a new
 public item has to be placed. Laws compute nothing and are left out.
 """
@@ -21,16 +23,26 @@ CRATES = [
     ("mount", "Format and mount", ("format", "FormatFault", "mount", "mount_counted", "Mounted"), ()),
     ("certificate", "Certificate", ("read_certificate", "write_certificate", "CertFault", "Certificate"), ("BlockState",)),
     ("image_check", "Checker", ("check", "check_stream", "Accepted", "Refusal"),
-     ("sector", "sector_in", "SectorFault", "describe_blocks", "Newest", "find_stale", "Survey")),
+     ("sector", "sector_in", "SectorFault", "Desk", "describe", "describe_blocks", "Newest", "find_stale", "Survey")),
     ("ftl_device", "Device", ("Device", "DeviceFault", "StartFault"), ()),
 ]
-WIDTH = 150
+# the enums of which FORMATS says what each case means, and the call of which it has the order of refusals
+IN_FORMATS = ("read_certificate", "GeometryFault", "BusFault", "FormatFault", "CertFault", "Refusal", "DeviceFault")
+# calls of these types that crates make, and no maker
+LEFT_OUT = {
+    "Geometry": ("entries", "translation_pages", "table_pages", "vmax", "row", "split_row", "has_row", "has_block"),
+    "Certificate": ("new", "block", "directory_row", "sector_row"),
+    "Outcome": ("of_status",),
+    "Device": ("into_engine",),
+}
+WIDTH, SENTENCES = 150, 50
 LAW = re.compile(r"_laws?$")
 HEAD = """# API
 
-Written by `bench/api.py` from the sources: the public calls from page to device, each with what its docstring says. Where no source is named a rule is
-this project's. The contract of each stands behind its signature in the source; [PROMISES.md](PROMISES.md) says it in words,
-[TOTALITY.md](TOTALITY.md) lists refusals, [FIRMWARE.md](FIRMWARE.md) shows the calls in their order.
+Written by `bench/api.py` from the sources: the public calls from page to device, each with the first words of its docstring and its errors. The
+source has the rest, and behind each signature the contract; [PROMISES.md](PROMISES.md) says it in words, [TOTALITY.md](TOTALITY.md) what each
+refusal leaves, [FIRMWARE.md](FIRMWARE.md) shows the calls in their order, [FORMATS.md](FORMATS.md) has the limits of a geometry and what each
+fault means.
 """
 
 
@@ -51,9 +63,33 @@ def told(lines):
     """A docstring as paragraphs, points of lists and tables of Markdown; what every call has, its source in this project, is left out."""
     text = "\n".join(re.sub(r"^\s*///? ?", "", line) for line in lines)
     text = re.sub(r"\(This\s+project(?:'s(?:\s+rules?)?)?\.\)|Source:\s+this\s+project\.| \(this\s+project\)", "", text)
-    text = re.sub(r"\[(`[^`\]]+`)\]", r"\1", text).replace("# Errors\n\n", "Errors: ")
+    text = re.sub(r"\[(`[^`\]]+`)\]", r"\1", text)
+    text = re.sub(r"# Errors\n+", "Errors: ", text)
     parts = re.split(r"\n\s*\n|\n(?=- )", text)
-    return [part if part.startswith("|") else " ".join(part.split()) for part in parts if part.strip()]
+    return shortened([" ".join(part.split()) for part in parts if part.strip()])
+
+
+def beginning(paragraph):
+    """The first sentences of a paragraph, as many as have SENTENCES words together, and one at least; and of the others the one that says what is answered."""
+    sentences, kept = re.split(r"(?<=\.) (?=[A-Z`])", paragraph), []
+    while sentences and (not kept or len(" ".join([*kept, sentences[0]]).split()) <= SENTENCES):
+        kept.append(sentences.pop(0))
+    return " ".join(kept + [it for it in sentences if it.startswith("The answer is")])
+
+
+def shortened(paragraphs):
+    """The first sentences with their list, and when errors come: from `Errors:` on, and what begins with the name of one. What each leaves has TOTALITY."""
+    kept, telling = [], True
+    for nth, it in enumerate(paragraphs):
+        if not it.startswith("- "):
+            goes_on = telling and nth > 1 and not it.startswith(("Source:", "What they mean"))
+            telling = not nth or it.startswith("Errors:") or bool(re.match(r"`[A-Z]", it)) or goes_on
+        if it.startswith("|"):
+            # a table is left out, and so are the words that lead to it
+            kept[-1] = re.sub(r"\s*[^.]*:$", "", kept[-1])
+        elif telling:
+            kept.append(it if nth else beginning(it))
+    return kept
 
 
 def docs_before(text, at):
@@ -88,9 +124,6 @@ def wrapped(paragraphs, indent=""):
     """Paragraphs and points of lists on lines of their own; a paragraph stands apart from what is before it."""
     lines = []
     for nth, it in enumerate(paragraphs):
-        if it.startswith("|"):
-            lines += ["", *it.split("\n")]
-            continue
         lines += [""] if nth and not it.startswith("- ") else []
         lines += textwrap.wrap(it, WIDTH, initial_indent=indent, subsequent_indent=indent + ("  " if it.startswith("- ") else ""),
                                break_long_words=False, break_on_hyphens=False)
@@ -121,18 +154,27 @@ def shown(texts, name):
     said = docs_before(text, kind.start())
     if kind[1] == "fn":
         signature, said = next(calls_in(text, rf"^pub (?:const )?fn {name}\b"))
+        if name in IN_FORMATS:
+            said = [re.sub(r"Errors, of which the first of this order .*:$", "Errors: the first in the order of FORMATS.", it) for it in said if not it.startswith("- ")]
         return ["", f"### {name}", "", f"`{signature}`", "", *wrapped(said)]
+    if name in IN_FORMATS:
+        # what is said of the numbers behind each case has no place where the cases are left out
+        said = [re.sub(r" [^.]* numbers that follow [^.]*\.", "", it) for it in said]
     lines = ["", f"### {name}", "", *wrapped(said), ""]
     if kind[1] == "enum":
         cases = variants_of(body_at(text, kind.end()))
-        lines += wrapped([f"- `{case}`: {' '.join(paragraphs)}" for case, paragraphs in cases])
+        if name in IN_FORMATS:
+            lines += wrapped(["Cases: " + ", ".join(f"`{case}`" for case, _ in cases) + "."])
+        else:
+            lines += wrapped([f"- `{case}`: {' '.join(paragraphs)}" for case, paragraphs in cases])
     if kind[1] == "trait":
         for call in calls_in(body_at(text, kind.end()), r"^    fn \w+"):
             lines += entry(*call)
     for other in texts:
         for block in re.finditer(rf"^impl(?:<[^\n]*>)? {name}\b[^\n]*\{{\n", other, re.MULTILINE):
             for call in calls_in(body_at(other, block.end() - 2), r"^    pub (?:const )?fn \w+"):
-                lines += entry(*call)
+                if re.search(r"fn (\w+)", call[0])[1] not in LEFT_OUT.get(name, ()):
+                    lines += entry(*call)
     return lines
 
 

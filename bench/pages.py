@@ -2,7 +2,7 @@
 """Looks through the pages of this repository, and changes nothing.
 
     bench/pages.py            looks through all of them
-    bench/pages.py --words    prints how many words each has
+    bench/pages.py --words    prints how many words each has, and all together
 
 Of README, CHANGELOG, CONTRIBUTING, docs/, bench/ and examples/: each link leads to a file that is there, and to a heading of it where it names one; no cell of a
 table has more than forty words, of README fifteen; README has at most 125 lines; docs/MAP.md names each page. Prints what is not so, and answers 1 then.
@@ -74,6 +74,8 @@ def main():
         wrong += [f"{name}: {it}" for it in [*links_of(path), *cells_of(path, README_CELL if readme else CELL)]]
         if readme and len(text.splitlines()) > README_LINES:
             wrong.append(f"{name}: {len(text.splitlines())} lines")
+    if sys.argv[1:] == ["--words"]:
+        print(f"{sum(len(path.read_text(encoding='utf-8').split()) for path in PAGES):6} all")
     for it in wrong:
         print(it)
     return 1 if wrong else 0

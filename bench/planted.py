@@ -176,7 +176,9 @@ def write_table(news):
 
 def below(names):
     """These crates, and all that they stand on."""
-    uses = dict(line.split(":", 1) for line in (TOP / "crates.txt").read_text(encoding="utf-8").splitlines() if ":" in line)
+    # a static library has a word behind its name
+    lines = (line.split(":", 1) for line in (TOP / "crates.txt").read_text(encoding="utf-8").splitlines() if ":" in line)
+    uses = {name.split()[0]: rest for name, rest in lines}
     found, rest = set(), list(names)
     while rest:
         name = rest.pop()

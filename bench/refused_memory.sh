@@ -61,8 +61,8 @@ for ((n = 1; ; n++)); do
         echo "allocation $n refused: status $status, $(wc -c < out) bytes out, standard error: $(cat err)"
         exit 1
     fi
-    if compgen -G "*.part*" > /dev/null; then
-        echo "allocation $n refused: left $(echo *.part*)"
+    if compgen -G ".*-part" > /dev/null; then
+        echo "allocation $n refused: left $(echo .*-part)"
         exit 1
     fi
 done

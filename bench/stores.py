@@ -8,6 +8,7 @@ full disk in memory), in a folder that may not be written (not as root), over a 
 time it holds the status, what is said, the file, and all names of the folder. Ends with how many cases were held.
 """
 
+import fcntl
 import os
 import pathlib
 import resource
@@ -89,6 +90,24 @@ def links(cases, folder):
         it.unlink()
 
 
+def parts(cases, folder):
+    """What a killed run has left, and a part that another run is at."""
+    out, part = folder / "out.bin", folder / ".out.bin.nandctl-part"
+    out.write_bytes(OLD)
+    part.write_bytes(b"left")
+    (folder / "other").hardlink_to(part)
+    cases.hold("a part that was left", run(folder, "out.bin"), (0, b"good 32\n", b""))
+    cases.hold("it is made anew", (len(out.read_bytes()), (folder / "other").read_bytes()), (SIZE, b"left"))
+    cases.hold("nothing beside it", names(folder), ["fresh.bin", "other", "out.bin"])
+    out.write_bytes(OLD)
+    with open(part, "wb") as held:
+        fcntl.flock(held, fcntl.LOCK_EX)
+        cases.hold("a part that another run is at", run(folder, "out.bin"), fails("out.bin"))
+    cases.hold("it stays, and so does the file", (part.exists(), out.read_bytes()), (True, OLD))
+    for it in (out, part, folder / "other"):
+        it.unlink()
+
+
 def devices(cases, folder):
     status, out, err = run(folder, "/dev/stdout")
     cases.hold("standard output", (status, len(out), out[-8:], err), (0, SIZE + 8, b"good 32\n", b""))
@@ -150,7 +169,7 @@ def main():
         folder = pathlib.Path(room)
         folder.chmod(0o755)
         (folder / "fresh.bin").write_bytes(b"\xff" * SIZE)
-        for case in (plain, links, devices, full, locked):
+        for case in (plain, links, parts, devices, full, locked):
             case(cases, folder)
     said = full_disk(cases)
     print(f"{cases.held} held; {said}")

@@ -6,7 +6,7 @@
 A public call is a function that a library exports (`pub use` or `pub mod` of its src/lib.rt), a `pub fn` of an exported type, or a method of
 an exported trait. Laws are left out: they compute nothing. So are the libraries of the tests and of laws alone.
 
-The page names a call in the first column of a table or in a paragraph of those that never refuse, between backticks, in a section of its
+The page names a call in the first column of a table or in a sentence of those that never refuse, or for memory alone, between backticks, in a section of its
 crate: `call`, `Type::call`, `Type::{one, other}`, or after `crate::`; "methods of `Type`" are all of them. What stands in brackets names none.
 
 It prints each public call that no section of its crate names, and each name that is no public call there, and ends with status 1 where
@@ -137,8 +137,8 @@ def sections():
             if rows:
                 texts += [row.split("|")[1] for row in rows[2:]]
             else:
-                # the sentences of a paragraph that say which calls never refuse
-                texts += re.findall(r"Never refuses?\b.*?(?:\.(?=\s|$))", block, re.DOTALL)
+                # the sentences of a paragraph that say which calls never refuse, or for memory alone
+                texts += re.findall(r"(?:Never refuses?|Memory alone)\b.*?(?:\.(?=\s|$))", block, re.DOTALL)
         yield title.strip().lower().replace(" ", "-"), texts
 
 

@@ -4,7 +4,7 @@ _nanddisk()
     local word="${COMP_WORDS[COMP_CWORD]}" before="${COMP_WORDS[COMP_CWORD-1]}"
     COMPREPLY=()
     if [ "$COMP_CWORD" -eq 1 ]; then
-        mapfile -t COMPREPLY < <(compgen -W "create serve info --help --version" -- "$word")
+        mapfile -t COMPREPLY < <(compgen -W "create serve info check --help --version" -- "$word")
         return
     fi
     case "$before" in
@@ -19,6 +19,7 @@ _nanddisk()
             create) mapfile -t COMPREPLY < <(compgen -W "--size --geometry --from --cache --help" -- "$word") ;;
             serve) mapfile -t COMPREPLY < <(compgen -W "--read-only --sync --help" -- "$word") ;;
             info) mapfile -t COMPREPLY < <(compgen -W "--json --help" -- "$word") ;;
+            check) mapfile -t COMPREPLY < <(compgen -W "--json --help" -- "$word") ;;
         esac
         return
     fi

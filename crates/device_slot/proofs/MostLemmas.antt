@@ -44,4 +44,5 @@ pub most_all : (table : List TableRow) (n most : ℕ) → length table ≤ n →
 most_all table n most low high so = record {
   above = λ b lt. so.above b (omega (arith, lt, high, low));
   some = λ any. (let its = so.some (omega (arith, any, low)) in (its.0, omega (arith, its.1, high), its.2));
+  none = λ e. so.none (omega (arith, e, low));
 }

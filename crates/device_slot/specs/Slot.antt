@@ -15,10 +15,11 @@ pub record SlotState (N : Type 0) : Type 0 where
   pub device : Option (Device N)
   pub shortage : Option Shortage
 
--- no block has a greater erase count, and of a table with a block some block has this one
+-- no block has a greater erase count, and some block has this one; 0 of a table with no block
 pub record IsMostWorn (table : List TableRow) (most : ℕ) : Type 0 where
   pub above : (b : ℕ) → b < length table → wear_at table b ≤ most
   pub some : 0 < length table → (b : ℕ) × (b < length table) × (wear_at table b ≡ most)
+  pub none : length table ≡ 0 → most ≡ 0
 
 -- HOW A DEVICE STANDS
 pub record Stands {N : Type 0} (d : Device N) (r : Report) : Type 0 where

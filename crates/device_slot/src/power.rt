@@ -1,5 +1,5 @@
 //! Power comes and goes: from a die to a device, and back.
-ghost use Rattle.std.specs.Prelude.{◌≡◌, ◌≢◌, ◌≤◌, true, Err, IfOk, IfErr, IfSome, OnOk};
+ghost use Rattle.std.specs.Prelude.{◌≡◌, ◌≢◌, ◌<◌, ◌≤◌, ℕ, true, Err, IfOk, IfErr, IfSome, IfNone, OnOk};
 ghost use Rattle.page_layout.specs.Array.{array_of};
 ghost use Rattle.page_layout.specs.OnlyReads.{OnlyReads};
 ghost use Rattle.certificate.specs.Claim.{sizes_of};
@@ -7,7 +7,7 @@ ghost use Rattle.image_check.specs.Stale.{stale_count};
 ghost use Rattle.ftl_device.specs.Calls.{array_in};
 ghost use Rattle.ftl_device.specs.Device.{IsDevice, IsAcceptedFor};
 ghost use Rattle.device_slot.specs.Begun.{IsBegun, IsKept};
-ghost use Rattle.device_slot.specs.Power.{nand_of, HoldsSame, IsBrought, IsHandedBack, IsUnaccepted, IsUnmounted, IsUnsettled, WantsCache};
+ghost use Rattle.device_slot.specs.Power.{nand_of, HoldsSame, IsBrought, IsHandedBack, IsTooStale, IsUnaccepted, IsUnbrought, IsUnmounted, IsUnsettled, IsUnsettledWith, StopsFlush, WantsCache};
 
 use certificate::Certificate;
 use ftl_device::{Device, DeviceFault, StartFault};
@@ -57,7 +57,7 @@ fn begin<'a, N: Nand>(alloc: Global, nand: N, accepted: Accepted<'a>) -> Result<
 ///
 /// - `Refused` with what keeps the image from being mounted, which is so of an honest die; with `Source` where a page read failed, and with
 ///   `OutOfMemory` where a growth was refused.
-/// - `Start` where the image was mounted and a growth was refused.
+/// - `Start` where the image was mounted, so that of an honest die a certificate agrees with it, and a growth was refused.
 ///
 /// The die comes back in each case, its pages as they were but where a read failed. (This project's.)
 pub fn start_mounted<N: Nand>(
@@ -96,7 +96,7 @@ pub fn start_mounted<N: Nand>(
 ///
 /// - `Refused` with the checker's refusal, which is so of an honest die; with `Source` where a page read failed, and with `OutOfMemory`
 ///   where a growth was refused.
-/// - `Start` where the certificate was accepted and a growth was refused.
+/// - `Start` where the certificate was accepted, so that of an honest die it agrees with the image, and a growth was refused.
 ///
 /// The die comes back in each case, its pages as they were but where a read failed. (This project's.)
 pub fn start_checked<N: Nand>(
@@ -138,8 +138,11 @@ pub fn stop<N: Nand>(device: Device<N>) -> N
 
 // What keeps a device from being settled by a flush. One that takes no change any more has nothing to flush.
 fn settled(flushed: Result<(), DeviceFault>) -> Result<(), DeviceFault>
+    requires within { flushed ≢ Err DeviceFault.OutOfRange }
+    requires memory { flushed ≢ Err DeviceFault.OutOfMemory }
     ensures ok { OnOk result (flushed ≢ Err DeviceFault.BusFault) }
     ensures err { IfErr result (λ fault. flushed ≡ Err fault) }
+    ensures stops { IfErr result StopsFlush }
 {
     match flushed {
         Ok(()) | Err(DeviceFault::ReadOnly { .. } | DeviceFault::SequenceSpent) => Ok(()),
@@ -159,7 +162,7 @@ fn settle<N: Nand>(
     requires most { stale ≤ 65536 }
     ensures back { IfOk result (IsHandedBack N.flash N.honest N.failed nand) }
     ensures array { IfOk result (HoldsSame N.flash N.honest geometry.now nand) }
-    ensures fault { IfErr result (IsUnsettled N.flash N.honest N.failed nand geometry.now stale) }
+    ensures fault { IfErr result (IsUnsettledWith N.flash N.honest N.failed nand geometry.now stale) }
     ensures given { IfErr result (λ fault. IsHandedBack N.flash N.honest N.failed nand (nand_of fault)) }
 {
     let mut device = start_mounted(alloc, nand, geometry, stale)?;
@@ -175,8 +178,9 @@ fn settle<N: Nand>(
 // What a stop left wants a larger cache than one of `capacity` entries: so many.
 fn stale_in<N>(fault: &PowerFault<N>, capacity: u32) -> Option<u32>
     ensures wants { IfSome result (WantsCache capacity fault.now) }
-    ensures more { IfSome result (λ stale. capacity ≤ stale) }
+    ensures more { IfSome result (λ stale. capacity < stale) }
     ensures most { IfSome result (λ stale. stale ≤ 65536) }
+    ensures none { IfNone result ((entries : ℕ) → ¬ WantsCache capacity fault.now entries) }
 {
     match fault {
         PowerFault::Refused {
@@ -210,8 +214,7 @@ fn look<N: Nand>(
     requires most { entries ≤ 65536 }
     ensures brings { IfOk result (IsBrought N.flash N.honest N.failed nand geometry.now entries) }
     ensures pages { IfOk result (λ d. N.honest nand ≡ true → N.flash d.engine.nand ≡ N.flash nand) }
-    ensures unmounted { IfErr result (IsUnmounted N.flash N.honest N.failed nand geometry.now entries) }
-    ensures fault { IfErr result (IsUnsettled N.flash N.honest N.failed nand geometry.now entries) }
+    ensures fault { IfErr result (IsUnmounted N.flash N.honest N.failed nand geometry.now entries) }
     ensures given { IfErr result (λ fault. IsHandedBack N.flash N.honest N.failed nand (nand_of fault)) }
 {
     match start_mounted(alloc, nand, geometry, entries) {
@@ -231,7 +234,7 @@ fn start_either<N: Nand>(
     requires least { 1 ≤ capacity }
     requires most { capacity ≤ 65536 }
     ensures brings { IfOk result (IsBrought N.flash N.honest N.failed nand geometry.now capacity) }
-    ensures fault { IfErr result (IsUnsettled N.flash N.honest N.failed nand geometry.now capacity) }
+    ensures fault { IfErr result (IsUnbrought N.flash N.honest N.failed nand geometry.now capacity) }
     ensures given { IfErr result (λ fault. IsHandedBack N.flash N.honest N.failed nand (nand_of fault)) }
 {
     let fault = match look(alloc, nand, geometry, capacity) {
@@ -254,8 +257,9 @@ fn start_settled<N: Nand>(
 ) -> Result<Device<N>, PowerFault<N>>
     requires same_geometry { (N.flash nand).geometry ≡ geometry.now }
     requires least { 1 ≤ capacity }
-    requires more { capacity ≤ stale }
+    requires more { capacity < stale }
     requires most { stale ≤ 65536 }
+    requires wanted { N.honest nand ≡ true → IsTooStale geometry.now capacity (N.flash nand).image stale }
     ensures brings { IfOk result (IsBrought N.flash N.honest N.failed nand geometry.now capacity) }
     ensures fault { IfErr result (IsUnsettled N.flash N.honest N.failed nand geometry.now capacity) }
     ensures given { IfErr result (λ fault. IsHandedBack N.flash N.honest N.failed nand (nand_of fault)) }
@@ -274,9 +278,10 @@ fn start_settled<N: Nand>(
 ///
 /// # Errors
 ///
-/// - `Refused` with what keeps the image from being mounted, with `Source` where a page read failed, or with `OutOfMemory`.
+/// - `Refused` with what keeps the image from being mounted, which is so of an honest die: with `TooStale` only where more than 65536 sectors are
+///   stale. With `Source` where a page read failed, and with `OutOfMemory` where a growth was refused.
 /// - `Start` where the image was mounted and a growth was refused.
-/// - `Flush` where the larger device failed its flush: `BusFault`, of an honest die.
+/// - `Flush` where the larger device failed its flush: `BusFault` alone of an honest die, else `Damaged` too.
 ///
 /// The die comes back in each case. An honest one holds the array that it held, but where its bus failed. (This project's.)
 pub fn start<N: Nand>(

@@ -5,6 +5,7 @@ mod fault_scripts;
 mod faults;
 mod forward;
 mod listed;
+mod noise;
 mod old;
 mod pairs;
 mod script;

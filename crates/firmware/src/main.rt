@@ -6,15 +6,18 @@ ghost use Rattle.ftl_device.specs.Device.{IsDevice};
 
 mod board;
 mod failure;
+mod noisy;
 mod power;
 mod request;
 
 use board::Board;
+use corrected_nand::ReadErrors;
 use failure::Failure;
 use ftl_device::Device;
 use mount::format;
 use nand_die::Die;
-use onfi_cycles::{Bus, Nand};
+use noisy::{noisy_board, reset_chip};
+use onfi_cycles::Nand;
 use page_layout::geometry::Geometry;
 use power::{reset, start, stop};
 use request::Request::{Flush, Idle, Read, Trim, Write};
@@ -38,19 +41,18 @@ const BEFORE: [Request; 9] = [
 const AFTER: [Request; 4] = [Read(5), Read(6), Write(6, 0x66), Read(6)];
 
 // Once in a die's life: it is made ready.
-fn prepare<B: Bus + Drop>(
+fn prepare<N: Nand>(
     rt: &impl Print,
     alloc: Global,
-    bus: B,
-    geometry: Geometry,
-) -> Result<B, Failure>
-    requires { B.honest bus ≡ true → (B.die bus).flash.geometry ≡ geometry }
-    ensures { IfOk result (λ bus. B.honest bus ≡ true → (B.die bus).flash.geometry ≡ geometry) }
+    nand: &mut N,
+    geometry: &Geometry,
+) -> Result<(), Failure>
+    requires { (N.flash nand.old).geometry ≡ geometry.now }
+    ensures { (N.flash nand.new).geometry ≡ geometry.now }
 {
-    let mut driver = reset(bus, geometry)?;
-    let good = format(alloc, &mut driver, &geometry)?;
+    let good = format(alloc, nand, geometry)?;
     println!(rt; "formatted: {good} good blocks")?;
-    Ok(driver.into_bus())
+    Ok(())
 }
 
 // The loop of a device: one request after another, and a turn where there is none.
@@ -69,31 +71,61 @@ fn serve<N: Nand>(
     Ok(())
 }
 
-// From the moment when power comes to the one when it goes. What is left is the bus, and the die's geometry.
-fn live<B: Bus + Drop>(
+// From the moment when the die is ready to the one when power goes. What is left is the die and its geometry.
+fn live<N: Nand + Drop>(
     rt: &impl Print,
     alloc: Global,
-    bus: B,
+    nand: N,
     geometry: Geometry,
     requests: &[Request],
-) -> Result<(B, Geometry), Failure>
-    requires { B.honest bus ≡ true → (B.die bus).flash.geometry ≡ geometry }
-    ensures { IfOk result (λ left. B.honest left.0 ≡ true → (B.die left.0).flash.geometry ≡ left.1) }
+) -> Result<(N, Geometry), Failure>
+    requires { (N.flash nand).geometry ≡ geometry }
+    ensures { IfOk result (λ left. (N.flash left.0).geometry ≡ left.1) }
 {
-    let driver = reset(bus, geometry)?;
-    let mut device = start(alloc, driver, &geometry)?;
+    let mut device = start(alloc, nand, &geometry)?;
     serve(rt, alloc, &mut device, requests)?;
     println!(rt; "the power goes")?;
-    let (driver, geometry) = stop(device);
-    Ok((driver.into_bus(), geometry))
+    Ok(stop(device))
+}
+
+// Two lives on a chip that reads as it was programmed.
+fn live_on_board(rt: &impl Print, alloc: Global, geometry: Geometry) -> Result<(), Failure> {
+    let die = Die::new(alloc, geometry, &[])?;
+    let mut driver = reset(Board { die }, geometry)?;
+    prepare(rt, alloc, &mut driver, &geometry)?;
+    let (driver, geometry) = live(rt, alloc, driver, geometry, &BEFORE)?;
+    let driver = reset(driver.into_bus(), geometry)?;
+    live(rt, alloc, driver, geometry, &AFTER)?;
+    Ok(())
+}
+
+// What was wrong with the reads of a life.
+fn tell(rt: &impl Print, errors: &ReadErrors) -> Result<(), Failure> {
+    let (turned, lost) = (errors.turned(), errors.lost());
+    println!(rt; "{turned} wrong bits turned back, {lost} pages lost")?;
+    if let Some(block) = errors.most_turned() {
+        println!(rt; "most of them in block {block}")?;
+    }
+    Ok(())
+}
+
+// The same on a chip whose reads have wrong bits, by a changed word: `reset_chip` in the place of `reset`.
+fn live_on_noisy_board(rt: &impl Print, alloc: Global, geometry: Geometry) -> Result<(), Failure> {
+    let board = noisy_board(alloc, &geometry)?;
+    let mut nand = reset_chip(alloc, board, geometry)?;
+    prepare(rt, alloc, &mut nand, &geometry)?;
+    let (nand, geometry) = live(rt, alloc, nand, geometry, &BEFORE)?;
+    tell(rt, nand.errors())?;
+    let (driver, _) = nand.into_parts();
+    let nand = reset_chip(alloc, driver.into_bus(), geometry)?;
+    let (nand, _) = live(rt, alloc, nand, geometry, &AFTER)?;
+    tell(rt, nand.errors())
 }
 
 fn main(rt: HostRuntime) -> Result<(), Failure> {
     let alloc = rt.alloc();
     let geometry = Geometry::new(64, 32, 8, 32, 32)?;
-    let die = Die::new(alloc, geometry, &[])?;
-    let board = prepare(&rt, alloc, Board { die }, geometry)?;
-    let (board, geometry) = live(&rt, alloc, board, geometry, &BEFORE)?;
-    live(&rt, alloc, board, geometry, &AFTER)?;
-    Ok(())
+    live_on_board(&rt, alloc, geometry)?;
+    println!(rt; "a chip whose reads have wrong bits")?;
+    live_on_noisy_board(&rt, alloc, geometry)
 }

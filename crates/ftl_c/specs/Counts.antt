@@ -1,5 +1,5 @@
 -- ONE COUNT OF A DISK, by its number: what C asks one after another.
-use Rattle.std.specs.Prelude.{◌≡◌, ◌==◌, ◌<◌, ◌≤◌, ℕ, Bool, Option, Some, None, if◌then◌else◌}
+use Rattle.std.specs.Prelude.{◌≡◌, ◌==◌, ◌<◌, ◌≤◌, ℕ, Bool, List, [], ◌∷◌, Option, Some, None, if◌then◌else◌}
 use Rattle.ftl_device.specs.declared.fault.DeviceFault.{DeviceFault}
 use Rattle.ftl_device.specs.Calls.{number_of}
 use Rattle.device_slot.specs.declared.slot.Shortage.{Shortage}
@@ -46,3 +46,29 @@ pub record Counts (was : Disk) (n result : ℕ) (is : Disk) : Type 0 where
   pub stands : 5 < n → n ≤ 12 → IsReportCount was n result
   pub short : 12 < n → n ≤ 16 → result ≡ of_shortage was.slot.shortage n
   pub none : 16 < n → result ≡ 0
+
+-- ---- one after another
+
+-- a count that was asked for, and what came
+pub record Asked : Type 0 where
+  pub which : ℕ
+  pub count : ℕ
+
+abbrev pub AskedEach : Disk → List Asked → Disk → Type 0
+AskedEach was [] is = is ≡ was
+AskedEach was (asked ∷ more) is = (mid : Disk) × Counts was asked.which asked.count mid × AskedEach mid more is
+
+-- it is that of this disk, whose device stands so
+pub record IsOf (was : Disk) (report : Option Report) (asked : Asked) : Type 0 where
+  pub plan : asked.which ≤ 5 → asked.count ≡ of_plan was.plan asked.which
+  pub stands : 5 < asked.which → asked.which ≤ 12 → asked.count ≡ of_report report asked.which
+  pub short : 12 < asked.which → asked.which ≤ 16 → asked.count ≡ of_shortage was.slot.shortage asked.which
+  pub none : 16 < asked.which → asked.count ≡ 0
+
+abbrev pub AreOf : Disk → Option Report → List Asked → Type 0
+AreOf was report [] = Unit {0}
+AreOf was report (asked ∷ more) = IsOf was report asked × AreOf was report more
+
+-- COUNTS ASKED ONE AFTER ANOTHER ARE OF ONE DISK, and of one report of its device: of a table with a block there is one alone
+abbrev pub OneReportLaw : Type 0
+OneReportLaw = (was is : Disk) (report : Option Report) (asked : List Asked) → Reports was.slot.device report → AskedEach was asked is → (is ≡ was) × AreOf was report asked

@@ -24,5 +24,8 @@ honest_in d = false
 abbrev pub failed_in : Die → ℕ
 failed_in d = d.failures
 
+abbrev pub programs_in : Die → ℕ
+programs_in d = d.programs
+
 abbrev pub erases_in : Die → ℕ
 erases_in d = d.erases

@@ -4,20 +4,18 @@ use Rattle.promises.specs.Step as step
 use Rattle.certificate.specs.Claim.{Claim}
 use Rattle.certificate.specs.Spelling as spelling
 use Rattle.certificate.specs.declared.fault.CertFault.{CertFault}
-use Rattle.image_check.specs.Agrees.{IsAsked}
-use Rattle.image_check.specs.declared.refusal.Refusal.{Refusal}
-use Rattle.mount.specs.declared.format_fault.FormatFault.{FormatFault}
+use Rattle.certificate.specs.Faults.{IsFirstFault}
 use Rattle.ftl_device.specs.declared.device.Device.{Device}
-use Rattle.device_slot.specs.declared.power.PowerFault.{PowerFault}
 use Rattle.device_slot.specs.declared.slot.CallFault.{CallFault}
 use Rattle.device_slot.specs.declared.slot.Shortage.{Shortage}
 use Rattle.device_slot.specs.declared.report.Report.{Report}
-use Rattle.device_slot.specs.Begun.{IsBegun}
+use Rattle.device_slot.specs.Power.{IsBrought}
 use Rattle.device_slot.specs.Calls.{IsCall, Told, ToldSized}
 use Rattle.device_slot.specs.Slot.{SlotState, Reports}
-use Rattle.ftl_c.specs.Die.{Die, flash_in, recorded_in, honest_in, failed_in, erases_in}
+use Rattle.ftl_c.specs.Die.{Die, flash_in, recorded_in, honest_in, failed_in, programs_in, erases_in}
+use Rattle.ftl_c.specs.Dies.{FormatsBy, IsBroughtBy, IsCertifiedBy, IsUncertifiedBy, IsUncheckedBy, IsUnstartedBy}
 use Rattle.ftl_c.specs.Measures.{certificate_bytes}
-use Rattle.ftl_c.specs.Numbers.{of_call, of_certificate, of_formatting, of_power, of_refusal}
+use Rattle.ftl_c.specs.Numbers.{of_call, of_certificate}
 use Rattle.ftl_c.specs.Plans.{IsPlanOf, IsUnplanned}
 use Rattle.ftl_c.specs.declared.shape.Shape.{Shape}
 use Rattle.ftl_c.specs.declared.disk.Disk.{Disk}
@@ -49,62 +47,124 @@ pub record IsForStopped (was : Disk) (number : ℕ) (is : Disk) (Then : Type 0) 
 
 -- ---- power
 
--- A FORMAT leaves the disk as it was: with no device
+-- a die of this disk, after Reset
+pub record IsDieOf (was : Disk) (die : Die) : Type 0 where
+  pub sized : die.geometry ≡ was.plan.geometry
+  pub fresh : die.failures ≡ 0
+
+-- the die took the reset, and was formatted or refused
+pub record HasFormatted (was : Disk) (number : ℕ) : Type 0 where
+  pub die : Die
+  pub its : IsDieOf was die
+  pub after : Die
+  pub formats : FormatsBy flash_in honest_in programs_in failed_in was.plan.geometry die number after
+
+-- A FORMAT leaves the disk as it was: with no device. 6 where the die took no reset
 pub record IsFormatting (was : Disk) (number : ℕ) (is : Disk) : Type 0 where
   pub same : is ≡ was
-  pub result : Result ℕ FormatFault
-  pub number_is : number ≡ of_formatting result
+  pub why : (number ≡ 6) ⊎ HasFormatted was number
 
 abbrev pub Formats : Disk → ℕ → Disk → Type 0
 Formats was number is = IsForStopped was number is (IsFormatting was number is)
 
--- a device stands there, begun over the die, of the disk's geometry and with at least its cache
-pub record HasBegun (was is : Disk) : Type 0 where
-  pub device : Device Die
+-- a device stands there
+pub record Holds (was : Disk) (device : Device Die) (is : Disk) : Type 0 where
   pub stands : is.slot ≡ record { device = Some device; shortage = None }
   pub same : IsSame was is
-  pub begun : IsBegun flash_in honest_in device
-  pub sized : device.engine.geometry ≡ was.plan.geometry
-  pub cache : was.plan.cache ≤ device.engine.mapping.capacity
+
+-- one that power brought over the die: of the disk's geometry and with at least its cache
+pub record HasBegun (was is : Disk) : Type 0 where
+  pub die : Die
+  pub its : IsDieOf was die
+  pub device : Device Die
+  pub holds : Holds was device is
+  pub brings : IsBrought flash_in honest_in failed_in die was.plan.geometry was.plan.cache device
+
+-- the die took the reset, and power brought no device
+pub record IsUnstarted (was : Disk) (number : ℕ) : Type 0 where
+  pub die : Die
+  pub its : IsDieOf was die
+  pub given : Die
+  pub why : IsUnstartedBy flash_in honest_in failed_in die was.plan.geometry was.plan.cache number given
+
+-- why there is none: the die took no reset, or that; and the disk is as it was
+pub record IsStopped (was : Disk) (number : ℕ) (is : Disk) (Why : Type 0) : Type 0 where
+  pub same : is ≡ was
+  pub why : (number ≡ 6) ⊎ Why
 
 -- A START: 0 with a device, or the number of what kept it from one, and the disk as it was
 abbrev pub IsStarting : Disk → ℕ → Disk → Type 0
-IsStarting was number is =
-    ((number ≡ 0) × HasBegun was is)
-    ⊎ (((number ≡ 6) ⊎ ((why : PowerFault Die) × (number ≡ of_power why))) × (is ≡ was))
+IsStarting was number is = ((number ≡ 0) × HasBegun was is) ⊎ IsStopped was number is (IsUnstarted was number)
 
 abbrev pub Starts : Disk → ℕ → Disk → Type 0
 Starts was number is = IsForStopped was number is (IsStarting was number is)
 
--- the bytes are not as many as a certificate of this disk has, or none
+-- the bytes are none of a certificate: the first fault that stands in them
+pub record IsNoCertificateBy (bytes : List ℕ) (number : ℕ) : Type 0 where
+  pub fault : CertFault
+  pub first : IsFirstFault bytes fault
+  pub number_is : number ≡ of_certificate fault
+
+-- they are not as many as a certificate of this disk has, or none
 pub record IsNoCertificate (was : Disk) (bytes : List ℕ) (number : ℕ) (is : Disk) : Type 0 where
   pub same : is ≡ was
-  pub why : ((number ≡ 18) × (length bytes ≢ certificate_bytes was.plan.geometry)) ⊎ ((fault : CertFault) × (number ≡ of_certificate fault))
+  pub why : ((number ≡ 18) × (length bytes ≢ certificate_bytes was.plan.geometry)) ⊎ IsNoCertificateBy bytes number
+
+-- a device stands there that began from this certificate
+pub record HasBegunBy (was : Disk) (c : Claim) (is : Disk) : Type 0 where
+  pub die : Die
+  pub its : IsDieOf was die
+  pub device : Device Die
+  pub holds : Holds was device is
+  pub brings : IsBroughtBy flash_in honest_in die was.plan.geometry was.plan.cache device
+
+-- the die took the reset, and this certificate brought no device
+pub record IsUnstartedAt (was : Disk) (c : Claim) (number : ℕ) : Type 0 where
+  pub die : Die
+  pub its : IsDieOf was die
+  pub given : Die
+  pub why : IsUncheckedBy flash_in honest_in failed_in die was.plan.geometry was.plan.cache c number given
+
+abbrev pub IsStartingBy : Disk → Claim → ℕ → Disk → Type 0
+IsStartingBy was c number is = ((number ≡ 0) × HasBegunBy was c is) ⊎ IsStopped was number is (IsUnstartedAt was c number)
+
+-- the bytes are those of a certificate, by which it starts
+pub record StartsByOne (was : Disk) (bytes : List ℕ) (number : ℕ) (is : Disk) : Type 0 where
+  pub claim : Claim
+  pub fits : spelling.Fits claim
+  pub spelled : spelling.certificate_bytes claim ≡ bytes
+  pub starts : IsStartingBy was claim number is
 
 -- A START BY A CERTIFICATE, which is held against the die
 abbrev pub StartsBy : Disk → List ℕ → ℕ → Disk → Type 0
-StartsBy was bytes number is = IsNoCertificate was bytes number is ⊎ IsStarting was number is
+StartsBy was bytes number is = IsNoCertificate was bytes number is ⊎ StartsByOne was bytes number is
 
 abbrev pub StartsCertified : Disk → List ℕ → ℕ → Disk → Type 0
 StartsCertified was bytes number is = IsForStopped was number is (StartsBy was bytes number is)
 
 -- the bytes of a certificate of a die of this disk, for its cache
 pub record IsCertified (was : Disk) (bytes : List ℕ) : Type 0 where
-  pub claim : Claim
-  pub fits : spelling.Fits claim
-  pub spelled : bytes ≡ spelling.certificate_bytes claim
-  pub asked : IsAsked was.plan.geometry was.plan.cache claim
+  pub die : Die
+  pub its : IsDieOf was die
+  pub certifies : IsCertifiedBy flash_in honest_in was.plan.geometry was.plan.cache die bytes
+
+-- the die took the reset, and has none
+pub record IsUnmountedAt (was : Disk) (number : ℕ) : Type 0 where
+  pub die : Die
+  pub its : IsDieOf was die
+  pub given : Die
+  pub why : IsUncertifiedBy flash_in honest_in failed_in was.plan.geometry was.plan.cache die number given
 
 -- or the number of what kept the die from one: its link, its pages, or memory
-abbrev pub IsUncertified : ℕ → Type 0
-IsUncertified number = (number ≢ 0) × ((number ≡ 4) ⊎ (number ≡ 6) ⊎ ((why : Refusal) × (number ≡ of_refusal why)))
+abbrev pub IsUncertified : Disk → ℕ → Type 0
+IsUncertified was number = (number ≢ 0) × ((number ≡ 6) ⊎ IsUnmountedAt was number)
 
 -- A CERTIFICATE IS MADE: the disk stays, and so do the bytes where it is not
 pub record IsCertifying (was : Disk) (given : List ℕ) (number : ℕ) (out : List ℕ) (is : Disk) : Type 0 where
   pub same : is ≡ was
   pub sized : length given ≢ certificate_bytes was.plan.geometry → number ≡ 18
   pub kept : number ≢ 0 → out ≡ given
-  pub why : length given ≡ certificate_bytes was.plan.geometry → number ≢ 0 → (number ≡ 18) ⊎ IsUncertified number
+  pub why : length given ≡ certificate_bytes was.plan.geometry → number ≢ 0 → (number ≡ 18) ⊎ IsUncertified was number
   pub made : number ≡ 0 → IsCertified was out
 
 abbrev pub Certifies : Disk → (given : List ℕ) → ℕ → (out : List ℕ) → Disk → Type 0

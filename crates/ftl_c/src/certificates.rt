@@ -1,29 +1,21 @@
 //! Certificates of a disk, in and out.
 ghost use Rattle.std.specs.Prelude.{◌≡◌, None, IfOk, IfErr};
-ghost use Rattle.ftl_c.specs.Disk.{Certifies, IsCertifying, IsStarting, IsUncertified, StartsBy, StartsCertified, IsCertified};
+ghost use Rattle.ftl_c.specs.Disk.{Certifies, IsCertifying, IsStartingBy, IsUncertified, StartsBy, StartsCertified, IsCertified};
 
+use crate::dies::{certify_over, start_checked_over};
 use crate::disk::{Disk, reset, way_to};
 use crate::measures::certificate_bytes;
-use crate::number::{DONE, STARTED, WRONG_SIZE, of_certificate, of_power, of_refusal};
-use certificate::{Certificate, read_certificate, write_certificate};
-use device_slot::start_checked;
-use mount::mount;
+use crate::number::{DONE, STARTED, WRONG_SIZE, of_certificate};
+use certificate::{Certificate, read_certificate};
 
 // The bytes of the certificate of what the die holds, or the number of what kept it from one.
 fn certified(disk: &Disk) -> Result<Vec<u8>, u32>
     ensures made { IfOk result (λ bytes. IsCertified disk.now bytes.items) }
-    ensures fault { IfErr result IsUncertified }
+    ensures fault { IfErr result (IsUncertified disk.now) }
 {
     let geometry = disk.plan.geometry;
     let mut die = reset(way_to(&disk.link, geometry), geometry)?;
-    let certificate = match mount(disk.alloc, &mut die, &geometry, disk.plan.cache) {
-        Ok(certificate) => certificate,
-        Err(refusal) => return Err(of_refusal(&refusal)),
-    };
-    match write_certificate(disk.alloc, &certificate) {
-        Ok(bytes) => Ok(bytes),
-        Err(fault) => Err(of_certificate(fault)),
-    }
+    certify_over(disk.alloc, &mut die, &disk.plan)
 }
 
 // It is written to `out`, which has to be as long.
@@ -58,19 +50,19 @@ pub(crate) fn certify(disk: &mut Disk, out: &mut [u8]) -> u32
 // The certificate is held against the die, and the device begins.
 fn begin_by(disk: &mut Disk, certificate: &Certificate) -> u32
     requires { disk.old.slot.device ≡ None }
-    ensures { IsStarting disk.old result disk.new }
+    ensures { IsStartingBy disk.old certificate.now result disk.new }
 {
     let geometry = disk.plan.geometry;
     let die = match reset(way_to(&disk.link, geometry), geometry) {
         Ok(die) => die,
         Err(number) => return number,
     };
-    match start_checked(disk.alloc, die, &geometry, disk.plan.cache, certificate) {
+    match start_checked_over(disk.alloc, die, &disk.plan, certificate) {
         Ok(device) => {
             disk.slot.put(device);
             DONE
         }
-        Err(fault) => of_power(&fault),
+        Err((number, _)) => number,
     }
 }
 

@@ -1,6 +1,6 @@
 //! One count of a disk, by its number.
 ghost use Rattle.std.specs.Prelude.{◌≡◌};
-ghost use Rattle.ftl_c.specs.Counts.{Counts, of_plan, of_report, of_shortage, stop_number};
+ghost use Rattle.ftl_c.specs.Counts.{Counts, OneReportLaw, of_plan, of_report, of_shortage, stop_number};
 
 use crate::disk::Disk;
 use crate::plan::Plan;
@@ -79,3 +79,9 @@ pub(crate) fn count(disk: &mut Disk, which: u32) -> u32
         0
     }
 }
+
+/// Counts that are asked one after another, with no other call between, are of one disk, which stays as it is, and of one report of its device. (This
+/// project's.)
+pub fn count_laws()
+    ensures { OneReportLaw }
+{}

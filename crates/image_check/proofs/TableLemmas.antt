@@ -24,7 +24,7 @@ use Rattle.image_check.specs.Survey.{HasTableBytes}
 use Rattle.image_check.proofs.SurveyLemmas.{latest_more, latest_other, latest_start}
 
 -- after one place more the greatest is that place, or the one that it was
-step_place : (l : Latest) (row q : ℕ) (o : Option ℕ) → place_of (step l row o) ≡ Some q → (q ≡ row) ⊎ (place_of l ≡ Some q)
+pub step_place : (l : Latest) (row q : ℕ) (o : Option ℕ) → place_of (step l row o) ≡ Some q → (q ≡ row) ⊎ (place_of l ≡ Some q)
 step_place l row q None e = inr e
 step_place Never row q (Some s) e = inl (let x : row ≡ q = cc in sym x)
 step_place (Once p t) row q (Some s) e =

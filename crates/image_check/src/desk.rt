@@ -19,17 +19,18 @@ fn blank_table(alloc: Global, blocks: u32) -> Result<Table, AllocError>
     Table::new(alloc, &rows)
 }
 
-/// The memory that the judges write into: what the newest table pages say, and of each block its newest pages and its state.
+/// The memory that the judges write into: what the newest table pages say, and of each block its newest pages and its state. (This project's.)
 #[derive(Drop)]
-pub(crate) struct Desk {
+pub struct Desk {
     pub(crate) table: Table,
     pub(crate) counts: Vec<u32>,
-    pub(crate) states: Vec<BlockState>,
+    /// The state of each block, once they were described.
+    pub states: Vec<BlockState>,
 }
 
 impl Desk {
-    /// Nothing written yet.
-    pub(crate) fn new(alloc: Global, geometry: &Geometry) -> Result<Desk, AllocError>
+    /// Nothing written yet: some bytes a block. `AllocError` where a growth was refused.
+    pub fn new(alloc: Global, geometry: &Geometry) -> Result<Desk, AllocError>
         ensures { IfOk result (IsDesk geometry.now) }
     {
         let blocks = geometry.blocks();

@@ -83,8 +83,11 @@ fn judge_blocks(states: &[BlockState], certificate: &Certificate) -> Result<(), 
     Ok(())
 }
 
-// The state of each block, onto the desk, once what an image has to be whatever a certificate says of it was looked at.
-fn describe(survey: &mut Survey, desk: &mut Desk) -> Result<(), Refusal>
+/// As `describe_blocks`, onto a desk on which nothing was written. It takes no memory.
+///
+/// # Errors
+/// Those of `describe_blocks`, but `OutOfMemory`. (This project's rules.)
+pub fn describe(survey: &mut Survey, desk: &mut Desk) -> Result<(), Refusal>
     requires sized { IsSized survey.old.geometry (row_count survey.old.geometry) survey.old }
     requires desk { IsDesk survey.old.geometry desk.old }
     ensures ok { OnOk result ((capacity : ℕ) (image : Image) (claim : Claim) → Surveys survey.old.geometry image survey.old → HoldBetween survey.old.geometry capacity image claim 1 4) }

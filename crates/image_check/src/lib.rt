@@ -27,7 +27,8 @@ mod tables;
 
 pub use accepted::Accepted;
 pub use checker::check;
-pub use judge::describe_blocks;
+pub use desk::Desk;
+pub use judge::{describe, describe_blocks};
 pub use newest::Newest;
 pub use refusal::Refusal;
 pub use scan::{SectorFault, sector, sector_in};

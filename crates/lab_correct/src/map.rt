@@ -1,13 +1,13 @@
 //! The map of a corrected dump: which rows of it have lost chunks, as the mapfile of GNU ddrescue says it.
-ghost use Rattle.std.specs.Prelude.{◌≡◌, ◌+◌, ◌*◌, ◌<◌, ◌≤◌, OnOk, length};
+ghost use Rattle.std.specs.Prelude.{◌≡◌, ◌+◌, ◌*◌, ◌<◌, ◌≤◌, true, OnOk, OnErr, length};
 ghost use Rattle.std.specs.Io.KnownBytes.{Appends};
 ghost use Rattle.page_layout.specs.Geometry.{page_bytes};
 ghost use Rattle.lab_correct.specs.Map.{map_text, map_head, mark_of, next_row, part_text, parts_below, row_at, loss_text, remark_line, status_line};
 
 use crate::correcting::Loss;
+use lab_dump::{LineFault, MapWriter};
 use page_layout::geometry::Geometry;
 use std::fmt;
-use std::io::{self, Write};
 
 // Some bytes of the dump, and whether they are of rows with lost chunks.
 #[derive(Clone, Copy)]
@@ -47,15 +47,16 @@ fn bytes_of(geometry: &Geometry, rows: u64) -> u64
 }
 
 // Prints the line of the rows from the first one to the one before the end, if there are any.
-fn print_part<W: Write>(
+fn print_part<W: MapWriter>(
     out: &mut W,
     geometry: &Geometry,
     first: u64,
     end: u64,
     lost: bool,
-) -> io::Result<()>
+) -> Result<(), LineFault>
     requires { end ≤ 4294967296 }
-    ensures { OnOk result (Appends (W.contents out.old) (W.contents out.new) (part_text (page_bytes geometry.now) first end lost)) }
+    ensures printed { OnOk result (Appends (W.contents out.old) (W.contents out.new) (part_text (page_bytes geometry.now) first end lost)) }
+    ensures failed { OnErr result (W.failed out.new ≡ true) }
 {
     if end <= first {
         return Ok(());
@@ -65,7 +66,7 @@ fn print_part<W: Write>(
         size: bytes_of(geometry, end - first),
         lost,
     };
-    writeln!(out, "{part}")
+    out.line(part)
 }
 
 // The row of a loss.
@@ -91,17 +92,28 @@ fn next_row(losses: &[Loss], count: usize) -> u64
 }
 
 // Prints the lines of a loss, and of the rows between it and the one before.
-fn print_loss<W: Write>(out: &mut W, geometry: &Geometry, next: u64, row: u64) -> io::Result<()>
+fn print_loss<W: MapWriter>(
+    out: &mut W,
+    geometry: &Geometry,
+    next: u64,
+    row: u64,
+) -> Result<(), LineFault>
     requires { row + 1 ≤ 4294967296 }
-    ensures { OnOk result (Appends (W.contents out.old) (W.contents out.new) (loss_text (page_bytes geometry.now) next row)) }
+    ensures printed { OnOk result (Appends (W.contents out.old) (W.contents out.new) (loss_text (page_bytes geometry.now) next row)) }
+    ensures failed { OnErr result (W.failed out.new ≡ true) }
 {
     print_part(out, geometry, next, row, false)?;
     print_part(out, geometry, row, row + 1, true)
 }
 
 // Prints the lines of all losses, and of the rows between them.
-fn print_parts<W: Write>(out: &mut W, geometry: &Geometry, losses: &[Loss]) -> io::Result<()>
-    ensures { OnOk result (Appends (W.contents out.old) (W.contents out.new) (parts_below (page_bytes geometry.now) losses.now (length losses.now))) }
+fn print_parts<W: MapWriter>(
+    out: &mut W,
+    geometry: &Geometry,
+    losses: &[Loss],
+) -> Result<(), LineFault>
+    ensures printed { OnOk result (Appends (W.contents out.old) (W.contents out.new) (parts_below (page_bytes geometry.now) losses.now (length losses.now))) }
+    ensures failed { OnErr result (W.failed out.new ≡ true) }
 {
     for i in 0..losses.len() {
         print_loss(out, geometry, next_row(losses, i), row_at(losses, i))?;
@@ -111,23 +123,26 @@ fn print_parts<W: Write>(out: &mut W, geometry: &Geometry, losses: &[Loss]) -> i
 
 // Prints the remark.
 #[tactic(auto, unfolding(crate::specs::Map::remark_line))]
-fn print_remark<W: Write>(out: &mut W) -> io::Result<()>
-    ensures { OnOk result (Appends (W.contents out.old) (W.contents out.new) remark_line) }
+fn print_remark<W: MapWriter>(out: &mut W) -> Result<(), LineFault>
+    ensures printed { OnOk result (Appends (W.contents out.old) (W.contents out.new) remark_line) }
+    ensures failed { OnErr result (W.failed out.new ≡ true) }
 {
-    writeln!(out, "# Mapfile of a dump, made by nandlab")
+    out.line("# Mapfile of a dump, made by nandlab")
 }
 
 // Prints that the run has ended.
 #[tactic(auto, unfolding(crate::specs::Map::status_line))]
-fn print_status<W: Write>(out: &mut W) -> io::Result<()>
-    ensures { OnOk result (Appends (W.contents out.old) (W.contents out.new) status_line) }
+fn print_status<W: MapWriter>(out: &mut W) -> Result<(), LineFault>
+    ensures printed { OnOk result (Appends (W.contents out.old) (W.contents out.new) status_line) }
+    ensures failed { OnErr result (W.failed out.new ≡ true) }
 {
-    writeln!(out, "0x0 + 1")
+    out.line("0x0 + 1")
 }
 
 // Prints the lines before those of the parts.
-fn print_head<W: Write>(out: &mut W) -> io::Result<()>
-    ensures { OnOk result (Appends (W.contents out.old) (W.contents out.new) map_head) }
+fn print_head<W: MapWriter>(out: &mut W) -> Result<(), LineFault>
+    ensures printed { OnOk result (Appends (W.contents out.old) (W.contents out.new) map_head) }
+    ensures failed { OnErr result (W.failed out.new ≡ true) }
 {
     print_remark(out)?;
     print_status(out)
@@ -138,10 +153,15 @@ fn print_head<W: Write>(out: &mut W) -> io::Result<()>
 ///
 /// # Errors
 ///
-/// Where a write failed: a beginning of the map may stand there. (The form of the lines is that of GNU ddrescue's mapfile, the remark this
+/// `LineFault` where a line could not be printed: a beginning of the map may stand there. (The form of the lines is that of GNU ddrescue's mapfile, the remark this
 /// project's.)
-pub fn print_losses<W: Write>(out: &mut W, geometry: &Geometry, losses: &[Loss]) -> io::Result<()>
-    ensures { OnOk result (Appends (W.contents out.old) (W.contents out.new) (map_text geometry.now losses.now)) }
+pub fn print_losses<W: MapWriter>(
+    out: &mut W,
+    geometry: &Geometry,
+    losses: &[Loss],
+) -> Result<(), LineFault>
+    ensures printed { OnOk result (Appends (W.contents out.old) (W.contents out.new) (map_text geometry.now losses.now)) }
+    ensures failed { OnErr result (W.failed out.new ≡ true) }
 {
     print_head(out)?;
     print_parts(out, geometry, losses)?;

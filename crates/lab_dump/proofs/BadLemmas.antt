@@ -1,5 +1,5 @@
 -- Which bad blocks were written again.
-use Rattle.std.proofs.Common.{◌≡◌, ◌≢◌, inl, inr, ℕ, zero, suc, add-one, ◌+◌, ◌/◌, ◌<◌, ◌≤◌, Bool, true, false, List, [], ◌∷◌, ◌++◌, length, get_or, Option, Some, None, refl, sym, ap, ◌∙◌, subst, arith, slice_get, count_by}
+use Rattle.std.proofs.Common.{◌≡◌, ◌≢◌, inl, inr, ℕ, zero, suc, ◌+◌, ◌/◌, ◌<◌, Bool, true, false, [], ◌∷◌, length, get_or, Option, Some, None, refl, sym, ap, ◌∙◌, subst, arith, slice_get, count_by}
 use Rattle.std.specs.Prelude.{◌==◌, ◌&&◌, ◌||◌, not, nat_lt}
 use Rattle.std.specs.List.{list_any, range_with_len}
 use Rattle.std.proofs.lemmas.Bool.{cases_Bool, cases_eq, cases_order, eq-eqb, eqb-true, lt-ltb, ltb-true, and_from, and_parts, true≢false}
@@ -12,11 +12,11 @@ use Rattle.page_layout.specs.declared.record.Key.TheVariants.{Sector, Translatio
 use Rattle.page_layout.specs.declared.newest.Latest.{Latest}
 use Rattle.page_layout.specs.declared.newest.Latest.TheVariants.{Never, Once, Tied}
 use Rattle.page_layout.specs.Geometry.{key_count, translation_pages, table_pages}
-use Rattle.page_layout.specs.Greatest.{place_of, Describes, IsGreatest, SharesGreatest}
+use Rattle.page_layout.specs.Greatest.{place_of, Describes}
 use Rattle.page_layout.specs.Key.{key_of}
 use Rattle.page_layout.specs.Page.{Page, Image}
 use Rattle.page_layout.specs.Sound.{record_of}
-use Rattle.page_layout.specs.Newest.{latest_below, newest, sequence_at, AreTied}
+use Rattle.page_layout.specs.Newest.{latest_below, newest, sequence_at}
 use Rattle.page_layout.specs.Live.{IsKeyOf, is_in_block}
 use Rattle.page_layout.specs.Array.{marks}
 use Rattle.page_layout.proofs.NewestLemmas.{newest-is, newest-record, scan_tells, sequence_at-key}

@@ -1,8 +1,7 @@
 -- How many sectors of a dump may be older than the last write.
-use Rattle.std.proofs.Common.{◌≡◌, ◌≢◌, ◌⊎◌, inl, inr, ℕ, zero, suc, ◌+◌, ◌/◌, ◌<◌, ◌≤◌, List, [], ◌∷◌, length, get_or, Option, Some, None}
-use Rattle.std.proofs.Common.{Bool, true, false, refl, sym, ap, ◌∙◌, subst, arith, slice_get}
+use Rattle.std.proofs.Common.{◌≡◌, ◌⊎◌, inl, inr, ℕ, zero, suc, ◌+◌, ◌/◌, ◌<◌, ◌≤◌, [], ◌∷◌, length, get_or, Option, Some, None}
+use Rattle.std.proofs.Common.{Bool, true, false, refl, sym, ap, ◌∙◌, arith, slice_get}
 use Rattle.std.specs.Prelude.{◌&&◌, ◌||◌, not, nat_lt, is_some}
-use Rattle.std.specs.List.{range_with_len}
 use Rattle.std.proofs.lemmas.Bool.{cases_Bool, cases_lt, lt-ltb, le-ltb, ltb-true, and_from, and_parts, true≢false}
 use Rattle.std.proofs.lemmas.List.{get_or_past}
 use Rattle.page_layout.specs.declared.geometry.Geometry.{Geometry}
@@ -21,8 +20,8 @@ use Rattle.page_layout.proofs.ArrayLemmas.{length-marks, mark-page, mark-same, s
 use Rattle.lab_dump.specs.Count.{one}
 use Rattle.image_check.specs.Blocks.{is_factory}
 use Rattle.lab_dump.specs.Bad.{is_excused, is_rewritten}
-use Rattle.lab_dump.specs.Doubts.{has_page, is_erased_at, is_programmed_at, is_unsound_at, is_hole, rows_of, doubts_of, most_older, IsHole}
-use Rattle.lab_dump.specs.Bound.{IsDumpOf, IsInOrder, is_gone_from, is_gone, HasOwnRow, OwnRowLaw, BoundLaw, KeptLaw, HoleLostLaw}
+use Rattle.lab_dump.specs.Doubts.{has_page, is_programmed_at, is_unsound_at, is_hole, rows_of, doubts_of}
+use Rattle.lab_dump.specs.Bound.{IsDumpOf, is_gone_from, is_gone, OwnRowLaw, BoundLaw, KeptLaw, HoleLostLaw}
 use Rattle.lab_dump.proofs.CountLemmas.{broken_of}
 use Rattle.lab_dump.proofs.DoubtLemmas.{upto, upto_more, upto_none, hole_law, sorted}
 

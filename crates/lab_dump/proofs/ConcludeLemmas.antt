@@ -1,19 +1,17 @@
 -- What all pages leave open, summed up block by block.
-use Rattle.std.proofs.Common.{◌≡◌, ◌≢◌, ◌⊎◌, inl, inr, ℕ, zero, suc, add-one, ◌+◌, ◌*◌, ◌/◌, ◌%◌, ◌^◌, ◌<◌, ◌≤◌, Bool, true, false, List, [], ◌∷◌, length, get_or, set, take, replicate, Option, Some, None, refl, sym, ap, ◌∙◌, subst, arith, slice_get, cond, count_by}
+use Rattle.std.proofs.Common.{◌≡◌, ◌⊎◌, inl, inr, ℕ, zero, suc, add-one, ◌+◌, ◌*◌, ◌/◌, ◌%◌, ◌^◌, ◌<◌, ◌≤◌, Bool, true, false, List, [], ◌∷◌, length, get_or, set, take, replicate, Option, Some, None, refl, sym, ap, ◌∙◌, subst, arith, slice_get, cond, count_by}
 use Rattle.std.specs.Prelude.{◌==◌, ◌&&◌, ◌||◌, not, nat_lt, slice_index, slice_range}
-use Rattle.std.specs.Int.{w32, from_le_bytes, div_ceil}
+use Rattle.std.specs.Int.{w32, from_le_bytes}
 use Rattle.std.specs.Global.{Vec}
-use Rattle.std.specs.List.{list_any, range_with_len}
 use Rattle.std.proofs.Math.Seq.{take-length}
 use Rattle.std.proofs.Math.Nat.{mul-le-mul_right, mod-lt, div-lt_iff_lt-mul}
-use Rattle.std.proofs.lemmas.Bool.{cases_Bool, cases_eq, cases_order, eq-eqb, ne_eqb, eqb-true, lt-ltb, le-ltb, and_parts, true≢false}
-use Rattle.std.proofs.lemmas.List.{places, get_or-set_same, get_or-set_other, get_or_default, length-set}
+use Rattle.std.proofs.lemmas.Bool.{cases_eq, cases_order, eq-eqb, ne_eqb, eqb-true, lt-ltb, le-ltb, true≢false}
+use Rattle.std.proofs.lemmas.List.{places, get_or-set_same, get_or-set_other, get_or_default}
 use Rattle.page_layout.specs.declared.geometry.Geometry.{Geometry}
 use Rattle.page_layout.specs.declared.record.Key.TheVariants.{Table}
-use Rattle.page_layout.specs.declared.newest.Latest.{Latest}
-use Rattle.page_layout.specs.Geometry.{entries, key_count, row_count, table_pages, translation_pages}
+use Rattle.page_layout.specs.Geometry.{entries, key_count, row_count, table_pages}
 use Rattle.page_layout.specs.Greatest.{place_of}
-use Rattle.page_layout.specs.Page.{Page, Image, body_at}
+use Rattle.page_layout.specs.Page.{Page, Image}
 use Rattle.page_layout.specs.Sound.{record_of}
 use Rattle.page_layout.specs.Newest.{latest_below, newest}
 use Rattle.page_layout.specs.Live.{is_in_block}
@@ -32,12 +30,12 @@ use Rattle.lab_dump.specs.declared.concluding.Excuse.TheVariants.{Open, Factory,
 use Rattle.lab_dump.specs.Trace.{is_tied_in, place_in}
 use Rattle.lab_dump.specs.Count as sorts
 use Rattle.lab_dump.specs.Count.{HasUnsound, one, is_unsound_in, unsound_below}
-use Rattle.lab_dump.specs.Bad.{is_excused, is_plain, is_rewritten, is_tied, keeps_below, key_at, latest_at, strange_of, ties_below}
+use Rattle.lab_dump.specs.Bad.{is_excused, is_plain, is_rewritten, is_tied, keeps_below, latest_at, strange_of, ties_below}
 use Rattle.lab_dump.specs.Doubts.{doubtful_of, doubts_of, has_page, holes_of, is_hole, is_hole_below, is_outside, is_unsound_at, rows_of, ToldOnceLaw}
 use Rattle.lab_dump.specs.Doubting.{HasHoles, HasTraces, IsDoubting, holes_below}
 use Rattle.lab_dump.specs.Concluding.{IsSeen, added, capped, excuse_by, excuse_of, keeps_in, ties_in}
 use Rattle.lab_dump.proofs.DoubtLemmas.{upto, upto_more, upto_none, upto_same, upto_sum, upto_pages, some_pages}
-use Rattle.lab_dump.proofs.TraceLemmas.{held_at, key_found, tells_place, tells_tied}
+use Rattle.lab_dump.proofs.TraceLemmas.{held_at, tells_place, tells_tied}
 use Rattle.lab_dump.proofs.BadLemmas.{any_at, any_more, any_same}
 
 -- ---- ties, and the blocks that keep a newest page

@@ -31,7 +31,7 @@ use Rattle.lab_dump.specs.Told.{blocks_of, sectors_of, blocks_by, sectors_by, bl
 use Rattle.lab_dump.specs.declared.told.Told.{Told}
 use Rattle.lab_dump.specs.FitLaws.{IsWithin, WithinLaw, PageLaw, LookedLaw, LookedRiseLaw, LookedAllLaw, GreatestLaw, LowerLaw, TableLaw, ShortLaw, FewerLaw}
 use Rattle.lab_dump.specs.declared.fit.TableSays.TheVariants.{Agrees, Short, Silent, Differs}
-use Rattle.lab_dump.specs.Fits.{table_says, missing_pages, place, rank}
+use Rattle.lab_dump.specs.Fits.{table_says, place}
 use Rattle.lab_dump.proofs.ToldLemmas.{used_below, used_more, used_all}
 
 -- ---- the page of a row

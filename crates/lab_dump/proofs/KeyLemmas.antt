@@ -1,101 +1,37 @@
 -- One page more in what is known of the keys.
-use Rattle.std.proofs.Common.{◌≡◌, ◌≢◌, ◌⊎◌, ◌↔◌, ℕ, ◌+◌, ◌<◌, Bool, true, false, List, length, get_or, set, length-set, replicate, Option, Some, None}
-use Rattle.std.proofs.Common.{refl, sym, ap, subst, ◌∙◌, arith, inl, inr, slice_get, cond, ltb, get_or-set_same, get_or-set_other}
+use Rattle.std.proofs.Common.{◌≡◌, ◌≢◌, ◌↔◌, ℕ, ◌+◌, ◌<◌, Bool, true, false, List, length, get_or, set, length-set, Some, None}
+use Rattle.std.proofs.Common.{refl, sym, ap, subst, ◌∙◌, arith, inl, inr, slice_get, get_or-set_same, get_or-set_other}
 use Rattle.std.proofs.lemmas.Bool.{cases_order, cases_eq}
-use Rattle.std.proofs.lemmas.List.{length-replicate, get_or-replicate, get_or_default}
+use Rattle.std.proofs.lemmas.List.{get_or_default}
 use Rattle.page_layout.specs.declared.geometry.Geometry.{Geometry}
-use Rattle.page_layout.specs.declared.record.Record.{Record}
 use Rattle.page_layout.specs.declared.record.Key.{Key}
 use Rattle.page_layout.specs.declared.record.Key.TheVariants.{Table}
 use Rattle.page_layout.specs.declared.newest.Latest.{Latest}
 use Rattle.page_layout.specs.declared.newest.Latest.TheVariants.{Never, Once, Tied}
-use Rattle.page_layout.specs.Geometry.{key_count, row_count, table_pages, entries}
+use Rattle.page_layout.specs.Geometry.{row_count, table_pages, entries}
 use Rattle.page_layout.specs.Page.{Page, Image, body_at}
-use Rattle.page_layout.specs.Greatest.{step, place_of}
-use Rattle.page_layout.specs.Key.{key_of}
+use Rattle.page_layout.specs.Greatest.{place_of}
 use Rattle.page_layout.specs.Newest.{newest, latest_below, sequence_at}
 use Rattle.page_layout.specs.Live.{IsKeyOf}
 use Rattle.page_layout.specs.Array.{marks}
-use Rattle.page_layout.proofs.NewestLemmas.{sequence_at-none, sequence_at-key, sequence_at-other}
-use Rattle.page_layout.proofs.KeyLemmas.{cases_key}
 use Rattle.page_layout.proofs.ArrayLemmas.{body_page, length-marks, latest-newest}
 use Rattle.bad_blocks.specs.TablePage.{IsWellFormed}
-use Rattle.image_check.specs.declared.newest.Newest.{Newest}
-use Rattle.image_check.specs.Newest.{Tells, place_in, blank}
 use Rattle.image_check.specs.Blocks.{table_body}
-use Rattle.image_check.specs.Survey.{index_of, HasNewest}
-use Rattle.image_check.proofs.TellLemmas.{tells_place}
+use Rattle.image_check.specs.Survey.{index_of}
+use Rattle.image_check.proofs.TableLemmas.{step_place}
 use Rattle.image_check.proofs.TablesLemmas.{table_is}
-use Rattle.image_check.proofs.SurveyLemmas.{latest_more, latest_other, latest_start, index_apart, index_within}
+use Rattle.image_check.proofs.SurveyLemmas.{latest_more, latest_other, latest_start, index_within}
 use Rattle.lab_dump.specs.declared.held.State.{State}
 use Rattle.lab_dump.specs.declared.held.State.TheVariants.{Absent, Found}
 use Rattle.lab_dump.specs.Held.{state_by}
-use Rattle.lab_dump.specs.Keys.{is_seen, HasSeen, HasFormed, key_state, state_seen}
-
--- ---- whether there is a page of a key
-
-still : (g : Geometry) (ms : List (Option Record)) (row : ℕ) (key : Key) (seen : List Bool) → get_or seen (index_of g key) false ≡ is_seen (latest_below ms key row) → sequence_at ms key row ≡ None → get_or seen (index_of g key) false ≡ is_seen (latest_below ms key (row + 1))
-still g ms row key seen h none = h ∙ ap is_seen (sym (latest_other ms key row none))
-
-pub seen_none : (g : Geometry) (ms : List (Option Record)) (row : ℕ) (seen : List Bool) → HasSeen g ms row seen → get_or ms row None ≡ None → HasSeen g ms (row + 1) seen
-seen_none g ms row seen h e = record { size = h.size; at = λ key within. still g ms row key seen (h.at key within) (sequence_at-none ms key row e) }
-
-pub seen_outside : (g : Geometry) (ms : List (Option Record)) (row : ℕ) (seen : List Bool) (r : Record) → HasSeen g ms row seen → get_or ms row None ≡ Some r → (¬ IsKeyOf g (key_of r)) → HasSeen g ms (row + 1) seen
-seen_outside g ms row seen r h e outside = record {
-  size = h.size;
-  at = λ key within.
-      let ne : key_of r ≢ key = λ same. outside (subst (λ k. IsKeyOf g k) (sym same) within) in
-      still g ms row key seen (h.at key within) (sequence_at-other ms key row r e ne);
-}
-
-step_seen : (l : Latest) (row s : ℕ) → is_seen (step l row (Some s)) ≡ true
-step_seen Never row s = refl
-step_seen (Once q t) row s = (elim (ltb t s) as (λ b. is_seen (cond b (Once row s) (cond (ltb s t) (Once q t) (Tied q row t))) ≡ true) [
-  | true ↦ refl
-  | false ↦ elim (ltb s t) as (λ b. is_seen (cond b (Once q t) (Tied q row t)) ≡ true) [ true ↦ refl | false ↦ refl ]
-])
-step_seen (Tied a b t) row s = (elim (ltb t s) as (λ c. is_seen (cond c (Once row s) (Tied a b t)) ≡ true) [ true ↦ refl | false ↦ refl ])
-
-pub seen_set : (g : Geometry) (ms : List (Option Record)) (row i : ℕ) (seen : List Bool) (r : Record) → HasSeen g ms row seen → get_or ms row None ≡ Some r → IsKeyOf g (key_of r) → i ≡ index_of g (key_of r) → HasSeen g ms (row + 1) (set seen i true)
-seen_set g ms row i seen r h e within at =
-    let in_items : i < length seen = omega (arith, index_within g (key_of r) within, h.size, at) in
-    record {
-      size = length-set seen i true ∙ h.size;
-      at = λ key k. elim (cases_key (key_of r) key) [
-        | inl same ↦
-            let here : get_or (set seen i true) (index_of g (key_of r)) false ≡ true = ap (λ j. get_or (set seen i true) j false) (sym at) ∙ get_or-set_same seen i true false in_items in
-            let more : is_seen (latest_below ms (key_of r) (row + 1)) ≡ true = ap is_seen (latest_more ms (key_of r) row ∙ ap (step (latest_below ms (key_of r) row) row) (sequence_at-key ms row r e)) ∙ step_seen (latest_below ms (key_of r) row) row r.sequence in
-            subst (λ (x : Key). get_or (set seen i true) (index_of g x) false ≡ is_seen (latest_below ms x (row + 1))) same (here ∙ sym more)
-        | inr ne ↦
-            let apart : index_of g key ≢ i = λ eq. index_apart g (key_of r) key within k ne (sym at ∙ sym eq) in
-            still g ms row key (set seen i true) (get_or-set_other seen i (index_of g key) true false apart ∙ h.at key k) (sequence_at-other ms key row r e ne)
-      ];
-    }
-
-pub seen_start : (g : Geometry) (ms : List (Option Record)) (seen : List Bool) → seen ≡ replicate (key_count g) false → HasSeen g ms 0 seen
-seen_start g ms seen e = record {
-  size = ap length e ∙ length-replicate (key_count g) false;
-  at = λ key within. ap (λ xs. get_or xs (index_of g key) false) e ∙ (get_or-replicate (key_count g) (index_of g key) false false (index_within g key within) ∙ sym (ap is_seen (latest_start ms key)));
-}
+use Rattle.lab_dump.specs.declared.trace.Trace.{Trace}
+use Rattle.lab_dump.specs.declared.trace.Trace.TheVariants as trace
+use Rattle.lab_dump.specs.Doubting.{HasTraces}
+use Rattle.lab_dump.specs.Keys.{HasFormed, key_state}
+use Rattle.lab_dump.specs.Trace.{state_in}
+use Rattle.lab_dump.proofs.TraceLemmas.{tells_state}
 
 -- ---- whether a table page is well formed
-
-step_place : (l : Latest) (row q : ℕ) (o : Option ℕ) → place_of (step l row o) ≡ Some q → (q ≡ row) ⊎ (place_of l ≡ Some q)
-step_place l row q None e = inr e
-step_place Never row q (Some s) e = inl (let x : row ≡ q = cc in sym x)
-step_place (Once p t) row q (Some s) e =
-    (elim (ltb t s) as (λ b. place_of (cond b (Once row s) (cond (ltb s t) (Once p t) (Tied p row t))) ≡ Some q → (q ≡ row) ⊎ (Some p ≡ Some q)) [
-      | true ↦ λ d. inl (let x : row ≡ q = cc in sym x)
-      | false ↦ elim (ltb s t) as (λ b. place_of (cond b (Once p t) (Tied p row t)) ≡ Some q → (q ≡ row) ⊎ (Some p ≡ Some q)) [
-        | true ↦ λ d. inr d
-        | false ↦ λ d. absurd cc
-      ]
-    ]) e
-step_place (Tied a b t) row q (Some s) e =
-    (elim (ltb t s) as (λ b'. place_of (cond b' (Once row s) (Tied a b t)) ≡ Some q → (q ≡ row) ⊎ (None ≡ Some q)) [
-      | true ↦ λ d. inl (let x : row ≡ q = cc in sym x)
-      | false ↦ λ d. absurd cc
-    ]) e
 
 -- what is said of table page u's newest page, where that is in this row
 abbrev pub Says : Geometry → Image → ℕ → ℕ → Bool → Type 0
@@ -154,25 +90,17 @@ formed_start g image formed size = record {
 
 -- ---- how a key stands
 
-pub state_told : (x : Newest) (l : Latest) (seen : Bool) → Tells x l → seen ≡ is_seen l → state_seen (place_in x) seen ≡ state_by l
-state_told x l seen told is = ap (λ o. state_seen o seen) (tells_place x l told) ∙ (ap (state_seen (place_of l)) is ∙ both l)
-  where
-    both : (k : Latest) → state_seen (place_of k) (is_seen k) ≡ state_by k
-    both Never = refl
-    both (Once row s) = refl
-    both (Tied a b s) = refl
-
 -- the first n states are those
-pub record AreStated (newest : List Newest) (seen : List Bool) (n : ℕ) (states : List State) : Type 0 where
-  pub size : length states ≡ length newest
-  pub each : (i : ℕ) → i < n → get_or states i Absent ≡ state_seen (place_in (get_or newest i blank)) (get_or seen i false)
+pub record AreStated (traces : List Trace) (n : ℕ) (states : List State) : Type 0 where
+  pub size : length states ≡ length traces
+  pub each : (i : ℕ) → i < n → get_or states i Absent ≡ state_in (get_or traces i trace.Never)
 
-pub stated_more : (newest : List Newest) (seen : List Bool) (n : ℕ) (states : List State) (d : Newest) (x : State) → AreStated newest seen n states → n < length newest → x ≡ state_seen (place_in (get_or newest n d)) (get_or seen n false) → AreStated newest seen (n + 1) (set states n x)
-stated_more newest seen n states d x h within is = record {
+pub stated_more : (traces : List Trace) (n : ℕ) (states : List State) (d : Trace) (x : State) → AreStated traces n states → n < length traces → x ≡ state_in (get_or traces n d) → AreStated traces (n + 1) (set states n x)
+stated_more traces n states d x h within is = record {
   size = length-set states n x ∙ h.size;
   each = λ i l. elim (cases_eq i n) [
-    | inl same ↦ subst (λ k. get_or (set states n x) k Absent ≡ state_seen (place_in (get_or newest k blank)) (get_or seen k false)) (sym same)
-        (get_or-set_same states n x Absent (omega (arith, h.size)) ∙ (is ∙ ap (λ y. state_seen (place_in y) (get_or seen n false)) (get_or_default newest n d blank within)))
+    | inl same ↦ subst (λ k. get_or (set states n x) k Absent ≡ state_in (get_or traces k trace.Never)) (sym same)
+        (get_or-set_same states n x Absent (omega (arith, h.size)) ∙ (is ∙ ap (λ y. state_in y) (get_or_default traces n d trace.Never within)))
     | inr ne ↦ get_or-set_other states n i x Absent ne ∙ h.each i (below i n l ne)
   ];
 }
@@ -180,13 +108,13 @@ stated_more newest seen n states d x h within is = record {
     below : (i n : ℕ) → i < n + 1 → i ≢ n → i < n
     below i n l ne = elim (cases_order i n) [ inl same ↦ absurd (ne same) | inr (inl less) ↦ less | inr (inr more) ↦ absurd (omega arith) ]
 
-pub keys_stated : (g : Geometry) (image : Image) (newest : List Newest) (seen : List Bool) (states : List State) → length image ≡ row_count g → HasNewest g (marks image) (row_count g) newest → HasSeen g (marks image) (row_count g) seen
-    → ((i : ℕ) → i < length newest → get_or states i Absent ≡ state_seen (place_in (get_or newest i blank)) (get_or seen i false)) → (key : Key) → IsKeyOf g key → get_or states (index_of g key) Absent ≡ key_state image key
+pub keys_stated : (g : Geometry) (image : Image) (traces : List Trace) (states : List State) → length image ≡ row_count g → HasTraces g (marks image) (row_count g) traces
+    → ((i : ℕ) → i < length traces → get_or states i Absent ≡ state_in (get_or traces i trace.Never)) → (key : Key) → IsKeyOf g key → get_or states (index_of g key) Absent ≡ key_state image key
 unfolding key_state
-keys_stated g image newest seen states whole h s each key within =
+keys_stated g image traces states whole h each key within =
     let size = h.size in
     each (index_of g key) (omega (arith, index_within g key within))
-    ∙ (state_told (get_or newest (index_of g key) blank) (latest_below (marks image) key (row_count g)) (get_or seen (index_of g key) false) (h.at key within) (s.at key within)
+    ∙ (tells_state (get_or traces (index_of g key) trace.Never) (latest_below (marks image) key (row_count g)) (h.at key within)
     ∙ ap (λ n. state_by (latest_below (marks image) key n)) (sym whole))
 
 -- a key that has a newest page

@@ -24,11 +24,7 @@ use Rattle.image_check.proofs.MountableLemmas.{mountable}
 use Rattle.lab_dump.specs.declared.counts.PageCounts.{PageCounts}
 use Rattle.lab_dump.specs.declared.survey.DieSurvey.{DieSurvey}
 use Rattle.lab_dump.specs.Count.{counts_of, is_in_range, is_outside, is_last}
-use Rattle.image_check.specs.Survey.{index_of}
-use Rattle.lab_dump.specs.declared.held.State.{State}
-use Rattle.lab_dump.specs.declared.held.State.TheVariants.{Absent}
-use Rattle.lab_dump.specs.Keys.{key_state}
-use Rattle.lab_dump.specs.Surveyed.{FormedAs, HasNoReason, IsReadable, IsSurveyed, LooksReadable, MountsLaw, RepeatsAs}
+use Rattle.lab_dump.specs.Surveyed.{HasNoReason, IsSurveyed, MountsLaw, RepeatsAs}
 use Rattle.lab_dump.proofs.KeyLemmas.{found_of, place_found}
 
 -- ---- counts that are 0
@@ -131,31 +127,6 @@ apart image (Some rows) h distinct =
 distinct_of : (image : Image) (o : Option (ℕ × ℕ)) → RepeatsAs (marks image) o → o ≡ None → AreDistinct (marks image)
 distinct_of image None h e = h
 distinct_of image (Some rows) h e = absurd (cc)
-
--- ---- the first three faults
-
-pub looks_of : (g : Geometry) (image : Image) (c : PageCounts) (o : Option (ℕ × ℕ)) (keys : List State) (formed : List Bool) → c ≡ counts_of g image → RepeatsAs (marks image) o
-    → ((key : Key) → IsKeyOf g key → get_or keys (index_of g key) Absent ≡ key_state image key) → FormedAs g image formed → IsReadable g image → LooksReadable g c o keys formed
-looks_of g image c o keys formed count repeats stand well h =
-    let found = λ (u : ℕ) (l : u < table_pages g). (let at = h.tables.formatted u l in found_of image (Table u) at.row at.newest_is) in
-    record {
-      outside = outside_is g image c count ∙ outside_none g image h.numbers;
-      repeated_is = apart image o repeats h.sequences;
-      tables = λ u l. (stand (Table u) l ∙ found u l, (well u l (found u l)).1 (h.tables.formed u l));
-    }
-
-pub readable_of : (g : Geometry) (image : Image) (c : PageCounts) (o : Option (ℕ × ℕ)) (keys : List State) (formed : List Bool) → c ≡ counts_of g image → RepeatsAs (marks image) o
-    → ((key : Key) → IsKeyOf g key → get_or keys (index_of g key) Absent ≡ key_state image key) → FormedAs g image formed → LooksReadable g c o keys formed → IsReadable g image
-readable_of g image c o keys formed count repeats stand well h =
-    let found = λ (u : ℕ) (l : u < table_pages g). sym (stand (Table u) l) ∙ (h.tables u l).0 in
-    record {
-      numbers = numbers_of g image (sym (outside_is g image c count) ∙ h.outside);
-      sequences = distinct_of image o repeats h.repeated_is;
-      tables = record {
-        formatted = λ u l. (let at = place_found image (Table u) (found u l) in record { row = at.row; newest_is = at.newest_is });
-        formed = λ u l. (well u l (found u l)).0 (h.tables u l).1;
-      };
-    }
 
 -- ---- the law
 

@@ -1,5 +1,5 @@
 -- One page more in what is held of each key, and the keys by their places.
-use Rattle.std.proofs.Common.{◌≡◌, ◌≢◌, inl, inr, ℕ, ◌+◌, ◌-◌, ◌<◌, ◌≤◌, Bool, true, false, List, length, get_or, set, replicate, Option, Some, None, refl, sym, ap, ◌∙◌, subst, arith, cond}
+use Rattle.std.proofs.Common.{◌≡◌, ◌≢◌, inl, inr, ℕ, ◌+◌, ◌-◌, ◌<◌, List, length, get_or, set, replicate, Option, Some, None, refl, sym, ap, ◌∙◌, subst, arith, cond}
 use Rattle.std.specs.Prelude.{nat_lt}
 use Rattle.std.proofs.lemmas.Bool.{cases_lt, lt-ltb, le-ltb}
 use Rattle.std.proofs.lemmas.List.{get_or-set_same, get_or-set_other, get_or-replicate, get_or_default, length-set, length-replicate}
@@ -9,7 +9,7 @@ use Rattle.page_layout.specs.declared.record.Key.{Key}
 use Rattle.page_layout.specs.declared.record.Key.TheVariants.{Sector, Translation, Table}
 use Rattle.page_layout.specs.declared.newest.Latest.{Latest}
 use Rattle.page_layout.specs.declared.newest.Latest.TheVariants as latest
-use Rattle.page_layout.specs.Geometry.{key_count, translation_pages, table_pages}
+use Rattle.page_layout.specs.Geometry.{key_count, translation_pages}
 use Rattle.page_layout.specs.Greatest.{step, place_of}
 use Rattle.page_layout.specs.Key.{key_of}
 use Rattle.page_layout.specs.Newest.{latest_below, sequence_at}
@@ -20,7 +20,8 @@ use Rattle.image_check.specs.Survey.{index_of}
 use Rattle.image_check.proofs.SurveyLemmas.{latest_more, latest_other, latest_start, index_apart, index_within}
 use Rattle.lab_dump.specs.declared.trace.Trace.{Trace}
 use Rattle.lab_dump.specs.declared.trace.Trace.TheVariants.{Never, Once, Tied}
-use Rattle.lab_dump.specs.Trace.{Tells, place_in, is_tied_in}
+use Rattle.lab_dump.specs.Trace.{Tells, place_in, is_tied_in, state_in}
+use Rattle.lab_dump.specs.Held.{state_by}
 use Rattle.lab_dump.specs.Doubting.{HasTraces}
 use Rattle.lab_dump.specs.Bad.{key_at, is_tied}
 
@@ -37,6 +38,12 @@ tells_tied Never latest.Never h = refl
 tells_tied (Once at kept) (latest.Once row s) h = refl
 tells_tied (Tied kept) (latest.Tied a b s) h = refl
 tells_tied _ _ h = absurd h
+
+pub tells_state : (t : Trace) (l : Latest) → Tells t l → state_in t ≡ state_by l
+tells_state Never latest.Never h = refl
+tells_state (Once at kept) (latest.Once row s) h = refl
+tells_state (Tied kept) (latest.Tied a b s) h = refl
+tells_state _ _ h = absurd h
 
 still : (ms : List (Option Record)) (row : ℕ) (key : Key) (t : Trace) → sequence_at ms key row ≡ None → Tells t (latest_below ms key row) → Tells t (latest_below ms key (row + 1))
 still ms row key t none h = subst (λ l. Tells t l) (sym (latest_other ms key row none)) h

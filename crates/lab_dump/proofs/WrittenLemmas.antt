@@ -1,9 +1,7 @@
 -- What the pieces are once all pages were taken.
-use Rattle.std.proofs.Common.{◌≡◌, ℕ, ◌<◌, ◌↔◌, List, [], length, get_or, map, take, Option, Some, None, IfSome}
-use Rattle.std.proofs.Common.{refl, sym, ap, ◌∙◌, subst, arith}
+use Rattle.std.proofs.Common.{◌≡◌, ℕ, ◌<◌, ◌↔◌, List, [], length, get_or, map, Option, Some, None, IfSome}
+use Rattle.std.proofs.Common.{refl, sym, ap, ◌∙◌, arith}
 use Rattle.std.specs.List.{range_with_len}
-use Rattle.std.specs.Prelude.{count_by}
-use Rattle.std.proofs.Math.Seq.{take-length}
 use Rattle.std.proofs.lemmas.List.{same_lists, get_or-map, length-map}
 use Rattle.std.proofs.lemmas.List.FromFn.{length-map-range_with_len, get_or-map-range_with_len}
 use Rattle.page_layout.specs.declared.geometry.Geometry.{Geometry}
@@ -16,7 +14,6 @@ use Rattle.page_layout.specs.Raw.{raw_image}
 use Rattle.page_layout.specs.Greatest.{place_of}
 use Rattle.page_layout.specs.Newest.{latest_below}
 use Rattle.page_layout.specs.Array.{marks, content_at, sector_of, array_of}
-use Rattle.page_layout.specs.Block.{is_broken}
 use Rattle.page_layout.proofs.RawLemmas.{length-raw_image}
 use Rattle.page_layout.proofs.ArrayLemmas.{latest-newest, length-marks, sector_is, array_is, scan_tied, scan_never, scan_once}
 use Rattle.image_check.specs.Sector.{IsAmbiguous}

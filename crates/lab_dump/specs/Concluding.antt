@@ -1,5 +1,5 @@
 -- What all pages leave open, summed up block by block.
-use Rattle.std.specs.Prelude.{◌≡◌, ℕ, ◌+◌, ◌-◌, ◌*◌, ◌/◌, ◌^◌, ◌<◌, ◌==◌, ◌&&◌, min, not, if◌then◌else◌, Bool, false, List, length, count_by, get_or}
+use Rattle.std.specs.Prelude.{◌≡◌, ℕ, ◌+◌, ◌-◌, ◌*◌, ◌^◌, ◌<◌, ◌==◌, ◌&&◌, min, not, if◌then◌else◌, Bool, false, List, length, count_by, get_or}
 use Rattle.std.specs.List.{list_any, range_with_len}
 use Rattle.page_layout.specs.declared.geometry.Geometry.{Geometry}
 use Rattle.page_layout.specs.Geometry.{key_count, row_count, table_pages}

@@ -1,5 +1,5 @@
 -- What a pass over the pages notes of what they leave open.
-use Rattle.std.specs.Prelude.{◌≡◌, ℕ, zero, suc, ◌+◌, ◌*◌, ◌/◌, ◌%◌, ◌<◌, ◌≤◌, ◌==◌, ◌&&◌, if◌then◌else◌, Bool, true, false, All, List, length, get_or, count_by, take, replicate, Option, Some, None}
+use Rattle.std.specs.Prelude.{◌≡◌, ℕ, zero, suc, ◌+◌, ◌*◌, ◌/◌, ◌%◌, ◌<◌, ◌≤◌, ◌==◌, ◌&&◌, if◌then◌else◌, false, All, List, length, get_or, count_by, take, replicate, Option}
 use Rattle.std.specs.List.{range_with_len}
 use Rattle.page_layout.specs.declared.geometry.Geometry.{Geometry}
 use Rattle.page_layout.specs.declared.record.Record.{Record}
@@ -13,7 +13,6 @@ use Rattle.page_layout.specs.Array.{marks}
 use Rattle.image_check.specs.Survey.{HasTableBytes, index_of}
 use Rattle.lab_dump.specs.declared.trace.Trace.{Trace}
 use Rattle.lab_dump.specs.declared.trace.Trace.TheVariants.{Never}
-use Rattle.lab_dump.specs.declared.doubts.Doubts.{Doubts}
 use Rattle.lab_dump.specs.declared.doubting.Doubting.{Doubting}
 use Rattle.lab_dump.specs.Trace.{Tells}
 use Rattle.lab_dump.specs.Count as count

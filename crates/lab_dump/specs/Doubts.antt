@@ -1,5 +1,5 @@
 -- What a dump leaves open of its array: the pages that may have been the newest of a sector, and the sectors that the geometry leaves out.
-use Rattle.std.specs.Prelude.{◌≡◌, ◌↔◌, ℕ, zero, suc, ◌+◌, ◌/◌, ◌%◌, ◌<◌, ◌≤◌, ◌==◌, ◌&&◌, nat_lt, not, if◌then◌else◌, Bool, true, false, length, count_by, take, slice_get, Option, Some, None}
+use Rattle.std.specs.Prelude.{◌≡◌, ◌↔◌, ℕ, ◌+◌, ◌/◌, ◌<◌, ◌==◌, ◌&&◌, nat_lt, not, Bool, true, false, length, count_by, slice_get, Option, Some, None}
 use Rattle.std.specs.List.{list_any, range_with_len}
 use Rattle.page_layout.specs.declared.geometry.Geometry.{Geometry}
 use Rattle.page_layout.specs.declared.record.Record.{Record}

@@ -1,47 +1,23 @@
 -- How the keys stand: with no sound page, with a newest one, or with two that share the greatest sequence; and which table pages are well formed.
-use Rattle.std.specs.Prelude.{◌≡◌, ◌↔◌, ℕ, ◌<◌, Bool, true, false, List, length, get_or, Option, Some, None}
+use Rattle.std.specs.Prelude.{◌≡◌, ◌↔◌, ℕ, ◌<◌, Bool, true, false, List, length, get_or, Some}
 use Rattle.page_layout.specs.declared.geometry.Geometry.{Geometry}
-use Rattle.page_layout.specs.declared.record.Record.{Record}
 use Rattle.page_layout.specs.declared.record.Key.{Key}
 use Rattle.page_layout.specs.declared.record.Key.TheVariants.{Table}
-use Rattle.page_layout.specs.declared.newest.Latest.{Latest}
-use Rattle.page_layout.specs.declared.newest.Latest.TheVariants.{Never, Once, Tied}
-use Rattle.page_layout.specs.Geometry.{entries, table_pages, key_count}
+use Rattle.page_layout.specs.Geometry.{entries, table_pages}
 use Rattle.page_layout.specs.Page.{Image, body_at}
 use Rattle.page_layout.specs.Greatest.{place_of}
 use Rattle.page_layout.specs.Newest.{latest_below}
-use Rattle.page_layout.specs.Live.{IsKeyOf}
 use Rattle.page_layout.specs.Array.{marks}
 use Rattle.bad_blocks.specs.TablePage.{IsWellFormed}
-use Rattle.image_check.specs.Survey.{index_of}
 use Rattle.lab_dump.specs.declared.held.State.{State}
-use Rattle.lab_dump.specs.declared.held.State.TheVariants.{Absent, Found}
-use Rattle.lab_dump.specs.declared.held.State.TheVariants as state
 use Rattle.lab_dump.specs.Held.{state_by}
 
 -- how a key stands
 unfoldable pub key_state : Image → Key → State
 key_state image key = state_by (latest_below (marks image) key (length image))
 
--- some sound page of the key was seen
-abbrev pub is_seen : Latest → Bool
-is_seen Never = false
-is_seen (Once row s) = true
-is_seen (Tied a b s) = true
-
--- of each key whether the first rows have a sound page of it
-pub record HasSeen (g : Geometry) (marks : List (Option Record)) (rows : ℕ) (seen : List Bool) : Type 0 where
-  pub size : length seen ≡ key_count g
-  pub at : (key : Key) → IsKeyOf g key → get_or seen (index_of g key) false ≡ is_seen (latest_below marks key rows)
-
 -- of each table page that has a newest page among the first rows whether that is well formed
 pub record HasFormed (g : Geometry) (image : Image) (rows : ℕ) (formed : List Bool) : Type 0 where
   pub size : length formed ≡ table_pages g
   pub at : (u row : ℕ) → u < table_pages g → place_of (latest_below (marks image) (Table u) rows) ≡ Some row
       → (get_or formed u false ≡ true) ↔ IsWellFormed (entries g) g.blocks u (body_at image row)
-
--- how a key stands of whose newest page this is the row, by whether there is a sound page of it
-abbrev pub state_seen : Option ℕ → Bool → State
-state_seen (Some row) seen = Found
-state_seen None true = state.Tied
-state_seen None false = Absent

@@ -23,11 +23,7 @@ use Rattle.lab_dump.specs.Rows.{within}
 use Rattle.lab_dump.specs.declared.rows.Rows.{Rows}
 use Rattle.lab_dump.specs.declared.pass.ScanFault.{ScanFault}
 use Rattle.lab_dump.specs.declared.pass.ScanFault.TheVariants as scan
-use Rattle.lab_dump.specs.declared.counts.PageCounts.{PageCounts}
-use Rattle.lab_dump.specs.declared.held.State.{State}
 use Rattle.lab_dump.specs.declared.held.State.TheVariants as state
-use Rattle.lab_dump.specs.declared.survey.Blocks.{Blocks}
-use Rattle.lab_dump.specs.declared.survey.Blocks.TheVariants as blocks
 use Rattle.lab_dump.specs.declared.survey.SurveyFault.{SurveyFault}
 use Rattle.lab_dump.specs.declared.survey.SurveyFault.TheVariants as fault
 use Rattle.lab_dump.specs.declared.survey.DieSurvey.{DieSurvey}
@@ -56,32 +52,6 @@ BlocksAs g image (Some states) = IsReadable g image × AreStates g image states
 -- of each table page that has a newest page whether that is well formed
 abbrev pub FormedAs : Geometry → Image → List Bool → Type 0
 FormedAs g image formed = (u : ℕ) → u < table_pages g → key_state image (Table u) ≡ state.Found → (get_or formed u false ≡ true) ↔ IsWellFormed (entries g) g.blocks u (table_body image u)
-
--- what is known of them: where memory was refused nothing
-abbrev pub TellsBlocks : Geometry → Image → Blocks → Type 0
-TellsBlocks g image (blocks.Known states) = IsReadable g image × AreStates g image states.items
-TellsBlocks g image blocks.Unreadable = ¬ IsReadable g image
-TellsBlocks g image blocks.Refused = Unit {0}
-
--- as many as the die has
-abbrev pub AreAll : Geometry → Blocks → Type 0
-AreAll g (blocks.Known states) = length states.items ≡ g.blocks
-AreAll g blocks.Unreadable = Unit {0}
-AreAll g blocks.Refused = Unit {0}
-
--- table page u has a newest page, which is well formed
-abbrev pub IsFormedAt : Geometry → List State → List Bool → ℕ → Type 0
-IsFormedAt g keys formed u = (get_or keys (index_of g (Table u)) state.Absent ≡ state.Found) × (get_or formed u false ≡ true)
-
--- each of the first ones
-abbrev pub AreFormed : Geometry → ℕ → List State → List Bool → Type 0
-AreFormed g pages keys formed = (u : ℕ) → u < pages → IsFormedAt g keys formed u
-
--- what was seen of the pages has none of the first three faults
-pub record LooksReadable (g : Geometry) (counts : PageCounts) (repeated : Option (ℕ × ℕ)) (keys : List State) (formed : List Bool) : Type 0 where
-  pub outside : counts.outside ≡ 0
-  pub repeated_is : repeated ≡ None
-  pub tables : AreFormed g (table_pages g) keys formed
 
 -- ---- the whole
 

@@ -1,5 +1,5 @@
 //! All geometries that fit a dump.
-ghost use Rattle.std.specs.Prelude.{◌≡◌, ◌++◌, ◌+◌, ◌<◌, ◌≤◌, List, ℕ, All, length, IfOk, OnOk, Some, IsPermutation, Err, true};
+ghost use Rattle.std.specs.Prelude.{◌≡◌, ◌++◌, ◌+◌, ◌<◌, ◌≤◌, List, ℕ, All, length, vec_capacity, IfOk, OnOk, OnErr, Some, IsPermutation, Err, true};
 ghost use Rattle.std.specs.List.{flat_map};
 ghost use Rattle.std.specs.List.Sorted.{IsSorted};
 ghost use Rattle.page_layout.specs.Limits.{IsDataSize, IsSpareSize, IsPageCount};
@@ -16,6 +16,9 @@ use thiserror::Error;
 
 // The most bytes that a page may have.
 const MOST_PAGE: usize = 4352;
+
+// The most geometries that may fit: of seven data areas, 225 spare areas, and seven numbers of pages in a block.
+const MOST_FITS: usize = 11025;
 
 /// Why the geometries of a dump were not found.
 #[derive(Clone, Copy, Debug, PartialEq, Eq, Error)]
@@ -50,7 +53,7 @@ impl From<AllocError> for FindFault {
     }
 }
 
-// The geometry with so many pages in a block, if the dump's bytes are whole blocks of it.
+// The geometry with so many pages in a block, if the dump's bytes are whole blocks of it. The list has room for it.
 fn add_shape(
     fits: &mut Vec<Fit>,
     size: u64,
@@ -59,22 +62,24 @@ fn add_shape(
     pages: u32,
     sample: Sample,
     told: Told,
-) -> Result<(), AllocError>
+)
     requires data_size { IsDataSize data_bytes }
     requires spare_size { IsSpareSize spare_bytes }
     requires page_count { IsPageCount pages }
     requires some_sound { 0 < sample.sound }
     requires looked { sample.sound + sample.unsound ≤ sample.looked }
-    ensures added { OnOk result (fits.new.items ≡ fits.old.items ++ shape_fits size data_bytes spare_bytes sample told pages) }
-    ensures any { OnOk result (Adds 1 fits.old.items fits.new.items) }
+    requires place { length fits.old.items < vec_capacity fits.old }
+    ensures added { fits.new.items ≡ fits.old.items ++ shape_fits size data_bytes spare_bytes sample told pages }
+    ensures any { Adds 1 fits.old.items fits.new.items }
+    ensures places { vec_capacity fits.new ≡ vec_capacity fits.old }
 {
-    if let Some(geometry) = shape(size, data_bytes, spare_bytes, pages) {
-        fits.push(fit_of(&geometry, sample, told))?;
-    }
-    Ok(())
+    let Some(geometry) = shape(size, data_bytes, spare_bytes, pages) else {
+        return;
+    };
+    fits.push_reserved(fit_of(&geometry, sample, told));
 }
 
-// Those with each number of pages in a block.
+// Those with each number of pages in a block. The list has room for them.
 fn add_shapes(
     fits: &mut Vec<Fit>,
     size: u64,
@@ -82,21 +87,22 @@ fn add_shapes(
     spare_bytes: u32,
     sample: Sample,
     told: Told,
-) -> Result<(), AllocError>
+)
     requires data_size { IsDataSize data_bytes }
     requires spare_size { IsSpareSize spare_bytes }
     requires some_sound { 0 < sample.sound }
     requires looked { sample.sound + sample.unsound ≤ sample.looked }
-    ensures added { OnOk result (fits.new.items ≡ fits.old.items ++ flat_map (shape_fits size data_bytes spare_bytes sample told) page_counts) }
-    ensures any { OnOk result (Adds 7 fits.old.items fits.new.items) }
+    requires place { length fits.old.items + 7 ≤ vec_capacity fits.old }
+    ensures added { fits.new.items ≡ fits.old.items ++ flat_map (shape_fits size data_bytes spare_bytes sample told) page_counts }
+    ensures any { Adds 7 fits.old.items fits.new.items }
+    ensures places { vec_capacity fits.new ≡ vec_capacity fits.old }
 {
     for pages in page_counts() {
-        add_shape(fits, size, data_bytes, spare_bytes, pages, sample, told)?;
+        add_shape(fits, size, data_bytes, spare_bytes, pages, sample, told);
     }
-    Ok(())
 }
 
-// Those with such areas, of a dump of so many bytes. `page` is scratch.
+// Those with such areas, of a dump of so many bytes. `page` is scratch. The list has room for them.
 fn add_areas<D: Dump>(
     fits: &mut Vec<Fit>,
     dump: &mut D,
@@ -104,13 +110,15 @@ fn add_areas<D: Dump>(
     data_bytes: u32,
     spare_bytes: u32,
     page: &mut [u8],
-) -> Result<(), FindFault>
+) -> Result<(), DumpFault>
     requires data_size { IsDataSize data_bytes }
     requires spare_size { IsSpareSize spare_bytes }
     requires room { 4352 ≤ length page.old }
+    requires place { length fits.old.items + 7 ≤ vec_capacity fits.old }
     ensures added { OnOk result ((all : List ℕ) → D.bytes dump.old ≡ Some all → size ≡ length all → fits.new.items ≡ fits.old.items ++ area_fits all data_bytes spare_bytes) }
     ensures any { OnOk result (Adds 7 fits.old.items fits.new.items) }
-    ensures source { result ≡ Err FindFault.Source → D.failed dump.new ≡ true }
+    ensures places { OnOk result (vec_capacity fits.new ≡ vec_capacity fits.old) }
+    ensures source { OnErr result (D.failed dump.new ≡ true) }
     ensures same { D.bytes dump.new ≡ D.bytes dump.old }
 {
     let Some(geometry) = first_shape(size, data_bytes, spare_bytes) else {
@@ -122,23 +130,25 @@ fn add_areas<D: Dump>(
         return Ok(());
     }
     let told = read_told(dump, &geometry, page)?;
-    add_shapes(fits, size, data_bytes, spare_bytes, sample, told)?;
+    add_shapes(fits, size, data_bytes, spare_bytes, sample, told);
     Ok(())
 }
 
-// Those with a data area of so many bytes.
+// Those with a data area of so many bytes. The list has room for them.
 fn add_data<D: Dump>(
     fits: &mut Vec<Fit>,
     dump: &mut D,
     size: u64,
     data_bytes: u32,
     page: &mut [u8],
-) -> Result<(), FindFault>
+) -> Result<(), DumpFault>
     requires data_size { IsDataSize data_bytes }
     requires room { 4352 ≤ length page.old }
+    requires place { length fits.old.items + 1575 ≤ vec_capacity fits.old }
     ensures added { OnOk result ((all : List ℕ) → D.bytes dump.old ≡ Some all → size ≡ length all → fits.new.items ≡ fits.old.items ++ data_fits all data_bytes) }
     ensures any { OnOk result (Adds 1575 fits.old.items fits.new.items) }
-    ensures source { result ≡ Err FindFault.Source → D.failed dump.new ≡ true }
+    ensures places { OnOk result (vec_capacity fits.new ≡ vec_capacity fits.old) }
+    ensures source { OnErr result (D.failed dump.new ≡ true) }
     ensures same { D.bytes dump.new ≡ D.bytes dump.old }
 {
     for spare_bytes in 32..257 {
@@ -147,17 +157,18 @@ fn add_data<D: Dump>(
     Ok(())
 }
 
-// Those with each data area.
+// Those with each data area. The list has room for them.
 fn add_all<D: Dump>(
     fits: &mut Vec<Fit>,
     dump: &mut D,
     size: u64,
     page: &mut [u8],
-) -> Result<(), FindFault>
-    requires { 4352 ≤ length page.old }
+) -> Result<(), DumpFault>
+    requires room { 4352 ≤ length page.old }
+    requires place { length fits.old.items + 11025 ≤ vec_capacity fits.old }
     ensures added { OnOk result ((all : List ℕ) → D.bytes dump.old ≡ Some all → size ≡ length all → fits.new.items ≡ fits.old.items ++ fits_of all) }
     ensures any { OnOk result (Adds 11025 fits.old.items fits.new.items) }
-    ensures source { result ≡ Err FindFault.Source → D.failed dump.new ≡ true }
+    ensures source { OnErr result (D.failed dump.new ≡ true) }
     ensures same { D.bytes dump.new ≡ D.bytes dump.old }
 {
     for data_bytes in data_sizes() {
@@ -171,23 +182,24 @@ fn add_all<D: Dump>(
 /// read, for what they tell of the blocks and the sectors, and each number of pages in a block that gives whole blocks is one geometry. Its
 /// sectors are the fewest that the pages tell of. A dump that none fits gives an empty list.
 ///
-/// It holds one page, of at most 4352 bytes, and at most 11025 geometries, whatever the dump's size.
+/// It takes room for one page, of at most 4352 bytes, and for 11025 geometries, whatever the dump's size.
 ///
 /// # Errors
 ///
-/// Each when it happens: `Source` where the dump's size cannot be known or a read of it fails, `OutOfMemory` where a growth was refused.
-/// (This project's rules.)
+/// `OutOfMemory` where a growth was refused, before anything was asked of the dump. `Source` where the dump's size cannot be known or a read of it
+/// fails. (This project's rules.)
 pub fn find_geometries<D: Dump>(alloc: Global, dump: &mut D) -> Result<Vec<Fit>, FindFault>
     ensures found { IfOk result (λ fits. (all : List ℕ) → D.bytes dump.old ≡ Some all → IsPermutation (fits_of all) fits.items) }
     ensures ranked { IfOk result (λ fits. IsSorted rank fits.items) }
     ensures possible { IfOk result (λ fits. All IsPossible fits.items) }
     ensures few { IfOk result (λ fits. length fits.items ≤ 11025) }
     ensures source { result ≡ Err FindFault.Source → D.failed dump.new ≡ true }
+    ensures memory { result ≡ Err FindFault.OutOfMemory → dump.new ≡ dump.old }
     ensures same { D.bytes dump.new ≡ D.bytes dump.old }
 {
-    let size = dump.size()?;
     let mut page = vec![in alloc; 0; MOST_PAGE]?;
-    let mut fits = Vec::new(alloc);
+    let mut fits = Vec::with_capacity(alloc, MOST_FITS)?;
+    let size = dump.size()?;
     add_all(&mut fits, dump, size, &mut page)?;
     fits.sort_unstable();
     Ok(fits)

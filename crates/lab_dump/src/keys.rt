@@ -10,7 +10,7 @@ ghost use Rattle.page_layout.specs.Array.{marks};
 ghost use Rattle.bad_blocks.specs.TablePage.{IsWellFormed};
 ghost use Rattle.image_check.specs.Newest.{place_in};
 ghost use Rattle.image_check.specs.Survey.{HasNewest, index_of};
-ghost use Rattle.lab_dump.specs.Keys.{HasSeen, HasFormed};
+ghost use Rattle.lab_dump.specs.Keys.{HasFormed};
 
 use bad_blocks::{Class, Table, TableRow, read_table_page};
 use image_check::Newest;
@@ -31,20 +31,6 @@ pub(crate) fn index_of(geometry: &Geometry, key: Key) -> Option<usize>
         _ => return None,
     };
     Some(index as usize)
-}
-
-// Notes that there is a sound page of a key.
-#[tactic(auto, using(crate::proofs::KeyLemmas::seen_none, crate::proofs::KeyLemmas::seen_outside, crate::proofs::KeyLemmas::seen_set))]
-pub(crate) fn note_seen(geometry: &Geometry, seen: &mut [bool], found: Option<Record>)
-    requires { length seen.old ≡ key_count geometry.now }
-    ensures { (ms : List (Option Record)) (row : ℕ) → HasSeen geometry.now ms row seen.old → get_or ms row None ≡ found → HasSeen geometry.now ms (row + 1) seen.new }
-{
-    let Some(found) = found else {
-        return;
-    };
-    if let Some(index) = index_of(geometry, found.key()) {
-        seen[index] = true;
-    }
 }
 
 // A table of good blocks, to read table pages into.

@@ -27,6 +27,7 @@ mod laws;
 mod look;
 mod make_fault;
 mod map;
+mod map_writer;
 mod page_bytes;
 mod pass;
 mod repeated;
@@ -56,6 +57,7 @@ pub use laws::{
 pub use look::{Look, look_at, look_with};
 pub use make_fault::MakeFault;
 pub use map::print_map;
+pub use map_writer::{LineFault, MapWriter};
 pub use page_bytes::{is_broken, is_sound, join_page};
 pub use pass::{Cut, ScanFault, Stopped, Taker, expect_end, fill, scan, scan_rows};
 pub use rows::{Rows, asked_law, each_law, is_asked, within_law};

@@ -1,13 +1,13 @@
 //! The lines of a map.
-ghost use Rattle.std.specs.Prelude.{◌≡◌, ◌+◌, ◌<◌, ◌++◌, ◌∷◌, [], IfOk, OnOk, map, length, get_or};
+ghost use Rattle.std.specs.Prelude.{◌≡◌, ◌+◌, ◌<◌, ◌++◌, ◌∷◌, [], true, IfOk, OnOk, OnErr, map, length, get_or};
 ghost use Rattle.std.specs.Io.KnownBytes.{Appends};
 ghost use Rattle.lab_dump.specs.Held.{state_in};
 ghost use Rattle.lab_dump.specs.Map.{area_line, area_words, areas_below, ends_at, first_of, is_like, map_head, map_text, remark_line, status_line};
 
 use crate::area::{Area, area_between};
 use crate::held::{Held, State};
+use crate::map_writer::{LineFault, MapWriter};
 use page_layout::geometry::Geometry;
-use std::io::{self, Write};
 
 // How a sector stands.
 fn state_at(held: &[Held], sector: usize) -> State
@@ -39,25 +39,27 @@ fn ends_at(held: &[Held], sector: usize) -> bool
 }
 
 // Prints the line of an area.
-fn print_area<W: Write>(out: &mut W, area: &Area) -> io::Result<()>
-    ensures { OnOk result (Appends (W.contents out.old) (W.contents out.new) (area_words area.now.position area.now.size area.now.state ++ (10 ∷ []))) }
+fn print_area<W: MapWriter>(out: &mut W, area: &Area) -> Result<(), LineFault>
+    ensures printed { OnOk result (Appends (W.contents out.old) (W.contents out.new) (area_words area.now.position area.now.size area.now.state ++ (10 ∷ []))) }
+    ensures failed { OnErr result (W.failed out.new ≡ true) }
 {
-    writeln!(out, "{area}")
+    out.line(*area)
 }
 
 // Prints the line of the area that ends with a sector, if one does, and answers the first sector of the area that the next one is of.
-fn print_end<W: Write>(
+fn print_end<W: MapWriter>(
     out: &mut W,
     geometry: &Geometry,
     held: &[Held],
     first: u32,
     sector: u32,
-) -> io::Result<u32>
+) -> Result<u32, LineFault>
     requires sized { length held.now ≡ geometry.now.sectors }
     requires within { sector < geometry.now.sectors }
     requires first { first ≡ first_of (map state_in held.now) sector }
     ensures next { IfOk result (λ next. next ≡ first_of (map state_in held.now) (sector + 1)) }
-    ensures line { OnOk result (Appends (W.contents out.old) (W.contents out.new) (area_line geometry.now (map state_in held.now) sector)) }
+    ensures printed { OnOk result (Appends (W.contents out.old) (W.contents out.new) (area_line geometry.now (map state_in held.now) sector)) }
+    ensures failed { OnErr result (W.failed out.new ≡ true) }
 {
     if !ends_at(held, sector as usize) {
         return Ok(first);
@@ -68,9 +70,14 @@ fn print_end<W: Write>(
 }
 
 // Prints the lines of all areas.
-fn print_areas<W: Write>(out: &mut W, geometry: &Geometry, held: &[Held]) -> io::Result<()>
+fn print_areas<W: MapWriter>(
+    out: &mut W,
+    geometry: &Geometry,
+    held: &[Held],
+) -> Result<(), LineFault>
     requires { length held.now ≡ geometry.now.sectors }
-    ensures { OnOk result (Appends (W.contents out.old) (W.contents out.new) (areas_below geometry.now (map state_in held.now) geometry.now.sectors)) }
+    ensures printed { OnOk result (Appends (W.contents out.old) (W.contents out.new) (areas_below geometry.now (map state_in held.now) geometry.now.sectors)) }
+    ensures failed { OnErr result (W.failed out.new ≡ true) }
 {
     let mut first = 0;
     for sector in 0..geometry.sectors() {
@@ -81,23 +88,26 @@ fn print_areas<W: Write>(out: &mut W, geometry: &Geometry, held: &[Held]) -> io:
 
 // Prints the remark.
 #[tactic(auto, unfolding(crate::specs::Map::remark_line))]
-fn print_remark<W: Write>(out: &mut W) -> io::Result<()>
-    ensures { OnOk result (Appends (W.contents out.old) (W.contents out.new) remark_line) }
+fn print_remark<W: MapWriter>(out: &mut W) -> Result<(), LineFault>
+    ensures printed { OnOk result (Appends (W.contents out.old) (W.contents out.new) remark_line) }
+    ensures failed { OnErr result (W.failed out.new ≡ true) }
 {
-    writeln!(out, "# Mapfile of an array, made by nandlab")
+    out.line("# Mapfile of an array, made by nandlab")
 }
 
 // Prints that the run has ended.
 #[tactic(auto, unfolding(crate::specs::Map::status_line))]
-fn print_status<W: Write>(out: &mut W) -> io::Result<()>
-    ensures { OnOk result (Appends (W.contents out.old) (W.contents out.new) status_line) }
+fn print_status<W: MapWriter>(out: &mut W) -> Result<(), LineFault>
+    ensures printed { OnOk result (Appends (W.contents out.old) (W.contents out.new) status_line) }
+    ensures failed { OnErr result (W.failed out.new ≡ true) }
 {
-    writeln!(out, "0x0 + 1")
+    out.line("0x0 + 1")
 }
 
 // Prints the lines before those of the areas.
-fn print_head<W: Write>(out: &mut W) -> io::Result<()>
-    ensures { OnOk result (Appends (W.contents out.old) (W.contents out.new) map_head) }
+fn print_head<W: MapWriter>(out: &mut W) -> Result<(), LineFault>
+    ensures printed { OnOk result (Appends (W.contents out.old) (W.contents out.new) map_head) }
+    ensures failed { OnErr result (W.failed out.new ≡ true) }
 {
     print_remark(out)?;
     print_status(out)
@@ -108,11 +118,16 @@ fn print_head<W: Write>(out: &mut W) -> io::Result<()>
 ///
 /// # Errors
 ///
-/// Where a write failed: a beginning of the map may stand there. (The form of the lines is that of GNU ddrescue's mapfile, the remark this
+/// `LineFault` where a line could not be printed: a beginning of the map may stand there. (The form of the lines is that of GNU ddrescue's mapfile, the remark this
 /// project's.)
-pub fn print_map<W: Write>(out: &mut W, geometry: &Geometry, held: &[Held]) -> io::Result<()>
+pub fn print_map<W: MapWriter>(
+    out: &mut W,
+    geometry: &Geometry,
+    held: &[Held],
+) -> Result<(), LineFault>
     requires { length held.now ≡ geometry.now.sectors }
-    ensures { OnOk result (Appends (W.contents out.old) (W.contents out.new) (map_text geometry.now (map state_in held.now))) }
+    ensures printed { OnOk result (Appends (W.contents out.old) (W.contents out.new) (map_text geometry.now (map state_in held.now))) }
+    ensures failed { OnErr result (W.failed out.new ≡ true) }
 {
     print_head(out)?;
     print_areas(out, geometry, held)

@@ -6,10 +6,10 @@ ghost use Rattle.lab_dump.specs.Noted.{Stands, Shows};
 use crate::counts::PageCounts;
 use crate::doubting::Doubting;
 use crate::held::State;
-use crate::keys::{blank_table, note_formed, note_seen};
+use crate::keys::{blank_table, note_formed};
 use crate::pass::{Stopped, Taker};
 use bad_blocks::Table;
-use image_check::Survey;
+use image_check::{Desk, Survey};
 use page_layout::geometry::Geometry;
 use page_layout::record::is_erased;
 use std::alloc::{AllocError, Global};
@@ -20,19 +20,19 @@ pub(crate) struct Seeing {
     // what a certificate is made of
     pub(crate) survey: Survey,
     pub(crate) counts: PageCounts,
-    // of each key, whether there is a sound page of it
-    pub(crate) seen: Vec<bool>,
     // of each table page, whether its newest page is well formed
     pub(crate) formed: Vec<bool>,
     pub(crate) doubting: Doubting,
     // room for how each key stands, which is known in the end
     pub(crate) keys: Vec<State>,
+    // room for the state of each block, which is known in the end
+    pub(crate) desk: Desk,
     // scratch, to read table pages into
     table: Table,
 }
 
 impl Seeing {
-    // Nothing seen yet. All its memory is taken here.
+    // Nothing seen yet. All the memory of a survey is taken here.
     pub(crate) fn new(alloc: Global, geometry: &Geometry) -> Result<Seeing, AllocError>
         ensures stands { IfOk result (Stands geometry.now 0) }
         ensures shows { IfOk result (λ s. (image : Image) → Shows geometry.now 0 image s) }
@@ -41,10 +41,10 @@ impl Seeing {
         Ok(Seeing {
             survey: Survey::new(alloc, geometry)?,
             counts: PageCounts::none(),
-            seen: vec![in alloc; false; keys as usize]?,
             formed: vec![in alloc; false; geometry.table_pages() as usize]?,
             doubting: Doubting::new(alloc, geometry)?,
             keys: vec![in alloc; State::Absent; keys as usize]?,
+            desk: Desk::new(alloc, geometry)?,
             table: blank_table(alloc, geometry.blocks())?,
         })
     }
@@ -74,7 +74,6 @@ impl Taker for Seeing {
         let erased = is_erased(body, spare);
         self.counts = self.counts.step(geometry, found, erased);
         self.doubting.step(geometry, row, found, body, spare);
-        note_seen(geometry, &mut self.seen, found);
         note_formed(
             geometry,
             &mut self.table,

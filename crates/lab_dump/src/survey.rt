@@ -1,17 +1,14 @@
 //! The survey of a dump.
-ghost use Rattle.std.specs.Prelude.{◌≡◌, ◌↔◌, ◌⊎◌, ℕ, ◌<◌, true, false, length, get_or, Err, OnErr, IfOk, IfErr, IfSome, IsPermutation, IsTrue, option_map};
-ghost use Rattle.page_layout.specs.declared.geometry.Geometry.{Geometry};
-ghost use Rattle.page_layout.specs.Geometry.{key_count, row_count, table_pages};
+ghost use Rattle.std.specs.Prelude.{◌≡◌, ℕ, ◌<◌, true, length, get_or, Err, IfOk, IfErr, IfSome, IsPermutation, option_map};
+ghost use Rattle.page_layout.specs.Geometry.{row_count};
 ghost use Rattle.page_layout.specs.Page.{Image};
-ghost use Rattle.page_layout.specs.Raw.{raw_image};
-ghost use Rattle.image_check.specs.Newest.{place_in, blank};
-ghost use Rattle.image_check.specs.Refused.{IsMemory};
+ghost use Rattle.image_check.specs.Room.{IsDesk};
 ghost use Rattle.image_check.specs.Surveyed.{IsSized, Surveys};
-ghost use Rattle.lab_dump.specs.declared.held.State.TheVariants.{Absent, Found};
-ghost use Rattle.lab_dump.specs.Keys.{state_seen};
+ghost use Rattle.lab_dump.specs.declared.held.State.TheVariants.{Absent};
+ghost use Rattle.lab_dump.specs.declared.trace.Trace.TheVariants.{Never};
 ghost use Rattle.lab_dump.specs.Noted.{Stands, Shows};
-ghost use Rattle.lab_dump.specs.Rows.{within};
-ghost use Rattle.lab_dump.specs.Surveyed.{AreAll, AreFormed, BlocksAs, IsFormedAt, IsReadable, IsSurveyed, IsSurveyOf, IsWhole, IsUnsurveyed, LooksReadable, MountsLaw, TellsBlocks};
+ghost use Rattle.lab_dump.specs.Surveyed.{BlocksAs, IsSurveyed, IsSurveyOf, IsWhole, IsUnsurveyed, MountsLaw};
+ghost use Rattle.lab_dump.specs.Trace.{state_in};
 
 use crate::counts::PageCounts;
 use crate::doubts::Doubts;
@@ -21,8 +18,9 @@ use crate::pass::{ScanFault, scan_rows};
 use crate::repeated::first_repeated;
 use crate::rows::Rows;
 use crate::seeing::Seeing;
+use crate::trace::Trace;
 use certificate::BlockState;
-use image_check::{Newest, Refusal, Survey, describe_blocks};
+use image_check::{Desk, Survey, describe};
 use page_layout::geometry::Geometry;
 use std::alloc::{AllocError, Global};
 use thiserror::Error;
@@ -91,146 +89,50 @@ pub fn mounts_law()
     ensures { MountsLaw }
 {}
 
-// How a key stands by the row of its newest page and whether there is a sound page of it.
-fn state_seen(row: Option<u32>, seen: bool) -> State
-    ensures { result ≡ state_seen row seen }
-{
-    match row {
-        Some(_) => State::Found,
-        None if seen => State::Tied,
-        None => State::Absent,
-    }
-}
-
 // Notes how each key stands.
-fn note_keys(newest: &[Newest], seen: &[bool], keys: &mut [State])
-    requires seen { length seen.now ≡ length newest.now }
-    requires room { length keys.old ≡ length newest.now }
-    ensures size { length keys.new ≡ length newest.now }
-    ensures each { (i : ℕ) → i < length newest.now → get_or keys.new i Absent ≡ state_seen (place_in (get_or newest.now i blank)) (get_or seen.now i false) }
+fn note_keys(traces: &[Trace], keys: &mut [State])
+    requires room { length keys.old ≡ length traces.now }
+    ensures size { length keys.new ≡ length traces.now }
+    ensures each { (i : ℕ) → i < length traces.now → get_or keys.new i Absent ≡ state_in (get_or traces.now i Never) }
 {
-    for i in 0..newest.len() {
-        keys[i] = state_seen(newest[i].row(), seen[i]);
+    for i in 0..traces.len() {
+        keys[i] = traces[i].state();
     }
-}
-
-// Whether a growth was refused.
-fn is_memory(refusal: Refusal) -> bool
-    ensures { IsTrue result ↔ IsMemory refusal }
-{
-    matches!(refusal, Refusal::OutOfMemory)
-}
-
-// What is known of the blocks.
-#[derive(Drop)]
-enum Blocks {
-    // the state of each
-    Known(Vec<BlockState>),
-    // the pages have one of the first three faults
-    Unreadable,
-    // a growth was refused
-    Refused,
 }
 
 // The state of each block, where the pages have none of the first three faults.
-fn blocks_of(alloc: Global, survey: &mut Survey) -> Blocks
-    requires { IsSized survey.old.geometry (row_count survey.old.geometry) survey.old }
-    ensures blocks { (image : Image) → Surveys survey.old.geometry image survey.old → TellsBlocks survey.old.geometry image result }
-    ensures size { AreAll survey.old.geometry result }
+fn blocks_of(survey: &mut Survey, mut desk: Desk) -> Option<Vec<BlockState>>
+    requires sized { IsSized survey.old.geometry (row_count survey.old.geometry) survey.old }
+    requires desk { IsDesk survey.old.geometry desk }
+    ensures blocks { (image : Image) → Surveys survey.old.geometry image survey.old → BlocksAs survey.old.geometry image (option_map (λ states. states.items) result) }
+    ensures size { IfSome result (λ states. length states.items ≡ survey.old.geometry.blocks) }
     ensures permutation { IsPermutation survey.old.pairs.items survey.new.pairs.items }
 {
-    match describe_blocks(alloc, survey) {
-        Ok(states) => Blocks::Known(states),
-        Err(refusal) if is_memory(refusal) => Blocks::Refused,
-        Err(_) => Blocks::Unreadable,
+    match describe(survey, &mut desk) {
+        Ok(()) => Some(desk.states),
+        Err(_) => None,
     }
 }
 
-// Whether a key has a newest page.
-fn is_found(state: State) -> bool
-    ensures { IsTrue result ↔ (state ≡ Found) }
-{
-    match state {
-        State::Found => true,
-        State::Absent | State::Tied => false,
-    }
-}
-
-// Whether a table page has a newest page that is well formed.
-fn is_formed_at(geometry: &Geometry, keys: &[State], formed: &[bool], u: u32) -> bool
-    requires keys { length keys.now ≡ key_count geometry.now }
-    requires formed { length formed.now ≡ table_pages geometry.now }
-    requires within { u < table_pages geometry.now }
-    ensures { IsTrue result ↔ IsFormedAt geometry.now keys.now formed.now u }
-{
-    let first = geometry.sectors() + geometry.translation_pages();
-    is_found(keys[(first + u) as usize]) && formed[u as usize]
-}
-
-// Whether each table page has one.
-fn are_formed(geometry: &Geometry, keys: &[State], formed: &[bool]) -> bool
-    requires keys { length keys.now ≡ key_count geometry.now }
-    requires formed { length formed.now ≡ table_pages geometry.now }
-    ensures { IsTrue result ↔ AreFormed geometry.now (table_pages geometry.now) keys.now formed.now }
-{
-    for u in 0..geometry.table_pages() {
-        if !is_formed_at(geometry, keys, formed, u) {
-            return false;
-        }
-    }
-    true
-}
-
-// Whether the pages have none of the first three faults, by what was seen of them.
-fn looks_readable(
-    geometry: &Geometry,
-    counts: PageCounts,
-    repeated: Option<(u32, u32)>,
-    keys: &[State],
-    formed: &[bool],
-) -> bool
-    requires keys { length keys.now ≡ key_count geometry.now }
-    requires formed { length formed.now ≡ table_pages geometry.now }
-    ensures { IsTrue result ↔ LooksReadable geometry.now counts repeated keys.now formed.now }
-{
-    counts.outside == 0 && repeated.is_none() && are_formed(geometry, keys, formed)
-}
-
-// The blocks' states, where they are known and the pages look readable; that they do not is an answer, whatever memory there is.
-fn told_blocks(blocks: Blocks, readable: bool) -> Result<Option<Vec<BlockState>>, AllocError>
-    ensures refused { OnErr result (readable ≡ true) }
-    ensures told { IfOk result (λ told. (g : Geometry) (image : Image) → (readable ≡ false → IsReadable g image → ⊥) → TellsBlocks g image blocks → BlocksAs g image (option_map (λ states. states.items) told)) }
-    ensures size { IfOk result (λ told. (g : Geometry) → AreAll g blocks → IfSome told (λ states. length states.items ≡ g.blocks)) }
-{
-    match blocks {
-        Blocks::Known(states) => Ok(Some(states)),
-        Blocks::Unreadable => Ok(None),
-        Blocks::Refused if readable => Err(AllocError),
-        Blocks::Refused => Ok(None),
-    }
-}
-
-// What was seen in the end.
-fn conclude(alloc: Global, geometry: &Geometry, seeing: Seeing) -> Result<DieSurvey, AllocError>
+// What was seen in the end. It takes no memory.
+fn conclude(geometry: &Geometry, seeing: Seeing) -> DieSurvey
     requires { Stands geometry.now (row_count geometry.now) seeing }
-    ensures whole { IfOk result (IsWhole geometry.now) }
-    ensures survey { IfOk result (λ s. (image : Image) → length image ≡ row_count geometry.now → Shows geometry.now (row_count geometry.now) image seeing → IsSurveyed geometry.now image s) }
-    ensures memory { OnErr result ((image : Image) → length image ≡ row_count geometry.now → Shows geometry.now (row_count geometry.now) image seeing → IsReadable geometry.now image) }
+    ensures whole { IsWhole geometry.now result }
+    ensures survey { (image : Image) → length image ≡ row_count geometry.now → Shows geometry.now (row_count geometry.now) image seeing → IsSurveyed geometry.now image result }
 {
     let (mut survey, mut keys, mut doubting) = (seeing.survey, seeing.keys, seeing.doubting);
-    note_keys(&survey.newest, &seeing.seen, &mut keys);
-    let blocks = blocks_of(alloc, &mut survey);
+    note_keys(&doubting.traces, &mut keys);
+    let blocks = blocks_of(&mut survey, seeing.desk);
     let repeated = first_repeated(&mut survey.pairs);
-    let readable = looks_readable(geometry, seeing.counts, repeated, &keys, &seeing.formed);
-    Ok(DieSurvey {
+    DieSurvey {
         counts: seeing.counts,
         repeated,
         keys,
         formed: seeing.formed,
         doubts: doubting.conclude(geometry),
         unsound: doubting.unsound,
-        blocks: told_blocks(blocks, readable)?,
-    })
+        blocks,
+    }
 }
 
 /// Surveys a dump in one pass over its pages, as if each page of a row that is not asked for were erased; where no rows are named, each is asked
@@ -238,8 +140,7 @@ fn conclude(alloc: Global, geometry: &Geometry, seeing: Seeing) -> Result<DieSur
 ///
 /// # Errors
 ///
-/// `OutOfMemory` where a growth was refused: before any byte was read, or for the blocks' states, which are told of a dump alone whose numbers
-/// are in range, whose sequences differ, and whose table pages are whole. Else each when it happens: `WrongLength` where the dump's bytes ended
+/// `OutOfMemory` where a growth was refused, before any byte was read. Else each when it happens: `WrongLength` where the dump's bytes ended
 /// before the last page or a byte follows it, `Source` where a read failed or was interrupted. (This project's rules.)
 pub fn survey_dump<R: DumpReader>(
     alloc: Global,
@@ -251,11 +152,11 @@ pub fn survey_dump<R: DumpReader>(
     ensures ok { IfOk result (λ survey. IfSome (R.remaining reader.old) (IsSurveyOf geometry.now rows survey)) }
     ensures err { IfErr result (λ fault. IfSome (R.remaining reader.old) (IsUnsurveyed geometry.now fault)) }
     ensures source { result ≡ Err SurveyFault.Source → R.failed reader.new ≡ true }
-    ensures memory { result ≡ Err SurveyFault.OutOfMemory → (reader.new ≡ reader.old) ⊎ IfSome (R.remaining reader.old) (λ bytes. IsReadable geometry.now (within geometry.now rows (raw_image geometry.now bytes))) }
+    ensures memory { result ≡ Err SurveyFault.OutOfMemory → reader.new ≡ reader.old }
 {
     let mut body = vec![in alloc; 0; geometry.data_bytes()]?;
     let mut spare = vec![in alloc; 0; geometry.spare_bytes()]?;
     let mut seeing = Seeing::new(alloc, geometry)?;
     scan_rows(reader, geometry, rows, &mut seeing, &mut body, &mut spare)?;
-    Ok(conclude(alloc, geometry, seeing)?)
+    Ok(conclude(geometry, seeing))
 }

@@ -3,7 +3,9 @@ ghost use Rattle.std.specs.Prelude.{◌≡◌, Some};
 ghost use Rattle.page_layout.specs.Greatest.{step};
 ghost use Rattle.page_layout.specs.declared.newest.Latest.{Latest};
 ghost use Rattle.lab_dump.specs.Lost;
-ghost use Rattle.lab_dump.specs.Trace.{Tells, lost_in, place_in, is_tied_in};
+ghost use Rattle.lab_dump.specs.Trace.{Tells, lost_in, place_in, is_tied_in, state_in};
+
+use crate::held::State;
 
 /// What is known of the newest page of a key once some rows were looked at: what `Latest` says, but for the rows of a tie. A sequence stands
 /// lowest byte first: as a number it would be padded.
@@ -53,6 +55,17 @@ impl Trace {
         match self {
             Trace::Once(row, _) => Some(row),
             Trace::Never | Trace::Tied(_) => None,
+        }
+    }
+
+    // How the key stands.
+    pub(crate) fn state(self) -> State
+        ensures { result ≡ state_in self }
+    {
+        match self {
+            Trace::Never => State::Absent,
+            Trace::Once(..) => State::Found,
+            Trace::Tied(_) => State::Tied,
         }
     }
 

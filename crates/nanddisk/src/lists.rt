@@ -1,4 +1,6 @@
 //! The list of a disk's lost sectors, in a file beside the disk.
+ghost use Rattle.std.specs.Prelude.{◌≡◌};
+
 use disk_damage::write_list;
 use disk_server::KeepsLost;
 use nbd_stream::DiskFault;

@@ -12,6 +12,7 @@ use commands::{CommandFault, FileStore, run, tell};
 use program_words::word_slices;
 use std::alloc::Global;
 use std::env;
+use std::fs::File;
 use std::io::{Read, Write};
 use std::process::ExitCode;
 use std::rt::{Env, Files};
@@ -62,7 +63,7 @@ fn end<F: FileStore, R: Read, W: Write, E: Write>(
 /// files and streams, is said of the functions that this calls.
 ///
 /// (This project's.)
-pub fn run_over<S: Env + Files + AllocGlobal, R: Read, W: Write, E: Write>(
+pub fn run_over<S: Env + Files<File = File> + AllocGlobal, R: Read, W: Write, E: Write>(
     system: &S,
     input: &mut R,
     out: &mut W,

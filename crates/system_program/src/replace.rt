@@ -1,12 +1,13 @@
-//! A file is replaced whole: its bytes are written beside it, synced, and take its name. Where that fails the file is as it was,
+//! A file is replaced whole: its bytes are written to a part beside it, synced, and take its name. Where that fails the file is as it was,
 //! and nothing new stands beside it.
+use part_files::{PartFault, SystemNames, discard, new_part, part_name, publish_over};
 use std::fs::{self, File, Metadata, OpenFile, OpenOptions};
 use std::io::{self, Error, ErrorKind, Write};
 use std::path::PathBuf;
 use std::rt::Files;
 
-// How many names beside a file are tried: a run that was killed may have left some.
-const NAMES: u32 = 100;
+// What the name of a part says of who made it.
+const PROGRAM: &str = "nandctl";
 
 // What stands at a path, where links lead.
 enum Place {
@@ -42,22 +43,18 @@ fn place_of<R: Files + AllocGlobal>(rt: &R, path: &str) -> io::Result<Place> {
     }
 }
 
-// A new file beside a path, under a name that no file has, with that name.
-fn new_beside<R: Files + AllocGlobal>(rt: &R, path: &str) -> io::Result<(R::File, String)> {
-    for number in 0..NAMES {
-        let name = format!(in rt.alloc(); "{path}.part{number}")?;
-        match File::create_new(rt, name.as_str()) {
-            Ok(file) => return Ok((file, name)),
-            Err(error) if error.kind() == ErrorKind::AlreadyExists => {}
-            Err(error) => return Err(error),
-        }
+// What a part that was not made or named comes to.
+fn error_of(fault: PartFault) -> Error {
+    match fault {
+        PartFault::OutOfMemory => Error::from(ErrorKind::OutOfMemory),
+        PartFault::Exists => Error::from(ErrorKind::AlreadyExists),
+        PartFault::InUse | PartFault::Failed => Error::from(ErrorKind::Other),
     }
-    Err(Error::from(ErrorKind::AlreadyExists))
 }
 
 // Writes all bytes to a new file, for whom it was meant before, and waits until the system keeps them.
-fn fill<F: Write + OpenFile + Drop>(
-    mut file: F,
+fn fill<F: Write + OpenFile>(
+    file: &mut F,
     bytes: &[u8],
     before: Option<&Metadata>,
 ) -> io::Result<()> {
@@ -68,22 +65,41 @@ fn fill<F: Write + OpenFile + Drop>(
     file.sync_all()
 }
 
+// Writes a part, and gives it its name.
+fn fill_part<R: Files<File = File>>(
+    names: &mut SystemNames<'_, R>,
+    name: &str,
+    path: &str,
+    bytes: &[u8],
+    before: Option<&Metadata>,
+) -> io::Result<()> {
+    // locked as long as it is open
+    let mut file = new_part(names, name).map_err(error_of)?;
+    let done = match fill(&mut file, bytes, before) {
+        Ok(()) => publish_over(names, name, path).map_err(error_of),
+        Err(error) => Err(error),
+    };
+    if done.is_err() {
+        discard(names, name);
+    }
+    done
+}
+
 // Puts a file of these bytes at a path, whole or not at all.
-fn put_whole<R: Files + AllocGlobal>(
+fn put_whole<R: Files<File = File> + AllocGlobal>(
     rt: &R,
     path: &str,
     bytes: &[u8],
     before: Option<&Metadata>,
 ) -> io::Result<()> {
-    let (file, name) = new_beside(rt, path)?;
-    let done = match fill(file, bytes, before) {
-        Ok(()) => fs::rename(rt, name.as_str(), path),
-        Err(error) => Err(error),
-    };
-    if done.is_err() {
-        let _ = fs::remove_file(rt, name.as_str());
-    }
-    done
+    let name = part_name(rt.alloc(), path, PROGRAM)?;
+    fill_part(
+        &mut SystemNames::new(rt),
+        name.as_str(),
+        path,
+        bytes,
+        before,
+    )
 }
 
 /// Stores these bytes at a path. A regular file there is replaced, where links lead to it, and keeps its permissions: it is opened
@@ -92,7 +108,11 @@ fn put_whole<R: Files + AllocGlobal>(
 /// # Errors
 ///
 /// That of the system's call that failed, or of a growth that was refused. A regular file is then as it was. (This project's.)
-pub(crate) fn replace<R: Files + AllocGlobal>(rt: &R, path: &str, bytes: &[u8]) -> io::Result<()> {
+pub(crate) fn replace<R: Files<File = File> + AllocGlobal>(
+    rt: &R,
+    path: &str,
+    bytes: &[u8],
+) -> io::Result<()> {
     match place_of(rt, path)? {
         Place::Free => put_whole(rt, path, bytes, None),
         Place::Regular(real, found) => {

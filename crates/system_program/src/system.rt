@@ -5,7 +5,7 @@ ghost use Rattle.commands.specs.Files.{stores_after};
 
 use crate::replace::replace;
 use commands::{FileFault, FileStore};
-use std::fs;
+use std::fs::{self, File};
 use std::io::{BufReader, Error, ErrorKind};
 use std::rt::Files;
 
@@ -18,7 +18,7 @@ pub struct SystemFiles<'a, R> {
     rt: &'a R,
 }
 
-impl<'a, R: Files + AllocGlobal> SystemFiles<'a, R> {
+impl<'a, R: Files<File = File> + AllocGlobal> SystemFiles<'a, R> {
     /// The files that the program's handle `rt` reaches. Nothing is opened. (This project's.)
     pub fn new(rt: &'a R) -> SystemFiles<'a, R> {
         SystemFiles { rt }
@@ -37,10 +37,10 @@ fn fault_of(error: Error) -> FileFault
     }
 }
 
-impl<R: Files + AllocGlobal> FileStore for SystemFiles<'_, R> {
+impl<R: Files<File = File> + AllocGlobal> FileStore for SystemFiles<'_, R> {
     ghost use Rattle.std.specs.Prelude.{None, false};
 
-    type Reader = BufReader<R::File>;
+    type Reader = BufReader<File>;
 
     ghost gives = { λ _ _ _. Unit {0} };
 
@@ -52,7 +52,7 @@ impl<R: Files + AllocGlobal> FileStore for SystemFiles<'_, R> {
         fs::read(self.rt, path).map_err(fault_of)
     }
 
-    fn open(&mut self, path: &str) -> Result<BufReader<R::File>, FileFault> {
+    fn open(&mut self, path: &str) -> Result<BufReader<File>, FileFault> {
         let file = fs::open(self.rt, path).map_err(fault_of)?;
         BufReader::with_capacity(self.rt.alloc(), READ_AHEAD, file).map_err(fault_of)
     }

@@ -4,6 +4,7 @@ ghost use Rattle.ftl_device.specs.Device.{IsDevice};
 
 use super::collecting::{CLOSING, collected};
 use super::fault_scripts::nth_call;
+use super::noise::{noisy, quiet};
 use super::script::Script;
 use device_bench::bench::{driver_on, formatted_die, given_up, started};
 use device_bench::calls::{Answer, Call, make};
@@ -61,6 +62,8 @@ pub struct Course {
     pub calls: Calls,
     /// So many calls are made. Those after them are made once the die was started again.
     pub count: u32,
+    /// Whether reads have wrong bits.
+    pub noise: bool,
 }
 
 /// Where a course begins: the geometry and the image of its die, and the sectors that this holds.
@@ -175,6 +178,40 @@ fn stopping(alloc: Global, start: &Start, nth: u64, stop: Stop) -> Result<Driver
     driver_on(die, start.geometry)
 }
 
+// A device with a cache of four on a die at the start of a course, up to where it ends or stops; and the die.
+fn run_on<N: Nand + Drop>(
+    alloc: Global,
+    nand: N,
+    course: &Course,
+    start: &Start,
+    went: &mut Went,
+) -> Result<(N, Geometry), Fail>
+    requires { (N.flash nand).geometry ≡ start.now.geometry }
+    ensures { IfOk result (λ pair. (N.flash pair.0).geometry ≡ pair.1) }
+{
+    let device = started(alloc, nand, &start.geometry, 4)?;
+    after(device, course, went)
+}
+
+// The same, over reads with wrong bits where the course has them.
+fn run_over(
+    alloc: Global,
+    driver: Driver<Die>,
+    course: &Course,
+    start: &Start,
+    went: &mut Went,
+) -> Result<(Driver<Die>, Geometry), Fail>
+    requires { driver.geometry ≡ start.now.geometry }
+    ensures { IfOk result (λ pair. pair.0.geometry ≡ pair.1) }
+{
+    if !course.noise {
+        return run_on(alloc, driver, course, start, went);
+    }
+    let nand = noisy(alloc, driver, &start.geometry)?;
+    let (nand, geometry) = run_on(alloc, nand, course, start, went)?;
+    Ok((quiet(nand)?, geometry))
+}
+
 /// What is left by the device of a course, with a cache of four, whose die stops at this program or erase, or none where the course
 /// ends before.
 ///
@@ -190,8 +227,7 @@ pub fn left_by(
 ) -> Result<Option<Left>, Fail> {
     let mut went = going_on(start.script);
     let driver = stopping(alloc, start, nth, stop)?;
-    let device = started(alloc, driver, &start.geometry, 4)?;
-    let (driver, geometry) = after(device, course, &mut went)?;
+    let (driver, geometry) = run_over(alloc, driver, course, start, &mut went)?;
     let Some(stopped) = went.stopped else {
         return Ok(None);
     };

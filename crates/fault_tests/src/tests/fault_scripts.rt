@@ -2,11 +2,13 @@
 ghost use Rattle.std.specs.Prelude.{◌≡◌, IfOk};
 ghost use Rattle.ftl_device.specs.Device.{IsDevice};
 
+use super::noise::{noisy, quiet};
 use super::script::{Script, change, compare};
 use device_bench::bench::{formatted_die, given_up, small, started};
 use device_bench::calls::Call;
 use ftl_device::Device;
-use onfi_cycles::Nand;
+use nand_die::Die;
+use onfi_cycles::{Driver, Nand};
 use page_layout::geometry::Geometry;
 use std::alloc::Global;
 use std::process::Abort;
@@ -14,6 +16,9 @@ use std::test::Fail;
 
 // So far apart are the changes that fail first: with 1 here each is tried, which takes some minutes.
 const EACH: u16 = 7;
+
+// The same over reads with wrong bits.
+const EACH_NOISY: u16 = 41;
 
 // Call i.
 pub fn nth_call(i: u32) -> Call {
@@ -64,6 +69,24 @@ fn give_on<N: Nand + Drop>(
     Ok(device.into_nand())
 }
 
+// The same over reads with wrong bits, where this is wanted.
+fn give_over(
+    rt: &impl Abort,
+    alloc: Global,
+    driver: Driver<Die>,
+    geometry: &Geometry,
+    good: u32,
+    noise: bool,
+) -> Result<Driver<Die>, Fail>
+    requires { driver.geometry ≡ geometry.now }
+{
+    if !noise {
+        return give_on(rt, alloc, driver, geometry, good);
+    }
+    let nand = noisy(alloc, driver, geometry)?;
+    quiet(give_on(rt, alloc, nand, geometry, good)?)
+}
+
 // Gives them on a new die, of which these changes fail. Its own changes, none of them illegal.
 fn changes_with(
     rt: &impl Abort,
@@ -71,26 +94,33 @@ fn changes_with(
     failing: &[u16],
     page_left: usize,
     good: u32,
+    noise: bool,
 ) -> Result<u64, Fail> {
     let geometry = small()?;
     let driver = formatted_die(alloc, geometry, failing, page_left)?;
-    let die = give_on(rt, alloc, driver, &geometry, good)?.into_bus();
+    let die = give_over(rt, alloc, driver, &geometry, good, noise)?.into_bus();
     assert_eq!(rt; die.abuse(), 0, "{failing:?}");
     Ok(die.changes().saturating_sub(2))
 }
 
-// Each change fails, and so many after it: to the call in which the last of them did, and to the end.
-fn hold_each(rt: &impl Abort, alloc: Global, count: u16) -> Result<(), Fail> {
-    let changes = changes_with(rt, alloc, &[], 0, 0)?;
+// Changes fail, one in so many, and so many after each: to the call in which the last of them did, and to the end.
+fn hold_each(
+    rt: &impl Abort,
+    alloc: Global,
+    count: u16,
+    each: u16,
+    noise: bool,
+) -> Result<(), Fail> {
+    let changes = changes_with(rt, alloc, &[], 0, 0, noise)?;
     assert!(rt; changes > 400 && changes < 10_000, "{changes}");
     for first in 1..=changes as u16 {
-        if first % EACH == 0 {
+        if first % each.max(1) == 0 {
             let failing = [first, first.wrapping_add(1), first.wrapping_add(2)];
             let failing = &failing[..usize::from(count).min(3)];
             let page_left = if first % 2 == 1 { 0 } else { 96 };
             let left = 32u32.saturating_sub(u32::from(count));
-            changes_with(rt, alloc, failing, page_left, left)?;
-            changes_with(rt, alloc, failing, page_left, 0)?;
+            changes_with(rt, alloc, failing, page_left, left, noise)?;
+            changes_with(rt, alloc, failing, page_left, 0, noise)?;
         }
     }
     Ok(())
@@ -98,15 +128,23 @@ fn hold_each(rt: &impl Abort, alloc: Global, count: u16) -> Result<(), Fail> {
 
 #[test]
 fn one_failure_is_mended(rt: HostRuntime) -> Result<(), Fail> {
-    hold_each(&rt, rt.alloc(), 1)
+    hold_each(&rt, rt.alloc(), 1, EACH, false)
 }
 
 #[test]
 fn two_failures_are_mended(rt: HostRuntime) -> Result<(), Fail> {
-    hold_each(&rt, rt.alloc(), 2)
+    hold_each(&rt, rt.alloc(), 2, EACH, false)
 }
 
 #[test]
 fn three_failures_keep_the_sectors(rt: HostRuntime) -> Result<(), Fail> {
-    hold_each(&rt, rt.alloc(), 3)
+    hold_each(&rt, rt.alloc(), 3, EACH, false)
+}
+
+#[test]
+fn failures_over_wrong_bits_are_mended(rt: HostRuntime) -> Result<(), Fail> {
+    for count in 1..=3u16 {
+        hold_each(&rt, rt.alloc(), count, EACH_NOISY, true)?;
+    }
+    Ok(())
 }

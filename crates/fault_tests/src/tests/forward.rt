@@ -36,6 +36,7 @@ const OLD: Course = Course {
     spare: 40,
     calls: Calls::Migrating,
     count: 16,
+    noise: false,
 };
 
 const FAILURES: Row = Row {

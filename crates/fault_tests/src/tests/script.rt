@@ -3,6 +3,7 @@
 ghost use Rattle.std.specs.Prelude.{◌≡◌, IfOk};
 ghost use Rattle.ftl_device.specs.Device.{IsDevice};
 
+use super::noise::{noisy, quiet};
 use device_bench::bench::{driver_on, formatted_die, given_up, started};
 use device_bench::calls::{Call, hold_call, make};
 use device_bench::cases::erases_of;
@@ -227,6 +228,28 @@ fn give_started<N: Nand + Drop>(
     Ok(given_up(device))
 }
 
+// The same on a die in memory, over reads with wrong bits where this is wanted.
+fn give_over(
+    rt: &impl Abort,
+    alloc: Global,
+    driver: Driver<Die>,
+    geometry: &Geometry,
+    its: &Stage,
+    row: &Row,
+    script: &mut Script,
+    noise: bool,
+) -> Result<(Driver<Die>, Geometry), Fail>
+    requires { driver.geometry ≡ geometry.now }
+    ensures { IfOk result (λ pair. pair.0.geometry ≡ pair.1) }
+{
+    if !noise {
+        return give_started(rt, alloc, driver, geometry, its, !row.torn, script);
+    }
+    let nand = noisy(alloc, driver, geometry)?;
+    let (nand, now) = give_started(rt, alloc, nand, geometry, its, !row.torn, script)?;
+    Ok((quiet(nand)?, now))
+}
+
 // A device: the capacity of its cache, and at its end the next sequence, the free and the good blocks, and
 // the erases of all blocks that it counts. `bench/device_model.py` says so too.
 struct Stage {
@@ -437,12 +460,12 @@ fn sizes_of(row: &Row) -> Result<(Geometry, usize), Fail> {
 }
 
 // Gives commands to the devices of a row, the die handed on. Nothing illegal is asked of it.
-fn give_row(rt: &impl Abort, alloc: Global, row: &Row) -> Result<u32, Fail> {
+fn give_row(rt: &impl Abort, alloc: Global, row: &Row, noise: bool) -> Result<u32, Fail> {
     let mut script = Script::new();
     let (mut geometry, page_left) = sizes_of(row)?;
     let mut driver = formatted_die(alloc, geometry, row.failing, page_left)?;
     for its in row.devices {
-        let (given, now) = give_started(rt, alloc, driver, &geometry, its, !row.torn, &mut script)?;
+        let (given, now) = give_over(rt, alloc, driver, &geometry, its, row, &mut script, noise)?;
         let die = given.into_bus();
         assert_eq!(rt; die.abuse(), 0);
         geometry = now;
@@ -451,11 +474,22 @@ fn give_row(rt: &impl Abort, alloc: Global, row: &Row) -> Result<u32, Fail> {
     Ok(script.done())
 }
 
-#[test]
-fn commands_answer_as_a_list(rt: HostRuntime) -> Result<(), Fail> {
+// Gives them to the devices of each row.
+fn give_rows(rt: &impl Abort, alloc: Global, noise: bool) -> Result<(), Fail> {
     for row in &ROWS {
-        let done = give_row(&rt, rt.alloc(), row)?;
+        let done = give_row(rt, alloc, row, noise)?;
         assert!(rt; done > 500, "{done}");
     }
     Ok(())
+}
+
+#[test]
+fn commands_answer_as_a_list(rt: HostRuntime) -> Result<(), Fail> {
+    give_rows(&rt, rt.alloc(), false)
+}
+
+// Each device comes to what it comes to over reads with no wrong bit.
+#[test]
+fn commands_over_wrong_bits_answer_as_a_list(rt: HostRuntime) -> Result<(), Fail> {
+    give_rows(&rt, rt.alloc(), true)
 }

@@ -1,18 +1,20 @@
 // Dies that stop at each program and erase of a course in turn: before it, after it, and with its page torn in three ways. The image
 // that is left mounts and is accepted. Its sectors are those from before the call or those from after it; where the program or erase
 // was not done whole, those from before. A device on it goes on.
+ghost use Rattle.std.specs.Prelude.{◌≡◌};
 ghost use Rattle.ftl_device.specs.Device.{IsDevice};
 
 use super::courses::{Calls, Course, Left, Start, left_by, start_of};
 use super::listed::{is_listed, scanned};
+use super::noise::{noisy, quiet};
 use super::script::{Script, compare, hold_sector};
 use device_bench::bench::{given_up, started};
 use device_bench::calls::{Call, hold_call};
 use device_bench::dies::loaded;
 use device_bench::hold::hold_same;
 use ftl_device::Device;
-use nand_die::Stop;
-use onfi_cycles::Nand;
+use nand_die::{Die, Stop};
+use onfi_cycles::{Driver, Nand};
 use page_layout::geometry::Geometry;
 use page_layout::record::is_erased;
 use page_layout::source::ImageSlice;
@@ -66,6 +68,38 @@ fn give_fifty<N: Nand>(
     compare(device, script)
 }
 
+// A die mounts with a cache of twelve and is accepted, and a device on it makes fifty calls more.
+fn go_on<N: Nand + Drop>(
+    alloc: Global,
+    nand: N,
+    course: &Course,
+    geometry: &Geometry,
+    script: &mut Script,
+) -> Result<N, Fail>
+    requires { (N.flash nand).geometry ≡ geometry.now }
+{
+    let mut device = started(alloc, nand, geometry, 12)?;
+    give_fifty(&mut device, course, script)?;
+    Ok(given_up(device).0)
+}
+
+// The same, over reads with wrong bits where the course has them.
+fn go_over(
+    alloc: Global,
+    driver: Driver<Die>,
+    course: &Course,
+    geometry: &Geometry,
+    script: &mut Script,
+) -> Result<Driver<Die>, Fail>
+    requires { driver.geometry ≡ geometry.now }
+{
+    if !course.noise {
+        return go_on(alloc, driver, course, geometry, script);
+    }
+    let nand = noisy(alloc, driver, geometry)?;
+    quiet(go_on(alloc, nand, course, geometry, script)?)
+}
+
 // The image that is left mounts with a cache of twelve and is accepted, its sectors are from before the call or from after it, and
 // a device on it goes on. Whether they are from after it.
 fn hold_left(
@@ -76,9 +110,7 @@ fn hold_left(
 ) -> Result<bool, Fail> {
     let is_after = settle(geometry, &mut left)?;
     let driver = loaded(alloc, *geometry, &left.image)?;
-    let mut device = started(alloc, driver, geometry, 12)?;
-    give_fifty(&mut device, course, &mut left.script)?;
-    let (driver, _) = given_up(device);
+    let driver = go_over(alloc, driver, course, geometry, &mut left.script)?;
     hold_same(course.name, "abuse", &driver.into_bus().abuse(), &0)?;
     Ok(is_after)
 }
@@ -183,10 +215,11 @@ impl Tried {
     }
 }
 
-// A course, and how many stops there are at least.
+// A course, of which one stop in so many is tried, and how many there are of those at least.
 #[derive(Drop)]
 struct Case {
     course: Course,
+    each: u64,
     least: Tried,
 }
 
@@ -207,7 +240,7 @@ fn hold_tried(case: &Case, tried: &Tried) -> Result<(), Fail> {
     )))
 }
 
-// The die of a course stops at programs and erases, one after the other.
+// The die of a course stops at programs and erases, one after another, or one in so many.
 fn hold_stops(alloc: Global, case: &Case) -> Result<Tried, Fail> {
     let course = &case.course;
     let start = start_of(alloc, course)?;
@@ -216,8 +249,9 @@ fn hold_stops(alloc: Global, case: &Case) -> Result<Tried, Fail> {
         changing: 0,
         migrating: 0,
     };
+    let each = case.each.max(1);
     for nth in 1..10_000u64 {
-        match hold_stop(alloc, course, &start, nth)? {
+        match hold_stop(alloc, course, &start, nth.saturating_mul(each))? {
             Some((call, is_after)) => tried.count(call, is_after),
             None => return Ok(tried),
         }
@@ -236,11 +270,13 @@ const SCRIPT: Course = Course {
     spare: 32,
     calls: Calls::Plain,
     count: 400,
+    noise: false,
 };
 
 // As many programs and erases as `bench/device_model.py` counts.
 const SHORT: Case = Case {
     course: SCRIPT,
+    each: 1,
     least: Tried {
         stops: 597,
         changing: 347,
@@ -257,13 +293,17 @@ const LONG: Case = Case {
     ..SHORT
 };
 
+const FORWARD: Course = Course {
+    name: "pages that are brought forward",
+    spare: 40,
+    calls: Calls::Migrating,
+    count: 128,
+    noise: false,
+};
+
 const OLD: Case = Case {
-    course: Course {
-        name: "pages that are brought forward",
-        spare: 40,
-        calls: Calls::Migrating,
-        count: 128,
-    },
+    course: FORWARD,
+    each: 1,
     least: Tried {
         stops: 150,
         changing: 60,
@@ -271,19 +311,61 @@ const OLD: Case = Case {
     },
 };
 
+const COLLECTED: Course = Course {
+    name: "a collection",
+    spare: 32,
+    calls: Calls::Collecting,
+    count: 8,
+    noise: false,
+};
+
 // Eight writes and trims, of which nine pages are programmed; then nine programs and erases of a collection.
 const COLLECTION: Case = Case {
-    course: Course {
-        name: "a collection",
-        spare: 32,
-        calls: Calls::Collecting,
-        count: 8,
-    },
+    course: COLLECTED,
+    each: 1,
     least: Tried {
         stops: 18,
         changing: 8,
         migrating: 0,
     },
+};
+
+// The same over reads with wrong bits.
+const NOISY: Case = Case {
+    course: Course {
+        name: "the script over wrong bits",
+        noise: true,
+        ..SCRIPT
+    },
+    each: 13,
+    least: Tried {
+        stops: 45,
+        changing: 20,
+        migrating: 0,
+    },
+};
+
+const NOISY_OLD: Case = Case {
+    course: Course {
+        name: "pages that are brought forward over wrong bits",
+        noise: true,
+        ..FORWARD
+    },
+    each: 5,
+    least: Tried {
+        stops: 30,
+        changing: 10,
+        migrating: 2,
+    },
+};
+
+const NOISY_COLLECTION: Case = Case {
+    course: Course {
+        name: "a collection over wrong bits",
+        noise: true,
+        ..COLLECTED
+    },
+    ..COLLECTION
 };
 
 #[test]
@@ -304,4 +386,11 @@ fn stops_keep_the_sectors_of_old_pages(rt: HostRuntime) -> Result<(), Fail> {
 #[test]
 fn stops_in_a_collection_keep_the_sectors(rt: HostRuntime) -> Result<(), Fail> {
     hold_case(rt.alloc(), &COLLECTION)
+}
+
+#[test]
+fn stops_over_wrong_bits_keep_the_sectors(rt: HostRuntime) -> Result<(), Fail> {
+    hold_case(rt.alloc(), &NOISY)?;
+    hold_case(rt.alloc(), &NOISY_OLD)?;
+    hold_case(rt.alloc(), &NOISY_COLLECTION)
 }

@@ -1,11 +1,11 @@
 use Rattle.std.proofs.lemmas.Result.{err_from_is_err_and}
-use Rattle.device_slot.proofs.PowerLemmas.{brought, unsettled, flushed_same, flushed_back, flushed_rose, err_same, err_is}
+use Rattle.device_slot.proofs.PowerLemmas.{brought, mounted_begun, unsettled_at, flushed_same, flushed_back, flushed_bus, flushed_rose, err_is}
 use Rattle.device_slot.proofs.power.settle.Goals as goal
 
 pub returns-in_err-device-clause-fault : goal.returns-in_err-device-clause-fault
 returns-in_err-device-clause-fault g c =
     let p = err_from_is_err_and c.from_residual.result c.from_residual.ensures.1 in
-    rw (p.1, p.2) (unsettled g.N.PageSource.flash g.N.PageSource.honest g.N.PageSource.failed c.args.nand c.args.geometry.now c.args.stale c.in_err-device.field-0.0 c.in_err-device.ensures.fault)
+    rw (p.1, p.2) (unsettled_at g.N.PageSource.flash g.N.PageSource.honest g.N.PageSource.failed c.args.nand c.args.geometry.now c.args.stale c.in_err-device.field-0.0 c.in_err-device.ensures.fault)
 
 pub returns-in-Err : goal.returns-in-Err
 returns-in-Err g c =
@@ -16,12 +16,14 @@ returns-in-Err g c =
     record {
       back = tt;
       array = tt;
-      fault = (
-        λ ne. flushed_same s.flash s.recorded s.honest s.calm s.failed c.args.nand c.args.geometry.now c.args.stale c.in_ok-device.device c.flush.new.self c.flush.result its then.geometry then.device then.upkeeps
-            c.stop-in-Err.result c.stop-in-Err.ensures.nand (err_same c.flush.result c.in-Err.fault c.in-Err.ensures.err ne),
-        λ is. flushed_rose s.flash s.recorded s.honest s.calm s.failed c.args.nand c.args.geometry.now c.args.stale c.in_ok-device.device c.flush.new.self c.flush.result its then.geometry then.device then.upkeeps
-            c.stop-in-Err.result c.stop-in-Err.ensures.nand (err_is c.flush.result c.in-Err.fault c.in-Err.ensures.err is),
-      );
+      fault = record {
+        only = c.in-Err.ensures.stops;
+        bus = λ h. flushed_bus s.flash s.recorded s.honest s.calm s.failed c.args.nand c.args.geometry.now c.args.stale c.in_ok-device.device c.flush.new.self c.flush.result its then.geometry then.device then.upkeeps
+            c.in-Err.fault c.in-Err.ensures.err c.in-Err.ensures.stops h;
+        rose = λ is. flushed_rose s.flash s.recorded s.honest s.calm s.failed c.args.nand c.args.geometry.now c.args.stale c.in_ok-device.device c.flush.new.self c.flush.result its then.geometry then.device then.upkeeps
+            c.stop-in-Err.result c.stop-in-Err.ensures.nand (err_is c.flush.result c.in-Err.fault c.in-Err.ensures.err is);
+        started = mounted_begun s.flash s.honest s.failed c.args.nand c.args.geometry.now c.args.stale c.in_ok-device.device first.begun first.geometry first.capacity first.pages first.reads.honest_is;
+      };
       given = flushed_back s.flash s.recorded s.honest s.calm s.failed c.args.nand c.args.geometry.now c.args.stale c.in_ok-device.device c.flush.new.self c.flush.result its then.geometry then.device then.upkeeps
           c.stop-in-Err.result c.stop-in-Err.ensures.nand c.stop-in-Err.ensures.geometry c.requires.same_geometry;
     }

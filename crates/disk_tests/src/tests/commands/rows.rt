@@ -107,15 +107,11 @@ pub const TROUBLED: &[Step] = &[
     Run("nanddisk info d", 3, "fault read d\n"),
     Trouble(trouble::Calm),
     Run("nanddisk create --geometry 64,32,8,32,32 d", 0, ""),
-    // a mark counts for a disk that is opened to write, and for no other
+    // the mark tells what is lost, of a disk that is only read too; it is kept for one that is opened to write, and for no other
     Trouble(trouble::Unread),
     Run("nanddisk serve d", 3, "fault read d\n"),
-    Serve(
-        "nanddisk serve --read-only d",
-        b"",
-        0,
-        b"NBDMAGICIHAVEOPT\x00\x03",
-    ),
+    Run("nanddisk serve --read-only d", 3, "fault read d\n"),
+    Run("nanddisk info d", 3, "fault read d\n"),
     Trouble(trouble::Unmarked),
     Run("nanddisk serve d", 3, "fault write d\n"),
     Serve(

@@ -1,20 +1,27 @@
-use Rattle.std.proofs.Common.{inl, inr, refl, arith}
+use Rattle.std.proofs.Common.{inl, inr, refl}
 use Rattle.ftl_c.proofs.certificates.begin_by.Goals as goal
 
-pub returns-in-Ok-start_checked : goal.returns-in-Ok-start_checked
-returns-in-Ok-start_checked c =
-    let its = c.in-Ok-start_checked.ensures in
+pub returns-in-Ok-start_checked_over : goal.returns-in-Ok-start_checked_over
+returns-in-Ok-start_checked_over c =
     inl (
       refl,
       record {
-        device = c.in-Ok-start_checked.device;
-        stands = c.put.ensures;
-        same = record { plan = refl; link = refl };
-        begun = its.begun;
-        sized = its.geometry;
-        cache = omega (arith, its.capacity);
+        die = c.in-Ok.die;
+        its = record { sized = c.in-Ok.ensures.geometry; fresh = c.in-Ok.ensures.failures };
+        device = c.in-Ok-start_checked_over.device;
+        holds = record { stands = c.put.ensures; same = record { plan = refl; link = refl } };
+        brings = c.in-Ok-start_checked_over.ensures.brings;
       },
     )
 
-pub returns-in-Err-start_checked : goal.returns-in-Err-start_checked
-returns-in-Err-start_checked c = inr (inr (c.in-Err-start_checked.fault, c.of_power.ensures), refl)
+pub returns-in-Err-start_checked_over : goal.returns-in-Err-start_checked_over
+returns-in-Err-start_checked_over c =
+    inr (record {
+      same = refl;
+      why = inr (record {
+        die = c.in-Ok.die;
+        its = record { sized = c.in-Ok.ensures.geometry; fresh = c.in-Ok.ensures.failures };
+        given = c.in-Err-start_checked_over.field-0-1;
+        why = c.in-Err-start_checked_over.ensures.fault;
+      });
+    })

@@ -1,20 +1,27 @@
 use Rattle.std.proofs.Common.{inl, inr, refl}
 use Rattle.ftl_c.proofs.disk.begin.Goals as goal
 
-pub returns-in-Ok-start : goal.returns-in-Ok-start
-returns-in-Ok-start c =
-    let its = c.in-Ok-start.ensures.brings in
+pub returns-in-Ok-start_over : goal.returns-in-Ok-start_over
+returns-in-Ok-start_over c =
     inl (
       refl,
       record {
-        device = c.in-Ok-start.device;
-        stands = c.put.ensures;
-        same = record { plan = refl; link = refl };
-        begun = its.begun;
-        sized = its.sized;
-        cache = its.cache;
+        die = c.in-Ok.die;
+        its = record { sized = c.in-Ok.ensures.geometry; fresh = c.in-Ok.ensures.failures };
+        device = c.in-Ok-start_over.device;
+        holds = record { stands = c.put.ensures; same = record { plan = refl; link = refl } };
+        brings = c.in-Ok-start_over.ensures.brings;
       },
     )
 
-pub returns-in-Err-start : goal.returns-in-Err-start
-returns-in-Err-start c = inr (inr (c.in-Err-start.fault, c.of_power.ensures), refl)
+pub returns-in-Err-start_over : goal.returns-in-Err-start_over
+returns-in-Err-start_over c =
+    inr (record {
+      same = refl;
+      why = inr (record {
+        die = c.in-Ok.die;
+        its = record { sized = c.in-Ok.ensures.geometry; fresh = c.in-Ok.ensures.failures };
+        given = c.in-Err-start_over.field-0-1;
+        why = c.in-Err-start_over.ensures.fault;
+      });
+    })

@@ -1,7 +1,8 @@
-use Rattle.std.proofs.Common.{Err, refl}
-use Rattle.mount.specs.declared.format_fault.FormatFault.TheVariants.{Bus}
+use Rattle.std.proofs.Common.{inr, refl}
 use Rattle.ftl_c.proofs.disk.make_ready.Goals as goal
 
--- the link failed at the reset: the number of a bus that failed
-pub returns-in-Err : goal.returns-in-Err
-returns-in-Err c = record { same = refl; result = Err Bus; number_is = c.in-Err.ensures.fault }
+pub returns : goal.returns
+returns c = record {
+  same = refl;
+  why = inr (record { die = c.in-Ok.die; its = record { sized = c.in-Ok.ensures.geometry; fresh = c.in-Ok.ensures.failures }; after = c.format_over.new.die; formats = c.format_over.ensures });
+}

@@ -1,8 +1,8 @@
-use Rattle.std.proofs.Common.{◌≡◌, ◌+◌, ◌*◌, ◌/◌, ◌%◌, ◌<◌, ◌∙◌, ap, sym, arith}
+use Rattle.std.proofs.Common.{◌≡◌, ◌+◌, ◌*◌, ◌/◌, ◌%◌, ◌∙◌, ap, sym, arith}
 use Rattle.std.specs.Prelude.{slice_range}
 use Rattle.std.proofs.Math.Nat.{mod-lt}
 use Rattle.page_layout.specs.declared.record.Key.TheVariants.{Table}
-use Rattle.page_layout.specs.Geometry.{entries, row_count, translation_pages}
+use Rattle.page_layout.specs.Geometry.{entries, row_count}
 use Rattle.page_layout.specs.Array.{marks}
 use Rattle.page_layout.specs.Word.{word_at}
 use Rattle.page_layout.proofs.GeometryLemmas.{block_entry}

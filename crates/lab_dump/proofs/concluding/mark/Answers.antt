@@ -1,5 +1,5 @@
 use Rattle.std.proofs.Common.{arith, refl}
-use Rattle.lab_dump.proofs.ConcludeLemmas.{mark_none, mark_past, mark_set}
+use Rattle.lab_dump.proofs.ConcludeLemmas.{mark_none, mark_set}
 use Rattle.lab_dump.proofs.concluding.mark.Goals as goal
 
 pub returns-in_default-clause-each : goal.returns-in_default-clause-each

@@ -1,4 +1,3 @@
-use Rattle.std.proofs.Common.{arith}
 use Rattle.lab_dump.proofs.ConcludeLemmas.{marked_start, marked_more}
 use Rattle.lab_dump.proofs.concluding.mark_kept.Goals as goal
 

@@ -1,10 +1,8 @@
-use Rattle.std.proofs.Common.{◌+◌, length, get_or, ap, sym, subst, ◌∙◌}
+use Rattle.std.proofs.Common.{◌+◌, length, ap, sym, subst, ◌∙◌}
 use Rattle.page_layout.specs.declared.record.Key.TheVariants.{Table}
 use Rattle.page_layout.specs.Live.{IsKeyOf}
 use Rattle.page_layout.specs.Array.{marks}
-use Rattle.page_layout.specs.Newest.{latest_below}
 use Rattle.image_check.proofs.TableLemmas.{table_stays, table_old, table_new, none_unsound, none_other, none_beside}
-use Rattle.lab_dump.specs.declared.trace.Trace.TheVariants.{Never}
 use Rattle.lab_dump.proofs.TraceLemmas.{placed_at}
 use Rattle.lab_dump.proofs.doubting.note_table.Goals as goal
 

@@ -14,4 +14,4 @@ pub returns-clause-added : goal.returns-clause-added
 returns-clause-added g c = λ all told size.
     let like : IsAsOf c.in-Some.geometry c.args.size c.args.data_bytes c.args.spare_bytes = record { data_is = c.in-Some.ensures.areas.0; spare_is = c.in-Some.ensures.areas.1; rows_is = c.in-Some.ensures.rows } in
     area_is c.in-Some.geometry c.args.size c.args.data_bytes c.args.spare_bytes all c.in_ok-sample.sample c.in_ok-told.told _ _ like size c.in-Some.ensures.some (c.in_ok-sample.ensures.sample all told)
-    (c.in_ok-told.ensures.told all (c.take_sample.ensures.same ∙ told)) c.if-sample-eq0.false c.in_ok-add_shapes.ensures.added
+    (c.in_ok-told.ensures.told all (c.take_sample.ensures.same ∙ told)) c.if-sample-eq0.false c.add_shapes.ensures.added

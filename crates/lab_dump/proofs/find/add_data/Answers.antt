@@ -14,6 +14,7 @@ loop-spare_bytes-preserved g c =
       added = λ all told size. more_from (area_fits all c.args.data_bytes) c.args.fits.now.items 32 spare c.loop-spare_bytes.fits.items _ (omega (arith, c.loop-spare_bytes.auto.spare_bytes)) (inv.added all told size)
           (c.in_ok-add_areas.ensures.added all (inv.same ∙ told) size);
       any = adds_then (7 * (spare - 32)) 7 (7 * (spare + 1 - 32)) _ _ _ inv.any c.in_ok-add_areas.ensures.any (omega (arith, c.loop-spare_bytes.auto.spare_bytes));
+      places = c.in_ok-add_areas.ensures.places ∙ inv.places;
     }
 
 pub returns-clause-added : goal.returns-clause-added

@@ -9,20 +9,20 @@ use Rattle.lab_dump.proofs.map.print_areas.Goals as goal
 pub loop-sector-init : goal.loop-sector-init
 loop-sector-init g c =
     let states = map state_in c.args.held.now in
-    record { first_is = sym (first_zero states); printed = below_none c.args.geometry.now states (g.W.Write.contents c.args.out.now) }
+    record { first_is = sym (first_zero states); printed = below_none c.args.geometry.now states (g.W.MapWriter.contents c.args.out.now) }
 
 pub loop-sector-preserved : goal.loop-sector-preserved
 loop-sector-preserved g c =
     let states = map state_in c.args.held.now in
-    let a = g.W.Write.contents c.args.out.now in
-    let d = g.W.Write.contents c.print_end.new.out in
+    let a = g.W.MapWriter.contents c.args.out.now in
+    let d = g.W.MapWriter.contents c.print_end.new.out in
     record {
       first_is = c.in_ok-first.ensures.next;
-      printed = subst (λ t. Appends a d t) (below_more c.args.geometry.now states c.loop-sector.sector) (Appends-trans a (g.W.Write.contents c.loop-sector.out) d _ _ c.loop-sector.invariant.printed c.in_ok-first.ensures.line);
+      printed = subst (λ t. Appends a d t) (below_more c.args.geometry.now states c.loop-sector.sector) (Appends-trans a (g.W.MapWriter.contents c.loop-sector.out) d _ _ c.loop-sector.invariant.printed c.in_ok-first.ensures.printed);
     }
 
-pub returns : goal.returns
-returns g c =
+pub returns-clause-printed : goal.returns-clause-printed
+returns-clause-printed g c =
     let states = map state_in c.args.held.now in
     let all : c.loop-sector.sector ≡ c.args.geometry.now.sectors = omega arith in
-    subst (λ (k : ℕ). Appends (g.W.Write.contents c.args.out.now) (g.W.Write.contents c.loop-sector.out) (areas_below c.args.geometry.now states k)) all c.loop-sector.invariant.printed
+    subst (λ (k : ℕ). Appends (g.W.MapWriter.contents c.args.out.now) (g.W.MapWriter.contents c.loop-sector.out) (areas_below c.args.geometry.now states k)) all c.loop-sector.invariant.printed

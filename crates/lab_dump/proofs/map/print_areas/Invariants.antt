@@ -7,5 +7,5 @@ use Rattle.lab_dump.proofs.map.print_areas.Given as goal
 abbrev pub invariant-loop-sector : goal.invariant-loop-sector
 invariant-loop-sector g l = record {
   first_is : l.first ≡ first_of (map state_in l.held) l.sector;
-  printed : Appends (g.W.Write.contents l.fn.out) (g.W.Write.contents l.out) (areas_below l.geometry (map state_in l.held) l.sector);
+  printed : Appends (g.W.MapWriter.contents l.fn.out) (g.W.MapWriter.contents l.out) (areas_below l.geometry (map state_in l.held) l.sector);
 }

@@ -10,9 +10,9 @@ pub returns-then-not-ends_at-clause-next : goal.returns-then-not-ends_at-clause-
 returns-then-not-ends_at-clause-next g c =
     c.requires.first ∙ sym (first_still (map state_in c.args.held.now) c.args.sector (sym c.ends_at.ensures ∙ c.if-not-ends_at.true))
 
-pub returns-then-not-ends_at-clause-line : goal.returns-then-not-ends_at-clause-line
-returns-then-not-ends_at-clause-line g c =
-    let o = g.W.Write.contents c.args.out.now in
+pub returns-then-not-ends_at-clause-printed : goal.returns-then-not-ends_at-clause-printed
+returns-then-not-ends_at-clause-printed g c =
+    let o = g.W.MapWriter.contents c.args.out.now in
     subst (λ t. Appends o o t) (sym (line_none c.args.geometry.now (map state_in c.args.held.now) c.args.sector (sym c.ends_at.ensures ∙ c.if-not-ends_at.true))) (Appends-nil o)
 
 pub area_between-requires-clause-rising : goal.area_between-requires-clause-rising
@@ -24,10 +24,10 @@ area_between-requires-clause-rising g c =
 pub returns-clause-next : goal.returns-clause-next
 returns-clause-next g c = sym (first_after (map state_in c.args.held.now) c.args.sector (sym c.ends_at.ensures ∙ c.if-not-ends_at.false))
 
-pub returns-clause-line : goal.returns-clause-line
-returns-clause-line g c =
+pub returns-clause-printed : goal.returns-clause-printed
+returns-clause-printed g c =
     let states = map state_in c.args.held.now in
     let e : ends_at states c.args.sector ≡ true = sym c.ends_at.ensures ∙ c.if-not-ends_at.false in
     let its = c.area_between.ensures in
     let text = line_is c.args.geometry.now states c.args.sector c.args.first _ _ _ e c.requires.first its.position its.size (its.state ∙ c.state_at-state.ensures) in
-    subst (λ t. Appends (g.W.Write.contents c.args.out.now) (g.W.Write.contents c.print_area.new.out) t) text c.in_ok-print_area.ensures
+    subst (λ t. Appends (g.W.MapWriter.contents c.args.out.now) (g.W.MapWriter.contents c.print_area.new.out) t) text c.in_ok-print_area.ensures.printed

@@ -6,11 +6,11 @@ use Rattle.lab_dump.specs.Map.{areas_below}
 use Rattle.lab_dump.proofs.MapLemmas.{then_last}
 use Rattle.lab_dump.proofs.map.print_map.Goals as goal
 
-pub returns : goal.returns
-returns g c =
+pub returns-clause-printed : goal.returns-clause-printed
+returns-clause-printed g c =
     let states = map state_in c.args.held.now in
     let all : length states ≡ c.args.geometry.now.sectors = length-map c.args.held.now state_in ∙ c.requires in
-    let b = g.W.Write.contents c.print_head.new.out in
-    let d = g.W.Write.contents c.print_areas.new.out in
-    then_last _ _ _ _ _ c.print_areas.result c.in_ok-print_head.ensures
-    (subst (λ (n : ℕ). OnOk c.print_areas.result (Appends b d (areas_below c.args.geometry.now states n))) (sym all) c.print_areas.ensures)
+    let b = g.W.MapWriter.contents c.print_head.new.out in
+    let d = g.W.MapWriter.contents c.print_areas.new.out in
+    then_last _ _ _ _ _ c.print_areas.result c.in_ok-print_head.ensures.printed
+    (subst (λ (n : ℕ). OnOk c.print_areas.result (Appends b d (areas_below c.args.geometry.now states n))) (sym all) c.print_areas.ensures.printed)

@@ -1,4 +1,4 @@
-use Rattle.std.proofs.Common.{◌≡◌, inr, ◌∙◌}
+use Rattle.std.proofs.Common.{◌∙◌}
 use Rattle.page_layout.specs.Geometry.{row_count}
 use Rattle.page_layout.specs.Raw.{raw_image}
 use Rattle.page_layout.proofs.RawLemmas.{length-raw_image}
@@ -7,7 +7,7 @@ use Rattle.lab_dump.specs.Rows.{within}
 use Rattle.lab_dump.proofs.RowLemmas.{within_size}
 use Rattle.lab_dump.proofs.WritingLemmas.{if_more}
 use Rattle.lab_dump.specs.Noted.{Shows}
-use Rattle.lab_dump.specs.Surveyed.{IsReadable, IsSurveyOf}
+use Rattle.lab_dump.specs.Surveyed.{IsSurveyOf}
 use Rattle.lab_dump.proofs.survey.survey_dump.Goals as goal
 
 pub returns-clause-ok : goal.returns-clause-ok
@@ -15,13 +15,5 @@ returns-clause-ok g c =
     let geo = c.args.geometry.now in
     let rows = c.args.rows in
     let s = c.scan_rows.new.taker in
-    if_more (g.R.DumpReader.remaining c.args.reader.now) (IsTaken geo (λ image. Shows geo (row_count geo) (within geo rows image) s)) (IsSurveyOf geo rows c.in_ok-conclude.field-0) c.in_ok-scan_rows.ensures.taken
-    (λ bytes taken. record { whole = taken.whole; survey = c.in_ok-conclude.ensures.survey (within geo rows (raw_image geo bytes)) (within_size geo rows (raw_image geo bytes) ∙ length-raw_image geo bytes) taken.shown })
-
-pub returns-in_err-conclude-clause-memory : goal.returns-in_err-conclude-clause-memory
-returns-in_err-conclude-clause-memory g c = λ is.
-    let geo = c.args.geometry.now in
-    let rows = c.args.rows in
-    let s = c.scan_rows.new.taker in
-    inr (if_more (g.R.DumpReader.remaining c.args.reader.now) (IsTaken geo (λ image. Shows geo (row_count geo) (within geo rows image) s)) (λ bytes. IsReadable geo (within geo rows (raw_image geo bytes))) c.in_ok-scan_rows.ensures.taken
-    (λ bytes taken. c.in_err-conclude.ensures.memory (within geo rows (raw_image geo bytes)) (within_size geo rows (raw_image geo bytes) ∙ length-raw_image geo bytes) taken.shown))
+    if_more (g.R.DumpReader.remaining c.args.reader.now) (IsTaken geo (λ image. Shows geo (row_count geo) (within geo rows image) s)) (IsSurveyOf geo rows c.conclude.result) c.in_ok-scan_rows.ensures.taken
+    (λ bytes taken. record { whole = taken.whole; survey = c.conclude.ensures.survey (within geo rows (raw_image geo bytes)) (within_size geo rows (raw_image geo bytes) ∙ length-raw_image geo bytes) taken.shown })

@@ -2,8 +2,6 @@ use Rattle.std.proofs.Common.{◌≡◌, ◌+◌, sym, ◌∙◌, ap, refl, subs
 use Rattle.std.specs.Vec.{with_items}
 use Rattle.std.proofs.lemmas.List.{with_items_is}
 use Rattle.page_layout.specs.Page.{page}
-use Rattle.page_layout.specs.Array.{marks}
-use Rattle.page_layout.proofs.ArrayLemmas.{mark-page}
 use Rattle.image_check.specs.Surveyed.{IsSurvey}
 use Rattle.lab_dump.specs.Count.{counted}
 use Rattle.lab_dump.proofs.CountLemmas.{counts_more}
@@ -18,12 +16,10 @@ returns-clause-shows c = λ image h at.
     let found = c.see-found.ensures.found in
     let erased = c.is_erased-erased.ensures in
     let survey : IsSurvey g image (row + 1) c.see-found.new.self = subst (λ k. IsSurvey k image (row + 1) c.see-found.new.self) same (c.see-found.ensures.survey image (subst (λ k. IsSurvey k image row c.args.self.now.survey) (sym same) h.survey) at) in
-    let seen_is : (with_items c.args.self.now.seen c.note_seen.new.seen).items ≡ c.note_seen.new.seen = with_items_is c.args.self.now.seen c.note_seen.new.seen (c.note_seen.auto.seen ∙ c.deref_mut.ensures.len) in
-    let formed_is : (with_items c.args.self.now.formed c.note_formed.new.formed).items ≡ c.note_formed.new.formed = with_items_is c.args.self.now.formed c.note_formed.new.formed (c.note_formed.auto.formed ∙ c.deref_mut-2.ensures.len) in
+    let formed_is : (with_items c.args.self.now.formed c.note_formed.new.formed).items ≡ c.note_formed.new.formed = with_items_is c.args.self.now.formed c.note_formed.new.formed (c.note_formed.auto.formed ∙ c.deref_mut.ensures.len) in
     record {
       survey = survey;
       counts = counts_more g image row p c.args.self.now.counts c.step-self.result at h.counts (c.step-self.ensures ∙ (ap (λ f. counted g c.args.self.now.counts f c.is_erased-erased.result) found ∙ ap (counted g c.args.self.now.counts _) erased));
-      seen = rw seen_is (c.note_seen.ensures (marks image) row (rw c.deref_mut.ensures.value h.seen) (mark-page image row p at ∙ sym found));
-      formed = rw formed_is (c.note_formed.ensures.formed image p (rw c.deref_mut-2.ensures.value h.formed) (rw c.deref.ensures.value survey.newest) at found refl);
+      formed = rw formed_is (c.note_formed.ensures.formed image p (rw c.deref_mut.ensures.value h.formed) (rw c.deref.ensures.value survey.newest) at found refl);
       doubting = c.step.ensures.is image h.doubting at;
     }

@@ -1,0 +1,4 @@
+// The dies of these tests, and their geometry, are those of `device_bench`.
+mod calls;
+mod lives;
+mod refused;
