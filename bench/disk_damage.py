@@ -6,7 +6,7 @@ Usage: disk_damage.py NANDDISK [BITS [HOLES [SEED]]]
 A disk is written and trimmed at random by a client, flushed and closed. Then, each time on a copy of its file and of the files beside it:
 
 - bits: one bit is turned, anywhere (60 times);
-- holes: a run of bytes is punched out of it, so that it reads as zeros (20 times): a quarter of the file, of two MiB or less.
+- holes: a run of bytes is punched out of it, so that it reads as zeros (20 times): two MiB, or half the file where that is less.
 
 Of each `check`, `info` and `serve` have to name the same sectors, with status 1 of `check` just where there is one. A sector that reads otherwise than before has to be named, or its translation page was hit
 too: these are counted as silent, and of a turned bit there may be none. A sector that is named is not read (EIO), by a second session neither; all others read as before. Then each is written and read
@@ -60,10 +60,10 @@ def told(program, command, path):
 
 
 class Disk:
-    def __init__(self, program, folder, draw, sector=512, sectors=2000):
+    def __init__(self, program, folder, draw, sector=512, sectors=3000):
         self.program, self.folder, self.size, self.count = program, folder, sector, sectors
         self.path = os.path.join(folder, "disk")
-        geometry = f"{sector},32,16,260,{sectors}"
+        geometry = f"{sector},32,64,130,{sectors}"
         subprocess.run([program, "create", "--geometry", geometry, self.path], check=True)
         session = Session(program, self.path)
         for _ in range(6000):
@@ -148,7 +148,7 @@ def main():
                         file.seek(where)
                         file.write(bytes([byte]))
                     else:
-                        size = min(length // 4, 2 << 20)
+                        size = min(length // 2, 2 << 20)
                         file.seek(draw.randrange(length - size))
                         file.write(bytes(size))
                 found, untold = held(disk, path, what, failures)
