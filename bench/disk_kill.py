@@ -24,7 +24,7 @@ import time
 import nbd
 
 # Some hundred writes collect each block.
-SHAPES = ((64, "64,32,8,160,400"), (512, "512,32,8,160,400"), (4096, "4096,128,8,120,300"))
+SHAPES = ((64, "64,32,32,60,400"), (512, "512,32,8,160,400"), (4096, "4096,128,8,120,300"))
 AT_ONCE = 8
 
 # The slots of a mark's file.

@@ -68,6 +68,12 @@ def bytes_of(text):
 NO_MARK = (b"\x01" + bytes(31)) * 129
 
 
+def path_in(words):
+    """The path of the file that a call names."""
+    match = re.search(r"<((?:\\x[0-9a-f]{2})+)>", words)
+    return bytes_of(match.group(1)).decode() if match else ""
+
+
 class Event:
     """A write of the die's file, a sync of it, the same of the mark's file, or a reply."""
 
@@ -83,14 +89,15 @@ def events_of(log):
         if not match:
             continue
         name, words, count = match.group(1), match.group(2), int(match.group(3))
+        path = path_in(words)
         if name == "pwrite64":
             _, body, _, offset = words.rsplit(", ", 3) if words.count(", ") == 3 else words.split(", ")
             body = bytes_of(body.strip('"'))
             assert len(body) == count
-            found.append(Event("mark" if ".mark>" in words else "write", int(offset), body))
-        elif name in ("fdatasync", "fsync") and ".mark>" in words:
+            found.append(Event("mark" if path.endswith(".mark") else "write", int(offset), body))
+        elif name in ("fdatasync", "fsync") and path.endswith(".mark"):
             found.append(Event("marksync"))
-        elif name in ("fdatasync", "fsync") and ".nand>" in words:
+        elif name in ("fdatasync", "fsync") and path.endswith(".nand"):
             found.append(Event("sync"))
         elif name == "write" and words.startswith("1<"):
             if bytes_of(words.split(", ")[1].strip('"'))[:4] == b"\x67\x44\x66\x98":
