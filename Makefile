@@ -25,10 +25,10 @@ quick:
 install: $(PROGRAMS) install-lib
 	for name in $(PROGRAMS); do install -D -m 755 -t $(TO)/bin crates/$$name/out/$$name && install -D -m 644 -t $(TO)/share/man/man1 docs/man/$$name.1 && \
 		install -D -m 644 completions/$$name.bash $(BASHDIR)/$$name && install -D -m 644 -t $(ZSHDIR) completions/_$$name || exit 1; done
-	install -D -m 644 -t $(TO)/share/doc/kothlaim docs/*.md
 
 install-lib: lib
 	install -D -m 644 crates/ftl_c/out/x86_64/libftl_c.a $(TO)/lib/libftl.a && install -D -m 644 -t $(TO)/include include/ftl.h
+	install -D -m 644 -t $(TO)/share/doc/kothlaim docs/*.md && install -D -m 644 -t $(TO)/share/doc/kothlaim/examples examples/c/*.[ch]
 	install -D -m 644 -t $(TO)/share/man/man3 docs/man/ftl.3 && install -d $(TO)/lib/pkgconfig
 	sed 's|@PREFIX@|$(PREFIX)|' include/ftl.pc.in >$(TO)/lib/pkgconfig/ftl.pc
 
