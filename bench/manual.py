@@ -113,8 +113,7 @@ def body_of(text):
             while at < len(lines) and lines[at].strip() and not re.match(r"(-|\d+\.) |\||```|#", lines[at]):
                 rest += " " + lines[at].strip()
                 at += 1
-            # a list of links has no use on paper
-            out += [] if rest.startswith("On this page") else [".PP", *wrapped(rest)]
+            out += [".PP", *wrapped(rest)]
         else:
             at += 1
     return out
