@@ -28,7 +28,7 @@ install: $(PROGRAMS) install-lib
 
 install-lib: lib
 	install -D -m 644 crates/ftl_c/out/x86_64/libftl_c.a $(TO)/lib/libftl.a && install -D -m 644 -t $(TO)/include include/ftl.h
-	install -D -m 644 -t $(TO)/share/doc/kothlaim docs/*.md && install -D -m 644 -t $(TO)/share/doc/kothlaim/examples examples/c/*.[ch]
+	install -D -m 644 -t $(TO)/share/doc/kothlaim docs/*.md bench/SPEED.md CHANGELOG.md && install -D -m 644 -t $(TO)/share/doc/kothlaim/examples examples/c/*.[ch]
 	install -D -m 644 -t $(TO)/share/man/man3 docs/man/ftl.3 && install -d $(TO)/lib/pkgconfig
 	sed 's|@PREFIX@|$(PREFIX)|' include/ftl.pc.in >$(TO)/lib/pkgconfig/ftl.pc
 

@@ -189,7 +189,8 @@ def page_of(name):
         out += body[1:] if body and body[0] == ".PP" else body
     out += behind(name)
     out += [".SH SEE ALSO", ",\n".join(f".BR {it} (1)" for it in SEE[name]).replace(",\n", " ,\n")]
-    out += [".PP", *wrapped("Pages that end in `.md` stand in `share/doc/kothlaim`, beside `share/man`.")]
+    files = "Pages that end in `.md` stand in `share/doc/kothlaim`, beside `share/man`" + ("; files of `examples/c` in its folder `examples`." if name in HEADERS else ".")
+    out += [".PP", *wrapped(files)]
     return "\n".join(out) + "\n"
 
 
