@@ -4,3 +4,5 @@ pub mod Correcting
 pub mod Corrected
 -- the map of what was lost
 pub mod Map
+-- the memory of a run
+pub mod Rooms

@@ -11,7 +11,7 @@ mod correcting;
 mod laws;
 mod map;
 
-pub use correct::{Corrected, correct_dump};
+pub use correct::{CorrectRoom, Corrected, correct_dump};
 pub use correcting::{Correcting, Loss};
 pub use laws::corrected_law;
 pub use map::print_losses;
