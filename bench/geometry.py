@@ -26,8 +26,8 @@ MORE = [(64, 128, 8, 48, 40), (64, 64, 16, 64, 300), (128, 32, 16, 20, 100), (25
 
 def lines_of(raw):
     lines = []
-    for numbers, looked, sound, unsound, table, blocks, sectors in ref.geometries(raw):
-        shape = ",".join(map(str, numbers))
+    for coded, numbers, looked, sound, unsound, table, blocks, sectors in ref.geometries(raw):
+        shape = ",".join(map(str, numbers)) + (" codes hamming" if coded else "")
         lines.append(f"{shape} looked {looked} sound {sound} unsound {unsound} table {table} blocks {blocks} sectors {sectors}\n")
     return lines
 
