@@ -9,3 +9,6 @@ pub mod Decoded
 -- the geometries that fit it
 pub mod Coded
 pub mod CodedLaws
+pub mod FoundRoom
+-- the memory of a run
+pub mod Rooms

@@ -16,8 +16,8 @@ mod found;
 mod laws;
 mod map;
 
-pub use correct::{Corrected, correct_dump};
+pub use correct::{CorrectRoom, Corrected, correct_dump};
 pub use correcting::{Correcting, Loss};
-pub use found::{FoundFit, find_all_geometries};
+pub use found::{FoundFit, FoundRoom, find_all_geometries};
 pub use laws::{corrected_law, decoded_laws};
 pub use map::print_losses;

@@ -29,4 +29,3 @@ abbrev pub IsUncompared : Geometry → CompareFault → List ℕ → Type 0
 IsUncompared g fault.GeometryDiffers bytes = Unit {0}
 IsUncompared g fault.WrongLength bytes = ¬ (length bytes ≡ image_bytes g)
 IsUncompared g fault.Source bytes = Unit {0}
-IsUncompared g fault.OutOfMemory bytes = Unit {0}

@@ -52,3 +52,5 @@ pub mod Shape
 pub mod Fits
 -- what the definitions of what fits come to
 pub mod FitLaws
+-- the memory of each run
+pub mod Rooms

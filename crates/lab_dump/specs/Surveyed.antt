@@ -88,7 +88,6 @@ fault_of scan.Stopped = fault.Source
 abbrev pub IsUnsurveyed : Geometry → SurveyFault → List ℕ → Type 0
 IsUnsurveyed g fault.WrongLength bytes = ¬ (length bytes ≡ image_bytes g)
 IsUnsurveyed g fault.Source bytes = Unit {0}
-IsUnsurveyed g fault.OutOfMemory bytes = Unit {0}
 
 -- ---- the reasons against a mount
 

@@ -18,4 +18,3 @@ abbrev pub IsUnmade : Geometry → MakeFault → List ℕ → Type 0
 IsUnmade g fault.WrongLength bytes = ¬ (length bytes ≡ image_bytes g)
 IsUnmade g fault.Source bytes = Unit {0}
 IsUnmade g fault.Target bytes = Unit {0}
-IsUnmade g fault.OutOfMemory bytes = Unit {0}

@@ -1,9 +1,7 @@
 //! The array of a dump.
 ghost use Rattle.std.specs.Prelude.{◌≡◌, length, replicate, true, IfOk, IfErr, IfSome, map};
 ghost use Rattle.page_layout.specs.Array.{zeros};
-ghost use Rattle.lab_dump.specs.declared.held.Held.TheVariants.{Never};
-ghost use Rattle.page_layout.specs.Page.{Image};
-ghost use Rattle.lab_dump.specs.Doubting.{IsDoubting, Stands};
+ghost use Rattle.lab_dump.specs.Rooms.{IsArrayRoom};
 ghost use Rattle.lab_dump.specs.Unmade.{IsUnmade};
 ghost use Rattle.lab_dump.specs.Written.{IsWritten, TiedLaw};
 
@@ -38,36 +36,40 @@ pub struct Unwritten<T> {
     pub target: T,
 }
 
-// The memory of a run.
+/// The memory of a run that writes the array of a die of one geometry. (This project's.)
 #[derive(Drop)]
-struct Room {
+pub struct ArrayRoom {
     // the page at hand
-    body: Vec<u8>,
-    spare: Vec<u8>,
+    pub(crate) body: Vec<u8>,
+    pub(crate) spare: Vec<u8>,
     // what is held of each sector
-    held: Vec<Held>,
+    pub(crate) held: Vec<Held>,
     // a sector's bytes where it has none
-    zeros: Vec<u8>,
+    pub(crate) zeros: Vec<u8>,
     // what is left open
-    doubting: Doubting,
+    pub(crate) doubting: Doubting,
 }
 
-// Takes all the memory of a run.
-fn take_room(alloc: Global, geometry: &Geometry) -> Result<Room, AllocError>
-    ensures body { IfOk result (λ room. length room.body.items ≡ geometry.now.data_bytes) }
-    ensures spare { IfOk result (λ room. length room.spare.items ≡ geometry.now.spare_bytes) }
-    ensures held { IfOk result (λ room. room.held.items ≡ replicate geometry.now.sectors Never) }
-    ensures blank { IfOk result (λ room. room.zeros.items ≡ zeros geometry.now) }
-    ensures stands { IfOk result (λ room. Stands geometry.now 0 room.doubting) }
-    ensures doubting { IfOk result (λ room. (image : Image) → IsDoubting geometry.now 0 image room.doubting) }
-{
-    Ok(Room {
-        body: vec![in alloc; 0; geometry.data_bytes()]?,
-        spare: vec![in alloc; 0; geometry.spare_bytes()]?,
-        held: vec![in alloc; Held::Never; geometry.sectors() as usize]?,
-        zeros: vec![in alloc; 0; geometry.data_bytes()]?,
-        doubting: Doubting::new(alloc, geometry)?,
-    })
+impl ArrayRoom {
+    ghost use Rattle.std.specs.Prelude.{IfOk};
+    ghost use Rattle.lab_dump.specs.Rooms.{IsArrayRoom};
+
+    /// All the memory that writing the array of a die of this geometry takes.
+    ///
+    /// # Errors
+    ///
+    /// Where a growth was refused. (This project's.)
+    pub fn new(alloc: Global, geometry: &Geometry) -> Result<ArrayRoom, AllocError>
+        ensures { IfOk result (IsArrayRoom geometry.now) }
+    {
+        Ok(ArrayRoom {
+            body: vec![in alloc; 0; geometry.data_bytes()]?,
+            spare: vec![in alloc; 0; geometry.spare_bytes()]?,
+            held: vec![in alloc; Held::Never; geometry.sectors() as usize]?,
+            zeros: vec![in alloc; 0; geometry.data_bytes()]?,
+            doubting: Doubting::new(alloc, geometry)?,
+        })
+    }
 }
 
 /// A sector is tied just where two of its pages share its greatest sequence.
@@ -75,26 +77,34 @@ pub fn tied_law()
     ensures { TiedLaw }
 {}
 
-// Writes each sector of a dump, with all the memory that it takes.
-fn write_sectors<R: DumpReader, T: Target + Drop>(
-    room: Room,
+/// Writes each sector of a dump to a target, in one pass over the dump: the data area of the sector's newest page, or zeros where that page
+/// is a trim, the sector has none, or two of its pages share its greatest sequence. The target has a piece of zeros for each sector at
+/// first. The newest page of a sector is its sound page of greatest sequence, over all blocks, bad ones included. It takes no memory but that of the
+/// room.
+///
+/// For a reader that tells its bytes, and a target that tells its pieces, these are the array of the image that the bytes are. Whatever the
+/// reader does, the target is handed zeros alone, or a page that is sound and holds that sector.
+///
+/// # Errors
+///
+/// Each with the target, when it happens: `WrongLength` where the dump's bytes ended before the last page or a byte follows it, `Source` where a read
+/// failed or was interrupted, `Target` where a write failed.
+///
+/// (This project's rules.)
+pub fn write_array<R: DumpReader, T: Target + Drop>(
+    room: ArrayRoom,
     reader: &mut R,
     geometry: &Geometry,
     target: T,
 ) -> Result<Written<T>, Unwritten<T>>
-    requires body { length room.body.items ≡ geometry.now.data_bytes }
-    requires spare { length room.spare.items ≡ geometry.now.spare_bytes }
-    requires held { room.held.items ≡ replicate geometry.now.sectors Never }
-    requires blank { room.zeros.items ≡ zeros geometry.now }
-    requires stands { Stands geometry.now 0 room.doubting }
-    requires doubting { (image : Image) → IsDoubting geometry.now 0 image room.doubting }
+    requires room { IsArrayRoom geometry.now room }
     requires pieces { IfSome (T.pieces target) (λ ps. ps ≡ replicate geometry.now.sectors (zeros geometry.now)) }
     ensures ok { IfOk result (λ written. IfSome (R.remaining reader.old) (IsWritten geometry.now (T.pieces written.target) written.held.items written.doubts)) }
     ensures sized { IfOk result (λ written. length written.held.items ≡ geometry.now.sectors) }
     ensures err { IfErr result (λ unwritten. IfSome (R.remaining reader.old) (IsUnmade geometry.now unwritten.fault)) }
+    // Whatever the reader and the target do.
     ensures source { IfErr result (λ unwritten. unwritten.fault ≡ MakeFault.Source → R.failed reader.new ≡ true) }
     ensures target { IfErr result (λ unwritten. unwritten.fault ≡ MakeFault.Target → T.failed unwritten.target ≡ true) }
-    ensures memory { IfErr result (λ unwritten. unwritten.fault ≡ MakeFault.OutOfMemory → ⊥) }
 {
     let (mut body, mut spare) = (room.body, room.spare);
     let mut writing = Writing {
@@ -112,43 +122,6 @@ fn write_sectors<R: DumpReader, T: Target + Drop>(
         Err(fault) => Err(Unwritten {
             fault: MakeFault::from(fault),
             target: writing.target,
-        }),
-    }
-}
-
-/// Writes each sector of a dump to a target, in one pass over the dump: the data area of the sector's newest page, or zeros where that page
-/// is a trim, the sector has none, or two of its pages share its greatest sequence. The target has a piece of zeros for each sector at
-/// first. The newest page of a sector is its sound page of greatest sequence, over all blocks, bad ones included.
-///
-/// For a reader that tells its bytes, and a target that tells its pieces, these are the array of the image that the bytes are. Whatever the
-/// reader does, the target is handed zeros alone, or a page that is sound and holds that sector.
-///
-/// # Errors
-///
-/// Each with the target. `OutOfMemory` where a growth was refused, before any byte was read. Else each when it happens: `WrongLength` where the
-/// dump's bytes ended before the last page or a byte follows it, `Source` where a read failed or was interrupted, `Target` where a write failed.
-///
-/// (This project's rules.)
-pub fn write_array<R: DumpReader, T: Target + Drop>(
-    alloc: Global,
-    reader: &mut R,
-    geometry: &Geometry,
-    target: T,
-) -> Result<Written<T>, Unwritten<T>>
-    requires { IfSome (T.pieces target) (λ ps. ps ≡ replicate geometry.now.sectors (zeros geometry.now)) }
-    ensures ok { IfOk result (λ written. IfSome (R.remaining reader.old) (IsWritten geometry.now (T.pieces written.target) written.held.items written.doubts)) }
-    ensures sized { IfOk result (λ written. length written.held.items ≡ geometry.now.sectors) }
-    ensures err { IfErr result (λ unwritten. IfSome (R.remaining reader.old) (IsUnmade geometry.now unwritten.fault)) }
-    // Whatever the reader and the target do.
-    ensures source { IfErr result (λ unwritten. unwritten.fault ≡ MakeFault.Source → R.failed reader.new ≡ true) }
-    ensures target { IfErr result (λ unwritten. unwritten.fault ≡ MakeFault.Target → T.failed unwritten.target ≡ true) }
-    ensures memory { IfErr result (λ unwritten. unwritten.fault ≡ MakeFault.OutOfMemory → reader.new ≡ reader.old) }
-{
-    match take_room(alloc, geometry) {
-        Ok(room) => write_sectors(room, reader, geometry, target),
-        Err(_) => Err(Unwritten {
-            fault: MakeFault::OutOfMemory,
-            target,
         }),
     }
 }

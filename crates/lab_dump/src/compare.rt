@@ -4,6 +4,7 @@ ghost use Rattle.certificate.specs.Claim.{sizes_of};
 ghost use Rattle.lab_dump.specs.declared.trace.Trace.TheVariants.{Never};
 ghost use Rattle.lab_dump.specs.Trace.{lost_in};
 ghost use Rattle.lab_dump.specs.Compared.{IsComparedTo, IsUncompared};
+ghost use Rattle.lab_dump.specs.Rooms.{IsCompareRoom};
 
 use crate::doubting::Doubting;
 use crate::doubts::Doubts;
@@ -27,9 +28,6 @@ pub enum CompareFault {
     /// A read of the dump failed, or was interrupted.
     #[error("the dump could not be read")]
     Source,
-    /// A growth was refused.
-    #[error("out of memory")]
-    OutOfMemory,
 }
 
 impl From<ScanFault> for CompareFault {
@@ -42,17 +40,6 @@ impl From<ScanFault> for CompareFault {
             ScanFault::WrongLength => CompareFault::WrongLength,
             ScanFault::Source | ScanFault::Stopped => CompareFault::Source,
         }
-    }
-}
-
-impl From<AllocError> for CompareFault {
-    ghost use Rattle.std.specs.Prelude.{◌≡◌};
-    ghost use Rattle.lab_dump.specs.declared.compare.CompareFault.{CompareFault};
-
-    ghost from_gives = { λ _ fault. fault ≡ CompareFault.OutOfMemory };
-
-    fn from(_error: AllocError) -> CompareFault {
-        CompareFault::OutOfMemory
     }
 }
 
@@ -92,37 +79,66 @@ fn note_lost(certificate: &Certificate, traces: &[Trace], lost: &mut [bool])
     }
 }
 
+/// The memory of a comparison, for a die of one geometry. (This project's.)
+#[derive(Drop)]
+pub struct CompareRoom {
+    // the page at hand
+    pub(crate) body: Vec<u8>,
+    pub(crate) spare: Vec<u8>,
+    pub(crate) doubting: Doubting,
+    // room for the end: of each sector whether it has lost a page
+    pub(crate) lost: Vec<bool>,
+}
+
+impl CompareRoom {
+    ghost use Rattle.std.specs.Prelude.{IfOk};
+    ghost use Rattle.lab_dump.specs.Rooms.{IsCompareRoom};
+
+    /// All the memory that holding a dump of this geometry beside a certificate takes.
+    ///
+    /// # Errors
+    ///
+    /// Where a growth was refused. (This project's.)
+    pub fn new(alloc: Global, geometry: &Geometry) -> Result<CompareRoom, AllocError>
+        ensures { IfOk result (IsCompareRoom geometry.now) }
+    {
+        Ok(CompareRoom {
+            body: vec![in alloc; 0; geometry.data_bytes()]?,
+            spare: vec![in alloc; 0; geometry.spare_bytes()]?,
+            doubting: Doubting::new(alloc, geometry)?,
+            lost: vec![in alloc; false; geometry.sectors() as usize]?,
+        })
+    }
+}
+
 /// Holds a dump beside a certificate that was made of its die before, in one pass over the dump: which sectors have lost a page since. A sector
 /// has lost none whose newest page stands in the row that the certificate says, or has a sequence of at least the certificate's next one. So
-/// has one of which the certificate says no row and the dump has no sound page. Every other sector has.
+/// has one of which the certificate says no row and the dump has no sound page. Every other sector has. It takes no memory but that of the room.
 ///
 /// # Errors
 ///
-/// `GeometryDiffers` where the certificate is of another geometry, and `OutOfMemory` where a growth was refused, both before any byte was read.
-/// Else each when it happens: `WrongLength` where the dump's bytes ended before the last page or a byte follows it, `Source` where a read failed or
-/// was interrupted. (This project's rules.)
+/// `GeometryDiffers` where the certificate is of another geometry, before any byte was read. Else each when it happens: `WrongLength` where the
+/// dump's bytes ended before the last page or a byte follows it, `Source` where a read failed or was interrupted. (This project's rules.)
 pub fn compare_dump<R: DumpReader>(
-    alloc: Global,
+    room: CompareRoom,
     reader: &mut R,
     geometry: &Geometry,
     certificate: &Certificate,
 ) -> Result<Compared, CompareFault>
+    requires { IsCompareRoom geometry.now room }
     ensures ok { IfOk result (λ told. IfSome (R.remaining reader.old) (IsComparedTo geometry.now certificate.now told)) }
     ensures sized { IfOk result (λ told. length told.lost.items ≡ geometry.now.sectors) }
     ensures err { IfErr result (λ fault. IfSome (R.remaining reader.old) (IsUncompared geometry.now fault)) }
     // Whatever the reader does.
     ensures differs { (result ≡ Err CompareFault.GeometryDiffers) ↔ (certificate.now.sizes ≢ sizes_of geometry.now) }
     ensures unread { result ≡ Err CompareFault.GeometryDiffers → reader.new ≡ reader.old }
-    ensures memory { result ≡ Err CompareFault.OutOfMemory → reader.new ≡ reader.old }
     ensures source { result ≡ Err CompareFault.Source → R.failed reader.new ≡ true }
 {
     if !is_of(geometry, certificate) {
         return Err(CompareFault::GeometryDiffers);
     }
-    let mut body = vec![in alloc; 0; geometry.data_bytes()]?;
-    let mut spare = vec![in alloc; 0; geometry.spare_bytes()]?;
-    let mut doubting = Doubting::new(alloc, geometry)?;
-    let mut lost = vec![in alloc; false; geometry.sectors() as usize]?;
+    let (mut body, mut spare) = (room.body, room.spare);
+    let (mut doubting, mut lost) = (room.doubting, room.lost);
     scan(reader, geometry, &mut doubting, &mut body, &mut spare)?;
     note_lost(certificate, &doubting.traces, &mut lost);
     Ok(Compared {

@@ -1,10 +1,11 @@
 //! All geometries that fit a dump.
-ghost use Rattle.std.specs.Prelude.{◌≡◌, ◌++◌, ◌+◌, ◌<◌, ◌≤◌, List, ℕ, All, length, vec_capacity, IfOk, OnOk, OnErr, Some, IsPermutation, Err, true};
+ghost use Rattle.std.specs.Prelude.{◌≡◌, ◌++◌, ◌+◌, ◌<◌, ◌≤◌, List, ℕ, All, length, vec_capacity, IfOk, OnOk, OnErr, Some, IsPermutation, true};
 ghost use Rattle.std.specs.List.{flat_map};
 ghost use Rattle.std.specs.List.Sorted.{IsSorted};
 ghost use Rattle.page_layout.specs.Limits.{IsDataSize, IsSpareSize, IsPageCount};
 ghost use Rattle.lab_dump.specs.Shape.{page_counts};
 ghost use Rattle.lab_dump.specs.Fits.{shape_fits, area_fits, data_fits, fits_of, Adds, IsPossible, rank};
+ghost use Rattle.lab_dump.specs.Rooms.{IsFitRoom};
 
 use crate::dump::{Dump, DumpFault};
 use crate::fit::{Fit, fit_of};
@@ -12,7 +13,6 @@ use crate::sample::{Sample, take_sample};
 use crate::shape::{data_sizes, first_shape, page_counts, shape};
 use crate::told::{Told, read_told};
 use std::alloc::{AllocError, Global};
-use thiserror::Error;
 
 // The most bytes that a page may have.
 const MOST_PAGE: usize = 4352;
@@ -20,36 +20,30 @@ const MOST_PAGE: usize = 4352;
 // The most geometries that may fit: of seven data areas, 225 spare areas, and seven numbers of pages in a block.
 const MOST_FITS: usize = 11025;
 
-/// Why the geometries of a dump were not found.
-#[derive(Clone, Copy, Debug, PartialEq, Eq, Error)]
-pub enum FindFault {
-    /// The dump could not be read.
-    #[error("the dump could not be read")]
-    Source,
-    /// A growth was refused.
-    #[error("out of memory")]
-    OutOfMemory,
+/// The memory of a search for geometries. (This project's.)
+#[derive(Drop)]
+pub struct FitRoom {
+    // the page at hand
+    pub(crate) page: Vec<u8>,
+    pub(crate) fits: Vec<Fit>,
 }
 
-impl From<DumpFault> for FindFault {
-    ghost use Rattle.std.specs.Prelude.{◌≡◌};
-    ghost use Rattle.lab_dump.specs.declared.find.FindFault.{FindFault};
+impl FitRoom {
+    ghost use Rattle.std.specs.Prelude.{IfOk};
+    ghost use Rattle.lab_dump.specs.Rooms.{IsFitRoom};
 
-    ghost from_gives = { λ _ fault. fault ≡ FindFault.Source };
-
-    fn from(_fault: DumpFault) -> FindFault {
-        FindFault::Source
-    }
-}
-
-impl From<AllocError> for FindFault {
-    ghost use Rattle.std.specs.Prelude.{◌≡◌};
-    ghost use Rattle.lab_dump.specs.declared.find.FindFault.{FindFault};
-
-    ghost from_gives = { λ _ fault. fault ≡ FindFault.OutOfMemory };
-
-    fn from(_error: AllocError) -> FindFault {
-        FindFault::OutOfMemory
+    /// All the memory that a search takes: room for one page, of at most 4352 bytes, and for 11025 geometries, whatever the dump's size.
+    ///
+    /// # Errors
+    ///
+    /// Where a growth was refused. (This project's.)
+    pub fn new(alloc: Global) -> Result<FitRoom, AllocError>
+        ensures { IfOk result IsFitRoom }
+    {
+        Ok(FitRoom {
+            page: vec![in alloc; 0; MOST_PAGE]?,
+            fits: Vec::with_capacity(alloc, MOST_FITS)?,
+        })
     }
 }
 
@@ -183,23 +177,21 @@ fn add_all<D: Dump>(
 /// read, for what they tell of the blocks and the sectors, and each number of pages in a block that gives whole blocks is one geometry. Its
 /// sectors are the fewest that the pages tell of. A dump that none fits gives an empty list.
 ///
-/// It takes room for one page, of at most 4352 bytes, and for 11025 geometries, whatever the dump's size.
+/// It takes no memory but that of the room.
 ///
 /// # Errors
 ///
-/// `OutOfMemory` where a growth was refused, before anything was asked of the dump. `Source` where the dump's size cannot be known or a read of it
-/// fails. (This project's rules.)
-pub fn find_geometries<D: Dump>(alloc: Global, dump: &mut D) -> Result<Vec<Fit>, FindFault>
+/// Where the dump's size cannot be known or a read of it fails. (This project's rules.)
+pub fn find_geometries<D: Dump>(room: FitRoom, dump: &mut D) -> Result<Vec<Fit>, DumpFault>
+    requires { IsFitRoom room }
     ensures found { IfOk result (λ fits. (all : List ℕ) → D.bytes dump.old ≡ Some all → IsPermutation (fits_of all) fits.items) }
     ensures ranked { IfOk result (λ fits. IsSorted rank fits.items) }
     ensures possible { IfOk result (λ fits. All IsPossible fits.items) }
     ensures few { IfOk result (λ fits. length fits.items ≤ 11025) }
-    ensures source { result ≡ Err FindFault.Source → D.failed dump.new ≡ true }
-    ensures memory { result ≡ Err FindFault.OutOfMemory → dump.new ≡ dump.old }
+    ensures source { OnErr result (D.failed dump.new ≡ true) }
     ensures same { D.bytes dump.new ≡ D.bytes dump.old }
 {
-    let mut page = vec![in alloc; 0; MOST_PAGE]?;
-    let mut fits = Vec::with_capacity(alloc, MOST_FITS)?;
+    let (mut page, mut fits) = (room.page, room.fits);
     let size = dump.size()?;
     add_all(&mut fits, dump, size, &mut page)?;
     fits.sort_unstable();

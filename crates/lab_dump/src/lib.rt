@@ -9,6 +9,9 @@
 //!   mount.
 //! - `find_geometries`: which geometries fit a dump of unknown shape, best first, each with what the dump says for it. It reads page by
 //!   page, at whatever place.
+//!
+//! Each of the last four takes no memory but that of its room (`ArrayRoom`, ..), which is made before the dump is opened: so no refusal for memory
+//! depends on what a dump holds.
 #![tactic(auto)]
 
 mod area;
@@ -42,12 +45,12 @@ mod told;
 mod trace;
 mod writing;
 
-pub use array::{Unwritten, Written, write_array};
-pub use compare::{CompareFault, Compared, compare_dump};
+pub use array::{ArrayRoom, Unwritten, Written, write_array};
+pub use compare::{CompareFault, CompareRoom, Compared, compare_dump};
 pub use counts::{PageCounts, sorts_law};
 pub use doubts::Doubts;
 pub use dump::{Dump, DumpFault, DumpReader};
-pub use find::{FindFault, add_shapes, find_geometries};
+pub use find::{FitRoom, add_shapes, find_geometries};
 pub use fit::{Fit, TableSays};
 pub use held::{Held, State};
 pub use laws::{
@@ -64,7 +67,7 @@ pub use row_page::look_in;
 pub use rows::{Rows, asked_law, each_law, is_asked, within_law};
 pub use sample::{Sample, looked_count, looked_row};
 pub use shape::{data_sizes, first_shape};
-pub use survey::{DieSurvey, SurveyFault, mounts_law, survey_dump};
+pub use survey::{DieSurvey, SurveyFault, SurveyRoom, mounts_law, survey_dump};
 pub use target::{PageTarget, Pieces, Target, TargetFault};
 pub use told::Told;
 pub use writing::Writing;

@@ -2,7 +2,6 @@
 ghost use Rattle.std.specs.Prelude.{◌≡◌};
 
 use crate::pass::ScanFault;
-use std::alloc::AllocError;
 use thiserror::Error;
 
 /// Why no file of sectors or of pages was made of a dump.
@@ -17,9 +16,6 @@ pub enum MakeFault {
     /// A sector or a page could not be written.
     #[error("a sector or a page could not be written")]
     Target,
-    /// A growth was refused.
-    #[error("out of memory")]
-    OutOfMemory,
 }
 
 impl From<ScanFault> for MakeFault {
@@ -33,16 +29,5 @@ impl From<ScanFault> for MakeFault {
             ScanFault::Source => MakeFault::Source,
             ScanFault::Stopped => MakeFault::Target,
         }
-    }
-}
-
-impl From<AllocError> for MakeFault {
-    ghost use Rattle.std.specs.Prelude.{◌≡◌};
-    ghost use Rattle.lab_dump.specs.declared.make_fault.MakeFault.{MakeFault};
-
-    ghost from_gives = { λ _ fault. fault ≡ MakeFault.OutOfMemory };
-
-    fn from(_error: AllocError) -> MakeFault {
-        MakeFault::OutOfMemory
     }
 }

@@ -7,6 +7,7 @@ ghost use Rattle.image_check.specs.Surveyed.{IsSized, Surveys};
 ghost use Rattle.lab_dump.specs.declared.held.State.TheVariants.{Absent};
 ghost use Rattle.lab_dump.specs.declared.trace.Trace.TheVariants.{Never};
 ghost use Rattle.lab_dump.specs.Noted.{Stands, Shows};
+ghost use Rattle.lab_dump.specs.Rooms.{IsSurveyRoom};
 ghost use Rattle.lab_dump.specs.Surveyed.{BlocksAs, IsSurveyed, IsSurveyOf, IsWhole, IsUnsurveyed, MountsLaw};
 ghost use Rattle.lab_dump.specs.Trace.{state_in};
 
@@ -34,9 +35,6 @@ pub enum SurveyFault {
     /// A read of the dump failed, or was interrupted.
     #[error("the dump could not be read")]
     Source,
-    /// A growth was refused.
-    #[error("out of memory")]
-    OutOfMemory,
 }
 
 impl From<ScanFault> for SurveyFault {
@@ -49,17 +47,6 @@ impl From<ScanFault> for SurveyFault {
             ScanFault::WrongLength => SurveyFault::WrongLength,
             ScanFault::Source | ScanFault::Stopped => SurveyFault::Source,
         }
-    }
-}
-
-impl From<AllocError> for SurveyFault {
-    ghost use Rattle.std.specs.Prelude.{◌≡◌};
-    ghost use Rattle.lab_dump.specs.declared.survey.SurveyFault.{SurveyFault};
-
-    ghost from_gives = { λ _ fault. fault ≡ SurveyFault.OutOfMemory };
-
-    fn from(_error: AllocError) -> SurveyFault {
-        SurveyFault::OutOfMemory
     }
 }
 
@@ -135,28 +122,56 @@ fn conclude(geometry: &Geometry, seeing: Seeing) -> DieSurvey
     }
 }
 
+/// The memory of a survey, for a die of one geometry. (This project's.)
+#[derive(Drop)]
+pub struct SurveyRoom {
+    // the page at hand
+    pub(crate) body: Vec<u8>,
+    pub(crate) spare: Vec<u8>,
+    // what was seen so far
+    pub(crate) seeing: Seeing,
+}
+
+impl SurveyRoom {
+    ghost use Rattle.std.specs.Prelude.{IfOk};
+    ghost use Rattle.lab_dump.specs.Rooms.{IsSurveyRoom};
+
+    /// All the memory that a survey of a die of this geometry takes.
+    ///
+    /// # Errors
+    ///
+    /// Where a growth was refused. (This project's.)
+    pub fn new(alloc: Global, geometry: &Geometry) -> Result<SurveyRoom, AllocError>
+        ensures { IfOk result (IsSurveyRoom geometry.now) }
+    {
+        Ok(SurveyRoom {
+            body: vec![in alloc; 0; geometry.data_bytes()]?,
+            spare: vec![in alloc; 0; geometry.spare_bytes()]?,
+            seeing: Seeing::new(alloc, geometry)?,
+        })
+    }
+}
+
 /// Surveys a dump in one pass over its pages, as if each page of a row that is not asked for were erased; where no rows are named, each is asked
-/// for. The dump is read whole, and only pages of rows asked for are hashed.
+/// for. The dump is read whole, and only pages of rows asked for are hashed. It takes no memory but that of the room.
 ///
 /// # Errors
 ///
-/// `OutOfMemory` where a growth was refused, before any byte was read. Else each when it happens: `WrongLength` where the dump's bytes ended
-/// before the last page or a byte follows it, `Source` where a read failed or was interrupted. (This project's rules.)
+/// Each when it happens: `WrongLength` where the dump's bytes ended before the last page or a byte follows it, `Source` where a read failed or was
+/// interrupted. (This project's rules.)
 pub fn survey_dump<R: DumpReader>(
-    alloc: Global,
+    room: SurveyRoom,
     reader: &mut R,
     geometry: &Geometry,
     rows: Option<Rows>,
 ) -> Result<DieSurvey, SurveyFault>
+    requires { IsSurveyRoom geometry.now room }
     ensures whole { IfOk result (IsWhole geometry.now) }
     ensures ok { IfOk result (λ survey. IfSome (R.remaining reader.old) (IsSurveyOf geometry.now rows survey)) }
     ensures err { IfErr result (λ fault. IfSome (R.remaining reader.old) (IsUnsurveyed geometry.now fault)) }
     ensures source { result ≡ Err SurveyFault.Source → R.failed reader.new ≡ true }
-    ensures memory { result ≡ Err SurveyFault.OutOfMemory → reader.new ≡ reader.old }
 {
-    let mut body = vec![in alloc; 0; geometry.data_bytes()]?;
-    let mut spare = vec![in alloc; 0; geometry.spare_bytes()]?;
-    let mut seeing = Seeing::new(alloc, geometry)?;
+    let (mut body, mut spare, mut seeing) = (room.body, room.spare, room.seeing);
     scan_rows(reader, geometry, rows, &mut seeing, &mut body, &mut spare)?;
     Ok(conclude(geometry, seeing))
 }

@@ -90,9 +90,6 @@ unmerged_end g files i scan.WrongLength f h e = let long = h.long in subst (IsUn
 unmerged_end g files i scan.Source f h e = subst (IsUnmerged g files) (sym e) h
 unmerged_end g files i scan.Stopped f h e = absurd h
 
-pub unmerged_memory : (g : Geometry) (files : List (List ℕ)) (f : MergeFault) → f ≡ fault.OutOfMemory → IsUnmerged g files f
-unmerged_memory g files f e = subst (IsUnmerged g files) (sym e) tt
-
 -- by the size that the code has
 pub unmerged_row_cut : (g : Geometry) (files : List (List ℕ)) (n size i : ℕ) (c : Cut) (f : MergeFault) → size ≡ page_bytes g → n < row_count g → CutAt files (n * page_bytes g + size) i c → f ≡ fault_of_cut i c → IsUnmerged g files f
 unmerged_row_cut g files n size i c f one within h e = unmerged_cut g files n i c f within (subst (λ k. CutAt files (n * page_bytes g + k) i c) one h) e

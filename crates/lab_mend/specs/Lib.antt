@@ -22,3 +22,5 @@ pub mod Merging
 pub mod InStep
 -- what was written in the end
 pub mod Merged
+-- the memory of each run
+pub mod Rooms

@@ -40,26 +40,18 @@ abbrev pub IsUnmerged : Geometry → List (List ℕ) → MergeFault → Type 0
 IsUnmerged g files (fault.WrongLength i) = (i < length files) × (¬ (length (get_or files i []) ≡ image_bytes g))
 IsUnmerged g files (fault.Source i) = i < length files
 IsUnmerged g files fault.Target = Unit {0}
-IsUnmerged g files fault.OutOfMemory = Unit {0}
 
 -- a fault that names a reading names one of so many
 abbrev pub IsOfReading : ℕ → MergeFault → Type 0
 IsOfReading count (fault.WrongLength i) = i < count
 IsOfReading count (fault.Source i) = i < count
 IsOfReading count fault.Target = Unit {0}
-IsOfReading count fault.OutOfMemory = Unit {0}
 
--- A fault of a reading or of the file says that it has failed; want of memory is none of a run that has begun.
+-- a fault of a reading or of the file says that it has failed
 abbrev pub IsPinned : List Bool → Bool → MergeFault → Type 0
 IsPinned failed target (fault.WrongLength i) = Unit {0}
 IsPinned failed target (fault.Source i) = get_or failed i false ≡ true
 IsPinned failed target fault.Target = target ≡ true
-IsPinned failed target fault.OutOfMemory = ⊥
-
--- a page of each of so many readings, and one more
-pub record IsRoom (g : Geometry) (count : ℕ) (pages scratch : List ℕ) : Type 0 where
-  pub pages_size : length pages ≡ count * page_bytes g
-  pub scratch_size : length scratch ≡ page_bytes g
 
 -- the fault of a reading that ended early or failed
 abbrev pub fault_of_cut : ℕ → Cut → MergeFault

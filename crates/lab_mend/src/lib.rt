@@ -23,7 +23,7 @@ pub use laws::{
     own_law, rows_law, turned_law, zero_law,
 };
 pub use mending::Made;
-pub use merge::{MergeFault, Merged, Unmerged, merge_dumps};
+pub use merge::{MergeFault, MergeRoom, Merged, Unmerged, merge_dumps};
 pub use merging::Tally;
-pub use repair::{Repaired, repair_dump};
+pub use repair::{RepairRoom, Repaired, repair_dump};
 pub use repairing::{Mend, Repairing};

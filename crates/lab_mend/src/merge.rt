@@ -1,11 +1,12 @@
 //! The merge of several readings of one die.
-ghost use Rattle.std.specs.Prelude.{◌≡◌, ◌<◌, ◌≤◌, ◌*◌, ℕ, List, [], length, map, get_or, true, false, vec_capacity, OnOk, IfOk, IfErr, IfSome};
+ghost use Rattle.std.specs.Prelude.{◌≡◌, ◌<◌, ◌≤◌, ◌*◌, ℕ, List, [], length, map, vec_capacity, OnOk, IfOk, IfErr, IfSome};
 ghost use Rattle.page_layout.specs.Geometry.{page_bytes, row_count};
 ghost use Rattle.page_layout.specs.Page.{Page};
 ghost use Rattle.lab_dump.specs.Scan.{image_bytes};
 ghost use Rattle.lab_mend.specs.InStep.{AreAt, Tell};
 ghost use Rattle.lab_mend.specs.Merging.{AreListed, HasRoom, Shows, Stands, unsound_below};
-ghost use Rattle.lab_mend.specs.Merged.{IsMerged, IsOfReading, IsOwnMerge, IsPinned, IsRoom, IsUnmerged, row_of};
+ghost use Rattle.lab_mend.specs.Merged.{IsMerged, IsOfReading, IsOwnMerge, IsPinned, IsUnmerged, row_of};
+ghost use Rattle.lab_mend.specs.Rooms.{IsMergeRoom};
 
 use crate::in_step::{ReadingCut, ReadingFault, expect_ends, read_row};
 use crate::merging::{Merging, Tally};
@@ -26,9 +27,6 @@ pub enum MergeFault {
     /// A page could not be written.
     #[error("a page could not be written")]
     Target,
-    /// A growth was refused.
-    #[error("out of memory")]
-    OutOfMemory,
 }
 
 impl From<ReadingCut> for MergeFault {
@@ -149,52 +147,79 @@ fn merge_all<R: DumpReader, T: PageTarget>(
     Ok(())
 }
 
-// The memory of a run.
+/// The memory of a merge of readings of one die. (This project's.)
 #[derive(Drop)]
-struct Room {
+pub struct MergeRoom {
     // a page of each reading, one behind another
-    pages: Vec<u8>,
+    pub(crate) pages: Vec<u8>,
     // the page at hand
-    scratch: Vec<u8>,
+    pub(crate) scratch: Vec<u8>,
     // the rows that are named
-    conflicts: Vec<u32>,
-    unsound: Vec<u32>,
+    pub(crate) conflicts: Vec<u32>,
+    pub(crate) unsound: Vec<u32>,
 }
 
-// Takes all the memory of a run over so many readings.
-fn take_room(alloc: Global, geometry: &Geometry, count: usize) -> Result<Room, AllocError>
-    ensures sized { IfOk result (λ room. IsRoom geometry.now count room.pages.items room.scratch.items) }
-    ensures conflicts { IfOk result (λ room. (room.conflicts.items ≡ []) × (row_count geometry.now ≤ vec_capacity room.conflicts)) }
-    ensures unsound { IfOk result (λ room. (room.unsound.items ≡ []) × (row_count geometry.now ≤ vec_capacity room.unsound)) }
-{
-    let size = geometry.data_bytes() + geometry.spare_bytes();
-    let Some(all) = size.checked_mul(count) else {
-        return Err(AllocError);
-    };
-    Ok(Room {
-        pages: vec![in alloc; 0; all]?,
-        scratch: vec![in alloc; 0; size]?,
-        conflicts: Vec::with_capacity(alloc, geometry.rows() as usize)?,
-        unsound: Vec::with_capacity(alloc, geometry.rows() as usize)?,
-    })
+impl MergeRoom {
+    ghost use Rattle.std.specs.Prelude.{IfOk};
+    ghost use Rattle.lab_mend.specs.Rooms.{IsMergeRoom};
+
+    /// All the memory that a merge of so many readings of a die of this geometry takes: that of a page of each and one more, and eight bytes a row.
+    ///
+    /// # Errors
+    ///
+    /// Where a growth was refused. (This project's.)
+    pub fn new(alloc: Global, geometry: &Geometry, count: usize) -> Result<MergeRoom, AllocError>
+        ensures { IfOk result (IsMergeRoom geometry.now count) }
+    {
+        let size = geometry.data_bytes() + geometry.spare_bytes();
+        let Some(all) = size.checked_mul(count) else {
+            return Err(AllocError);
+        };
+        Ok(MergeRoom {
+            pages: vec![in alloc; 0; all]?,
+            scratch: vec![in alloc; 0; size]?,
+            conflicts: Vec::with_capacity(alloc, geometry.rows() as usize)?,
+            unsound: Vec::with_capacity(alloc, geometry.rows() as usize)?,
+        })
+    }
 }
 
-// Merges readings with all the memory that it takes.
-fn merge_with<R: DumpReader, T: PageTarget + Drop>(
-    room: Room,
+/// Writes one page for each row to a target, made of several readings of one die, in one pass over them in step. Of the row's pages, one of
+/// each reading:
+///
+/// - where some are sound and all the sound ones are one page, that page;
+/// - where two sound ones differ, 00h bytes, which are never sound, and the row is named;
+/// - where none is sound and there are three or more readings, the page that has each bit set which more than half of them have set, if that is
+///   sound;
+/// - else the first page that is not erased, as it is, and the row is named: a reading that failed may be all FFh;
+/// - else an erased page: it is erased in every reading.
+///
+/// The target has a piece for each row, of as many bytes as a page has. A page with the same bytes as the first reading's is not hashed again. It
+/// takes no memory but that of the room.
+///
+/// For readers that tell their bytes, and a target that tells its pieces, these are those pages of the images that the bytes are, and the rows that
+/// are named and counted are those of them. Of any readers each piece has as many bytes as a page, and a row that is named has 00h bytes alone.
+///
+/// # Errors
+///
+/// Each with the target, when it happens: `WrongLength` where the bytes of the reading of that number ended before the last page or a byte follows
+/// it, `Source` where a read of the reading of that number failed or was interrupted, `Target` where a write failed.
+///
+/// (This project's rules.)
+pub fn merge_dumps<R: DumpReader, T: PageTarget + Drop>(
+    room: MergeRoom,
     readers: &mut [R],
     geometry: &Geometry,
     target: T,
 ) -> Result<Merged<T>, Unmerged<T>>
     requires some { 0 < length readers.old }
-    requires room { IsRoom geometry.now (length readers.old) room.pages.items room.scratch.items }
-    requires conflicts { (room.conflicts.items ≡ []) × (row_count geometry.now ≤ vec_capacity room.conflicts) }
-    requires unsound { (room.unsound.items ≡ []) × (row_count geometry.now ≤ vec_capacity room.unsound) }
+    requires room { IsMergeRoom geometry.now (length readers.old) room }
     requires pieces { IfSome (T.pieces target) (λ ps. length ps ≡ row_count geometry.now) }
     ensures ok { IfOk result (λ told. (files : List (List ℕ)) → Tell (map R.remaining readers.old) files → IsMerged geometry.now files told.conflicts.items told.unsound.items told.tally (T.pieces told.target)) }
+    ensures err { IfErr result (λ unmerged. (files : List (List ℕ)) → Tell (map R.remaining readers.old) files → IsUnmerged geometry.now files unmerged.fault) }
+    // Whatever the readers and the target do.
     ensures own { IfOk result (λ told. IsOwnMerge geometry.now told.conflicts.items told.unsound.items (T.pieces told.target)) }
     ensures reading { IfErr result (λ unmerged. IsOfReading (length readers.old) unmerged.fault) }
-    ensures err { IfErr result (λ unmerged. (files : List (List ℕ)) → Tell (map R.remaining readers.old) files → IsUnmerged geometry.now files unmerged.fault) }
     ensures pinned { IfErr result (λ unmerged. IsPinned (map R.failed readers.new) (T.failed unmerged.target) unmerged.fault) }
 {
     let mut pages = room.pages;
@@ -220,55 +245,6 @@ fn merge_with<R: DumpReader, T: PageTarget + Drop>(
         Err(fault) => Err(Unmerged {
             fault,
             target: merging.target,
-        }),
-    }
-}
-
-/// Writes one page for each row to a target, made of several readings of one die, in one pass over all of them in step. Of the row's pages, one of
-/// each reading:
-///
-/// - where some are sound and all the sound ones are one page, that page;
-/// - where two sound ones differ, 00h bytes, which are never sound, and the row is named;
-/// - where none is sound and there are three or more readings, the page that has each bit set which more than half of them have set, if that is
-///   sound;
-/// - else the first page that is not erased, as it is, and the row is named: a reading that failed may be all FFh;
-/// - else an erased page: it is erased in every reading.
-///
-/// The target has a piece for each row, of as many bytes as a page has. A page with the same bytes as the first reading's is not hashed again. The
-/// memory is that of a page of each reading and one more, and eight bytes a row.
-///
-/// For readers that tell their bytes, and a target that tells its pieces, these are those pages of the images that the bytes are, and the rows that
-/// are named and counted are those of them. Of any readers each piece has as many bytes as a page, and a row that is named has 00h bytes alone.
-///
-/// # Errors
-///
-/// Each with the target. `OutOfMemory` where a growth was refused, before any byte was read. Else each when it happens:
-/// `WrongLength` where the bytes of the reading of that number ended before the last page or a byte follows it, `Source` where a read of the
-/// reading of that number failed or was interrupted, `Target` where a write failed.
-///
-/// (This project's rules.)
-pub fn merge_dumps<R: DumpReader, T: PageTarget + Drop>(
-    alloc: Global,
-    readers: &mut [R],
-    geometry: &Geometry,
-    target: T,
-) -> Result<Merged<T>, Unmerged<T>>
-    requires some { 0 < length readers.old }
-    requires pieces { IfSome (T.pieces target) (λ ps. length ps ≡ row_count geometry.now) }
-    ensures ok { IfOk result (λ told. (files : List (List ℕ)) → Tell (map R.remaining readers.old) files → IsMerged geometry.now files told.conflicts.items told.unsound.items told.tally (T.pieces told.target)) }
-    ensures err { IfErr result (λ unmerged. (files : List (List ℕ)) → Tell (map R.remaining readers.old) files → IsUnmerged geometry.now files unmerged.fault) }
-    // Whatever the readers and the target do.
-    ensures own { IfOk result (λ told. IsOwnMerge geometry.now told.conflicts.items told.unsound.items (T.pieces told.target)) }
-    ensures reading { IfErr result (λ unmerged. IsOfReading (length readers.old) unmerged.fault) }
-    ensures source { IfErr result (λ unmerged. (i : ℕ) → unmerged.fault ≡ MergeFault.Source i → get_or (map R.failed readers.new) i false ≡ true) }
-    ensures target { IfErr result (λ unmerged. unmerged.fault ≡ MergeFault.Target → T.failed unmerged.target ≡ true) }
-    ensures memory { IfErr result (λ unmerged. unmerged.fault ≡ MergeFault.OutOfMemory → readers.new ≡ readers.old) }
-{
-    match take_room(alloc, geometry, readers.len()) {
-        Ok(room) => merge_with(room, readers, geometry, target),
-        Err(_) => Err(Unmerged {
-            fault: MergeFault::OutOfMemory,
-            target,
         }),
     }
 }

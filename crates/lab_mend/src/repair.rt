@@ -1,8 +1,9 @@
 //! The repair of a dump.
-ghost use Rattle.std.specs.Prelude.{◌≡◌, ◌≤◌, [], length, true, vec_capacity, IfOk, IfErr, IfSome};
-ghost use Rattle.page_layout.specs.Geometry.{page_bytes, row_count};
+ghost use Rattle.std.specs.Prelude.{◌≡◌, length, true, IfOk, IfErr, IfSome};
+ghost use Rattle.page_layout.specs.Geometry.{row_count};
 ghost use Rattle.lab_dump.specs.Unmade.{IsUnmade};
 ghost use Rattle.lab_mend.specs.Repaired.{IsOwnRepair, IsRepaired};
+ghost use Rattle.lab_mend.specs.Rooms.{IsRepairRoom};
 
 use crate::repairing::{Mend, Repairing};
 use lab_dump::{DumpReader, MakeFault, PageTarget, Rows, Unwritten, scan};
@@ -18,51 +19,68 @@ pub struct Repaired<T> {
     pub target: T,
 }
 
-// The memory of a run.
+/// The memory of a repair, for a die of one geometry. (This project's.)
 #[derive(Drop)]
-struct Room {
+pub struct RepairRoom {
     // the page as it was read
-    body: Vec<u8>,
-    spare: Vec<u8>,
+    pub(crate) body: Vec<u8>,
+    pub(crate) spare: Vec<u8>,
     // the page as it is written
-    scratch: Vec<u8>,
-    mends: Vec<Mend>,
+    pub(crate) scratch: Vec<u8>,
+    pub(crate) mends: Vec<Mend>,
 }
 
-// Takes all the memory of a run.
-fn take_room(alloc: Global, geometry: &Geometry) -> Result<Room, AllocError>
-    ensures body { IfOk result (λ room. length room.body.items ≡ geometry.now.data_bytes) }
-    ensures spare { IfOk result (λ room. length room.spare.items ≡ geometry.now.spare_bytes) }
-    ensures scratch { IfOk result (λ room. length room.scratch.items ≡ page_bytes geometry.now) }
-    ensures mends { IfOk result (λ room. (room.mends.items ≡ []) × (row_count geometry.now ≤ vec_capacity room.mends)) }
-{
-    Ok(Room {
-        body: vec![in alloc; 0; geometry.data_bytes()]?,
-        spare: vec![in alloc; 0; geometry.spare_bytes()]?,
-        scratch: vec![in alloc; 0; geometry.data_bytes() + geometry.spare_bytes()]?,
-        mends: Vec::with_capacity(alloc, geometry.rows() as usize)?,
-    })
+impl RepairRoom {
+    ghost use Rattle.std.specs.Prelude.{IfOk};
+    ghost use Rattle.lab_mend.specs.Rooms.{IsRepairRoom};
+
+    /// All the memory that a repair of a dump of this geometry takes: that of two pages, and twelve bytes a row.
+    ///
+    /// # Errors
+    ///
+    /// Where a growth was refused. (This project's.)
+    pub fn new(alloc: Global, geometry: &Geometry) -> Result<RepairRoom, AllocError>
+        ensures { IfOk result (IsRepairRoom geometry.now) }
+    {
+        Ok(RepairRoom {
+            body: vec![in alloc; 0; geometry.data_bytes()]?,
+            spare: vec![in alloc; 0; geometry.spare_bytes()]?,
+            scratch: vec![in alloc; 0; geometry.data_bytes() + geometry.spare_bytes()]?,
+            mends: Vec::with_capacity(alloc, geometry.rows() as usize)?,
+        })
+    }
 }
 
-// Repairs a dump with all the memory that it takes.
-fn repair_with<R: DumpReader, T: PageTarget + Drop>(
-    room: Room,
+/// Writes each page of a dump to a target, those of rows asked for mended, in one pass over the dump: a page that is neither erased nor sound with
+/// its lowest bit turned whose turning makes it sound, or, where there is none, with the bit turned that leaves it erased, if there is one, and every
+/// other page as it is. Where no rows are named, each is asked for. The seal decides: of such a page each bit of both areas is tried in turn. The
+/// target has a piece for each row, of as many bytes as a page has. It takes no memory but that of the room.
+///
+/// For a reader that tells its bytes, and a target that tells its pieces, these are the mended pages of the image that the bytes are, in rows not
+/// asked for its own, and the list names the rows that differ. Of any reader each piece is the mended page of one from which it differs in the bit
+/// that the list names of the row, and in none where it names none; only rows asked for are named.
+///
+/// # Errors
+///
+/// Each with the target, when it happens: `WrongLength` where the dump's bytes ended before the last page or a byte follows it, `Source` where a read
+/// failed or was interrupted, `Target` where a write failed.
+///
+/// (This project's rules.)
+pub fn repair_dump<R: DumpReader, T: PageTarget + Drop>(
+    room: RepairRoom,
     reader: &mut R,
     geometry: &Geometry,
     rows: Option<Rows>,
     target: T,
 ) -> Result<Repaired<T>, Unwritten<T>>
-    requires body { length room.body.items ≡ geometry.now.data_bytes }
-    requires spare { length room.spare.items ≡ geometry.now.spare_bytes }
-    requires scratch { length room.scratch.items ≡ page_bytes geometry.now }
-    requires mends { (room.mends.items ≡ []) × (row_count geometry.now ≤ vec_capacity room.mends) }
+    requires room { IsRepairRoom geometry.now room }
     requires pieces { IfSome (T.pieces target) (λ ps. length ps ≡ row_count geometry.now) }
     ensures ok { IfOk result (λ told. IfSome (R.remaining reader.old) (IsRepaired geometry.now rows (T.pieces told.target) told.mends.items)) }
-    ensures own { IfOk result (λ told. IsOwnRepair geometry.now rows (T.pieces told.target) told.mends.items) }
     ensures err { IfErr result (λ unwritten. IfSome (R.remaining reader.old) (IsUnmade geometry.now unwritten.fault)) }
+    // Whatever the reader and the target do.
+    ensures own { IfOk result (λ told. IsOwnRepair geometry.now rows (T.pieces told.target) told.mends.items) }
     ensures source { IfErr result (λ unwritten. unwritten.fault ≡ MakeFault.Source → R.failed reader.new ≡ true) }
     ensures target { IfErr result (λ unwritten. unwritten.fault ≡ MakeFault.Target → T.failed unwritten.target ≡ true) }
-    ensures memory { IfErr result (λ unwritten. unwritten.fault ≡ MakeFault.OutOfMemory → ⊥) }
 {
     let (mut body, mut spare) = (room.body, room.spare);
     let mut repairing = Repairing {
@@ -79,47 +97,6 @@ fn repair_with<R: DumpReader, T: PageTarget + Drop>(
         Err(fault) => Err(Unwritten {
             fault: MakeFault::from(fault),
             target: repairing.target,
-        }),
-    }
-}
-
-/// Writes each page of a dump to a target, those of rows asked for mended, in one pass over the dump: a page that is neither erased nor sound with
-/// its lowest bit turned whose turning makes it sound, or, where there is none, with the bit turned that leaves it erased, if there is one, and every
-/// other page as it is. Where no rows are named, each is asked for. The seal decides: of such a page each bit of both areas is tried in turn. The
-/// target has a piece for each row, of as many bytes as a page has. The memory is that of two pages, and twelve bytes a row.
-///
-/// For a reader that tells its bytes, and a target that tells its pieces, these are the mended pages of the image that the bytes are, in rows not
-/// asked for its own, and the list names the rows that differ. Of any reader each piece is the mended page of one from which it differs in the bit
-/// that the list names of the row, and in none where it names none; only rows asked for are named.
-///
-/// # Errors
-///
-/// Each with the target. `OutOfMemory` where a growth was refused, before any byte was read. Else each when it happens:
-/// `WrongLength` where the dump's bytes ended before the last page or a byte follows it, `Source` where a read failed or was interrupted,
-/// `Target` where a write failed.
-///
-/// (This project's rules.)
-pub fn repair_dump<R: DumpReader, T: PageTarget + Drop>(
-    alloc: Global,
-    reader: &mut R,
-    geometry: &Geometry,
-    rows: Option<Rows>,
-    target: T,
-) -> Result<Repaired<T>, Unwritten<T>>
-    requires { IfSome (T.pieces target) (λ ps. length ps ≡ row_count geometry.now) }
-    ensures ok { IfOk result (λ told. IfSome (R.remaining reader.old) (IsRepaired geometry.now rows (T.pieces told.target) told.mends.items)) }
-    ensures err { IfErr result (λ unwritten. IfSome (R.remaining reader.old) (IsUnmade geometry.now unwritten.fault)) }
-    // Whatever the reader and the target do.
-    ensures own { IfOk result (λ told. IsOwnRepair geometry.now rows (T.pieces told.target) told.mends.items) }
-    ensures source { IfErr result (λ unwritten. unwritten.fault ≡ MakeFault.Source → R.failed reader.new ≡ true) }
-    ensures target { IfErr result (λ unwritten. unwritten.fault ≡ MakeFault.Target → T.failed unwritten.target ≡ true) }
-    ensures memory { IfErr result (λ unwritten. unwritten.fault ≡ MakeFault.OutOfMemory → reader.new ≡ reader.old) }
-{
-    match take_room(alloc, geometry) {
-        Ok(room) => repair_with(room, reader, geometry, rows, target),
-        Err(_) => Err(Unwritten {
-            fault: MakeFault::OutOfMemory,
-            target,
         }),
     }
 }

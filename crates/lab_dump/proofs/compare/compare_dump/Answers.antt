@@ -17,14 +17,14 @@ returns-clause-ok g c =
     let claim = c.args.certificate.now in
     let taker = c.scan.new.taker in
     let traces_is = c.deref.ensures.value in
-    let lost_is : (with_items c.in_ok-lost.lost c.note_lost.new.lost).items ≡ c.note_lost.new.lost = with_items_is c.in_ok-lost.lost c.note_lost.new.lost (c.note_lost.auto.lost ∙ c.deref_mut-3.ensures.len) in
+    let lost_is : (with_items c.args.room.lost c.note_lost.new.lost).items ≡ c.note_lost.new.lost = with_items_is c.args.room.lost c.note_lost.new.lost (c.note_lost.auto.lost ∙ c.deref_mut-3.ensures.len) in
     if_more (g.R.DumpReader.remaining c.args.reader.now) (IsTaken geo (λ image. IsDoubting geo (row_count geo) image taker)) _ c.in_ok-scan.ensures.taken
     (λ bytes taken.
     let image : Image = raw_image geo bytes in
     let size : length image ≡ row_count geo = length-raw_image geo bytes in
     record {
       whole = taken.whole;
-      lost_are = lost_is ∙ lost_told geo claim image taker.traces.items c.note_lost.new.lost size (omega (arith, c.note_lost.ensures.size, c.deref_mut-3.ensures.len, c.in_ok-lost.ensures.len))
+      lost_are = lost_is ∙ lost_told geo claim image taker.traces.items c.note_lost.new.lost size (omega (arith, c.note_lost.ensures.size, c.deref_mut-3.ensures.len, c.requires.lost))
           (λ n l. rw (← traces_is) (c.note_lost.ensures.each n (omega (arith, l, c.note_lost.ensures.size)))) taken.shown.traces;
       doubts_is = c.conclude.ensures.is image size taken.shown;
     })

@@ -11,11 +11,11 @@ use Rattle.lab_dump.proofs.find.find_geometries.Goals as goal
 pub returns-clause-found : goal.returns-clause-found
 returns-clause-found g c = λ all told.
     let fits : c.add_all.new.fits.items ≡ fits_of all =
-    c.in_ok-add_all.ensures.added all (c.size.ensures.same ∙ told) (c.in_ok-size.ensures.size all told) ∙ ap (λ (l : List Fit). l ++ fits_of all) c.in_ok-fits.ensures.items in
+    c.in_ok-add_all.ensures.added all (c.size.ensures.same ∙ told) (c.in_ok-size.ensures.size all told) ∙ ap (λ (l : List Fit). l ++ fits_of all) c.requires.none in
     subst (λ l. IsPermutation l c.sort_unstable.new.self.items) fits c.sort_unstable.ensures.permutation
 
 pub returns-clause-possible : goal.returns-clause-possible
-returns-clause-possible g c = All-permutation IsPossible _ _ c.sort_unstable.ensures.permutation (c.in_ok-add_all.ensures.any.possible (possible_none c.in_ok-fits.fits.items c.in_ok-fits.ensures.items))
+returns-clause-possible g c = All-permutation IsPossible _ _ c.sort_unstable.ensures.permutation (c.in_ok-add_all.ensures.any.possible (possible_none c.args.room.fits.items c.requires.none))
 
 pub returns-clause-ranked : goal.returns-clause-ranked
 returns-clause-ranked g c = λ k d zero within.

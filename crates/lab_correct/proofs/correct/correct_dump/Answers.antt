@@ -10,10 +10,10 @@ use Rattle.lab_correct.specs.Corrected.{IsCorrected, IsOwnCorrected}
 use Rattle.lab_correct.proofs.ChipLemmas.{one_geometry, sized_as}
 use Rattle.lab_correct.proofs.TakenLemmas.{shows_none, stands_none}
 use Rattle.lab_correct.proofs.DoneLemmas.{done, own_done}
-use Rattle.lab_correct.proofs.correct.correct_with.Goals as goal
+use Rattle.lab_correct.proofs.correct.correct_dump.Goals as goal
 
 pub scan-requires-clause-shows : goal.scan-requires-clause-shows
-scan-requires-clause-shows g c = λ image. shows_none c.args.geometry.now (g.T.Pieces.pieces c.args.target) c.args.room.losses.items c.requires.losses.0
+scan-requires-clause-shows g c = λ image. shows_none c.args.geometry.now (g.T.Pieces.pieces c.args.target) c.args.room.losses.items c.requires.room.none
 
 pub scan-requires-clause-stands : goal.scan-requires-clause-stands
 scan-requires-clause-stands g c =
@@ -21,8 +21,8 @@ scan-requires-clause-stands g c =
     let chip = c.raw.result.now in
     let pieces = g.T.Pieces.pieces c.args.target in
     let of : IsChipOf geo chip = subst (IsChipOf geo) (sym c.raw.ensures) c.requires.chip in
-    let room : row_count chip ≤ vec_capacity c.args.room.losses = subst (λ (k : Geometry). row_count k ≤ vec_capacity c.args.room.losses) (sym c.raw.ensures) c.requires.losses.1 in
-    stands_none geo chip c.args.room.scratch.items c.args.room.losses.items (vec_capacity c.args.room.losses) pieces of c.requires.scratch c.requires.losses.0 room (sized_as geo chip pieces of c.requires.pieces)
+    let room : row_count chip ≤ vec_capacity c.args.room.losses = subst (λ (k : Geometry). row_count k ≤ vec_capacity c.args.room.losses) (sym c.raw.ensures) c.requires.room.places in
+    stands_none geo chip c.args.room.scratch.items c.args.room.losses.items (vec_capacity c.args.room.losses) pieces of c.requires.room.scratch c.requires.room.none room (sized_as geo chip pieces of c.requires.pieces)
 
 pub returns-in-Ok-clause-ok : goal.returns-in-Ok-clause-ok
 returns-in-Ok-clause-ok g c =

@@ -7,13 +7,13 @@ use Rattle.lab_dump.specs.Writing.{Shows}
 use Rattle.lab_dump.specs.Written.{IsWritten}
 use Rattle.lab_dump.proofs.WritingLemmas.{nothing_yet, if_more}
 use Rattle.lab_dump.proofs.WrittenLemmas.{written}
-use Rattle.lab_dump.proofs.array.write_sectors.Goals as goal
+use Rattle.lab_dump.proofs.array.write_array.Goals as goal
 
 pub scan-requires-clause-shows : goal.scan-requires-clause-shows
 scan-requires-clause-shows g c = λ image.
     let geo = c.args.geometry.now in
     let pieces = g.T.Pieces.pieces c.args.target in
-    (subst (λ (hs : List Held). Shows geo 0 image hs pieces) (sym c.requires.held) (nothing_yet geo image pieces c.requires.pieces), c.requires.doubting image)
+    (subst (λ (hs : List Held). Shows geo 0 image hs pieces) (sym c.requires.room.held) (nothing_yet geo image pieces c.requires.pieces), c.requires.room.shows image)
 
 pub returns-in-Ok-clause-ok : goal.returns-in-Ok-clause-ok
 returns-in-Ok-clause-ok g c =

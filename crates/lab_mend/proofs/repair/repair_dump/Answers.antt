@@ -8,12 +8,12 @@ use Rattle.lab_mend.specs.Repairing.{Shows, Stands}
 use Rattle.lab_mend.specs.Repaired.{IsRepaired}
 use Rattle.lab_mend.proofs.RepairingLemmas.{shows_first}
 use Rattle.lab_mend.proofs.RepairedLemmas.{repaired}
-use Rattle.lab_mend.proofs.repair.repair_with.Goals as goal
+use Rattle.lab_mend.proofs.repair.repair_dump.Goals as goal
 
 pub scan-requires-clause-shows : goal.scan-requires-clause-shows
 scan-requires-clause-shows g c = λ image.
     let pieces = g.T.Pieces.pieces c.args.target in
-    subst (λ (ms : List Mend). Shows c.args.rows 0 image ms pieces) (sym c.requires.mends.0) (shows_first c.args.rows image pieces)
+    subst (λ (ms : List Mend). Shows c.args.rows 0 image ms pieces) (sym c.requires.room.none) (shows_first c.args.rows image pieces)
 
 pub returns-in-Ok-clause-ok : goal.returns-in-Ok-clause-ok
 returns-in-Ok-clause-ok g c =

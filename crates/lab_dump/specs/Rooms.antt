@@ -1,0 +1,46 @@
+-- The memory of each run over a dump, which is taken before the dump is opened.
+use Rattle.std.specs.Prelude.{◌≡◌, ◌≤◌, ℕ, List, [], length, replicate}
+use Rattle.std.specs.Vec.{vec_capacity}
+use Rattle.page_layout.specs.declared.geometry.Geometry.{Geometry}
+use Rattle.page_layout.specs.Page.{Image}
+use Rattle.page_layout.specs.Array.{zeros}
+use Rattle.lab_dump.specs.declared.held.Held.TheVariants.{Never}
+use Rattle.lab_dump.specs.declared.array.ArrayRoom.{ArrayRoom}
+use Rattle.lab_dump.specs.declared.compare.CompareRoom.{CompareRoom}
+use Rattle.lab_dump.specs.declared.find.FitRoom.{FitRoom}
+use Rattle.lab_dump.specs.declared.survey.SurveyRoom.{SurveyRoom}
+use Rattle.lab_dump.specs.Doubting as doubting
+use Rattle.lab_dump.specs.Doubting.{IsDoubting}
+use Rattle.lab_dump.specs.Noted as noted
+
+-- a page of this geometry has room in these
+pub record HasPage (g : Geometry) (body spare : List ℕ) : Type 0 where
+  pub body_size : length body ≡ g.data_bytes
+  pub spare_size : length spare ≡ g.spare_bytes
+
+-- nothing was seen yet of a die of this geometry
+pub record IsSurveyRoom (g : Geometry) (room : SurveyRoom) : Type 0 where
+  pub page : HasPage g room.body.items room.spare.items
+  pub stands : noted.Stands g 0 room.seeing
+  pub shows : (image : Image) → noted.Shows g 0 image room.seeing
+
+-- no sector is held yet
+pub record IsArrayRoom (g : Geometry) (room : ArrayRoom) : Type 0 where
+  pub page : HasPage g room.body.items room.spare.items
+  pub held : room.held.items ≡ replicate g.sectors Never
+  pub blank : room.zeros.items ≡ zeros g
+  pub stands : doubting.Stands g 0 room.doubting
+  pub shows : (image : Image) → IsDoubting g 0 image room.doubting
+
+-- no page has passed, and there is a place for each sector
+pub record IsCompareRoom (g : Geometry) (room : CompareRoom) : Type 0 where
+  pub page : HasPage g room.body.items room.spare.items
+  pub stands : doubting.Stands g 0 room.doubting
+  pub shows : (image : Image) → IsDoubting g 0 image room.doubting
+  pub lost : length room.lost.items ≡ g.sectors
+
+-- the largest page has room, and as many geometries as may fit; none was found yet
+pub record IsFitRoom (room : FitRoom) : Type 0 where
+  pub page : length room.page.items ≡ 4352
+  pub none : room.fits.items ≡ []
+  pub places : 11025 ≤ vec_capacity room.fits

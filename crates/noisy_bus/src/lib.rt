@@ -1,0 +1,7 @@
+//! A bus of a chip with bit errors, for tests: cycles over any such chip, which keep its law.
+#![tactic(auto)]
+
+mod bus;
+mod stage;
+
+pub use bus::NoisyBus;
