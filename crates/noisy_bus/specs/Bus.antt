@@ -1,7 +1,6 @@
 -- A bus of a chip with bit errors, for tests: what it holds between two cycles, and what each cycle does.
-use Rattle.std.specs.Prelude.{◌≡◌, ℕ, ◌+◌, ◌*◌, ◌/◌, ◌%◌, ◌^◌, ◌≤◌, ◌==◌, ◌&&◌, nat_lt, if◌then◌else◌, Bool, true, List, [], ◌∷◌, ◌++◌, length, take, drop, Result, Ok, Err}
+use Rattle.std.specs.Prelude.{◌≡◌, ℕ, ◌+◌, ◌*◌, ◌/◌, ◌%◌, ◌^◌, ◌≤◌, ◌==◌, ◌&&◌, ◌||◌, if◌then◌else◌, Bool, true, List, [], ◌∷◌, ◌++◌, length, take, drop, Result, Ok, Err}
 use Rattle.page_layout.specs.declared.geometry.Geometry.{Geometry}
-use Rattle.page_layout.specs.Geometry.{row_count}
 use Rattle.page_layout.specs.Page.{Page, page}
 use Rattle.page_layout.specs.Flash.{Flash, Program, Erase, page_at, block_at}
 use Rattle.onfi_cycles.specs.declared.nand.BusFault.{BusFault}
@@ -48,42 +47,14 @@ loading_at stage.Idle = stage.Idle
 loading_at (stage.Loading row) = stage.Loading row
 loading_at stage.Putting = stage.Putting
 
--- ---- a command
+-- ---- what a command does
 
--- what a command asks for
-pub data Want : Type 0 where
-  Begins : (code : ℕ) → Want
-  ShowsStatus : Want
-  Resets : Want
-  Reads : (row : ℕ) → Want
-  Programs : (row : ℕ) → Want
-  Erases : (block : ℕ) → Want
-  Refuses : Want
-
-abbrev pub read_of : Geometry → Stage → Want
-read_of g (stage.Address code count row) = if (code == 0x00) && (count == 5) && nat_lt row (row_count g) then Reads row else Refuses
-read_of g stage.Idle = Refuses
-read_of g (stage.Loading row) = Refuses
-read_of g stage.Putting = Refuses
-
-abbrev pub program_of : Geometry → Stage → Want
-program_of g (stage.Loading row) = if nat_lt row (row_count g) then Programs row else Refuses
-program_of g (stage.Address code count row) = Refuses
-program_of g stage.Idle = Refuses
-program_of g stage.Putting = Refuses
-
-abbrev pub erase_of : Geometry → Stage → Want
-erase_of g (stage.Address code count row) = if (code == 0x60) && (count == 3) && nat_lt row (row_count g) then Erases (row / g.pages) else Refuses
-erase_of g stage.Idle = Refuses
-erase_of g (stage.Loading row) = Refuses
-erase_of g stage.Putting = Refuses
-
--- a command that begins is taken at any time
-abbrev pub want : Geometry → Stage → ℕ → Want
-want g at code =
-    if code == 0x00 then Begins 0x00 else (if code == 0x60 then Begins 0x60 else (if code == 0x80 then Begins 0x80 else (
-    if code == 0x70 then ShowsStatus else (if code == 0xFF then Resets else (
-    if code == 0x30 then read_of g at else (if code == 0x10 then program_of g at else (if code == 0xD0 then erase_of g at else Refuses)))))))
+-- these bytes are a page that was read of the row
+pub record HasPut {N : Type 0} (flash : N → Flash) (honest : N → Bool) (g : Geometry) (row : ℕ) (old new : N) (bytes : List ℕ) : Type 0 where
+  pub put : Page
+  pub sized : HasChipSizes g put
+  pub is : bytes ≡ put.body ++ put.spare
+  pub puts : honest old ≡ true → PutsOut (flash old) (flash new) row put
 
 -- the page of a row was read, and is to be put out
 pub record HasRead {N : Type 0} (flash : N → Flash) (honest : N → Bool) (row : ℕ) (old new : BusState N) : Type 0 where
@@ -110,21 +81,23 @@ pub record HasErased {N : Type 0} (flash : N → Flash) (honest : N → Bool) (b
   pub done : HasDone old new outcome
   pub did : honest old.nand ≡ true → Did (λ passed s. Erase block passed (block_at s block)) (flash old.nand) (flash new.nand) outcome
 
--- what was asked for was done
-abbrev pub Does : {N : Type 0} → (N → Flash) → (N → Bool) → Want → BusState N → BusState N → Type 0
-Does flash honest (Begins code) old new = new ≡ moved (stage.Address code 0 0) [] old
-Does flash honest ShowsStatus old new = new ≡ moved stage.Putting (old.status ∷ []) old
-Does flash honest Resets old new = new ≡ moved stage.Idle [] old
-Does flash honest (Reads row) old new = HasRead flash honest row old new
-Does flash honest (Programs row) old new = HasProgrammed flash honest row old new
-Does flash honest (Erases block) old new = HasErased flash honest block old new
-Does flash honest Refuses old new = ⊥
+-- those that begin: a read, an erase, a program
+abbrev pub is_beginning : ℕ → Bool
+is_beginning code = (code == 0x00) || ((code == 0x60) || (code == 0x80))
+
+-- A command that was taken, by its code. A command that begins is taken at any time; one that confirms follows its whole address.
+pub record TakesCommand {N : Type 0} (flash : N → Flash) (honest : N → Bool) (code : ℕ) (old new : BusState N) : Type 0 where
+  pub begins : is_beginning code ≡ true → new ≡ moved (stage.Address code 0 0) [] old
+  pub shows : code ≡ 0x70 → new ≡ moved stage.Putting (old.status ∷ []) old
+  pub reads : code ≡ 0x30 → (row : ℕ) × (old.stage ≡ stage.Address 0x00 5 row) × HasRead flash honest row old new
+  pub programs : code ≡ 0x10 → (row : ℕ) × (old.stage ≡ stage.Loading row) × HasProgrammed flash honest row old new
+  pub erases : code ≡ 0xD0 → (row : ℕ) × (old.stage ≡ stage.Address 0x60 3 row) × HasErased flash honest (row / old.geometry.pages) old new
 
 -- ---- a cycle
 
 -- a cycle that was taken, with what it put out
 abbrev pub Takes : {N : Type 0} → (N → Flash) → (N → Bool) → BusState N → Cycle → List ℕ → BusState N → Type 0
-Takes flash honest old (Command code) out new = (out ≡ []) × Does flash honest (want old.geometry old.stage code) old new
+Takes flash honest old (Command code) out new = (out ≡ []) × TakesCommand flash honest code old new
 Takes flash honest old (Address byte) out new = (out ≡ []) × (new ≡ moved (loading_at (address_after old.stage byte)) [] old)
 Takes flash honest old (DataIn bytes) out new = (out ≡ []) × (new ≡ moved old.stage (old.held ++ bytes) old)
 Takes flash honest old (DataOut count) out new = (count ≤ length old.held) × (out ≡ take count old.held) × (new ≡ moved old.stage (drop count old.held) old)

@@ -1,19 +1,22 @@
 //! The bus.
-ghost use Rattle.std.specs.Prelude.{◌≡◌, ◌+◌, ◌<◌, ◌≤◌, ◌++◌, ◌∷◌, [], length, take, drop, true, Err, IfOk, IfErr, OnOk, OnErr};
+ghost use Rattle.std.specs.Prelude.{◌≡◌, ◌+◌, ◌<◌, ◌≤◌, ◌/◌, ℕ, ◌∷◌, [], length, take, true, Err, IfOk, IfErr, OnOk, OnErr};
 ghost use Rattle.page_layout.specs.Geometry.{row_count};
 ghost use Rattle.page_layout.specs.Page.{page};
 ghost use Rattle.page_layout.specs.Counter.{HasRisen};
-ghost use Rattle.onfi_cycles.specs.Cycles.{Command, Address, DataIn, DataOut, IsCounted};
+ghost use Rattle.onfi_cycles.specs.Cycles.{IsCounted, status_of};
 ghost use Rattle.page_code.specs.Layout.{outer_bytes, coded};
-ghost use Rattle.noisy_bus.specs.Bus.{moved, address_after, loading_at, want, read_of, program_of, erase_of, Does, Stays, HasRead, HasProgrammed, HasErased, DoesOr};
+ghost use Rattle.onfi_cycles.specs.Outcomes.{is_passed};
+ghost use Rattle.onfi_cycles.specs.Spelling.{done};
+ghost use Rattle.noisy_bus.specs.Bus.{moved, is_beginning, Stays, HasDone, HasPut, HasRead, HasProgrammed, HasErased};
 ghost use Rattle.noisy_bus.specs.declared.stage.Stage.TheVariants as at;
 
 use crate::stage::Stage;
-use corrected_nand::{ChipBus, NoisyNand};
+use corrected_nand::NoisyNand;
 use onfi_cycles::{Bus, BusFault, Outcome};
 use page_code::encode_page;
 use page_code::laws::page_laws;
 use page_layout::geometry::Geometry;
+use page_layout::source::SourceFault;
 use std::marker::Model;
 
 /// The bus of a chip with bit errors: reads, programs and erases of whole pages, as ONFI spells them. A command that begins is taken at any time, and
@@ -56,6 +59,33 @@ fn is_coded(geometry: &Geometry, body: &[u8], outer: &[u8]) -> bool
     *right == *outer
 }
 
+// Whether a command begins: a read, an erase, a program.
+fn is_beginning(code: u8) -> bool
+    ensures { result ≡ is_beginning code }
+{
+    code == 0x00 || code == 0x60 || code == 0x80
+}
+
+// Reads the page of a row into a register.
+fn fill<N: NoisyNand>(
+    nand: &mut N,
+    geometry: &Geometry,
+    row: u32,
+    register: &mut [u8],
+) -> Result<(), SourceFault>
+    requires geometry { (N.flash nand.old).geometry ≡ geometry.now }
+    requires row_in { row < row_count geometry.now }
+    requires whole { length register.old ≡ geometry.now.data_bytes + outer_bytes geometry.now }
+    ensures put { OnOk result (HasPut N.flash N.honest geometry.now row nand.old nand.new register.new) }
+    ensures geometry { (N.flash nand.new).geometry ≡ (N.flash nand.old).geometry }
+    ensures honest { N.honest nand.new ≡ N.honest nand.old }
+    ensures failed { N.failed nand.old ≤ N.failed nand.new }
+    ensures rose { OnErr result (HasRisen (N.failed nand.old) (N.failed nand.new)) }
+{
+    let (body, outer) = register.split_at_mut(geometry.data_bytes());
+    nand.read_page(row, body, outer)
+}
+
 // The status byte of an operation that ended so.
 fn status_of(outcome: Outcome) -> u8
     ensures { result ≡ status_of (is_passed outcome) }
@@ -88,7 +118,8 @@ impl<N: NoisyNand> NoisyBus<N> {
 
     // Holds nothing, and stands here.
     fn stand(&mut self, stage: Stage)
-        ensures { self.new ≡ moved stage [] self.old }
+        ensures is { self.new ≡ moved stage [] self.old }
+        ensures stays { Stays N.flash N.honest N.failed self.old self.new }
     {
         self.stage = stage;
         self.first = 0;
@@ -97,7 +128,8 @@ impl<N: NoisyNand> NoisyBus<N> {
 
     // Puts out the status.
     fn show_status(&mut self)
-        ensures { self.new ≡ moved at.Putting (self.old.status ∷ []) self.old }
+        ensures is { self.new ≡ moved at.Putting (self.old.status ∷ []) self.old }
+        ensures stays { Stays N.flash N.honest N.failed self.old self.new }
     {
         self.register[0] = self.status;
         self.stage = Stage::Putting;
@@ -105,15 +137,23 @@ impl<N: NoisyNand> NoisyBus<N> {
         self.end = 1;
     }
 
-    // Reads the page of a row.
+    // Takes no such command.
+    fn refuse(&mut self) -> Result<(), BusFault>
+        ensures refused { result ≡ Err BusFault.UnknownCommand }
+        ensures stays { Stays N.flash N.honest N.failed self.old self.new }
+    {
+        self.stand(Stage::Idle);
+        Err(BusFault::UnknownCommand)
+    }
+
+    // Reads the page of a row, which is put out then.
     fn read(&mut self, row: u32) -> Result<(), BusFault>
         requires { row < row_count self.old.geometry }
         ensures read { OnOk result (HasRead N.flash N.honest row self.old self.new) }
         ensures stays { Stays N.flash N.honest N.failed self.old self.new }
         ensures rose { OnErr result (HasRisen (N.failed self.old.nand) (N.failed self.new.nand)) }
     {
-        let (body, outer) = self.register.split_at_mut(self.geometry.data_bytes());
-        let answer = self.nand.read_page(row, body, outer);
+        let answer = fill(&mut self.nand, &self.geometry, row, &mut self.register);
         self.first = 0;
         match answer {
             Ok(()) => {
@@ -129,10 +169,26 @@ impl<N: NoisyNand> NoisyBus<N> {
         }
     }
 
+    // 30h: the read of the row that was addressed.
+    fn confirm_read(&mut self) -> Result<(), BusFault>
+        ensures read { OnOk result ((row : ℕ) × (self.old.stage ≡ at.Address 0 5 row) × HasRead N.flash N.honest row self.old self.new) }
+        ensures stays { Stays N.flash N.honest N.failed self.old self.new }
+        ensures rose { IfErr result (IsCounted (N.failed self.old.nand) (N.failed self.new.nand)) }
+    {
+        match self.stage {
+            Stage::Address {
+                code: 0x00,
+                count: 5,
+                row,
+            } if self.geometry.has_row(row) => self.read(row),
+            _ => Err(BusFault::OutOfTurn),
+        }
+    }
+
     // What an operation came to.
     fn finish(&mut self, answer: Result<Outcome, BusFault>) -> Result<(), BusFault>
-        ensures done { IfOk answer (λ outcome. (result ≡ done) × (self.new ≡ record { nand = self.old.nand; geometry = self.old.geometry; stage = at.Idle; held = []; status = status_of (is_passed outcome) })) }
-        ensures failed { OnErr answer ((result ≡ Err BusFault.Device) × (self.new ≡ moved at.Idle [] self.old)) }
+        ensures done { IfOk answer (λ outcome. HasDone self.old self.new outcome × (self.new.nand ≡ self.old.nand) × (result ≡ done)) }
+        ensures failed { OnErr answer ((self.new ≡ moved at.Idle [] self.old) × (result ≡ Err BusFault.Device)) }
     {
         self.stand(Stage::Idle);
         match answer {
@@ -144,21 +200,34 @@ impl<N: NoisyNand> NoisyBus<N> {
         }
     }
 
-    // Programs the page of a row with what is held.
+    // Programs the page of a row with what is held, where that is a whole page with its right codes.
     fn program(&mut self, row: u32) -> Result<(), BusFault>
         requires { row < row_count self.old.geometry }
         ensures programmed { OnOk result (HasProgrammed N.flash N.honest row self.old self.new) }
         ensures stays { Stays N.flash N.honest N.failed self.old self.new }
-        ensures rose { result ≡ Err BusFault.Device → HasRisen (N.failed self.old.nand) (N.failed self.new.nand) }
+        ensures rose { IfErr result (IsCounted (N.failed self.old.nand) (N.failed self.new.nand)) }
     {
+        if self.first != 0 || self.end != self.register.len() {
+            return Err(BusFault::ColumnRange);
+        }
         let (body, outer) = self.register.split_at(self.geometry.data_bytes());
-        let whole = self.first == 0 && self.end == self.register.len();
-        if !whole || !is_coded(&self.geometry, body, outer) {
-            self.stand(Stage::Idle);
-            return Err(BusFault::OutOfTurn);
+        if !is_coded(&self.geometry, body, outer) {
+            return Err(BusFault::ColumnRange);
         }
         let answer = self.nand.program(row, body, outer);
         self.finish(answer)
+    }
+
+    // 10h: the program of the row that was addressed.
+    fn confirm_program(&mut self) -> Result<(), BusFault>
+        ensures programmed { OnOk result ((row : ℕ) × (self.old.stage ≡ at.Loading row) × HasProgrammed N.flash N.honest row self.old self.new) }
+        ensures stays { Stays N.flash N.honest N.failed self.old self.new }
+        ensures rose { IfErr result (IsCounted (N.failed self.old.nand) (N.failed self.new.nand)) }
+    {
+        match self.stage {
+            Stage::Loading { row } if self.geometry.has_row(row) => self.program(row),
+            _ => Err(BusFault::OutOfTurn),
+        }
     }
 
     // Erases a block.
@@ -166,10 +235,29 @@ impl<N: NoisyNand> NoisyBus<N> {
         requires { block < self.old.geometry.blocks }
         ensures erased { OnOk result (HasErased N.flash N.honest block self.old self.new) }
         ensures stays { Stays N.flash N.honest N.failed self.old self.new }
-        ensures rose { result ≡ Err BusFault.Device → HasRisen (N.failed self.old.nand) (N.failed self.new.nand) }
+        ensures rose { IfErr result (IsCounted (N.failed self.old.nand) (N.failed self.new.nand)) }
     {
         let answer = self.nand.erase(block);
         self.finish(answer)
+    }
+
+    // D0h: the erase of the block of the row that was addressed.
+    fn confirm_erase(&mut self) -> Result<(), BusFault>
+        ensures erased { OnOk result ((row : ℕ) × (self.old.stage ≡ at.Address 0x60 3 row) × HasErased N.flash N.honest (row / self.old.geometry.pages) self.old self.new) }
+        ensures stays { Stays N.flash N.honest N.failed self.old self.new }
+        ensures rose { IfErr result (IsCounted (N.failed self.old.nand) (N.failed self.new.nand)) }
+    {
+        match self.stage {
+            Stage::Address {
+                code: 0x60,
+                count: 3,
+                row,
+            } if self.geometry.has_row(row) => {
+                let pages = self.geometry.pages();
+                self.erase(row / pages)
+            }
+            _ => Err(BusFault::OutOfTurn),
+        }
     }
 }
 
@@ -190,15 +278,15 @@ impl<N: NoisyNand> Bus for NoisyBus<N> {
     ghost called = { λ old cycle answer out new. IsCalled N.flash N.honest N.failed old cycle answer out new };
 
     fn command(&mut self, code: u8) -> Result<(), BusFault> {
+        if is_beginning(code) {
+            self.stand(Stage::Address {
+                code,
+                count: 0,
+                row: 0,
+            });
+            return Ok(());
+        }
         match code {
-            0x00 | 0x60 | 0x80 => {
-                self.stand(Stage::Address {
-                    code,
-                    count: 0,
-                    row: 0,
-                });
-                Ok(())
-            }
             0x70 => {
                 self.show_status();
                 Ok(())
@@ -210,7 +298,7 @@ impl<N: NoisyNand> Bus for NoisyBus<N> {
             0x30 => self.confirm_read(),
             0x10 => self.confirm_program(),
             0xD0 => self.confirm_erase(),
-            _ => Err(BusFault::UnknownCommand),
+            _ => self.refuse(),
         }
     }
 

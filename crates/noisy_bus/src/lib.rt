@@ -2,6 +2,7 @@
 #![tactic(auto)]
 
 mod bus;
+mod keeps;
 mod stage;
 
 pub use bus::NoisyBus;

@@ -1,6 +1,6 @@
 //! Where a chip stands between two cycles.
 ghost use Rattle.std.specs.Prelude.{◌≡◌};
-ghost use Rattle.noisy_bus.specs.Bus.{address_after, weight};
+ghost use Rattle.noisy_bus.specs.Bus.{address_after, loading_at, weight};
 
 /// Where a chip stands between two cycles. (ONFI 1.0, basic commands.)
 #[derive(Clone, Copy)]
@@ -19,7 +19,11 @@ pub enum Stage {
 fn weight(code: u8, count: u8) -> u32
     ensures { result ≡ weight code count }
 {
-    let place = if code == 0x60 { count.wrapping_add(2) } else { count };
+    let place = if code == 0x60 {
+        count.wrapping_add(2)
+    } else {
+        count
+    };
     match place {
         2 => 1,
         3 => 256,
@@ -39,6 +43,20 @@ impl Stage {
                 count: count.wrapping_add(1),
                 row: row.wrapping_add(weight(code, count).wrapping_mul(u32::from(byte))),
             },
+            _ => self,
+        }
+    }
+
+    /// The bytes of a page come in where its whole address has come.
+    pub fn loading(self) -> Stage
+        ensures { result ≡ loading_at self }
+    {
+        match self {
+            Stage::Address {
+                code: 0x80,
+                count: 5,
+                row,
+            } => Stage::Loading { row },
             _ => self,
         }
     }
