@@ -2,7 +2,9 @@
 #![tactic(auto)]
 
 mod bus;
+mod die;
 mod keeps;
 mod stage;
 
 pub use bus::NoisyBus;
+pub use die::die_on_bus;
